@@ -1,0 +1,27 @@
+-- The turns of `key_hash`. Assumes nothing.
+use Prim.Native.Nat.{ℕ, _+_, _*_, _^_, _≤_, _<_}
+use mathlib.Core.Path.{_≡_}
+use mathlib.Core.List.{List}
+use native.Mathlib.Numerals.{add-one}
+use native.Mathlib.Nat.{mul-le-mul}
+use native.Mathlib.Omega.{arith}
+use lib.ListN.{length, drop, getD, drop-of-length-le}
+use lib.Seq.{drop-cons}
+use Rattle.cells.specs.Cells.{mixed, mixedAll}
+
+pub hash-step : (key : List ℕ) (i hash : ℕ) → i < length key
+    → mixedAll hash (drop i key) ≡ mixedAll (mixed hash (getD key i 0)) (drop (i + 1) key)
+unfolding mixedAll
+hash-step key i hash h = rw (add-one, drop-cons key i 0 h)
+
+pub hash-end : (key : List ℕ) (i hash : ℕ) → length key ≤ i → mixedAll hash (drop i key) ≡ hash
+unfolding mixedAll
+hash-end key i hash h = rw (drop-of-length-le key h)
+
+-- a product of two cells fits 64 bits
+pub product-fits : (a b : ℕ) → a < 2 ^ 32 → b < 2 ^ 32 → a * b < 2 ^ 64
+product-fits a b h k =
+    let p : a ≤ 4294967295 = omega arith in
+    let q : b ≤ 4294967295 = omega arith in
+    let m : a * b ≤ 4294967295 * 4294967295 = mul-le-mul p q in
+    omega arith

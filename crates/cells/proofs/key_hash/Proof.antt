@@ -1,0 +1,67 @@
+-- `cells::key_hash` meets its contract. The loop's invariant: the hash of the cells to come, from the hash so far, is the
+-- key's. Assumes nothing.
+use Prim.Native.Nat.{ℕ, _+_, _-_, _*_, _^_, _≤_, _<_}
+use mathlib.Core.Path.{_≡_, refl, sym, ap, _∙_}
+use borrow.Author.Needs.{needs}
+use native.Mathlib.Omega.{arith}
+use lib.ListN.{length, drop}
+use Rattle.cells.specs.Cells.{keyHash, mixedAll}
+use Rattle.cells.proofs.Hash.{hash-step, hash-end}
+use Rattle.cells.proofs.key_hash.Statement.{statement}
+use Rattle.cells.proofs.key_hash.Tie as tie
+
+abbrev Inv-loop : tie.InvT-loop
+Inv-loop key hash₀ i₀ hash i = (i ≤ length key) × (hash < 2 ^ 32) × (mixedAll 0 key ≡ mixedAll hash (drop i key))
+
+abbrev μ-loop : tie.MeasureT-loop
+μ-loop key hash₀ i₀ hash i = length key - i
+
+loop-holds : tie.Need-loop-holds Inv-loop μ-loop
+loop-holds c = (search needs, search needs, refl)
+
+mul-mix : tie.Need-mul-mix Inv-loop μ-loop
+mul-mix c = search needs
+
+shared-slice-read-mix : tie.Need-shared-slice-read-mix Inv-loop μ-loop
+shared-slice-read-mix c = search needs
+
+mix-requires : tie.Need-mix-requires Inv-loop μ-loop
+mix-requires c κs = search needs
+
+add-i : tie.Need-add-i Inv-loop μ-loop
+add-i c = search needs
+
+loop-less : tie.Need-loop-less Inv-loop μ-loop
+loop-less c = search needs
+
+loop-again : tie.Need-loop-again Inv-loop μ-loop
+loop-again c =
+    let l = c .before .before .before .loop in
+    (search needs, search needs, l .inv .2 ∙ hash-step _ (l .i) (l .hash) (omega arith) ∙ rw (c .mix .ensures))
+
+cast-result : tie.Need-cast-result Inv-loop μ-loop
+cast-result c = search needs
+
+mul-result : tie.Need-mul-result Inv-loop μ-loop
+mul-result c = search needs
+
+returns : tie.Need-returns Inv-loop μ-loop
+unfolding keyHash
+returns c = let l = c .before .loop in ap (λ (n : ℕ). n * (2 ^ 32 + 1)) (sym (l .inv .2 ∙ hash-end _ (l .i) (l .hash) (c .loop-test .left)))
+
+pub key-hash-spec : {M : Type 1} → statement M
+key-hash-spec =
+    tie.close
+    (tie.spec
+    Inv-loop
+    μ-loop
+    loop-holds
+    mul-mix
+    shared-slice-read-mix
+    mix-requires
+    add-i
+    loop-less
+    loop-again
+    cast-result
+    mul-result
+    returns)

@@ -1,0 +1,44 @@
+-- Cells, the dead mark, the compact hash and the hash of a key: document 01, "Cells" and "Compact hash". A cell is a
+-- number below 2 ^ 32. Assumes nothing.
+use Prim.Native.Nat.{ℕ, _+_, _*_, _/_, _%_, _^_}
+use mathlib.Core.Bool.{Bool}
+use mathlib.Core.List.{List, [], _∷_}
+use lib.Dec.{eqb}
+
+-- "a row whose first cell is 4294967295 is dead"
+unfoldable pub isDead : ℕ → Bool
+isDead first = eqb first 4294967295
+
+-- "the low 25 bits of the 64-bit hash, with its top 7 bits above them"
+abbrev pub compact : ℕ → ℕ
+compact full = full / 2 ^ 57 * 2 ^ 25 + full % 2 ^ 25
+
+-- "`probe` is that 32-bit number plus its top 7 bits times 2^57"
+abbrev pub probed : ℕ → ℕ
+probed hash = hash + hash / 2 ^ 25 * 2 ^ 57
+
+-- One cell more. The hash so far, the cell and an odd constant near the golden section of 2 ^ 32 are added; the sum is
+-- multiplied by itself with its halves exchanged, and the product's upper part, one bit wider than its lower half, is added
+-- to that half. A product with itself tends to spread keys at even distances, which a product with a constant does not; the
+-- odd bit tends to keep multiples of a divisor of 2 ^ 32 - 1 apart.
+abbrev pub turned : ℕ → ℕ
+turned sum = sum % 2 ^ 16 * 2 ^ 16 + sum / 2 ^ 16
+
+abbrev pub folded : ℕ → ℕ
+folded product = (product / 2 ^ 31 + product % 2 ^ 32) % 2 ^ 32
+
+abbrev pub sumOf : ℕ → ℕ → ℕ
+sumOf hash cell = (hash + cell + 2654435761) % 2 ^ 32
+
+unfoldable pub mixed : ℕ → ℕ → ℕ
+mixed hash cell = folded (sumOf hash cell * turned (sumOf hash cell))
+
+-- the hash of the cells after those that gave `hash`
+unfoldable pub mixedAll : ℕ → List ℕ → ℕ
+mixedAll hash [] = hash
+mixedAll hash (cell ∷ cells) = mixedAll (mixed hash cell) cells
+
+-- "any hash of the key cells alone will do": ours is a number of 32 bits, in both halves of the 64, so that the compact
+-- hash keeps all of it
+unfoldable pub keyHash : List ℕ → ℕ
+keyHash key = mixedAll 0 key * (2 ^ 32 + 1)

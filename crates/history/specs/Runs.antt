@@ -1,0 +1,86 @@
+-- Runs of questions (the order, term 3): "take any starting subset and any list of steps. A step refines by a condition or
+-- by a list of them, or intersects with a subset of ours or a condition's sort-column range; each works on the ids that
+-- the last accepted one left, and a refused one counts for nothing". Assumes nothing.
+use Prim.Native.Nat.{ℕ}
+use mathlib.Core.Path.{_≡_}
+use mathlib.Core.Bool.{Bool, true, false, _||_}
+use mathlib.Core.List.{List, [], _∷_, _++_}
+use lib.ListN.{length}
+use Rattle.refusals.specs.Refusals.{Reply, refused, accepted}
+use Rattle.offsets.specs.declared.SubsetAnswer.{SubsetAnswer}
+use Rattle.offsets.specs.Subsets.{Subset, members}
+use Rattle.offsets.specs.Answers.{Answered, readOff, intersectReply}
+use Rattle.constraints.specs.declared.Constraint.{Constraint}
+use Rattle.table.specs.declared.RangeAnswer.{RangeAnswer}
+use Rattle.table.specs.Numbers.{none, one, rangeSays}
+use Rattle.table.specs.Promises.{Stores, RangeRead}
+use Rattle.queries.specs.Queries.{RefinedOne, RefinedList}
+
+pub data Question : Type 0 where
+  refineOne : Constraint → Question
+  refineList : List Constraint → Question
+  intersectWith : Subset → Question
+  intersectRange : Constraint → Question
+
+-- what was accepted on the way: whether some step refined, the subsets, the conditions
+pub record Gathered : Type 0 where
+  pub refined : Bool
+  pub subsets : List Subset
+  pub conditions : List Constraint
+
+abbrev pub nothing : Gathered
+nothing = record { refined = false; subsets = []; conditions = [] }
+
+abbrev pub bySubset : Subset → Gathered
+bySubset b = record { refined = false; subsets = b ∷ []; conditions = [] }
+
+abbrev pub byRange : Constraint → Gathered
+byRange c = record { refined = false; subsets = []; conditions = c ∷ [] }
+
+abbrev pub byRefining : List Constraint → Gathered
+byRefining cs = record { refined = true; subsets = []; conditions = cs }
+
+abbrev pub together : Gathered → Gathered → Gathered
+together a b =
+    record { refined = a .refined || b .refined; subsets = a .subsets ++ b .subsets; conditions = a .conditions ++ b .conditions }
+
+-- a refused question leaves the ids that were there, and counts for nothing
+unfoldable pub left : Subset → Reply Subset → Subset
+left before (refused n) = before
+left before (accepted subset) = subset
+
+unfoldable pub gathered : Reply Subset → Gathered → Gathered
+gathered (refused n) g = nothing
+gathered (accepted subset) g = g
+
+-- one question on a table, on the ids that are left, each with an output of its own. `intersect` takes the two subsets in
+-- either order. "where [the fast range] is *none*, the step and its condition count for nothing"
+pub data Asked (s : Stores) (a : Subset) : Question → Subset → Gathered → Type 0 where
+  one-refined : (c : Constraint) (output output′ : List ℕ) (answer : SubsetAnswer)
+      → RefinedOne (s .header) (s .rows) a c output answer output′
+      → Asked s a (refineOne c) (left a (readOff answer output′)) (gathered (readOff answer output′) (byRefining (c ∷ [])))
+  list-refined : (cs : List Constraint) (output output′ : List ℕ) (answer : SubsetAnswer)
+      → RefinedList (s .header) (s .rows) a cs output answer output′
+      → Asked s a (refineList cs) (left a (readOff answer output′)) (gathered (readOff answer output′) (byRefining cs))
+  intersected : (b : Subset) (output output′ : List ℕ) (answer : SubsetAnswer)
+      → Answered (intersectReply a b (length output)) output answer output′
+      → Asked s a (intersectWith b) (left a (readOff answer output′)) (gathered (readOff answer output′) (bySubset b))
+  intersected-first : (b : Subset) (output output′ : List ℕ) (answer : SubsetAnswer)
+      → Answered (intersectReply b a (length output)) output answer output′
+      → Asked s a (intersectWith b) (left a (readOff answer output′)) (gathered (readOff answer output′) (bySubset b))
+  range-intersected : (b : Subset) (c : Constraint) (range : RangeAnswer) (output output′ : List ℕ) (answer : SubsetAnswer)
+      → RangeRead (s .header) (s .sorts) c range → rangeSays range ≡ accepted (one b)
+      → Answered (intersectReply a b (length output)) output answer output′
+      → Asked s a (intersectRange c) (left a (readOff answer output′)) (gathered (readOff answer output′) (byRange c))
+  range-none : (c : Constraint) (range : RangeAnswer)
+      → RangeRead (s .header) (s .sorts) c range → rangeSays range ≡ accepted none
+      → Asked s a (intersectRange c) a nothing
+  range-refused : (c : Constraint) (range : RangeAnswer) (n : ℕ)
+      → RangeRead (s .header) (s .sorts) c range → rangeSays range ≡ refused n
+      → Asked s a (intersectRange c) a nothing
+
+-- the questions one after another; each may be put on any subset that has the ids left, a range or a list
+pub data Run (s : Stores) : Subset → List Question → Subset → Gathered → Type 0 where
+  end : (a : Subset) → Run s a [] a nothing
+  next : {a b b′ c : Subset} {q : Question} {qs : List Question} {g h : Gathered}
+      → Asked s a q b g → members b′ ≡ members b → Run s b′ qs c h → Run s a (q ∷ qs) c (together g h)

@@ -1,0 +1,6 @@
+-- What may be relied on of the definitions of Lists.antt.
+pub mod Parts
+pub mod Keep
+pub mod Rising
+pub mod Rows
+pub mod Plain

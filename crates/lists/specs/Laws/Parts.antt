@@ -1,0 +1,151 @@
+-- Laws of a part that is overwritten. Assumes nothing.
+use Prim.Native.Nat.{ℕ, zero, suc, _+_, _-_, _≤_, _<_}
+use mathlib.Core.Path.{_≡_, refl, sym, ap, ap₂, _∙_}
+use mathlib.Core.List.{List, [], _∷_, _++_, append-assoc, append-nil}
+use native.Mathlib.Nat.{add-zero, zero-add, suc-add}
+use native.Mathlib.Numerals.{add-one}
+use native.Mathlib.Omega.{arith}
+use lib.ListN.{length, take, drop, getD, set, length-append, length-take, length-drop, length-set, take-append-drop, drop-of-length-le}
+use lib.Seq.{take-all, take-append-le, take-append-add, take-at, drop-append-le, drop-append-add, drop-at, drop-drop, take-take, take-nil, getD-take, getD-drop, set-split}
+use borrow.Rule.Slice.PartMut.{putMid}
+use Rattle.lists.specs.Lists.{putAt}
+
+module _ {A : Type 0} where
+  -- a part, cut from the front first
+  pub take-drop : (n m : ℕ) (l : List A) → take m (drop n l) ≡ drop n (take (n + m) l)
+  take-drop zero m l = rw zero-add
+  take-drop (suc n) m [] = take-nil m ∙ sym (ap (drop (suc n)) (take-nil (suc n + m)))
+  take-drop (suc n) m (x ∷ xs) = rw suc-add (take-drop n m xs)
+
+  module _ (l w : List A) (at : ℕ) (fits : at + length w ≤ length l) where
+    head-length : length (take at l) ≡ at
+    head-length = simp length-take (omega arith)
+
+    -- a store keeps its length
+    pub length-putAt : length (putAt l at w) ≡ length l
+    unfolding putAt
+    length-putAt = simp (length-append, length-take, length-drop) (omega arith)
+
+    -- what stands before the part, in it, and after it
+    pub take-putAt : (n : ℕ) → n ≤ at → take n (putAt l at w) ≡ take n l
+    unfolding putAt
+    take-putAt n h =
+        let k : n ≤ length (take at l) = simp length-take (omega arith) in
+        take-append-le n (take at l) _ k ∙ take-take n at l h
+
+    pub drop-putAt : (n : ℕ) → at + length w ≤ n → drop n (putAt l at w) ≡ drop n l
+    unfolding putAt
+    drop-putAt n h =
+        let e : n ≡ length (take at l) + (length w + (n - (at + length w))) = omega (arith, head-length) in
+        let f : at + length w + (n - (at + length w)) ≡ n = omega arith in
+        ap (λ (k : ℕ). drop k (take at l ++ (w ++ drop (at + length w) l))) e
+        ∙ drop-append-add (take at l) _ _
+        ∙ drop-append-add w _ _
+        ∙ drop-drop _ (at + length w) l
+        ∙ ap (λ (k : ℕ). drop k l) f
+
+    pub part-putAt : take (length w) (drop at (putAt l at w)) ≡ w
+    unfolding putAt
+    part-putAt = ap (take (length w)) (drop-at (take at l) _ at head-length) ∙ take-at w _ (length w) refl
+
+    pub getD-putAt-before : (i : ℕ) (d : A) → i < at → getD (putAt l at w) i d ≡ getD l i d
+    getD-putAt-before i d h =
+        let k : at ≤ at = omega arith in
+        sym (getD-take at (putAt l at w) i d h) ∙ ap (λ (x : List A). getD x i d) (take-putAt at k) ∙ getD-take at l i d h
+
+    pub getD-putAt-in : (i : ℕ) (d : A) → i < length w → getD (putAt l at w) (at + i) d ≡ getD w i d
+    getD-putAt-in i d h =
+        sym (getD-drop at (putAt l at w) i d)
+        ∙ sym (getD-take (length w) (drop at (putAt l at w)) i d h)
+        ∙ ap (λ (x : List A). getD x i d) part-putAt
+
+    pub getD-putAt-after : (i : ℕ) (d : A) → at + length w ≤ i → getD (putAt l at w) i d ≡ getD l i d
+    getD-putAt-after i d h =
+        let k : at + length w ≤ at + length w = omega arith in
+        let e : i ≡ at + length w + (i - (at + length w)) = omega arith in
+        rw e
+        (sym (getD-drop (at + length w) (putAt l at w) (i - (at + length w)) d)
+        ∙ ap (λ (x : List A). getD x (i - (at + length w)) d) (drop-putAt (at + length w) k)
+        ∙ getD-drop (at + length w) l (i - (at + length w)) d)
+
+    -- the m from place n on, where they end before the part, or begin after it
+    pub part-before : (n m : ℕ) → n + m ≤ at → take m (drop n (putAt l at w)) ≡ take m (drop n l)
+    part-before n m h = take-drop n m (putAt l at w) ∙ ap (drop n) (take-putAt (n + m) h) ∙ sym (take-drop n m l)
+
+    pub part-after : (n m : ℕ) → at + length w ≤ n → take m (drop n (putAt l at w)) ≡ take m (drop n l)
+    part-after n m h = ap (take m) (drop-putAt n h)
+
+    -- what stands before the part and in it
+    pub front-putAt : take (at + length w) (putAt l at w) ≡ take at l ++ w
+    unfolding putAt
+    front-putAt =
+        let k : length (take at l ++ w) ≡ at + length w = simp (length-append, length-take) (omega arith) in
+        rw (← append-assoc (take at l) w (drop (at + length w) l)) (take-at (take at l ++ w) (drop (at + length w) l) (at + length w) k)
+
+  pub putAt-nil : (l : List A) (at : ℕ) → putAt l at [] ≡ l
+  unfolding putAt
+  putAt-nil l at = rw add-zero (take-append-drop at l)
+
+  -- a write right after another
+  pub putAt-then : (l v w : List A) (at : ℕ) → at + (length v + length w) ≤ length l → putAt (putAt l at v) (at + length v) w ≡ putAt l at (v ++ w)
+  unfolding putAt
+  putAt-then l v w at h =
+      let f : at + length v ≤ length l = omega arith in
+      let g : at + length v ≤ at + length v + length w = omega arith in
+      let e : at + length v + length w ≡ at + length (v ++ w) = simp length-append (omega arith) in
+      ap₂ (λ (x y : List A). x ++ (w ++ y)) (front-putAt l v at f) (drop-putAt l v at f _ g)
+      ∙ append-assoc (take at l) v _
+      ∙ ap (λ (x : List A). take at l ++ x) (sym (append-assoc v w _))
+      ∙ ap (λ (k : ℕ). take at l ++ (v ++ w ++ drop k l)) e
+
+  -- a write over another
+  pub putAt-again : (l v w : List A) (at : ℕ) → at + length v ≤ length l → length v ≡ length w → putAt (putAt l at v) at w ≡ putAt l at w
+  unfolding putAt
+  putAt-again l v w at h e =
+      let k : at ≤ at = omega arith in
+      let g : at + length v ≤ at + length w = omega arith in
+      ap₂ (λ (x y : List A). x ++ (w ++ y)) (take-putAt l v at h at k) (drop-putAt l v at h _ g)
+
+  -- two writes apart, in either order
+  pub putAt-apart : (l v w : List A) (a b : ℕ) → a + length v ≤ b → b + length w ≤ length l → putAt (putAt l a v) b w ≡ putAt (putAt l b w) a v
+  unfolding putAt
+  putAt-apart l v w a b h k =
+      let f : a + length v ≤ length l = omega arith in
+      let g : a + length v ≤ b + length w = omega arith in
+      let p : a ≤ b = omega arith in
+      let m : length (take a l) ≡ a = simp length-take (omega arith) in
+      let n : a + length v ≤ length (take b l) = simp length-take (omega arith) in
+      let e : b ≡ length (take a l) + (length v + (b - (a + length v))) = omega arith in
+      let q : a + length v + (b - (a + length v)) ≡ b = omega arith in
+      let front : take b (putAt l a v) ≡ take a l ++ (v ++ drop (a + length v) (take b l)) =
+      ap (λ (i : ℕ). take i (putAt l a v)) e ∙ take-append-add (take a l) _ _
+      ∙ ap (λ (x : List A). take a l ++ x) (take-append-add v _ _ ∙ ap (λ (x : List A). v ++ x) (take-drop (a + length v) _ l ∙ ap (λ (i : ℕ). drop (a + length v) (take i l)) q)) in
+      ap₂ (λ (x y : List A). x ++ (w ++ y)) front (drop-putAt l v a f (b + length w) g)
+      ∙ append-assoc (take a l) _ _
+      ∙ ap (λ (x : List A). take a l ++ x) (append-assoc v _ _)
+      ∙ sym (ap₂ (λ (x y : List A). x ++ (v ++ y)) (take-putAt l w b k a p) (drop-append-le (a + length v) (take b l) _ n))
+
+  -- one cell, and two neighbours
+  pub set-putAt : (l : List A) (i : ℕ) (a : A) → i < length l → set l i a ≡ putAt l i (a ∷ [])
+  unfolding putAt
+  set-putAt l i a h = rw add-one (set-split l i a h)
+
+  pub set-set-putAt : (l : List A) (i : ℕ) (a b : A) → i + 1 < length l → set (set l i a) (i + 1) b ≡ putAt l i (a ∷ b ∷ [])
+  set-set-putAt l i a b h =
+      let f : i < length l = omega arith in
+      let g : i + 1 < length (set l i a) = simp length-set h in
+      let k : i + (1 + 1) ≤ length l = omega arith in
+      set-putAt (set l i a) (i + 1) b g
+      ∙ ap (λ (x : List A). putAt x (i + 1) (b ∷ [])) (set-putAt l i a f)
+      ∙ putAt-then l (a ∷ []) (b ∷ []) i k
+
+  -- a part to the end
+  pub part-to-end : (l : List A) (at : ℕ) → take (length l - at) (drop at l) ≡ drop at l
+  part-to-end l at = take-all (length l - at) (drop at l) (simp length-drop (omega arith))
+
+  -- what is written at the start of a lent part to the end, said of the whole
+  pub put-part : (l w : List A) (at : ℕ) → putMid at (length l - at) l (w ++ drop (length w) (take (length l - at) (drop at l))) ≡ putAt l at w
+  unfolding putAt
+  put-part l w at =
+      let past : drop (length l - at) (drop at l) ≡ [] = drop-of-length-le (drop at l) {i = length l - at} (simp length-drop (omega arith)) in
+      rw (past, append-nil, part-to-end l at, drop-drop (length w) at l)

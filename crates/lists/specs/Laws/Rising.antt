@@ -1,0 +1,404 @@
+-- Laws of rising lists of numbers: runs of numbers, members, and what a search finds. Assumes nothing.
+use Prim.Native.Nat.{ℕ, zero, suc, _+_, _-_, _≤_, _<_, min, max, suc-le-suc}
+use mathlib.Core.Path.{_≡_, refl, sym, ap, ap₂, _∙_}
+use mathlib.Core.Logic.{_⊎_, inl, inr}
+use mathlib.Core.Bool.{Bool, true, false, _&&_, _||_, and-comm, and-false, or-assoc, false≢true}
+use mathlib.Core.List.{List, [], _∷_, _++_}
+use native.Mathlib.Nat.{zero-add, add-zero, suc-add, add-suc, zero-min, min-zero, suc-min-suc, zero-sub, sub-zero, suc-sub-suc}
+use native.Mathlib.Decide.{decLt, ℕ-discrete}
+use native.Mathlib.Numerals.{add-one}
+use native.Mathlib.Omega.{arith}
+use lib.Dec.{leb, ltb, eqb}
+use lib.ListN.{length, take, drop, getD}
+use lib.Seq.{ext-getD}
+use borrow.Author.Tests.{ltb-true, leb-true, eqb-true, lt-ltb, le-ltb, le-leb, lt-leb, eq-eqb, ne-eqb}
+use Rattle.lists.specs.Lists.{keep, count, countFrom, above, rising, has, within, same}
+use Rattle.lists.specs.Laws.Keep.{split, and-left, and-right, keep-yes, keep-no, count-yes, count-no}
+
+-- two tests are equal where each passes if the other does
+pub bool-ext : (a b : Bool) → (a ≡ true → b ≡ true) → (b ≡ true → a ≡ true) → a ≡ b
+bool-ext true true f g = refl
+bool-ext true false f g = sym (f refl)
+bool-ext false true f g = g refl
+bool-ext false false f g = refl
+
+pub within-of : (a b x : ℕ) → a ≤ x → x < b → within a b x ≡ true
+unfolding within
+within-of a b x h k = rw (le-leb a x h, lt-ltb x b k)
+
+pub within-low : (a b x : ℕ) → within a b x ≡ true → a ≤ x
+unfolding within
+within-low a b x e = leb-true a x (and-left _ _ e)
+
+pub within-high : (a b x : ℕ) → within a b x ≡ true → x < b
+unfolding within
+within-high a b x e = ltb-true x b (and-right (leb a x) _ e)
+
+pub within-below : (a b x : ℕ) → x < a → within a b x ≡ false
+unfolding within
+within-below a b x h = rw (lt-leb a x h)
+
+pub within-past : (a b x : ℕ) → b ≤ x → within a b x ≡ false
+unfolding within
+within-past a b x h = rw (le-ltb x b h) (and-false (leb a x))
+
+-- ---- a run of numbers
+
+pub length-countFrom : (s n : ℕ) → length (countFrom s n) ≡ n
+unfolding countFrom
+length-countFrom s zero = refl
+length-countFrom s (suc n) = ap suc (length-countFrom (suc s) n)
+
+pub getD-countFrom : (s n i d : ℕ) → i < n → getD (countFrom s n) i d ≡ s + i
+unfolding countFrom
+getD-countFrom s zero i d h = absurd (omega arith)
+getD-countFrom s (suc n) zero d h = sym (add-zero s)
+getD-countFrom s (suc n) (suc i) d h = getD-countFrom (suc s) n i d (omega arith) ∙ omega arith
+
+pub countFrom-append : (s n m : ℕ) → countFrom s (n + m) ≡ countFrom s n ++ countFrom (s + n) m
+unfolding countFrom
+countFrom-append s zero m = rw (zero-add, add-zero)
+countFrom-append s (suc n) m = rw (suc-add n m, countFrom-append (suc s) n m, suc-add s n, add-suc s n)
+
+pub countFrom-snoc : (s n : ℕ) → countFrom s (n + 1) ≡ countFrom s n ++ ((s + n) ∷ [])
+unfolding countFrom
+countFrom-snoc s n = countFrom-append s n 1
+
+pub take-countFrom : (k s n : ℕ) → take k (countFrom s n) ≡ countFrom s (min k n)
+unfolding countFrom
+take-countFrom zero s n = rw zero-min
+take-countFrom (suc k) s zero = rw min-zero
+take-countFrom (suc k) s (suc n) = rw (suc-min-suc, take-countFrom k (suc s) n)
+
+pub drop-countFrom : (k s n : ℕ) → drop k (countFrom s n) ≡ countFrom (s + k) (n - k)
+unfolding countFrom
+drop-countFrom zero s n = rw (add-zero, sub-zero)
+drop-countFrom (suc k) s zero = rw zero-sub
+drop-countFrom (suc k) s (suc n) = rw (suc-sub-suc, drop-countFrom k (suc s) n, suc-add s k, add-suc s k)
+
+-- ---- above and rising
+
+pub above-head : (x y : ℕ) (ys : List ℕ) → above x (y ∷ ys) ≡ true → x < y
+unfolding above
+above-head x y ys e = ltb-true x y (and-left _ _ e)
+
+pub above-tail : (x y : ℕ) (ys : List ℕ) → above x (y ∷ ys) ≡ true → above y ys ≡ true
+unfolding above
+above-tail x y ys e = and-right (ltb x y) _ e
+
+pub above-cons : (x y : ℕ) (ys : List ℕ) → x < y → above y ys ≡ true → above x (y ∷ ys) ≡ true
+unfolding above
+above-cons x y ys h e = rw (lt-ltb x y h, e)
+
+pub above-rising : (x : ℕ) (l : List ℕ) → above x l ≡ true → rising l ≡ true
+unfolding rising
+above-rising x [] e = refl
+above-rising x (y ∷ ys) e = above-tail x y ys e
+
+pub above-weaker : (z x : ℕ) (l : List ℕ) → z ≤ x → above x l ≡ true → above z l ≡ true
+above-weaker z x [] h e = unfold above in refl
+above-weaker z x (y ∷ ys) h e = above-cons z y ys (omega (arith, above-head x y ys e)) (above-tail x y ys e)
+
+pub rising-tail : (x : ℕ) (xs : List ℕ) → rising (x ∷ xs) ≡ true → rising xs ≡ true
+unfolding rising
+rising-tail x xs e = above-rising x xs e
+
+-- what follows the first's second is above the first
+above-rest : (x y : ℕ) (ys : List ℕ) → above x (y ∷ ys) ≡ true → above x ys ≡ true
+above-rest x y ys e = above-weaker x y ys (omega (arith, above-head x y ys e)) (above-tail x y ys e)
+
+pub above-keep : (test : ℕ → Bool) (x : ℕ) (l : List ℕ) → above x l ≡ true → above x (keep test l) ≡ true
+unfolding keep
+above-keep test x [] e = e
+above-keep test x (y ∷ ys) e =
+    let h = above-keep test y ys (above-tail x y ys e) in
+    let k = above-keep test x ys (above-rest x y ys e) in
+    elim (split (test y)) [ inl q ↦ rw q (above-cons x y (keep test ys) (above-head x y ys e) h) | inr q ↦ rw q k ]
+
+pub rising-keep : (test : ℕ → Bool) (l : List ℕ) → rising l ≡ true → rising (keep test l) ≡ true
+unfolding keep rising
+rising-keep test [] e = refl
+rising-keep test (x ∷ xs) e =
+    let h = above-keep test x xs e in
+    elim (split (test x)) [ inl q ↦ rw q h | inr q ↦ rw q (above-rising x (keep test xs) h) ]
+
+above-countFrom : (x s n : ℕ) → x < s → above x (countFrom s n) ≡ true
+unfolding countFrom
+above-countFrom x s zero h = unfold above in refl
+above-countFrom x s (suc n) h = above-cons x s (countFrom (suc s) n) h (above-countFrom s (suc s) n (omega arith))
+
+pub rising-countFrom : (s n : ℕ) → rising (countFrom s n) ≡ true
+unfolding rising countFrom
+rising-countFrom s zero = refl
+rising-countFrom s (suc n) = above-countFrom s (suc s) n (omega arith)
+
+pub above-at : (x : ℕ) (l : List ℕ) → above x l ≡ true → (i : ℕ) → i < length l → x < getD l i 0
+above-at x [] e i h = absurd (omega arith)
+above-at x (y ∷ ys) e zero h = above-head x y ys e
+above-at x (y ∷ ys) e (suc i) h = above-at x ys (above-rest x y ys e) i (omega arith)
+
+-- a later place holds a larger number
+pub rising-at : (l : List ℕ) → rising l ≡ true → (i j : ℕ) → i < j → j < length l → getD l i 0 < getD l j 0
+rising-at [] e i j h k = absurd (omega arith)
+rising-at (x ∷ xs) e i zero h k = absurd (omega arith)
+rising-at (x ∷ xs) e zero (suc j) h k = above-at x xs (unfold rising in e) j (omega arith)
+rising-at (x ∷ xs) e (suc i) (suc j) h k = rising-at xs (rising-tail x xs e) i j (omega arith) (omega arith)
+
+rising-of-suc : (l : List ℕ) → ((i : ℕ) → suc i < length l → getD l i 0 < getD l (suc i) 0) → rising l ≡ true
+unfolding rising
+rising-of-suc [] f = refl
+rising-of-suc (x ∷ []) f = unfold above in refl
+rising-of-suc (x ∷ y ∷ ys) f = above-cons x y ys (f 0 (omega arith)) (rising-of-suc (y ∷ ys) (λ i h. f (suc i) (suc-le-suc h)))
+
+-- neighbours decide
+pub rising-of : (l : List ℕ) → ((i : ℕ) → i + 1 < length l → getD l i 0 < getD l (i + 1) 0) → rising l ≡ true
+rising-of l f = rising-of-suc l (λ i h. rw add-one at (f i (omega arith)))
+
+above-snoc : (y : ℕ) (l : List ℕ) (x : ℕ) → above y l ≡ true → y < x → ((i : ℕ) → i < length l → getD l i 0 < x) → above y (l ++ (x ∷ [])) ≡ true
+above-snoc y [] x e h f = above-cons y x [] h (unfold above in refl)
+above-snoc y (z ∷ zs) x e h f =
+    above-cons y z (zs ++ (x ∷ [])) (above-head y z zs e) (above-snoc z zs x (above-tail y z zs e) (f 0 (omega arith)) (λ i k. f (suc i) (suc-le-suc k)))
+
+pub rising-snoc : (l : List ℕ) (x : ℕ) → rising l ≡ true → ((i : ℕ) → i < length l → getD l i 0 < x) → rising (l ++ (x ∷ [])) ≡ true
+unfolding rising
+rising-snoc [] x e f = unfold above in refl
+rising-snoc (y ∷ ys) x e f = above-snoc y ys x e (f 0 (omega arith)) (λ i k. f (suc i) (suc-le-suc k))
+
+above-take : (n x : ℕ) (l : List ℕ) → above x l ≡ true → above x (take n l) ≡ true
+above-take zero x l e = unfold above in refl
+above-take (suc n) x [] e = e
+above-take (suc n) x (y ∷ ys) e = above-cons x y (take n ys) (above-head x y ys e) (above-take n y ys (above-tail x y ys e))
+
+pub rising-take : (n : ℕ) (l : List ℕ) → rising l ≡ true → rising (take n l) ≡ true
+unfolding rising
+rising-take zero l e = refl
+rising-take (suc n) [] e = refl
+rising-take (suc n) (x ∷ xs) e = above-take n x xs e
+
+pub rising-drop : (n : ℕ) (l : List ℕ) → rising l ≡ true → rising (drop n l) ≡ true
+rising-drop zero l e = e
+rising-drop (suc n) [] e = e
+rising-drop (suc n) (x ∷ xs) e = rising-drop n xs (rising-tail x xs e)
+
+-- ---- members
+
+pub has-here : (x y : ℕ) (ys : List ℕ) → x ≡ y → has x (y ∷ ys) ≡ true
+unfolding has
+has-here x y ys e = rw (eq-eqb x y e)
+
+pub has-there : (x y : ℕ) (ys : List ℕ) → (x ≡ y → ⊥) → has x (y ∷ ys) ≡ has x ys
+unfolding has
+has-there x y ys h = rw (ne-eqb x y h)
+
+-- where it is
+pub has-at : (x : ℕ) (l : List ℕ) → has x l ≡ true → (i : ℕ) × (i < length l) × (getD l i 0 ≡ x)
+unfolding has
+has-at x [] e = absurd (false≢true e)
+has-at x (y ∷ ys) e = go (has-at x ys)
+  where
+    go : (has x ys ≡ true → (i : ℕ) × (i < length ys) × (getD ys i 0 ≡ x)) → (i : ℕ) × (i < suc (length ys)) × (getD (y ∷ ys) i 0 ≡ x)
+    go f =
+        elim (ℕ-discrete x y) [
+          | yes p ↦ (0, omega arith, sym p)
+          | no p ↦ let t = f (sym (has-there x y ys p) ∙ e) in (suc (t .0), suc-le-suc (t .1), t .2)
+        ]
+
+pub has-of : (l : List ℕ) (i : ℕ) → i < length l → has (getD l i 0) l ≡ true
+has-of [] i h = absurd (omega arith)
+has-of (x ∷ xs) zero h = has-here x x xs refl
+has-of (x ∷ xs) (suc i) h =
+    let t = has-of xs i (omega arith) in
+    elim (ℕ-discrete (getD xs i 0) x) [ yes p ↦ has-here (getD xs i 0) x xs p | no p ↦ has-there (getD xs i 0) x xs p ∙ t ]
+
+pub has-append : (x : ℕ) (xs ys : List ℕ) → has x (xs ++ ys) ≡ (has x xs || has x ys)
+unfolding has
+has-append x [] ys = refl
+has-append x (y ∷ xs) ys = rw (has-append x xs ys) (sym (or-assoc (eqb x y) (has x xs) (has x ys)))
+
+pub has-keep : (t : ℕ → Bool) (x : ℕ) (l : List ℕ) → has x (keep t l) ≡ (has x l && t x)
+has-keep t x [] = unfold keep has in refl
+has-keep t x (y ∷ ys) = go (has-keep t x ys) (split (t y)) (ℕ-discrete x y)
+  where
+    go : has x (keep t ys) ≡ (has x ys && t x) → (t y ≡ true) ⊎ (t y ≡ false) → Dec (x ≡ y) → has x (keep t (y ∷ ys)) ≡ (has x (y ∷ ys) && t x)
+    go h (inl q) (yes p) = rw (keep-yes t y ys q, has-here x y (keep t ys) p, has-here x y ys p) (sym (ap t p ∙ q))
+    go h (inl q) (no p) = rw (keep-yes t y ys q, has-there x y (keep t ys) p, has-there x y ys p) h
+    go h (inr q) (yes p) = let r : t x ≡ false = ap t p ∙ q in rw (keep-no t y ys q, h, has-here x y ys p, r) (and-false (has x ys))
+    go h (inr q) (no p) = rw (keep-no t y ys q, has-there x y ys p) h
+
+pub has-countFrom : (x s n : ℕ) → has x (countFrom s n) ≡ within s (s + n) x
+unfolding countFrom
+has-countFrom x s zero = unfold has in bool-ext false (within s (s + 0) x) (λ e. absurd (false≢true e)) (λ e. absurd (omega (arith, within-low s (s + 0) x e, within-high s (s + 0) x e)))
+has-countFrom x s (suc n) = go (has-countFrom x (suc s) n) (ℕ-discrete x s)
+  where
+    go : has x (countFrom (suc s) n) ≡ within (suc s) (suc s + n) x → Dec (x ≡ s) → has x (s ∷ countFrom (suc s) n) ≡ within s (s + suc n) x
+    go h (yes p) = has-here x s (countFrom (suc s) n) p ∙ sym (within-of s (s + suc n) x (omega arith) (omega arith))
+    go h (no p) =
+        has-there x s (countFrom (suc s) n) p
+        ∙ h
+        ∙ bool-ext (within (suc s) (suc s + n) x) (within s (s + suc n) x)
+        (λ e.
+        let a = within-low (suc s) (suc s + n) x e in
+        let b = within-high (suc s) (suc s + n) x e in
+        within-of s (s + suc n) x (omega arith) (omega arith))
+        (λ e.
+        let a = within-low s (s + suc n) x e in
+        let b = within-high s (s + suc n) x e in
+        within-of (suc s) (suc s + n) x (omega arith) (omega arith))
+
+-- what is above x has no member up to x
+pub above-has : (x : ℕ) (l : List ℕ) (z : ℕ) → above x l ≡ true → z ≤ x → has z l ≡ false
+above-has x [] z e h = unfold has in refl
+above-has x (y ∷ ys) z e h =
+    let a = above-head x y ys e in
+    has-there z y ys (omega arith) ∙ above-has x ys z (above-rest x y ys e) h
+
+-- two rising lists with the same members are equal
+pub rising-ext : (l m : List ℕ) → rising l ≡ true → rising m ≡ true → ((x : ℕ) → has x l ≡ has x m) → l ≡ m
+rising-ext [] [] p q f = refl
+rising-ext [] (y ∷ ys) p q f = absurd (false≢true (unfold has in f y ∙ has-here y y ys refl))
+rising-ext (x ∷ xs) [] p q f = absurd (false≢true (unfold has in sym (f x) ∙ has-here x x xs refl))
+rising-ext (x ∷ xs) (y ∷ ys) p q f =
+    let a : above x xs ≡ true = unfold rising in p in
+    let b : above y ys ≡ true = unfold rising in q in
+    let e : x ≡ y = first a b in
+    ap₂ (λ (z : ℕ) (zs : List ℕ). z ∷ zs) e (rising-ext xs ys (above-rising x xs a) (above-rising y ys b) (λ z. rest z e a b))
+  where
+    below : (l : List ℕ) (u v : ℕ) → above v l ≡ true → u < v → has u (v ∷ l) ≡ false
+    below l u v a h = has-there u v l (omega arith) ∙ above-has v l u a (omega arith)
+
+    first : above x xs ≡ true → above y ys ≡ true → x ≡ y
+    first a b =
+        elim (decLt x y) [
+          | yes h ↦ absurd (false≢true (sym (below ys x y b h) ∙ sym (f x) ∙ has-here x x xs refl))
+          | no h ↦ elim (decLt y x) [
+            | yes k ↦ absurd (false≢true (sym (below xs y x a k) ∙ f y ∙ has-here y y ys refl))
+            | no k ↦ omega arith
+          ]
+        ]
+
+    rest : (z : ℕ) → x ≡ y → above x xs ≡ true → above y ys ≡ true → has z xs ≡ has z ys
+    rest z e a b =
+        elim (ℕ-discrete z x) [
+          | yes h ↦ above-has x xs z a (omega arith) ∙ sym (above-has y ys z b (omega arith))
+          | no h ↦ sym (has-there z x xs h) ∙ f z ∙ has-there z y ys (omega arith)
+        ]
+
+-- the members in common, from either side
+pub keep-has-comm : (l m : List ℕ) → rising l ≡ true → rising m ≡ true → keep (λ x. has x m) l ≡ keep (λ x. has x l) m
+keep-has-comm l m p q =
+    rising-ext (keep (λ x. has x m) l) (keep (λ x. has x l) m) (rising-keep (λ x. has x m) l p) (rising-keep (λ x. has x l) m q)
+    (λ x. has-keep (λ x. has x m) x l ∙ and-comm (has x l) (has x m) ∙ sym (has-keep (λ x. has x l) x m))
+
+within-both : (a b c d x : ℕ) → (within a b x && within c d x) ≡ within (max a c) (max a c + (min b d - max a c)) x
+within-both a b c d x =
+    bool-ext _ _
+    (λ e.
+    let p = and-left (within a b x) (within c d x) e in
+    let q = and-right (within a b x) (within c d x) e in
+    let p₁ = within-low a b x p in
+    let p₂ = within-high a b x p in
+    let q₁ = within-low c d x q in
+    let q₂ = within-high c d x q in
+    within-of (max a c) (max a c + (min b d - max a c)) x (omega arith) (omega arith))
+    (λ e.
+    let p = within-low (max a c) (max a c + (min b d - max a c)) x e in
+    let q = within-high (max a c) (max a c + (min b d - max a c)) x e in
+    let u : within a b x ≡ true = within-of a b x (omega arith) (omega arith) in
+    let v : within c d x ≡ true = within-of c d x (omega arith) (omega arith) in
+    rw (u, v))
+
+-- what two runs have in common is a run
+pub keep-within-countFrom : (a n c d : ℕ) → keep (within c d) (countFrom a n) ≡ countFrom (max a c) (min (a + n) d - max a c)
+keep-within-countFrom a n c d =
+    rising-ext (keep (within c d) (countFrom a n)) (countFrom (max a c) (min (a + n) d - max a c))
+    (rising-keep (within c d) (countFrom a n) (rising-countFrom a n))
+    (rising-countFrom (max a c) (min (a + n) d - max a c))
+    (λ x.
+    has-keep (within c d) x (countFrom a n)
+    ∙ ap (λ (b : Bool). b && within c d x) (has-countFrom x a n)
+    ∙ within-both a (a + n) c d x
+    ∙ sym (has-countFrom x (max a c) (min (a + n) d - max a c)))
+
+-- each step is at least one
+pub rising-gap : (l : List ℕ) → rising l ≡ true → (i k : ℕ) → i + k < length l → getD l i 0 + k ≤ getD l (i + k) 0
+rising-gap l e i zero h = simp add-zero (omega arith)
+rising-gap l e i (suc k) h =
+    let a = rising-gap l e i k (omega arith) in
+    let b : getD l (i + k) 0 < getD l (i + suc k) 0 = rising-at l e (i + k) (i + suc k) (omega arith) (omega arith) in
+    omega arith
+
+-- a rising list that ends as far from its start as it is long is a run
+pub neighbours-countFrom : (l : List ℕ) (s n : ℕ) → rising l ≡ true → length l ≡ n → 0 < n → getD l 0 0 ≡ s → getD l (n - 1) 0 ≡ s + (n - 1) → l ≡ countFrom s n
+neighbours-countFrom l s n e p z first last = ext-getD 0 l (countFrom s n) (p ∙ sym (length-countFrom s n)) each
+  where
+    each : (i : ℕ) → i < length l → getD l i 0 ≡ getD (countFrom s n) i 0
+    each i h =
+        let a : getD l 0 0 + i ≤ getD l (0 + i) 0 = rising-gap l e 0 i (omega arith) in
+        let a′ : getD l 0 0 + i ≤ getD l i 0 = rw zero-add at a in
+        let b : getD l i 0 + (n - 1 - i) ≤ getD l (i + (n - 1 - i)) 0 = rising-gap l e i (n - 1 - i) (omega arith) in
+        let k : i + (n - 1 - i) ≡ n - 1 = omega arith in
+        let b′ : getD l i 0 + (n - 1 - i) ≤ getD l (n - 1) 0 = rw k at b in
+        let c = getD-countFrom s n i 0 (omega arith) in
+        omega arith
+
+-- ---- what a search finds
+
+-- how many are below t, where the first p are and the others are not
+pub rising-count-lt : (l : List ℕ) (t p : ℕ) → p ≤ length l → ((i : ℕ) → i < p → getD l i 0 < t) → ((i : ℕ) → p ≤ i → i < length l → t ≤ getD l i 0)
+    → count (λ x. ltb x t) l ≡ p
+rising-count-lt [] t p h f g = unfold count in omega arith
+rising-count-lt (x ∷ xs) t zero h f g =
+    count-no (λ x. ltb x t) x xs (le-ltb x t (g 0 (omega arith) (omega arith)))
+    ∙ rising-count-lt xs t zero (omega arith) (λ i k. absurd (omega arith)) (λ i k m. g (suc i) (omega arith) (suc-le-suc m))
+rising-count-lt (x ∷ xs) t (suc p) h f g =
+    count-yes (λ x. ltb x t) x xs (lt-ltb x t (f 0 (omega arith)))
+    ∙ ap suc (rising-count-lt xs t p (omega arith) (λ i k. f (suc i) (suc-le-suc k)) (λ i k m. g (suc i) (suc-le-suc k) (suc-le-suc m)))
+
+count-none : (x t : ℕ) (l : List ℕ) → above x l ≡ true → t ≤ x → count (λ y. ltb y t) l ≡ 0
+count-none x t l e h = rising-count-lt l t 0 (omega arith) (λ i k. absurd (omega arith)) (λ i k m. let a = above-at x l e i m in omega arith)
+
+-- those within are the part between the two places
+pub keep-within-part : (l : List ℕ) (a b : ℕ) → rising l ≡ true → a ≤ b
+    → keep (within a b) l ≡ take (count (λ x. ltb x b) l - count (λ x. ltb x a) l) (drop (count (λ x. ltb x a) l) l)
+keep-within-part [] a b e h = unfold keep count in refl
+keep-within-part (x ∷ xs) a b e h =
+    let ih = keep-within-part xs a b (rising-tail x xs e) h in
+    let up : above x xs ≡ true = unfold rising in e in
+    elim (decLt x a) [
+      | yes p ↦
+          let q : x < b = omega arith in
+          rw (keep-no (within a b) x xs (within-below a b x p), count-yes (λ y. ltb y b) x xs (lt-ltb x b q), count-yes (λ y. ltb y a) x xs (lt-ltb x a p), suc-sub-suc) ih
+      | no p ↦
+          let p′ : a ≤ x = omega arith in
+          let none = count-none x a xs up p′ in
+          elim (decLt x b) [
+            | yes q ↦
+                let ih′ : keep (within a b) xs ≡ take (count (λ y. ltb y b) xs) xs = rw (none, sub-zero) at ih in
+                rw (keep-yes (within a b) x xs (within-of a b x p′ q), count-yes (λ y. ltb y b) x xs (lt-ltb x b q), count-no (λ y. ltb y a) x xs (le-ltb x a p′), none, sub-zero, ih′)
+            | no q ↦
+                let q′ : b ≤ x = omega arith in
+                let none′ = count-none x b xs up q′ in
+                let ih′ : keep (within a b) xs ≡ [] = rw (none, none′) at ih in
+                rw (keep-no (within a b) x xs (within-past a b x q′), count-no (λ y. ltb y b) x xs (le-ltb x b q′), count-no (λ y. ltb y a) x xs (le-ltb x a p′), none, none′, ih′)
+          ]
+    ]
+
+-- ---- equality as a test
+
+pub same-refl : (l : List ℕ) → same l l ≡ true
+unfolding same
+same-refl [] = refl
+same-refl (x ∷ xs) = rw (eq-eqb x x refl, same-refl xs)
+
+pub same-eq : (l m : List ℕ) → same l m ≡ true → l ≡ m
+unfolding same
+same-eq [] [] e = refl
+same-eq [] (y ∷ ys) e = absurd (false≢true e)
+same-eq (x ∷ xs) [] e = absurd (false≢true e)
+same-eq (x ∷ xs) (y ∷ ys) e = ap₂ (λ (z : ℕ) (zs : List ℕ). z ∷ zs) (eqb-true x y (and-left _ _ e)) (same-eq xs ys (and-right (eqb x y) _ e))
+
+pub same-ne : (l m : List ℕ) → (l ≡ m → ⊥) → same l m ≡ false
+same-ne l m h = elim (split (same l m)) [ inl e ↦ absurd (h (same-eq l m e)) | inr e ↦ e ]
+
+pub same-length : (l m : List ℕ) → same l m ≡ true → length l ≡ length m
+same-length l m e = ap length (same-eq l m e)

@@ -1,0 +1,169 @@
+-- Laws of the rows of a store, and of lists one after another. Assumes nothing.
+use Prim.Native.Nat.{ℕ, zero, suc, _+_, _*_, _≤_, _<_}
+use mathlib.Core.Path.{_≡_, refl, sym, ap, ap₂, _∙_}
+use mathlib.Core.Logic.{_≢_}
+use mathlib.Core.Bool.{Bool, true}
+use mathlib.Core.List.{List, [], _∷_, _++_, append-assoc}
+use native.Mathlib.Nat.{add-comm, zero-mul, suc-mul, mul-le-mul-right}
+use native.Mathlib.Decide.{decLt, ℕ-discrete}
+use native.Mathlib.Numerals.{add-one}
+use native.Mathlib.Omega.{arith}
+use lib.Dec.{eqb}
+use lib.ListN.{length, take, drop, getD, set, length-append, length-take, length-drop, length-set}
+use lib.Seq.{take-at, take-add, take-take, take-set-le, take-set-lt, drop-at, drop-drop, drop-set-add, drop-set-lt, getD-take, getD-drop, getD-set-same, getD-set-other, ext-getD}
+use borrow.Author.Tests.{eqb-true, eq-eqb}
+use Rattle.lists.specs.Lists.{putAt, keep, every, rowAt, rowsOf, flat}
+use Rattle.lists.specs.Laws.Parts.{take-drop, take-putAt, part-putAt}
+use Rattle.lists.specs.Laws.Keep.{and-left, and-right, every-keep-of}
+
+-- a row below the count lies within the rows
+pub row-in : (i n w : ℕ) → i < n → i * w + w ≤ n * w
+row-in i n w h = rw (← suc-mul i w) (mul-le-mul-right w h)
+
+module _ {A : Type 0} where
+  -- each row has w cells
+  abbrev pub widths : ℕ → List (List A) → Bool
+  widths w rs = every (λ r. eqb (length r) w) rs
+
+  pub length-rowsOf : (w n : ℕ) (l : List A) → length (rowsOf w n l) ≡ n
+  unfolding rowsOf
+  length-rowsOf w zero l = refl
+  length-rowsOf w (suc n) l = ap suc (length-rowsOf w n (drop w l))
+
+  -- a row is the next one of the store without its first
+  pub rowAt-zero : (w : ℕ) (l : List A) → rowAt w 0 l ≡ take w l
+  unfolding rowAt
+  rowAt-zero w l = rw zero-mul
+
+  pub rowAt-suc : (w i : ℕ) (l : List A) → rowAt w (suc i) l ≡ rowAt w i (drop w l)
+  unfolding rowAt
+  rowAt-suc w i l = rw (suc-mul, drop-drop, add-comm w (i * w))
+
+  pub getD-rowsOf : (w n : ℕ) (l : List A) (i : ℕ) → i < n → getD (rowsOf w n l) i [] ≡ rowAt w i l
+  unfolding rowsOf
+  getD-rowsOf w zero l i h = absurd (omega arith)
+  getD-rowsOf w (suc n) l zero h = sym (rowAt-zero w l)
+  getD-rowsOf w (suc n) l (suc i) h = getD-rowsOf w n (drop w l) i (omega arith) ∙ sym (rowAt-suc w i l)
+
+  pub length-rowAt : (w i : ℕ) (l : List A) → (i + 1) * w ≤ length l → length (rowAt w i l) ≡ w
+  unfolding rowAt
+  length-rowAt w i l h =
+      let k : i * w + w ≤ length l = rw (add-one, suc-mul) at h in
+      simp (length-take, length-drop) (omega arith)
+
+  pub getD-rowAt : (w i : ℕ) (l : List A) (j : ℕ) (d : A) → j < w → getD (rowAt w i l) j d ≡ getD l (i * w + j) d
+  unfolding rowAt
+  getD-rowAt w i l j d h = getD-take w (drop (i * w) l) j d h ∙ getD-drop (i * w) l j d
+
+  rowsOf-suc : (w n : ℕ) (l : List A) → rowsOf w (suc n) l ≡ rowsOf w n l ++ (rowAt w n l ∷ [])
+  unfolding rowsOf
+  rowsOf-suc w zero l = rw rowAt-zero
+  rowsOf-suc w (suc n) l = rw rowAt-suc (ap (λ (r : List (List A)). take w l ∷ r) (rowsOf-suc w n (drop w l)))
+
+  -- one more row
+  pub rowsOf-snoc : (w n : ℕ) (l : List A) → rowsOf w (n + 1) l ≡ rowsOf w n l ++ (rowAt w n l ∷ [])
+  rowsOf-snoc w n l = rw add-one (rowsOf-suc w n l)
+
+  -- stores that begin alike have the same rows there
+  pub rowsOf-same : (w n : ℕ) (l m : List A) → take (n * w) l ≡ take (n * w) m → rowsOf w n l ≡ rowsOf w n m
+  unfolding rowsOf
+  rowsOf-same w zero l m e = refl
+  rowsOf-same w (suc n) l m e =
+      let k : w ≤ w + n * w = omega arith in
+      let f : take (w + n * w) l ≡ take (w + n * w) m = rw (suc-mul, add-comm (n * w) w) at e in
+      ap₂ (λ (r : List A) (rs : List (List A)). r ∷ rs)
+      (sym (take-take w (w + n * w) l k) ∙ ap (take w) f ∙ take-take w (w + n * w) m k)
+      (rowsOf-same w n (drop w l) (drop w m) (take-drop w (n * w) l ∙ ap (drop w) f ∙ sym (take-drop w (n * w) m)))
+
+  -- what is written past the rows
+  pub rowsOf-before : (w n : ℕ) (l v : List A) (at : ℕ) → n * w ≤ at → at + length v ≤ length l → rowsOf w n (putAt l at v) ≡ rowsOf w n l
+  rowsOf-before w n l v at h k = rowsOf-same w n (putAt l at v) l (take-putAt l v at k (n * w) h)
+
+  -- a row written right after them
+  pub rowsOf-appended : (w n : ℕ) (l row : List A) → length row ≡ w → (n + 1) * w ≤ length l
+      → rowsOf w (n + 1) (putAt l (n * w) row) ≡ rowsOf w n l ++ (row ∷ [])
+  unfolding rowAt
+  rowsOf-appended w n l row e h =
+      let k : n * w + w ≤ length l = rw (add-one, suc-mul) at h in
+      let f : n * w + length row ≤ length l = omega arith in
+      let p : n * w ≤ n * w = omega arith in
+      let q : take w (drop (n * w) (putAt l (n * w) row)) ≡ row = ap (λ (k : ℕ). take k (drop (n * w) (putAt l (n * w) row))) (sym e) ∙ part-putAt l row (n * w) f in
+      rowsOf-snoc w n (putAt l (n * w) row)
+      ∙ ap₂ (λ (rs : List (List A)) (r : List A). rs ++ (r ∷ [])) (rowsOf-before w n l row (n * w) p f) q
+
+  -- a cell is written: its row has it, the others are as they were
+  pub rowAt-set-same : (w i j : ℕ) (l : List A) (v : A) → j < w → rowAt w i (set l (i * w + j) v) ≡ set (rowAt w i l) j v
+  unfolding rowAt
+  rowAt-set-same w i j l v h = ap (take w) (drop-set-add (i * w) l j v) ∙ take-set-lt w (drop (i * w) l) j v h
+
+  pub rowAt-set-other : (w i k j : ℕ) (l : List A) (v : A) → i ≢ k → j < w → rowAt w k (set l (i * w + j) v) ≡ rowAt w k l
+  rowAt-set-other w i k j l v ne h = elim (decLt k i) [ yes p ↦ below p | no p ↦ past (omega arith) ]
+    where
+      below : k < i → rowAt w k (set l (i * w + j) v) ≡ rowAt w k l
+      below p =
+          let q : k * w + w ≤ i * w + j = omega (arith, row-in k i w p) in
+          unfold rowAt in
+          take-drop (k * w) w (set l (i * w + j) v) ∙ ap (drop (k * w)) (take-set-le (k * w + w) l (i * w + j) v q) ∙ sym (take-drop (k * w) w l)
+
+      past : i < k → rowAt w k (set l (i * w + j) v) ≡ rowAt w k l
+      past p =
+          let q : i * w + j < k * w = omega (arith, row-in i k w p) in
+          unfold rowAt in ap (take w) (drop-set-lt (k * w) l (i * w + j) v q)
+
+  pub rowsOf-set : (w n i j : ℕ) (l : List A) (v : A) → i < n → j < w → rowsOf w n (set l (i * w + j) v) ≡ set (rowsOf w n l) i (set (rowAt w i l) j v)
+  rowsOf-set w n i j l v h k =
+      ext-getD [] (rowsOf w n (set l (i * w + j) v)) (set (rowsOf w n l) i (set (rowAt w i l) j v)) (simp (length-rowsOf, length-set)) each
+    where
+      each : (m : ℕ) → m < length (rowsOf w n (set l (i * w + j) v))
+          → getD (rowsOf w n (set l (i * w + j) v)) m [] ≡ getD (set (rowsOf w n l) i (set (rowAt w i l) j v)) m []
+      each m p =
+          let q : m < n = omega (arith, length-rowsOf w n (set l (i * w + j) v)) in
+          let b : i < length (rowsOf w n l) = simp length-rowsOf h in
+          getD-rowsOf w n (set l (i * w + j) v) m q
+          ∙ elim (ℕ-discrete i m) [
+            | yes e ↦ rw (← e) (rowAt-set-same w i j l v k ∙ sym (getD-set-same (rowsOf w n l) i _ [] b))
+            | no e ↦ rowAt-set-other w i m j l v e k ∙ sym (getD-rowsOf w n l m q) ∙ sym (getD-set-other (rowsOf w n l) i m _ [] (omega arith))
+          ]
+
+  pub length-flat : (w : ℕ) (rs : List (List A)) → widths w rs ≡ true → length (flat rs) ≡ length rs * w
+  unfolding every flat
+  length-flat w [] q = sym (zero-mul w)
+  length-flat w (r ∷ rs) q =
+      let a : length r ≡ w = eqb-true _ _ (and-left _ _ q) in
+      let b = length-flat w rs (and-right (eqb (length r) w) _ q) in
+      rw (length-append, suc-mul) (omega arith)
+
+  pub rowsOf-widths : (w n : ℕ) (l : List A) → n * w ≤ length l → widths w (rowsOf w n l) ≡ true
+  unfolding every rowsOf
+  rowsOf-widths w zero l h = refl
+  rowsOf-widths w (suc n) l h =
+      let k : n * w + w ≤ length l = rw suc-mul at h in
+      let a : length (take w l) ≡ w = simp length-take (omega arith) in
+      let b : n * w ≤ length (drop w l) = simp length-drop (omega arith) in
+      rw (eq-eqb _ _ a, rowsOf-widths w n (drop w l) b)
+
+  pub widths-keep : (w : ℕ) (t : List A → Bool) (rs : List (List A)) → widths w rs ≡ true → widths w (keep t rs) ≡ true
+  widths-keep w t rs q = every-keep-of (λ r. eqb (length r) w) t rs q
+
+  -- rows one after another are read back as they were
+  pub rowsOf-flat : (w : ℕ) (rs : List (List A)) → widths w rs ≡ true → (rest : List A) → rowsOf w (length rs) (flat rs ++ rest) ≡ rs
+  unfolding every flat rowsOf
+  rowsOf-flat w [] q rest = refl
+  rowsOf-flat w (r ∷ rs) q rest =
+      let a : length r ≡ w = eqb-true _ _ (and-left _ _ q) in
+      let b = rowsOf-flat w rs (and-right (eqb (length r) w) _ q) rest in
+      rw (append-assoc, take-at r (flat rs ++ rest) w a, drop-at r (flat rs ++ rest) w a, b)
+
+  pub rowsOf-put-flat : (w : ℕ) (rs : List (List A)) (l : List A) → widths w rs ≡ true → rowsOf w (length rs) (putAt l 0 (flat rs)) ≡ rs
+  unfolding putAt
+  rowsOf-put-flat w rs l q = rowsOf-flat w rs q (drop (0 + length (flat rs)) l)
+
+  pub flat-rowsOf : (w n : ℕ) (l : List A) → flat (rowsOf w n l) ≡ take (n * w) l
+  unfolding flat rowsOf
+  flat-rowsOf w zero l = rw zero-mul
+  flat-rowsOf w (suc n) l = ap (λ (x : List A). take w l ++ x) (flat-rowsOf w n (drop w l)) ∙ sym (rw (suc-mul, add-comm (n * w) w) (take-add w (n * w) l))
+
+  pub flat-append : (rs ss : List (List A)) → flat (rs ++ ss) ≡ flat rs ++ flat ss
+  unfolding flat
+  flat-append [] ss = refl
+  flat-append (r ∷ rs) ss = rw (flat-append rs ss, append-assoc)

@@ -1,0 +1,76 @@
+-- The definitions on lists that the paper's are written with. Nothing here is about tables. Assumes nothing.
+use Prim.Native.Nat.{ℕ, zero, suc, _+_, _*_}
+use mathlib.Core.Bool.{Bool, true, false, cond, _&&_, _||_}
+use mathlib.Core.List.{List, [], _∷_, _++_}
+use lib.ListN.{length, take, drop}
+use lib.Dec.{leb, ltb, eqb}
+
+module _ {A : Type 0} where
+  -- l with w from place `at` on: what a store holds after w is written there
+  unfoldable pub putAt : List A → ℕ → List A → List A
+  putAt l at w = take at l ++ (w ++ drop (at + length w) l)
+
+  -- those that pass a test, in order
+  unfoldable pub keep : (A → Bool) → List A → List A
+  keep test [] = []
+  keep test (x ∷ xs) = cond (test x) (x ∷ keep test xs) (keep test xs)
+
+  -- how many pass it
+  unfoldable pub count : (A → Bool) → List A → ℕ
+  count test [] = 0
+  count test (x ∷ xs) = cond (test x) (suc (count test xs)) (count test xs)
+
+  -- all pass it
+  unfoldable pub every : (A → Bool) → List A → Bool
+  every test [] = true
+  every test (x ∷ xs) = test x && every test xs
+
+  -- one at least passes it
+  unfoldable pub some : (A → Bool) → List A → Bool
+  some test [] = false
+  some test (x ∷ xs) = test x || some test xs
+
+  -- the cells from place i times w on, w of them: row i of a store of rows of width w
+  unfoldable pub rowAt : ℕ → ℕ → List A → List A
+  rowAt w i store = take w (drop (i * w) store)
+
+  -- the first n rows
+  unfoldable pub rowsOf : ℕ → ℕ → List A → List (List A)
+  rowsOf w zero store = []
+  rowsOf w (suc n) store = take w store ∷ rowsOf w n (drop w store)
+
+  -- lists one after another
+  unfoldable pub flat : List (List A) → List A
+  flat [] = []
+  flat (row ∷ rows) = row ++ flat rows
+
+-- n numbers from s on, one by one
+unfoldable pub countFrom : ℕ → ℕ → List ℕ
+countFrom s zero = []
+countFrom s (suc n) = s ∷ countFrom (suc s) n
+
+-- each number is above the one before, and the first above x
+unfoldable pub above : ℕ → List ℕ → Bool
+above x [] = true
+above x (y ∷ ys) = ltb x y && above y ys
+
+-- strictly rising
+unfoldable pub rising : List ℕ → Bool
+rising [] = true
+rising (x ∷ xs) = above x xs
+
+-- x is one of them
+unfoldable pub has : ℕ → List ℕ → Bool
+has x [] = false
+has x (y ∷ ys) = eqb x y || has x ys
+
+-- a ≤ x < b
+unfoldable pub within : ℕ → ℕ → ℕ → Bool
+within a b x = leb a x && ltb x b
+
+-- the same numbers in the same order
+unfoldable pub same : List ℕ → List ℕ → Bool
+same [] [] = true
+same [] (y ∷ ys) = false
+same (x ∷ xs) [] = false
+same (x ∷ xs) (y ∷ ys) = eqb x y && same xs ys

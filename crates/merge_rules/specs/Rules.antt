@@ -1,0 +1,42 @@
+-- Merge rules (document 01, "Merge rules"): what a rule makes of an old and a new row of the same key. Assumes nothing.
+use Prim.Native.Nat.{ℕ, zero, suc, min, max}
+use mathlib.Core.Bool.{Bool, true, false, cond, not, _&&_, _||_}
+use mathlib.Core.List.{List, [], _∷_}
+use lib.Dec.{leb, ltb, eqb}
+
+-- "a cell outside keys and sort column"
+unfoldable pub ruledColumn : ℕ → ℕ → ℕ → Bool
+ruledColumn keys sort column = leb keys column && not (eqb column sort)
+
+-- what the rule takes for such a cell: 0 the old, 1 the new, 2 the smaller, 3 the larger
+unfoldable pub taken : ℕ → ℕ → ℕ → ℕ
+taken rule old new =
+    cond (eqb rule 1) new (cond (eqb rule 2) (min old new) (cond (eqb rule 3) (max old new) old))
+
+-- "Key cells stay; the sort cell is the new row's"
+unfoldable pub madeCell : ℕ → ℕ → ℕ → ℕ → ℕ → ℕ → ℕ
+madeCell rule keys sort column old new =
+    cond (ruledColumn keys sort column) (taken rule old new) (cond (eqb column sort) new old)
+
+-- the row made, from this column on
+unfoldable pub madeFrom : ℕ → ℕ → ℕ → ℕ → List ℕ → List ℕ → List ℕ
+madeFrom rule keys sort column [] new = []
+madeFrom rule keys sort column (a ∷ old) [] = []
+madeFrom rule keys sort column (a ∷ old) (b ∷ new) =
+    madeCell rule keys sort column a b ∷ madeFrom rule keys sort (suc column) old new
+
+-- from this column on, a cell outside keys and sort column changes
+unfoldable pub changesFrom : ℕ → ℕ → ℕ → ℕ → List ℕ → List ℕ → Bool
+changesFrom rule keys sort column [] new = false
+changesFrom rule keys sort column (a ∷ old) [] = false
+changesFrom rule keys sort column (a ∷ old) (b ∷ new) =
+    (ruledColumn keys sort column && not (eqb (taken rule a b) a)) || changesFrom rule keys sort (suc column) old new
+
+-- "the old row is kept", or a row is made
+pub data Ruled : Type 0 where
+  kept : Ruled
+  made : List ℕ → Ruled
+
+unfoldable pub ruled : ℕ → ℕ → ℕ → List ℕ → List ℕ → Ruled
+ruled rule keys sort old new =
+    cond (changesFrom rule keys sort 0 old new) (made (madeFrom rule keys sort 0 old new)) kept

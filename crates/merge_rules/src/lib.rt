@@ -1,0 +1,1 @@
+// The four merge rules, in specs/. No functions yet.

@@ -1,0 +1,55 @@
+-- Subsets as they are passed and answered. Assumes nothing.
+use Prim.Native.Nat.{ℕ}
+use mathlib.Core.Path.{_≡_}
+use mathlib.Core.Bool.{Bool, true, false, cond, not, _||_}
+use mathlib.Core.List.{List, [], _∷_}
+use lib.ListN.{length, take}
+use lib.Dec.{ltb}
+use Rattle.lists.specs.Lists.{putAt}
+use Rattle.refusals.specs.Refusals.{Rung, rung, first, Reply, refused, accepted, reply}
+use Rattle.offsets.specs.declared.SubsetHead.{SubsetHead}
+use Rattle.offsets.specs.declared.SubsetAnswer.{SubsetAnswer}
+use Rattle.offsets.specs.declared.SubsetAnswer.the-variants.{Refused, Range, List as Ids}
+use Rattle.offsets.specs.Subsets.{Subset, range, list, wellFormed, intersect}
+
+-- a borrowed subset: "its kind, its two ends and the caller's list of ids"
+unfoldable pub subsetOf : SubsetHead → List ℕ → Subset
+subsetOf head ids = cond (head .dense) (range (head .start) (head .end)) (list ids)
+
+-- the answer of a reply: its number, its two ends, or how many ids it has
+unfoldable pub answerOf : Reply Subset → SubsetAnswer
+answerOf (refused n) = Refused n
+answerOf (accepted (range start end)) = Range start end
+answerOf (accepted (list ids)) = Ids (length ids)
+
+-- the ids that it writes: "A range as answer writes no id"
+unfoldable pub written : Reply Subset → List ℕ
+written (refused n) = []
+written (accepted (range start end)) = []
+written (accepted (list ids)) = ids
+
+-- an answer and its output: "output beyond the ids written is unchanged"
+pub record Answered (r : Reply Subset) (output : List ℕ) (answer : SubsetAnswer) (output′ : List ℕ) : Type 0 where
+  pub answers : answer ≡ answerOf r
+  pub writes : output′ ≡ putAt output 0 (written r)
+
+-- an answer as its caller reads it: refused, a range, or the first ids of the output
+unfoldable pub readOff : SubsetAnswer → List ℕ → Reply Subset
+readOff (Refused n) output = refused n
+readOff (Range start end) output = accepted (range start end)
+readOff (Ids n) output = accepted (list (take n output))
+
+-- the ids for which `intersect` needs room: "output shorter than the first list, or than the second where the first is a
+-- range"
+unfoldable pub room : Subset → Subset → ℕ
+room (range a b) (range c d) = 0
+room (range a b) (list ids) = length ids
+room (list ids) other = length ids
+
+-- *Intersect*: "4 for either; 2"
+unfoldable pub intersectRefusal : Subset → Subset → ℕ → ℕ
+intersectRefusal a b output =
+    first (rung (not (wellFormed a) || not (wellFormed b)) 4 ∷ rung (ltb output (room a b)) 2 ∷ [])
+
+unfoldable pub intersectReply : Subset → Subset → ℕ → Reply Subset
+intersectReply a b output = reply (intersectRefusal a b output) (intersect a b)

@@ -1,0 +1,78 @@
+-- Subsets (document 01, "Subsets"): well-formed ones, their members, `bounds`, `intersect` and `retain` with the Rust's
+-- forms. Assumes nothing.
+use Prim.Native.Nat.{ℕ, zero, suc, _+_, _-_, min, max}
+use mathlib.Core.Bool.{Bool, true, false, cond, _&&_}
+use mathlib.Core.List.{List, [], _∷_}
+use lib.ListN.{length}
+use lib.Dec.{leb, ltb, eqb}
+use Rattle.lists.specs.Lists.{keep, every, countFrom, rising, has, within}
+
+-- "A dense range start..end (end not included), or a strictly rising list of at most 65,536 u32 ids"
+pub data Subset : Type 0 where
+  range : ℕ → ℕ → Subset
+  list : List ℕ → Subset
+
+unfoldable pub wellFormed : Subset → Bool
+wellFormed (range start end) = leb start end
+wellFormed (list ids) = rising ids && leb (length ids) 65536
+
+-- the ids, rising
+unfoldable pub members : Subset → List ℕ
+members (range start end) = countFrom start (end - start)
+members (list ids) = ids
+
+unfoldable pub size : Subset → ℕ
+size (range start end) = end - start
+size (list ids) = length ids
+
+-- the last of a list that begins with x
+unfoldable pub lastOf : ℕ → List ℕ → ℕ
+lastOf x [] = x
+lastOf x (y ∷ ys) = lastOf y ys
+
+-- "`bounds` gives the ends of a subset"; an empty list has none
+pub data Bounds : Type 0 where
+  none : Bounds
+  ends : ℕ → ℕ → Bounds
+
+unfoldable pub bounds : Subset → Bounds
+bounds (range start end) = ends start end
+bounds (list []) = none
+bounds (list (x ∷ xs)) = ends x (lastOf x xs + 1)
+
+-- the end that test 5 looks at: "range end or last id plus one"; an empty list has 0
+unfoldable pub endOf : Subset → ℕ
+endOf (range start end) = end
+endOf (list []) = 0
+endOf (list (x ∷ xs)) = lastOf x xs + 1
+
+-- "a range with a list gives a list, or 0..0 if nothing is common"
+unfoldable pub listOrNothing : List ℕ → Subset
+listOrNothing [] = range 0 0
+listOrNothing (x ∷ xs) = list (x ∷ xs)
+
+-- "two ranges give a range, and if they do not meet it starts and ends at the larger start; .. list first gives a list,
+-- even an empty one"
+unfoldable pub intersect : Subset → Subset → Subset
+intersect (range a b) (range c d) = range (max a c) (max (max a c) (min b d))
+intersect (range a b) (list ids) = listOrNothing (keep (within a b) ids)
+intersect (list ids) (range a b) = list (keep (within a b) ids)
+intersect (list ids) (list others) = list (keep (λ id. has id others) ids)
+
+-- the kept ids of a range: "keeps a range while kept ids are neighbours, and 0..0 if none is"
+unfoldable pub shaped : List ℕ → Subset
+shaped [] = range 0 0
+shaped (x ∷ xs) =
+    cond (eqb (lastOf x xs + 1) (x + length (x ∷ xs))) (range x (lastOf x xs + 1)) (list (x ∷ xs))
+
+unfoldable pub retain : (ℕ → Bool) → Subset → Subset
+retain test (range start end) = shaped (keep test (countFrom start (end - start)))
+retain test (list ids) = list (keep test ids)
+
+-- "a range stays only if all of it is kept, else a list"
+unfoldable pub narrowed : (ℕ → Bool) → Subset → Subset
+narrowed test (range start end) =
+    cond (every test (countFrom start (end - start)))
+    (range start end)
+    (list (keep test (countFrom start (end - start))))
+narrowed test (list ids) = list (keep test ids)

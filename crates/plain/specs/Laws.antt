@@ -1,0 +1,7 @@
+-- What may be relied on of the plain table.
+pub mod Rules
+pub mod Rows
+pub mod Calls
+pub mod Counts
+pub mod Proper
+pub mod Live

@@ -1,0 +1,6 @@
+pub mod Staged
+pub mod Merging
+pub mod Plain
+pub mod Calls
+pub mod Proper
+pub mod Laws

@@ -1,0 +1,32 @@
+-- What is true of every plain table that calls lead to from an opening. Assumes nothing.
+use Prim.Native.Nat.{ℕ, _≤_, _<_}
+use mathlib.Core.Path.{_≡_}
+use mathlib.Core.Bool.{Bool, true, not, _||_}
+use mathlib.Core.List.{List, []}
+use lib.ListN.{length, take, getD}
+use lib.Dec.{eqb}
+use Rattle.lists.specs.Lists.{every}
+use Rattle.cells.specs.Cells.{isDead}
+use Rattle.plain.specs.Staged.{Opening, openable}
+use Rattle.plain.specs.Plain.{Row, deadRow, Plain, wrongWidth}
+
+-- row i, a dead one of no cells past the end
+abbrev pub rowOf : Plain → ℕ → Row
+rowOf p i = getD (p .rows) i (record { live = Bool.false; cells = [] })
+
+abbrev pub sortCell : Plain → Row → ℕ
+sortCell p row = getD (row .cells) (p .opening .sort) 0
+
+pub record Proper (p : Plain) : Type 0 where
+  pub numbers : openable (p .opening) ≡ true
+  pub generation-fits : p .generation ≤ 4294967295
+  pub rows-fit : length (p .rows) ≤ p .opening .capacity
+  pub widths : every (λ row. eqb (length (row .cells)) (p .opening .columns)) (p .rows) ≡ true
+  -- the first cell of a live row is not the dead mark
+  pub live-first : every (λ row. not (row .live) || not (isDead (getD (row .cells) 0 0))) (p .rows) ≡ true
+  -- live rows have different keys
+  pub keys-differ : (i j : ℕ) → rowOf p i .live ≡ true → rowOf p j .live ≡ true
+      → take (p .opening .keys) (rowOf p i .cells) ≡ take (p .opening .keys) (rowOf p j .cells) → i ≡ j
+  -- sort cells never fall, those of dead rows included
+  pub sorted : (i j : ℕ) → i ≤ j → j < length (p .rows) → sortCell p (rowOf p i) ≤ sortCell p (rowOf p j)
+  pub staged-whole : every (λ r. not (wrongWidth (p .opening) r)) (p .staged) ≡ true

@@ -1,0 +1,1 @@
+// The paper's plain table, in specs/. No functions.

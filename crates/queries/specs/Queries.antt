@@ -1,0 +1,136 @@
+-- Questions on rows (document 01, "Operations": refine by one and by a list, any match, page). They go by the header and
+-- the row store alone, so each is promised of any table. Assumes nothing.
+use Prim.Native.Nat.{ℕ, _+_, _-_, _*_, _<_, min}
+use mathlib.Core.Path.{_≡_}
+use mathlib.Core.Bool.{Bool, true, false, cond, not, _||_}
+use mathlib.Core.List.{List, [], _∷_, _++_}
+use lib.ListN.{length, take, drop}
+use lib.Dec.{leb, ltb}
+use Rattle.lists.specs.Lists.{putAt, keep, every, some, rowAt}
+use Rattle.refusals.specs.Refusals.{Rung, rung, first, Reply, refused, accepted, reply}
+use Rattle.offsets.specs.declared.SubsetAnswer.{SubsetAnswer}
+use Rattle.offsets.specs.Subsets.{Subset, wellFormed, members, size, endOf, retain, narrowed}
+use Rattle.offsets.specs.Answers.{Answered}
+use Rattle.constraints.specs.declared.Constraint.{Constraint}
+use Rattle.constraints.specs.Constraints.{known, meets}
+use Rattle.table.specs.declared.Header.{Header}
+use Rattle.table.specs.Numbers.{Maybe, none, one}
+use Rattle.table.specs.Refusing.{outside, rowsShort}
+use Rattle.queries.specs.declared.MatchAnswer.{MatchAnswer}
+use Rattle.queries.specs.declared.MatchAnswer.the-variants.{Refused as MatchRefused, Match}
+use Rattle.queries.specs.declared.NextPlace.{NextPlace}
+use Rattle.queries.specs.declared.NextPlace.the-variants.{None, At}
+use Rattle.queries.specs.declared.Page.{Page}
+use Rattle.queries.specs.declared.PageAnswer.{PageAnswer}
+use Rattle.queries.specs.declared.PageAnswer.the-variants.{Refused as PageRefused, Page as Paged}
+
+-- row `id` is live and meets the conditions
+unfoldable pub matches : Header → List ℕ → List Constraint → ℕ → Bool
+matches h rows conditions id = meets (rowAt (h .columns) id rows) conditions
+
+-- "5, range end or last id plus one above the row count"
+unfoldable pub pastRows : Header → Subset → Bool
+pastRows h subset = ltb (h .rows) (endOf subset)
+
+-- "6, kind above 5 or a column that does not exist"
+unfoldable pub unknown : Header → List Constraint → Bool
+unknown h conditions = not (every (known (h .columns)) conditions)
+
+-- *Refine by one, by a list*: 1, 2, 4, 5, 6, "2 again, output shorter than the subset"
+unfoldable pub refineRefusal : Header → ℕ → Subset → List Constraint → ℕ → ℕ
+refineRefusal h rows subset conditions output =
+    first
+    (rung (outside h) 1
+    ∷ rung (rowsShort h rows) 2
+    ∷ rung (not (wellFormed subset)) 4
+    ∷ rung (pastRows h subset) 5
+    ∷ rung (unknown h conditions) 6
+    ∷ rung (ltb output (size subset)) 2
+    ∷ [])
+
+-- *any match* "has none"
+unfoldable pub matchRefusal : Header → ℕ → Subset → List Constraint → ℕ
+matchRefusal h rows subset conditions =
+    first
+    (rung (outside h) 1
+    ∷ rung (rowsShort h rows) 2
+    ∷ rung (not (wellFormed subset)) 4
+    ∷ rung (pastRows h subset) 5
+    ∷ rung (unknown h conditions) 6
+    ∷ [])
+
+-- *Page*: 5 "also start place above the subset's size", "2 again, output shorter than the smaller of n and what remains"
+unfoldable pub pageRefusal : Header → ℕ → Subset → ℕ → ℕ → List Constraint → ℕ → ℕ
+pageRefusal h rows subset start n conditions output =
+    first
+    (rung (outside h) 1
+    ∷ rung (rowsShort h rows) 2
+    ∷ rung (not (wellFormed subset)) 4
+    ∷ rung (pastRows h subset || ltb (size subset) start) 5
+    ∷ rung (unknown h conditions) 6
+    ∷ rung (ltb output (min n (size subset - start))) 2
+    ∷ [])
+
+-- refine by one is `retain`, by a list `narrowed`
+unfoldable pub refineOneReply : Header → List ℕ → Subset → Constraint → ℕ → Reply Subset
+refineOneReply h rows subset c output =
+    reply (refineRefusal h (length rows) subset (c ∷ []) output) (retain (matches h rows (c ∷ [])) subset)
+
+unfoldable pub refineListReply : Header → List ℕ → Subset → List Constraint → ℕ → Reply Subset
+refineListReply h rows subset conditions output =
+    reply (refineRefusal h (length rows) subset conditions output) (narrowed (matches h rows conditions) subset)
+
+unfoldable pub matchReply : Header → List ℕ → Subset → List Constraint → Reply Bool
+matchReply h rows subset conditions =
+    reply (matchRefusal h (length rows) subset conditions) (some (matches h rows conditions) (members subset))
+
+-- "Visits n ids from the start place, writes the live matching ones"
+unfoldable pub visited : Subset → ℕ → ℕ → List ℕ
+visited subset start n = take n (drop start (members subset))
+
+-- "the next place or *none*. n = 0 gives the start place back unless nothing remains"
+unfoldable pub nextPlace : Subset → ℕ → ℕ → Maybe ℕ
+nextPlace subset start n = cond (ltb (start + n) (size subset)) (one (start + n)) none
+
+pub record PageReply : Type 0 where
+  pub ids : List ℕ
+  pub next : Maybe ℕ
+
+unfoldable pub pageReply : Header → List ℕ → Subset → ℕ → ℕ → List Constraint → ℕ → Reply PageReply
+pageReply h rows subset start n conditions output =
+    reply
+    (pageRefusal h (length rows) subset start n conditions output)
+    (record { ids = keep (matches h rows conditions) (visited subset start n); next = nextPlace subset start n })
+
+-- what the answers say
+unfoldable pub matchSays : MatchAnswer → Reply Bool
+matchSays (MatchRefused n) = refused n
+matchSays (Match answer) = accepted answer
+
+unfoldable pub nextOf : Maybe ℕ → NextPlace
+nextOf none = None
+nextOf (one place) = At place
+
+-- the answer of a reply: how many ids were written, and the next place
+unfoldable pub pageOf : Reply PageReply → PageAnswer
+pageOf (refused n) = PageRefused n
+pageOf (accepted page) = Paged (record { written = length (page .ids); next = nextOf (page .next) })
+
+unfoldable pub pageWrites : Reply PageReply → List ℕ
+pageWrites (refused n) = []
+pageWrites (accepted page) = page .ids
+
+-- the promises
+
+pub record RefinedOne (h : Header) (rows : List ℕ) (subset : Subset) (c : Constraint) (output : List ℕ) (answer : SubsetAnswer) (output′ : List ℕ) : Type 0 where
+  pub answered : Answered (refineOneReply h rows subset c (length output)) output answer output′
+
+pub record RefinedList (h : Header) (rows : List ℕ) (subset : Subset) (conditions : List Constraint) (output : List ℕ) (answer : SubsetAnswer) (output′ : List ℕ) : Type 0 where
+  pub answered : Answered (refineListReply h rows subset conditions (length output)) output answer output′
+
+pub record Matched (h : Header) (rows : List ℕ) (subset : Subset) (conditions : List Constraint) (answer : MatchAnswer) : Type 0 where
+  pub answers : matchSays answer ≡ matchReply h rows subset conditions
+
+pub record PageRead (h : Header) (rows : List ℕ) (subset : Subset) (start n : ℕ) (conditions : List Constraint) (output : List ℕ) (answer : PageAnswer) (output′ : List ℕ) : Type 0 where
+  pub answers : answer ≡ pageOf (pageReply h rows subset start n conditions (length output))
+  pub writes : output′ ≡ putAt output 0 (pageWrites (pageReply h rows subset start n conditions (length output)))

@@ -1,0 +1,24 @@
+// Questions on a table's rows: refine, any match and page of table/mod.rs. The types that the definitions speak of.
+
+// A yes or no.
+pub enum MatchAnswer {
+    Refused(u32),
+    Match(bool),
+}
+
+// The next place of a page, if any.
+pub enum NextPlace {
+    None,
+    At(u32),
+}
+
+// A page: how many ids were written, and the next place.
+pub struct Page {
+    pub written: u32,
+    pub next: NextPlace,
+}
+
+pub enum PageAnswer {
+    Refused(u32),
+    Page(Page),
+}

@@ -1,0 +1,1 @@
+// Refusals by number, in specs/. No functions.

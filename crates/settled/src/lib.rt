@@ -1,0 +1,1 @@
+// The paper's twelve settled examples, proved in specs/. No functions.

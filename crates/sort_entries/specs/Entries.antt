@@ -1,0 +1,91 @@
+-- Sort entries (document 01, "Sort entries"): appending, rebuilding, and the fast range. Assumes nothing.
+use Prim.Native.Nat.{ℕ, zero, suc, _+_}
+use mathlib.Core.Bool.{Bool, true, false, cond, not, _&&_, _||_}
+use mathlib.Core.List.{List, [], _∷_, _++_, map}
+use lib.ListN.{length, drop, getD}
+use lib.Dec.{leb, ltb, eqb}
+use Rattle.lists.specs.Lists.{every, rising}
+use Rattle.offsets.specs.Subsets.{Subset, range}
+
+-- "Pairs of value and first row"
+pub record Entry : Type 0 where
+  pub value : ℕ
+  pub row : ℕ
+
+abbrev pub entry : ℕ → ℕ → Entry
+entry value row = record { value = value; row = row }
+
+-- the first n pairs of a store, and the words of a list of pairs
+unfoldable pub entriesOf : ℕ → List ℕ → List Entry
+entriesOf zero store = []
+entriesOf (suc n) store = entry (getD store 0 0) (getD store 1 0) ∷ entriesOf n (drop 2 store)
+
+unfoldable pub words : List Entry → List ℕ
+words [] = []
+words (e ∷ es) = e .value ∷ e .row ∷ words es
+
+-- there is no entry, or the last one's value passes the test
+unfoldable pub last : (ℕ → Bool) → List Entry → Bool
+last test [] = true
+last test (e ∷ []) = test (e .value)
+last test (e ∷ (f ∷ es)) = last test (f ∷ es)
+
+-- not "sort value below the last entry's"
+unfoldable pub admits : ℕ → List Entry → Bool
+admits value es = last (λ v. leb v value) es
+
+-- the entries after a row of this sort value is appended: one more only if the value rises
+unfoldable pub push : ℕ → ℕ → List Entry → List Entry
+push value row es = cond (last (λ v. ltb v value) es) (es ++ (entry value row ∷ [])) es
+
+-- the entries after rows of these sort values, numbered from `row`, are appended one after another
+unfoldable pub pushAll : ℕ → List ℕ → List Entry → List Entry
+pushAll row [] es = es
+pushAll row (value ∷ values) es = pushAll (suc row) values (push value row es)
+
+-- "Sort entries are rebuilt from live rows": their sort cells, numbered from 0
+unfoldable pub rebuilt : List ℕ → List Entry
+rebuilt values = pushAll 0 values []
+
+-- the row of the first of these entries, or the row count
+unfoldable pub firstRow : List Entry → ℕ → ℕ
+firstRow [] rows = rows
+firstRow (e ∷ es) rows = e .row
+
+-- where a value stands: "f the row of an entry of value v, b the next entry's row or the row count", or, without such an
+-- entry, "g the row of the first entry above v or the row count"
+pub data Place : Type 0 where
+  found : ℕ → ℕ → Place
+  absent : ℕ → Place
+
+unfoldable pub place : ℕ → List Entry → ℕ → Place
+place v [] rows = absent rows
+place v (e ∷ es) rows =
+    cond (ltb (e .value) v) (place v es rows) (cond (eqb (e .value) v) (found (e .row) (firstRow es rows)) (absent (e .row)))
+
+-- kinds 1 to 5: equal, less, greater, at most, at least
+unfoldable pub rangeAt : ℕ → Place → ℕ → Subset
+rangeAt kind (found f b) rows =
+    cond (eqb kind 1) (range f b)
+    (cond (eqb kind 2) (range 0 f) (cond (eqb kind 3) (range b rows) (cond (eqb kind 4) (range 0 b) (range f rows))))
+rangeAt kind (absent g) rows =
+    cond (eqb kind 1) (range 0 0)
+    (cond (eqb kind 2) (range 0 g) (cond (eqb kind 3) (range g rows) (cond (eqb kind 4) (range 0 g) (range g rows))))
+
+-- the rows of a condition of kind 1 to 5 on the sort column
+unfoldable pub fastRange : ℕ → ℕ → List Entry → ℕ → Subset
+fastRange kind value es rows = rangeAt kind (place value es rows) rows
+
+-- the value of the last entry at or below a row
+unfoldable pub valueAt : ℕ → List Entry → ℕ
+valueAt row [] = 0
+valueAt row (e ∷ []) = e .value
+valueAt row (e ∷ (f ∷ es)) = cond (leb (f .row) row) (valueAt row (f ∷ es)) (e .value)
+
+-- "sort entries rise strictly, lie below the row count and begin at row 0 where there is a row"
+unfoldable pub entriesSound : List Entry → ℕ → Bool
+entriesSound es rows =
+    rising (map (λ e. e .value) es)
+    && rising (map (λ e. e .row) es)
+    && every (λ e. ltb (e .row) rows) es
+    && eqb (firstRow es rows) 0

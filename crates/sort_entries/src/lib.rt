@@ -1,0 +1,1 @@
+// Sort entries: `offsets` of table/mod.rs, in specs/. No functions yet.

@@ -1,0 +1,5 @@
+pub mod Numbers
+pub mod Refusing
+pub mod Stores
+pub mod Sound
+pub mod Promises

@@ -1,0 +1,64 @@
+-- A header's numbers, and what each answer says in the paper's terms. Assumes nothing.
+use Prim.Native.Nat.{ℕ}
+use mathlib.Core.Bool.{Bool}
+use Rattle.refusals.specs.Refusals.{Reply, refused, accepted}
+use Rattle.offsets.specs.Subsets.{Subset, range}
+use Rattle.plain.specs.Staged.{Opening}
+use Rattle.table.specs.declared.Header.{Header}
+use Rattle.table.specs.declared.TableAnswer.{TableAnswer}
+use Rattle.table.specs.declared.TableAnswer.the-variants.{Refused as TableRefused, Table}
+use Rattle.table.specs.declared.Merge.{Merge}
+use Rattle.table.specs.declared.MergeAnswer.{MergeAnswer}
+use Rattle.table.specs.declared.MergeAnswer.the-variants.{Refused as MergeRefused, Merged}
+use Rattle.table.specs.declared.RowAnswer.{RowAnswer}
+use Rattle.table.specs.declared.RowAnswer.the-variants.{Refused as RowRefused, None as NoRow, Row}
+use Rattle.table.specs.declared.CellAnswer.{CellAnswer}
+use Rattle.table.specs.declared.CellAnswer.the-variants.{Refused as CellRefused, None as NoCell, Cell}
+use Rattle.table.specs.declared.RangeAnswer.{RangeAnswer}
+use Rattle.table.specs.declared.RangeAnswer.the-variants.{Refused as RangeRefused, None as NoRange, Range}
+use Rattle.table.specs.declared.Version.{Version}
+use Rattle.table.specs.declared.VersionAnswer.{VersionAnswer}
+use Rattle.table.specs.declared.VersionAnswer.the-variants.{Refused as VersionRefused, Version as Versioned}
+use Rattle.table.specs.declared.SoundAnswer.{SoundAnswer}
+use Rattle.table.specs.declared.SoundAnswer.the-variants.{Refused as SoundRefused, Sound}
+
+-- the opening's numbers in a header
+abbrev pub openingOf : Header → Opening
+openingOf h =
+    record { columns = h .columns; keys = h .keys; sort = h .sort; rule = h .rule; capacity = h .capacity }
+
+-- an answer that may be *none*
+pub data Maybe (A : Type 0) : Type 0 where
+  none : Maybe A
+  one : A → Maybe A
+
+unfoldable pub tableSays : TableAnswer → Reply Header
+tableSays (TableRefused n) = refused n
+tableSays (Table h) = accepted h
+
+unfoldable pub mergeSays : MergeAnswer → Reply Merge
+mergeSays (MergeRefused n) = refused n
+mergeSays (Merged m) = accepted m
+
+unfoldable pub rowSays : RowAnswer → Reply (Maybe ℕ)
+rowSays (RowRefused n) = refused n
+rowSays NoRow = accepted none
+rowSays (Row number) = accepted (one number)
+
+unfoldable pub cellSays : CellAnswer → Reply (Maybe ℕ)
+cellSays (CellRefused n) = refused n
+cellSays NoCell = accepted none
+cellSays (Cell cell) = accepted (one cell)
+
+unfoldable pub rangeSays : RangeAnswer → Reply (Maybe Subset)
+rangeSays (RangeRefused n) = refused n
+rangeSays NoRange = accepted none
+rangeSays (Range start end) = accepted (one (range start end))
+
+unfoldable pub versionSays : VersionAnswer → Reply Version
+versionSays (VersionRefused n) = refused n
+versionSays (Versioned v) = accepted v
+
+unfoldable pub soundSays : SoundAnswer → Reply Bool
+soundSays (SoundRefused n) = refused n
+soundSays (Sound answer) = accepted answer

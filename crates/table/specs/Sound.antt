@@ -1,0 +1,39 @@
+-- Soundness (document 01, "Stores and numbers"): the paper's sentence, part by part. Assumes nothing.
+use Prim.Native.Nat.{ℕ}
+use mathlib.Core.Path.{_≡_}
+use mathlib.Core.Bool.{true, not}
+use mathlib.Core.List.{List}
+use lib.ListN.{length, getD}
+use Rattle.lists.specs.Lists.{count, rowAt, rowsOf}
+use Rattle.constraints.specs.Constraints.{isLive}
+use Rattle.key_index.specs.declared.Keyed.{Keyed}
+use Rattle.key_index.specs.Slots.{LiveAt, keyAt, KeysSound}
+use Rattle.sort_entries.specs.Entries.{entriesOf, entriesSound, valueAt}
+use Rattle.plain.specs.Staged.{Staged, wordsAll}
+use Rattle.table.specs.declared.Header.{Header}
+use Rattle.table.specs.Numbers.{openingOf}
+use Rattle.table.specs.Refusing.{soundRefusal}
+use Rattle.table.specs.Stores.{Holds}
+
+abbrev pub keyedOf : Header → Keyed
+keyedOf h = record { columns = h .columns; keys = h .keys; capacity = h .capacity; rows = h .rows }
+
+-- "A table is *sound* if:"
+pub record Sound (h : Header) (rows keys sorts pending : List ℕ) (staged : List Staged) : Type 0 where
+  -- its header and stores pass tests 1 and 2
+  pub tested : soundRefusal h (length rows) (length keys) (length sorts) (length pending) ≡ 0
+  -- "its dead count is the number of dead rows"
+  pub dead-counted : h .dead ≡ count (λ row. not (isLive row)) (rowsOf (h .columns) (h .rows) rows)
+  -- "live keys differ"
+  pub keys-differ : (i j : ℕ) → LiveAt (keyedOf h) rows i → LiveAt (keyedOf h) rows j
+      → keyAt (keyedOf h) rows i ≡ keyAt (keyedOf h) rows j → i ≡ j
+  -- "sort entries rise strictly, lie below the row count and begin at row 0 where there is a row"
+  pub entries-rise : entriesSound (entriesOf (h .entries) sorts) (h .rows) ≡ true
+  -- "each live sort cell is the value of the last entry at or below its row"
+  pub sorted : (i : ℕ) → LiveAt (keyedOf h) rows i
+      → getD (rowAt (h .columns) i rows) (h .sort) 0 ≡ valueAt i (entriesOf (h .entries) sorts)
+  -- "the key store leads to exactly the live rows"
+  pub keyed : KeysSound (keyedOf h) rows keys
+  -- "pending records are whole"
+  pub pending-counted : h .pending ≡ wordsAll (openingOf h) staged
+  pub pending-whole : Holds (openingOf h) pending staged

@@ -1,0 +1,71 @@
+-- What the stores of a table hold: how a plain table is shown by a header and stores, and what an operation that takes one
+-- plain table to another leaves in every lent cell. Assumes nothing.
+use Prim.Native.Nat.{ℕ, zero, suc, _+_, _*_}
+use mathlib.Core.Path.{_≡_}
+use mathlib.Core.Bool.{Bool, true, false, cond, not}
+use mathlib.Core.List.{List, [], _∷_, _++_, map}
+use lib.ListN.{length, take, drop, getD, set}
+use Rattle.lists.specs.Lists.{putAt, every, rowsOf, flat}
+use Rattle.cells.specs.Cells.{compact, keyHash}
+use Rattle.sort_entries.specs.Entries.{Entry, entriesOf, words, rebuilt}
+use Rattle.plain.specs.Staged.{Opening, Staged, insert, removeKey, removeRow, wordsAll}
+use Rattle.plain.specs.Plain.{Row, Plain, dead, wrongWidth}
+use Rattle.table.specs.declared.Header.{Header}
+
+-- the sort entries of a plain table: each row's sort cell, appended in turn
+unfoldable pub entries : Plain → List Entry
+entries p = rebuilt (map (λ row. getD (row .cells) (p .opening .sort) 0) (p .rows))
+
+-- its header
+abbrev pub headerOf : Plain → Header
+headerOf p =
+    record {
+      columns = p .opening .columns;
+      keys = p .opening .keys;
+      sort = p .opening .sort;
+      rule = p .opening .rule;
+      capacity = p .opening .capacity;
+      rows = length (p .rows);
+      dead = dead p;
+      entries = length (entries p);
+      pending = wordsAll (p .opening) (p .staged);
+      generation = p .generation;
+    }
+
+-- a row that dies keeps its other cells
+abbrev pub marked : List ℕ → List ℕ
+marked cells = set cells 0 4294967295
+
+-- the rows as stored, over those that were stored before: a live row has its cells; a dead one the dead mark, and what
+-- stood there before, or, if it is new, what was appended
+unfoldable pub stored : List Row → List (List ℕ) → List (List ℕ)
+stored [] before = []
+stored (row ∷ rows) [] = cond (row .live) (row .cells) (marked (row .cells)) ∷ stored rows []
+stored (row ∷ rows) (old ∷ before) = cond (row .live) (row .cells) (marked old) ∷ stored rows before
+
+-- the row store that shows p, over what it held: cells past the rows of p are as they were
+unfoldable pub rowStore : Plain → List (List ℕ) → List ℕ → List ℕ
+rowStore p before store = putAt store 0 (flat (stored (p .rows) before))
+
+-- the sort-entry store likewise
+unfoldable pub sortStore : Plain → List ℕ → List ℕ
+sortStore p store = putAt store 0 (words (entries p))
+
+-- a staged record's words in the pending store: a kind, the compact hash of its key, a row where it has one, its cells.
+-- The layout is our choice; "columns plus 2, keys plus 2, keys plus 3" is the paper's
+unfoldable pub recordWords : ℕ → Staged → List ℕ
+recordWords keys (insert cells) = 0 ∷ compact (keyHash (take keys cells)) ∷ cells
+recordWords keys (removeKey key) = 1 ∷ compact (keyHash key) ∷ key
+recordWords keys (removeRow row key) = 2 ∷ compact (keyHash key) ∷ row ∷ key
+
+-- "it holds the staged records whole and in order"
+pub record Holds (o : Opening) (pending : List ℕ) (staged : List Staged) : Type 0 where
+  pub whole : every (λ r. not (wrongWidth o r)) staged ≡ true
+  pub in-order : take (wordsAll o staged) pending ≡ flat (map (recordWords (o .keys)) staged)
+
+-- the stores show the plain table p. (Stored over itself nothing changes: live rows have p's cells, dead ones the mark.)
+pub record Shows (p : Plain) (h : Header) (rows sorts pending : List ℕ) : Type 0 where
+  pub header : h ≡ headerOf p
+  pub rows-shown : stored (p .rows) (rowsOf (h .columns) (h .rows) rows) ≡ rowsOf (h .columns) (h .rows) rows
+  pub entries-shown : entriesOf (h .entries) sorts ≡ entries p
+  pub pending-held : Holds (p .opening) pending (p .staged)

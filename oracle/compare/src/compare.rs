@@ -1,0 +1,240 @@
+//! Two judges on one history. The plain table is asked first; what it refuses changes nothing and is not asked of the
+//! other. All else must be the same: each answer, and after each call what can be seen of the whole table.
+
+use crate::counts::{Counts, is_held_back};
+use crate::guard::guarded;
+use crate::history::{Act, Step, UNOPENED};
+use calls::{Answer, Call, Contents, DEAD, Judge, Lengths, Opening, Question, Subset};
+use plain::Plain;
+
+/// The other judge: how to make one, and the hash by which it tells keys apart in a removal by row.
+pub struct Rival<J> {
+    pub make: fn() -> J,
+    pub key_hash: fn(&[u32]) -> u32,
+}
+
+/// Where two judges differ: the step's place in the history and what each says.
+#[derive(Debug)]
+pub struct Difference {
+    pub step: usize,
+    pub plain: String,
+    pub other: String,
+}
+
+/// Contents are compared after a staging too, but only where few rows make that cheap: a staging changes no row.
+const FEW_ROWS: u32 = 16;
+
+/// The first difference in a history, if any. Counts what was seen.
+pub fn compare<J: Judge>(
+    rival: &Rival<J>,
+    history: &[Step],
+    counts: &mut Counts,
+) -> Option<Difference> {
+    let mut pair = Pair::new(rival);
+    history
+        .iter()
+        .enumerate()
+        .find_map(|(place, step)| pair.step(step, counts).err().map(|it| it.at(place)))
+}
+
+/// What each judge says.
+pub struct Unlike {
+    plain: String,
+    other: String,
+}
+
+impl Unlike {
+    pub fn at(self, step: usize) -> Difference {
+        Difference {
+            step,
+            plain: self.plain,
+            other: self.other,
+        }
+    }
+}
+
+pub struct Pair<'a, J> {
+    rival: &'a Rival<J>,
+    plain: Plain,
+    other: J,
+    /// The opening that was accepted last.
+    pub opening: Opening,
+    /// The plain table as the last call left it.
+    seen: Contents,
+    /// Removals by row that wait for a merge.
+    rows_to_remove: Vec<(u32, Vec<u32>)>,
+    /// Whether the other judge's table is still the same: not after a stop, until the next opening.
+    following: bool,
+}
+
+impl<'a, J: Judge> Pair<'a, J> {
+    pub fn new(rival: &'a Rival<J>) -> Pair<'a, J> {
+        let plain = Plain::new();
+        Pair {
+            rival,
+            seen: plain.contents(),
+            plain,
+            other: (rival.make)(),
+            opening: UNOPENED,
+            rows_to_remove: Vec::new(),
+            following: false,
+        }
+    }
+
+    /// Takes one step with both judges and gives the plain table's answer.
+    pub fn step(&mut self, step: &Step, counts: &mut Counts) -> Result<Answer, Unlike> {
+        match &step.act {
+            Act::Call(call) => self.call(step, call, counts),
+            Act::Ask(question) => self.ask(step, question, counts),
+        }
+    }
+
+    fn call(&mut self, step: &Step, call: &Call, counts: &mut Counts) -> Result<Answer, Unlike> {
+        let answer = self.plain.call(&step.lent, call);
+        counts.step(&self.opening, step, &answer);
+        if matches!(answer, Answer::Refused(_)) {
+            return Ok(answer);
+        }
+        let is_staging = self.note(call, counts);
+        if !is_staging {
+            let after = self.plain.contents();
+            counts.turn(&self.opening, call, &answer, (&self.seen, &after));
+            self.watch(&answer, &after, counts);
+            self.seen = after;
+        }
+        if matches!(answer, Answer::Merged { status: 9, .. }) && self.following {
+            self.expect_panic(&step.lent, counts)?;
+        }
+        if self.following {
+            counts.compared += 1;
+            let heard = guarded(|| self.other.call(&step.lent, call));
+            agree(&Ok(answer.clone()), &heard)?;
+            if !is_staging || self.seen.rows <= FEW_ROWS {
+                agree(&Ok(self.seen.clone()), &guarded(|| self.other.contents()))?;
+            }
+        }
+        Ok(answer)
+    }
+
+    /// Keeps what an accepted call means for the comparison; says whether it is a staging.
+    fn note(&mut self, call: &Call, counts: &mut Counts) -> bool {
+        match call {
+            Call::Open(opening) => {
+                counts.opening(opening);
+                self.opening = *opening;
+                self.following = true;
+                self.rows_to_remove.clear();
+            }
+            Call::Clear => self.rows_to_remove.clear(),
+            Call::Insert(cells) if cells[0] == DEAD => counts.feature("insert: dead first cell"),
+            Call::RemoveRow(row, key) => self.rows_to_remove.push((*row, key.clone())),
+            _ => {}
+        }
+        matches!(
+            call,
+            Call::Insert(_) | Call::RemoveKey(_) | Call::RemoveRow(..)
+        )
+    }
+
+    /// Ends the comparison until the next opening where a merge does what the paper adds, or where a key merely shares
+    /// its hash with the row's, which is a known difference.
+    fn watch(&mut self, answer: &Answer, after: &Contents, counts: &mut Counts) {
+        let Answer::Merged { status, .. } = answer else {
+            return;
+        };
+        let rows = std::mem::take(&mut self.rows_to_remove);
+        for (row, key) in &rows {
+            counts.row_removal(&self.seen, *row, key);
+        }
+        let ending = if rows.iter().any(|(row, key)| self.shares_hash(*row, key)) {
+            "ended: a removal by row whose key shares the hash"
+        } else if *status == 8 {
+            "ended: stop 8"
+        } else if *status == 0 && is_held_back(after) {
+            "ended: last generation"
+        } else {
+            return;
+        };
+        if self.following {
+            counts.feature(ending);
+        }
+        self.following = false;
+    }
+
+    /// Whether that row, live before the merge, has another key of the same hash.
+    fn shares_hash(&self, row: u32, key: &[u32]) -> bool {
+        let hash = self.rival.key_hash;
+        let found = self.seen.live.iter().find(|live| live.0 == row);
+        found.is_some_and(|(_, cells)| {
+            let own = &cells[..key.len()];
+            own != key && hash(own) == hash(key)
+        })
+    }
+
+    /// Where the plain table stops with 9 the Rust must panic, and its table is of no use after.
+    fn expect_panic(&mut self, lent: &Lengths, counts: &mut Counts) -> Result<(), Unlike> {
+        self.following = false;
+        let heard = guarded(|| self.other.call(lent, &Call::Merge));
+        self.other = (self.rival.make)();
+        counts.feature("ended: stop 9, the Rust panics");
+        match heard {
+            Err(_) => Ok(()),
+            Ok(answer) => Err(Unlike {
+                plain: "stops with 9".to_string(),
+                other: format!("{answer:?}"),
+            }),
+        }
+    }
+
+    fn ask(
+        &mut self,
+        step: &Step,
+        asked: &Question,
+        counts: &mut Counts,
+    ) -> Result<Answer, Unlike> {
+        let answer = self.plain.ask(&step.lent, asked);
+        counts.step(&self.opening, step, &answer);
+        let needs_no_table = matches!(asked, Question::Intersect { .. });
+        if matches!(answer, Answer::Refused(_)) || !(self.following || needs_no_table) {
+            return Ok(answer);
+        }
+        if intersects_greatest_id(asked) {
+            counts.feature("not asked: range with the greatest id");
+            return Ok(answer);
+        }
+        counts.compared += 1;
+        let heard = guarded(|| self.other.ask(&step.lent, asked));
+        agree(&Ok(answer.clone()), &heard)?;
+        Ok(answer)
+    }
+}
+
+/// A known difference: of a list behind a range the Rust takes the last id plus one, which does not fit where that id
+/// is the greatest.
+fn intersects_greatest_id(question: &Question) -> bool {
+    match question {
+        Question::Intersect {
+            first: Subset::Range(..),
+            second: Subset::List(ids),
+            ..
+        } => ids.last() == Some(&u32::MAX),
+        _ => false,
+    }
+}
+
+fn agree<T: PartialEq + std::fmt::Debug>(
+    plain: &Result<T, String>,
+    other: &Result<T, String>,
+) -> Result<(), Unlike> {
+    if plain == other {
+        return Ok(());
+    }
+    let words = |said: &Result<T, String>| match said {
+        Ok(answer) => format!("{answer:?}"),
+        Err(panic) => format!("panics: {panic}"),
+    };
+    Err(Unlike {
+        plain: words(plain),
+        other: words(other),
+    })
+}

@@ -1,0 +1,402 @@
+//! What a run has seen, so that a generator which misses a case is found out.
+
+use crate::history::{Act, Step, needed};
+use calls::{Answer, Call, Contents, Opening, Question, Subset};
+use std::collections::BTreeMap;
+
+/// A kind of call or question with the refusals that it has, in order. `AGAIN` is the second test 2, of the output.
+type Kind = (&'static str, &'static [usize]);
+
+const AGAIN: usize = 11;
+
+const KINDS: [Kind; 17] = [
+    ("open", &[1, 2]),
+    ("insert", &[1, 3, 7]),
+    ("remove by key", &[1, 3, 7]),
+    ("remove by row", &[1, 3, 5, 7]),
+    ("merge", &[1, 2]),
+    ("compact", &[1, 2, 10]),
+    ("clear", &[1, 2, 10]),
+    ("lookup", &[1, 2, 3]),
+    ("one cell", &[1, 2, 3, 6]),
+    ("fast range", &[1, 2, 6]),
+    ("version", &[1]),
+    ("rows since", &[1, 5]),
+    ("refine by one", &[1, 2, 4, 5, 6, AGAIN]),
+    ("refine by a list", &[1, 2, 4, 5, 6, AGAIN]),
+    ("any match", &[1, 2, 4, 5, 6]),
+    ("page", &[1, 2, 4, 5, 6, AGAIN]),
+    ("intersect", &[4, AGAIN]),
+];
+
+/// Answers and turns that every full run must have seen.
+const FEATURES: [&str; 47] = [
+    "open: sort column 0",
+    "open: sort column a key column",
+    "open: sort column not a key column",
+    "insert: dead first cell",
+    "remove by row: live row",
+    "remove by row: row of another key",
+    "remove by row: dead row",
+    "remove by row: no such row any more",
+    "merge: row added",
+    "merge: nothing added",
+    "merge: stop 8",
+    "merge: stop 9",
+    "merge: stop after a row was added",
+    "merge: stop at a place above 0",
+    "merge: compacts by itself",
+    "merge: does not compact at the last generation",
+    "merge: dead rows just not too many",
+    "merge: half of many rows dead",
+    "merge: compacts just above half of an even count",
+    "merge: compacts just above half of an odd count",
+    "compact: with dead rows",
+    "compact: without dead rows",
+    "clear: with rows",
+    "clear: without rows",
+    "table exactly full",
+    "lookup: none",
+    "lookup: row",
+    "one cell: none",
+    "one cell: cell",
+    "fast range: none",
+    "fast range: empty",
+    "fast range: rows",
+    "rows since: empty",
+    "rows since: rows",
+    "refine by one: range",
+    "refine by one: list",
+    "refine by one: 0..0",
+    "refine by a list: range",
+    "refine by a list: list",
+    "any match: yes",
+    "any match: no",
+    "page: next",
+    "page: no next",
+    "page: n = 0",
+    "intersect: range",
+    "intersect: list",
+    "intersect: empty list",
+];
+
+const WIDTHS: [&str; 8] = [
+    "open: 1 column",
+    "open: 2 columns",
+    "open: 3 columns",
+    "open: 4 columns",
+    "open: 5 columns",
+    "open: 6 columns",
+    "open: 7 columns",
+    "open: 8 columns",
+];
+
+const RULES: [&str; 4] = [
+    "open: rule 0",
+    "open: rule 1",
+    "open: rule 2",
+    "open: rule 3",
+];
+
+/// What the gate's run must have seen besides; the recorded list is too small for it.
+pub const GATE: [&str; 5] = [
+    "ended: stop 8",
+    "ended: stop 9, the Rust panics",
+    "ended: last generation",
+    "merge: compacts more than 64 rows",
+    "not asked: range with the greatest id",
+];
+
+#[derive(Default)]
+pub struct Counts {
+    pub histories: u64,
+    pub short_histories: u64,
+    /// Answers that both judges gave.
+    pub compared: u64,
+    steps: BTreeMap<usize, [u64; 12]>,
+    features: BTreeMap<&'static str, u64>,
+}
+
+/// The place of a step's kind in `KINDS`.
+fn kind(act: &Act) -> usize {
+    match act {
+        Act::Call(call) => match call {
+            Call::Open(_) => 0,
+            Call::Insert(_) => 1,
+            Call::RemoveKey(_) => 2,
+            Call::RemoveRow(..) => 3,
+            Call::Merge => 4,
+            Call::Compact => 5,
+            Call::Clear => 6,
+        },
+        Act::Ask(question) => match question {
+            Question::Lookup(_) => 7,
+            Question::Cell(..) => 8,
+            Question::FastRange(_) => 9,
+            Question::Version => 10,
+            Question::RowsSince(_) => 11,
+            Question::RefineOne { .. } => 12,
+            Question::RefineList { .. } => 13,
+            Question::AnyMatch { .. } => 14,
+            Question::Page { .. } => 15,
+            Question::Intersect { .. } => 16,
+        },
+    }
+}
+
+impl Counts {
+    pub fn feature(&mut self, name: &'static str) {
+        *self.features.entry(name).or_default() += 1;
+    }
+
+    /// Counts a step by its kind and its refusal, if any.
+    pub fn step(&mut self, opening: &Opening, step: &Step, answer: &Answer) {
+        let outcome = match answer {
+            Answer::Refused(2) if is_about_output(opening, step) => AGAIN,
+            Answer::Refused(number) => *number as usize,
+            _ => 0,
+        };
+        self.steps.entry(kind(&step.act)).or_default()[outcome] += 1;
+        if let Act::Ask(question) = &step.act {
+            self.answer(question, answer);
+        }
+    }
+
+    fn answer(&mut self, question: &Question, answer: &Answer) {
+        let name = match (question, answer) {
+            (_, Answer::Refused(_)) => return,
+            (Question::Lookup(_), Answer::None) => "lookup: none",
+            (Question::Lookup(_), _) => "lookup: row",
+            (Question::Cell(..), Answer::None) => "one cell: none",
+            (Question::Cell(..), _) => "one cell: cell",
+            (Question::FastRange(_), Answer::None) => "fast range: none",
+            (Question::FastRange(_), of) if is_empty(of) => "fast range: empty",
+            (Question::FastRange(_), _) => "fast range: rows",
+            (Question::Version, _) => return,
+            (Question::RowsSince(_), of) if is_empty(of) => "rows since: empty",
+            (Question::RowsSince(_), _) => "rows since: rows",
+            (Question::RefineOne { .. }, Answer::Subset(Subset::Range(0, 0))) => {
+                "refine by one: 0..0"
+            }
+            (Question::RefineOne { .. }, of) if is_range(of) => "refine by one: range",
+            (Question::RefineOne { .. }, _) => "refine by one: list",
+            (Question::RefineList { .. }, of) if is_range(of) => "refine by a list: range",
+            (Question::RefineList { .. }, _) => "refine by a list: list",
+            (Question::AnyMatch { .. }, Answer::Match(true)) => "any match: yes",
+            (Question::AnyMatch { .. }, _) => "any match: no",
+            (Question::Page { n: 0, .. }, _) => "page: n = 0",
+            (Question::Page { .. }, Answer::Page { next: None, .. }) => "page: no next",
+            (Question::Page { .. }, _) => "page: next",
+            (Question::Intersect { .. }, of) if is_range(of) => "intersect: range",
+            (Question::Intersect { .. }, of) if is_empty(of) => "intersect: empty list",
+            (Question::Intersect { .. }, _) => "intersect: list",
+        };
+        self.feature(name);
+    }
+
+    /// Counts an accepted opening.
+    pub fn opening(&mut self, o: &Opening) {
+        self.feature(WIDTHS[o.columns as usize - 1]);
+        self.feature(RULES[o.rule as usize]);
+        if o.sort == 0 {
+            self.feature("open: sort column 0");
+        }
+        self.feature(match o.sort < o.keys {
+            true => "open: sort column a key column",
+            false => "open: sort column not a key column",
+        });
+    }
+
+    /// Counts a removal by row that a merge takes, by what was there before.
+    pub fn row_removal(&mut self, before: &Contents, row: u32, key: &[u32]) {
+        let found = before.live.iter().find(|live| live.0 == row);
+        self.feature(match found {
+            Some((_, cells)) if cells.starts_with(key) => "remove by row: live row",
+            Some(_) => "remove by row: row of another key",
+            None if row < before.rows => "remove by row: dead row",
+            None => "remove by row: no such row any more",
+        });
+    }
+
+    /// Counts the turns of an accepted call by what it left.
+    pub fn turn(
+        &mut self,
+        o: &Opening,
+        call: &Call,
+        answer: &Answer,
+        turn: (&Contents, &Contents),
+    ) {
+        let (before, after) = turn;
+        if after.rows == o.capacity && before.rows < o.capacity {
+            self.feature("table exactly full");
+        }
+        match (call, answer) {
+            (
+                Call::Merge,
+                Answer::Merged {
+                    status,
+                    place,
+                    added,
+                },
+            ) => {
+                self.merge((*status, *place, *added), before, after);
+            }
+            (Call::Compact, _) if before.dead > 0 => self.feature("compact: with dead rows"),
+            (Call::Compact, _) => self.feature("compact: without dead rows"),
+            (Call::Clear, _) if before.rows > 0 => self.feature("clear: with rows"),
+            (Call::Clear, _) => self.feature("clear: without rows"),
+            _ => {}
+        }
+    }
+
+    fn merge(&mut self, of: (u32, u32, bool), before: &Contents, after: &Contents) {
+        let (status, place, added) = of;
+        self.feature(match added {
+            true => "merge: row added",
+            false => "merge: nothing added",
+        });
+        match status {
+            8 => self.feature("merge: stop 8"),
+            9 => self.feature("merge: stop 9"),
+            _ if before.generation != after.generation => {
+                self.feature("merge: compacts by itself");
+                if !added {
+                    self.compaction_of_dead(before.rows, before.rows - after.rows);
+                }
+            }
+            _ if is_held_back(after) => {
+                self.feature("merge: does not compact at the last generation");
+            }
+            _ if after.dead > before.dead && after.dead == dead_limit(after) => {
+                self.feature("merge: dead rows just not too many");
+                if after.rows > 33 {
+                    self.feature("merge: half of many rows dead");
+                }
+            }
+            _ => {}
+        }
+        if status != 0 && added {
+            self.feature("merge: stop after a row was added");
+        }
+        if status != 0 && place > 0 {
+            self.feature("merge: stop at a place above 0");
+        }
+    }
+
+    /// Counts a merge's own compaction that dropped so many of so many rows.
+    fn compaction_of_dead(&mut self, rows: u32, dead: u32) {
+        if rows > 32 && dead == rows / 2 + 1 {
+            self.feature(match rows % 2 {
+                0 => "merge: compacts just above half of an even count",
+                _ => "merge: compacts just above half of an odd count",
+            });
+        }
+        if rows > 64 {
+            self.feature("merge: compacts more than 64 rows");
+        }
+    }
+
+    pub fn add(&mut self, other: &Counts) {
+        self.histories += other.histories;
+        self.short_histories += other.short_histories;
+        self.compared += other.compared;
+        for (&kind, outcomes) in &other.steps {
+            let sums = self.steps.entry(kind).or_default();
+            sums.iter_mut().zip(outcomes).for_each(|(a, b)| *a += b);
+        }
+        for (name, count) in &other.features {
+            *self.features.entry(name).or_default() += count;
+        }
+    }
+
+    /// Names of what was never seen. Refusals are left out that `is_wanted` says no to.
+    pub fn missing(&self, names: &[&'static str], is_wanted: fn(usize) -> bool) -> Vec<String> {
+        let mut missing = Vec::new();
+        for (kind, (name, refusals)) in KINDS.iter().enumerate() {
+            let outcomes = self.steps.get(&kind).copied().unwrap_or_default();
+            let wanted = refusals.iter().filter(|&&number| is_wanted(number));
+            for &number in [0].iter().chain(wanted) {
+                if outcomes[number] == 0 {
+                    missing.push(format!("{name}: {}", outcome_name(number)));
+                }
+            }
+        }
+        let wanted = FEATURES.iter().chain(&WIDTHS).chain(&RULES);
+        for name in wanted.chain(names) {
+            if !self.features.contains_key(name) {
+                missing.push(name.to_string());
+            }
+        }
+        missing
+    }
+
+    pub fn print(&self) {
+        println!(
+            "{} histories by chance, {} short ones",
+            self.histories, self.short_histories
+        );
+        let total = |kinds: std::ops::Range<usize>| -> u64 {
+            self.steps
+                .range(kinds)
+                .flat_map(|(_, outcomes)| outcomes)
+                .sum()
+        };
+        println!("{} calls, {} questions", total(0..7), total(7..17));
+        println!("{} answers compared with the Rust's", self.compared);
+        for (kind, (name, _)) in KINDS.iter().enumerate() {
+            let outcomes = self.steps.get(&kind).copied().unwrap_or_default();
+            let refused = outcomes
+                .iter()
+                .enumerate()
+                .skip(1)
+                .filter(|(_, count)| **count > 0);
+            let refused: Vec<String> = refused
+                .map(|(number, count)| format!("{} {count}", outcome_name(number)))
+                .collect();
+            println!("  {name}: accepted {}; {}", outcomes[0], refused.join(", "));
+        }
+        for (name, count) in &self.features {
+            println!("  {name}: {count}");
+        }
+    }
+}
+
+fn outcome_name(number: usize) -> String {
+    match number {
+        0 => "accepted".to_string(),
+        AGAIN => "refused 2 again".to_string(),
+        _ => format!("refused {number}"),
+    }
+}
+
+/// The most dead rows that a merge leaves.
+fn dead_limit(of: &Contents) -> u32 {
+    u32::max(16, of.rows / 2)
+}
+
+/// Whether a merge left dead rows that it would have dropped at any generation but the last.
+pub fn is_held_back(after: &Contents) -> bool {
+    after.generation == u32::MAX && after.dead > dead_limit(after)
+}
+
+fn is_about_output(opening: &Opening, step: &Step) -> bool {
+    let of_output = match &step.act {
+        Act::Ask(Question::Intersect { .. }) => return true,
+        Act::Ask(Question::RefineOne { .. } | Question::RefineList { .. }) => true,
+        Act::Ask(Question::Page { .. }) => true,
+        _ => false,
+    };
+    of_output && step.lent.rows >= needed(opening, 0).rows
+}
+
+fn is_range(answer: &Answer) -> bool {
+    matches!(answer, Answer::Subset(Subset::Range(..)))
+}
+
+fn is_empty(answer: &Answer) -> bool {
+    match answer {
+        Answer::Subset(Subset::Range(start, end)) => start == end,
+        Answer::Subset(Subset::List(ids)) => ids.is_empty(),
+        _ => false,
+    }
+}

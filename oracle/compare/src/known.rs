@@ -1,0 +1,83 @@
+//! The known differences, shown on one case each, so that they stay what the comparison takes them for.
+
+use crate::compare::Rival;
+use crate::guard::guarded;
+use crate::history::{Act, UNOPENED, needed, with_exact_output};
+use crate::rng::Rng;
+use crate::text::parse;
+use calls::{Answer, Judge, Lengths, Opening, Question, Subset};
+use plain::Plain;
+use std::collections::HashMap;
+
+/// Checks both; the words tell what was found.
+pub fn check<J: Judge>(rival: &Rival<J>) -> Result<Vec<String>, String> {
+    Ok(vec![shared_hash(rival)?, greatest_id(rival)?])
+}
+
+/// Two keys of one cell that share their hash: a removal by row with the one removes the other's row in the Rust.
+fn shared_hash<J: Judge>(rival: &Rival<J>) -> Result<String, String> {
+    let mut rng = Rng::new(0);
+    let mut seen = HashMap::new();
+    let pair = (0..1_000_000).find_map(|_| {
+        let key = rng.next() as u32;
+        let earlier = seen.insert((rival.key_hash)(&[key]), key);
+        earlier
+            .filter(|&earlier| earlier != key)
+            .map(|earlier| (earlier, key))
+    });
+    let (own, other) = pair.ok_or("no two keys share a hash")?;
+    let lines = [
+        "O,1,1,0,0,1,0".to_string(),
+        format!("I,{own}"),
+        "M".to_string(),
+        format!("K,0,{other}"),
+        "M".to_string(),
+    ];
+    let (ours, theirs) = (play(Plain::new(), &lines), play((rival.make)(), &lines));
+    match (ours.contents().live.len(), theirs.contents().live.len()) {
+        (1, 0) => Ok(format!(
+            "keys {own} and {other} share a hash: row kept here, removed by the Rust"
+        )),
+        other => Err(format!(
+            "removal by row with a shared hash leaves {other:?}"
+        )),
+    }
+}
+
+fn play<J: Judge>(mut judge: J, lines: &[String]) -> J {
+    let lent = stores();
+    for line in lines {
+        if let Some(Act::Call(call)) = parse(line) {
+            judge.call(&lent, &call);
+        }
+    }
+    judge
+}
+
+fn stores() -> Lengths {
+    let one = Opening {
+        columns: 1,
+        capacity: 1,
+        ..UNOPENED
+    };
+    needed(&one, 64)
+}
+
+/// A range with a list that ends at the greatest id: the Rust asks for an id past the greatest. What comes of that is
+/// up to the id type, which is a stand-in here and panics.
+fn greatest_id<J: Judge>(rival: &Rival<J>) -> Result<String, String> {
+    let question = with_exact_output(Question::Intersect {
+        first: Subset::Range(0, 5),
+        second: Subset::List(vec![1, u32::MAX]),
+        output: 0,
+    });
+    let ours = Plain::new().ask(&stores(), &question);
+    let other = (rival.make)();
+    let theirs = guarded(|| other.ask(&stores(), &question));
+    match (ours, theirs) {
+        (Answer::Subset(Subset::List(ids)), Err(panic)) if ids == [1] => Ok(format!(
+            "0..5 with {{1, 4294967295}}: {{1}} here, a panic in the id type under the Rust ({panic})"
+        )),
+        other => Err(format!("0..5 with {{1, 4294967295}} gives {other:?}")),
+    }
+}

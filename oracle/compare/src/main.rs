@@ -1,0 +1,86 @@
+//! The comparison of the two judges, the plain table, written from the paper, and the carried-over Rust; and of the proved
+//! library with the Rust.
+
+mod compare;
+mod counts;
+mod generate;
+mod guard;
+mod history;
+mod known;
+mod lists;
+mod questions;
+mod record;
+mod rng;
+mod run;
+mod short;
+mod shrink;
+#[cfg(test)]
+mod tests;
+mod text;
+
+use compare::Rival;
+use rust_table::RustTable;
+use std::process::ExitCode;
+
+const USAGE: &str = "\
+usage: oracle                   the gate's run: all short histories, many by chance from a fixed seed, the proved library
+       oracle run COUNT [SEED]  any number of histories by chance
+       oracle record [SEED]     prints the recorded list
+       oracle replay FILE       checks a recorded list against both judges";
+
+const RUST: Rival<RustTable> = Rival {
+    make: RustTable::new,
+    key_hash: rust_table::key_hash,
+};
+
+fn main() -> ExitCode {
+    guard::keep_quiet();
+    let arguments: Vec<String> = std::env::args().skip(1).collect();
+    let arguments: Vec<&str> = arguments.iter().map(String::as_str).collect();
+    match command(&arguments) {
+        Ok(()) => ExitCode::SUCCESS,
+        Err(why) => {
+            eprintln!("{why}");
+            ExitCode::FAILURE
+        }
+    }
+}
+
+fn command(arguments: &[&str]) -> Result<(), String> {
+    match arguments {
+        [] => gate(),
+        ["run", count] => run::run(&RUST, number(count)?, 0),
+        ["run", count, seed] => run::run(&RUST, number(count)?, number(seed)?),
+        ["record"] => record(record::SEED),
+        ["record", seed] => record(number(seed)?),
+        ["replay", file] => replay(file),
+        _ => Err(USAGE.to_string()),
+    }
+}
+
+fn gate() -> Result<(), String> {
+    run::gate(&RUST)?;
+    println!("the proved library and the Rust:");
+    for line in proved::compare()? {
+        println!("  {line}");
+    }
+    Ok(())
+}
+
+fn number(text: &str) -> Result<u64, String> {
+    text.parse().map_err(|_| format!("not a number: {text}"))
+}
+
+fn record(seed: u64) -> Result<(), String> {
+    for line in record::record(&RUST, seed)? {
+        println!("{line}");
+    }
+    Ok(())
+}
+
+fn replay(file: &str) -> Result<(), String> {
+    let text = std::fs::read_to_string(file).map_err(|why| format!("{file}: {why}"))?;
+    let answers = record::replay(&RUST, &text)?;
+    println!("{answers} recorded answers are both judges' own");
+    Ok(())
+}

@@ -1,0 +1,164 @@
+//! Runs over many histories, on as many threads as there are cores, two at most.
+
+use crate::compare::{Difference, Rival, compare};
+use crate::counts::{Counts, GATE};
+use crate::generate::{ANY, history};
+use crate::history::Step;
+use crate::known;
+use crate::short::{families, small_questions};
+use crate::shrink::{lines, shrink};
+use calls::Judge;
+use std::sync::atomic::{AtomicBool, Ordering};
+use std::thread;
+
+/// The gate's seed and number of histories by chance.
+const GATE_SEED: u64 = 20_260_901;
+const GATE_COUNT: u64 = 100_000;
+
+/// A history in which the judges differ, and where it came from.
+struct Found {
+    name: String,
+    history: Vec<Step>,
+}
+
+/// The gate's run: all short histories, a fixed number by chance, the known differences. Every case must be seen.
+pub fn gate<J: Judge>(rival: &Rival<J>) -> Result<(), String> {
+    let mut counts = Counts::default();
+    in_parts(rival, &mut counts, &short_part)?;
+    in_parts(rival, &mut counts, &|rival, part, counts, stop| {
+        chance_part(rival, (0, GATE_COUNT, GATE_SEED), part, counts, stop)
+    })?;
+    counts.print();
+    for line in known::check(rival)? {
+        println!("  {line}");
+    }
+    match counts.missing(&GATE, |_| true).as_slice() {
+        [] => Ok(()),
+        missing => Err(format!("never seen: {missing:?}")),
+    }
+}
+
+/// Any number of histories by chance from a seed.
+pub fn run<J: Judge>(rival: &Rival<J>, count: u64, seed: u64) -> Result<(), String> {
+    const CHUNK: u64 = 10_000;
+    let mut counts = Counts::default();
+    for first in (0..count).step_by(CHUNK as usize) {
+        let last = count.min(first + CHUNK);
+        in_parts(rival, &mut counts, &|rival, part, counts, stop| {
+            chance_part(rival, (first, last, seed), part, counts, stop)
+        })?;
+        println!("{last} of {count}");
+    }
+    counts.print();
+    Ok(())
+}
+
+/// One of several equal parts of the work: its number and how many there are.
+type Part = (u64, u64);
+
+/// Does the parts of some work side by side. A difference stops them all and is made small and told.
+fn in_parts<J: Judge>(
+    rival: &Rival<J>,
+    counts: &mut Counts,
+    work: &(impl Fn(&Rival<J>, Part, &mut Counts, &AtomicBool) -> Option<Found> + Sync),
+) -> Result<(), String> {
+    let parts = thread::available_parallelism().map_or(1, |cores| cores.get().min(2)) as u64;
+    let stop = &AtomicBool::new(false);
+    let results: Vec<(Counts, Option<Found>)> = thread::scope(|scope| {
+        let start = |part: u64| {
+            scope.spawn(move || {
+                let mut counts = Counts::default();
+                let found = work(rival, (part, parts), &mut counts, stop);
+                (counts, found)
+            })
+        };
+        let threads: Vec<_> = (0..parts).map(start).collect();
+        let join = |it: thread::ScopedJoinHandle<_>| it.join().expect("a part of the work");
+        threads.into_iter().map(join).collect()
+    });
+    for (seen, found) in results {
+        counts.add(&seen);
+        if let Some(found) = found {
+            return Err(tell(rival, &found));
+        }
+    }
+    Ok(())
+}
+
+/// Compares one history; a difference stops all parts.
+fn visit<J: Judge>(
+    rival: &Rival<J>,
+    steps: Vec<Step>,
+    counts: &mut Counts,
+    stop: &AtomicBool,
+    name: impl Fn() -> String,
+) -> Option<Found> {
+    let difference = compare(rival, &steps, counts)?;
+    stop.store(true, Ordering::Relaxed);
+    let history = steps[..=difference.step].to_vec();
+    Some(Found {
+        name: name(),
+        history,
+    })
+}
+
+fn chance_part<J: Judge>(
+    rival: &Rival<J>,
+    (first, last, seed): (u64, u64, u64),
+    (part, parts): Part,
+    counts: &mut Counts,
+    stop: &AtomicBool,
+) -> Option<Found> {
+    for number in (first..last).filter(|number| number % parts == part) {
+        let own = seed.wrapping_add(number);
+        counts.histories += 1;
+        let found = visit(rival, history(own, ANY), counts, stop, || {
+            format!("history of seed {own}")
+        });
+        if found.is_some() || stop.load(Ordering::Relaxed) {
+            return found;
+        }
+    }
+    None
+}
+
+fn short_part<J: Judge>(
+    rival: &Rival<J>,
+    (part, parts): Part,
+    counts: &mut Counts,
+    stop: &AtomicBool,
+) -> Option<Found> {
+    let families = families();
+    let sequences = families
+        .iter()
+        .flat_map(|family| (0..family.count()).map(|index| family.history(index)));
+    let histories = sequences.chain(small_questions());
+    for (number, steps) in histories.enumerate() {
+        if number as u64 % parts != part {
+            continue;
+        }
+        counts.short_histories += 1;
+        let found = visit(rival, steps, counts, stop, || {
+            format!("short history {number}")
+        });
+        if found.is_some() || stop.load(Ordering::Relaxed) {
+            return found;
+        }
+    }
+    None
+}
+
+/// The smallest history found, and what each judge says at its end.
+fn tell<J: Judge>(rival: &Rival<J>, found: &Found) -> String {
+    let differs = |steps: &[Step]| compare(rival, steps, &mut Counts::default());
+    let small = shrink(&found.history, |steps| differs(steps).is_some());
+    let Some(Difference { step, plain, other }) = differs(&small) else {
+        return format!("{}: a difference that comes and goes", found.name);
+    };
+    let mut text = format!("the judges differ ({})\n", found.name);
+    for line in lines(&small[..=step]) {
+        text.push_str(&format!("  {line}\n"));
+    }
+    text.push_str(&format!("  plain: {plain}\n  other: {other}"));
+    text
+}

@@ -1,0 +1,232 @@
+//! From a history in which the judges differ, the smallest that greed finds: fewer steps, columns, ids and conditions,
+//! then smaller numbers.
+
+use crate::history::{Act, Step, with_exact_output};
+use crate::text::{parse, step_line};
+use calls::{Call, Condition, Lengths, Question, Subset};
+
+/// Stores that are long enough for anything.
+const AMPLE: Lengths = Lengths {
+    rows: 8 * 65_536,
+    keys: 2 * 65_536,
+    sort_entries: 2 * 65_536,
+    pending: 1 << 24,
+    live_words: 1024,
+    base_words: 1024,
+};
+
+/// How many histories are tried before what has been found must do.
+const MOST_TRIES: u32 = 40_000;
+
+struct Shrinker<F> {
+    fails: F,
+    best: Vec<Step>,
+    tries: u32,
+}
+
+/// `history` must make `fails` say yes; so does the answer.
+pub fn shrink<F: Fn(&[Step]) -> bool>(history: &[Step], fails: F) -> Vec<Step> {
+    let mut shrinker = Shrinker {
+        fails,
+        best: history.to_vec(),
+        tries: 0,
+    };
+    shrinker.try_out(history.iter().map(with_ample_stores).collect());
+    loop {
+        let before = shrinker.tries;
+        let mut smaller = shrinker.drop_steps();
+        smaller |= shrinker.drop_columns();
+        smaller |= shrinker.simplify_steps();
+        if !smaller || shrinker.tries == before || shrinker.tries > MOST_TRIES {
+            return shrinker.best;
+        }
+    }
+}
+
+fn with_ample_stores(step: &Step) -> Step {
+    let act = match &step.act {
+        Act::Call(call) => Act::Call(call.clone()),
+        Act::Ask(question) => Act::Ask(with_exact_output(question.clone())),
+    };
+    Step { lent: AMPLE, act }
+}
+
+impl<F: Fn(&[Step]) -> bool> Shrinker<F> {
+    fn try_out(&mut self, candidate: Vec<Step>) -> bool {
+        self.tries += 1;
+        let fails = self.tries <= MOST_TRIES && (self.fails)(&candidate);
+        if fails {
+            self.best = candidate;
+        }
+        fails
+    }
+
+    /// Drops runs of steps, long runs first.
+    fn drop_steps(&mut self) -> bool {
+        let mut smaller = false;
+        let mut length = self.best.len().div_ceil(2);
+        while length > 0 {
+            let mut start = 0;
+            while start + length <= self.best.len() {
+                let mut candidate = self.best.clone();
+                candidate.drain(start..start + length);
+                if self.try_out(candidate) {
+                    smaller = true;
+                } else {
+                    start += length;
+                }
+            }
+            length /= 2;
+        }
+        smaller
+    }
+
+    fn drop_columns(&mut self) -> bool {
+        let mut smaller = false;
+        for column in (0..8).rev() {
+            let narrower = self.best.iter().scan(None, |table, step| {
+                let act = without_column(&step.act, column, table);
+                Some(Step { lent: AMPLE, act })
+            });
+            let candidate: Vec<Step> = narrower.collect();
+            if lines(&candidate) != lines(&self.best) {
+                smaller |= self.try_out(candidate);
+            }
+        }
+        smaller
+    }
+
+    fn simplify_steps(&mut self) -> bool {
+        let mut smaller = false;
+        for place in 0..self.best.len() {
+            loop {
+                let simpler = simpler_acts(&self.best[place].act);
+                let found = simpler.into_iter().any(|act| {
+                    let mut candidate = self.best.clone();
+                    candidate[place] = Step { lent: AMPLE, act };
+                    self.try_out(candidate)
+                });
+                if !found {
+                    break;
+                }
+                smaller = true;
+            }
+        }
+        smaller
+    }
+}
+
+/// A history as lines.
+pub fn lines(history: &[Step]) -> Vec<String> {
+    history.iter().map(|step| step_line(&step.act)).collect()
+}
+
+/// The act with this column left out of the table. `keys` is the number of key columns of the opening at hand.
+fn without_column(act: &Act, column: u32, keys: &mut Option<u32>) -> Act {
+    let mut act = act.clone();
+    let drop_cell = |cells: &mut Vec<u32>| {
+        if (column as usize) < cells.len() {
+            cells.remove(column as usize);
+        }
+    };
+    match &mut act {
+        Act::Call(Call::Open(o)) => {
+            *keys = Some(o.keys);
+            o.columns = o.columns.saturating_sub(1);
+            o.keys -= u32::from(column < o.keys);
+            o.sort -= u32::from(column < o.sort);
+        }
+        Act::Call(Call::Insert(cells)) => drop_cell(cells),
+        Act::Call(Call::RemoveKey(key) | Call::RemoveRow(_, key))
+        | Act::Ask(Question::Lookup(key) | Question::Cell(key, _))
+            if keys.is_some_and(|keys| column < keys) =>
+        {
+            drop_cell(key)
+        }
+        _ => {}
+    }
+    act
+}
+
+/// Acts that are a little simpler: an id or a condition less, or a smaller number.
+fn simpler_acts(act: &Act) -> Vec<Act> {
+    let mut simpler = Vec::new();
+    if let Act::Ask(question) = act {
+        simpler.extend(fewer_parts(question).into_iter().map(Act::Ask));
+    }
+    let line = step_line(act);
+    let fields: Vec<&str> = line.split(',').collect();
+    for (place, field) in fields.iter().enumerate().skip(1) {
+        let number: u32 = field.parse().unwrap_or(0);
+        for smaller in [0, number / 2, number.saturating_sub(1)] {
+            let text = smaller.to_string();
+            let mut changed = fields.clone();
+            changed[place] = &text;
+            if smaller < number {
+                simpler.extend(parse(&changed.join(",")));
+            }
+        }
+    }
+    simpler
+}
+
+/// The question with an id or a condition less.
+fn fewer_parts(question: &Question) -> Vec<Question> {
+    let mut fewer = Vec::new();
+    let mut change = |edit: &dyn Fn(&mut Question)| {
+        let mut changed = question.clone();
+        edit(&mut changed);
+        if changed != *question {
+            fewer.push(with_exact_output(changed));
+        }
+    };
+    for place in 0..64 {
+        change(&|question| drop_id(first_subset(question), place));
+        change(&|question| drop_id(second_subset(question), place));
+    }
+    for place in 0..4 {
+        change(&|question| {
+            if let Some(conditions) = conditions(question)
+                && place < conditions.len()
+            {
+                conditions.remove(place);
+            }
+        });
+    }
+    fewer
+}
+
+fn drop_id(subset: Option<&mut Subset>, place: usize) {
+    if let Some(Subset::List(ids)) = subset
+        && place < ids.len()
+    {
+        ids.remove(place);
+    }
+}
+
+fn first_subset(question: &mut Question) -> Option<&mut Subset> {
+    match question {
+        Question::RefineOne { subset, .. }
+        | Question::RefineList { subset, .. }
+        | Question::AnyMatch { subset, .. }
+        | Question::Page { subset, .. }
+        | Question::Intersect { first: subset, .. } => Some(subset),
+        _ => None,
+    }
+}
+
+fn second_subset(question: &mut Question) -> Option<&mut Subset> {
+    match question {
+        Question::Intersect { second, .. } => Some(second),
+        _ => None,
+    }
+}
+
+fn conditions(question: &mut Question) -> Option<&mut Vec<Condition>> {
+    match question {
+        Question::RefineList { conditions, .. }
+        | Question::AnyMatch { conditions, .. }
+        | Question::Page { conditions, .. } => Some(conditions),
+        _ => None,
+    }
+}

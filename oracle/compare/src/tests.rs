@@ -1,0 +1,193 @@
+//! The comparison itself: a planted fault is found and made small, lines are read as they were written.
+
+use crate::compare::{Rival, compare};
+use crate::counts::Counts;
+use crate::generate::{ANY, history};
+use crate::history::Step;
+use crate::run::run;
+use crate::shrink::{lines, shrink};
+use crate::text::{parse, step_line};
+use calls::{Answer, Call, Contents, Judge, Lengths, Question, Subset};
+use plain::Plain;
+
+/// A plain table with a fault.
+struct Faulty {
+    table: Plain,
+    fault: Fault,
+}
+
+#[derive(Clone, Copy, PartialEq)]
+enum Fault {
+    /// Removals by key do nothing.
+    KeyRemoval,
+    /// Two ranges that do not meet give 0..0.
+    RangesApart,
+    /// Sort values may fall.
+    Never9,
+    /// Compacts when dead rows are as many as the limit, not above it.
+    Limit,
+    /// A page that reaches the end of its subset says so one id too late.
+    LateNone,
+}
+
+impl Judge for Faulty {
+    fn call(&mut self, lent: &Lengths, call: &Call) -> Answer {
+        match call {
+            Call::RemoveKey(_) if self.fault == Fault::KeyRemoval => Answer::Done,
+            _ => match self.table.call(lent, call) {
+                // The Rust panics where the plain table stops.
+                Answer::Merged { status: 9, .. } if self.fault != Fault::Never9 => panic!("9"),
+                answer => {
+                    self.compact_early(lent, &answer);
+                    answer
+                }
+            },
+        }
+    }
+
+    fn ask(&self, lent: &Lengths, question: &Question) -> Answer {
+        match self.table.ask(lent, question) {
+            Answer::Subset(Subset::Range(start, end))
+                if start == end
+                    && self.fault == Fault::RangesApart
+                    && matches!(question, Question::Intersect { .. }) =>
+            {
+                Answer::Subset(Subset::Range(0, 0))
+            }
+            Answer::Page { ids, next: None } if self.fault == Fault::LateNone => Answer::Page {
+                next: ids.last().map(|_| 0),
+                ids,
+            },
+            answer => answer,
+        }
+    }
+
+    fn contents(&self) -> Contents {
+        self.table.contents()
+    }
+}
+
+impl Faulty {
+    fn compact_early(&mut self, lent: &Lengths, answer: &Answer) {
+        let seen = self.table.contents();
+        let at_limit = seen.dead == u32::max(16, seen.rows / 2);
+        let is_merge = matches!(answer, Answer::Merged { status: 0, .. });
+        if self.fault == Fault::Limit && is_merge && at_limit {
+            self.table.call(lent, &Call::Compact);
+        }
+    }
+}
+
+fn rival(make: fn() -> Faulty) -> Rival<Faulty> {
+    let key_hash = |key: &[u32]| {
+        let step = |hash: u32, cell: &u32| hash.wrapping_mul(0x0100_0193) ^ cell;
+        key.iter().fold(7, step)
+    };
+    Rival { make, key_hash }
+}
+
+/// The smallest history, as lines, in which the fault shows.
+fn smallest(make: fn() -> Faulty) -> Vec<String> {
+    let rival = rival(make);
+    let differs = |steps: &[Step]| compare(&rival, steps, &mut Counts::default());
+    let found = (0..2000).map(|seed| history(seed, ANY)).find_map(|steps| {
+        let difference = differs(&steps)?;
+        Some(steps[..=difference.step].to_vec())
+    });
+    let found = found.expect("a difference");
+    lines(&shrink(&found, |steps| differs(steps).is_some()))
+}
+
+fn faulty(fault: Fault) -> Faulty {
+    let table = Plain::new();
+    Faulty { table, fault }
+}
+
+#[test]
+fn fault_in_removal() {
+    let lines = smallest(|| faulty(Fault::KeyRemoval));
+    let letters: String = lines.iter().map(|line| &line[..1]).collect();
+    assert!(letters == "OIMRM" || letters == "OIRMM", "{lines:?}");
+    assert!(lines[0].starts_with("O,1,1,0,0,1,"), "{lines:?}");
+}
+
+#[test]
+fn fault_in_intersection() {
+    let lines = smallest(|| faulty(Fault::RangesApart));
+    assert_eq!(lines.len(), 1, "{lines:?}");
+    assert!(lines[0].starts_with("T,0,"), "{lines:?}");
+}
+
+#[test]
+fn fault_in_order() {
+    let lines = smallest(|| faulty(Fault::Never9));
+    assert_eq!(lines.len(), 4, "{lines:?}");
+    assert_eq!(lines[3], "M");
+}
+
+#[test]
+fn fault_at_the_limit() {
+    let lines = smallest(|| faulty(Fault::Limit));
+    assert!(lines.len() < 60, "{lines:?}");
+    assert_eq!(lines.last().map(String::as_str), Some("M"), "{lines:?}");
+}
+
+#[test]
+fn fault_in_page() {
+    let lines = smallest(|| faulty(Fault::LateNone));
+    let letters: String = lines.iter().map(|line| &line[..1]).collect();
+    assert_eq!(letters, "OIMP", "{lines:?}");
+}
+
+#[test]
+fn a_run_tells_the_smallest_history() {
+    let told = run(&rival(|| faulty(Fault::LateNone)), 2000, 0).expect_err("a difference");
+    let lines: Vec<&str> = told.lines().collect();
+    assert!(
+        lines[0].starts_with("the judges differ (history of seed "),
+        "{told}"
+    );
+    assert!(lines[1].starts_with("  O,1,1,0,0,1,0"), "{told}");
+    assert!(
+        lines[lines.len() - 2].starts_with("  plain: Page"),
+        "{told}"
+    );
+    assert!(
+        lines[lines.len() - 1].starts_with("  other: Page"),
+        "{told}"
+    );
+}
+
+#[test]
+fn lines_are_read_as_written() {
+    for seed in 0..200 {
+        for step in history(seed, ANY) {
+            let line = step_line(&step.act);
+            let read = parse(&line).expect("a line of a known form");
+            assert_eq!(step_line(&read), line);
+        }
+    }
+}
+
+#[test]
+fn lines_of_no_form() {
+    for line in [
+        "",
+        "Z",
+        "I,x",
+        "M,1",
+        "T,0,1,2",
+        "N,2,1,1,0,0,0",
+        "A,1,2,5,0",
+        "O,1,1",
+    ] {
+        assert!(parse(line).is_none(), "{line}");
+    }
+}
+
+#[test]
+fn histories_are_the_seed_s_own() {
+    for seed in 0..20 {
+        assert_eq!(lines(&history(seed, ANY)), lines(&history(seed, ANY)));
+    }
+}

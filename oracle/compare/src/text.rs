@@ -1,0 +1,231 @@
+//! Steps and answers as lines: a capital letter for the kind, then decimals, parted by commas.
+
+use crate::history::{Act, with_exact_output};
+use calls::{Answer, Call, Condition, Opening, Question, Subset};
+
+/// The line of a call or a question. Lengths of stores and outputs are not in it.
+pub fn step_line(act: &Act) -> String {
+    match act {
+        Act::Call(call) => call_line(call),
+        Act::Ask(question) => question_line(question),
+    }
+}
+
+fn line(letter: &str, numbers: &[u32]) -> String {
+    let mut line = letter.to_string();
+    for number in numbers {
+        line.push(',');
+        line.push_str(&number.to_string());
+    }
+    line
+}
+
+fn call_line(call: &Call) -> String {
+    match call {
+        Call::Open(o) => {
+            let numbers = [o.columns, o.keys, o.sort, o.rule, o.capacity, o.generation];
+            line("O", &numbers)
+        }
+        Call::Insert(cells) => line("I", cells),
+        Call::RemoveKey(key) => line("R", key),
+        Call::RemoveRow(row, key) => line("K", &[&[*row], key.as_slice()].concat()),
+        Call::Merge => line("M", &[]),
+        Call::Clear => line("C", &[]),
+        Call::Compact => line("G", &[]),
+    }
+}
+
+fn question_line(question: &Question) -> String {
+    match question {
+        Question::Lookup(key) => line("L", key),
+        Question::Cell(key, column) => line("E", &[&[*column], key.as_slice()].concat()),
+        Question::FastRange(c) => line("F", &[c.kind, c.a, c.b]),
+        Question::Version => line("V", &[]),
+        Question::RowsSince(row) => line("S", &[*row]),
+        Question::RefineOne {
+            subset, condition, ..
+        } => {
+            let c = [condition.kind, condition.a, condition.b];
+            line("N", &[subset_numbers(subset), c.to_vec()].concat())
+        }
+        Question::RefineList {
+            subset, conditions, ..
+        } => line(
+            "A",
+            &[subset_numbers(subset), list_numbers(conditions)].concat(),
+        ),
+        Question::AnyMatch { subset, conditions } => line(
+            "Y",
+            &[subset_numbers(subset), list_numbers(conditions)].concat(),
+        ),
+        Question::Page {
+            subset,
+            start,
+            n,
+            conditions,
+            ..
+        } => {
+            let place = vec![*start, *n];
+            let numbers = [subset_numbers(subset), place, list_numbers(conditions)];
+            line("P", &numbers.concat())
+        }
+        Question::Intersect { first, second, .. } => line(
+            "T",
+            &[subset_numbers(first), subset_numbers(second)].concat(),
+        ),
+    }
+}
+
+fn subset_numbers(subset: &Subset) -> Vec<u32> {
+    match subset {
+        Subset::Range(start, end) => vec![0, *start, *end],
+        Subset::List(ids) => [&[1, ids.len() as u32], ids.as_slice()].concat(),
+    }
+}
+
+fn list_numbers(conditions: &[Condition]) -> Vec<u32> {
+    let mut numbers = vec![conditions.len() as u32];
+    for c in conditions {
+        numbers.extend([c.kind, c.a, c.b]);
+    }
+    numbers
+}
+
+/// The line of an answer.
+pub fn answer_line(answer: &Answer) -> String {
+    match answer {
+        Answer::Refused(number) => line("=X", &[*number]),
+        Answer::Done => line("=D", &[]),
+        Answer::Merged {
+            status,
+            place,
+            added,
+        } => line("=M", &[*status, u32::from(*added), *place]),
+        Answer::None => line("=N", &[]),
+        Answer::Row(row, cells) => line("=R", &[&[*row], cells.as_slice()].concat()),
+        Answer::Cell(cell) => line("=C", &[*cell]),
+        Answer::Subset(subset) => line("=S", &subset_numbers(subset)),
+        Answer::Version { generation, rows } => line("=V", &[*generation, *rows]),
+        Answer::Match(yes) => line("=B", &[u32::from(*yes)]),
+        Answer::Page { ids, next } => {
+            let next = next.map_or(vec![0], |place| vec![1, place]);
+            let count = [ids.len() as u32];
+            line("=P", &[&count, ids.as_slice(), &next].concat())
+        }
+    }
+}
+
+/// Numbers taken from the front of a line.
+struct Numbers<'a>(&'a [u32]);
+
+impl Numbers<'_> {
+    fn one(&mut self) -> Option<u32> {
+        let (first, rest) = self.0.split_first()?;
+        self.0 = rest;
+        Some(*first)
+    }
+
+    fn some(&mut self, count: u32) -> Option<Vec<u32>> {
+        (0..count).map(|_| self.one()).collect()
+    }
+
+    fn rest(&mut self) -> Vec<u32> {
+        std::mem::take(&mut self.0).to_vec()
+    }
+
+    fn subset(&mut self) -> Option<Subset> {
+        match self.one()? {
+            0 => Some(Subset::Range(self.one()?, self.one()?)),
+            1 => {
+                let count = self.one()?;
+                Some(Subset::List(self.some(count)?))
+            }
+            _ => None,
+        }
+    }
+
+    fn condition(&mut self) -> Option<Condition> {
+        let (kind, a, b) = (self.one()?, self.one()?, self.one()?);
+        Some(Condition { kind, a, b })
+    }
+
+    fn conditions(&mut self) -> Option<Vec<Condition>> {
+        let count = self.one()?;
+        (0..count).map(|_| self.condition()).collect()
+    }
+}
+
+/// The call or question of a line, its output as long as needed; nothing if the line is of no form.
+pub fn parse(line: &str) -> Option<Act> {
+    let mut fields = line.split(',');
+    let letter = fields.next()?;
+    let numbers: Option<Vec<u32>> = fields.map(|field| field.parse().ok()).collect();
+    let numbers = numbers?;
+    let mut numbers = Numbers(&numbers);
+    let act = match call(letter, &mut numbers) {
+        Some(call) => Act::Call(call),
+        None => Act::Ask(with_exact_output(question(letter, &mut numbers)?)),
+    };
+    numbers.0.is_empty().then_some(act)
+}
+
+fn call(letter: &str, numbers: &mut Numbers) -> Option<Call> {
+    match letter {
+        "O" => Some(Call::Open(Opening {
+            columns: numbers.one()?,
+            keys: numbers.one()?,
+            sort: numbers.one()?,
+            rule: numbers.one()?,
+            capacity: numbers.one()?,
+            generation: numbers.one()?,
+        })),
+        "I" => Some(Call::Insert(numbers.rest())),
+        "R" => Some(Call::RemoveKey(numbers.rest())),
+        "K" => Some(Call::RemoveRow(numbers.one()?, numbers.rest())),
+        "M" => Some(Call::Merge),
+        "C" => Some(Call::Clear),
+        "G" => Some(Call::Compact),
+        _ => None,
+    }
+}
+
+fn question(letter: &str, numbers: &mut Numbers) -> Option<Question> {
+    let output = 0;
+    match letter {
+        "L" => Some(Question::Lookup(numbers.rest())),
+        "E" => {
+            let column = numbers.one()?;
+            Some(Question::Cell(numbers.rest(), column))
+        }
+        "F" => Some(Question::FastRange(numbers.condition()?)),
+        "V" => Some(Question::Version),
+        "S" => Some(Question::RowsSince(numbers.one()?)),
+        "N" => Some(Question::RefineOne {
+            subset: numbers.subset()?,
+            condition: numbers.condition()?,
+            output,
+        }),
+        "A" => Some(Question::RefineList {
+            subset: numbers.subset()?,
+            conditions: numbers.conditions()?,
+            output,
+        }),
+        "Y" => Some(Question::AnyMatch {
+            subset: numbers.subset()?,
+            conditions: numbers.conditions()?,
+        }),
+        "P" => Some(Question::Page {
+            subset: numbers.subset()?,
+            start: numbers.one()?,
+            n: numbers.one()?,
+            conditions: numbers.conditions()?,
+            output,
+        }),
+        "T" => Some(Question::Intersect {
+            first: numbers.subset()?,
+            second: numbers.subset()?,
+            output,
+        }),
+        _ => None,
+    }
+}

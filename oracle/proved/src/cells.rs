@@ -1,0 +1,153 @@
+//! Dead mark, compact hash, probe and key hash.
+
+use mouldgrey::{compact_hash, from_full, is_stale, key_hash, probe};
+
+/// Numbers around every power of two, and their complements.
+fn edges() -> Vec<u64> {
+    let near = |power: u64| [power.wrapping_sub(1), power, power.wrapping_add(1)];
+    let mut all: Vec<u64> = (0..64).flat_map(|bit| near(1 << bit)).collect();
+    all.extend(all.clone().iter().map(|number| !number));
+    all
+}
+
+/// Numbers by chance, from a fixed start.
+fn chance(count: usize) -> impl Iterator<Item = u64> {
+    let mut state = 0x6d6f_756c_6467_7265u64;
+    std::iter::repeat_with(move || {
+        state = state.wrapping_add(0x9e37_79b9_7f4a_7c15);
+        let mixed = (state ^ (state >> 30)).wrapping_mul(0xbf58_476d_1ce4_e5b9);
+        let mixed = (mixed ^ (mixed >> 27)).wrapping_mul(0x94d0_49bb_1331_11eb);
+        mixed ^ (mixed >> 31)
+    })
+    .take(count)
+}
+
+/// `from_full`, `probe` and the dead test against the Rust's own.
+pub fn compact_hashes() -> Result<String, String> {
+    let numbers: Vec<u64> = edges().into_iter().chain(chance(1_000_000)).collect();
+    for &full in &numbers {
+        let hash = full as u32;
+        if from_full(full) != rust_table::compact_hash(full) {
+            return Err(format!("from_full({full}) is {}", from_full(full)));
+        }
+        if probe(hash) != rust_table::probe(hash) || from_full(probe(hash)) != hash {
+            return Err(format!("probe({hash}) is {}", probe(hash)));
+        }
+        if is_stale(hash) != (hash == u32::MAX) {
+            return Err(format!("is_stale({hash}) is {}", is_stale(hash)));
+        }
+    }
+    Ok(format!(
+        "compact hash, probe and dead mark: {} numbers",
+        numbers.len()
+    ))
+}
+
+/// The key hash as specs/Cells.antt defines it, in 128 bits.
+fn defined(key: &[u32]) -> u64 {
+    let mixed = key.iter().fold(0u128, |hash, &cell| {
+        let sum = (hash + u128::from(cell) + 2_654_435_761) % (1 << 32);
+        let product = sum * (sum % (1 << 16) * (1 << 16) + sum / (1 << 16));
+        (product / (1 << 31) + product % (1 << 32)) % (1 << 32)
+    });
+    (mixed * ((1 << 32) + 1)) as u64
+}
+
+pub fn key_hashes() -> Result<String, String> {
+    let cells: Vec<u32> = edges()
+        .into_iter()
+        .chain(chance(400_000))
+        .map(|n| n as u32)
+        .collect();
+    let mut keys = 0;
+    for width in 0..=8 {
+        for key in cells
+            .windows(width.max(1))
+            .step_by(3)
+            .map(|cells| &cells[..width])
+        {
+            let full = defined(key);
+            if key_hash(key) != full || compact_hash(key) != rust_table::compact_hash(full) {
+                return Err(format!(
+                    "key_hash({key:?}) is {}, not {full}",
+                    key_hash(key)
+                ));
+            }
+            keys += 1;
+        }
+    }
+    Ok(format!("key hash: {keys} keys of 0 to 8 cells"))
+}
+
+/// Slots looked at for each key on average, in a table of twice as many slots that is filled by linear probing.
+fn probes(keys: &[Vec<u32>]) -> f64 {
+    let slots = 2 * keys.len();
+    let mut taken = vec![false; slots];
+    let mut looked = 0usize;
+    for key in keys {
+        let mut at = (u64::from(compact_hash(key)) * slots as u64 >> 32) as usize;
+        looked += 1;
+        while taken[at] {
+            at = (at + 1) % slots;
+            looked += 1;
+        }
+        taken[at] = true;
+    }
+    looked as f64 / keys.len() as f64
+}
+
+/// Keys as archives have them: in a row, at even distances, in grids. A perfect hash would look at 1.5 slots.
+pub fn spread() -> Result<String, String> {
+    let count = 16_384u32;
+    let mut shapes: Vec<(String, Vec<Vec<u32>>)> = Vec::new();
+    for distance in [
+        1, 2, 3, 7, 10, 60, 100, 255, 256, 1_000, 1_024, 4_096, 10_000, 65_535, 65_536, 65_537,
+        262_144,
+    ] {
+        let keys = (0..count).map(|i| vec![i.wrapping_mul(distance)]).collect();
+        shapes.push((format!("multiples of {distance}"), keys));
+    }
+    shapes.push((
+        "modem and side".into(),
+        (0..count).map(|i| vec![i / 2, 1 + i % 2]).collect(),
+    ));
+    shapes.push((
+        "side and modem".into(),
+        (0..count).map(|i| vec![1 + i % 2, i / 2]).collect(),
+    ));
+    shapes.push((
+        "a square".into(),
+        (0..count).map(|i| vec![i / 128, i % 128]).collect(),
+    ));
+    shapes.push((
+        "a cube".into(),
+        (0..count)
+            .map(|i| vec![i / 1024, i / 32 % 32, i % 32])
+            .collect(),
+    ));
+    shapes.push((
+        "eight small cells".into(),
+        (0..count)
+            .map(|i| (0..8).map(|b| i >> (2 * b) & 3).collect())
+            .collect(),
+    ));
+    let mut worst = (0.0, "");
+    for (name, keys) in &shapes {
+        let looked = probes(keys);
+        if looked > worst.0 {
+            worst = (looked, name);
+        }
+    }
+    if worst.0 > 2.5 {
+        return Err(format!(
+            "key hash: {} look at {:.2} slots on average",
+            worst.1, worst.0
+        ));
+    }
+    Ok(format!(
+        "key hash: {} shapes of keys, at most {:.2} slots for each key ({})",
+        shapes.len(),
+        worst.0,
+        worst.1
+    ))
+}

@@ -1,0 +1,12 @@
+//! The proved library beside the Rust, function by function. Each part answers what it compared, or the first difference.
+
+mod cells;
+
+/// Everything that is exported so far, a line for each part.
+pub fn compare() -> Result<Vec<String>, String> {
+    Ok(vec![
+        cells::compact_hashes()?,
+        cells::key_hashes()?,
+        cells::spread()?,
+    ])
+}

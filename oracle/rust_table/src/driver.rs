@@ -1,0 +1,360 @@
+//! Calls and questions put to the real `SortedWritesTable`. It is asked only what was accepted, so it refuses nothing,
+//! and where the Rust panics, so does this.
+
+use crate::{
+    Offset, RowId, Value,
+    action::ExecutionState,
+    numeric_id::NumericId,
+    offsets,
+    pool::with_pool_set,
+    table::{MergeFn, SortedWritesTable},
+    table_spec::{ColumnId, Constraint, MutationBuffer, Table},
+};
+use calls::{Answer, Call, Condition, Contents, Judge, Lengths, Opening, Question, Subset};
+use std::cell::RefCell;
+
+/// A staging buffer of the table, removals by row included. What is staged reaches the table when it is dropped.
+pub(crate) trait Staging: MutationBuffer {
+    fn stage_remove_row(&mut self, row: RowId, key: &[Value]);
+}
+
+/// What is private in the table and needed here.
+pub(crate) trait Opened {
+    fn staging(&self) -> Box<dyn Staging>;
+    fn compact(&mut self);
+    fn dead_rows(&self) -> usize;
+    fn sort_entries(&self) -> &[(Value, RowId)];
+    fn meets(conditions: &[Constraint], row: &[Value]) -> bool;
+    fn key_hash(key: &[Value]) -> u32;
+    fn compact_hash(full: u64) -> u32;
+    fn probe(compact: u32) -> u64;
+}
+
+/// The carried-over table; before the first opening there is none.
+#[derive(Clone, Default)]
+pub struct RustTable {
+    open: Option<OpenTable>,
+}
+
+struct OpenTable {
+    table: SortedWritesTable,
+    /// The Rust counts generations from 0; the paper from the one given at opening.
+    first_generation: u32,
+    /// The one staging buffer, made when something is staged. In a cell, so that cloning can hand it over first.
+    staging: RefCell<Option<Box<dyn Staging>>>,
+}
+
+impl OpenTable {
+    fn new(opening: &Opening) -> OpenTable {
+        let (keys, sort) = (opening.keys as usize, opening.sort as usize);
+        OpenTable {
+            table: SortedWritesTable::new(
+                keys,
+                opening.columns as usize,
+                ColumnId::new(opening.sort),
+                Vec::new(),
+                rule_closure(opening.rule, keys, sort),
+            ),
+            first_generation: opening.generation,
+            staging: RefCell::new(None),
+        }
+    }
+
+    fn stage(&mut self, record: impl FnOnce(&mut dyn Staging)) {
+        let buffer = self.staging.get_mut();
+        record(&mut **buffer.get_or_insert_with(|| self.table.staging()));
+    }
+
+    /// Hands what is staged over to the table.
+    fn flush(&self) {
+        drop(self.staging.take());
+    }
+
+    fn generation(&self) -> u32 {
+        let generation = u64::from(self.first_generation) + self.table.version().major.rep();
+        u32::try_from(generation).expect("the paper's generations end at 4294967295")
+    }
+
+    fn rows(&self) -> u32 {
+        self.table.version().minor.rep() as u32
+    }
+}
+
+impl Clone for OpenTable {
+    fn clone(&self) -> OpenTable {
+        self.flush();
+        OpenTable {
+            table: self.table.clone(),
+            first_generation: self.first_generation,
+            staging: RefCell::new(None),
+        }
+    }
+}
+
+impl RustTable {
+    pub fn new() -> RustTable {
+        RustTable::default()
+    }
+
+    fn open(&self) -> &OpenTable {
+        self.open.as_ref().expect("no table is open")
+    }
+
+    fn open_mut(&mut self) -> &mut OpenTable {
+        self.open.as_mut().expect("no table is open")
+    }
+
+    /// `Subset::retain`, which no call reaches with a test of the caller's own.
+    pub fn retain(subset: &Subset, keep: &dyn Fn(u32) -> bool) -> Subset {
+        let mut kept = carried(subset);
+        kept.retain(|row| keep(row.rep()));
+        answered(&kept)
+    }
+}
+
+impl Judge for RustTable {
+    fn call(&mut self, _lent: &Lengths, call: &Call) -> Answer {
+        match call {
+            Call::Open(opening) => self.open = Some(OpenTable::new(opening)),
+            Call::Insert(row) => self
+                .open_mut()
+                .stage(|staging| staging.stage_insert(values(row))),
+            Call::RemoveKey(key) => self
+                .open_mut()
+                .stage(|staging| staging.stage_remove(values(key))),
+            Call::RemoveRow(row, key) => self
+                .open_mut()
+                .stage(|staging| staging.stage_remove_row(RowId::new(*row), values(key))),
+            Call::Merge => {
+                let open = self.open_mut();
+                open.flush();
+                let added = open.table.merge(&mut ExecutionState).added;
+                return Answer::Merged {
+                    status: 0,
+                    place: 0,
+                    added,
+                };
+            }
+            Call::Compact => self.open_mut().table.compact(),
+            Call::Clear => {
+                let open = self.open_mut();
+                open.flush();
+                open.table.clear();
+            }
+        }
+        Answer::Done
+    }
+
+    fn ask(&self, _lent: &Lengths, question: &Question) -> Answer {
+        match question {
+            Question::Lookup(key) => match self.open().table.get_row(values(key)) {
+                Some(row) => Answer::Row(row.id.rep(), cells(&row.vals)),
+                None => Answer::None,
+            },
+            Question::Cell(key, column) => {
+                let column = ColumnId::new(*column);
+                match self.open().table.get_row_column(values(key), column) {
+                    Some(value) => Answer::Cell(value.rep()),
+                    None => Answer::None,
+                }
+            }
+            Question::FastRange(condition) => {
+                match self.open().table.fast_subset(&constraint(condition)) {
+                    Some(subset) => Answer::Subset(answered(&subset)),
+                    None => Answer::None,
+                }
+            }
+            Question::Version => Answer::Version {
+                generation: self.open().generation(),
+                rows: self.open().rows(),
+            },
+            Question::RowsSince(row) => {
+                let since = Offset::new(u64::from(*row));
+                Answer::Subset(answered(&self.open().table.updates_since(since)))
+            }
+            Question::RefineOne {
+                subset, condition, ..
+            } => {
+                let table = &self.open().table;
+                Answer::Subset(answered(
+                    &table.refine_one(carried(subset), &constraint(condition)),
+                ))
+            }
+            Question::RefineList {
+                subset, conditions, ..
+            } => {
+                let table = &self.open().table;
+                Answer::Subset(answered(&table.refine_ref(
+                    carried(subset).as_ref(),
+                    &constraints(conditions),
+                    true,
+                )))
+            }
+            Question::AnyMatch { subset, conditions } => Answer::Match(
+                self.open()
+                    .table
+                    .contains_match(carried(subset).as_ref(), &constraints(conditions)),
+            ),
+            Question::Page {
+                subset,
+                start,
+                n,
+                conditions,
+                ..
+            } => {
+                let mut ids = Vec::new();
+                let next = self.open().table.scan_generic_bounded(
+                    carried(subset).as_ref(),
+                    Offset::new(u64::from(*start)),
+                    *n as usize,
+                    &constraints(conditions),
+                    |row, _| ids.push(row.rep()),
+                );
+                Answer::Page {
+                    ids,
+                    next: next.map(|place| place.rep() as u32),
+                }
+            }
+            Question::Intersect { first, second, .. } => {
+                let mut both = carried(first);
+                let pool = with_pool_set(|pools| pools.get_pool());
+                both.intersect(carried(second).as_ref(), &pool);
+                Answer::Subset(answered(&both))
+            }
+        }
+    }
+
+    fn contents(&self) -> Contents {
+        let open = self.open();
+        let mut live = Vec::new();
+        open.table
+            .scan_generic(open.table.all().as_ref(), |row, values| {
+                live.push((row.rep(), cells(values)))
+            });
+        Contents {
+            generation: open.generation(),
+            rows: open.rows(),
+            dead: open.table.dead_rows() as u32,
+            live,
+            sort_entries: open
+                .table
+                .sort_entries()
+                .iter()
+                .map(|(value, row)| (value.rep(), row.rep()))
+                .collect(),
+        }
+    }
+}
+
+/// The real compact hash of a 64-bit hash.
+pub fn compact_hash(full: u64) -> u32 {
+    SortedWritesTable::compact_hash(full)
+}
+
+/// The real 64-bit probe of a compact hash.
+pub fn probe(compact: u32) -> u64 {
+    SortedWritesTable::probe(compact)
+}
+
+/// The real compact hash of a key.
+pub fn key_hash(key: &[u32]) -> u32 {
+    SortedWritesTable::key_hash(values(key))
+}
+
+/// Whether a row meets a condition, dead mark or not.
+pub fn eval_condition(condition: &Condition, row: &[u32]) -> bool {
+    SortedWritesTable::meets(&[constraint(condition)], values(row))
+}
+
+/// The row that a merge rule makes of an old and a new one; none if it keeps the old.
+pub fn merge_rule(rule: u32, keys: u32, sort: u32, old: &[u32], new: &[u32]) -> Option<Vec<u32>> {
+    let merge = rule_closure(rule, keys as usize, sort as usize);
+    let mut made = Vec::new();
+    merge(&mut ExecutionState, values(old), values(new), &mut made).then(|| cells(&made))
+}
+
+/// The paper's merge rules in the Rust's form: false keeps the old row, true takes the row that was written.
+fn rule_closure(rule: u32, keys: usize, sort: usize) -> Box<MergeFn> {
+    match rule {
+        0 => Box::new(|_, _, _, _| false),
+        1 => cell_by_cell(keys, sort, |_, new| new),
+        2 => cell_by_cell(keys, sort, Value::min),
+        3 => cell_by_cell(keys, sort, Value::max),
+        _ => panic!("no such rule: {rule}"),
+    }
+}
+
+/// Chooses each cell outside keys and sort column by `choose`. The other cells are the new row's; of the keys both rows
+/// have the same.
+fn cell_by_cell(
+    keys: usize,
+    sort: usize,
+    choose: impl Fn(Value, Value) -> Value + Send + Sync + 'static,
+) -> Box<MergeFn> {
+    Box::new(move |_, old, new, made| {
+        let mut changed = false;
+        made.extend((0..new.len()).map(|column| {
+            if column < keys || column == sort {
+                return new[column];
+            }
+            let chosen = choose(old[column], new[column]);
+            changed |= chosen != old[column];
+            chosen
+        }));
+        changed
+    })
+}
+
+/// The numbers as the Rust's values, in place.
+fn values(cells: &[u32]) -> &[Value] {
+    // SAFETY: a value is a u32 and nothing else in memory.
+    unsafe { std::slice::from_raw_parts(cells.as_ptr().cast(), cells.len()) }
+}
+
+fn cells(values: &[Value]) -> Vec<u32> {
+    values.iter().map(|value| value.rep()).collect()
+}
+
+fn carried(subset: &Subset) -> offsets::Subset {
+    match subset {
+        Subset::Range(start, end) => offsets::Subset::Dense(offsets::OffsetRange::new(
+            RowId::new(*start),
+            RowId::new(*end),
+        )),
+        Subset::List(ids) => {
+            let mut list = with_pool_set(|pools| pools.get::<offsets::SortedOffsetVector>());
+            ids.iter().for_each(|id| list.push(RowId::new(*id)));
+            offsets::Subset::Sparse(list)
+        }
+    }
+}
+
+fn answered(subset: &offsets::Subset) -> Subset {
+    match subset {
+        offsets::Subset::Dense(range) => Subset::Range(range.start.rep(), range.end.rep()),
+        offsets::Subset::Sparse(list) => {
+            Subset::List(list.slice().iter().map(|row| row.rep()).collect())
+        }
+    }
+}
+
+fn constraint(condition: &Condition) -> Constraint {
+    let col = ColumnId::new(condition.a);
+    let val = Value::new(condition.b);
+    match condition.kind {
+        0 => Constraint::Eq {
+            l_col: col,
+            r_col: ColumnId::new(condition.b),
+        },
+        1 => Constraint::EqConst { col, val },
+        2 => Constraint::LtConst { col, val },
+        3 => Constraint::GtConst { col, val },
+        4 => Constraint::LeConst { col, val },
+        5 => Constraint::GeConst { col, val },
+        kind => panic!("no such condition: {kind}"),
+    }
+}
+
+fn constraints(conditions: &[Condition]) -> Vec<Constraint> {
+    conditions.iter().map(constraint).collect()
+}
