@@ -1,3 +1,4 @@
 pub mod Histories
 pub mod Runs
 pub mod Claim
+pub mod Laws

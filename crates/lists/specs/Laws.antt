@@ -4,3 +4,8 @@ pub mod Keep
 pub mod Rising
 pub mod Rows
 pub mod Plain
+pub mod Entries
+pub mod Table
+pub mod Search
+pub mod More
+pub mod Ring

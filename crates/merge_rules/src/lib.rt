@@ -1,1 +1,130 @@
-// The four merge rules, in specs/. No functions yet.
+// The four merge rules: what becomes of a known key's row when a new row is inserted. The Rust takes a `MergeFn`; here a rule
+// number chooses. Each contract cites its definition in specs/.
+ghost use mathlib.Core.Path.{_≡_};
+ghost use Prim.Native.Nat.{min, max, _+_, _≤_};
+ghost use mathlib.Core.Bool.{not, _&&_};
+ghost use lib.ListN.{length, take, drop};
+ghost use lib.Dec.{eqb};
+ghost use Rattle.lists.specs.Lists.{putAt};
+ghost use Rattle.merge_rules.specs.Rules as rules;
+ghost use Rattle.merge_rules.specs.Survivor.{survivor};
+
+// A column that is neither a key nor the sort column: only there does a rule choose.
+fn ruled_column(keys: u32, sort: u32, column: usize) -> bool
+    ensures { λ r. ⌜ r ≡ rules.ruledColumn keys sort column ⌝ }
+{
+    if column < keys as usize {
+        return false;
+    }
+    column != sort as usize
+}
+
+fn smaller(a: u32, b: u32) -> u32
+    ensures { λ r. ⌜ r ≡ min a b ⌝ }
+{
+    if b < a {
+        return b;
+    }
+    a
+}
+
+fn larger(a: u32, b: u32) -> u32
+    ensures { λ r. ⌜ r ≡ max a b ⌝ }
+{
+    if a < b {
+        return b;
+    }
+    a
+}
+
+// What a rule takes of two cells of such a column.
+fn taken(rule: u32, old: u32, new: u32) -> u32
+    ensures { λ r. ⌜ r ≡ rules.taken rule old new ⌝ }
+{
+    if rule == 1 {
+        return new;
+    }
+    if rule == 2 {
+        return smaller(old, new);
+    }
+    if rule == 3 {
+        return larger(old, new);
+    }
+    old
+}
+
+// The rule takes another cell than the old one.
+fn cell_changes(rule: u32, keys: u32, sort: u32, column: usize, old: u32, new: u32) -> bool
+    ensures { λ r. ⌜ r ≡ (rules.ruledColumn keys sort column && not (eqb (rules.taken rule old new) old)) ⌝ }
+{
+    if ruled_column(keys, sort, column) {
+        return taken(rule, old, new) != old;
+    }
+    false
+}
+
+fn made_cell(rule: u32, keys: u32, sort: u32, column: usize, old: u32, new: u32) -> u32
+    ensures { λ r. ⌜ r ≡ rules.madeCell rule keys sort column old new ⌝ }
+{
+    if ruled_column(keys, sort, column) {
+        return taken(rule, old, new);
+    }
+    if column == sort as usize {
+        return new;
+    }
+    old
+}
+
+// The rule makes a row of the two; if not, the old row is kept. Cells that only one of them has do not count.
+pub fn changes(rule: u32, keys: u32, sort: u32, old: &[u32], new: &[u32]) -> bool
+    ensures { λ r. ⌜ r ≡ rules.changesFrom rule keys sort 0 (now (old .entry)) (now (new .entry)) ⌝ }
+{
+    let mut i = 0;
+    while i < old.len() {
+        if new.len() <= i {
+            return false;
+        }
+        if cell_changes(rule, keys, sort, i, old[i], new[i]) {
+            return true;
+        }
+        i += 1;
+    }
+    false
+}
+
+// Writes the row that the rule makes at the start of `out`.
+pub fn make(rule: u32, keys: u32, sort: u32, old: &[u32], new: &[u32], out: &mut [u32])
+    requires { ⌜ (length (now old) ≡ length (now new)) × (length (now old) ≤ length (now out)) ⌝ }
+    ensures { λ _. ⌜ now (out .exit) ≡ putAt (now (out .entry)) 0 (rules.madeFrom rule keys sort 0 (now (old .entry)) (now (new .entry))) ⌝ }
+{
+    let mut i = 0;
+    while i < old.len() {
+        out[i] = made_cell(rule, keys, sort, i, old[i], new[i]);
+        i += 1;
+    }
+}
+
+// For rules 0 and 1 the row that survives is one of the two: it is handed back as that part of the row store, where the old
+// row stands, or of the pending store, where the new one does.
+pub fn surviving_row<'a>(
+    rule: u32,
+    keys: u32,
+    sort: u32,
+    width: usize,
+    rows: &'a [u32],
+    old: usize,
+    pending: &'a [u32],
+    new: usize,
+) -> &'a [u32]
+    requires { ⌜ (old + width ≤ length (now rows)) × (new + width ≤ length (now pending)) ⌝ }
+    ensures { λ r. ⌜ now r ≡ survivor rule keys sort (take width (drop old (now (rows .entry)))) (take width (drop new (now (pending .entry)))) ⌝ }
+{
+    let old_end = old + width;
+    let new_end = new + width;
+    let old_row = &rows[old..old_end];
+    let new_row = &pending[new..new_end];
+    if changes(rule, keys, sort, old_row, new_row) {
+        return new_row;
+    }
+    old_row
+}

@@ -1,1 +1,279 @@
-// Sort entries: `offsets` of table/mod.rs, in specs/. No functions yet.
+// Sort entries: `offsets` of table/mod.rs. A lent store holds them, two words each: a value and its first row.
+ghost use mathlib.Core.Path.{_≡_};
+ghost use Prim.Native.Nat.{_≤_, _<_};
+ghost use lib.ListN.{drop};
+ghost use Rattle.sort_entries.specs.Entries.{entriesOf, firstRow, rangeAt, entriesSound};
+ghost use Rattle.sort_entries.specs.Append.{Room, Append, Rebuild};
+ghost use Rattle.sort_entries.specs.Search.{Held, Located, Stands, Ranged, standsAt, rangeOf};
+ghost use Rattle.sort_entries.specs.Checks.{Told, Follows, Advanced, headValue, Cells, cellSound, cellsSound};
+
+// What appending a row does to the entries: it is refused, its value is that of the last entry, or it has a new entry.
+pub enum Appended {
+    Below,
+    Same,
+    New,
+}
+
+// A row that is appended: its entry, if its value rises. Nothing is written if the value is below the last entry's.
+pub fn append_entry(sorts: &mut [u32], entries: u32, value: u32, row: u32) -> Appended
+    requires { ⌜ Room (now sorts) entries ⌝ }
+    ensures { λ r. ⌜ Append (now (sorts .entry)) entries value row r (now (sorts .exit)) ⌝ }
+{
+    let at = (2 * entries) as usize;
+    if 0 < entries {
+        let before = at - 2;
+        let last = sorts[before];
+        if value < last {
+            return Appended::Below;
+        }
+        if value == last {
+            return Appended::Same;
+        }
+    }
+    sorts[at] = value;
+    sorts[at + 1] = row;
+    Appended::New
+}
+
+// A row that is kept by a compaction: as above, but a value below the last entry's is no refusal, and has no entry.
+// Gives the new number of entries.
+pub fn rebuild_entry(sorts: &mut [u32], entries: u32, value: u32, row: u32) -> u32
+    requires { ⌜ Room (now sorts) entries ⌝ }
+    ensures { λ r. ⌜ Rebuild (now (sorts .entry)) entries value row r (now (sorts .exit)) ⌝ }
+{
+    let done = append_entry(sorts, entries, value, row);
+    match done {
+        Appended::New => entries + 1,
+        Appended::Below => entries,
+        Appended::Same => entries,
+    }
+}
+
+// Where a value stands: an entry has it, whose row is the first and the next entry's the second, or none has, and the
+// row is that of the first entry above it. The row count stands for the row of a missing entry.
+pub enum Standing {
+    Found(u32, u32),
+    Absent(u32),
+}
+
+// Rows from `start` on and below `end`.
+pub struct Range {
+    pub start: u32,
+    pub end: u32,
+}
+
+// The place of the first entry whose value is not below `value`: a binary search. Values that do not rise give a place
+// between an entry below and one not below.
+fn locate(sorts: &[u32], entries: u32, value: u32) -> u32
+    requires { ⌜ Held (now sorts) entries ⌝ }
+    ensures { λ r. ⌜ Located (now (sorts .entry)) entries value r r ⌝ }
+{
+    let mut lo: u32 = 0;
+    let mut hi = entries;
+    while lo < hi {
+        let mid = lo + (hi - lo) / 2;
+        let at = (2 * mid) as usize;
+        if sorts[at] < value {
+            lo = mid + 1;
+        } else {
+            hi = mid;
+        }
+    }
+    lo
+}
+
+// The row of the entry at a place, or the row count.
+fn row_from(sorts: &[u32], entries: u32, rows: u32, at: u32) -> u32
+    requires { ⌜ Held (now sorts) entries ⌝ }
+    ensures { λ r. ⌜ r ≡ firstRow (drop at (entriesOf entries (now (sorts .entry)))) rows ⌝ }
+{
+    if entries <= at {
+        return rows;
+    }
+    let row_word = (2 * at + 1) as usize;
+    sorts[row_word]
+}
+
+// `binary_search_sort_val`.
+fn stand(sorts: &[u32], entries: u32, rows: u32, value: u32) -> Standing
+    requires { ⌜ Held (now sorts) entries ⌝ }
+    ensures { λ r. ⌜ Stands (now (sorts .entry)) entries rows value r ⌝ }
+{
+    let at = locate(sorts, entries, value);
+    let first = row_from(sorts, entries, rows, at);
+    if at < entries {
+        let word = (2 * at) as usize;
+        if sorts[word] == value {
+            let next = row_from(sorts, entries, rows, at + 1);
+            return Standing::Found(first, next);
+        }
+    }
+    Standing::Absent(first)
+}
+
+fn range_found(kind: u32, first: u32, next: u32, rows: u32) -> Range
+    ensures { λ r. ⌜ rangeOf r ≡ rangeAt kind (standsAt (Standing.Found first next)) rows ⌝ }
+{
+    match kind {
+        1 => Range {
+            start: first,
+            end: next,
+        },
+        2 => Range {
+            start: 0,
+            end: first,
+        },
+        3 => Range {
+            start: next,
+            end: rows,
+        },
+        4 => Range {
+            start: 0,
+            end: next,
+        },
+        _ => Range {
+            start: first,
+            end: rows,
+        },
+    }
+}
+
+fn range_absent(kind: u32, above: u32, rows: u32) -> Range
+    ensures { λ r. ⌜ rangeOf r ≡ rangeAt kind (standsAt (Standing.Absent above)) rows ⌝ }
+{
+    match kind {
+        1 => Range { start: 0, end: 0 },
+        2 | 4 => Range {
+            start: 0,
+            end: above,
+        },
+        _ => Range {
+            start: above,
+            end: rows,
+        },
+    }
+}
+
+// `fast_subset` on the sort column, for kinds 1 to 5: equal, less, greater, at most, at least.
+pub fn fast_range(sorts: &[u32], entries: u32, rows: u32, kind: u32, value: u32) -> Range
+    requires { ⌜ Held (now sorts) entries ⌝ }
+    ensures { λ r. ⌜ Ranged (now (sorts .entry)) entries rows kind value r ⌝ }
+{
+    let standing = stand(sorts, entries, rows, value);
+    match standing {
+        Standing::Found(first, next) => range_found(kind, first, next, rows),
+        Standing::Absent(above) => range_absent(kind, above, rows),
+    }
+}
+
+// Whether the entry at a place lies below the row count and above the entry before it, by value and by row.
+fn entry_sound(sorts: &[u32], entries: u32, rows: u32, i: u32) -> bool
+    requires { ⌜ Held (now sorts) entries ⌝ }
+    requires { ⌜ i < entries ⌝ }
+    ensures { λ r. ⌜ Told (Follows (now (sorts .entry)) rows i) r ⌝ }
+{
+    let at = (2 * i) as usize;
+    let value = sorts[at];
+    let row = sorts[at + 1];
+    if rows <= row {
+        return false;
+    }
+    if i == 0 {
+        return true;
+    }
+    let value_before = sorts[at - 2];
+    let row_before = sorts[at - 1];
+    if value <= value_before {
+        return false;
+    }
+    row_before < row
+}
+
+// Whether the entries rise, lie below the row count and begin at row 0 where there is a row: one pass.
+pub fn entries_sound(sorts: &[u32], entries: u32, rows: u32) -> bool
+    requires { ⌜ Held (now sorts) entries ⌝ }
+    ensures { λ r. ⌜ r ≡ entriesSound (entriesOf entries (now (sorts .entry))) rows ⌝ }
+{
+    if row_from(sorts, entries, rows, 0) != 0 {
+        return false;
+    }
+    let mut i: u32 = 0;
+    while i < entries {
+        if !entry_sound(sorts, entries, rows, i) {
+            return false;
+        }
+        i += 1;
+    }
+    true
+}
+
+// The place of the entry that holds for a row, from that of one that held before.
+fn advance(sorts: &[u32], entries: u32, from: u32, row: u32) -> u32
+    requires { ⌜ Held (now sorts) entries ⌝ }
+    requires { ⌜ from ≤ entries ⌝ }
+    ensures { λ r. ⌜ Advanced (now (sorts .entry)) entries from row r ⌝ }
+{
+    let mut at = from;
+    while at + 1 < entries {
+        let word = (2 * at + 3) as usize;
+        if row < sorts[word] {
+            return at;
+        }
+        at += 1;
+    }
+    at
+}
+
+// The value of the entry at a place, 0 past the last.
+fn value_from(sorts: &[u32], entries: u32, at: u32) -> u32
+    requires { ⌜ Held (now sorts) entries ⌝ }
+    ensures { λ r. ⌜ r ≡ headValue (drop at (entriesOf entries (now (sorts .entry)))) ⌝ }
+{
+    if entries <= at {
+        return 0;
+    }
+    let value_word = (2 * at) as usize;
+    sorts[value_word]
+}
+
+// Whether a row is dead or its sort cell is this value. A dead row's sort cell counts for nothing.
+fn cell_sound(store: &[u32], columns: u32, sort: u32, rows: u32, row: u32, value: u32) -> bool
+    requires { ⌜ Cells (now store) columns sort rows ⌝ }
+    requires { ⌜ row < rows ⌝ }
+    ensures { λ r. ⌜ r ≡ cellSound (now (store .entry)) columns sort row value ⌝ }
+{
+    let at = (row * columns) as usize;
+    if cells::is_stale(store[at]) {
+        return true;
+    }
+    let s = sort as usize;
+    let cell = store[at + s];
+    cell == value
+}
+
+// Whether each live row's sort cell is the value of the last entry at or below the row: one pass, rows and entries
+// together.
+pub fn sort_cells_sound(
+    store: &[u32],
+    columns: u32,
+    sort: u32,
+    rows: u32,
+    sorts: &[u32],
+    entries: u32,
+) -> bool
+    requires { ⌜ Cells (now store) columns sort rows ⌝ }
+    requires { ⌜ Held (now sorts) entries ⌝ }
+    ensures { λ r. ⌜ r ≡ cellsSound (now (store .entry)) columns sort rows (entriesOf entries (now (sorts .entry))) ⌝ }
+{
+    let mut at: u32 = 0;
+    let mut row: u32 = 0;
+    while row < rows {
+        at = advance(sorts, entries, at, row);
+        let value = value_from(sorts, entries, at);
+        if !cell_sound(store, columns, sort, rows, row, value) {
+            return false;
+        }
+        row += 1;
+    }
+    true
+}

@@ -3,3 +3,4 @@ pub mod Refusing
 pub mod Stores
 pub mod Sound
 pub mod Promises
+pub mod Laws

@@ -26,7 +26,8 @@ const USAGE: &str = "\
 usage: oracle                   the gate's run: all short histories, many by chance from a fixed seed, the proved library
        oracle run COUNT [SEED]  any number of histories by chance
        oracle record [SEED]     prints the recorded list
-       oracle replay FILE       checks a recorded list against both judges";
+       oracle replay FILE       checks a recorded list against both judges
+       oracle bench             measures the proved library beside the Rust (build it with --release)";
 
 const RUST: Rival<RustTable> = Rival {
     make: RustTable::new,
@@ -54,6 +55,10 @@ fn command(arguments: &[&str]) -> Result<(), String> {
         ["record"] => record(record::SEED),
         ["record", seed] => record(number(seed)?),
         ["replay", file] => replay(file),
+        ["bench"] => {
+            measure::bench();
+            Ok(())
+        }
         _ => Err(USAGE.to_string()),
     }
 }

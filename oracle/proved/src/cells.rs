@@ -1,5 +1,6 @@
 //! Dead mark, compact hash, probe and key hash.
 
+use crate::chance::Chance;
 use mouldgrey::{compact_hash, from_full, is_stale, key_hash, probe};
 
 /// Numbers around every power of two, and their complements.
@@ -10,21 +11,17 @@ fn edges() -> Vec<u64> {
     all
 }
 
-/// Numbers by chance, from a fixed start.
-fn chance(count: usize) -> impl Iterator<Item = u64> {
-    let mut state = 0x6d6f_756c_6467_7265u64;
-    std::iter::repeat_with(move || {
-        state = state.wrapping_add(0x9e37_79b9_7f4a_7c15);
-        let mixed = (state ^ (state >> 30)).wrapping_mul(0xbf58_476d_1ce4_e5b9);
-        let mixed = (mixed ^ (mixed >> 27)).wrapping_mul(0x94d0_49bb_1331_11eb);
-        mixed ^ (mixed >> 31)
-    })
-    .take(count)
+/// The edges, and as many numbers by chance.
+fn numbers(count: usize) -> Vec<u64> {
+    let mut chance = Chance::new(1);
+    let mut all = edges();
+    all.extend(std::iter::repeat_with(|| chance.next()).take(count));
+    all
 }
 
 /// `from_full`, `probe` and the dead test against the Rust's own.
 pub fn compact_hashes() -> Result<String, String> {
-    let numbers: Vec<u64> = edges().into_iter().chain(chance(1_000_000)).collect();
+    let numbers = numbers(1_000_000);
     for &full in &numbers {
         let hash = full as u32;
         if from_full(full) != rust_table::compact_hash(full) {
@@ -54,11 +51,7 @@ fn defined(key: &[u32]) -> u64 {
 }
 
 pub fn key_hashes() -> Result<String, String> {
-    let cells: Vec<u32> = edges()
-        .into_iter()
-        .chain(chance(400_000))
-        .map(|n| n as u32)
-        .collect();
+    let cells: Vec<u32> = numbers(400_000).into_iter().map(|n| n as u32).collect();
     let mut keys = 0;
     for width in 0..=8 {
         for key in cells

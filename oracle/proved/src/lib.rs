@@ -1,6 +1,9 @@
 //! The proved library beside the Rust, function by function. Each part answers what it compared, or the first difference.
 
 mod cells;
+mod chance;
+mod offsets;
+mod rules;
 
 /// Everything that is exported so far, a line for each part.
 pub fn compare() -> Result<Vec<String>, String> {
@@ -8,5 +11,9 @@ pub fn compare() -> Result<Vec<String>, String> {
         cells::compact_hashes()?,
         cells::key_hashes()?,
         cells::spread()?,
+        offsets::intersect()?,
+        rules::conditions()?,
+        rules::merge_rules()?,
+        rules::ranks()?,
     ])
 }

@@ -358,3 +358,20 @@ fn constraint(condition: &Condition) -> Constraint {
 fn constraints(conditions: &[Condition]) -> Vec<Constraint> {
     conditions.iter().map(constraint).collect()
 }
+
+/// A subset of the Rust's own, to be measured without the way from and to `calls`.
+pub struct RustSubset(offsets::Subset);
+
+impl RustSubset {
+    pub fn new(subset: &Subset) -> RustSubset {
+        RustSubset(carried(subset))
+    }
+
+    /// Intersects a copy, since the Rust does it in place, and answers its size.
+    pub fn intersect(&self, other: &RustSubset) -> usize {
+        let pool = with_pool_set(|pools| pools.get_pool());
+        let mut both = self.0.clone();
+        both.intersect(other.0.as_ref(), &pool);
+        both.size()
+    }
+}

@@ -1,0 +1,21 @@
+-- `constraints::meets` meets its contract. Assumes nothing.
+use borrow.Author.Needs.{needs}
+use mathlib.Core.Path.{sym, _∙_}
+use Rattle.constraints.proofs.Laws.{meets-live, meets-dead}
+use Rattle.constraints.proofs.meets.Statement.{statement}
+use Rattle.constraints.proofs.meets.Tie as tie
+
+is-live-requires : tie.Need-is-live-requires
+is-live-requires c κs = search needs
+
+met-requires : tie.Need-met-requires
+met-requires c κs = search needs
+
+returns : tie.Need-returns
+returns c = c .met .ensures ∙ sym (meets-live _ _ (sym (c .before .before .is-live .ensures) ∙ c .before .if1 .taken))
+
+returns-2 : tie.Need-returns-2
+returns-2 c = sym (meets-dead _ _ (sym (c .before .is-live .ensures) ∙ c .if1 .left))
+
+pub meets-spec : {M : Type 1} → statement M
+meets-spec = tie.close (tie.spec is-live-requires met-requires returns returns-2)

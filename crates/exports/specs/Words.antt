@@ -1,0 +1,69 @@
+-- Answers in words, for callers that have no enums. Assumes nothing.
+use Prim.Native.Nat.{ℕ, _+_, _≤_}
+use mathlib.Core.Path.{_≡_, refl, sym, ap, _∙_}
+use mathlib.Core.Bool.{Bool, true, false, true≢false, false≢true}
+use mathlib.Core.List.{List, [], _∷_}
+use lib.ListN.{length, take, drop}
+use lib.Dec.{eqb}
+use borrow.Author.Tests.{eq-eqb, ne-eqb}
+use Rattle.lists.specs.Lists.{putAt}
+use Rattle.merge_rules.specs.Rules.{madeFrom}
+use Rattle.merge_rules.specs.Survivor.{survivor}
+use Rattle.offsets.specs.Subsets.{Subset}
+use Rattle.offsets.specs.Answers.{answerOf, written, Answered, intersectReply}
+use Rattle.offsets.specs.declared.SubsetAnswer.{SubsetAnswer}
+use Rattle.offsets.specs.declared.SubsetAnswer.the-variants.{Refused, Range, List as Ids}
+
+-- 0 and the refusal's number; 1 and a range's two ends; 2 and how many ids were written
+unfoldable pub subsetWords : SubsetAnswer → List ℕ
+subsetWords (Refused n) = 0 ∷ n ∷ 0 ∷ []
+subsetWords (Range start end) = 1 ∷ start ∷ end ∷ []
+subsetWords (Ids n) = 2 ∷ n ∷ 0 ∷ []
+
+-- an intersection whose answer goes into three words: nothing is done where they are not three
+pub record Intersected (a b : Subset) (output words : List ℕ) (r : Bool) (output′ words′ : List ℕ) : Type 0 where
+  pub three : r ≡ eqb (length words) 3
+  pub done : length words ≡ 3 → (words′ ≡ subsetWords (answerOf (intersectReply a b (length output)))) × (output′ ≡ putAt output 0 (written (intersectReply a b (length output))))
+  pub nothing : (length words ≡ 3 → ⊥) → (words′ ≡ words) × (output′ ≡ output)
+
+pub intersected-nothing : (a b : Subset) (output words : List ℕ) → (length words ≡ 3 → ⊥) → Intersected a b output words false output words
+intersected-nothing a b output words n =
+    record { three = sym (ne-eqb _ _ n); done = λ e. absurd (n e); nothing = λ e. (refl, refl) }
+
+pub intersected-done : (a b : Subset) (output words : List ℕ) (answer : SubsetAnswer) (output′ words′ : List ℕ) → length words ≡ 3
+    → Answered (intersectReply a b (length output)) output answer output′ → words′ ≡ subsetWords answer
+    → Intersected a b output words true output′ words′
+intersected-done a b output words answer output′ words′ l r w =
+    record {
+      three = sym (eq-eqb _ _ l);
+      done = λ e. (w ∙ ap subsetWords (r .answers), r .writes);
+      nothing = λ n. absurd (n l);
+    }
+
+-- a row made into a lent one: nothing is done where it does not fit
+pub record Made (rule keys sort : ℕ) (old new out : List ℕ) (r : Bool) (out′ : List ℕ) : Type 0 where
+  pub done : r ≡ true → (length old ≡ length new) × (out′ ≡ putAt out 0 (madeFrom rule keys sort 0 old new))
+  pub nothing : r ≡ false → ((length old ≡ length new) × (length old ≤ length out) → ⊥) × (out′ ≡ out)
+
+-- a surviving row copied out: nothing is done where a row does not lie in its store or does not fit
+pub record Survives (rule keys sort width : ℕ) (rows : List ℕ) (old : ℕ) (pending : List ℕ) (new : ℕ) (out : List ℕ) (r : Bool) (out′ : List ℕ) : Type 0 where
+  pub done : r ≡ true → out′ ≡ putAt out 0 (survivor rule keys sort (take width (drop old rows)) (take width (drop new pending)))
+  pub nothing : r ≡ false → ((old + width ≤ length rows) × (new + width ≤ length pending) × (width ≤ length out) → ⊥) × (out′ ≡ out)
+
+module _ (rule keys sort : ℕ) (old new out : List ℕ) where
+  pub made-nothing : ((length old ≡ length new) × (length old ≤ length out) → ⊥) → Made rule keys sort old new out false out
+  made-nothing n = record { done = λ e. absurd (false≢true e); nothing = λ e. (n, refl) }
+
+  pub made-done : (out′ : List ℕ) → length old ≡ length new → out′ ≡ putAt out 0 (madeFrom rule keys sort 0 old new)
+      → Made rule keys sort old new out true out′
+  made-done out′ l w = record { done = λ e. (l, w); nothing = λ e. absurd (true≢false e) }
+
+module _ (rule keys sort width : ℕ) (rows : List ℕ) (old : ℕ) (pending : List ℕ) (new : ℕ) (out : List ℕ) where
+  pub survives-nothing : ((old + width ≤ length rows) × (new + width ≤ length pending) × (width ≤ length out) → ⊥)
+      → Survives rule keys sort width rows old pending new out false out
+  survives-nothing n = record { done = λ e. absurd (false≢true e); nothing = λ e. (n, refl) }
+
+  pub survives-done : (out′ : List ℕ)
+      → out′ ≡ putAt out 0 (survivor rule keys sort (take width (drop old rows)) (take width (drop new pending)))
+      → Survives rule keys sort width rows old pending new out true out′
+  survives-done out′ w = record { done = λ e. w; nothing = λ e. absurd (true≢false e) }

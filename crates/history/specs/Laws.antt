@@ -1,0 +1,2 @@
+-- What may be relied on of the claim about histories.
+pub mod Live

@@ -1,0 +1,89 @@
+-- The answers of `find`. Assumes nothing.
+use Prim.Native.Nat.{ℕ, _+_, _%_, _^_, _≤_, _<_}
+use mathlib.Core.Path.{_≡_, sym, ap, _∙_}
+use mathlib.Core.List.{List}
+use native.Mathlib.Decide.{decLt, ℕ-discrete}
+use native.Mathlib.Omega.{arith}
+use lib.ListN.{getD}
+use Rattle.cells.specs.Cells.{compact, keyHash}
+use Rattle.key_index.specs.declared.Keyed.{Keyed}
+use Rattle.key_index.specs.declared.Found.the-variants.{None, At}
+use Rattle.key_index.specs.Slots.{LiveAt, keyAt, slots, word, home, slotFrom, StandsAt, KeysSound}
+use Rattle.key_index.specs.Ring.{spread, tagged, home-spread, word-tagged, word-some, word-row, tagged-row}
+use Rattle.key_index.specs.Index.{Leads, FoundAt, FoundIs}
+use Rattle.key_index.proofs.LawsWalk.{Walked}
+
+-- a lookup passes a slot that is not free and leads to no row with the key
+pub record Past (t : Keyed) (rows key : List ℕ) (hash w : ℕ) : Type 0 where
+  pub taken : w ≡ 0 → ⊥
+  pub other : (i : ℕ) → Leads t rows key hash w i → ⊥
+
+-- a word that leads to a row says which
+pub leads-some : (t : Keyed) (rows key : List ℕ) (hash w row : ℕ) → t .rows ≤ 65536 → Leads t rows key hash w row → 0 < w % 2 ^ 17
+leads-some t rows key hash w row few l = omega (arith, ap (λ (x : ℕ). x % 2 ^ 17) (l .tag), tagged-row hash row (omega (arith, l .below)))
+
+none-at : (row slot : ℕ) → None ≡ At row slot → ⊥
+none-at row slot e = let z : _≡_ {A = ℕ} 0 1 = cc in omega arith
+
+module _ (t : Keyed) (rows store key : List ℕ) (hash : ℕ) (few : t .rows ≤ 65536) where
+  abbrev Passed : ℕ → ℕ → Type 0
+  Passed at passed = Walked (slots t) store (Past t rows key hash) (spread (slots t) hash) at passed
+
+  -- the slot of a live row with the key leads to it
+  stands-leads : hash ≡ compact (keyHash key) → (i d : ℕ) → LiveAt t rows i → keyAt t rows i ≡ key → StandsAt (slots t) store key i d
+      → Leads t rows key hash (getD store (slotFrom (slots t) (spread (slots t) hash) d) 0) i
+  stands-leads e i d live k s =
+      record { tag = rw (home-spread (slots t) hash key e) (s .there) ∙ sym (word-tagged hash i key e); below = live .0; cells = k }
+
+  -- so no walk passed it
+  not-passed : (at passed : ℕ) → Passed at passed → hash ≡ compact (keyHash key) → (i d : ℕ) → LiveAt t rows i → keyAt t rows i ≡ key
+      → StandsAt (slots t) store key i d → passed ≤ d
+  not-passed at passed w e i d live k s = elim (decLt d passed) [ yes h ↦ absurd (w .each d h .other i (stands-leads e i d live k s)) | no h ↦ omega arith ]
+
+  stands : KeysSound t rows store → (i : ℕ) → LiveAt t rows i → keyAt t rows i ≡ key → (d : ℕ) × StandsAt (slots t) store key i d
+  stands sound i live k = rw k at (sound .leads i live)
+
+  -- the walk came to a free slot
+  pub found-free : (at passed : ℕ) → Passed at passed → getD store at 0 ≡ 0 → FoundIs t rows store key hash None
+  found-free at passed w z =
+      record { row-in = λ row slot e. absurd (none-at row slot e); slot-in = λ row slot e. absurd (none-at row slot e); none = gone; at = λ _ _ row slot e. absurd (none-at row slot e) }
+    where
+      gone : hash ≡ compact (keyHash key) → KeysSound t rows store → None ≡ None → (i : ℕ) → LiveAt t rows i → keyAt t rows i ≡ key → ⊥
+      gone e sound _ i live k =
+          let s = stands sound i live k in
+          let h : passed ≤ s .0 = not-passed at passed w e i (s .0) live k (s .1) in
+          let f : getD store (slotFrom (slots t) (home (slots t) key) passed) 0 ≡ 0 = rw (← home-spread (slots t) hash key e, ← w .here) z in
+          elim (ℕ-discrete passed (s .0)) [
+            | yes q ↦ let g : word key i ≡ 0 = sym (s .1 .there) ∙ rw (← q) f in omega (arith, word-some key i)
+            | no q ↦ s .1 .way passed (omega arith) f
+          ]
+
+  -- the walk went all the way round
+  pub found-round : (at passed : ℕ) → Passed at passed → slots t ≤ passed → FoundIs t rows store key hash None
+  found-round at passed w m =
+      record { row-in = λ row slot e. absurd (none-at row slot e); slot-in = λ row slot e. absurd (none-at row slot e); none = gone; at = λ _ _ row slot e. absurd (none-at row slot e) }
+    where
+      gone : hash ≡ compact (keyHash key) → KeysSound t rows store → None ≡ None → (i : ℕ) → LiveAt t rows i → keyAt t rows i ≡ key → ⊥
+      gone e sound _ i live k =
+          let s = stands sound i live k in
+          let h : passed ≤ s .0 = not-passed at passed w e i (s .0) live k (s .1) in
+          omega (arith, s .1 .below)
+
+  -- a slot leads to the row
+  pub found-row : (at row : ℕ) → at < slots t → Leads t rows key hash (getD store at 0) row → 0 < getD store at 0 → FoundIs t rows store key hash (At row at)
+  found-row at row h l some =
+      record {
+        row-in = λ r s e. let q : row ≡ r = cc in omega (arith, l .below);
+        slot-in = λ r s e. let q : at ≡ s = cc in omega arith;
+        none = λ _ _ e. absurd (none-at row at (sym e));
+        at = λ e sound r s f. let q : row ≡ r = cc in let p : at ≡ s = cc in rw (← q, ← p) (the-one e sound);
+      }
+    where
+      the-one : hash ≡ compact (keyHash key) → KeysSound t rows store → FoundAt t rows store key row at
+      the-one e sound =
+          let o = sound .only-live at h some in
+          let a : word (keyAt t rows (o .0)) (o .0) % 2 ^ 17 ≡ o .0 + 1 = word-row (keyAt t rows (o .0)) (o .0) (omega (arith, o .1 .0)) in
+          let b : tagged hash row % 2 ^ 17 ≡ row + 1 = tagged-row hash row (omega (arith, l .below)) in
+          let c : word (keyAt t rows (o .0)) (o .0) % 2 ^ 17 ≡ tagged hash row % 2 ^ 17 = ap (λ (x : ℕ). x % 2 ^ 17) (sym (o .2) ∙ l .tag) in
+          let q : o .0 ≡ row = omega arith in
+          record { live = rw q at (o .1); key-is = l .cells; slot-in = h; word-is = l .tag ∙ word-tagged hash row key e }

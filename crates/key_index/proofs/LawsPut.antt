@@ -1,0 +1,63 @@
+-- The answers of `put`, and the turns of `empty`. Assumes nothing.
+use Prim.Native.Nat.{ℕ, _+_, _*_, _≤_, _<_}
+use mathlib.Core.Path.{_≡_, refl, sym, ap, _∙_}
+use mathlib.Core.Bool.{true, false, false≢true}
+use mathlib.Core.List.{List, [], _∷_}
+use native.Mathlib.Omega.{arith}
+use lib.ListN.{length, getD, set, drop, length-replicate, replicate-append-replicate}
+use lib.Seq.{drop-set-lt}
+use Rattle.lists.specs.Lists.{putAt}
+use Rattle.lists.specs.Laws.Parts.{drop-putAt, length-putAt, putAt-nil, putAt-then, set-putAt}
+use Rattle.key_index.specs.Ring.{spread, tagged, slot-met}
+use Rattle.key_index.specs.Index.{PutIs, zeros, EmptyIs}
+use Rattle.key_index.proofs.LawsWalk.{Walked}
+
+-- a slot that is not free
+abbrev pub Taken : ℕ → Type 0
+Taken w = w ≡ 0 → ⊥
+
+module _ (n : ℕ) (store : List ℕ) (hash row : ℕ) where
+  pub put-here : (at passed : ℕ) → Walked n store Taken (spread n hash) at passed → passed < n → getD store at 0 ≡ 0 → (w : ℕ) → w ≡ tagged hash row
+      → PutIs n store hash row true (set store at w)
+  put-here at passed walk h z w e =
+      record {
+        yes = λ _. (passed, record { below = h; free = rw (← walk .here) z; way = walk .each }, rw (← walk .here, e));
+        full = λ f. absurd (false≢true (sym f));
+        kept = λ f. absurd (false≢true (sym f));
+        tail = drop-set-lt n store at w (walk .inside);
+      }
+
+  pub put-none : (at passed : ℕ) → Walked n store Taken (spread n hash) at passed → n ≤ passed → PutIs n store hash row false store
+  put-none at passed walk h =
+      record { yes = λ f. absurd (false≢true f); full = λ _. each; kept = λ _. refl; tail = refl }
+    where
+      each : (slot : ℕ) → slot < n → getD store slot 0 ≡ 0 → ⊥
+      each slot k z =
+          let some : 0 < n = omega arith in
+          let m = slot-met n some (spread n hash) slot k in
+          walk .each (m .0) (omega (arith, m .1)) (rw (m .2) z)
+
+-- one more slot is made free
+pub empty-step : (store : List ℕ) (i : ℕ) → i < length store → set (putAt store 0 (zeros i)) i 0 ≡ putAt store 0 (zeros (i + 1))
+empty-step store i h =
+    let r : length (zeros i) ≡ i = length-replicate i 0 in
+    let f : 0 + length (zeros i) ≤ length store = omega arith in
+    let g : i < length (putAt store 0 (zeros i)) = omega (arith, length-putAt store (zeros i) 0 f) in
+    let k : 0 + (length (zeros i) + 1) ≤ length store = omega arith in
+    let e : 0 + length (zeros i) ≡ i = omega arith in
+    set-putAt (putAt store 0 (zeros i)) i 0 g
+    ∙ ap (λ (j : ℕ). putAt (putAt store 0 (zeros i)) j (0 ∷ [])) (sym e)
+    ∙ putAt-then store (zeros i) (0 ∷ []) 0 k
+    ∙ ap (putAt store 0) (replicate-append-replicate i 1 0)
+
+pub empty-begin : (store : List ℕ) → store ≡ putAt store 0 (zeros 0)
+empty-begin store = sym (putAt-nil store 0)
+
+pub empty-end : (capacity : ℕ) (store store′ : List ℕ) → 2 * capacity ≤ length store → store′ ≡ putAt store 0 (zeros (2 * capacity))
+    → EmptyIs capacity store store′
+empty-end capacity store store′ h e =
+    let r : length (zeros (2 * capacity)) ≡ 2 * capacity = length-replicate (2 * capacity) 0 in
+    record {
+      free = e;
+      tail = ap (drop (2 * capacity)) e ∙ drop-putAt store (zeros (2 * capacity)) 0 (omega arith) (2 * capacity) (omega arith);
+    }

@@ -1,0 +1,71 @@
+-- `key_index::empty` meets its contract. The loop's invariant: the slots passed are free, the others as they were. Assumes nothing.
+use Prim.Native.Nat.{ℕ, _-_, _*_, _≤_}
+use mathlib.Core.Path.{_≡_, refl, ap, _∙_}
+use mathlib.Core.List.{List}
+use native.Mathlib.Omega.{arith}
+use lib.ListN.{length, set}
+use Rattle.lists.specs.Lists.{putAt}
+use Rattle.key_index.specs.Index.{zeros}
+use Rattle.key_index.proofs.LawsPut.{empty-begin, empty-step, empty-end}
+use borrow.Author.Needs.{needs}
+use Rattle.key_index.proofs.empty.Statement.{statement}
+use Rattle.key_index.proofs.empty.Tie as tie
+
+abbrev Inv-loop : tie.InvT-loop
+Inv-loop capacity store₀ slots at₀ store at = (at ≤ slots) × (length store ≡ length store₀) × (store ≡ putAt store₀ 0 (zeros at))
+
+abbrev μ-loop : tie.MeasureT-loop
+μ-loop capacity store₀ slots at₀ store at = slots - at
+
+mul-slots : tie.Need-mul-slots Inv-loop μ-loop
+mul-slots c = search needs
+
+cast-slots : tie.Need-cast-slots Inv-loop μ-loop
+cast-slots c = search needs
+
+loop-holds : tie.Need-loop-holds Inv-loop μ-loop
+loop-holds c = (search needs, refl, empty-begin _)
+
+mul-store : tie.Need-mul-store Inv-loop μ-loop
+mul-store c = search needs
+
+slice-write-store : tie.Need-slice-write-store Inv-loop μ-loop
+slice-write-store c = search needs
+
+add-at : tie.Need-add-at Inv-loop μ-loop
+add-at c = search needs
+
+loop-less : tie.Need-loop-less Inv-loop μ-loop
+loop-less c = search needs
+
+loop-again : tie.Need-loop-again Inv-loop μ-loop
+loop-again c =
+    let l = c .before in
+    (search needs, search needs, ap (λ (s : List ℕ). set s (l .loop .at) 0) (l .loop .inv .2) ∙ empty-step _ (l .loop .at) (omega arith))
+
+same-length : tie.Need-same-length Inv-loop μ-loop
+same-length c = search needs
+
+returns : tie.Need-returns Inv-loop μ-loop
+returns c =
+    let l = c .before .loop in
+    let a = c .before .before .args in
+    let e : l .at ≡ 2 * a .capacity = omega arith in
+    empty-end (a .capacity) (a .store .now) _ (search needs) (l .inv .2 ∙ ap (λ (i : ℕ). putAt (a .store .now) 0 (zeros i)) e)
+
+pub empty-spec : {M : Type 1} → statement M
+empty-spec =
+    tie.close
+    (tie.spec
+    Inv-loop
+    μ-loop
+    mul-slots
+    cast-slots
+    loop-holds
+    mul-store
+    slice-write-store
+    add-at
+    loop-less
+    loop-again
+    same-length
+    returns)

@@ -1,0 +1,93 @@
+-- `key_index::find` meets its contract. The loop's invariant: each slot passed is not free and leads to no row with the key.
+-- Assumes nothing.
+use Prim.Native.Nat.{_-_, _≤_}
+use native.Mathlib.Omega.{arith}
+use Rattle.key_index.specs.Ring.{spread}
+use Rattle.key_index.proofs.LawsWalk.{Walked, begin, on}
+use Rattle.key_index.proofs.LawsFind.{Past, leads-some, found-free, found-round, found-row}
+use borrow.Author.Needs.{needs}
+use Rattle.key_index.proofs.find.Statement.{statement}
+use Rattle.key_index.proofs.find.Tie as tie
+
+abbrev Inv-loop : tie.InvT-loop
+Inv-loop t rows store key hash slots at₀ passed₀ at passed = Walked slots store (Past t rows key hash) (spread slots hash) at passed
+
+abbrev μ-loop : tie.MeasureT-loop
+μ-loop t rows store key hash slots at₀ passed₀ at passed = slots - passed
+
+mul-slots : tie.Need-mul-slots Inv-loop μ-loop
+mul-slots c = search needs
+
+home-slot-requires : tie.Need-home-slot-requires Inv-loop μ-loop
+home-slot-requires c κs = search needs
+
+loop-holds : tie.Need-loop-holds Inv-loop μ-loop
+loop-holds c = begin _ _ _ _ _ (c .home-slot .ensures .0) (c .home-slot .ensures .1)
+
+cast-word : tie.Need-cast-word Inv-loop μ-loop
+cast-word c = search needs
+
+mul-word : tie.Need-mul-word Inv-loop μ-loop
+mul-word c = search needs
+
+shared-slice-read-word : tie.Need-shared-slice-read-word Inv-loop μ-loop
+shared-slice-read-word c = search needs
+
+few : (s : tie.Start Inv-loop μ-loop) → s .args .t .rows ≤ 65536
+few s = omega (arith, s .pre)
+
+returns : tie.Need-returns Inv-loop μ-loop
+returns c = let l = c .before .before .before .loop in found-free _ _ _ _ _ (few (c .before .before .before .before .before .before .before .before .before)) (l .at) (l .passed) (l .inv) (c .if1 .taken)
+
+is-hit-requires : tie.Need-is-hit-requires Inv-loop μ-loop
+is-hit-requires c κs =
+    let p = c .before .before .before .before .before .before .before .before .before .pre in
+    record { most-columns = p .0 .most-columns; most-keys = p .0 .most-keys; most = p .0 .most; count = p .0 .count; cells = p .0 .cells; width = p .1 }
+
+sub-row : tie.Need-sub-row Inv-loop μ-loop
+sub-row c = omega (arith, leads-some _ _ _ _ _ _ (few (c .before .before .before .before .before .before .before .before .before .before .before)) (c .before .is-hit .ensures .yes (c .if2 .taken)))
+
+returns-2 : tie.Need-returns-2 Inv-loop μ-loop
+returns-2 c =
+    let l = c .before .before .before .before .before .loop in
+    found-row _ _ _ _ _ (few (c .before .before .before .before .before .before .before .before .before .before .before)) (l .at) _ (l .inv .inside) (c .before .is-hit .ensures .yes (c .if2 .taken)) (omega arith)
+
+next-slot-requires : tie.Need-next-slot-requires Inv-loop μ-loop
+next-slot-requires c κs = search needs
+
+add-passed : tie.Need-add-passed Inv-loop μ-loop
+add-passed c = search needs
+
+loop-less : tie.Need-loop-less Inv-loop μ-loop
+loop-less c = search needs
+
+loop-again : tie.Need-loop-again Inv-loop μ-loop
+loop-again c =
+    let l = c .before .before .before .before .before .before .loop in
+    let p : Past _ _ _ _ _ = record { taken = c .before .before .before .if1 .left; other = c .before .before .is-hit .ensures .no (c .before .if2 .left) } in
+    on _ _ _ _ (l .at) (l .passed) _ (l .inv) (c .before .before .before .before .before .loop-test .taken) p (c .next-slot .ensures .0)
+
+returns-3 : tie.Need-returns-3 Inv-loop μ-loop
+returns-3 c = let l = c .before .loop in found-round _ _ _ _ _ (few (c .before .before .before .before .before .before .before)) (l .at) (l .passed) (l .inv) (c .loop-test .left)
+
+pub find-spec : {M : Type 1} → statement M
+find-spec =
+    tie.close
+    (tie.spec
+    Inv-loop
+    μ-loop
+    mul-slots
+    home-slot-requires
+    loop-holds
+    cast-word
+    mul-word
+    shared-slice-read-word
+    returns
+    is-hit-requires
+    sub-row
+    returns-2
+    next-slot-requires
+    add-passed
+    loop-less
+    loop-again
+    returns-3)

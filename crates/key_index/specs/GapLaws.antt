@@ -1,0 +1,415 @@
+-- A sound key store, unrolled at a free slot, and back; and that the walk of Gaps.antt keeps it sound. Assumes nothing.
+use Prim.Native.Nat.{ℕ, zero, suc, _+_, _-_, _*_, _%_, _^_, _≤_, _<_}
+use mathlib.Core.Path.{_≡_, refl, sym, ap, _∙_}
+use mathlib.Core.Logic.{inl, inr}
+use mathlib.Core.Bool.{true, false, not, false≢true}
+use mathlib.Core.List.{List, [], _∷_}
+use native.Mathlib.Nat.{add-zero, mul-lt-mul-of-pos-right}
+use native.Mathlib.Decide.{decLt, ℕ-discrete}
+use native.Mathlib.Omega.{arith}
+use lib.Dec.{ltb, eqb}
+use lib.ListN.{length, take, drop, getD, set, length-set}
+use lib.Seq.{getD-set-same, drop-set-lt}
+use borrow.Author.Tests.{lt-ltb, le-ltb, le-leb, eq-eqb}
+use Rattle.lists.specs.Lists.{rowAt}
+use Rattle.lists.specs.Laws.Keep.{split}
+use Rattle.lists.specs.Laws.Rows.{row-in, getD-rowAt, rowAt-set-other}
+use Rattle.cells.specs.Cells.{isDead, compact, mixed, mixedAll, keyHash}
+use Rattle.cells.specs.Laws.{compact-key-hash}
+use Rattle.constraints.specs.Constraints.{isLive}
+use Rattle.key_index.specs.declared.Keyed.{Keyed}
+use Rattle.key_index.specs.Slots.{LiveAt, keyAt, slots, word, home, slotFrom, StandsAt, KeysSound}
+use Rattle.key_index.specs.Unrolled.{away, slot-below, slot-then, slot-zero, slot-round, slot-one, away-below, away-slot, away-line, line, line-at, line-put, Line, Gap, gap-open, gap-stay, gap-move, gap-close, line-homes}
+use Rattle.key_index.specs.Gaps.{Fits, rowOf, namesRow, homeOf, closed, FreeSlot}
+
+-- ---- words and homes
+
+mixed-fits : (hash cell : ℕ) → mixed hash cell < 2 ^ 32
+unfolding mixed
+mixed-fits hash cell = omega arith
+
+all-fits : (hash : ℕ) → hash < 2 ^ 32 → (cells : List ℕ) → mixedAll hash cells < 2 ^ 32
+unfolding mixedAll
+all-fits hash h [] = h
+all-fits hash h (cell ∷ cells) = all-fits (mixed hash cell) (mixed-fits hash cell) cells
+
+-- a key's compact hash is a cell
+pub key-fits : (key : List ℕ) → compact (keyHash key) < 2 ^ 32
+key-fits key = rw (compact-key-hash key) (all-fits 0 (omega arith) key)
+
+-- a home is a slot
+pub home-below : (n : ℕ) (key : List ℕ) → 0 < n → home n key < n
+unfolding home
+home-below n key h = omega (arith, mul-lt-mul-of-pos-right {k = n} (key-fits key) h)
+
+pub word-row : (key : List ℕ) (row : ℕ) → row < 2 ^ 17 - 1 → rowOf (word key row) ≡ row
+unfolding word rowOf
+word-row key row h = omega arith
+
+pub word-pos : (key : List ℕ) (row : ℕ) → 0 < word key row
+unfolding word
+word-pos key row = omega arith
+
+pub names-word : (t : Keyed) (key : List ℕ) (row : ℕ) → row < t .rows → row < 2 ^ 17 - 1 → namesRow t (word key row) ≡ true
+unfolding word namesRow
+names-word t key row h k =
+    let w = compact (keyHash key) % 2 ^ 15 * 2 ^ 17 + (row + 1) in
+    let e : w % 2 ^ 17 ≡ row + 1 = omega arith in
+    let p : 0 < w % 2 ^ 17 = omega arith in
+    let q : w % 2 ^ 17 ≤ t .rows = omega arith in
+    rw (lt-ltb 0 (w % 2 ^ 17) p, le-leb (w % 2 ^ 17) (t .rows) q)
+
+pub names-zero : (t : Keyed) (w : ℕ) → w ≡ 0 → namesRow t w ≡ false
+unfolding namesRow
+names-zero t w e = rw e
+
+-- ---- a sound store as a line
+
+-- a word that the store is to hold
+abbrev pub Stored : Keyed → List ℕ → ℕ → Type 0
+Stored t rows w = (row : ℕ) × LiveAt t rows row × (w ≡ word (keyAt t rows row) row)
+
+-- how far a word's home lies after slot z
+unfoldable pub lineHome : Keyed → List ℕ → ℕ → ℕ → ℕ
+lineHome t rows z w = away (slots t) z (homeOf t rows w)
+
+-- a table's numbers are small, and it has slots
+pub record Small (t : Keyed) : Type 0 where
+  pub some : 1 ≤ t .capacity
+  pub capacity : t .capacity ≤ 65536
+  pub count : t .rows ≤ t .capacity
+
+pub small : (t : Keyed) (rows store : List ℕ) → Fits t rows store → Small t
+small t rows store f = record { some = f .some-capacity; capacity = f .capacity; count = f .count }
+
+module _ (t : Keyed) (m : Small t) (rows : List ℕ) (z : ℕ) (b : z < slots t) where
+  -- the home of a live row's word
+  home-slot : (row : ℕ) → LiveAt t rows row → slotFrom (slots t) z (lineHome t rows z (word (keyAt t rows row) row)) ≡ home (slots t) (keyAt t rows row)
+  unfolding lineHome homeOf
+  home-slot row live =
+      let k : row < 2 ^ 17 - 1 = omega (arith, live .0) in
+      let e = word-row (keyAt t rows row) row k in
+      rw e (away-slot (slots t) z (home (slots t) (keyAt t rows row)) b (home-below (slots t) (keyAt t rows row) (omega arith)))
+
+  home-in : (w : ℕ) → lineHome t rows z w < slots t
+  unfolding lineHome
+  home-in w = away-below (slots t) z (homeOf t rows w) (omega arith)
+
+  module _ (store : List ℕ) where
+    -- a row that stands d slots from its home stands d places after its home on the line: the way does not go round past z
+    on-line : (row d : ℕ) → LiveAt t rows row → getD store z 0 ≡ 0 → StandsAt (slots t) store (keyAt t rows row) row d
+        → lineHome t rows z (word (keyAt t rows row) row) + d < slots t
+    on-line row d live free s =
+        elim (decLt (k + d) (slots t)) [
+          | yes h ↦ h
+          | no h ↦ elim (decLt (slots t - k) d) [
+            | yes i ↦ absurd (s .way (slots t - k) i (ap (λ (x : ℕ). getD store x 0) back ∙ free))
+            | no i ↦
+                let e : d ≡ slots t - k = omega (arith, home-in w) in
+                let f : w ≡ 0 = sym (s .there) ∙ ap (λ (x : ℕ). getD store (slotFrom (slots t) (home (slots t) (keyAt t rows row)) x) 0) e ∙ ap (λ (x : ℕ). getD store x 0) back ∙ free in
+                absurd (omega (arith, word-pos (keyAt t rows row) row))
+          ]
+        ]
+      where
+        w : ℕ
+        w = word (keyAt t rows row) row
+
+        k : ℕ
+        k = lineHome t rows z w
+
+        back : slotFrom (slots t) (home (slots t) (keyAt t rows row)) (slots t - k) ≡ z
+        back =
+            let e : k + (slots t - k) ≡ slots t = omega (arith, home-in w) in
+            ap (λ (x : ℕ). slotFrom (slots t) x (slots t - k)) (sym (home-slot row live)) ∙ slot-then (slots t) z k (slots t - k) ∙ ap (slotFrom (slots t) z) e ∙ slot-round (slots t) z b
+
+    -- each slot from the home on, as a place of the line
+    from-home : (row e : ℕ) → LiveAt t rows row
+        → slotFrom (slots t) (home (slots t) (keyAt t rows row)) e ≡ slotFrom (slots t) z (lineHome t rows z (word (keyAt t rows row) row) + e)
+    from-home row e live = ap (λ (x : ℕ). slotFrom (slots t) x e) (sym (home-slot row live)) ∙ slot-then (slots t) z _ e
+
+    -- a word's place, by its distance from its home
+    Reached : ℕ → ℕ → Type 0
+    Reached p k = (d : ℕ) × (k + d ≡ p) × ((e : ℕ) → e < d → line (slots t) z store (k + e) ≡ 0 → ⊥)
+
+    reached : KeysSound t rows store → getD store z 0 ≡ 0 → (p : ℕ) → p < slots t → 0 < line (slots t) z store p → Reached p (lineHome t rows z (line (slots t) z store p))
+    unfolding line Reached
+    reached s free p h c =
+        let i = slot-below (slots t) z p (omega arith) in
+        let o = s .only-live (slotFrom (slots t) z p) i c in
+        let row = o .0 in
+        let live = o .1 in
+        let f = s .leads row live in
+        let d = f .0 in
+        let w = word (keyAt t rows row) row in
+        let k = lineHome t rows z w in
+        let j : k + d < slots t = on-line row d live free (f .1) in
+        let there : getD store (slotFrom (slots t) z (k + d)) 0 ≡ w = ap (λ (x : ℕ). getD store x 0) (sym (from-home row d live)) ∙ f .1 .there in
+        let same : slotFrom (slots t) z p ≡ slotFrom (slots t) z (k + d) = s .once (slotFrom (slots t) z p) (slotFrom (slots t) z (k + d)) i (slot-below (slots t) z (k + d) (omega arith)) c (o .2 ∙ sym there) in
+        rw (o .2)
+        (d, sym (slot-one (slots t) z p (k + d) b h j same), λ e g q. f .1 .way e g (ap (λ (x : ℕ). getD store x 0) (from-home row e live) ∙ q))
+
+    pub unroll : KeysSound t rows store → getD store z 0 ≡ 0 → Line (slots t) (lineHome t rows z) (Stored t rows) (line (slots t) z store)
+    unfolding line Reached
+    unroll s free =
+        record {
+          free = ap (λ (x : ℕ). getD store x 0) (slot-zero (slots t) z b) ∙ free;
+          only = λ p h c. s .only-live (slotFrom (slots t) z p) (slot-below (slots t) z p (omega arith)) c;
+          once = λ p q h k c e. slot-one (slots t) z p q b h k (s .once _ _ (slot-below (slots t) z p (omega arith)) (slot-below (slots t) z q (omega arith)) c e);
+          all = λ w m.
+              let f = s .leads (m .0) (m .1) in
+              let k = lineHome t rows z (word (keyAt t rows (m .0)) (m .0)) in
+              (k + f .0, on-line (m .0) (f .0) (m .1) free (f .1), ap (λ (x : ℕ). getD store x 0) (sym (from-home (m .0) (f .0) (m .1))) ∙ f .1 .there ∙ sym (m .2));
+          after = λ p h c. let f = reached s free p h c in omega (arith, f .1);
+          way = λ p h c q i j.
+              let k = lineHome t rows z (getD store (slotFrom (slots t) z p) 0) in
+              let f = reached s free p h c in
+              elim (ℕ-discrete q p) [
+                | yes e ↦ rw e c
+                | no e ↦
+                    let g : k + (q - k) ≡ q = omega arith in
+                    let u : getD store (slotFrom (slots t) z q) 0 ≡ 0 → ⊥ = λ v. f .2 (q - k) (omega (arith, f .1)) (ap (λ (x : ℕ). getD store (slotFrom (slots t) z x) 0) g ∙ v) in
+                    omega arith
+              ];
+        }
+
+    pub roll : Line (slots t) (lineHome t rows z) (Stored t rows) (line (slots t) z store) → KeysSound t rows store
+    unfolding line
+    roll s =
+        record {
+          only-live = λ slot h c. let e = at slot h in rw e at (s .only (away (slots t) z slot) (away-below (slots t) z slot (omega arith)) (rw e c));
+          once = λ i j h k c e.
+              let p = at i h in
+              let q = at j k in
+              let u = s .once (away (slots t) z i) (away (slots t) z j) (away-below (slots t) z i (omega arith)) (away-below (slots t) z j (omega arith)) (rw p c) (rw (p, q) e) in
+              sym p ∙ ap (slotFrom (slots t) z) u ∙ q;
+          leads = λ row live. lead row live (s .all (word (keyAt t rows row) row) (row, live, refl));
+        }
+      where
+        at : (slot : ℕ) → slot < slots t → slotFrom (slots t) z (away (slots t) z slot) ≡ slot
+        at slot h = away-slot (slots t) z slot b h
+
+        lead : (row : ℕ) → LiveAt t rows row → (p : ℕ) × (p < slots t) × (getD store (slotFrom (slots t) z p) 0 ≡ word (keyAt t rows row) row)
+            → (d : ℕ) × StandsAt (slots t) store (keyAt t rows row) row d
+        lead row live f =
+            let w = word (keyAt t rows row) row in
+            let k = lineHome t rows z w in
+            let p = f .0 in
+            let c : 0 < getD store (slotFrom (slots t) z p) 0 = rw (f .2) (word-pos (keyAt t rows row) row) in
+            let i : k ≤ p = rw (f .2) at (s .after p (f .1) c) in
+            let g : k + (p - k) ≡ p = omega arith in (
+              p - k,
+              record {
+                below = omega (arith, f .1);
+                there = ap (λ (x : ℕ). getD store x 0) (from-home row (p - k) live) ∙ ap (λ (x : ℕ). getD store (slotFrom (slots t) z x) 0) g ∙ f .2;
+                way = λ e j v.
+                    let u : k ≤ k + e = omega arith in
+                    let o = s .way p (f .1) c (k + e) (rw (f .2) u) (omega arith) in
+                    let y : getD store (slotFrom (slots t) z (k + e)) 0 ≡ 0 = ap (λ (x : ℕ). getD store x 0) (sym (from-home row e live)) ∙ v in
+                    omega arith;
+              },
+            )
+
+-- ---- the walk, a slot at a time
+
+module _ (t : Keyed) (rows : List ℕ) where
+  -- the slot after, the word there, and how far its home lies before it
+  abbrev pub after : ℕ → ℕ
+  after at = slotFrom (slots t) at 1
+
+  abbrev pub moved : ℕ → List ℕ → ℕ
+  moved at store = away (slots t) (homeOf t rows (getD store (after at) 0)) (after at)
+
+  module _ (left hole gap at : ℕ) (store : List ℕ) where
+    pub closed-spent : left ≤ 0 → closed t rows left hole gap at store ≡ set store hole 0
+    unfolding closed
+    closed-spent h = let e : left ≡ 0 = omega arith in rw e
+
+    pub closed-stop : 0 < left → namesRow t (getD store (after at) 0) ≡ false → closed t rows left hole gap at store ≡ set store hole 0
+    unfolding closed
+    closed-stop h e = let f : left ≡ suc (left - 1) = omega arith in rw (f, e)
+
+    pub closed-stay : 0 < left → namesRow t (getD store (after at) 0) ≡ true → moved at store < gap + 1
+        → closed t rows left hole gap at store ≡ closed t rows (left - 1) hole (gap + 1) (after at) store
+    unfolding closed
+    closed-stay h e i =
+        let f : left ≡ suc (left - 1) = omega arith in
+        ap (λ (k : ℕ). closed t rows k hole gap at store) f ∙ rw (e, lt-ltb (moved at store) (gap + 1) i)
+
+    pub closed-move : 0 < left → namesRow t (getD store (after at) 0) ≡ true → gap + 1 ≤ moved at store
+        → closed t rows left hole gap at store ≡ closed t rows (left - 1) (after at) 0 (after at) (set store hole (getD store (after at) 0))
+    unfolding closed
+    closed-move h e i =
+        let f : left ≡ suc (left - 1) = omega arith in
+        ap (λ (k : ℕ). closed t rows k hole gap at store) f ∙ rw (e, le-ltb (moved at store) (gap + 1) i)
+
+  -- it keeps the length, and what lies past the slots
+  pub closed-length : (left hole gap at : ℕ) (store : List ℕ) → length (closed t rows left hole gap at store) ≡ length store
+  unfolding closed
+  closed-length zero hole gap at store = length-set store hole 0
+  closed-length (suc left) hole gap at store =
+      let next = slotFrom (slots t) at 1 in
+      let w = getD store next 0 in
+      elim (split (namesRow t w)) [
+        | inl e ↦ elim (split (ltb (away (slots t) (homeOf t rows w) next) (gap + 1))) [
+          | inl f ↦ rw (e, f) (closed-length left hole (gap + 1) next store)
+          | inr f ↦ rw (e, f) (closed-length left next 0 next (set store hole w) ∙ length-set store hole w)
+        ]
+        | inr e ↦ rw e (length-set store hole 0)
+      ]
+
+  pub closed-rest : (left hole gap at : ℕ) (store : List ℕ) → hole < slots t → drop (slots t) (closed t rows left hole gap at store) ≡ drop (slots t) store
+  unfolding closed
+  closed-rest zero hole gap at store h = drop-set-lt (slots t) store hole 0 h
+  closed-rest (suc left) hole gap at store h =
+      let next = slotFrom (slots t) at 1 in
+      let w = getD store next 0 in
+      elim (split (namesRow t w)) [
+        | inl e ↦ elim (split (ltb (away (slots t) (homeOf t rows w) next) (gap + 1))) [
+          | inl f ↦ rw (e, f) (closed-rest left hole (gap + 1) next store h)
+          | inr f ↦ rw (e, f) (closed-rest left next 0 next (set store hole w) (slot-below (slots t) at 1 (omega arith)) ∙ drop-set-lt (slots t) store hole w h)
+        ]
+        | inr e ↦ rw e (drop-set-lt (slots t) store hole 0 h)
+      ]
+
+  module _ (Held : ℕ → Type 0) (names : (w : ℕ) → Held w → namesRow t w ≡ true) (z : ℕ) (b : z < slots t) (m : Small t) where
+    -- how far a word's home lies before a place of the line
+    word-far : (w a : ℕ) → lineHome t rows z w ≤ a → a < slots t → away (slots t) (homeOf t rows w) (slotFrom (slots t) z a) ≡ a - lineHome t rows z w
+    unfolding lineHome homeOf
+    word-far w a i h =
+        let key = keyAt t rows (rowOf w) in
+        let e = away-slot (slots t) z (home (slots t) key) b (home-below (slots t) key (omega arith)) in
+        ap (λ (k : ℕ). away (slots t) k (slotFrom (slots t) z a)) (sym e) ∙ away-line (slots t) z (away (slots t) z (home (slots t) key)) a b i h
+
+    -- the walk over a line with a hole at place g, gone through up to place a, leaves a line without one
+    Walked : ℕ → Type 0
+    Walked left =
+        (g a hole gap at : ℕ) (store : List ℕ) → slots t ≤ length store → hole ≡ slotFrom (slots t) z g → gap + g ≡ a → at ≡ slotFrom (slots t) z a
+        → slots t ≤ left + a → Gap (slots t) (lineHome t rows z) Held (line (slots t) z store) g a
+        → Line (slots t) (lineHome t rows z) Held (line (slots t) z (closed t rows left hole gap at store))
+
+    walked-on : (left : ℕ) → Walked left → Walked (suc left)
+    unfolding Walked
+    walked-on left more g a hole gap at store long x y u enough s = go (decLt (a + 1) (slots t)) (ℕ-discrete (getD store (after at) 0) 0)
+      where
+        next : after at ≡ slotFrom (slots t) z (a + 1)
+        next = ap (λ (k : ℕ). slotFrom (slots t) k 1) u ∙ slot-then (slots t) z a 1
+
+        there : getD store (after at) 0 ≡ line (slots t) z store (a + 1)
+        there = unfold line in ap (λ (k : ℕ). getD store k 0) next
+
+        less : suc left - 1 ≡ left
+        less = omega arith
+
+        -- nothing stands next
+        stop : getD store (after at) 0 ≡ 0 → Line (slots t) (lineHome t rows z) Held (line (slots t) z (closed t rows (suc left) hole gap at store))
+        stop e =
+            rw (closed-stop (suc left) hole gap at store (omega arith) (names-zero t _ e), x)
+            (gap-close (slots t) (lineHome t rows z) Held (line (slots t) z store) g a s _ (λ k. sym there ∙ e) (line-put (slots t) z store g 0 b (omega (arith, s .order, s .end)) long))
+
+        -- a word stands next
+        step : a + 1 < slots t → (getD store (after at) 0 ≡ 0 → ⊥) → Line (slots t) (lineHome t rows z) Held (line (slots t) z (closed t rows (suc left) hole gap at store))
+        step h e =
+            let w = getD store (after at) 0 in
+            let k = lineHome t rows z w in
+            let d = moved at store in
+            let c : 0 < line (slots t) z store (a + 1) = rw (← there) (omega arith) in
+            let ne : a + 1 ≡ g → ⊥ = omega (arith, s .order) in
+            let n = names w (rw (← there) at (s .only (a + 1) h ne c)) in
+            let i : k ≤ a + 1 = rw (← there) at (s .after (a + 1) h ne c) in
+            let q : d ≡ a + 1 - k = ap (away (slots t) (homeOf t rows w)) next ∙ word-far w (a + 1) i h in
+            elim (decLt d (gap + 1)) [
+              | yes v ↦
+                  let j : g < lineHome t rows z (line (slots t) z store (a + 1)) = rw (← there) (omega arith) in
+                  rw (closed-stay (suc left) hole gap at store (omega arith) n v, less)
+                  (more g (a + 1) hole (gap + 1) (after at) store long x (omega arith) next (omega arith) (gap-stay (slots t) (lineHome t rows z) Held (line (slots t) z store) g a s h j))
+              | no v ↦
+                  let j : lineHome t rows z (line (slots t) z store (a + 1)) ≤ g = rw (← there) (omega arith) in
+                  let p = line-put (slots t) z store g w b (omega (arith, s .order, s .end)) long in
+                  rw (closed-move (suc left) hole gap at store (omega arith) n (omega arith), less)
+                  (more (a + 1) (a + 1) (after at) 0 (after at) (set store hole w) (simp length-set long) next (omega arith) next (omega arith)
+                  (rw x (gap-move (slots t) (lineHome t rows z) Held (line (slots t) z store) g a s _ h c j (rw (← there) p))))
+            ]
+
+        go : Dec (a + 1 < slots t) → Dec (getD store (after at) 0 ≡ 0) → Line (slots t) (lineHome t rows z) Held (line (slots t) z (closed t rows (suc left) hole gap at store))
+        go h (yes e) = stop e
+        go (yes h) (no e) = step h e
+        go (no h) (no e) =
+            let k : a + 1 ≡ slots t = omega (arith, s .end) in
+            absurd (e (ap (λ (i : ℕ). getD store i 0) (next ∙ ap (slotFrom (slots t) z) k ∙ slot-round (slots t) z b ∙ sym (slot-zero (slots t) z b)) ∙ (unfold line in s .free)))
+
+    walked : (left : ℕ) → Walked left
+    walked zero = unfold Walked in λ g a hole gap at store long x y u enough s. absurd (omega (arith, s .end))
+    walked (suc left) = walked-on left (walked left)
+
+-- ---- a row that is marked dead
+
+module _ (t : Keyed) (rows store : List ℕ) (f : Fits t rows store) (r : ℕ) (live : LiveAt t rows r) where
+  -- the other rows are as they were
+  other-row : (row : ℕ) → (row ≡ r → ⊥) → rowAt (t .columns) row (set rows (r * t .columns) 4294967295) ≡ rowAt (t .columns) row rows
+  other-row row ne =
+      rw add-zero at (rowAt-set-other (t .columns) r row 0 rows 4294967295 (λ e. ne (sym e)) (omega (arith, f .some-columns)))
+
+  dead-row : LiveAt t (set rows (r * t .columns) 4294967295) r → ⊥
+  unfolding isLive isDead
+  dead-row q =
+      let i : r * t .columns < length rows = omega (arith, row-in r (t .capacity) (t .columns) (omega (arith, live .0, f .count)), f .cells, f .some-columns) in
+      let first : getD (set rows (r * t .columns) 4294967295) (r * t .columns + 0) 0 ≡ 4294967295 = rw add-zero (getD-set-same rows (r * t .columns) 4294967295 0 i) in
+      let e = getD-rowAt (t .columns) r (set rows (r * t .columns) 4294967295) 0 0 (omega (arith, f .some-columns)) ∙ first in
+      let no : not (eqb (getD (rowAt (t .columns) r (set rows (r * t .columns) 4294967295)) 0 0) 4294967295) ≡ false = rw (eq-eqb _ _ e) in
+      false≢true (sym no ∙ q .1)
+
+  other-live : (row : ℕ) → LiveAt t (set rows (r * t .columns) 4294967295) row → row ≡ r → ⊥
+  other-live row q e = dead-row (rw e at q)
+
+  live-on : (row : ℕ) → (row ≡ r → ⊥) → LiveAt t rows row → LiveAt t (set rows (r * t .columns) 4294967295) row
+  live-on row ne q = (q .0, rw (other-row row ne) (q .1))
+
+  live-back : (row : ℕ) → LiveAt t (set rows (r * t .columns) 4294967295) row → LiveAt t rows row
+  live-back row q = (q .0, rw (other-row row (other-live row q)) at (q .1))
+
+  same-key : (row : ℕ) → (row ≡ r → ⊥) → keyAt t (set rows (r * t .columns) 4294967295) row ≡ keyAt t rows row
+  same-key row ne = ap (take (t .keys)) (other-row row ne)
+
+  -- the words to be held are those from before, without the row's
+  stored-on : (w : ℕ) → Stored t rows w → (w ≡ word (keyAt t rows r) r → ⊥) → Stored t (set rows (r * t .columns) 4294967295) w
+  stored-on w s ne =
+      let k : s .0 ≡ r → ⊥ = λ e. ne (s .2 ∙ ap (λ (i : ℕ). word (keyAt t rows i) i) e) in
+      (s .0, live-on (s .0) k (s .1), rw (same-key (s .0) k) (s .2))
+
+  stored-back : (w : ℕ) → Stored t (set rows (r * t .columns) 4294967295) w → Stored t rows w
+  stored-back w s = let k = other-live (s .0) (s .1) in (s .0, live-back (s .0) (s .1), rw (same-key (s .0) k) at (s .2))
+
+  row-small : (row : ℕ) → row < t .rows → row < 2 ^ 17 - 1
+  row-small row h = omega (arith, f .count, f .capacity)
+
+  stored-out : Stored t (set rows (r * t .columns) 4294967295) (word (keyAt t rows r) r) → ⊥
+  stored-out s =
+      let k = other-live (s .0) (s .1) in
+      k (sym (word-row _ (s .0) (row-small (s .0) (s .1 .0))) ∙ sym (ap rowOf (s .2)) ∙ word-row (keyAt t rows r) r (row-small r (live .0)))
+
+  stored-names : (w : ℕ) → Stored t (set rows (r * t .columns) 4294967295) w → namesRow t w ≡ true
+  stored-names w s = rw (s .2) (names-word t _ (s .0) (s .1 .0) (row-small (s .0) (s .1 .0)))
+
+  same-home : (z w : ℕ) → Stored t (set rows (r * t .columns) 4294967295) w → lineHome t rows z w ≡ lineHome t (set rows (r * t .columns) 4294967295) z w
+  unfolding lineHome homeOf
+  same-home z w s =
+      let k = other-live (s .0) (s .1) in
+      let e : rowOf w ≡ s .0 = ap rowOf (s .2) ∙ word-row _ (s .0) (row-small (s .0) (s .1 .0)) in
+      rw (e, same-key (s .0) k)
+
+  -- "Freed slots are used again": once the gap is closed the store leads to exactly the other live rows
+  pub take-out-sound : KeysSound t rows store → FreeSlot t store → (slot : ℕ) → slot < slots t → getD store slot 0 ≡ word (keyAt t rows r) r
+      → KeysSound t (set rows (r * t .columns) 4294967295) (closed t rows (slots t) slot 0 slot store)
+  unfolding Walked
+  take-out-sound s free slot h e =
+      let z = free .0 in
+      let b = free .1 in
+      let m = small t rows store f in
+      let rows′ = set rows (r * t .columns) 4294967295 in
+      let g = away (slots t) z slot in
+      let at : slotFrom (slots t) z g ≡ slot = away-slot (slots t) z slot b h in
+      let there : line (slots t) z store g ≡ word (keyAt t rows r) r = line-at (slots t) z store g slot at ∙ e in
+      let gap = gap-open (slots t) (lineHome t rows z) (Stored t rows) (Stored t rows′) (line (slots t) z store) g (away-below (slots t) z slot (omega arith)) (rw there (word-pos (keyAt t rows r) r))
+      (λ w q ne. stored-on w q (λ v. ne (v ∙ sym there))) (λ w q. stored-back w q) (λ q. stored-out (rw there at q)) (unroll t m rows z b store s (free .2)) in
+      let done = walked t rows (Stored t rows′) (λ w q. stored-names w q) z b m (slots t) g g slot 0 slot store (f .long) (sym at) (omega arith) (sym at) (omega arith) gap in
+      roll t m rows′ z b (closed t rows (slots t) slot 0 slot store) (line-homes (slots t) (lineHome t rows z) (Stored t rows′) (lineHome t rows′ z) _ (λ w q. same-home z w q) done)

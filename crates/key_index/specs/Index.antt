@@ -1,0 +1,116 @@
+-- What the functions of the key index promise. Assumes nothing.
+use Prim.Native.Nat.{ℕ, zero, suc, _*_, _≤_, _<_}
+use mathlib.Core.Path.{_≡_}
+use mathlib.Core.Bool.{Bool, true, false, _&&_}
+use mathlib.Core.List.{List}
+use lib.ListN.{length, getD, set, drop, replicate}
+use Rattle.lists.specs.Lists.{putAt, rowAt, same}
+use Rattle.cells.specs.Cells.{compact, keyHash}
+use Rattle.constraints.specs.Constraints.{isLive}
+use Rattle.key_index.specs.declared.Keyed.{Keyed}
+use Rattle.key_index.specs.declared.Found.{Found}
+use Rattle.key_index.specs.declared.Found.the-variants.{None, At}
+use Rattle.key_index.specs.Slots.{LiveAt, keyAt, slots, word, slotFrom, KeysSound}
+use Rattle.key_index.specs.Ring.{spread, tagged}
+
+-- a key store is long enough for a capacity
+pub record Room (capacity : ℕ) (store : List ℕ) : Type 0 where
+  pub some : 1 ≤ capacity
+  pub most : capacity ≤ 65536
+  pub long : 2 * capacity ≤ length store
+
+-- a table's rows lie in their store, and a key is as wide as theirs
+pub record RowsFit (t : Keyed) (rows key : List ℕ) : Type 0 where
+  pub most-columns : t .columns ≤ 8
+  pub most-keys : t .keys ≤ t .columns
+  pub most : t .capacity ≤ 65536
+  pub count : t .rows ≤ t .capacity
+  pub cells : t .capacity * t .columns ≤ length rows
+  pub width : length key ≡ t .keys
+
+-- a table's numbers are within their bounds, and its stores long enough
+pub record Fits (t : Keyed) (rows store : List ℕ) : Type 0 where
+  pub some-columns : 1 ≤ t .columns
+  pub most-columns : t .columns ≤ 8
+  pub some-keys : 1 ≤ t .keys
+  pub most-keys : t .keys ≤ t .columns
+  pub some : 1 ≤ t .capacity
+  pub most : t .capacity ≤ 65536
+  pub count : t .rows ≤ t .capacity
+  pub cells : t .capacity * t .columns ≤ length rows
+  pub long : 2 * t .capacity ≤ length store
+
+-- a slot's word leads to a row below the count that has this key, and has the bits of this hash
+pub record Leads (t : Keyed) (rows key : List ℕ) (hash w row : ℕ) : Type 0 where
+  pub tag : w ≡ tagged hash row
+  pub below : row < t .rows
+  pub cells : keyAt t rows row ≡ key
+
+-- the answer whether it does: the word says which row
+pub record HitIs (t : Keyed) (rows key : List ℕ) (hash w row : ℕ) (r : Bool) : Type 0 where
+  pub yes : r ≡ true → Leads t rows key hash w row
+  pub no : r ≡ false → (i : ℕ) → Leads t rows key hash w i → ⊥
+
+-- the live row that has a key, and its slot
+pub record FoundAt (t : Keyed) (rows store key : List ℕ) (row slot : ℕ) : Type 0 where
+  pub live : LiveAt t rows row
+  pub key-is : keyAt t rows row ≡ key
+  pub slot-in : slot < slots t
+  pub word-is : getD store slot 0 ≡ word key row
+
+-- What a lookup finds. On any store it answers with a row and a slot that there are; the rest is promised of a sound store
+-- and the key's own hash.
+pub record FoundIs (t : Keyed) (rows store key : List ℕ) (hash : ℕ) (r : Found) : Type 0 where
+  pub row-in : (row slot : ℕ) → r ≡ At row slot → row < t .rows
+  pub slot-in : (row slot : ℕ) → r ≡ At row slot → slot < slots t
+  pub none : hash ≡ compact (keyHash key) → KeysSound t rows store → r ≡ None → (i : ℕ) → LiveAt t rows i → keyAt t rows i ≡ key → ⊥
+  pub at : hash ≡ compact (keyHash key) → KeysSound t rows store → (row slot : ℕ) → r ≡ At row slot → FoundAt t rows store key row slot
+
+-- the d-th slot from a slot is the first free one
+pub record FirstFree (n : ℕ) (store : List ℕ) (start d : ℕ) : Type 0 where
+  pub below : d < n
+  pub free : getD store (slotFrom n start d) 0 ≡ 0
+  pub way : (e : ℕ) → e < d → getD store (slotFrom n start e) 0 ≡ 0 → ⊥
+
+-- a word is put into the first free slot from the hash's home on, if there is one
+pub record PutIs (n : ℕ) (store : List ℕ) (hash row : ℕ) (r : Bool) (store′ : List ℕ) : Type 0 where
+  pub yes : r ≡ true → (d : ℕ) × FirstFree n store (spread n hash) d × (store′ ≡ set store (slotFrom n (spread n hash) d) (tagged hash row))
+  pub full : r ≡ false → (slot : ℕ) → slot < n → getD store slot 0 ≡ 0 → ⊥
+  pub kept : r ≡ false → store′ ≡ store
+  pub tail : drop n store′ ≡ drop n store
+
+-- n free slots
+abbrev pub zeros : ℕ → List ℕ
+zeros n = replicate n 0
+
+-- all slots are free, and what stands past them is as it was
+pub record EmptyIs (capacity : ℕ) (store store′ : List ℕ) : Type 0 where
+  pub free : store′ ≡ putAt store 0 (zeros (2 * capacity))
+  pub tail : drop (2 * capacity) store′ ≡ drop (2 * capacity) store
+
+-- ---- the scan that a lookup is to agree with
+
+pub data Scanned : Type 0 where
+  nothing : Scanned
+  row : ℕ → Scanned
+
+-- row i is live and has this key
+unfoldable pub matches : Keyed → List ℕ → List ℕ → ℕ → Bool
+matches t rows key i = isLive (rowAt (t .columns) i rows) && same (keyAt t rows i) key
+
+unfoldable pub pick : Bool → Scanned → Scanned → Scanned
+pick true a b = a
+pick false a b = b
+
+-- the first of n rows from row i on that is live and has this key
+unfoldable pub scanFrom : Keyed → List ℕ → List ℕ → ℕ → ℕ → Scanned
+scanFrom t rows key i zero = nothing
+scanFrom t rows key i (suc n) = pick (matches t rows key i) (row i) (scanFrom t rows key (suc i) n)
+
+unfoldable pub scan : Keyed → List ℕ → List ℕ → Scanned
+scan t rows key = scanFrom t rows key 0 (t .rows)
+
+-- the row of an answer, without its slot
+abbrev pub rowOf : Found → Scanned
+rowOf None = nothing
+rowOf (At r s) = row r

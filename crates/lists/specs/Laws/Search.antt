@@ -1,0 +1,149 @@
+-- Laws of searches in a rising list: how many numbers are below t is the first place whose number is not; and of writing
+-- what was found, one after another. Assumes nothing.
+use Prim.Native.Nat.{ℕ, zero, suc, _+_, _-_, _≤_, _<_, suc-le-suc}
+use mathlib.Core.Path.{_≡_, refl, sym, ap, _∙_}
+use mathlib.Core.Logic.{inl, inr}
+use mathlib.Core.Bool.{Bool, true, false}
+use mathlib.Core.List.{List, [], _∷_, _++_, append-nil}
+use native.Mathlib.Decide.{decLt}
+use native.Mathlib.Omega.{arith}
+use lib.Dec.{ltb}
+use lib.ListN.{length, take, drop, getD, set, length-drop, take-append-drop}
+use lib.Seq.{getD-drop, take-append-seam}
+use borrow.Author.Tests.{lt-ltb, le-ltb}
+use Rattle.lists.specs.Lists.{putAt, keep, count, rising, has, within}
+use Rattle.lists.specs.Laws.Parts.{length-putAt, putAt-then, set-putAt}
+use Rattle.lists.specs.Laws.Keep.{split, keep-no, keep-append, count-yes, count-no, count-le}
+use Rattle.lists.specs.Laws.Rising.{above-at, rising-tail, rising-at, rising-count-lt, keep-within-part, has-at, has-of}
+
+-- the first place whose number is not below t
+unfoldable pub place : ℕ → List ℕ → ℕ
+place t l = count (λ x. ltb x t) l
+
+pub place-le : (t : ℕ) (l : List ℕ) → place t l ≤ length l
+unfolding place
+place-le t l = count-le (λ x. ltb x t) l
+
+-- a number below t stands before it
+pub place-past : (t : ℕ) (l : List ℕ) → rising l ≡ true → (i : ℕ) → i < length l → getD l i 0 < t → i < place t l
+unfolding place
+place-past t [] e i h k = absurd (omega arith)
+place-past t (x ∷ xs) e zero h k = rw (count-yes (λ y. ltb y t) x xs (lt-ltb x t k)) (omega arith)
+place-past t (x ∷ xs) e (suc i) h k =
+    let a : x < getD xs i 0 = rising-at (x ∷ xs) e 0 (suc i) (omega arith) h in
+    let b : x < t = omega arith in
+    rw (count-yes (λ y. ltb y t) x xs (lt-ltb x t b)) (suc-le-suc (place-past t xs (rising-tail x xs e) i (omega arith) k))
+
+-- any other at it or after it
+pub place-upto : (t : ℕ) (l : List ℕ) → rising l ≡ true → (i : ℕ) → i < length l → t ≤ getD l i 0 → place t l ≤ i
+unfolding place
+place-upto t [] e i h k = absurd (omega arith)
+place-upto t (x ∷ xs) e zero h k =
+    let z : count (λ y. ltb y t) (x ∷ xs) ≡ 0 = rising-count-lt (x ∷ xs) t 0 (omega arith) (λ i a. absurd (omega arith)) none in
+    omega arith
+  where
+    none : (i : ℕ) → 0 ≤ i → i < length (x ∷ xs) → t ≤ getD (x ∷ xs) i 0
+    none zero a b = k
+    none (suc i) a b = let c : x < getD xs i 0 = above-at x xs (unfold rising in e) i (omega arith) in omega arith
+place-upto t (x ∷ xs) e (suc i) h k =
+    elim (decLt x t) [
+      | yes a ↦ rw (count-yes (λ y. ltb y t) x xs (lt-ltb x t a)) (suc-le-suc (place-upto t xs (rising-tail x xs e) i (omega arith) k))
+      | no a ↦ rw (count-no (λ y. ltb y t) x xs (le-ltb x t (omega arith))) (let b = place-upto t xs (rising-tail x xs e) i (omega arith) k in omega arith)
+    ]
+
+-- and the other way round
+pub place-below : (t : ℕ) (l : List ℕ) → rising l ≡ true → (i : ℕ) → i < place t l → getD l i 0 < t
+place-below t l e i h =
+    let n = place-le t l in
+    elim (decLt (getD l i 0) t) [
+      | yes a ↦ a
+      | no a ↦ absurd (let b = place-upto t l e i (omega arith) (omega arith) in omega arith)
+    ]
+
+pub place-above : (t : ℕ) (l : List ℕ) → rising l ≡ true → (i : ℕ) → place t l ≤ i → i < length l → t ≤ getD l i 0
+place-above t l e i h k =
+    elim (decLt (getD l i 0) t) [
+      | yes a ↦ absurd (let b = place-past t l e i k a in omega arith)
+      | no a ↦ omega arith
+    ]
+
+-- where the first n are below t, it is not among them
+pub place-from : (t : ℕ) (l : List ℕ) → rising l ≡ true → (n : ℕ) → n ≤ length l → ((i : ℕ) → i < n → getD l i 0 < t) → n ≤ place t l
+place-from t l e zero h f = omega arith
+place-from t l e (suc n) h f = place-past t l e n (omega arith) (f n (omega arith))
+
+-- a larger number's place is no earlier
+pub place-mono : (s t : ℕ) (l : List ℕ) → rising l ≡ true → s ≤ t → place s l ≤ place t l
+place-mono s t l e h = place-from t l e (place s l) (place-le s l) (λ i k. let a = place-below s l e i k in omega arith)
+
+-- where t itself stands is its place
+pub place-at : (t : ℕ) (l : List ℕ) → rising l ≡ true → (i : ℕ) → i < length l → getD l i 0 ≡ t → place t l ≡ i
+place-at t l e i h q =
+    let a = place-upto t l e i h (omega arith) in
+    elim (decLt (place t l) i) [
+      | yes b ↦
+          absurd
+          (let c = place-above t l e (place t l) (omega arith) (omega arith) in
+          let d = rising-at l e (place t l) i b h in
+          omega arith)
+      | no b ↦ omega arith
+    ]
+
+-- t is a member if it stands at its place, and only then
+pub has-place : (t : ℕ) (l : List ℕ) (i : ℕ) → i < length l → getD l i 0 ≡ t → has t l ≡ true
+has-place t l i h q = rw (← q) (has-of l i h)
+
+pub has-not-place : (t : ℕ) (l : List ℕ) → rising l ≡ true → (place t l < length l → getD l (place t l) 0 ≡ t → ⊥) → has t l ≡ false
+has-not-place t l e f =
+    elim (split (has t l)) [
+      | inl q ↦
+          let a = has-at t l q in
+          let b : place t l ≡ a .0 = place-at t l e (a .0) (a .1) (a .2) in
+          absurd (f (rw b (a .1)) (rw b (a .2)))
+      | inr q ↦ q
+    ]
+
+pub has-in-place : (t : ℕ) (l : List ℕ) → rising l ≡ true → has t l ≡ true → (place t l < length l) × (getD l (place t l) 0 ≡ t)
+has-in-place t l e q =
+    let a = has-at t l q in
+    let b : place t l ≡ a .0 = place-at t l e (a .0) (a .1) (a .2) in
+    (rw b (a .1), rw b (a .2))
+
+-- the ids kept are those between two places
+pub keep-within-places : (l : List ℕ) (a b : ℕ) → rising l ≡ true → a ≤ b → keep (within a b) l ≡ take (place b l - place a l) (drop (place a l) l)
+unfolding place
+keep-within-places l a b e h = keep-within-part l a b e h
+
+-- ---- what is kept from a place on
+
+module _ {A : Type 0} (test : A → Bool) (d : A) where
+  pub keep-nothing : (l : List A) → ((i : ℕ) → i < length l → test (getD l i d) ≡ false) → keep test l ≡ []
+  keep-nothing [] f = unfold keep in refl
+  keep-nothing (x ∷ xs) f = keep-no test x xs (f 0 (omega arith)) ∙ keep-nothing xs (λ i h. f (suc i) (suc-le-suc h))
+
+  -- nothing is kept from place i on
+  pub keep-stop : (l : List A) (i : ℕ) → ((k : ℕ) → i ≤ k → k < length l → test (getD l k d) ≡ false) → keep test (take i l) ≡ keep test l
+  keep-stop l i f =
+      let none : keep test (drop i l) ≡ [] = keep-nothing (drop i l) (λ k h. rw (getD-drop i l k d) (f (i + k) (omega arith) (let n = length-drop i l in omega arith))) in
+      sym
+      (ap (keep test) (sym (take-append-drop i l))
+      ∙ keep-append test (take i l) (drop i l)
+      ∙ ap (λ (x : List A). keep test (take i l) ++ x) none
+      ∙ append-nil (keep test (take i l)))
+
+-- ---- one more at the end of what is written
+
+pub put-more : {A : Type 0} (l w : List A) (n : ℕ) (x : A) → n ≡ length w → n < length l → set (putAt l 0 w) n x ≡ putAt l 0 (w ++ (x ∷ []))
+put-more l w n x e h =
+    let f : 0 + length w ≤ length l = omega arith in
+    let k : n < length (putAt l 0 w) = rw (length-putAt l w 0 f) h in
+    let m : n ≡ 0 + length w = omega arith in
+    let r : 0 + (length w + length (x ∷ [])) ≤ length l = omega arith in
+    set-putAt (putAt l 0 w) n x k
+    ∙ ap (λ (i : ℕ). putAt (putAt l 0 w) i (x ∷ [])) m
+    ∙ putAt-then l w (x ∷ []) 0 r
+
+-- what is written at the start is what stands there
+pub take-put : {A : Type 0} (l w : List A) → take (length w) (putAt l 0 w) ≡ w
+unfolding putAt
+take-put l w = take-append-seam w (drop (0 + length w) l)

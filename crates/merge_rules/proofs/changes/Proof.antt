@@ -1,0 +1,78 @@
+-- `merge_rules::changes` meets its contract. The loop's invariant: whether a cell changes from the start on is whether one
+-- does from column i on. Assumes nothing.
+use Prim.Native.Nat.{_-_, _≤_}
+use mathlib.Core.Path.{_≡_, refl, sym, _∙_}
+use borrow.Author.Needs.{needs}
+use lib.ListN.{length, drop}
+use Rattle.merge_rules.specs.Rules.{changesFrom}
+use Rattle.merge_rules.proofs.Laws.{old-ended, new-ended, changed, unchanged}
+use Rattle.merge_rules.proofs.changes.Statement.{statement}
+use Rattle.merge_rules.proofs.changes.Tie as tie
+
+abbrev Inv-loop : tie.InvT-loop
+Inv-loop rule keys sort old new i₀ i =
+    (i ≤ length old) × (changesFrom rule keys sort 0 old new ≡ changesFrom rule keys sort i (drop i old) (drop i new))
+
+abbrev μ-loop : tie.MeasureT-loop
+μ-loop rule keys sort old new i₀ i = length old - i
+
+loop-holds : tie.Need-loop-holds Inv-loop μ-loop
+loop-holds c = (search needs, refl)
+
+returns : tie.Need-returns Inv-loop μ-loop
+returns c = let l = c .before .before .loop in sym (l .inv .1 ∙ new-ended _ _ _ _ _ (l .i) (c .if1 .taken))
+
+mul-cell-changes : tie.Need-mul-cell-changes Inv-loop μ-loop
+mul-cell-changes c = search needs
+
+shared-slice-read-cell-changes : tie.Need-shared-slice-read-cell-changes Inv-loop μ-loop
+shared-slice-read-cell-changes c = search needs
+
+mul-cell-changes-2 : tie.Need-mul-cell-changes-2 Inv-loop μ-loop
+mul-cell-changes-2 c = search needs
+
+shared-slice-read-cell-changes-2 : tie.Need-shared-slice-read-cell-changes-2 Inv-loop μ-loop
+shared-slice-read-cell-changes-2 c = search needs
+
+cell-changes-requires : tie.Need-cell-changes-requires Inv-loop μ-loop
+cell-changes-requires c κs = search needs
+
+returns-2 : tie.Need-returns-2 Inv-loop μ-loop
+returns-2 c =
+    let l = c .before .before .before .before .before .before .loop in
+    sym (l .inv .1 ∙ changed _ _ _ _ _ (l .i) (c .before .before .before .before .before .loop-test .taken) (c .before .before .before .before .if1 .left) (c .before .cell-changes .result) (c .before .cell-changes .ensures) (c .if2 .taken))
+
+add-i : tie.Need-add-i Inv-loop μ-loop
+add-i c = search needs
+
+loop-less : tie.Need-loop-less Inv-loop μ-loop
+loop-less c = search needs
+
+loop-again : tie.Need-loop-again Inv-loop μ-loop
+loop-again c =
+    let l = c .before .before .before .before .before .before .loop in (
+      search needs,
+      l .inv .1 ∙ unchanged _ _ _ _ _ (l .i) (c .before .before .before .before .before .loop-test .taken) (c .before .before .before .before .if1 .left) (c .before .cell-changes .result) (c .before .cell-changes .ensures) (c .if2 .left),
+    )
+
+returns-3 : tie.Need-returns-3 Inv-loop μ-loop
+returns-3 c = let l = c .before .loop in sym (l .inv .1 ∙ old-ended _ _ _ _ _ (l .i) (c .loop-test .left))
+
+pub changes-spec : {M : Type 1} → statement M
+changes-spec =
+    tie.close
+    (tie.spec
+    Inv-loop
+    μ-loop
+    loop-holds
+    returns
+    mul-cell-changes
+    shared-slice-read-cell-changes
+    mul-cell-changes-2
+    shared-slice-read-cell-changes-2
+    cell-changes-requires
+    returns-2
+    add-i
+    loop-less
+    loop-again
+    returns-3)

@@ -1,0 +1,100 @@
+-- A borrowed subset by its kind: which are well-formed, their sizes and ends; and lists of like length. Assumes nothing.
+use Prim.Native.Nat.{ℕ, suc, _+_, _-_, _*_, _/_, _≤_, _<_}
+use mathlib.Core.Path.{_≡_, refl, sym, ap, _∙_}
+use mathlib.Core.Bool.{Bool, true, false, _&&_, and-false, and-true}
+use mathlib.Core.List.{List, [], _∷_}
+use native.Mathlib.Omega.{arith}
+use lib.Dec.{leb}
+use lib.ListN.{length, getD}
+use borrow.Author.Tests.{le-leb, lt-leb}
+use Rattle.lists.specs.Lists.{rising}
+use Rattle.offsets.specs.declared.SubsetHead.{SubsetHead}
+use Rattle.offsets.specs.declared.BoundsAnswer.the-variants.{None, Ends}
+use Rattle.offsets.specs.Subsets.{range, list, wellFormed, size, lastOf, ends, bounds}
+use Rattle.offsets.specs.Ends.{boundsOf}
+use Rattle.offsets.specs.Laws.{lastOf-getD}
+use Rattle.offsets.specs.Answers.{subsetOf}
+use Rattle.offsets.specs.Common.{alike}
+
+module _ (head : SubsetHead) (ids : List ℕ) where
+  pub dense-is : head .dense ≡ true → subsetOf head ids ≡ range (head .start) (head .end)
+  unfolding subsetOf
+  dense-is e = rw e
+
+  pub sparse-is : head .dense ≡ false → subsetOf head ids ≡ list ids
+  unfolding subsetOf
+  sparse-is e = rw e
+
+  pub formed-range : head .dense ≡ true → leb (head .start) (head .end) ≡ wellFormed (subsetOf head ids)
+  unfolding wellFormed
+  formed-range e = rw (dense-is e)
+
+  pub formed-long : head .dense ≡ false → 65536 < length ids → false ≡ wellFormed (subsetOf head ids)
+  unfolding wellFormed
+  formed-long e h = rw (sparse-is e, lt-leb (length ids) 65536 h) (sym (and-false (rising ids)))
+
+  pub formed-list : head .dense ≡ false → length ids ≤ 65536 → rising ids ≡ wellFormed (subsetOf head ids)
+  unfolding wellFormed
+  formed-list e h = rw (sparse-is e, le-leb (length ids) 65536 h) (sym (and-true (rising ids)))
+
+-- ---- like lengths, half by half
+
+module _ (a b : ℕ) where
+  pub half-yes : (r : Bool) → a ≤ 16 → r ≡ leb b 16 → r ≡ (leb a 16 && leb b 16)
+  half-yes r h e = rw (le-leb a 16 h) e
+
+  pub half-no : (r : Bool) → 16 < a → r ≡ leb a 16 → r ≡ (leb a 16 && leb b 16)
+  half-no r h e = e ∙ rw (lt-leb a 16 h)
+
+  pub alike-short : (r : Bool) → r ≡ (leb a 16 && leb b 16) → r ≡ true → r ≡ alike a b
+  unfolding alike
+  alike-short r e q = let z : (leb a 16 && leb b 16) ≡ true = sym e ∙ q in rw z q
+
+  pub alike-upper : (r : Bool) → r ≡ (leb a 16 && leb b 16) → r ≡ false → a / 4 ≤ b → leb b (a * 4) ≡ alike a b
+  unfolding alike
+  alike-upper r e q h = let z : (leb a 16 && leb b 16) ≡ false = sym e ∙ q in rw (z, le-leb (a / 4) b h)
+
+  pub alike-not : (r : Bool) → r ≡ (leb a 16 && leb b 16) → r ≡ false → b < a / 4 → leb (a / 4) b ≡ alike a b
+  unfolding alike
+  alike-not r e q h = let z : (leb a 16 && leb b 16) ≡ false = sym e ∙ q in rw (z, lt-leb (a / 4) b h)
+
+-- ---- size and ends, by kind
+
+said-ends : (start end : ℕ) → boundsOf (Ends start end) ≡ ends start end
+unfolding boundsOf
+said-ends start end = refl
+
+bounds-cons : (x : ℕ) (xs : List ℕ) → ends x (lastOf x xs + 1) ≡ bounds (list (x ∷ xs))
+unfolding bounds
+bounds-cons x xs = refl
+
+module _ (head : SubsetHead) (ids : List ℕ) where
+  pub size-range : head .dense ≡ true → head .end - head .start ≡ size (subsetOf head ids)
+  unfolding size
+  size-range e = rw (dense-is head ids e)
+
+  pub size-list : head .dense ≡ false → length ids ≡ size (subsetOf head ids)
+  unfolding size
+  size-list e = rw (sparse-is head ids e)
+
+  pub bounds-range : head .dense ≡ true → boundsOf (Ends (head .start) (head .end)) ≡ bounds (subsetOf head ids)
+  unfolding bounds boundsOf
+  bounds-range e = rw (dense-is head ids e)
+
+  pub bounds-none : head .dense ≡ false → length ids ≡ 0 → boundsOf None ≡ bounds (subsetOf head ids)
+  bounds-none e h = rw (sparse-is head ids e) (go ids h)
+    where
+      go : (l : List ℕ) → length l ≡ 0 → boundsOf None ≡ bounds (list l)
+      go [] h = unfold bounds boundsOf in refl
+      go (x ∷ xs) h = absurd (omega arith)
+
+  pub bounds-list : head .dense ≡ false → (length ids ≡ 0 → ⊥) → boundsOf (Ends (getD ids 0 0) (getD ids (length ids - 1) 0 + 1)) ≡ bounds (subsetOf head ids)
+  bounds-list e h = rw (sparse-is head ids e) (go ids h)
+    where
+      go : (l : List ℕ) → (length l ≡ 0 → ⊥) → boundsOf (Ends (getD l 0 0) (getD l (length l - 1) 0 + 1)) ≡ bounds (list l)
+      go [] h = absurd (h refl)
+      go (x ∷ xs) h =
+          let k : suc (length xs) - 1 ≡ length xs = omega arith in
+          said-ends x (getD (x ∷ xs) (suc (length xs) - 1) 0 + 1)
+          ∙ ap (λ (n : ℕ). ends x (n + 1)) (ap (λ (i : ℕ). getD (x ∷ xs) i 0) k ∙ sym (lastOf-getD x xs))
+          ∙ bounds-cons x xs

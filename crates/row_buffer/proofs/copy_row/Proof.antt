@@ -1,0 +1,74 @@
+-- `row_buffer::copy_row` meets its contract. The loop's invariant: the first i cells are the row's, the others as they
+-- were. Assumes nothing.
+use Prim.Native.Nat.{ℕ, _-_, _≤_}
+use mathlib.Core.Path.{_≡_, refl, ap, _∙_}
+use mathlib.Core.List.{List, _++_}
+use borrow.Author.Needs.{needs}
+use native.Mathlib.Omega.{arith}
+use lib.ListN.{length, take, drop, set, getD, length-set}
+use lib.Seq.{take-length}
+use Rattle.lists.specs.Laws.More.{copy-step}
+use Rattle.row_buffer.proofs.copy_row.Statement.{statement}
+use Rattle.row_buffer.proofs.copy_row.Tie as tie
+
+abbrev Inv-loop : tie.InvT-loop
+Inv-loop part₀ row i₀ part i = (i ≤ length row) × (length part ≡ length part₀) × (part ≡ take i row ++ drop i part₀)
+
+abbrev μ-loop : tie.MeasureT-loop
+μ-loop part₀ row i₀ part i = length row - i
+
+loop-holds : tie.Need-loop-holds Inv-loop μ-loop
+loop-holds c = (search needs, refl, refl)
+
+mul-part : tie.Need-mul-part Inv-loop μ-loop
+mul-part c = search needs
+
+shared-slice-read-part : tie.Need-shared-slice-read-part Inv-loop μ-loop
+shared-slice-read-part c = search needs
+
+mul-part-2 : tie.Need-mul-part-2 Inv-loop μ-loop
+mul-part-2 c = search needs
+
+slice-write-part : tie.Need-slice-write-part Inv-loop μ-loop
+slice-write-part c = search needs
+
+add-i : tie.Need-add-i Inv-loop μ-loop
+add-i c = search needs
+
+loop-less : tie.Need-loop-less Inv-loop μ-loop
+loop-less c = search needs
+
+loop-again : tie.Need-loop-again Inv-loop μ-loop
+loop-again c =
+    let l = c .before .before in
+    let a = l .before .args in (
+      search needs,
+      simp length-set (l .loop .inv .1),
+      ap (λ (d : List ℕ). set d (l .loop .i) (getD (a .row .now) (l .loop .i) 0)) (l .loop .inv .2) ∙ copy-step (a .row .now) (a .part .now) (l .loop .i) 0 (omega arith) (omega arith),
+    )
+
+same-length : tie.Need-same-length Inv-loop μ-loop
+same-length c = search needs
+
+returns : tie.Need-returns Inv-loop μ-loop
+returns c =
+    let a = c .before .before .args in
+    let e : c .before .loop .i ≡ length (a .row .now) = omega arith in
+    c .before .loop .inv .2 ∙ rw (e, take-length (a .row .now))
+
+pub copy-row-spec : {M : Type 1} → statement M
+copy-row-spec =
+    tie.close
+    (tie.spec
+    Inv-loop
+    μ-loop
+    loop-holds
+    mul-part
+    shared-slice-read-part
+    mul-part-2
+    slice-write-part
+    add-i
+    loop-less
+    loop-again
+    same-length
+    returns)

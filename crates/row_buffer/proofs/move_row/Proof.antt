@@ -1,0 +1,77 @@
+-- `row_buffer::move_row` meets its contract. The loop's invariant: the first i cells are those from the gap on, the others
+-- as they were. Assumes nothing.
+use Prim.Native.Nat.{ℕ, _+_, _-_, _≤_}
+use mathlib.Core.Path.{_≡_, refl, ap, _∙_}
+use mathlib.Core.List.{List}
+use borrow.Author.Needs.{needs}
+use native.Mathlib.Omega.{arith}
+use lib.ListN.{length, set, getD, length-set}
+use Rattle.row_buffer.proofs.Laws.{down, down-step}
+use Rattle.row_buffer.proofs.move_row.Statement.{statement}
+use Rattle.row_buffer.proofs.move_row.Tie as tie
+
+abbrev Inv-loop : tie.InvT-loop
+Inv-loop part₀ gap width i₀ part i = (i ≤ width) × (length part ≡ length part₀) × (part ≡ down part₀ gap i)
+
+abbrev μ-loop : tie.MeasureT-loop
+μ-loop part₀ gap width i₀ part i = width - i
+
+loop-holds : tie.Need-loop-holds Inv-loop μ-loop
+loop-holds c = (search needs, refl, refl)
+
+add-part : tie.Need-add-part Inv-loop μ-loop
+add-part c = search needs
+
+mul-part : tie.Need-mul-part Inv-loop μ-loop
+mul-part c = search needs
+
+slice-read-part : tie.Need-slice-read-part Inv-loop μ-loop
+slice-read-part c = search needs
+
+mul-part-2 : tie.Need-mul-part-2 Inv-loop μ-loop
+mul-part-2 c = search needs
+
+slice-write-part : tie.Need-slice-write-part Inv-loop μ-loop
+slice-write-part c = search needs
+
+add-i : tie.Need-add-i Inv-loop μ-loop
+add-i c = search needs
+
+loop-less : tie.Need-loop-less Inv-loop μ-loop
+loop-less c = search needs
+
+loop-again : tie.Need-loop-again Inv-loop μ-loop
+loop-again c =
+    let l = c .before .before in
+    let a = l .before .args in (
+      search needs,
+      simp length-set (l .loop .inv .1),
+      ap (λ (d : List ℕ). set d (l .loop .i) (getD d (a .gap + l .loop .i) 0)) (l .loop .inv .2) ∙ down-step (a .part .now) (a .gap) (l .loop .i) (omega arith),
+    )
+
+same-length : tie.Need-same-length Inv-loop μ-loop
+same-length c = search needs
+
+returns : tie.Need-returns Inv-loop μ-loop
+returns c =
+    let a = c .before .before .args in
+    let e : c .before .loop .i ≡ a .width = omega arith in
+    c .before .loop .inv .2 ∙ ap (down (a .part .now) (a .gap)) e
+
+pub move-row-spec : {M : Type 1} → statement M
+move-row-spec =
+    tie.close
+    (tie.spec
+    Inv-loop
+    μ-loop
+    loop-holds
+    add-part
+    mul-part
+    slice-read-part
+    mul-part-2
+    slice-write-part
+    add-i
+    loop-less
+    loop-again
+    same-length
+    returns)

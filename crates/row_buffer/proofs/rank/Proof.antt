@@ -1,0 +1,24 @@
+-- `row_buffer::rank` meets its contract. Assumes nothing.
+use Prim.Native.Nat.{ℕ, _+_}
+use mathlib.Core.Path.{ap}
+use borrow.Author.Needs.{needs}
+use native.Mathlib.Omega.{arith}
+use Rattle.row_buffer.specs.Laws.{setBelow-le}
+use Rattle.row_buffer.proofs.Laws.{shl-pos, counted}
+use Rattle.row_buffer.proofs.rank.Statement.{statement}
+use Rattle.row_buffer.proofs.rank.Tie as tie
+
+shl-below : tie.Need-shl-below
+shl-below c = search needs
+
+sub-below : tie.Need-sub-below
+sub-below c = shl-pos _ (c .pre .0)
+
+add-result : tie.Need-add-result
+add-result c = omega (arith, counted (c .args .live) (c .args .bit) (c .pre .0), setBelow-le (c .args .live) (c .args .bit))
+
+returns : tie.Need-returns
+returns c = ap (λ (n : ℕ). c .args .base + n) (counted (c .args .live) (c .args .bit) (c .pre .0))
+
+pub rank-spec : {M : Type 1} → statement M
+rank-spec = tie.close (tie.spec shl-below sub-below add-result returns)

@@ -1,0 +1,119 @@
+-- The turns of the binary search, and where a value stands by its result. Assumes nothing.
+use Prim.Native.Nat.{ℕ, _+_, _-_, _*_, _≤_, _<_}
+use mathlib.Core.Path.{_≡_, refl, sym, ap, ap₂, _∙_}
+use mathlib.Core.Logic.{_⊎_, inl, inr}
+use mathlib.Core.Bool.{Bool, true, false, cond}
+use mathlib.Core.List.{List}
+use native.Mathlib.Decide.{ℕ-discrete}
+use native.Mathlib.Omega.{arith}
+use lib.ListN.{length, drop, getD}
+use lib.Dec.{eqb}
+use borrow.Author.Tests.{ne-eqb}
+use Rattle.offsets.specs.Subsets.{Subset, range}
+use Rattle.sort_entries.specs.Entries.{entriesOf, firstRow, Place, found, absent, rangeAt, fastRange, entriesSound}
+use Rattle.sort_entries.specs.Laws.Stores.{length-entriesOf}
+use Rattle.sort_entries.specs.Laws.Sound.{valueOf, value-word, row-word, sound-facts, firstRow-drop, firstRow-past}
+use Rattle.sort_entries.specs.Laws.Ranges.{place-found, place-absent}
+use Rattle.sort_entries.specs.declared.Standing.the-variants.{Found, Absent}
+use Rattle.sort_entries.specs.declared.Standing.{Standing}
+use Rattle.sort_entries.specs.declared.Range.{Range}
+use Rattle.sort_entries.specs.Search.{Located, Stands, Ranged, standsAt, rangeOf}
+
+pub begin : (store : List ℕ) (n v : ℕ) → Located store n v 0 n
+begin store n v = record { order = omega arith; inside = omega arith; below = λ i e. absurd (omega arith); above = λ h. absurd (omega arith) }
+
+module _ (store : List ℕ) (n v lo hi : ℕ) (s : Located store n v lo hi) where
+  module _ (m : ℕ) (p : lo ≤ m) (q : m < hi) where
+    pub up : getD store (2 * m) 0 < v → Located store n v (m + 1) hi
+    up h =
+        record {
+          order = omega arith;
+          inside = s .inside;
+          below = λ i e. let z : i ≡ m = omega arith in rw z h;
+          above = s .above;
+        }
+
+    pub down : v ≤ getD store (2 * m) 0 → Located store n v lo m
+    down h = let i = s .inside in record { order = p; inside = omega arith; below = s .below; above = λ k. h }
+
+  pub met : hi ≤ lo → Located store n v lo lo
+  met h =
+      let o = s .order in
+      let i = s .inside in
+      let z : hi ≡ lo = omega arith in
+      record { order = omega arith; inside = omega arith; below = s .below; above = rw z at (s .above) }
+
+-- ---- the row of the entry at a place
+
+pub row-at : (store : List ℕ) (n rows k : ℕ) → k < n → getD store (2 * k + 1) 0 ≡ firstRow (drop k (entriesOf n store)) rows
+row-at store n rows k h =
+    let q : k < length (entriesOf n store) = rw (length-entriesOf n store) h in
+    sym (firstRow-drop (entriesOf n store) k rows q ∙ row-word store n k h)
+
+pub row-past : (store : List ℕ) (n rows k : ℕ) → n ≤ k → rows ≡ firstRow (drop k (entriesOf n store)) rows
+row-past store n rows k h =
+    let q : length (entriesOf n store) ≤ k = rw (length-entriesOf n store) h in
+    sym (firstRow-past (entriesOf n store) k rows q)
+
+-- ---- where the value stands
+
+module _ (store : List ℕ) (n rows v at : ℕ) (l : Located store n v at at) where
+  inside : at ≤ length (entriesOf n store)
+  inside = rw (length-entriesOf n store) (l .inside)
+
+  -- the entries before the place are below the value: the last of them is, and values rise
+  before : entriesSound (entriesOf n store) rows ≡ true → (i : ℕ) → i < at → valueOf (entriesOf n store) i < v
+  before s i h =
+      let r = sound-facts (entriesOf n store) rows s in
+      let z : at - 1 + 1 ≡ at = omega arith in
+      let m = l .inside in
+      let a = l .below (at - 1) z in
+      let b = value-word store n (at - 1) (omega arith) in
+      elim (ℕ-discrete i (at - 1)) [
+        | yes e ↦ rw e (omega arith)
+        | no e ↦
+            let k : at - 1 < length (entriesOf n store) = rw (length-entriesOf n store) (omega arith) in
+            let c = r .rise i (at - 1) (omega arith) k in
+            omega arith
+      ]
+
+  pub stands-found : (first next : ℕ) → first ≡ firstRow (drop at (entriesOf n store)) rows → next ≡ firstRow (drop (at + 1) (entriesOf n store)) rows
+      → at < n → getD store (2 * at) 0 ≡ v → Stands store n rows v (Found first next)
+  stands-found first next p q h e =
+      record {
+        is = λ s.
+            let k : at < length (entriesOf n store) = rw (length-entriesOf n store) h in
+            ap₂ found p q ∙ sym (place-found v (entriesOf n store) rows at inside (before s) k (value-word store n at h ∙ e));
+      }
+
+  pub stands-absent : (first : ℕ) → first ≡ firstRow (drop at (entriesOf n store)) rows → (at < n → getD store (2 * at) 0 ≡ v → ⊥) → Stands store n rows v (Absent first)
+  stands-absent first p ne =
+      record {
+        is = λ s. ap absent p ∙ sym (place-absent v (entriesOf n store) rows at inside (before s) over);
+      }
+    where
+      over : at < length (entriesOf n store) → v < valueOf (entriesOf n store) at
+      over k =
+          let h : at < n = rw (length-entriesOf n store) at k in
+          let a = l .above h in
+          let b = value-word store n at h in
+          let c = ne h in
+          omega arith
+
+-- ---- the last arm of the ranges without an entry of the value: kinds 3 and 5 alike
+
+either-way : (t : Bool) (s : Subset) → s ≡ cond t s s
+either-way true s = refl
+either-way false s = refl
+
+pub absent-rest : (kind g rows : ℕ) → (kind ≡ 1 → ⊥) → ((kind ≡ 2) ⊎ (kind ≡ 4) → ⊥) → range g rows ≡ rangeAt kind (absent g) rows
+unfolding rangeAt
+absent-rest kind g rows a b =
+    rw (ne-eqb kind 1 a, ne-eqb kind 2 (λ e. b (inl e)), ne-eqb kind 4 (λ e. b (inr e))) (either-way (eqb kind 3) (range g rows))
+
+-- ---- the fast range
+
+pub ranged : (store : List ℕ) (n rows kind v : ℕ) (s t : Standing) (r : Range) → Stands store n rows v s → s ≡ t → rangeOf r ≡ rangeAt kind (standsAt t) rows → Ranged store n rows kind v r
+unfolding fastRange
+ranged store n rows kind v s t r p q e =
+    record { is = λ sound. e ∙ ap (λ (x : Standing). rangeAt kind (standsAt x) rows) (sym q) ∙ ap (λ (x : Place). rangeAt kind x rows) (p .is sound) }

@@ -1,0 +1,2 @@
+pub mod LawsSearch
+pub mod LawsCheck

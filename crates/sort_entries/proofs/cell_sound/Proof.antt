@@ -1,0 +1,64 @@
+-- `sort_entries::cell_sound` meets its contract. Assumes nothing.
+use Prim.Native.Nat.{_+_, _*_, _≤_, _<_}
+use mathlib.Core.Path.{sym, _∙_}
+use native.Mathlib.Nat.{mul-le-mul}
+use native.Mathlib.Omega.{arith}
+use lib.ListN.{length}
+use borrow.Author.Needs.{needs}
+use Rattle.lists.specs.Laws.Rows.{row-in}
+use Rattle.sort_entries.proofs.LawsCheck.{dead-row, live-row}
+use Rattle.sort_entries.proofs.cell_sound.Tie as tie
+use Rattle.sort_entries.proofs.cell_sound.Statement.{statement}
+
+-- the row lies in the store, which is small
+inside : (s : tie.Start) → let a = s .args in (a .row * a .columns + a .columns ≤ length (a .store .now)) × (a .row * a .columns + a .columns ≤ 524288) × (a .sort < a .columns)
+inside s =
+    let a = s .args in
+    let p = row-in (a .row) (a .rows) (a .columns) (s .pre .1) in
+    let q = mul-le-mul (s .pre .0 .few) (s .pre .0 .narrow) in
+    (omega (arith, s .pre .0), omega (arith, s .pre .0), s .pre .0 .column)
+
+mul-at : tie.Need-mul-at
+mul-at c = omega (arith, inside (c .before))
+
+cast-at : tie.Need-cast-at
+cast-at c = omega (arith, inside (c .before))
+
+mul-is-stale : tie.Need-mul-is-stale
+mul-is-stale c = omega (arith, inside (c .before))
+
+shared-slice-read-is-stale : tie.Need-shared-slice-read-is-stale
+shared-slice-read-is-stale c = omega (arith, inside (c .before .before))
+
+is-stale-requires : tie.Need-is-stale-requires
+is-stale-requires c κs = search needs
+
+returns : tie.Need-returns
+returns c = dead-row _ _ _ _ _ (omega (arith, c .before .before .before .before .pre)) (sym (c .before .is-stale .ensures) ∙ c .if1 .taken)
+
+add-cell : tie.Need-add-cell
+add-cell c = omega (arith, inside (c .before .before .before .before))
+
+mul-cell : tie.Need-mul-cell
+mul-cell c = omega (arith, inside (c .before .before .before .before))
+
+shared-slice-read-cell : tie.Need-shared-slice-read-cell
+shared-slice-read-cell c = omega (arith, inside (c .before .before .before .before .before))
+
+returns-2 : tie.Need-returns-2
+returns-2 c = live-row _ _ _ _ _ (c .before .before .before .before .before .pre .0 .column) (sym (c .before .before .is-stale .ensures) ∙ c .before .if1 .left)
+
+pub cell-sound-spec : {M : Type 1} → statement M
+cell-sound-spec =
+    tie.close
+    (tie.spec
+    mul-at
+    cast-at
+    mul-is-stale
+    shared-slice-read-is-stale
+    is-stale-requires
+    returns
+    add-cell
+    mul-cell
+    shared-slice-read-cell
+    returns-2)

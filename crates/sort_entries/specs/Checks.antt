@@ -1,0 +1,49 @@
+-- What the checks of entries and of sort cells promise. Assumes nothing.
+use Prim.Native.Nat.{ℕ, _+_, _*_, _≤_, _<_}
+use mathlib.Core.Path.{_≡_}
+use mathlib.Core.Bool.{Bool, true, false, not, _||_}
+use mathlib.Core.List.{List, [], _∷_}
+use lib.ListN.{length, drop, getD}
+use lib.Dec.{eqb}
+use Rattle.lists.specs.Lists.{every, countFrom, rowAt}
+use Rattle.constraints.specs.Constraints.{isLive}
+use Rattle.sort_entries.specs.Entries.{Entry, entriesOf, valueAt}
+
+-- an answer tells whether a claim holds
+pub record Told (claim : Type 0) (r : Bool) : Type 0 where
+  pub yes : r ≡ true → claim
+  pub no : r ≡ false → claim → ⊥
+
+-- the entry at place i lies below the row count, and above the one before it
+pub record Follows (store : List ℕ) (rows i : ℕ) : Type 0 where
+  pub inside : getD store (2 * i + 1) 0 < rows
+  pub value : (k : ℕ) → k + 1 ≡ i → getD store (2 * k) 0 < getD store (2 * i) 0
+  pub row : (k : ℕ) → k + 1 ≡ i → getD store (2 * k + 1) 0 < getD store (2 * i + 1) 0
+
+-- the first entry's value
+unfoldable pub headValue : List Entry → ℕ
+headValue [] = 0
+headValue (e ∷ es) = e .value
+
+-- at place r and after it stands what later rows have to look at, and the entry there holds for this row
+pub record Advanced (store : List ℕ) (n from row r : ℕ) : Type 0 where
+  pub inside : r ≤ n
+  pub later : (j : ℕ) → row ≤ j → valueAt j (drop from (entriesOf n store)) ≡ valueAt j (drop r (entriesOf n store))
+  pub here : valueAt row (drop r (entriesOf n store)) ≡ headValue (drop r (entriesOf n store))
+
+-- the row store has the cells of its rows, and the sort column is a column
+pub record Cells (store : List ℕ) (columns sort rows : ℕ) : Type 0 where
+  pub narrow : columns ≤ 8
+  pub column : sort < columns
+  pub few : rows ≤ 65536
+  pub words : rows * columns ≤ length store
+
+-- a row is dead, or its sort cell is this value
+unfoldable pub cellSound : List ℕ → ℕ → ℕ → ℕ → ℕ → Bool
+cellSound store columns sort row value =
+    not (isLive (rowAt columns row store)) || eqb (getD (rowAt columns row store) sort 0) value
+
+-- "each live sort cell is the value of the last entry at or below its row"
+unfoldable pub cellsSound : List ℕ → ℕ → ℕ → ℕ → List Entry → Bool
+cellsSound store columns sort rows es =
+    every (λ row. cellSound store columns sort row (valueAt row es)) (countFrom 0 rows)

@@ -1,0 +1,8 @@
+-- What may be relied on of the definitions of Entries.antt.
+pub mod Stores
+pub mod Push
+pub mod Sound
+pub mod Ranges
+pub mod Rebuilt
+pub mod Cells
+pub mod Values

@@ -1,0 +1,52 @@
+-- Laws of appending: the entries after one more row, and the rebuilt ones. Assumes nothing.
+use Prim.Native.Nat.{ℕ, suc, _+_}
+use mathlib.Core.Path.{_≡_, refl, sym, ap, _∙_}
+use mathlib.Core.Logic.{inl, inr}
+use mathlib.Core.Bool.{Bool, true, false, true≢false}
+use mathlib.Core.List.{List, [], _∷_, _++_}
+use native.Mathlib.Nat.{zero-add, add-zero}
+use native.Mathlib.Omega.{arith}
+use lib.ListN.{length}
+use lib.Dec.{leb, ltb}
+use borrow.Author.Tests.{ltb-true, le-leb}
+use Rattle.lists.specs.Laws.Keep.{split}
+use Rattle.sort_entries.specs.Entries.{Entry, entry, last, admits, push, pushAll, rebuilt}
+
+pub push-new : (value row : ℕ) (es : List Entry) → last (λ v. ltb v value) es ≡ true → push value row es ≡ es ++ (entry value row ∷ [])
+unfolding push
+push-new value row es e = rw e
+
+pub push-same : (value row : ℕ) (es : List Entry) → last (λ v. ltb v value) es ≡ false → push value row es ≡ es
+unfolding push
+push-same value row es e = rw e
+
+pub pushAll-snoc : (row : ℕ) (vs : List ℕ) (v : ℕ) (es : List Entry) → pushAll row (vs ++ (v ∷ [])) es ≡ push v (row + length vs) (pushAll row vs es)
+unfolding pushAll
+pushAll-snoc row [] v es = ap (λ (r : ℕ). push v r es) (sym (add-zero row))
+pushAll-snoc row (x ∷ vs) v es =
+    let e : suc row + length vs ≡ row + suc (length vs) = omega arith in
+    pushAll-snoc (suc row) vs v (push x row es) ∙ ap (λ (r : ℕ). push v r (pushAll (suc row) vs (push x row es))) e
+
+pub rebuilt-snoc : (vs : List ℕ) (v : ℕ) → rebuilt (vs ++ (v ∷ [])) ≡ push v (length vs) (rebuilt vs)
+unfolding rebuilt
+rebuilt-snoc vs v = pushAll-snoc 0 vs v [] ∙ ap (λ (r : ℕ). push v r (pushAll 0 vs [])) (zero-add (length vs))
+
+-- a test that passes wherever another does
+last-weaker : (s t : ℕ → Bool) → ((v : ℕ) → s v ≡ true → t v ≡ true) → (es : List Entry) → last s es ≡ true → last t es ≡ true
+unfolding last
+last-weaker s t f [] e = refl
+last-weaker s t f (a ∷ []) e = f (a .value) e
+last-weaker s t f (a ∷ b ∷ es) e = last-weaker s t f (b ∷ es) e
+
+-- a value that rises is admitted
+pub rises-admits : (value : ℕ) (es : List Entry) → last (λ v. ltb v value) es ≡ true → admits value es ≡ true
+unfolding admits
+rises-admits value es e = last-weaker (λ v. ltb v value) (λ v. leb v value) (λ v q. let h = ltb-true v value q in le-leb v value (omega arith)) es e
+
+-- a value below the last one leaves the entries as they are
+pub push-below : (value row : ℕ) (es : List Entry) → admits value es ≡ false → push value row es ≡ es
+push-below value row es e =
+    elim (split (last (λ v. ltb v value) es)) [
+      | inl q ↦ absurd (true≢false (sym (rises-admits value es q) ∙ e))
+      | inr q ↦ push-same value row es q
+    ]

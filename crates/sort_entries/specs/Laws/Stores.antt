@@ -1,0 +1,137 @@
+-- Laws of the pairs that a store holds: their words, one pair more, and a pair written. Assumes nothing.
+use Prim.Native.Nat.{ℕ, zero, suc, _+_, _-_, _*_, _≤_, _<_}
+use mathlib.Core.Path.{_≡_, refl, sym, ap, ap₂, _∙_}
+use mathlib.Core.Bool.{Bool, true}
+use mathlib.Core.List.{List, [], _∷_, _++_, append-nil}
+use native.Mathlib.Numerals.{add-one}
+use native.Mathlib.Omega.{arith}
+use lib.ListN.{length, take, drop, getD, length-drop}
+use lib.Seq.{getD-drop, getD-take, take-add, ext-getD}
+use Rattle.lists.specs.Lists.{putAt}
+use Rattle.lists.specs.Laws.Parts.{take-putAt, getD-putAt-in}
+use Rattle.sort_entries.specs.Entries.{Entry, entry, entriesOf, words, last}
+
+-- the pair at place i of a store
+unfoldable pub pairAt : ℕ → List ℕ → Entry
+pairAt i store = entry (getD store (2 * i) 0) (getD store (2 * i + 1) 0)
+
+pub length-words : (es : List Entry) → length (words es) ≡ 2 * length es
+unfolding words
+length-words [] = refl
+length-words (e ∷ es) = let h = length-words es in omega arith
+
+pub length-entriesOf : (n : ℕ) (store : List ℕ) → length (entriesOf n store) ≡ n
+unfolding entriesOf
+length-entriesOf zero store = refl
+length-entriesOf (suc n) store = ap suc (length-entriesOf n (drop 2 store))
+
+-- pairs are read back as they were written
+pub entriesOf-words : (es : List Entry) (rest : List ℕ) → entriesOf (length es) (words es ++ rest) ≡ es
+unfolding entriesOf words
+entriesOf-words [] rest = refl
+entriesOf-words (e ∷ es) rest = ap (λ (l : List Entry). e ∷ l) (entriesOf-words es rest)
+
+pub entriesOf-put : (es : List Entry) (store : List ℕ) (n : ℕ) → n ≡ length es → entriesOf n (putAt store 0 (words es)) ≡ es
+unfolding putAt
+entriesOf-put es store n e = rw e (entriesOf-words es (drop (0 + length (words es)) store))
+
+-- two words are taken at a time
+take-two : (n : ℕ) (store : List ℕ) → 2 ≤ length store → getD store 0 0 ∷ getD store 1 0 ∷ take n (drop 2 store) ≡ take (2 + n) store
+take-two n [] h = absurd (omega arith)
+take-two n (x ∷ []) h = absurd (omega arith)
+take-two n (x ∷ y ∷ store) h = sym (take-add 2 n (x ∷ y ∷ store))
+
+pub words-entriesOf : (n : ℕ) (store : List ℕ) → 2 * n ≤ length store → words (entriesOf n store) ≡ take (2 * n) store
+unfolding entriesOf words
+words-entriesOf zero store h = refl
+words-entriesOf (suc n) store h =
+    let k : 2 * n ≤ length (drop 2 store) = simp length-drop (omega arith) in
+    let e : 2 + 2 * n ≡ 2 * suc n = omega arith in
+    ap (λ (l : List ℕ). getD store 0 0 ∷ getD store 1 0 ∷ l) (words-entriesOf n (drop 2 store) k)
+    ∙ take-two (2 * n) store (omega arith)
+    ∙ ap (λ (k : ℕ). take k store) e
+
+-- the pair at a place is the pair one place before in the store without its first
+pub pairAt-suc : (i : ℕ) (store : List ℕ) → pairAt i (drop 2 store) ≡ pairAt (suc i) store
+unfolding pairAt
+pairAt-suc i store =
+    let a : 2 + 2 * i ≡ 2 * suc i = omega arith in
+    let b : 2 + (2 * i + 1) ≡ 2 * suc i + 1 = omega arith in
+    rw (getD-drop 2 store (2 * i) 0, getD-drop 2 store (2 * i + 1) 0, a, b)
+
+pub getD-entriesOf : (n : ℕ) (store : List ℕ) (i : ℕ) (d : Entry) → i < n → getD (entriesOf n store) i d ≡ pairAt i store
+unfolding entriesOf
+getD-entriesOf zero store i d h = absurd (omega arith)
+getD-entriesOf (suc n) store zero d h = unfold pairAt in refl
+getD-entriesOf (suc n) store (suc i) d h = getD-entriesOf n (drop 2 store) i d (omega arith) ∙ pairAt-suc i store
+
+-- the words of the pair at place i
+pub pairAt-words : (es : List Entry) (i : ℕ) (d : Entry) (rest : List ℕ) → i < length es → pairAt i (words es ++ rest) ≡ getD es i d
+pairAt-words es i d rest h = sym (getD-entriesOf (length es) (words es ++ rest) i d h) ∙ ap (λ (l : List Entry). getD l i d) (entriesOf-words es rest)
+
+pub getD-words-value : (es : List Entry) (i : ℕ) (d : Entry) → i < length es → getD (words es) (2 * i) 0 ≡ getD es i d .value
+unfolding pairAt
+getD-words-value es i d h = ap (λ (l : List ℕ). getD l (2 * i) 0) (sym (append-nil (words es))) ∙ ap (λ (e : Entry). e .value) (pairAt-words es i d [] h)
+
+pub getD-words-row : (es : List Entry) (i : ℕ) (d : Entry) → i < length es → getD (words es) (2 * i + 1) 0 ≡ getD es i d .row
+unfolding pairAt
+getD-words-row es i d h = ap (λ (l : List ℕ). getD l (2 * i + 1) 0) (sym (append-nil (words es))) ∙ ap (λ (e : Entry). e .row) (pairAt-words es i d [] h)
+
+entriesOf-suc : (n : ℕ) (store : List ℕ) → entriesOf (suc n) store ≡ entriesOf n store ++ (pairAt n store ∷ [])
+unfolding entriesOf
+entriesOf-suc zero store = unfold pairAt in refl
+entriesOf-suc (suc n) store =
+    ap (λ (l : List Entry). entry (getD store 0 0) (getD store 1 0) ∷ l)
+    (entriesOf-suc n (drop 2 store) ∙ ap (λ (e : Entry). entriesOf n (drop 2 store) ++ (e ∷ [])) (pairAt-suc n store))
+
+-- one pair more
+pub entriesOf-snoc : (n : ℕ) (store : List ℕ) → entriesOf (n + 1) store ≡ entriesOf n store ++ (entry (getD store (2 * n) 0) (getD store (2 * n + 1) 0) ∷ [])
+unfolding pairAt
+entriesOf-snoc n store = rw (add-one n) (entriesOf-suc n store)
+
+-- stores that begin alike hold the same pairs there
+pub entriesOf-same : (n : ℕ) (l m : List ℕ) → take (2 * n) l ≡ take (2 * n) m → entriesOf n l ≡ entriesOf n m
+entriesOf-same n l m e = ext-getD (entry 0 0) (entriesOf n l) (entriesOf n m) (simp length-entriesOf) each
+  where
+    word : (k : ℕ) → k < 2 * n → getD l k 0 ≡ getD m k 0
+    word k h = sym (getD-take (2 * n) l k 0 h) ∙ ap (λ (s : List ℕ). getD s k 0) e ∙ getD-take (2 * n) m k 0 h
+
+    each : (i : ℕ) → i < length (entriesOf n l) → getD (entriesOf n l) i (entry 0 0) ≡ getD (entriesOf n m) i (entry 0 0)
+    each i h =
+        let k : i < n = omega (arith, length-entriesOf n l) in
+        let p : pairAt i l ≡ pairAt i m = unfold pairAt in ap₂ entry (word (2 * i) (omega arith)) (word (2 * i + 1) (omega arith)) in
+        getD-entriesOf n l i (entry 0 0) k ∙ p ∙ sym (getD-entriesOf n m i (entry 0 0) k)
+
+-- what is written past the pairs
+pub entriesOf-before : (n : ℕ) (l w : List ℕ) (at : ℕ) → 2 * n ≤ at → at + length w ≤ length l → entriesOf n (putAt l at w) ≡ entriesOf n l
+entriesOf-before n l w at h k = entriesOf-same n (putAt l at w) l (take-putAt l w at k (2 * n) h)
+
+-- a pair written right after them
+pub entriesOf-appended : (n : ℕ) (l : List ℕ) (value row : ℕ) → 2 * n + 2 ≤ length l
+    → entriesOf (n + 1) (putAt l (2 * n) (value ∷ row ∷ [])) ≡ entriesOf n l ++ (entry value row ∷ [])
+entriesOf-appended n l value row h =
+    let w : List ℕ = value ∷ row ∷ [] in
+    let z : 2 * n ≡ 2 * n + 0 = omega arith in
+    let a : getD (putAt l (2 * n) w) (2 * n) 0 ≡ value = ap (λ (k : ℕ). getD (putAt l (2 * n) w) k 0) z ∙ getD-putAt-in l w (2 * n) h 0 0 (omega arith) in
+    let b : getD (putAt l (2 * n) w) (2 * n + 1) 0 ≡ row = getD-putAt-in l w (2 * n) h 1 0 (omega arith) in
+    entriesOf-snoc n (putAt l (2 * n) w)
+    ∙ ap₂ (λ (es : List Entry) (e : Entry). es ++ (e ∷ [])) (entriesOf-before n l w (2 * n) (omega arith) h) (ap₂ entry a b)
+
+-- ---- the last pair
+
+pub last-snoc : (test : ℕ → Bool) (es : List Entry) (e : Entry) → last test (es ++ (e ∷ [])) ≡ test (e .value)
+unfolding last
+last-snoc test [] e = refl
+last-snoc test (a ∷ []) e = refl
+last-snoc test (a ∷ b ∷ es) e = last-snoc test (b ∷ es) e
+
+-- it is read at the place before the count
+pub last-entriesOf : (test : ℕ → Bool) (n : ℕ) (store : List ℕ) → 0 < n → last test (entriesOf n store) ≡ test (getD store (2 * (n - 1)) 0)
+last-entriesOf test zero store h = absurd (omega arith)
+last-entriesOf test (suc n) store h =
+    let z : suc n - 1 ≡ n = omega arith in
+    rw z (ap (last test) (entriesOf-suc n store) ∙ last-snoc test (entriesOf n store) (pairAt n store) ∙ unfold pairAt in refl)
+
+pub last-none : (test : ℕ → Bool) (n : ℕ) (store : List ℕ) → n ≡ 0 → last test (entriesOf n store) ≡ true
+unfolding last entriesOf
+last-none test n store e = rw e

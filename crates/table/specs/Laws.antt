@@ -1,0 +1,8 @@
+-- What may be relied on of a table's definitions.
+pub mod Stored
+pub mod Shown
+pub mod Pending
+pub mod Ladders
+pub mod Staging
+pub mod Sound
+pub mod Lookup

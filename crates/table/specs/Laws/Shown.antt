@@ -1,0 +1,129 @@
+-- What the stores of a table that shows a plain table say of each row, and what its header and lengths pass. Assumes
+-- nothing.
+use Prim.Native.Nat.{ℕ, _*_, _≤_, _<_}
+use mathlib.Core.Path.{_≡_, refl, sym, ap, _∙_}
+use mathlib.Core.Bool.{true, false, not, _||_}
+use mathlib.Core.List.{List, [], map}
+use native.Mathlib.Nat.{mul-le-mul-right}
+use native.Mathlib.Omega.{arith}
+use lib.Dec.{leb, ltb, eqb}
+use lib.ListN.{length, getD, length-map}
+use borrow.Author.Tests.{ltb-false, le-ltb, le-leb, eqb-true}
+use Rattle.lists.specs.Lists.{rowAt, rowsOf}
+use Rattle.lists.specs.Laws.Rows.{widths, length-rowsOf, getD-rowsOf, rowsOf-widths}
+use Rattle.lists.specs.Laws.Entries.{every-weaker}
+use Rattle.lists.specs.Laws.Table.{or-no-left, or-no-right}
+use Rattle.key_index.specs.Slots.{LiveAt}
+use Rattle.sort_entries.specs.Laws.Rebuilt.{rebuilt-few}
+use Rattle.plain.specs.Staged.{Opening}
+use Rattle.plain.specs.Plain.{Plain, Lengths, storesShort}
+use Rattle.plain.specs.Proper.{Proper, rowOf}
+use Rattle.plain.specs.Laws.Rows.{live-below}
+use Rattle.plain.specs.Laws.Proper.{openable-bounds}
+use Rattle.plain.specs.Laws.Live.{dead-le}
+use Rattle.table.specs.declared.Header.{Header}
+use Rattle.table.specs.Refusing.{outside}
+use Rattle.table.specs.Stores.{entries, headerOf, stored, Shows}
+use Rattle.table.specs.Sound.{keyedOf}
+use Rattle.table.specs.Promises.{Stores, lengths, Represents}
+use Rattle.table.specs.Laws.Stored.{RowShown, stored-shown, shown-stored}
+
+-- ---- the lengths of the stores
+
+-- test 2 is passed
+pub record LongEnough (o : Opening) (rows keys sorts : ℕ) : Type 0 where
+  pub rows-long : o .capacity * o .columns ≤ rows
+  pub keys-long : 2 * o .capacity ≤ keys
+  pub sorts-long : 2 * o .capacity ≤ sorts
+
+-- stores that are not short
+pub stores-long : (o : Opening) (l : Lengths) → storesShort o l ≡ false → LongEnough o (l .rows) (l .keys) (l .sorts)
+unfolding storesShort
+stores-long o l e =
+    let a = or-no-left (ltb (l .rows) (o .capacity * o .columns) || ltb (l .keys) (2 * o .capacity)) _ e in
+    record {
+      rows-long = ltb-false _ _ (or-no-left (ltb (l .rows) (o .capacity * o .columns)) _ a);
+      keys-long = ltb-false _ _ (or-no-right (ltb (l .rows) (o .capacity * o .columns)) _ a);
+      sorts-long = ltb-false _ _ (or-no-right (ltb (l .rows) (o .capacity * o .columns) || ltb (l .keys) (2 * o .capacity)) _ e);
+    }
+
+-- conversely
+pub long-stores : (o : Opening) (l : Lengths) → LongEnough o (l .rows) (l .keys) (l .sorts) → storesShort o l ≡ false
+unfolding storesShort
+long-stores o l g = rw (le-ltb _ _ (g .rows-long), le-ltb _ _ (g .keys-long), le-ltb _ _ (g .sorts-long))
+
+-- ---- the header
+
+-- never more entries than rows
+pub entries-few : (p : Plain) → length (entries p) ≤ length (p .rows)
+unfolding entries
+entries-few p = omega (arith, rebuilt-few (map (λ row. getD (row .cells) (p .opening .sort) 0) (p .rows)), length-map (p .rows) (λ row. getD (row .cells) (p .opening .sort) 0))
+
+-- the header of a proper plain table passes test 1
+pub header-inside : {p : Plain} → Proper p → outside (headerOf p) ≡ false
+unfolding outside
+header-inside {p} proper = rw (proper .numbers, le-leb _ _ (proper .rows-fit), le-leb _ _ (dead-le p), le-leb _ _ (entries-few p))
+
+-- ---- row by row
+
+-- the rows fit into the store
+pub rows-in : {p : Plain} → Proper p → (rows : ℕ) → p .opening .capacity * p .opening .columns ≤ rows → length (p .rows) * p .opening .columns ≤ rows
+rows-in {p} proper rows h = omega (arith, mul-le-mul-right (p .opening .columns) (proper .rows-fit))
+
+-- each row's stored cells are a row's width
+pub wide-rows : {p : Plain} → Proper p → (rows : List ℕ) → p .opening .capacity * p .opening .columns ≤ length rows
+    → widths (p .opening .columns) (rowsOf (p .opening .columns) (length (p .rows)) rows) ≡ true
+wide-rows {p} proper rows h = rowsOf-widths (p .opening .columns) (length (p .rows)) rows (rows-in proper (length rows) h)
+
+shown-own : {p : Plain} (rows : List ℕ) → Proper p → p .opening .capacity * p .opening .columns ≤ length rows
+    → stored (p .rows) (rowsOf (p .opening .columns) (length (p .rows)) rows) ≡ rowsOf (p .opening .columns) (length (p .rows)) rows
+    → (i : ℕ) → i < length (p .rows) → RowShown (rowOf p i) (rowAt (p .opening .columns) i rows)
+shown-own {p} rows proper long e i k =
+    let w : ℕ = p .opening .columns in
+    let some-cells = openable-bounds (p .opening) (proper .numbers) .columns-some in
+    let cells-in = every-weaker (λ (r : List ℕ). eqb (length r) w) (λ r. leb 1 (length r)) (λ r q. let z : length r ≡ w = eqb-true _ _ q in le-leb 1 (length r) (omega arith)) (rowsOf w (length (p .rows)) rows) (wide-rows proper rows long) in
+    rw (getD-rowsOf w (length (p .rows)) rows i k) at
+    (stored-shown (p .rows) (rowsOf w (length (p .rows)) rows) (length-rowsOf w (length (p .rows)) rows) (proper .live-first) cells-in e i k)
+
+-- a row is live exactly if its stored first cell is not the mark, and then its cells are the stored ones
+pub shown-row : {p : Plain} (h : Header) (rows sorts pending : List ℕ) → Proper p → p .opening .capacity * p .opening .columns ≤ length rows
+    → Shows p h rows sorts pending → (i : ℕ) → i < length (p .rows) → RowShown (rowOf p i) (rowAt (h .columns) i rows)
+shown-row {p} h rows sorts pending proper long shows i k = rw (shows .header) (shown-own rows proper long (rw (shows .header) at (shows .rows-shown)) i k)
+
+-- conversely
+pub rows-shown-of : (p : Plain) (h : Header) (rows : List ℕ) → h .rows ≡ length (p .rows) → ((i : ℕ) → i < length (p .rows) → RowShown (rowOf p i) (rowAt (h .columns) i rows))
+    → stored (p .rows) (rowsOf (h .columns) (h .rows) rows) ≡ rowsOf (h .columns) (h .rows) rows
+rows-shown-of p h rows n f =
+    shown-stored (p .rows) (rowsOf (h .columns) (h .rows) rows) (length-rowsOf (h .columns) (h .rows) rows ∙ n)
+    (λ i k. rw (getD-rowsOf (h .columns) (h .rows) rows i (omega arith)) (f i k))
+
+module _ {p : Plain} {s : Stores} (r : Represents p s) where
+  -- the stores are long enough
+  pub represents-long : LongEnough (p .opening) (length (s .rows)) (length (s .keys)) (length (s .sorts))
+  represents-long = stores-long (p .opening) (lengths (s .rows) (s .keys) (s .sorts) (s .pending) [] []) (r .long-enough)
+
+  -- the header passes test 1
+  pub represents-inside : outside (s .header) ≡ false
+  represents-inside = rw (r .shown .header) (header-inside (r .proper))
+
+  -- row by row
+  pub row-shown : (i : ℕ) → i < length (p .rows) → RowShown (rowOf p i) (rowAt (s .header .columns) i (s .rows))
+  row-shown i h = shown-row (s .header) (s .rows) (s .sorts) (s .pending) (r .proper) (represents-long .rows-long) (r .shown) i h
+
+  -- the header counts the rows
+  pub rows-counted : s .header .rows ≡ length (p .rows)
+  rows-counted = ap (λ (h : Header). h .rows) (r .shown .header)
+
+  -- a live row of the plain table is a live row of the stores
+  pub live-in : (i : ℕ) → rowOf p i .live ≡ true → LiveAt (keyedOf (s .header)) (s .rows) i
+  live-in i e =
+      let h = live-below (p .rows) i e in
+      (omega (arith, rows-counted), sym (row-shown i h .live) ∙ e)
+
+  -- conversely
+  pub in-live : (i : ℕ) → LiveAt (keyedOf (s .header)) (s .rows) i → rowOf p i .live ≡ true
+  in-live i l = row-shown i (omega (arith, rows-counted, l .0)) .live ∙ l .1
+
+  -- its cells are the stored ones
+  pub live-cells : (i : ℕ) → rowOf p i .live ≡ true → rowOf p i .cells ≡ rowAt (s .header .columns) i (s .rows)
+  live-cells i e = row-shown i (live-below (p .rows) i e) .same e

@@ -1,0 +1,31 @@
+//! The least of many times: what is measured is the work, not the machine's other business.
+
+use std::hint::black_box;
+use std::time::Instant;
+
+/// Nanoseconds for one call, the least over rounds of about a millisecond.
+fn nanoseconds<R>(mut work: impl FnMut() -> R) -> f64 {
+    let start = Instant::now();
+    black_box(work());
+    let once = start.elapsed().as_nanos().max(1);
+    let calls = (1_000_000 / once).clamp(1, 100_000) as u32;
+    let mut least = f64::INFINITY;
+    for _ in 0..60 {
+        let start = Instant::now();
+        for _ in 0..calls {
+            black_box(work());
+        }
+        least = least.min(start.elapsed().as_nanos() as f64 / f64::from(calls));
+    }
+    least
+}
+
+/// Measures both in turn and prints a line.
+pub fn compare<R, S>(name: &str, ours: impl FnMut() -> R, theirs: impl FnMut() -> S) {
+    let ours = nanoseconds(ours);
+    let theirs = nanoseconds(theirs);
+    println!(
+        "  {name:44} {ours:12.1} {theirs:12.1} {:8.2}",
+        ours / theirs
+    );
+}

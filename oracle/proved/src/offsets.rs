@@ -1,0 +1,147 @@
+//! `intersect` in all four shapes: the Rust's answer where both subsets are well-formed, the plain judge's refusal where
+//! one is not or the output is short. Guard words behind the ids written must stand.
+
+use crate::chance::Chance;
+use calls::{Answer, Judge, Lengths, Question, Subset};
+use mouldgrey::SubsetAnswer;
+use plain::Plain;
+use rust_table::RustTable;
+
+const GUARD: u32 = 0xdead_beef;
+
+/// No table is asked, so nothing is lent.
+const NOTHING: Lengths = Lengths {
+    rows: 0,
+    keys: 0,
+    sort_entries: 0,
+    pending: 0,
+    live_words: 0,
+    base_words: 0,
+};
+
+/// Lengths around each of the Rust's thresholds and the paper's limit.
+const LENGTHS: [usize; 16] = [
+    0, 1, 2, 3, 15, 16, 17, 63, 64, 65, 68, 257, 4_096, 16_384, 65_536, 65_537,
+];
+
+/// A rising list of this length, with gaps up to `gap`.
+fn rising(chance: &mut Chance, length: usize, gap: u32) -> Vec<u32> {
+    let mut next = chance.below(5) as u32;
+    let mut ids = Vec::with_capacity(length);
+    for _ in 0..length {
+        ids.push(next);
+        next += 1 + chance.below(u64::from(gap)) as u32;
+    }
+    ids
+}
+
+/// A list that is not strictly rising: two neighbours equal or exchanged.
+fn spoiled(chance: &mut Chance, mut ids: Vec<u32>) -> Vec<u32> {
+    if ids.len() >= 2 {
+        let at = chance.below(ids.len() as u64 - 1) as usize;
+        ids[at + 1] = ids[at] - chance.below(2).min(u64::from(ids[at])) as u32;
+    }
+    ids
+}
+
+fn subset(chance: &mut Chance, length: usize) -> Subset {
+    let gap = [1, 2, 7, 60][chance.below(4) as usize];
+    let last = length as u32 * gap;
+    match chance.below(10) {
+        0..=3 => {
+            let start = chance.below(u64::from(last) + 3) as u32;
+            let end = start + chance.below(u64::from(last) + 3) as u32;
+            Subset::Range(start, end)
+        }
+        4 if chance.below(3) == 0 => Subset::Range(chance.number(), chance.number()),
+        5 if chance.below(3) == 0 => {
+            let ids = rising(chance, length, gap);
+            Subset::List(spoiled(chance, ids))
+        }
+        _ => Subset::List(rising(chance, length, gap)),
+    }
+}
+
+/// A list may end in 4294967295; the Rust's `bounds` does not take that after a range.
+fn with_greatest(mut subset: Subset) -> Subset {
+    if let Subset::List(ids) = &mut subset
+        && ids.last().is_some_and(|&last| last < u32::MAX)
+        && ids.len() < 65_536
+    {
+        ids.push(u32::MAX);
+    }
+    subset
+}
+
+fn rust_defines(first: &Subset, second: &Subset) -> bool {
+    !matches!((first, second), (Subset::Range(..), Subset::List(ids)) if ids.last() == Some(&u32::MAX))
+}
+
+/// Compares one pair with an output of this length; says what was seen.
+fn check(first: &Subset, second: &Subset, length: usize, rust: &RustTable) -> Result<bool, String> {
+    let mut output = vec![GUARD; length + 3];
+    let answer = mouldgrey::intersect(first, second, &mut output[..length]);
+    let written = match answer {
+        SubsetAnswer::List(count) => count as usize,
+        SubsetAnswer::Refused(_) | SubsetAnswer::Range(..) => 0,
+    };
+    let question = Question::Intersect {
+        first: first.clone(),
+        second: second.clone(),
+        output: length,
+    };
+    let expected = Plain::default().ask(&NOTHING, &question);
+    let refused = matches!(expected, Answer::Refused(_));
+    let got = match answer {
+        SubsetAnswer::Refused(number) => Answer::Refused(number),
+        SubsetAnswer::Range(start, end) => Answer::Subset(Subset::Range(start, end)),
+        SubsetAnswer::List(_) => {
+            Answer::Subset(Subset::List(output[..written.min(length)].to_vec()))
+        }
+    };
+    let same = got == expected
+        && output[written.min(length)..]
+            .iter()
+            .all(|&word| word == GUARD);
+    let like_rust = refused || !rust_defines(first, second) || rust.ask(&NOTHING, &question) == got;
+    if same && like_rust {
+        return Ok(refused);
+    }
+    Err(format!(
+        "intersect {first:?} with {second:?} into {length} words: {got:?}, not {expected:?}"
+    ))
+}
+
+pub fn intersect() -> Result<String, String> {
+    let mut chance = Chance::new(4);
+    let rust = RustTable::default();
+    let (mut compared, mut refusals) = (0u64, 0u64);
+    for round in 0..12 {
+        for &one in &LENGTHS {
+            for &other in &LENGTHS {
+                let mut first = subset(&mut chance, one);
+                let mut second = subset(&mut chance, other);
+                if round == 0 {
+                    first = with_greatest(first);
+                    second = with_greatest(second);
+                }
+                let needed = needs(&first, &second);
+                for length in [needed, needed + 5, needed.saturating_sub(1)] {
+                    refusals += u64::from(check(&first, &second, length, &rust)?);
+                    compared += 1;
+                }
+            }
+        }
+    }
+    Ok(format!(
+        "intersect: {compared} pairs, {refusals} of them refused"
+    ))
+}
+
+/// The length of the output that the paper asks for.
+fn needs(first: &Subset, second: &Subset) -> usize {
+    match (first, second) {
+        (Subset::List(ids), _) | (Subset::Range(..), Subset::List(ids)) => ids.len(),
+        (Subset::Range(..), Subset::Range(..)) => 0,
+    }
+}
