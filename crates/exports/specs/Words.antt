@@ -1,5 +1,5 @@
 -- Answers in words, for callers that have no enums. Assumes nothing.
-use Prim.Native.Nat.{ℕ, _+_, _≤_}
+use Prim.Native.Nat.{ℕ, _+_, _*_, _≤_}
 use mathlib.Core.Path.{_≡_, refl, sym, ap, _∙_}
 use mathlib.Core.Bool.{Bool, true, false, true≢false, false≢true}
 use mathlib.Core.List.{List, [], _∷_}
@@ -7,6 +7,7 @@ use lib.ListN.{length, take, drop}
 use lib.Dec.{eqb}
 use borrow.Author.Tests.{eq-eqb, ne-eqb}
 use Rattle.lists.specs.Lists.{putAt}
+use Rattle.key_index.specs.declared.Keyed.{Keyed}
 use Rattle.merge_rules.specs.Rules.{madeFrom}
 use Rattle.merge_rules.specs.Survivor.{survivor}
 use Rattle.offsets.specs.Subsets.{Subset}
@@ -67,3 +68,15 @@ module _ (rule keys sort width : ℕ) (rows : List ℕ) (old : ℕ) (pending : L
       → out′ ≡ putAt out 0 (survivor rule keys sort (take width (drop old rows)) (take width (drop new pending)))
       → Survives rule keys sort width rows old pending new out true out′
   survives-done out′ w = record { done = λ e. w; nothing = λ e. absurd (true≢false e) }
+
+-- a table's numbers are within their bounds, and these lengths of its row and key store enough
+pub record Sized (t : Keyed) (rows store : ℕ) : Type 0 where
+  pub some-columns : 1 ≤ t .columns
+  pub most-columns : t .columns ≤ 8
+  pub some-keys : 1 ≤ t .keys
+  pub most-keys : t .keys ≤ t .columns
+  pub some-capacity : 1 ≤ t .capacity
+  pub most-capacity : t .capacity ≤ 65536
+  pub count : t .rows ≤ t .capacity
+  pub cells : t .capacity * t .columns ≤ rows
+  pub slots : 2 * t .capacity ≤ store

@@ -1,2 +1,6 @@
 -- What may be relied on of the claim about histories.
 pub mod Live
+pub mod Replies
+pub mod Calls
+pub mod Narrowing
+pub mod Questions

@@ -2,3 +2,4 @@ pub mod Histories
 pub mod Runs
 pub mod Claim
 pub mod Laws
+pub mod Theorem

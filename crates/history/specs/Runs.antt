@@ -72,6 +72,10 @@ pub data Asked (s : Stores) (a : Subset) : Question → Subset → Gathered → 
       → RangeRead (s .header) (s .sorts) c range → rangeSays range ≡ accepted (one b)
       → Answered (intersectReply a b (length output)) output answer output′
       → Asked s a (intersectRange c) (left a (readOff answer output′)) (gathered (readOff answer output′) (byRange c))
+  range-intersected-first : (b : Subset) (c : Constraint) (range : RangeAnswer) (output output′ : List ℕ) (answer : SubsetAnswer)
+      → RangeRead (s .header) (s .sorts) c range → rangeSays range ≡ accepted (one b)
+      → Answered (intersectReply b a (length output)) output answer output′
+      → Asked s a (intersectRange c) (left a (readOff answer output′)) (gathered (readOff answer output′) (byRange c))
   range-none : (c : Constraint) (range : RangeAnswer)
       → RangeRead (s .header) (s .sorts) c range → rangeSays range ≡ accepted none
       → Asked s a (intersectRange c) a nothing

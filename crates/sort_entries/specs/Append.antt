@@ -15,7 +15,7 @@ use Rattle.sort_entries.specs.declared.Appended.{Appended}
 use Rattle.sort_entries.specs.declared.Appended.the-variants.{Below, Same, New}
 use Rattle.sort_entries.specs.Entries.{Entry, entriesOf, last, admits, push}
 use Rattle.sort_entries.specs.Laws.Stores.{length-entriesOf, entriesOf-appended, last-entriesOf, last-none}
-use Rattle.sort_entries.specs.Laws.Push.{push-new, push-same, rises-admits}
+use Rattle.sort_entries.specs.Laws.Push.{push-new, push-same, push-few, rises-admits}
 
 -- there is place for one entry more
 pub record Room (store : List ℕ) (n : ℕ) : Type 0 where
@@ -140,3 +140,11 @@ module _ (store : List ℕ) (n value row : ℕ) where
 
   pub rebuild-as : Room store n → (r : Appended) (after : List ℕ) → Append store n value row r after → (m : Appended) → r ≡ m → Rebuild store n value row (entriesAfter n m) after
   rebuild-as room r after s m e = rw e at (rebuild-of room r after s)
+
+-- there is at most one entry more
+pub rebuild-few : (store : List ℕ) (n value row r : ℕ) (after : List ℕ) → Rebuild store n value row r after → r ≤ n + 1
+rebuild-few store n value row r after s =
+    let a = s .count in
+    let b = push-few value row (entriesOf n store) in
+    let c = length-entriesOf n store in
+    omega arith

@@ -3,6 +3,7 @@ pub mod Stores
 pub mod Push
 pub mod Sound
 pub mod Ranges
+pub mod Grow
 pub mod Rebuilt
 pub mod Cells
 pub mod Values

@@ -94,7 +94,7 @@ fn row_from(sorts: &[u32], entries: u32, rows: u32, at: u32) -> u32
     sorts[row_word]
 }
 
-// `binary_search_sort_val`.
+// Where a value stands among the entries: `binary_search_sort_val`.
 fn stand(sorts: &[u32], entries: u32, rows: u32, value: u32) -> Standing
     requires { ⌜ Held (now sorts) entries ⌝ }
     ensures { λ r. ⌜ Stands (now (sorts .entry)) entries rows value r ⌝ }
@@ -111,6 +111,7 @@ fn stand(sorts: &[u32], entries: u32, rows: u32, value: u32) -> Standing
     Standing::Absent(first)
 }
 
+// The range of a kind, where the rows from `first` to `next` have the value.
 fn range_found(kind: u32, first: u32, next: u32, rows: u32) -> Range
     ensures { λ r. ⌜ rangeOf r ≡ rangeAt kind (standsAt (Standing.Found first next)) rows ⌝ }
 {
@@ -138,6 +139,7 @@ fn range_found(kind: u32, first: u32, next: u32, rows: u32) -> Range
     }
 }
 
+// The range of a kind, where no row has the value and those from `above` on have higher ones.
 fn range_absent(kind: u32, above: u32, rows: u32) -> Range
     ensures { λ r. ⌜ rangeOf r ≡ rangeAt kind (standsAt (Standing.Absent above)) rows ⌝ }
 {

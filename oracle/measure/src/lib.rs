@@ -1,5 +1,6 @@
 //! The proved library's times as ratios to the Rust's, in one run on one machine. Below 1 the proved library is faster.
 
+mod keys;
 mod offsets;
 mod time;
 
@@ -7,4 +8,5 @@ mod time;
 pub fn bench() {
     println!("times of the proved library and of the Rust, in nanoseconds, and their ratio");
     offsets::intersect();
+    keys::index();
 }

@@ -4,7 +4,7 @@ use std::hint::black_box;
 use std::time::Instant;
 
 /// Nanoseconds for one call, the least over rounds of about a millisecond.
-fn nanoseconds<R>(mut work: impl FnMut() -> R) -> f64 {
+pub fn nanoseconds<R>(mut work: impl FnMut() -> R) -> f64 {
     let start = Instant::now();
     black_box(work());
     let once = start.elapsed().as_nanos().max(1);
@@ -22,10 +22,20 @@ fn nanoseconds<R>(mut work: impl FnMut() -> R) -> f64 {
 
 /// Measures both in turn and prints a line.
 pub fn compare<R, S>(name: &str, ours: impl FnMut() -> R, theirs: impl FnMut() -> S) {
-    let ours = nanoseconds(ours);
-    let theirs = nanoseconds(theirs);
+    compare_each(name, 1, ours, theirs);
+}
+
+/// The same, each call being this many pieces of work.
+pub fn compare_each<R, S>(
+    name: &str,
+    pieces: usize,
+    ours: impl FnMut() -> R,
+    theirs: impl FnMut() -> S,
+) {
+    let ours = nanoseconds(ours) / pieces as f64;
+    let theirs = nanoseconds(theirs) / pieces as f64;
     println!(
-        "  {name:44} {ours:12.1} {theirs:12.1} {:8.2}",
+        "  {name:52} {ours:12.1} {theirs:12.1} {:7.2}",
         ours / theirs
     );
 }

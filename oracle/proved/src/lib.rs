@@ -2,7 +2,9 @@
 
 mod cells;
 mod chance;
+mod keys;
 mod offsets;
+mod ranges;
 mod rules;
 
 /// Everything that is exported so far, a line for each part.
@@ -15,5 +17,7 @@ pub fn compare() -> Result<Vec<String>, String> {
         rules::conditions()?,
         rules::merge_rules()?,
         rules::ranks()?,
+        keys::index()?,
+        ranges::fast_ranges()?,
     ])
 }

@@ -247,16 +247,19 @@ impl Judge for RustTable {
 }
 
 /// The real compact hash of a 64-bit hash.
+#[inline]
 pub fn compact_hash(full: u64) -> u32 {
     SortedWritesTable::compact_hash(full)
 }
 
 /// The real 64-bit probe of a compact hash.
+#[inline]
 pub fn probe(compact: u32) -> u64 {
     SortedWritesTable::probe(compact)
 }
 
 /// The real compact hash of a key.
+#[inline]
 pub fn key_hash(key: &[u32]) -> u32 {
     SortedWritesTable::key_hash(values(key))
 }

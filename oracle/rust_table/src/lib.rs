@@ -40,7 +40,9 @@ mod table_spec;
 
 mod driver;
 
-pub use driver::{RustSubset, RustTable, compact_hash, eval_condition, key_hash, merge_rule, probe};
+pub use driver::{
+    RustSubset, RustTable, compact_hash, eval_condition, key_hash, merge_rule, probe,
+};
 
 // Names that the carried-over files expect at the root.
 use action::ExecutionState;

@@ -1,12 +1,12 @@
 -- Laws of appending: the entries after one more row, and the rebuilt ones. Assumes nothing.
-use Prim.Native.Nat.{ℕ, suc, _+_}
+use Prim.Native.Nat.{ℕ, suc, _+_, _≤_}
 use mathlib.Core.Path.{_≡_, refl, sym, ap, _∙_}
 use mathlib.Core.Logic.{inl, inr}
 use mathlib.Core.Bool.{Bool, true, false, true≢false}
 use mathlib.Core.List.{List, [], _∷_, _++_}
 use native.Mathlib.Nat.{zero-add, add-zero}
 use native.Mathlib.Omega.{arith}
-use lib.ListN.{length}
+use lib.ListN.{length, length-append}
 use lib.Dec.{leb, ltb}
 use borrow.Author.Tests.{ltb-true, le-leb}
 use Rattle.lists.specs.Laws.Keep.{split}
@@ -19,6 +19,14 @@ push-new value row es e = rw e
 pub push-same : (value row : ℕ) (es : List Entry) → last (λ v. ltb v value) es ≡ false → push value row es ≡ es
 unfolding push
 push-same value row es e = rw e
+
+-- at most one entry more
+pub push-few : (v row : ℕ) (es : List Entry) → length (push v row es) ≤ length es + 1
+push-few v row es =
+    elim (split (last (λ w. ltb w v) es)) [
+      | inl l ↦ rw (push-new v row es l) (simp length-append (omega arith))
+      | inr l ↦ rw (push-same v row es l) (omega arith)
+    ]
 
 pub pushAll-snoc : (row : ℕ) (vs : List ℕ) (v : ℕ) (es : List Entry) → pushAll row (vs ++ (v ∷ [])) es ≡ push v (row + length vs) (pushAll row vs es)
 unfolding pushAll

@@ -1,0 +1,47 @@
+-- Replies: which ladders were passed, and what their answers are. Assumes nothing.
+use Prim.Native.Nat.{ℕ, zero, suc, _<_}
+use mathlib.Core.Path.{_≡_, refl}
+use mathlib.Core.Logic.{_⊎_, inl, inr}
+use native.Mathlib.Omega.{arith}
+use Rattle.refusals.specs.Refusals.{Reply, refused, accepted, reply, verdict, ruling}
+
+-- a number is 0 or not
+pub some-number : (n : ℕ) → (n ≡ 0) ⊎ (0 < n)
+some-number zero = inl refl
+some-number (suc n) = inr (omega arith)
+
+-- the answer of a ladder that turns away is its number
+pub ruled-refused : {A : Type 0} (r : Reply A) (n : ℕ) → verdict r ≡ ruling n → 0 < n → r ≡ refused n
+unfolding verdict ruling
+ruled-refused r zero e h = absurd (omega arith)
+ruled-refused (refused m) (suc n) e h = cc
+ruled-refused (accepted a) (suc n) e h = absurd (let z : _≡_ {A = ℕ} 0 1 = cc in omega arith)
+
+-- a ladder whose answer is a value turned nothing away
+pub ruled-accepted : {A : Type 0} (r : Reply A) (a : A) (n : ℕ) → verdict r ≡ ruling n → r ≡ accepted a → n ≡ 0
+unfolding verdict ruling
+ruled-accepted (refused m) a n e q = absurd (let z : _≡_ {A = ℕ} 0 1 = cc in omega arith)
+ruled-accepted (accepted b) a zero e q = refl
+ruled-accepted (accepted b) a (suc n) e q = absurd (let z : _≡_ {A = ℕ} 0 1 = cc in omega arith)
+
+-- a reply with a number, and one without
+pub reply-refused : {A : Type 0} (n : ℕ) (a : A) → 0 < n → reply n a ≡ refused n
+unfolding reply
+reply-refused zero a h = absurd (omega arith)
+reply-refused (suc n) a h = refl
+
+pub reply-accepted : {A : Type 0} (n : ℕ) (a : A) → n ≡ 0 → reply n a ≡ accepted a
+unfolding reply
+reply-accepted zero a e = refl
+reply-accepted (suc n) a e = absurd (omega arith)
+
+-- an accepted reply was not turned away, and is its value
+pub accepted-number : {A : Type 0} (n : ℕ) (a b : A) → accepted a ≡ reply n b → n ≡ 0
+unfolding reply
+accepted-number zero a b e = refl
+accepted-number (suc n) a b e = absurd (let z : _≡_ {A = ℕ} 0 1 = cc in omega arith)
+
+pub accepted-same : {A : Type 0} (n : ℕ) (a b : A) → accepted a ≡ reply n b → a ≡ b
+unfolding reply
+accepted-same zero a b e = cc
+accepted-same (suc n) a b e = absurd (let z : _≡_ {A = ℕ} 0 1 = cc in omega arith)

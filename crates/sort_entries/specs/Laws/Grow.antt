@@ -1,0 +1,182 @@
+-- Laws of entries with one more: the value at each row, soundness, and what pushing a value does. Assumes nothing.
+use Prim.Native.Nat.{ℕ, _+_, _-_, _≤_, _<_}
+use mathlib.Core.Path.{_≡_, refl, sym, _∙_}
+use mathlib.Core.Logic.{inl, inr}
+use mathlib.Core.Bool.{Bool, true, false, true≢false}
+use mathlib.Core.List.{List, [], _∷_, _++_}
+use native.Mathlib.Omega.{arith}
+use lib.ListN.{length}
+use lib.Dec.{leb, ltb}
+use borrow.Author.Tests.{ltb-true, ltb-false, leb-true, lt-ltb, le-leb, lt-leb}
+use Rattle.lists.specs.Lists.{every, rising, above}
+use Rattle.lists.specs.Laws.Keep.{split, and-left, and-right}
+use Rattle.lists.specs.Laws.Rising.{above-head, above-tail, above-cons}
+use Rattle.lists.specs.Laws.Entries.{every-snoc, every-weaker}
+use Rattle.sort_entries.specs.Entries.{Entry, entry, last, admits, push, firstRow, valueAt, entriesSound}
+use Rattle.sort_entries.specs.Laws.Push.{push-new, push-same}
+use Rattle.sort_entries.specs.Laws.Sound.{values, rowsIn, Climb, sound-climb, sound-first, sound-join}
+
+-- ---- the value at a row, with one entry more
+
+pub valueAt-before : (i : ℕ) (es : List Entry) (e : Entry) → 0 < length es → i < e .row → valueAt i (es ++ (e ∷ [])) ≡ valueAt i es
+unfolding valueAt
+valueAt-before i [] e h k = absurd (omega arith)
+valueAt-before i (a ∷ []) e h k = rw (lt-leb (e .row) i k)
+valueAt-before i (a ∷ b ∷ es) e h k = rw (valueAt-before i (b ∷ es) e (omega arith) k)
+
+-- the row of each entry lies below n
+abbrev pub Below : List Entry → ℕ → Type 0
+Below es n = every (λ e. ltb (e .row) n) es ≡ true
+
+below-head : (e : Entry) (es : List Entry) (n : ℕ) → Below (e ∷ es) n → e .row < n
+unfolding every
+below-head e es n q = ltb-true _ _ (and-left _ _ q)
+
+below-tail : (e : Entry) (es : List Entry) (n : ℕ) → Below (e ∷ es) n → Below es n
+unfolding every
+below-tail e es n q = and-right (ltb (e .row) n) _ q
+
+pub valueAt-new : (i n : ℕ) (es : List Entry) (e : Entry) → Below es n → n ≤ i → e .row ≤ i → valueAt i (es ++ (e ∷ [])) ≡ e .value
+unfolding valueAt
+valueAt-new i n [] e q h k = refl
+valueAt-new i n (a ∷ []) e q h k = rw (le-leb (e .row) i k)
+valueAt-new i n (a ∷ b ∷ es) e q h k =
+    let r = below-head b es n (below-tail a (b ∷ es) n q) in
+    let r′ : b .row ≤ i = omega arith in
+    rw (le-leb (b .row) i r′) (valueAt-new i n (b ∷ es) e (below-tail a (b ∷ es) n q) h k)
+
+-- from the last entry's row on it is the last entry's
+pub valueAt-last : (test : ℕ → Bool) (i n : ℕ) (es : List Entry) → 0 < length es → Below es n → n ≤ i + 1 → last test es ≡ test (valueAt i es)
+unfolding valueAt last
+valueAt-last test i n [] z q h = absurd (omega arith)
+valueAt-last test i n (a ∷ []) z q h = refl
+valueAt-last test i n (a ∷ b ∷ es) z q h =
+    let r = below-head b es n (below-tail a (b ∷ es) n q) in
+    let r′ : b .row ≤ i = omega arith in
+    rw (le-leb (b .row) i r′) (valueAt-last test i n (b ∷ es) (omega arith) (below-tail a (b ∷ es) n q) h)
+
+-- ---- climbing entries, with one more
+
+rise-more : (es : List Entry) (v row : ℕ) → rising (values es) ≡ true → last (λ w. ltb w v) es ≡ true → rising (values (es ++ (entry v row ∷ []))) ≡ true
+unfolding rising above last
+rise-more [] v row r l = refl
+rise-more (a ∷ []) v row r l = above-cons (a .value) v [] (ltb-true (a .value) v l) refl
+rise-more (a ∷ b ∷ es) v row r l =
+    above-cons (a .value) (b .value) (values (es ++ (entry v row ∷ []))) (above-head (a .value) (b .value) (values es) r)
+    (rise-more (b ∷ es) v row (above-tail (a .value) (b .value) (values es) r) l)
+
+later-more : (es : List Entry) (v row n : ℕ) → rising (rowsIn es) ≡ true → Below es n → n ≤ row → rising (rowsIn (es ++ (entry v row ∷ []))) ≡ true
+unfolding rising above
+later-more [] v row n r q h = refl
+later-more (a ∷ []) v row n r q h =
+    let z = below-head a [] n q in
+    above-cons (a .row) row [] (omega arith) refl
+later-more (a ∷ b ∷ es) v row n r q h =
+    above-cons (a .row) (b .row) (rowsIn (es ++ (entry v row ∷ []))) (above-head (a .row) (b .row) (rowsIn es) r)
+    (later-more (b ∷ es) v row n (above-tail (a .row) (b .row) (rowsIn es) r) (below-tail a (b ∷ es) n q) h)
+
+below-more : (es : List Entry) (n m : ℕ) → Below es n → n ≤ m → Below es m
+below-more es n m q h = every-weaker (λ e. ltb (e .row) n) (λ e. ltb (e .row) m) (λ e p. let a = ltb-true (e .row) n p in lt-ltb (e .row) m (omega arith)) es q
+
+pub climb-more : (es : List Entry) (v row n m : ℕ) → Climb es n → last (λ w. ltb w v) es ≡ true → n ≤ row → row < m → Climb (es ++ (entry v row ∷ [])) m
+climb-more es v row n m c l h k =
+    record {
+      rise = rise-more es v row (c .rise) l;
+      later = later-more es v row n (c .later) (c .below) h;
+      below = every-snoc (λ e. ltb (e .row) m) es (entry v row) (below-more es n m (c .below) (omega arith)) (lt-ltb _ _ k);
+    }
+
+pub climb-wider : (es : List Entry) (n m : ℕ) → Climb es n → n ≤ m → Climb es m
+climb-wider es n m c h = record { rise = c .rise; later = c .later; below = below-more es n m (c .below) h }
+
+-- ---- a value pushed for the next row
+
+-- there is an entry if there is a row
+some-entry : (es : List Entry) (n : ℕ) → firstRow es n ≡ 0 → 0 < n → 0 < length es
+unfolding firstRow
+some-entry [] n e h = absurd (omega arith)
+some-entry (a ∷ es) n e h = omega arith
+
+first-new : (es : List Entry) (n m v : ℕ) → firstRow es n ≡ 0 → firstRow (es ++ (entry v n ∷ [])) m ≡ 0
+unfolding firstRow
+first-new [] n m v e = e
+first-new (a ∷ es) n m v e = e
+
+first-same : (es : List Entry) (n m : ℕ) → 0 < length es → firstRow es n ≡ 0 → firstRow es m ≡ 0
+unfolding firstRow
+first-same [] n m h e = absurd (omega arith)
+first-same (a ∷ es) n m h e = e
+
+last-some : (test : ℕ → Bool) (es : List Entry) → last test es ≡ false → 0 < length es
+unfolding last
+last-some test [] e = absurd (true≢false e)
+last-some test (a ∷ es) e = omega arith
+
+module _ (es : List Entry) (rows : ℕ) (s : entriesSound es rows ≡ true) where
+  climb : Climb es rows
+  climb = sound-climb es rows s
+
+  first : firstRow es rows ≡ 0
+  first = sound-first es rows s
+
+  -- the last entry's value is the last row's
+  pub last-valueAt : (test : ℕ → Bool) → 0 < rows → last test es ≡ test (valueAt (rows - 1) es)
+  last-valueAt test h = valueAt-last test (rows - 1) rows es (some-entry es rows first h) (climb .below) (omega arith)
+
+  pub admits-valueAt : (v : ℕ) → 0 < rows → admits v es ≡ leb (valueAt (rows - 1) es) v
+  unfolding admits
+  admits-valueAt v h = last-valueAt (λ w. leb w v) h
+
+  -- without a row there is no entry
+  no-entry : (l : List Entry) → Below l rows → rows ≡ 0 → l ≡ []
+  no-entry [] q z = refl
+  no-entry (a ∷ l) q z = let r = below-head a l rows q in absurd (omega arith)
+
+  pub admits-none : (v : ℕ) → rows ≡ 0 → admits v es ≡ true
+  unfolding admits last
+  admits-none v z = rw (no-entry es (climb .below) z)
+
+  module _ (v : ℕ) where
+    sound-new : last (λ w. ltb w v) es ≡ true → entriesSound (es ++ (entry v rows ∷ [])) (rows + 1) ≡ true
+    sound-new l =
+        sound-join (es ++ (entry v rows ∷ [])) (rows + 1)
+        (climb-more es v rows rows (rows + 1) climb l (omega arith) (omega arith))
+        (first-new es rows (rows + 1) v first)
+
+    sound-same : last (λ w. ltb w v) es ≡ false → entriesSound es (rows + 1) ≡ true
+    sound-same l =
+        sound-join es (rows + 1) (climb-wider es rows (rows + 1) climb (omega arith))
+        (first-same es rows (rows + 1) (last-some (λ w. ltb w v) es l) first)
+
+    -- sound entries stay sound with one row more
+    pub push-sound : entriesSound (push v rows es) (rows + 1) ≡ true
+    push-sound =
+        elim (split (last (λ w. ltb w v) es)) [
+          | inl l ↦ rw (push-new v rows es l) (sound-new l)
+          | inr l ↦ rw (push-same v rows es l) (sound-same l)
+        ]
+
+    -- and record of each earlier row what they did
+    pub push-earlier : (i : ℕ) → i < rows → valueAt i (push v rows es) ≡ valueAt i es
+    push-earlier i h =
+        elim (split (last (λ w. ltb w v) es)) [
+          | inl l ↦ rw (push-new v rows es l) (valueAt-before i es (entry v rows) (some-entry es rows first (omega arith)) h)
+          | inr l ↦ rw (push-same v rows es l)
+        ]
+
+    -- and of the new row its value, if that was admitted
+    same-value : admits v es ≡ true → last (λ w. ltb w v) es ≡ false → valueAt rows es ≡ v
+    unfolding admits
+    same-value a l =
+        let n = last-some (λ w. ltb w v) es l in
+        let q : rows ≤ rows + 1 = omega arith in
+        let p = leb-true (valueAt rows es) v (sym (valueAt-last (λ w. leb w v) rows rows es n (climb .below) q) ∙ a) in
+        let r = ltb-false (valueAt rows es) v (sym (valueAt-last (λ w. ltb w v) rows rows es n (climb .below) q) ∙ l) in
+        omega arith
+
+    pub push-here : admits v es ≡ true → valueAt rows (push v rows es) ≡ v
+    push-here a =
+        elim (split (last (λ w. ltb w v) es)) [
+          | inl l ↦ rw (push-new v rows es l) (valueAt-new rows rows es (entry v rows) (climb .below) (omega arith) (omega arith))
+          | inr l ↦ rw (push-same v rows es l) (same-value a l)
+        ]

@@ -1,0 +1,85 @@
+//! Fast ranges on the sort entries of the Rust's own tables, against its `fast_subset`.
+
+use crate::chance::Chance;
+use calls::{Answer, Call, Condition, Judge, Lengths, Opening, Question, Subset};
+use rust_table::RustTable;
+
+const AMPLE: Lengths = Lengths {
+    rows: usize::MAX,
+    keys: usize::MAX,
+    sort_entries: usize::MAX,
+    pending: usize::MAX,
+    live_words: usize::MAX,
+    base_words: usize::MAX,
+};
+
+/// A table with entries by chance, dead rows among its rows.
+fn table(chance: &mut Chance) -> RustTable {
+    let mut table = RustTable::default();
+    let opening = Opening {
+        columns: 2,
+        keys: 1,
+        sort: 1,
+        rule: 0,
+        capacity: 65_536,
+        generation: 0,
+    };
+    table.call(&AMPLE, &Call::Open(opening));
+    let mut stamp = chance.below(3) as u32;
+    for key in 0..chance.below(60) as u32 {
+        stamp += [0, 0, 1, 2, 1_000][chance.below(5) as usize];
+        table.call(&AMPLE, &Call::Insert(vec![key, stamp]));
+        if chance.below(4) == 0 {
+            table.call(&AMPLE, &Call::Merge);
+            table.call(
+                &AMPLE,
+                &Call::RemoveKey(vec![chance.below(u64::from(key) + 1) as u32]),
+            );
+        }
+    }
+    table.call(&AMPLE, &Call::Merge);
+    table
+}
+
+pub fn fast_ranges() -> Result<String, String> {
+    let mut chance = Chance::new(9);
+    let mut ranges = 0u64;
+    for _ in 0..4_000 {
+        let table = table(&mut chance);
+        let contents = table.contents();
+        let sorts: Vec<u32> = contents
+            .sort_entries
+            .iter()
+            .flat_map(|&(value, row)| [value, row])
+            .collect();
+        for _ in 0..60 {
+            let near = chance.below(sorts.len() as u64 + 1) as usize;
+            let value = sorts.get(near & !1).map_or(chance.number(), |value| {
+                value.wrapping_add(chance.below(3) as u32).wrapping_sub(1)
+            });
+            let kind = 1 + chance.below(5) as u32;
+            let expected = table.ask(
+                &AMPLE,
+                &Question::FastRange(Condition {
+                    kind,
+                    a: 1,
+                    b: value,
+                }),
+            );
+            let (start, end) = mouldgrey::fast_range(
+                &sorts,
+                contents.sort_entries.len() as u32,
+                contents.rows,
+                kind,
+                value,
+            );
+            if expected != Answer::Subset(Subset::Range(start, end)) {
+                return Err(format!(
+                    "kind {kind}, value {value}, entries {sorts:?}: {start}..{end}, not {expected:?}"
+                ));
+            }
+            ranges += 1;
+        }
+    }
+    Ok(format!("fast ranges: {ranges}"))
+}
