@@ -11,7 +11,7 @@ use lib.ListN.{length, take, drop, getD, set, drop-of-length-le}
 use lib.Seq.{drop-cons, take-length}
 use borrow.Author.Tests.{eq-eqb, ne-eqb}
 use Rattle.lists.specs.Lists.{putAt}
-use Rattle.lists.specs.Laws.More.{copy-step}
+use Rattle.lists.specs.Laws.Parts.{copy-step}
 use Rattle.merge_rules.specs.Rules.{ruledColumn, taken, madeCell, madeFrom, changesFrom}
 use Rattle.merge_rules.specs.Survivor.{survivor}
 use Rattle.merge_rules.specs.Laws.{made-length, made-at}

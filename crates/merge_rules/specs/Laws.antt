@@ -237,3 +237,25 @@ survivor-length rule keys sort old new n = elim (split (changesFrom rule keys so
 pub survivor-keys : (rule keys sort : ℕ) (old new : List ℕ) → take keys old ≡ take keys new → take keys (survivor rule keys sort old new) ≡ take keys old
 unfolding survivor
 survivor-keys rule keys sort old new k = elim (split (changesFrom rule keys sort 0 old new)) [ inl e ↦ rw e (sym k) | inr e ↦ rw e ]
+
+-- ---- what a row that is made is
+
+module _ (rule keys sort : ℕ) where
+  -- the first cell is a key cell
+  pub made-first : (old new : List ℕ) → 1 ≤ keys → length old ≡ length new → take keys old ≡ take keys new
+      → getD (madeFrom rule keys sort 0 old new) 0 0 ≡ getD new 0 0
+  made-first old new h n e =
+      sym (getD-take keys (madeFrom rule keys sort 0 old new) 0 0 h)
+      ∙ ap (λ (l : List ℕ). getD l 0 0) (made-keys rule keys sort old new n e ∙ e)
+      ∙ getD-take keys new 0 0 h
+
+  -- it is the rule's, and a ruled cell changes
+  pub ruled-made : (old new row : List ℕ) → ruled rule keys sort old new ≡ made row
+      → (changesFrom rule keys sort 0 old new ≡ true) × (madeFrom rule keys sort 0 old new ≡ row)
+  unfolding ruled
+  ruled-made old new row e = go (changesFrom rule keys sort 0 old new) refl e
+    where
+      go : (b : Bool) → changesFrom rule keys sort 0 old new ≡ b → cond b (made (madeFrom rule keys sort 0 old new)) kept ≡ made row
+          → (changesFrom rule keys sort 0 old new ≡ true) × (madeFrom rule keys sort 0 old new ≡ row)
+      go true q f = (q, cc)
+      go false q f = absurd (let z : _≡_ {A = ℕ} 0 1 = cc in omega arith)

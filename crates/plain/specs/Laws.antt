@@ -1,5 +1,4 @@
 -- What may be relied on of the plain table.
-pub mod Rules
 pub mod Rows
 pub mod Calls
 pub mod Counts

@@ -15,8 +15,7 @@ use lib.Seq.{drop-cons, drop-drop, length-take-le, getD-append-add, getD-drop}
 use borrow.Author.Tests.{eq-eqb, ne-eqb}
 use borrow.Rule.Slice.PartMut.{putMid}
 use Rattle.lists.specs.Lists.{putAt, same}
-use Rattle.lists.specs.Laws.Parts.{put-part, part-to-end}
-use Rattle.lists.specs.Laws.More.{copy-step}
+use Rattle.lists.specs.Laws.Parts.{put-part, part-to-end, copy-step}
 use Rattle.row_buffer.specs.Ranks.{setBelow}
 use Rattle.row_buffer.specs.Laws.{ones-below}
 

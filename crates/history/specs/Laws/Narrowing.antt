@@ -9,7 +9,7 @@ use lib.Dec.{ltb}
 use borrow.Author.Tests.{ltb-true, lt-ltb}
 use Rattle.lists.specs.Lists.{keep, every, rising, has, rowAt}
 use Rattle.lists.specs.Laws.Keep.{split, and-left, and-right}
-use Rattle.lists.specs.Laws.Plain.{or-second}
+use Rattle.lists.specs.Laws.Every.{or-second}
 use Rattle.lists.specs.Laws.Rising.{rising-keep, rising-ext, has-keep}
 use Rattle.offsets.specs.Subsets.{Subset, members}
 use Rattle.constraints.specs.declared.Constraint.{Constraint}

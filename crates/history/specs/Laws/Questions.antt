@@ -11,7 +11,7 @@ use borrow.Author.Tests.{ltb-false, leb-true, eqb-true, eqb-false, ne-eqb, not-f
 use Rattle.lists.specs.Lists.{keep, every, has, within, rowAt}
 use Rattle.lists.specs.Laws.Keep.{split, and-left, length-keep, count-le}
 use Rattle.lists.specs.Laws.Rising.{has-at, keep-has-comm}
-use Rattle.lists.specs.Laws.Table.{or-no-left, or-no-right}
+use Rattle.lists.specs.Laws.Every.{or-no-left, or-no-right}
 use Rattle.refusals.specs.Refusals.{refused, accepted, reply}
 use Rattle.offsets.specs.declared.SubsetAnswer.{SubsetAnswer}
 use Rattle.offsets.specs.Subsets.{Subset, range, list, wellFormed, members, size, endOf, listOrNothing, intersect, retain, narrowed}

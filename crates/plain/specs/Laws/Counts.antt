@@ -9,12 +9,12 @@ use lib.Dec.{eqb}
 use lib.ListN.{length, take, length-append, length-map}
 use borrow.Author.Tests.{eqb-true}
 use Rattle.lists.specs.Lists.{every}
-use Rattle.lists.specs.Laws.Plain.{every-head, every-tail}
+use Rattle.lists.specs.Laws.Every.{every-head, every-tail}
 use Rattle.merge_rules.specs.Rules.{Ruled, kept, made, ruled, madeFrom, changesFrom}
 use Rattle.plain.specs.Staged.{RowRemoval, keyRemovals, rowRemovals, inserts, skipped}
 use Rattle.plain.specs.Merging.{Insertion, kept as leaves, appended, stopped, goOn, insertAll}
 use Rattle.plain.specs.Plain.{Row, liveRow, Plain, withRows, liveWithKey, killIf, withoutKey, withoutKeys, dies, withoutRow, withoutRows, Found, none, one, liveOf, stop, append, put, insertion, applied}
-use Rattle.plain.specs.Laws.Rules.{ruled-made}
+use Rattle.merge_rules.specs.Laws.{ruled-made}
 
 -- ---- removals keep the count of rows
 

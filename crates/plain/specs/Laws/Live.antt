@@ -8,7 +8,7 @@ use native.Mathlib.Omega.{arith}
 use lib.ListN.{length, take, getD, List·getD-map}
 use Rattle.lists.specs.Lists.{keep, count, every, countFrom}
 use Rattle.lists.specs.Laws.Keep.{split, count-le, count-split, length-keep, every-keep, every-getD}
-use Rattle.lists.specs.Laws.Plain.{every-head, every-tail, keep-again, count-not}
+use Rattle.lists.specs.Laws.Every.{every-head, every-tail, keep-again, count-not}
 use Rattle.plain.specs.Plain.{Row, Plain, Numbered, liveFrom, liveRows, dead, compacted}
 use Rattle.plain.specs.Proper.{Proper}
 use Rattle.plain.specs.Laws.Rows.{noRow, apart-at, thinned-apart, keep-thinned}

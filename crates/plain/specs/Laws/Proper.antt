@@ -11,14 +11,14 @@ use lib.ListN.{length, take, getD}
 use borrow.Author.Tests.{leb-true, ltb-true, leb-false, eqb-true, eqb-false, lt-ltb, not-true, not-false}
 use Rattle.lists.specs.Lists.{every}
 use Rattle.lists.specs.Laws.Keep.{split, and-left, and-right, every-getD}
-use Rattle.lists.specs.Laws.Plain.{and-both, every-head, every-tail, every-cons, every-snoc}
+use Rattle.lists.specs.Laws.Every.{and-both, every-head, every-tail, every-cons, every-snoc}
 use Rattle.cells.specs.Cells.{isDead}
 use Rattle.plain.specs.Staged.{Opening, openable, Staged, insert, removeKey, removeRow, RowRemoval, keyRemovals, rowRemovals, inserts, skipped, due}
 use Rattle.plain.specs.Merging.{appended, insertAll}
 use Rattle.plain.specs.Plain.{Row, liveRow, Plain, with, withRows, Lengths, opened, wrongWidth, stageRefusal, stage, liveWithKey, killIf, withoutKey, withoutKeys, dies, withoutRow, withoutRows, none, one, liveOf, admits, stop, insertion, applied, dead, compacted, compactIfDue, unstaged, merged, compactRefusal, clearRefusal, cleared}
 use Rattle.plain.specs.Calls.{Call, staging, merging, compacting, clearing, refusal, done, after, Lent, afterAll}
 use Rattle.plain.specs.Proper.{Proper}
-use Rattle.plain.specs.Laws.Rules.{made-length, made-keys, made-first}
+use Rattle.merge_rules.specs.Laws.{made-length, made-keys, made-first}
 use Rattle.plain.specs.Laws.Rows.{noRow, sortOf, wideRow, freeRow, Tidy, liveWithKey-key, free-dead, apart-of, apart-at, up-of, up-sorted, admits-all, Thinned, killIf-thinned, dies-thinned, keep-thinned, thinned-same, thinned-length, thinned-every, thinned-tidy, tidy-snoc}
 use Rattle.plain.specs.Laws.Calls.{refused-nothing, accepted-done, first-no, first-rest}
 use Rattle.plain.specs.Laws.Counts.{Appended, new, again, insertion-appended, insertion-alike, insertAll-keeps, alike-then, withoutKeys-alike, withoutRows-alike}
@@ -208,10 +208,10 @@ appended-proper {cells} {p} h w (again old row s l c m e) =
     let b = openable-bounds (p .opening) (h .numbers) in
     let width : length old ≡ p .opening .columns = ap length (sym (t .3)) ∙ eqb-true _ _ (every-getD (wideRow (p .opening .columns)) (p .rows) (h .widths) (t .0) (t .1) noRow) in
     let key : take keys old ≡ take keys cells = ap (take keys) (sym (t .3)) ∙ liveWithKey-key keys (take keys cells) (getD (p .rows) (t .0) noRow) (t .2) in
-    let row-key : take keys row ≡ take keys cells = ap (take keys) (sym m) ∙ made-keys (p .opening .rule) keys (p .opening .sort) old cells key ∙ key in
+    let row-key : take keys row ≡ take keys cells = ap (take keys) (sym m) ∙ made-keys (p .opening .rule) keys (p .opening .sort) old cells (width ∙ sym w) key ∙ key in
     append-proper row h (killIf-thinned _ (p .rows))
-    (ap length (sym m) ∙ made-length (p .opening .rule) keys (p .opening .sort) 0 old cells (width ∙ sym w) ∙ w)
-    (ap (λ (r : List ℕ). isDead (getD r 0 0)) (sym m) ∙ ap isDead (made-first (p .opening .rule) keys (p .opening .sort) old cells (b .keys-some) key) ∙ s)
+    (ap length (sym m) ∙ made-length (p .opening .rule) keys (p .opening .sort) old cells (width ∙ sym w) ∙ width)
+    (ap (λ (r : List ℕ). isDead (getD r 0 0)) (sym m) ∙ ap isDead (made-first (p .opening .rule) keys (p .opening .sort) old cells (b .keys-some) (width ∙ sym w) key) ∙ s)
     (rw row-key (killIf-free keys (take keys cells) (p .rows)))
     e
 

@@ -11,7 +11,7 @@ use lib.ListN.{length, take, getD, length-append}
 use borrow.Author.Tests.{leb-true, le-leb, eq-eqb, not-true}
 use Rattle.lists.specs.Lists.{keep, every}
 use Rattle.lists.specs.Laws.Keep.{split, and-left, and-right, every-getD, every-of}
-use Rattle.lists.specs.Laws.Plain.{and-both, or-right, or-second, every-head, every-tail, every-cons, every-snoc}
+use Rattle.lists.specs.Laws.Every.{and-both, or-right, or-second, every-head, every-tail, every-cons, every-snoc}
 use Rattle.lists.specs.Laws.Rising.{same-refl, same-eq}
 use Rattle.cells.specs.Cells.{isDead}
 use Rattle.plain.specs.Staged.{Opening, hasKey}

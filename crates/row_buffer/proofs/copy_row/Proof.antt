@@ -7,7 +7,7 @@ use borrow.Author.Needs.{needs}
 use native.Mathlib.Omega.{arith}
 use lib.ListN.{length, take, drop, set, getD, length-set}
 use lib.Seq.{take-length}
-use Rattle.lists.specs.Laws.More.{copy-step}
+use Rattle.lists.specs.Laws.Parts.{copy-step}
 use Rattle.row_buffer.proofs.copy_row.Statement.{statement}
 use Rattle.row_buffer.proofs.copy_row.Tie as tie
 

@@ -11,7 +11,7 @@ use borrow.Author.Tests.{ltb-true, ltb-false, leb-true, lt-ltb, le-leb, lt-leb}
 use Rattle.lists.specs.Lists.{every, rising, above}
 use Rattle.lists.specs.Laws.Keep.{split, and-left, and-right}
 use Rattle.lists.specs.Laws.Rising.{above-head, above-tail, above-cons}
-use Rattle.lists.specs.Laws.Entries.{every-snoc, every-weaker}
+use Rattle.lists.specs.Laws.Every.{every-snoc, every-weaker}
 use Rattle.sort_entries.specs.Entries.{Entry, entry, last, admits, push, firstRow, valueAt, entriesSound}
 use Rattle.sort_entries.specs.Laws.Push.{push-new, push-same}
 use Rattle.sort_entries.specs.Laws.Sound.{values, rowsIn, Climb, sound-climb, sound-first, sound-join}

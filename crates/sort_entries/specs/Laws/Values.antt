@@ -10,7 +10,7 @@ use native.Mathlib.Omega.{arith}
 use lib.ListN.{length, getD, length-map}
 use borrow.Author.Tests.{le-leb, lt-leb}
 use Rattle.lists.specs.Lists.{countFrom}
-use Rattle.lists.specs.Laws.Table.{getD-map-below}
+use Rattle.lists.specs.Laws.Every.{getD-map-below}
 use Rattle.lists.specs.Laws.Rising.{length-countFrom, getD-countFrom, above-head}
 use Rattle.sort_entries.specs.Entries.{Entry, entry, firstRow, rebuilt, valueAt, entriesSound}
 use Rattle.sort_entries.specs.Laws.Sound.{values, Climb, sound-climb, sound-first, climb-tail, climb-in, climb-next, climb-above}

@@ -8,7 +8,7 @@ use lib.ListN.{length, take, length-append, length-take}
 use borrow.Author.Tests.{eqb-true, not-true, not-false}
 use Rattle.lists.specs.Lists.{putAt, flat}
 use Rattle.lists.specs.Laws.Parts.{front-putAt}
-use Rattle.lists.specs.Laws.Plain.{every-head, every-tail, every-snoc}
+use Rattle.lists.specs.Laws.Every.{every-head, every-tail, every-snoc}
 use Rattle.lists.specs.Laws.Rows.{flat-append}
 use Rattle.plain.specs.Staged.{Opening, Staged, insert, removeKey, removeRow, wordsOf, wordsAll}
 use Rattle.plain.specs.Plain.{wrongWidth}

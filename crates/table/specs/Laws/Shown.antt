@@ -11,8 +11,7 @@ use lib.ListN.{length, getD, length-map}
 use borrow.Author.Tests.{ltb-false, le-ltb, le-leb, eqb-true}
 use Rattle.lists.specs.Lists.{rowAt, rowsOf}
 use Rattle.lists.specs.Laws.Rows.{widths, length-rowsOf, getD-rowsOf, rowsOf-widths}
-use Rattle.lists.specs.Laws.Entries.{every-weaker}
-use Rattle.lists.specs.Laws.Table.{or-no-left, or-no-right}
+use Rattle.lists.specs.Laws.Every.{every-weaker, or-no-left, or-no-right}
 use Rattle.key_index.specs.Slots.{LiveAt}
 use Rattle.sort_entries.specs.Laws.Rebuilt.{rebuilt-few}
 use Rattle.plain.specs.Staged.{Opening}

@@ -14,7 +14,7 @@ use Rattle.refusals.specs.Refusals.{first}
 use Rattle.lists.specs.Lists.{count, every, rowAt, rowsOf}
 use Rattle.lists.specs.Laws.Keep.{split, and-left, and-right, every-of}
 use Rattle.lists.specs.Laws.Rows.{length-rowsOf, getD-rowsOf, length-rowAt}
-use Rattle.lists.specs.Laws.Table.{or-no-left, or-no-right, getD-map-below, count-alike}
+use Rattle.lists.specs.Laws.Every.{or-no-left, or-no-right, getD-map-below, count-alike}
 use Rattle.constraints.specs.Constraints.{isLive}
 use Rattle.key_index.specs.Slots.{LiveAt, keyAt}
 use Rattle.sort_entries.specs.Entries.{Entry, entriesOf, valueAt, entriesSound}

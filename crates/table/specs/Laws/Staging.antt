@@ -7,7 +7,7 @@ use lib.Dec.{ltb}
 use lib.ListN.{length}
 use borrow.Author.Tests.{ltb-false}
 use Rattle.lists.specs.Lists.{putAt}
-use Rattle.lists.specs.Laws.Table.{or-no-left}
+use Rattle.lists.specs.Laws.Every.{or-no-left}
 use Rattle.plain.specs.Staged.{Staged, wordsOf, wordsAll}
 use Rattle.plain.specs.Plain.{Plain, dead, wrongWidth, noSuchRow, stage, storesShort}
 use Rattle.plain.specs.Laws.Calls.{first-no, first-rest}

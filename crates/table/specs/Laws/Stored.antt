@@ -9,7 +9,7 @@ use lib.ListN.{length, getD, set, length-set}
 use lib.Seq.{getD-set-same, set-getD, set-set}
 use borrow.Author.Tests.{leb-true, eqb-true, eq-eqb, not-false}
 use Rattle.lists.specs.Lists.{every}
-use Rattle.lists.specs.Laws.Plain.{or-second, every-head, every-tail, every-cons}
+use Rattle.lists.specs.Laws.Every.{or-second, every-head, every-tail, every-cons}
 use Rattle.lists.specs.Laws.Rows.{widths}
 use Rattle.cells.specs.Cells.{isDead}
 use Rattle.constraints.specs.Constraints.{isLive}

@@ -1,7 +1,10 @@
--- Laws of tests on lists that the plain table's are proved with. Assumes nothing.
+-- Laws of Booleans and of tests that all elements of a list pass. Assumes nothing.
+use Prim.Native.Nat.{ℕ, zero, suc, _<_, suc-le-suc}
 use mathlib.Core.Path.{_≡_, refl, sym}
 use mathlib.Core.Bool.{Bool, true, false, not, _&&_, _||_, false≢true}
-use mathlib.Core.List.{List, [], _∷_, _++_}
+use mathlib.Core.List.{List, [], _∷_, _++_, map}
+use native.Mathlib.Omega.{arith}
+use lib.ListN.{length, getD}
 use Rattle.lists.specs.Lists.{keep, count, every}
 use Rattle.lists.specs.Laws.Keep.{and-left, and-right, keep-every, every-keep}
 
@@ -18,6 +21,16 @@ or-right false b p = p
 pub or-second : (a b : Bool) → (a || b) ≡ true → a ≡ false → b ≡ true
 or-second true b p q = absurd (false≢true (sym q))
 or-second false b p q = p
+
+-- where neither of two holds, the first does not
+pub or-no-left : (a b : Bool) → (a || b) ≡ false → a ≡ false
+or-no-left true b e = e
+or-no-left false b e = refl
+
+-- nor does the second
+pub or-no-right : (a b : Bool) → (a || b) ≡ false → b ≡ false
+or-no-right true b e = absurd (false≢true (sym e))
+or-no-right false b e = e
 
 module _ {A : Type 0} where
   module _ (test : A → Bool) where
@@ -54,3 +67,25 @@ module _ {A : Type 0} where
     unfolding count
     count-not [] q = refl
     count-not (x ∷ xs) q = rw (every-head x xs q) (count-not xs (every-tail x xs q))
+
+  -- a test that passes wherever another does
+  pub every-weaker : (s t : A → Bool) → ((x : A) → s x ≡ true → t x ≡ true) → (xs : List A) → every s xs ≡ true → every t xs ≡ true
+  unfolding every
+  every-weaker s t f [] q = refl
+  every-weaker s t f (x ∷ xs) q = rw (f x (and-left (s x) _ q), every-weaker s t f xs (and-right (s x) _ q))
+
+module _ {A B : Type 0} where
+  -- the value of the element at a place, whatever stands past the end
+  pub getD-map-below : (f : A → B) (l : List A) (i : ℕ) (d : A) (e : B) → i < length l → getD (map f l) i e ≡ f (getD l i d)
+  getD-map-below f [] i d e h = absurd (omega arith)
+  getD-map-below f (x ∷ l) zero d e h = refl
+  getD-map-below f (x ∷ l) (suc i) d e h = getD-map-below f l i d e (omega arith)
+
+  -- two lists, of which the same places pass a test
+  pub count-alike : (s : A → Bool) (t : B → Bool) (d : A) (e : B) (xs : List A) (ys : List B) → length xs ≡ length ys
+      → ((i : ℕ) → i < length xs → s (getD xs i d) ≡ t (getD ys i e)) → count s xs ≡ count t ys
+  unfolding count
+  count-alike s t d e [] [] n f = refl
+  count-alike s t d e [] (y ∷ ys) n f = absurd (omega arith)
+  count-alike s t d e (x ∷ xs) [] n f = absurd (omega arith)
+  count-alike s t d e (x ∷ xs) (y ∷ ys) n f = rw (f 0 (omega arith), count-alike s t d e xs ys (omega arith) (λ i h. f (suc i) (suc-le-suc h)))
