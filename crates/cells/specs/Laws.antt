@@ -30,3 +30,7 @@ mixedAll-fits hash h (cell ∷ cells) = mixedAll-fits (mixed hash cell) (mixed-f
 pub compact-key-hash : (key : List ℕ) → compact (keyHash key) ≡ mixedAll 0 key
 unfolding keyHash
 compact-key-hash key = omega (arith, mixedAll-fits 0 (omega arith) key)
+
+-- and is a cell
+pub key-hash-fits : (key : List ℕ) → compact (keyHash key) < 2 ^ 32
+key-hash-fits key = rw (compact-key-hash key) (mixedAll-fits 0 (omega arith) key)

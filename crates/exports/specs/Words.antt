@@ -46,10 +46,11 @@ pub record Made (rule keys sort : ℕ) (old new out : List ℕ) (r : Bool) (out�
   pub done : r ≡ true → (length old ≡ length new) × (out′ ≡ putAt out 0 (madeFrom rule keys sort 0 old new))
   pub nothing : r ≡ false → ((length old ≡ length new) × (length old ≤ length out) → ⊥) × (out′ ≡ out)
 
--- a surviving row copied out: nothing is done where a row does not lie in its store or does not fit
+-- a surviving row copied out: nothing is done under another rule than 0 and 1, where a row does not lie in its store, or
+-- where it does not fit
 pub record Survives (rule keys sort width : ℕ) (rows : List ℕ) (old : ℕ) (pending : List ℕ) (new : ℕ) (out : List ℕ) (r : Bool) (out′ : List ℕ) : Type 0 where
-  pub done : r ≡ true → out′ ≡ putAt out 0 (survivor rule keys sort (take width (drop old rows)) (take width (drop new pending)))
-  pub nothing : r ≡ false → ((old + width ≤ length rows) × (new + width ≤ length pending) × (width ≤ length out) → ⊥) × (out′ ≡ out)
+  pub done : r ≡ true → (rule ≤ 1) × (out′ ≡ putAt out 0 (survivor rule keys sort (take width (drop old rows)) (take width (drop new pending))))
+  pub nothing : r ≡ false → ((rule ≤ 1) × (old + width ≤ length rows) × (new + width ≤ length pending) × (width ≤ length out) → ⊥) × (out′ ≡ out)
 
 module _ (rule keys sort : ℕ) (old new out : List ℕ) where
   pub made-nothing : ((length old ≡ length new) × (length old ≤ length out) → ⊥) → Made rule keys sort old new out false out
@@ -60,14 +61,14 @@ module _ (rule keys sort : ℕ) (old new out : List ℕ) where
   made-done out′ l w = record { done = λ e. (l, w); nothing = λ e. absurd (true≢false e) }
 
 module _ (rule keys sort width : ℕ) (rows : List ℕ) (old : ℕ) (pending : List ℕ) (new : ℕ) (out : List ℕ) where
-  pub survives-nothing : ((old + width ≤ length rows) × (new + width ≤ length pending) × (width ≤ length out) → ⊥)
+  pub survives-nothing : ((rule ≤ 1) × (old + width ≤ length rows) × (new + width ≤ length pending) × (width ≤ length out) → ⊥)
       → Survives rule keys sort width rows old pending new out false out
   survives-nothing n = record { done = λ e. absurd (false≢true e); nothing = λ e. (n, refl) }
 
-  pub survives-done : (out′ : List ℕ)
+  pub survives-done : (out′ : List ℕ) → rule ≤ 1
       → out′ ≡ putAt out 0 (survivor rule keys sort (take width (drop old rows)) (take width (drop new pending)))
       → Survives rule keys sort width rows old pending new out true out′
-  survives-done out′ w = record { done = λ e. w; nothing = λ e. absurd (true≢false e) }
+  survives-done out′ q w = record { done = λ e. (q, w); nothing = λ e. absurd (true≢false e) }
 
 -- a table's numbers are within their bounds, and these lengths of its row and key store enough
 pub record Sized (t : Keyed) (rows store : ℕ) : Type 0 where

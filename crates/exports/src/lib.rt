@@ -172,8 +172,8 @@ pub extern "C" fn mouldgrey_make(
     true
 }
 
-// The row that survives under rule 0 or 1, copied to the start of `out`; false, and nothing done, where a row does not lie
-// in its store or `out` is shorter.
+// The row that survives under rule 0 or 1, copied to the start of `out`; false, and nothing done, under another rule, where
+// a row does not lie in its store or `out` is shorter.
 #[no_mangle]
 pub extern "C" fn mouldgrey_surviving_row<'a>(
     rule: u32,
@@ -188,6 +188,9 @@ pub extern "C" fn mouldgrey_surviving_row<'a>(
 ) -> bool
     ensures { λ r. ⌜ Survives rule keys sort width (now (rows .entry)) old (now (pending .entry)) new (now (out .entry)) r (now (out .exit)) ⌝ }
 {
+    if 1 < rule {
+        return false;
+    }
     if rows.len() < width {
         return false;
     }
@@ -218,7 +221,7 @@ fn copy_survivor<'a>(
     new: usize,
     out: &mut [u32],
 )
-    requires { ⌜ (old + width ≤ length (now rows)) × (new + width ≤ length (now pending)) × (width ≤ length (now out)) ⌝ }
+    requires { ⌜ (old + width ≤ length (now rows)) × (new + width ≤ length (now pending)) × (width ≤ length (now out)) × (rule ≤ 1) ⌝ }
     ensures { λ _. ⌜ now (out .exit) ≡ putAt (now (out .entry)) 0 (survivor rule keys sort (take width (drop old (now (rows .entry)))) (take width (drop new (now (pending .entry))))) ⌝ }
 {
     let row = merge_rules::surviving_row(rule, keys, sort, width, rows, old, pending, new);

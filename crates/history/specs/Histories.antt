@@ -11,8 +11,8 @@ use Rattle.table.specs.declared.MergeAnswer.{MergeAnswer}
 use Rattle.table.specs.Numbers.{tableSays, mergeSays}
 use Rattle.table.specs.Promises.{Stores, stores, lengths, headerAfter, headerMerged, Opened, Staging, Merging, Compacting, Clearing}
 
--- one call: from some stores to others, by the promise of its entry point, with the lengths of what it was lent. A store
--- that a call is not lent is as it was
+-- one call: from some stores to others, by the promise of its entry point, with the lengths of what it was lent. The stores
+-- are lent whole; one that a call is not lent is as it was
 pub data Step (s : Stores) : Lent → Stores → Type 0 where
   staged : (r : Staged) (answer : TableAnswer) (pending′ : List ℕ) → Staging (s .header) (s .pending) r answer pending′
       → Step s

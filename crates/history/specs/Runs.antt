@@ -1,5 +1,5 @@
 -- Runs of questions (the order, term 3): "take any starting subset and any list of steps. A step refines by a condition or
--- by a list of them, or intersects with a subset of ours or a condition's sort-column range; each works on the ids that
+-- by a list of them (an empty one will do), or intersects with a subset of ours or a condition's sort-column range; each works on the ids that
 -- the last accepted one left, and a refused one counts for nothing". Assumes nothing.
 use Prim.Native.Nat.{ℕ}
 use mathlib.Core.Path.{_≡_}

@@ -1,7 +1,6 @@
-pub mod LawsWalk
-pub mod LawsHit
-pub mod LawsFind
-pub mod LawsPut
+pub mod WordSteps
+pub mod WalkSteps
+pub mod FindSteps
+pub mod PutSteps
 pub mod GapSteps
-pub mod RankLaws
 pub mod RenumberSteps

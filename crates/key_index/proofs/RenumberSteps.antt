@@ -1,4 +1,5 @@
--- The steps of `renumber` as the definitions of specs/Gaps.antt. Assumes nothing.
+-- The steps of `renumber` as the definitions of specs/Index.antt: what becomes of a word, and the turns of the loop over the
+-- slots. Assumes nothing.
 use Prim.Native.Nat.{ℕ, _+_, _-_, _*_, _/_, _%_, _^_, _≤_, _<_}
 use mathlib.Core.Path.{_≡_, refl, ap, _∙_}
 use mathlib.Core.Bool.{true, false}
@@ -6,11 +7,13 @@ use mathlib.Core.List.{List}
 use native.Mathlib.Omega.{arith}
 use lib.ListN.{length, getD, set}
 use borrow.Author.Tests.{le-leb, lt-leb}
-use Rattle.lists.specs.Laws.Ring.{mapFront, length-mapFront, mapFront-step}
+use Rattle.lists.specs.Lists.{mapFront}
+use Rattle.lists.specs.Laws.Front.{length-mapFront, mapFront-step}
+use Rattle.row_buffer.specs.Ranks.{setBelow}
 use Rattle.key_index.specs.declared.Keyed.{Keyed}
 use Rattle.key_index.specs.Slots.{slots}
-use Rattle.key_index.specs.Gaps.{rowOf, namesRow, setBelow, newRow, renumbered, Ranked}
-use Rattle.key_index.proofs.GapSteps.{number}
+use Rattle.key_index.specs.Ring.{rowNamed, namesRow, names-number}
+use Rattle.key_index.specs.Index.{newRow, renumbered, Ranked}
 
 module _ (t : Keyed) (w : ℕ) (live base : List ℕ) where
   -- a word that names no row stays
@@ -21,18 +24,18 @@ module _ (t : Keyed) (w : ℕ) (live base : List ℕ) where
   module _ (e : namesRow t w ≡ true) where
     -- so does one whose new number no table has
     pub too-large : 65536 < getD base ((w % 2 ^ 17 - 1) / 64) 0 → w ≡ renumbered t live base w
-    unfolding renumbered rowOf
+    unfolding renumbered rowNamed
     too-large h = rw (e, lt-leb (getD base ((w % 2 ^ 17 - 1) / 64) 0) 65536 h)
 
     pub has-new : (r : ℕ) → getD base ((w % 2 ^ 17 - 1) / 64) 0 ≤ 65536
         → r ≡ getD base ((w % 2 ^ 17 - 1) / 64) 0 + setBelow (getD live ((w % 2 ^ 17 - 1) / 64) 0) ((w % 2 ^ 17 - 1) % 64)
         → w / 2 ^ 17 * 2 ^ 17 + (r + 1) ≡ renumbered t live base w
-    unfolding renumbered rowOf newRow
+    unfolding renumbered rowNamed newRow
     has-new r h q = rw (e, le-leb (getD base ((w % 2 ^ 17 - 1) / 64) 0) 65536 h, q)
 
     -- the row has its marks and its first number
     pub in-words : Ranked t live base → (0 < w % 2 ^ 17) × ((w % 2 ^ 17 - 1) / 64 < length live) × ((w % 2 ^ 17 - 1) / 64 < length base)
-    in-words r = let n = number t w e in (n .0, omega (arith, n, r .marks, r .count), omega (arith, n, r .firsts, r .count))
+    in-words r = let n = names-number t w e in (n .0, omega (arith, n, r .marks, r .count), omega (arith, n, r .firsts, r .count))
 
 -- what holds at the loop's head: the first `at` slots are renumbered
 pub record Pass (t : Keyed) (live base store₀ store : List ℕ) (at : ℕ) : Type 0 where

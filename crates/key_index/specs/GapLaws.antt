@@ -1,67 +1,28 @@
--- A sound key store, unrolled at a free slot, and back; and that the walk of Gaps.antt keeps it sound. Assumes nothing.
+-- A sound key store, unrolled at a free slot, and back; and that the walk that closes a gap, `closed` of Index.antt, keeps it
+-- sound once the row is dead. Assumes nothing.
 use Prim.Native.Nat.{ℕ, zero, suc, _+_, _-_, _*_, _%_, _^_, _≤_, _<_}
 use mathlib.Core.Path.{_≡_, refl, sym, ap, _∙_}
 use mathlib.Core.Logic.{inl, inr}
 use mathlib.Core.Bool.{true, false, not, false≢true}
-use mathlib.Core.List.{List, [], _∷_}
-use native.Mathlib.Nat.{add-zero, mul-lt-mul-of-pos-right}
+use mathlib.Core.List.{List}
+use native.Mathlib.Nat.{add-zero}
 use native.Mathlib.Decide.{decLt, ℕ-discrete}
 use native.Mathlib.Omega.{arith}
 use lib.Dec.{ltb, eqb}
 use lib.ListN.{length, take, drop, getD, set, length-set}
 use lib.Seq.{getD-set-same, drop-set-lt}
-use borrow.Author.Tests.{lt-ltb, le-ltb, le-leb, eq-eqb}
+use borrow.Author.Tests.{lt-ltb, le-ltb, eq-eqb}
 use Rattle.lists.specs.Lists.{rowAt}
 use Rattle.lists.specs.Laws.Keep.{split}
 use Rattle.lists.specs.Laws.Rows.{row-in, getD-rowAt, rowAt-set-other}
-use Rattle.cells.specs.Cells.{isDead, compact, mixed, mixedAll, keyHash}
-use Rattle.cells.specs.Laws.{compact-key-hash}
+use Rattle.cells.specs.Cells.{isDead}
 use Rattle.constraints.specs.Constraints.{isLive}
 use Rattle.key_index.specs.declared.Keyed.{Keyed}
 use Rattle.key_index.specs.Slots.{LiveAt, keyAt, slots, word, home, slotFrom, StandsAt, KeysSound}
-use Rattle.key_index.specs.Unrolled.{away, slot-below, slot-then, slot-zero, slot-round, slot-one, away-below, away-slot, away-line, line, line-at, line-put, Line, Gap, gap-open, gap-stay, gap-move, gap-close, line-homes}
-use Rattle.key_index.specs.Gaps.{Fits, rowOf, namesRow, homeOf, closed, FreeSlot}
-
--- ---- words and homes
-
-mixed-fits : (hash cell : ℕ) → mixed hash cell < 2 ^ 32
-unfolding mixed
-mixed-fits hash cell = omega arith
-
-all-fits : (hash : ℕ) → hash < 2 ^ 32 → (cells : List ℕ) → mixedAll hash cells < 2 ^ 32
-unfolding mixedAll
-all-fits hash h [] = h
-all-fits hash h (cell ∷ cells) = all-fits (mixed hash cell) (mixed-fits hash cell) cells
-
--- a key's compact hash is a cell
-pub key-fits : (key : List ℕ) → compact (keyHash key) < 2 ^ 32
-key-fits key = rw (compact-key-hash key) (all-fits 0 (omega arith) key)
-
--- a home is a slot
-pub home-below : (n : ℕ) (key : List ℕ) → 0 < n → home n key < n
-unfolding home
-home-below n key h = omega (arith, mul-lt-mul-of-pos-right {k = n} (key-fits key) h)
-
-pub word-row : (key : List ℕ) (row : ℕ) → row < 2 ^ 17 - 1 → rowOf (word key row) ≡ row
-unfolding word rowOf
-word-row key row h = omega arith
-
-pub word-pos : (key : List ℕ) (row : ℕ) → 0 < word key row
-unfolding word
-word-pos key row = omega arith
-
-pub names-word : (t : Keyed) (key : List ℕ) (row : ℕ) → row < t .rows → row < 2 ^ 17 - 1 → namesRow t (word key row) ≡ true
-unfolding word namesRow
-names-word t key row h k =
-    let w = compact (keyHash key) % 2 ^ 15 * 2 ^ 17 + (row + 1) in
-    let e : w % 2 ^ 17 ≡ row + 1 = omega arith in
-    let p : 0 < w % 2 ^ 17 = omega arith in
-    let q : w % 2 ^ 17 ≤ t .rows = omega arith in
-    rw (lt-ltb 0 (w % 2 ^ 17) p, le-leb (w % 2 ^ 17) (t .rows) q)
-
-pub names-zero : (t : Keyed) (w : ℕ) → w ≡ 0 → namesRow t w ≡ false
-unfolding namesRow
-names-zero t w e = rw e
+use Rattle.key_index.specs.Ring.{rowNamed, namesRow, away, word-some, word-row, word-same, names-none, names-word, home-below, slot-below, slot-then, slot-zero, slot-round, slot-one, away-below, away-slot, away-line}
+use Rattle.key_index.specs.Index.{Fits, homeOf, closed}
+use Rattle.key_index.specs.Laws.{free-slot}
+use Rattle.key_index.specs.Unrolled.{line, line-at, line-put, Line, Gap, gap-open, gap-stay, gap-move, gap-close, line-homes}
 
 -- ---- a sound store as a line
 
@@ -80,7 +41,7 @@ pub record Small (t : Keyed) : Type 0 where
   pub count : t .rows ≤ t .capacity
 
 pub small : (t : Keyed) (rows store : List ℕ) → Fits t rows store → Small t
-small t rows store f = record { some = f .some-capacity; capacity = f .capacity; count = f .count }
+small t rows store f = record { some = f .some; capacity = f .most; count = f .count }
 
 module _ (t : Keyed) (m : Small t) (rows : List ℕ) (z : ℕ) (b : z < slots t) where
   -- the home of a live row's word
@@ -107,7 +68,7 @@ module _ (t : Keyed) (m : Small t) (rows : List ℕ) (z : ℕ) (b : z < slots t)
             | no i ↦
                 let e : d ≡ slots t - k = omega (arith, home-in w) in
                 let f : w ≡ 0 = sym (s .there) ∙ ap (λ (x : ℕ). getD store (slotFrom (slots t) (home (slots t) (keyAt t rows row)) x) 0) e ∙ ap (λ (x : ℕ). getD store x 0) back ∙ free in
-                absurd (omega (arith, word-pos (keyAt t rows row) row))
+                absurd (omega (arith, word-some (keyAt t rows row) row))
           ]
         ]
       where
@@ -194,7 +155,7 @@ module _ (t : Keyed) (m : Small t) (rows : List ℕ) (z : ℕ) (b : z < slots t)
             let w = word (keyAt t rows row) row in
             let k = lineHome t rows z w in
             let p = f .0 in
-            let c : 0 < getD store (slotFrom (slots t) z p) 0 = rw (f .2) (word-pos (keyAt t rows row) row) in
+            let c : 0 < getD store (slotFrom (slots t) z p) 0 = rw (f .2) (word-some (keyAt t rows row) row) in
             let i : k ≤ p = rw (f .2) at (s .after p (f .1) c) in
             let g : k + (p - k) ≡ p = omega arith in (
               p - k,
@@ -242,41 +203,36 @@ module _ (t : Keyed) (rows : List ℕ) where
         let f : left ≡ suc (left - 1) = omega arith in
         ap (λ (k : ℕ). closed t rows k hole gap at store) f ∙ rw (e, le-ltb (moved at store) (gap + 1) i)
 
-  -- it keeps the length, and what lies past the slots
-  pub closed-length : (left hole gap at : ℕ) (store : List ℕ) → length (closed t rows left hole gap at store) ≡ length store
-  unfolding closed
-  closed-length zero hole gap at store = length-set store hole 0
-  closed-length (suc left) hole gap at store =
-      let next = slotFrom (slots t) at 1 in
-      let w = getD store next 0 in
-      elim (split (namesRow t w)) [
-        | inl e ↦ elim (split (ltb (away (slots t) (homeOf t rows w) next) (gap + 1))) [
-          | inl f ↦ rw (e, f) (closed-length left hole (gap + 1) next store)
-          | inr f ↦ rw (e, f) (closed-length left next 0 next (set store hole w) ∙ length-set store hole w)
+  -- it keeps what each write keeps, to the hole and to the slots that are met
+  module _ {A : Type 0} (f : List ℕ → A) (In : ℕ → Type 0) (met : (at : ℕ) → In (after at))
+      (keeps : (store : List ℕ) (slot w : ℕ) → In slot → f (set store slot w) ≡ f store) where
+    closed-keeps : (left hole gap at : ℕ) (store : List ℕ) → In hole → f (closed t rows left hole gap at store) ≡ f store
+    unfolding closed
+    closed-keeps zero hole gap at store h = keeps store hole 0 h
+    closed-keeps (suc left) hole gap at store h =
+        let w = getD store (after at) 0 in
+        elim (split (namesRow t w)) [
+          | inl e ↦ elim (split (ltb (moved at store) (gap + 1))) [
+            | inl g ↦ rw (e, g) (closed-keeps left hole (gap + 1) (after at) store h)
+            | inr g ↦ rw (e, g) (closed-keeps left (after at) 0 (after at) (set store hole w) (met at) ∙ keeps store hole w h)
+          ]
+          | inr e ↦ rw e (keeps store hole 0 h)
         ]
-        | inr e ↦ rw e (length-set store hole 0)
-      ]
+
+  -- so the length, and what lies past the slots
+  pub closed-length : (left hole gap at : ℕ) (store : List ℕ) → length (closed t rows left hole gap at store) ≡ length store
+  closed-length left hole gap at store = closed-keeps length (λ _. Unit) (λ _. tt) (λ s i w _. length-set s i w) left hole gap at store tt
 
   pub closed-rest : (left hole gap at : ℕ) (store : List ℕ) → hole < slots t → drop (slots t) (closed t rows left hole gap at store) ≡ drop (slots t) store
-  unfolding closed
-  closed-rest zero hole gap at store h = drop-set-lt (slots t) store hole 0 h
-  closed-rest (suc left) hole gap at store h =
-      let next = slotFrom (slots t) at 1 in
-      let w = getD store next 0 in
-      elim (split (namesRow t w)) [
-        | inl e ↦ elim (split (ltb (away (slots t) (homeOf t rows w) next) (gap + 1))) [
-          | inl f ↦ rw (e, f) (closed-rest left hole (gap + 1) next store h)
-          | inr f ↦ rw (e, f) (closed-rest left next 0 next (set store hole w) (slot-below (slots t) at 1 (omega arith)) ∙ drop-set-lt (slots t) store hole w h)
-        ]
-        | inr e ↦ rw e (drop-set-lt (slots t) store hole 0 h)
-      ]
+  closed-rest left hole gap at store h =
+      closed-keeps (drop (slots t)) (λ i. i < slots t) (λ i. slot-below (slots t) i 1 (omega arith)) (λ s i w k. drop-set-lt (slots t) s i w k) left hole gap at store h
 
   module _ (Held : ℕ → Type 0) (names : (w : ℕ) → Held w → namesRow t w ≡ true) (z : ℕ) (b : z < slots t) (m : Small t) where
     -- how far a word's home lies before a place of the line
     word-far : (w a : ℕ) → lineHome t rows z w ≤ a → a < slots t → away (slots t) (homeOf t rows w) (slotFrom (slots t) z a) ≡ a - lineHome t rows z w
     unfolding lineHome homeOf
     word-far w a i h =
-        let key = keyAt t rows (rowOf w) in
+        let key = keyAt t rows (rowNamed w) in
         let e = away-slot (slots t) z (home (slots t) key) b (home-below (slots t) key (omega arith)) in
         ap (λ (k : ℕ). away (slots t) k (slotFrom (slots t) z a)) (sym e) ∙ away-line (slots t) z (away (slots t) z (home (slots t) key)) a b i h
 
@@ -303,7 +259,7 @@ module _ (t : Keyed) (rows : List ℕ) where
         -- nothing stands next
         stop : getD store (after at) 0 ≡ 0 → Line (slots t) (lineHome t rows z) Held (line (slots t) z (closed t rows (suc left) hole gap at store))
         stop e =
-            rw (closed-stop (suc left) hole gap at store (omega arith) (names-zero t _ e), x)
+            rw (closed-stop (suc left) hole gap at store (omega arith) (names-none t _ (ap (λ (w : ℕ). w % 2 ^ 17) e)), x)
             (gap-close (slots t) (lineHome t rows z) Held (line (slots t) z store) g a s _ (λ k. sym there ∙ e) (line-put (slots t) z store g 0 b (omega (arith, s .order, s .end)) long))
 
         -- a word stands next
@@ -380,12 +336,12 @@ module _ (t : Keyed) (rows store : List ℕ) (f : Fits t rows store) (r : ℕ) (
   stored-back w s = let k = other-live (s .0) (s .1) in (s .0, live-back (s .0) (s .1), rw (same-key (s .0) k) at (s .2))
 
   row-small : (row : ℕ) → row < t .rows → row < 2 ^ 17 - 1
-  row-small row h = omega (arith, f .count, f .capacity)
+  row-small row h = omega (arith, f .count, f .most)
 
   stored-out : Stored t (set rows (r * t .columns) 4294967295) (word (keyAt t rows r) r) → ⊥
   stored-out s =
       let k = other-live (s .0) (s .1) in
-      k (sym (word-row _ (s .0) (row-small (s .0) (s .1 .0))) ∙ sym (ap rowOf (s .2)) ∙ word-row (keyAt t rows r) r (row-small r (live .0)))
+      k (word-same _ (keyAt t rows r) (s .0) r (row-small (s .0) (s .1 .0)) (row-small r (live .0)) (sym (s .2)))
 
   stored-names : (w : ℕ) → Stored t (set rows (r * t .columns) 4294967295) w → namesRow t w ≡ true
   stored-names w s = rw (s .2) (names-word t _ (s .0) (s .1 .0) (row-small (s .0) (s .1 .0)))
@@ -394,14 +350,15 @@ module _ (t : Keyed) (rows store : List ℕ) (f : Fits t rows store) (r : ℕ) (
   unfolding lineHome homeOf
   same-home z w s =
       let k = other-live (s .0) (s .1) in
-      let e : rowOf w ≡ s .0 = ap rowOf (s .2) ∙ word-row _ (s .0) (row-small (s .0) (s .1 .0)) in
+      let e : rowNamed w ≡ s .0 = ap rowNamed (s .2) ∙ word-row _ (s .0) (row-small (s .0) (s .1 .0)) in
       rw (e, same-key (s .0) k)
 
   -- "Freed slots are used again": once the gap is closed the store leads to exactly the other live rows
-  pub take-out-sound : KeysSound t rows store → FreeSlot t store → (slot : ℕ) → slot < slots t → getD store slot 0 ≡ word (keyAt t rows r) r
+  pub take-out-sound : KeysSound t rows store → (slot : ℕ) → slot < slots t → getD store slot 0 ≡ word (keyAt t rows r) r
       → KeysSound t (set rows (r * t .columns) 4294967295) (closed t rows (slots t) slot 0 slot store)
   unfolding Walked
-  take-out-sound s free slot h e =
+  take-out-sound s slot h e =
+      let free = free-slot t rows store f s in
       let z = free .0 in
       let b = free .1 in
       let m = small t rows store f in
@@ -409,7 +366,7 @@ module _ (t : Keyed) (rows store : List ℕ) (f : Fits t rows store) (r : ℕ) (
       let g = away (slots t) z slot in
       let at : slotFrom (slots t) z g ≡ slot = away-slot (slots t) z slot b h in
       let there : line (slots t) z store g ≡ word (keyAt t rows r) r = line-at (slots t) z store g slot at ∙ e in
-      let gap = gap-open (slots t) (lineHome t rows z) (Stored t rows) (Stored t rows′) (line (slots t) z store) g (away-below (slots t) z slot (omega arith)) (rw there (word-pos (keyAt t rows r) r))
+      let gap = gap-open (slots t) (lineHome t rows z) (Stored t rows) (Stored t rows′) (line (slots t) z store) g (away-below (slots t) z slot (omega arith)) (rw there (word-some (keyAt t rows r) r))
       (λ w q ne. stored-on w q (λ v. ne (v ∙ sym there))) (λ w q. stored-back w q) (λ q. stored-out (rw there at q)) (unroll t m rows z b store s (free .2)) in
       let done = walked t rows (Stored t rows′) (λ w q. stored-names w q) z b m (slots t) g g slot 0 slot store (f .long) (sym at) (omega arith) (sym at) (omega arith) gap in
       roll t m rows′ z b (closed t rows (slots t) slot 0 slot store) (line-homes (slots t) (lineHome t rows z) (Stored t rows′) (lineHome t rows′ z) _ (λ w q. same-home z w q) done)

@@ -1,17 +1,20 @@
--- What the functions of the key index promise. Assumes nothing.
-use Prim.Native.Nat.{ℕ, zero, suc, _*_, _≤_, _<_}
+-- What the functions of the key index ask and promise: a lookup, a row put, replaced, taken out, all slots made free, and rows
+-- renumbered by the compaction words (document 01, "Key index" and "Compaction"). Assumes nothing.
+use Prim.Native.Nat.{ℕ, zero, suc, _+_, _*_, _/_, _%_, _^_, _≤_, _<_}
 use mathlib.Core.Path.{_≡_}
-use mathlib.Core.Bool.{Bool, true, false, _&&_}
+use mathlib.Core.Bool.{Bool, true, false, cond, _&&_}
 use mathlib.Core.List.{List}
+use lib.Dec.{leb, ltb}
 use lib.ListN.{length, getD, set, drop, replicate}
 use Rattle.lists.specs.Lists.{putAt, rowAt, same}
 use Rattle.cells.specs.Cells.{compact, keyHash}
 use Rattle.constraints.specs.Constraints.{isLive}
+use Rattle.row_buffer.specs.Ranks.{setBelow}
 use Rattle.key_index.specs.declared.Keyed.{Keyed}
 use Rattle.key_index.specs.declared.Found.{Found}
 use Rattle.key_index.specs.declared.Found.the-variants.{None, At}
-use Rattle.key_index.specs.Slots.{LiveAt, keyAt, slots, word, slotFrom, KeysSound}
-use Rattle.key_index.specs.Ring.{spread, tagged}
+use Rattle.key_index.specs.Slots.{LiveAt, keyAt, slots, word, home, slotFrom, KeysSound}
+use Rattle.key_index.specs.Ring.{spread, tagged, rowNamed, namesRow, away}
 
 -- a key store is long enough for a capacity
 pub record Room (capacity : ℕ) (store : List ℕ) : Type 0 where
@@ -19,14 +22,13 @@ pub record Room (capacity : ℕ) (store : List ℕ) : Type 0 where
   pub most : capacity ≤ 65536
   pub long : 2 * capacity ≤ length store
 
--- a table's rows lie in their store, and a key is as wide as theirs
-pub record RowsFit (t : Keyed) (rows key : List ℕ) : Type 0 where
+-- a table's rows lie in their store
+pub record RowsIn (t : Keyed) (rows : List ℕ) : Type 0 where
   pub most-columns : t .columns ≤ 8
   pub most-keys : t .keys ≤ t .columns
   pub most : t .capacity ≤ 65536
   pub count : t .rows ≤ t .capacity
   pub cells : t .capacity * t .columns ≤ length rows
-  pub width : length key ≡ t .keys
 
 -- a table's numbers are within their bounds, and its stores long enough
 pub record Fits (t : Keyed) (rows store : List ℕ) : Type 0 where
@@ -39,6 +41,12 @@ pub record Fits (t : Keyed) (rows store : List ℕ) : Type 0 where
   pub count : t .rows ≤ t .capacity
   pub cells : t .capacity * t .columns ≤ length rows
   pub long : 2 * t .capacity ≤ length store
+
+pub rows-in : (t : Keyed) (rows store : List ℕ) → Fits t rows store → RowsIn t rows
+rows-in t rows store f =
+    record { most-columns = f .most-columns; most-keys = f .most-keys; most = f .most; count = f .count; cells = f .cells }
+
+-- ---- lookup
 
 -- a slot's word leads to a row below the count that has this key, and has the bits of this hash
 pub record Leads (t : Keyed) (rows key : List ℕ) (hash w row : ℕ) : Type 0 where
@@ -66,6 +74,8 @@ pub record FoundIs (t : Keyed) (rows store key : List ℕ) (hash : ℕ) (r : Fou
   pub none : hash ≡ compact (keyHash key) → KeysSound t rows store → r ≡ None → (i : ℕ) → LiveAt t rows i → keyAt t rows i ≡ key → ⊥
   pub at : hash ≡ compact (keyHash key) → KeysSound t rows store → (row slot : ℕ) → r ≡ At row slot → FoundAt t rows store key row slot
 
+-- ---- a row put, and all slots made free
+
 -- the d-th slot from a slot is the first free one
 pub record FirstFree (n : ℕ) (store : List ℕ) (start d : ℕ) : Type 0 where
   pub below : d < n
@@ -88,6 +98,56 @@ pub record EmptyIs (capacity : ℕ) (store store′ : List ℕ) : Type 0 where
   pub free : store′ ≡ putAt store 0 (zeros (2 * capacity))
   pub tail : drop (2 * capacity) store′ ≡ drop (2 * capacity) store
 
+-- ---- a row taken out
+
+-- the home of the key of the row that a word names
+unfoldable pub homeOf : Keyed → List ℕ → ℕ → ℕ
+homeOf t rows w = home (slots t) (keyAt t rows (rowNamed w))
+
+-- The walk from a hole on, where `at` lies `gap` slots after the hole. A word whose home lies before the next slot by at
+-- least as much as the hole does is moved into the hole, and leaves one behind. The first slot that names no row ends it.
+unfoldable pub closed : Keyed → List ℕ → ℕ → ℕ → ℕ → ℕ → List ℕ → List ℕ
+closed t rows zero hole gap at store = set store hole 0
+closed t rows (suc left) hole gap at store =
+    let next = slotFrom (slots t) at 1 in
+    let w = getD store next 0 in
+    cond (namesRow t w)
+    (cond (ltb (away (slots t) (homeOf t rows w) next) (gap + 1)) (closed t rows left hole (gap + 1) next store)
+    (closed t rows left next 0 next (set store hole w)))
+    (set store hole 0)
+
+-- the words moved, with the last hole still to be freed
+pub record Shifted (t : Keyed) (rows store : List ℕ) (slot r : ℕ) (store′ : List ℕ) : Type 0 where
+  pub walk : set store′ r 0 ≡ closed t rows (slots t) slot 0 slot store
+  pub below : r < slots t
+  pub same : length store′ ≡ length store
+
+-- the store once the live row in a slot is taken out, and about to die
+pub record TakenOut (t : Keyed) (rows store : List ℕ) (slot : ℕ) (store′ : List ℕ) : Type 0 where
+  pub sound : KeysSound t rows store → (row : ℕ) → LiveAt t rows row → getD store slot 0 ≡ word (keyAt t rows row) row
+      → KeysSound t (set rows (row * t .columns) 4294967295) store′
+  pub rest : drop (slots t) store′ ≡ drop (slots t) store
+  pub same : length store′ ≡ length store
+
+-- ---- rows renumbered
+
+-- "a row's new number is that plus the count of ones below its bit"
+unfoldable pub newRow : List ℕ → List ℕ → ℕ → ℕ
+newRow live base row = getD base (row / 64) 0 + setBelow (getD live (row / 64) 0) (row % 64)
+
+-- A slot's word with its row's new number. One that names no row stays, and so does one of a row whose first live number
+-- is told to be above 65536, as no compaction tells: so a new number never runs into the hash bits.
+unfoldable pub renumbered : Keyed → List ℕ → List ℕ → ℕ → ℕ
+renumbered t live base w =
+    cond (namesRow t w) (cond (leb (getD base (rowNamed w / 64) 0) 65536) (w / 2 ^ 17 * 2 ^ 17 + (newRow live base (rowNamed w) + 1)) w) w
+
+-- "capacity over 64 rounded up of u64 and of u32"
+pub record Ranked (t : Keyed) (live base : List ℕ) : Type 0 where
+  pub capacity : t .capacity ≤ 65536
+  pub count : t .rows ≤ t .capacity
+  pub marks : (t .capacity + 63) / 64 ≤ length live
+  pub firsts : (t .capacity + 63) / 64 ≤ length base
+
 -- ---- the scan that a lookup is to agree with
 
 pub data Scanned : Type 0 where
@@ -98,14 +158,10 @@ pub data Scanned : Type 0 where
 unfoldable pub matches : Keyed → List ℕ → List ℕ → ℕ → Bool
 matches t rows key i = isLive (rowAt (t .columns) i rows) && same (keyAt t rows i) key
 
-unfoldable pub pick : Bool → Scanned → Scanned → Scanned
-pick true a b = a
-pick false a b = b
-
 -- the first of n rows from row i on that is live and has this key
 unfoldable pub scanFrom : Keyed → List ℕ → List ℕ → ℕ → ℕ → Scanned
 scanFrom t rows key i zero = nothing
-scanFrom t rows key i (suc n) = pick (matches t rows key i) (row i) (scanFrom t rows key (suc i) n)
+scanFrom t rows key i (suc n) = cond (matches t rows key i) (row i) (scanFrom t rows key (suc i) n)
 
 unfoldable pub scan : Keyed → List ℕ → List ℕ → Scanned
 scan t rows key = scanFrom t rows key 0 (t .rows)

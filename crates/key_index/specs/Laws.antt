@@ -1,6 +1,6 @@
 -- What may be relied on of a sound key store: a slot is free, the changes that the functions make keep it sound, and a lookup
 -- in it is a scan of the rows. Assumes nothing.
-use Prim.Native.Nat.{ℕ, zero, suc, _+_, _-_, _*_, _%_, _^_, _≤_, _<_}
+use Prim.Native.Nat.{ℕ, zero, suc, _+_, _*_, _≤_, _<_}
 use mathlib.Core.Path.{_≡_, refl, sym, ap, _∙_}
 use mathlib.Core.Logic.{_⊎_, inl, inr}
 use mathlib.Core.Bool.{Bool, true, false≢true}
@@ -20,9 +20,9 @@ use Rattle.key_index.specs.declared.Keyed.{Keyed}
 use Rattle.key_index.specs.declared.Found.{Found}
 use Rattle.key_index.specs.declared.Found.the-variants.{None, At}
 use Rattle.key_index.specs.Slots.{LiveAt, keyAt, slots, word, home, slotFrom, StandsAt, KeysSound}
-use Rattle.key_index.specs.Ring.{tagged, home-spread, word-tagged, word-some, word-row, word-same, slot-below, slot-met}
+use Rattle.key_index.specs.Ring.{tagged, rowNamed, home-spread, word-tagged, word-some, word-row, word-same, slot-below, slot-met}
 use Rattle.key_index.specs.Pigeons.{pigeons}
-use Rattle.key_index.specs.Index.{Fits, FirstFree, FoundAt, FoundIs, PutIs, zeros, EmptyIs, nothing, row, matches, pick, scanFrom, scan, rowOf}
+use Rattle.key_index.specs.Index.{Fits, FirstFree, FoundAt, FoundIs, PutIs, zeros, EmptyIs, nothing, row, matches, scanFrom, scan, rowOf}
 
 -- ---- a slot is free
 
@@ -37,9 +37,9 @@ any-free (suc n) store = elim (ℕ-discrete (getD store n 0) 0) [
   ]
 ]
 
--- the row that a slot's word says
+-- the row that a slot's word names
 abbrev rowIn : List ℕ → ℕ → ℕ
-rowIn store slot = getD store slot 0 % 2 ^ 17 - 1
+rowIn store slot = rowNamed (getD store slot 0)
 
 module _ (t : Keyed) (rows store : List ℕ) (fits : Fits t rows store) (sound : KeysSound t rows store) where
   -- each taken slot has a row of its own, so not all are taken
@@ -52,9 +52,7 @@ module _ (t : Keyed) (rows store : List ℕ) (fits : Fits t rows store) (sound :
       at-is : (slot : ℕ) (h : slot < slots t) → rowIn store slot ≡ the slot h .0
       at-is slot h =
           let r = the slot h in
-          let e : getD store slot 0 % 2 ^ 17 ≡ word (keyAt t rows (r .0)) (r .0) % 2 ^ 17 = ap (λ (x : ℕ). x % 2 ^ 17) (r .2) in
-          let f = word-row (keyAt t rows (r .0)) (r .0) (omega (arith, r .1 .0, fits .count, fits .most)) in
-          omega arith
+          ap rowNamed (r .2) ∙ word-row (keyAt t rows (r .0)) (r .0) (omega (arith, r .1 .0, fits .count, fits .most))
 
       into : (slot : ℕ) → slot < slots t → rowIn store slot < t .rows
       into slot h = omega (arith, at-is slot h, the slot h .1 .0)
@@ -285,7 +283,7 @@ module _ (t : Keyed) (rows key : List ℕ) where
   matches-key i e = same-eq _ _ (and-right (isLive (rowAt (t .columns) i rows)) _ e)
 
   scan-none : (i n : ℕ) → ((j : ℕ) → j < i + n → matches t rows key j ≡ true → ⊥) → scanFrom t rows key i n ≡ nothing
-  unfolding scanFrom pick
+  unfolding scanFrom
   scan-none i zero f = refl
   scan-none i (suc n) f = elim (split (matches t rows key i)) [
     | inl e ↦ absurd (f i (omega arith) e)
@@ -293,7 +291,7 @@ module _ (t : Keyed) (rows key : List ℕ) where
   ]
 
   scan-at : (i n k : ℕ) → i ≤ k → k < i + n → matches t rows key k ≡ true → ((j : ℕ) → j < k → matches t rows key j ≡ true → ⊥) → scanFrom t rows key i n ≡ row k
-  unfolding scanFrom pick
+  unfolding scanFrom
   scan-at i zero k h l e f = absurd (omega arith)
   scan-at i (suc n) k h l e f = elim (split (matches t rows key i)) [
     | inl m ↦ elim (ℕ-discrete i k) [ yes q ↦ rw m (ap row q) | no q ↦ absurd (f i (omega arith) m) ]

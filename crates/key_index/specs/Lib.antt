@@ -1,11 +1,9 @@
 pub mod Slots
 pub mod Ring
-pub mod Pigeons
 pub mod Index
+pub mod Pigeons
 pub mod Laws
 pub mod Rows
 pub mod Unrolled
-pub mod Gaps
 pub mod GapLaws
-pub mod FreeSlot
 pub mod RenumberLaws

@@ -1,4 +1,5 @@
--- The pigeonhole principle on numbers. Assumes nothing.
+-- The pigeonhole principle on numbers: where each of m numbers has one below n to itself, m is at most n. By it not all slots
+-- of a sound store are taken. Assumes nothing.
 use Prim.Native.Nat.{ℕ, zero, suc, _≤_, _<_}
 use mathlib.Core.Path.{_≡_, sym, _∙_}
 use mathlib.Core.Bool.{cond}

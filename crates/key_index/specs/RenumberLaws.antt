@@ -1,30 +1,30 @@
--- Renumbering keeps a key store sound: each key stands where it stood, with its row's new number. Assumes nothing.
-use Prim.Native.Nat.{ℕ, zero, suc, _+_, _-_, _*_, _/_, _^_, _≤_, _<_}
-use mathlib.Core.Path.{_≡_, refl, sym, ap, _∙_}
-use mathlib.Core.Logic.{_⊎_, inl, inr}
-use mathlib.Core.Bool.{true, false}
-use mathlib.Core.List.{List, [], _∷_}
-use native.Mathlib.Nat.{add-zero}
+-- Renumbering keeps a key store sound: each key stands where it stood, with its row's new number; and the numbers that a
+-- compaction gives are such. Assumes nothing.
+use Prim.Native.Nat.{ℕ, _+_, _-_, _*_, _/_, _%_, _^_, _≤_, _<_}
+use mathlib.Core.Path.{_≡_, sym, ap, _∙_}
+use mathlib.Core.Bool.{true}
+use mathlib.Core.List.{List, []}
 use native.Mathlib.Decide.{decLt, ℕ-discrete}
-use native.Mathlib.Numerals.{add-one}
 use native.Mathlib.Omega.{arith}
 use lib.ListN.{length, getD}
 use borrow.Author.Tests.{le-leb}
-use Rattle.lists.specs.Lists.{count, rowAt, rowsOf}
-use Rattle.lists.specs.Laws.Keep.{split, count-append, count-le}
-use Rattle.lists.specs.Laws.Rows.{length-rowsOf, rowsOf-snoc}
-use Rattle.lists.specs.Laws.Ring.{mapFront, getD-mapFront}
+use Rattle.lists.specs.Lists.{count, rowAt, rowsOf, mapFront}
+use Rattle.lists.specs.Laws.Keep.{count-le}
+use Rattle.lists.specs.Laws.Rows.{length-rowsOf, getD-rowsOf, rowsOf-take}
+use Rattle.lists.specs.Laws.Front.{getD-mapFront}
 use Rattle.constraints.specs.Constraints.{isLive}
+use Rattle.row_buffer.specs.Ranks.{liveAt, newNumber}
+use Rattle.row_buffer.specs.Laws.{liveAt-in, number-rises, number-back}
 use Rattle.key_index.specs.declared.Keyed.{Keyed}
 use Rattle.key_index.specs.Slots.{LiveAt, keyAt, slots, word, home, slotFrom, StandsAt, KeysSound}
-use Rattle.key_index.specs.Unrolled.{slot-below}
-use Rattle.key_index.specs.Gaps.{rowOf, newRow, renumbered}
-use Rattle.key_index.specs.GapLaws.{Small, word-row, word-pos, names-word, names-zero}
+use Rattle.key_index.specs.Ring.{word-row, word-same, word-some, names-none, names-word, slot-below}
+use Rattle.key_index.specs.Index.{newRow, renumbered}
+use Rattle.key_index.specs.GapLaws.{Small}
 
 -- a free slot stays free
 pub renumbered-free : (t : Keyed) (live base : List ℕ) (w : ℕ) → w ≡ 0 → renumbered t live base w ≡ 0
 unfolding renumbered
-renumbered-free t live base w e = rw (names-zero t w e) e
+renumbered-free t live base w e = rw (names-none t w (ap (λ (x : ℕ). x % 2 ^ 17) e)) e
 
 -- a word has its row's new number
 pub renumbered-word : (t : Keyed) (live base : List ℕ) → Small t → (key : List ℕ) (row new : ℕ) → row < t .rows → newRow live base row ≡ new → new ≤ 65536
@@ -89,12 +89,9 @@ module _ (t : Keyed) (rows : List ℕ) (t′ : Keyed) (rows′ store live base :
         let p = s .only-live b k (held-before b k d) in
         let u : word (keyAt t′ rows′ (new (o .0))) (new (o .0)) ≡ word (keyAt t′ rows′ (new (p .0))) (new (p .0)) =
         sym (word-after a (o .0) h (o .1) (o .2)) ∙ e ∙ word-after b (p .0) k (p .1) (p .2) in
-        let v : new (o .0) ≡ new (p .0) = sym (row-back (o .0) (o .1)) ∙ ap rowOf u ∙ row-back (p .0) (p .1) in
+        let v : new (o .0) ≡ new (p .0) = word-same _ _ (new (o .0)) (new (p .0)) (omega (arith, new-small (o .0) (o .1))) (omega (arith, new-small (p .0) (p .1))) u in
         let i = r .apart (o .0) (p .0) (o .1) (p .1) v in
         s .once a b h k (held-before a h c) (o .2 ∙ ap (λ (x : ℕ). word (keyAt t rows x) x) i ∙ sym (p .2))
-      where
-        row-back : (i : ℕ) → LiveAt t rows i → rowOf (word (keyAt t′ rows′ (new i)) (new i)) ≡ new i
-        row-back i l = word-row (keyAt t′ rows′ (new i)) (new i) (omega (arith, new-small i l))
 
     stands-after : (i d : ℕ) → LiveAt t rows i → StandsAt (slots t) store (keyAt t rows i) i d → StandsAt (slots t) after (keyAt t′ rows′ (new i)) (new i) d
     stands-after i d l a =
@@ -113,7 +110,7 @@ module _ (t : Keyed) (rows : List ℕ) (t′ : Keyed) (rows′ store live base :
         free-before : (slot : ℕ) → slot < slots t → getD after slot 0 ≡ 0 → (getD store slot 0 ≡ 0 → ⊥) → ⊥
         free-before slot h z ne =
             let o = s .only-live slot h (omega arith) in
-            omega (arith, word-after slot (o .0) h (o .1) (o .2), word-pos (keyAt t′ rows′ (new (o .0))) (new (o .0)))
+            omega (arith, word-after slot (o .0) h (o .1) (o .2), word-some (keyAt t′ rows′ (new (o .0))) (new (o .0)))
 
     -- the store with the new numbers leads to exactly the rows after
     pub renames-sound : KeysSound t′ rows′ (mapFront (renumbered t live base) (slots t) store)
@@ -136,51 +133,32 @@ abbrev pub liveBelow : Keyed → List ℕ → ℕ → ℕ
 liveBelow t rows i = count isLive (rowsOf (t .columns) i rows)
 
 module _ (t : Keyed) (rows : List ℕ) where
-  last-row : (i : ℕ) → liveBelow t rows (suc i) ≡ liveBelow t rows i + count isLive (rowAt (t .columns) i rows ∷ [])
-  last-row i = rw (← add-one i, rowsOf-snoc (t .columns) i rows) (count-append isLive (rowsOf (t .columns) i rows) (rowAt (t .columns) i rows ∷ []))
-
-  -- a live row counts one, a dead one nothing
-  pub live-counts : (i : ℕ) → isLive (rowAt (t .columns) i rows) ≡ true → liveBelow t rows (suc i) ≡ liveBelow t rows i + 1
-  unfolding count
-  live-counts i e = last-row i ∙ rw e
-
-  pub dead-counts : (i : ℕ) → isLive (rowAt (t .columns) i rows) ≡ false → liveBelow t rows (suc i) ≡ liveBelow t rows i
-  unfolding count
-  dead-counts i e = last-row i ∙ rw e (add-zero (liveBelow t rows i))
-
-  none-below : liveBelow t rows 0 ≡ 0
-  unfolding count rowsOf
-  none-below = refl
-
   pub live-few : (n : ℕ) → liveBelow t rows n ≤ n
   live-few n = omega (arith, count-le isLive (rowsOf (t .columns) n rows), length-rowsOf (t .columns) n rows)
 
-  -- more rows, no fewer that live
-  pub live-more : (i k : ℕ) → liveBelow t rows i ≤ liveBelow t rows (k + i)
-  live-more i zero = let e : 0 + i ≡ i = omega arith in rw e (omega arith)
-  live-more i (suc k) =
-      let h = live-more i k in
-      let e : suc k + i ≡ suc (k + i) = omega arith in
-      rw e (elim (split (isLive (rowAt (t .columns) (k + i) rows))) [ inl q ↦ omega (arith, live-counts (k + i) q) | inr q ↦ omega (arith, dead-counts (k + i) q) ])
+  -- as a compaction's words number them, among the first n rows
+  module _ (n : ℕ) where
+    abbrev firsts : List (List ℕ)
+    firsts = rowsOf (t .columns) n rows
+
+    pub below-number : (i : ℕ) → i ≤ n → liveBelow t rows i ≡ newNumber isLive firsts i
+    unfolding newNumber
+    below-number i h = ap (count isLive) (sym (rowsOf-take (t .columns) n rows i h))
+
+    pub live-among : (i : ℕ) → i < n → liveAt isLive firsts i ≡ isLive (rowAt (t .columns) i rows)
+    live-among i h =
+        let k : i < length firsts = rw length-rowsOf h in
+        liveAt-in isLive firsts i [] k ∙ ap isLive (getD-rowsOf (t .columns) n rows i h)
 
   -- a live row's number is below that of each later one
   pub live-rises : (i j : ℕ) → isLive (rowAt (t .columns) i rows) ≡ true → i < j → liveBelow t rows i < liveBelow t rows j
-  live-rises i j e h =
-      let k : j - suc i + suc i ≡ j = omega arith in
-      let a : liveBelow t rows (suc i) ≤ liveBelow t rows j = rw k at (live-more (suc i) (j - suc i)) in
-      omega (arith, live-counts i e)
+  live-rises i j e h = omega (arith, below-number j i (omega arith), below-number j j (omega arith), number-rises isLive (firsts j) i j h (live-among j i h ∙ e))
 
   -- each number below the count of the first n rows that live is one's
   pub live-back : (n k : ℕ) → k < liveBelow t rows n → (i : ℕ) × (i < n) × (isLive (rowAt (t .columns) i rows) ≡ true) × (liveBelow t rows i ≡ k)
-  live-back zero k h = absurd (omega (arith, none-below))
-  live-back (suc n) k h = go (live-back n k) (decLt k (liveBelow t rows n)) (split (isLive (rowAt (t .columns) n rows)))
-    where
-      go : (k < liveBelow t rows n → (i : ℕ) × (i < n) × (isLive (rowAt (t .columns) i rows) ≡ true) × (liveBelow t rows i ≡ k)) → Dec (k < liveBelow t rows n)
-          → (isLive (rowAt (t .columns) n rows) ≡ true) ⊎ (isLive (rowAt (t .columns) n rows) ≡ false)
-          → (i : ℕ) × (i < suc n) × (isLive (rowAt (t .columns) i rows) ≡ true) × (liveBelow t rows i ≡ k)
-      go f (yes b) q = let g = f b in (g .0, omega (arith, g .1), g .2, g .3)
-      go f (no b) (inl q) = (n, omega arith, q, omega (arith, live-counts n q))
-      go f (no b) (inr q) = absurd (omega (arith, dead-counts n q))
+  live-back n k h =
+      let b = number-back isLive (firsts n) n k (omega (arith, below-number n n (omega arith))) in
+      (b .0, b .1, sym (live-among n (b .0) (b .1)) ∙ b .2, below-number n (b .0) (omega (arith, b .1)) ∙ b .3)
 
 -- What a compaction leaves: each live row at its new number, nothing else counted, and words that give these numbers.
 pub record Compacted (t : Keyed) (rows : List ℕ) (t′ : Keyed) (rows′ live base : List ℕ) : Type 0 where

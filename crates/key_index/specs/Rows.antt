@@ -1,4 +1,5 @@
--- From what a change did to the rows to what the laws of soundness ask of it. Assumes nothing.
+-- From what a change did to the rows of the store, said row by row, to what the laws of soundness in Laws.antt ask of it: rows
+-- as they were, one more, or one more in place of another. Assumes nothing.
 use Prim.Native.Nat.{ℕ, _+_, _<_}
 use mathlib.Core.Path.{_≡_, sym, ap, _∙_}
 use mathlib.Core.Logic.{inl, inr}

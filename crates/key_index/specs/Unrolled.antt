@@ -1,70 +1,17 @@
 -- The ring of slots, unrolled into a line at a free slot. No way from a home to its row's slot passes a free slot, so each
--- way is a stretch of the line, and a gap is closed by plain arithmetic. Assumes nothing.
-use Prim.Native.Nat.{ℕ, _+_, _-_, _%_, _≤_, _<_}
+-- way is a stretch of the line, and a gap is closed by plain arithmetic. The laws of distances on the ring, Ring.antt's, are
+-- passed on. Assumes nothing.
+use Prim.Native.Nat.{ℕ, _+_, _≤_, _<_}
 use mathlib.Core.Path.{_≡_, refl, sym, ap, _∙_}
 use mathlib.Core.Logic.{_⊎_, inl, inr}
 use mathlib.Core.List.{List}
-use native.Mathlib.Nat.{mod-lt, mod-eq-of-lt, mod-add-mod, add-mod-mod, add-mod-right}
 use native.Mathlib.Decide.{decLt, ℕ-discrete}
 use native.Mathlib.Omega.{arith}
 use lib.ListN.{length, getD, set}
 use lib.Seq.{getD-set-same, getD-set-other}
 use Rattle.key_index.specs.Slots.{slotFrom}
-
--- ---- the ring
-
--- how many slots b lies after a, going round
-unfoldable pub away : ℕ → ℕ → ℕ → ℕ
-away n a b = (b + (n - a)) % n
-
-pub slot-below : (n s d : ℕ) → 0 < n → slotFrom n s d < n
-unfolding slotFrom
-slot-below n s d h = mod-lt (s + d) h
-
-pub slot-then : (n s d e : ℕ) → slotFrom n (slotFrom n s d) e ≡ slotFrom n s (d + e)
-unfolding slotFrom
-slot-then n s d e = mod-add-mod (s + d) n e ∙ ap (λ (k : ℕ). k % n) (omega arith)
-
-round : (n d : ℕ) → d < n → (d + n) % n ≡ d
-round n d h = add-mod-right d n ∙ mod-eq-of-lt h
-
-pub slot-zero : (n s : ℕ) → s < n → slotFrom n s 0 ≡ s
-unfolding slotFrom
-slot-zero n s h = let k : s + 0 < n = omega arith in mod-eq-of-lt k ∙ omega arith
-
-pub slot-round : (n s : ℕ) → s < n → slotFrom n s n ≡ s
-unfolding slotFrom
-slot-round n s h = round n s h
-
-pub away-below : (n a b : ℕ) → 0 < n → away n a b < n
-unfolding away
-away-below n a b h = mod-lt (b + (n - a)) h
-
--- the slot that lies that far is the one
-pub away-slot : (n a b : ℕ) → a < n → b < n → slotFrom n a (away n a b) ≡ b
-unfolding slotFrom away
-away-slot n a b h k =
-    let e : a + (b + (n - a)) ≡ b + n = omega arith in
-    add-mod-mod a (b + (n - a)) n ∙ ap (λ (x : ℕ). x % n) e ∙ round n b k
-
-pub away-of : (n a d : ℕ) → a < n → d < n → away n a (slotFrom n a d) ≡ d
-unfolding slotFrom away
-away-of n a d h k =
-    let e : a + d + (n - a) ≡ d + n = omega arith in
-    mod-add-mod (a + d) n (n - a) ∙ ap (λ (x : ℕ). x % n) e ∙ round n d k
-
--- two slots that lie equally far are one
-pub slot-one : (n s p q : ℕ) → s < n → p < n → q < n → slotFrom n s p ≡ slotFrom n s q → p ≡ q
-slot-one n s p q h k m e = sym (away-of n s p h k) ∙ ap (away n s) e ∙ away-of n s q h m
-
--- how far one place of the line lies after another
-pub away-line : (n z p q : ℕ) → z < n → p ≤ q → q < n → away n (slotFrom n z p) (slotFrom n z q) ≡ q - p
-away-line n z p q h k m =
-    let e : p + (q - p) ≡ q = omega arith in
-    let f : slotFrom n z q ≡ slotFrom n (slotFrom n z p) (q - p) = sym (slot-then n z p (q - p) ∙ ap (slotFrom n z) e) in
-    ap (away n (slotFrom n z p)) f ∙ away-of n (slotFrom n z p) (q - p) (slot-below n z p (omega arith)) (omega arith)
-
--- ---- the line
+unfoldable pub use Rattle.key_index.specs.Ring.{away}
+pub use Rattle.key_index.specs.Ring.{slot-below, slot-then, slot-zero, slot-round, slot-one, away-below, away-slot, away-of, away-line}
 
 -- what stands p slots after slot z
 unfoldable pub line : ℕ → ℕ → List ℕ → ℕ → ℕ

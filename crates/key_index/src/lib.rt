@@ -5,10 +5,9 @@
 ghost use mathlib.Core.Path.{_≡_};
 ghost use Prim.Native.Nat.{_-_, _%_, _^_, _<_};
 ghost use lib.ListN.{length, set};
-ghost use Rattle.lists.specs.Lists.{same};
 ghost use Rattle.key_index.specs.Slots.{slots, slotFrom};
-ghost use Rattle.key_index.specs.Ring.{spread, tagged};
-ghost use Rattle.key_index.specs.Index.{Room, RowsFit, Fits, HitIs, FoundIs, PutIs, EmptyIs};
+ghost use Rattle.key_index.specs.Ring.{spread, tagged, namesRow};
+ghost use Rattle.key_index.specs.Index.{Room, RowsIn, Fits, HitIs, FoundIs, PutIs, EmptyIs};
 
 pub mod gaps; // gaps.rt: rows taken out and renumbered
 
@@ -60,40 +59,32 @@ fn next_slot(slots: u32, at: u32) -> u32
     0
 }
 
-fn same_cells(a: &[u32], b: &[u32]) -> bool
-    requires { ⌜ length (now a) ≡ length (now b) ⌝ }
-    ensures { λ r. ⌜ r ≡ same (now (a .entry)) (now (b .entry)) ⌝ }
+// Whether a word names a row of the table. In a sound store each word but 0 does.
+fn names_row(t: Keyed, word: u32) -> bool
+    ensures { λ r. ⌜ r ≡ namesRow t word ⌝ }
 {
-    let mut i = 0;
-    while i < a.len() {
-        if a[i] != b[i] {
-            return false;
-        }
-        i += 1;
+    let number = word % ROW_RANGE;
+    if number == 0 {
+        return false;
     }
-    true
+    number <= t.rows
 }
 
 // Whether a slot's word leads to a row with this key. The 15 bits come first: most other keys are told apart by them, and
 // their rows are not read.
 fn is_hit(t: Keyed, rows: &[u32], key: &[u32], hash: u32, word: u32) -> bool
-    requires { ⌜ RowsFit t (now rows) (now key) ⌝ }
+    requires { ⌜ (RowsIn t (now rows)) × (length (now key) ≡ t .keys) ⌝ }
     ensures { λ r. ⌜ HitIs t (now (rows .entry)) (now (key .entry)) hash word (word % 2 ^ 17 - 1) r ⌝ }
 {
     if word / ROW_RANGE != hash % HASH_RANGE {
         return false;
     }
-    let up = word % ROW_RANGE;
-    if up == 0 {
+    if !names_row(t, word) {
         return false;
     }
-    let row = up - 1;
-    if t.rows <= row {
-        return false;
-    }
-    let from = (row * t.columns) as usize;
-    let to = from + key.len();
-    same_cells(&rows[from..to], key)
+    let row = word % ROW_RANGE - 1;
+    let at = (row * t.columns) as usize;
+    row_buffer::same_key(rows, at, key)
 }
 
 // The live row that has a key, and its slot.

@@ -5,4 +5,4 @@ pub mod Every
 pub mod Rising
 pub mod Rows
 pub mod Search
-pub mod Ring
+pub mod Front

@@ -44,6 +44,12 @@ module _ {A : Type 0} where
   flat [] = []
   flat (row ∷ rows) = row ++ flat rows
 
+  -- the first n mapped, the others as they are
+  unfoldable pub mapFront : (A → A) → ℕ → List A → List A
+  mapFront f zero l = l
+  mapFront f (suc n) [] = []
+  mapFront f (suc n) (x ∷ xs) = f x ∷ mapFront f n xs
+
 -- n numbers from s on, one by one
 unfoldable pub countFrom : ℕ → ℕ → List ℕ
 countFrom s zero = []

@@ -116,7 +116,7 @@ pub fn surviving_row<'a>(
     pending: &'a [u32],
     new: usize,
 ) -> &'a [u32]
-    requires { ⌜ (old + width ≤ length (now rows)) × (new + width ≤ length (now pending)) ⌝ }
+    requires { ⌜ (old + width ≤ length (now rows)) × (new + width ≤ length (now pending)) × (rule ≤ 1) ⌝ }
     ensures { λ r. ⌜ now r ≡ survivor rule keys sort (take width (drop old (now (rows .entry)))) (take width (drop new (now (pending .entry)))) ⌝ }
 {
     let old_end = old + width;

@@ -16,7 +16,7 @@ unfoldable pub wellFormed : Subset → Bool
 wellFormed (range start end) = leb start end
 wellFormed (list ids) = rising ids && leb (length ids) 65536
 
--- the ids, rising
+-- the ids; of a well-formed subset they rise
 unfoldable pub members : Subset → List ℕ
 members (range start end) = countFrom start (end - start)
 members (list ids) = ids

@@ -1,5 +1,5 @@
-// Subsets: offsets/mod.rs. The definitions that the contracts cite stand in specs/; Laws.antt there has the set laws, which
-// are all that is to be used of them above this crate.
+// Subsets: offsets/mod.rs. The definitions that the contracts cite stand in specs/; Laws.antt there has the set laws, by
+// which proofs above this crate go. `retain` itself stands where its test is; its growing answer is here.
 ghost use mathlib.Core.Path.{_≡_};
 ghost use Prim.Native.Nat.{_-_, _≤_, _<_, min, max};
 ghost use mathlib.Core.Bool.{true};
@@ -117,7 +117,8 @@ fn binary_search_part(ids: &[u32], start: usize, end: usize, target: u32) -> usi
     low
 }
 
-// The first place from `start` on whose id is not below the target. The ids before `start` are below it.
+// The first place from `start` on whose id is not below the target, where the ids rise and those before `start` are below
+// it.
 pub fn binary_search_from(ids: &[u32], start: usize, target: u32) -> usize
     requires { ⌜ start ≤ length (now ids) ⌝ }
     ensures { λ r. ⌜ SearchedFrom (now (ids .entry)) start target r ⌝ }
@@ -181,8 +182,8 @@ fn scan_at(ids: &[u32], at: usize, target: u32) -> Scan
     Scan::Next(at)
 }
 
-// The target's place from `start` on, by doubling strides and a binary search in the last one. The ids before `start` are
-// below the target.
+// The target's place from `start` on, by doubling strides and a binary search in the last one, where the ids rise and
+// those before `start` are below the target.
 pub fn scan_for_offset(ids: &[u32], start: usize, target: u32) -> Scan
     ensures { λ r. ⌜ Scanned (now (ids .entry)) start target r ⌝ }
 {

@@ -15,7 +15,7 @@ pub record Opening : Type 0 where
   pub rule : ℕ
   pub capacity : ℕ
 
--- "its bounds": 1 to 8 columns, 1 to that many keys, a sort column, rules 0 to 3, a capacity of 1 to 65,536
+-- "their bounds": 1 to 8 columns, 1 to that many keys, a sort column, rules 0 to 3, a capacity of 1 to 65,536
 unfoldable pub openable : Opening → Bool
 openable o =
     leb 1 (o .columns)

@@ -16,7 +16,7 @@ use Rattle.plain.specs.Plain.{Plain, Numbered, liveFrom, liveRows, dead,
 use Rattle.plain.specs.Calls.{Call, staging, merging, Lent, refusal, done, after, afterAll}
 
 pub record Turn : Type 0 where
-  pub capacity : ℕ
+  pub opening : Opening
   pub before : List Call
   pub status : ℕ
   pub place : ℕ
@@ -31,11 +31,14 @@ row number cells = record { number = number; cells = cells }
 abbrev level : ℕ → ℕ → ℕ → List ℕ
 level key value stamp = key ∷ value ∷ stamp ∷ []
 
+abbrev levels : ℕ → Opening
+levels capacity = record { columns = 3; keys = 1; sort = 2; rule = 1; capacity = capacity }
+
 unfoldable pub turns : List Turn
 turns =
     -- "Testing the sort order before the rule (l)": equal cells, a lower stamp
     record {
-      capacity = 9;
+      opening = levels 9;
       before = staging (insert (level 1 5 12)) ∷ merging ∷ staging (insert (level 1 5 11)) ∷ [];
       status = 0;
       place = 0;
@@ -45,7 +48,7 @@ turns =
     }
     -- "Inserting before removing, which loses a key removed and staged again in one batch"
     ∷ record {
-      capacity = 9;
+      opening = levels 9;
       before = staging (insert (level 1 5 12)) ∷ merging ∷ staging (insert (level 1 5 12)) ∷ staging (removeKey (1 ∷ [])) ∷ [];
       status = 0;
       place = 0;
@@ -53,9 +56,19 @@ turns =
       dead-after = 1;
       live-after = row 1 (level 1 5 12) ∷ [];
     }
+    -- "Reading the sort cell of a dead row when the sort column is 0": the last row is dead, its sort cell was 7
+    ∷ record {
+      opening = record { columns = 1; keys = 1; sort = 0; rule = 0; capacity = 9 };
+      before = staging (insert (7 ∷ [])) ∷ merging ∷ staging (removeKey (7 ∷ [])) ∷ staging (insert (8 ∷ [])) ∷ [];
+      status = 0;
+      place = 0;
+      added = true;
+      dead-after = 1;
+      live-after = row 1 (8 ∷ []) ∷ [];
+    }
     -- a known key with another level: the row made is appended and the old row dies
     ∷ record {
-      capacity = 9;
+      opening = levels 9;
       before = staging (insert (level 1 5 12)) ∷ merging ∷ staging (insert (level 1 6 12)) ∷ [];
       status = 0;
       place = 0;
@@ -65,7 +78,7 @@ turns =
     }
     -- a full table and an old stamp: 8 comes before 9; the stopping row is not appended, its old row lives
     ∷ record {
-      capacity = 1;
+      opening = levels 1;
       before = staging (insert (level 1 5 12)) ∷ merging ∷ staging (insert (level 1 6 11)) ∷ [];
       status = 8;
       place = 0;
@@ -75,7 +88,7 @@ turns =
     }
     -- a full table takes a row that the rule keeps
     ∷ record {
-      capacity = 1;
+      opening = levels 1;
       before = staging (insert (level 1 5 12)) ∷ merging ∷ staging (insert (level 1 5 11)) ∷ [];
       status = 0;
       place = 0;
@@ -85,7 +98,7 @@ turns =
     }
     -- a skipped insert counts for the place; what came before the stop stands, the rest is dropped
     ∷ record {
-      capacity = 9;
+      opening = levels 9;
       before = staging (insert (level 1 5 12)) ∷ staging (insert (level 4294967295 5 12)) ∷ staging (insert (level 2 5 11)) ∷ staging (insert (level 3 5 12)) ∷ [];
       status = 9;
       place = 2;
@@ -95,7 +108,7 @@ turns =
     }
     -- a row dies once, by key and by row; another key's removal by row does nothing
     ∷ record {
-      capacity = 9;
+      opening = levels 9;
       before = staging (insert (level 1 5 12)) ∷ staging (insert (level 2 5 12)) ∷ merging ∷ staging (removeRow 0 (1 ∷ [])) ∷ staging (removeKey (1 ∷ [])) ∷ staging (removeRow 1 (1 ∷ [])) ∷ [];
       status = 0;
       place = 0;
@@ -121,7 +134,7 @@ lent call =
 -- the merge after a turn's calls
 abbrev outcome : Turn → Inserted Plain
 outcome t =
-    merged (afterAll (opened (record { columns = 3; keys = 1; sort = 2; rule = 1; capacity = t .capacity }) 0) (map lent (t .before)))
+    merged (afterAll (opened (t .opening) 0) (map lent (t .before)))
 
 unfoldable pub comesOut : Turn → Bool
 unfolding sameRows

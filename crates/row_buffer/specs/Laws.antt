@@ -7,6 +7,7 @@ use mathlib.Core.Logic.{inl, inr}
 use mathlib.Core.Bool.{Bool, true, false, cond, not, false≢true}
 use mathlib.Core.List.{List, [], _∷_}
 use native.Mathlib.Nat.{zero-add, add-zero, suc-add, add-assoc, add-comm, zero-mul, one-mul, mul-assoc, mul-comm, pow-suc, mod-lt, mod-eq-of-lt, add-mul-mod-self-right}
+use native.Mathlib.Decide.{decLt}
 use native.Mathlib.Numerals.{add-one, one-add}
 use native.Mathlib.Omega.{arith}
 use lib.Pow.{pow-pos, pow-add, mod-pow-add}
@@ -223,6 +224,17 @@ module _ {A : Type 0} (live : A → Bool) where
   -- a live row's number is below the count of those kept
   pub number-lt : (rows : List A) (i : ℕ) → liveAt live rows i ≡ true → newNumber live rows i < count live rows
   number-lt rows i e = rw (← number-all rows) (number-rises rows i (length rows) (live-in rows i e) e)
+
+  -- each number below the count of those before row n is one of theirs
+  pub number-back : (rows : List A) (n k : ℕ) → k < newNumber live rows n → (i : ℕ) × (i < n) × (liveAt live rows i ≡ true) × (newNumber live rows i ≡ k)
+  number-back rows zero k h = absurd (omega (arith, number-zero rows))
+  number-back rows (suc n) k h = elim (decLt k (newNumber live rows n)) [
+    | yes b ↦ let g = number-back rows n k b in (g .0, omega (arith, g .1), g .2, g .3)
+    | no b ↦ elim (split (liveAt live rows n)) [
+      | inl e ↦ let d : newNumber live rows (suc n) ≡ newNumber live rows n + 1 = number-digit rows n ∙ rw e in (n, omega arith, e, omega arith)
+      | inr e ↦ let d : newNumber live rows (suc n) ≡ newNumber live rows n + 0 = number-digit rows n ∙ rw e in absurd (omega arith)
+    ]
+  ]
 
   number-upto : (rows : List A) (start k : ℕ)
       → newNumber live rows start + countTo (λ bit. liveAt live rows (start + bit)) k ≡ newNumber live rows (start + k)

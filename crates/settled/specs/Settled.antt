@@ -11,10 +11,11 @@ use Rattle.cells.specs.Cells.{compact}
 use Rattle.offsets.specs.Subsets.{Subset, range, list}
 use Rattle.offsets.specs.Answers.{intersectReply}
 use Rattle.constraints.specs.declared.Constraint.{Constraint}
+use Rattle.row_buffer.specs.Ranks.{setBelow, liveWord, newNumber}
 use Rattle.sort_entries.specs.Entries.{Entry, entry, fastRange}
 use Rattle.plain.specs.Staged.{Opening, Staged, insert}
 use Rattle.plain.specs.Merging.{Inserted}
-use Rattle.plain.specs.Plain.{Row, Plain, Lengths, opened, merged, compacted}
+use Rattle.plain.specs.Plain.{Row, Plain, Numbered, liveRows, Lengths, opened, merged, compacted}
 use Rattle.plain.specs.Calls.{Call, staging, merging, Lent, afterAll}
 use Rattle.table.specs.declared.Header.{Header}
 use Rattle.table.specs.Numbers.{Maybe, none, one}
@@ -27,16 +28,17 @@ pub data Example : Type 0 where
   intersects : Subset → Subset → Subset → Example
   -- a table of one column with these cells, and the rows of a range whose cell is 7: refined by one, and by a list
   refines : List ℕ → Subset → Subset → Subset → Example
-  -- a subset of a table of so many live rows, a start place, n, and the next place
-  pages : ℕ → Subset → ℕ → ℕ → Maybe ℕ → Example
+  -- a subset of a table of so many live rows, a start place, n, the ids written and the next place
+  pages : ℕ → Subset → ℕ → ℕ → List ℕ → Maybe ℕ → Example
   -- dead rows, row count, and whether a merge of such a table, with nothing staged, compacts
   goes : ℕ → ℕ → Bool → Example
-  -- which rows are live, a row, and its number after a compaction
+  -- which rows are live, a row, and its number after a compaction: as the rows close up, and by its word of live marks
   renumbers : List Bool → ℕ → ℕ → Example
   -- sort entries, row count, kind, value, and the fast range
   ranges : List Entry → ℕ → ℕ → ℕ → Subset → Example
-  -- inserts merged before, inserts merged now (columns: key, level, stamp; rule 1), and this merge's status, *added* and rows
-  merges : List (List ℕ) → List (List ℕ) → ℕ → Bool → ℕ → Example
+  -- inserts merged before, inserts merged now (columns: key, level, stamp; rule 1), and this merge's status, *added* and the
+  -- live rows after it, from row 0 on
+  merges : List (List ℕ) → List (List ℕ) → ℕ → Bool → List (List ℕ) → Example
 
 -- "(a) Hash 144115188075855872 compacts to 33554432" .. "(l) Rule 1, equal cells, lower stamp: kept, no stop"
 unfoldable pub examples : List Example
@@ -50,11 +52,11 @@ examples =
     -- (e)
     ∷ refines (5 ∷ 7 ∷ 7 ∷ 5 ∷ []) (range 0 4) (range 1 3) (list (1 ∷ 2 ∷ []))
     -- (f)
-    ∷ pages 10 (range 0 10) 4 5 (one 9)
-    ∷ pages 10 (range 0 10) 4 6 none
+    ∷ pages 10 (range 0 10) 4 5 (4 ∷ 5 ∷ 6 ∷ 7 ∷ 8 ∷ []) (one 9)
+    ∷ pages 10 (range 0 10) 4 6 (4 ∷ 5 ∷ 6 ∷ 7 ∷ 8 ∷ 9 ∷ []) none
     -- (g)
-    ∷ pages 10 (list (2 ∷ 4 ∷ 6 ∷ [])) 1 0 (one 1)
-    ∷ pages 10 (list (2 ∷ 4 ∷ 6 ∷ [])) 3 0 none
+    ∷ pages 10 (list (2 ∷ 4 ∷ 6 ∷ [])) 1 0 [] (one 1)
+    ∷ pages 10 (list (2 ∷ 4 ∷ 6 ∷ [])) 3 0 [] none
     -- (h)
     ∷ goes 16 32 false
     ∷ goes 16 16 false
@@ -66,10 +68,10 @@ examples =
     ∷ ranges (entry 10 0 ∷ entry 12 2 ∷ []) 3 2 11 (range 0 2)
     ∷ ranges (entry 10 0 ∷ entry 12 2 ∷ []) 3 5 13 (range 3 3)
     -- (k)
-    ∷ merges ((1 ∷ 5 ∷ 12 ∷ []) ∷ []) ((2 ∷ 5 ∷ 11 ∷ []) ∷ []) 9 false 1
-    ∷ merges ((1 ∷ 5 ∷ 12 ∷ []) ∷ []) ((2 ∷ 5 ∷ 12 ∷ []) ∷ []) 0 true 2
+    ∷ merges ((1 ∷ 5 ∷ 12 ∷ []) ∷ []) ((2 ∷ 5 ∷ 11 ∷ []) ∷ []) 9 false ((1 ∷ 5 ∷ 12 ∷ []) ∷ [])
+    ∷ merges ((1 ∷ 5 ∷ 12 ∷ []) ∷ []) ((2 ∷ 5 ∷ 12 ∷ []) ∷ []) 0 true ((1 ∷ 5 ∷ 12 ∷ []) ∷ (2 ∷ 5 ∷ 12 ∷ []) ∷ [])
     -- (l)
-    ∷ merges ((1 ∷ 5 ∷ 12 ∷ []) ∷ []) ((1 ∷ 5 ∷ 11 ∷ []) ∷ []) 0 false 1
+    ∷ merges ((1 ∷ 5 ∷ 12 ∷ []) ∷ []) ((1 ∷ 5 ∷ 11 ∷ []) ∷ []) 0 false ((1 ∷ 5 ∷ 12 ∷ []) ∷ [])
     ∷ []
 
 -- equal answers
@@ -90,9 +92,16 @@ sameNext none (one b) = false
 sameNext (one a) none = false
 sameNext (one a) (one b) = eqb a b
 
-abbrev pub isNext : Reply PageReply → Maybe ℕ → Bool
-isNext (refused n) next = false
-isNext (accepted page) next = sameNext (page .next) next
+abbrev pub isPage : Reply PageReply → List ℕ → Maybe ℕ → Bool
+isPage (refused n) ids next = false
+isPage (accepted page) ids next = same (page .ids) ids && sameNext (page .next) next
+
+-- live rows with these cells, numbered from n
+unfoldable pub areRows : ℕ → List Numbered → List (List ℕ) → Bool
+areRows n [] [] = true
+areRows n [] (cells ∷ rest) = false
+areRows n (row ∷ rows) [] = false
+areRows n (row ∷ rows) (cells ∷ rest) = eqb (row .number) n && same (row .cells) cells && areRows (suc n) rows rest
 
 -- the tables that the examples speak of
 
@@ -149,12 +158,16 @@ comesOut (intersects a b answer) = isSubset (intersectReply a b 100) answer
 comesOut (refines cells subset byOne byList) =
     isSubset (refineOneReply (oneColumn (length cells)) (padded cells) subset isSeven 100) byOne
     && isSubset (refineListReply (oneColumn (length cells)) (padded cells) subset (isSeven ∷ []) 100) byList
-comesOut (pages rows subset start n next) =
-    isNext (pageReply (oneColumn rows) (padded []) subset start n [] 100) next
+comesOut (pages rows subset start n ids next) =
+    isPage (pageReply (oneColumn rows) (padded []) subset start n [] 100) ids next
 comesOut (goes dead rows answer) = Bool·beq (eqb (merged (tableOf (numbered 0 (lives dead rows))) .table .generation) 1) answer
-comesOut (renumbers lives old new) = same (cellsAt (compacted (tableOf (numbered 0 lives))) new) (old ∷ [])
+comesOut (renumbers lives old new) =
+    same (cellsAt (compacted (tableOf (numbered 0 lives))) new) (old ∷ [])
+    && eqb (newNumber (λ live. live) lives old) new
+    && eqb (setBelow (liveWord (λ live. live) lives 0 64) old) new
 comesOut (ranges es rows kind value answer) = sameSubset (fastRange kind value es rows) answer
 comesOut (merges before now status added rows) =
     eqb (mergeAfter before now .status) status
+    && eqb (mergeAfter before now .place) 0
     && Bool·beq (mergeAfter before now .added) added
-    && eqb (length (mergeAfter before now .table .rows)) rows
+    && areRows 0 (liveRows (mergeAfter before now .table)) rows

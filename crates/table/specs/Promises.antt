@@ -68,7 +68,10 @@ headerMerged h (accepted m) = m .header
 abbrev pub SlotsPast : ℕ → List ℕ → List ℕ → Type 0
 SlotsPast capacity keys keys′ = drop (2 * capacity) keys′ ≡ drop (2 * capacity) keys
 
--- *Open*: lent rows, keys, sort entries and pending; of these only keys are written
+-- Where the choice is the program's: of the key store only soundness is promised, and that no slot past it is written; of
+-- compaction words after a compaction nothing.
+
+-- *Open*: lent rows, keys, sort entries and pending; all but keys are lent shared, so that they stay as they are
 pub record Opened (o : Opening) (generation : ℕ) (rows keys sorts pending : List ℕ) (answer : TableAnswer) (keys′ : List ℕ) : Type 0 where
   pub answers : tableSays answer ≡ reply (openRefusal o (lengths rows keys sorts pending [] [])) (headerOf (opened o generation))
   pub unchanged : 0 < openRefusal o (lengths rows keys sorts pending [] []) → keys′ ≡ keys
@@ -97,7 +100,7 @@ pub record Staging (h : Header) (pending : List ℕ) (r : Staged) (answer : Tabl
   pub unchanged : 0 < stageRefusal h (length pending) r → pending′ ≡ pending
   pub written : stageRefusal h (length pending) r ≡ 0 → pending′ ≡ putAt pending (h .pending) (recordWords (h .keys) r)
 
--- *Merge*: lent all stores and compaction words; pending is only read
+-- *Merge*: lent all stores and compaction words; pending is lent shared
 abbrev pub mergeOf : Plain → Merge
 mergeOf p =
     record {

@@ -6,7 +6,7 @@ use native.Mathlib.Omega.{arith}
 use lib.ListN.{length, set}
 use Rattle.lists.specs.Lists.{putAt}
 use Rattle.key_index.specs.Index.{zeros}
-use Rattle.key_index.proofs.LawsPut.{empty-begin, empty-step, empty-end}
+use Rattle.key_index.proofs.PutSteps.{empty-begin, empty-step, empty-end}
 use borrow.Author.Needs.{needs}
 use Rattle.key_index.proofs.empty.Statement.{statement}
 use Rattle.key_index.proofs.empty.Tie as tie

@@ -3,8 +3,9 @@
 use Prim.Native.Nat.{_-_, _≤_}
 use native.Mathlib.Omega.{arith}
 use Rattle.key_index.specs.Ring.{spread}
-use Rattle.key_index.proofs.LawsWalk.{Walked, begin, on}
-use Rattle.key_index.proofs.LawsFind.{Past, leads-some, found-free, found-round, found-row}
+use Rattle.key_index.specs.Index.{rows-in}
+use Rattle.key_index.proofs.WalkSteps.{Walked, begin, on}
+use Rattle.key_index.proofs.FindSteps.{Past, leads-some, found-free, found-round, found-row}
 use borrow.Author.Needs.{needs}
 use Rattle.key_index.proofs.find.Statement.{statement}
 use Rattle.key_index.proofs.find.Tie as tie
@@ -42,7 +43,7 @@ returns c = let l = c .before .before .before .loop in found-free _ _ _ _ _ (few
 is-hit-requires : tie.Need-is-hit-requires Inv-loop μ-loop
 is-hit-requires c κs =
     let p = c .before .before .before .before .before .before .before .before .before .pre in
-    record { most-columns = p .0 .most-columns; most-keys = p .0 .most-keys; most = p .0 .most; count = p .0 .count; cells = p .0 .cells; width = p .1 }
+    (rows-in _ _ _ (p .0), p .1)
 
 sub-row : tie.Need-sub-row Inv-loop μ-loop
 sub-row c = omega (arith, leads-some _ _ _ _ _ _ (few (c .before .before .before .before .before .before .before .before .before .before .before)) (c .before .is-hit .ensures .yes (c .if2 .taken)))

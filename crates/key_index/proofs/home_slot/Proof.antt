@@ -1,14 +1,18 @@
 -- `key_index::home_slot` meets its contract. Assumes nothing.
+use Prim.Native.Nat.{_≤_}
 use mathlib.Core.Path.{refl}
+use native.Mathlib.Nat.{mul-le-mul}
 use native.Mathlib.Omega.{arith}
 use Rattle.key_index.specs.Ring.{spread, spread-below}
-use Rattle.key_index.proofs.LawsHit.{product-fits}
 use borrow.Author.Needs.{needs}
 use Rattle.key_index.proofs.home_slot.Statement.{statement}
 use Rattle.key_index.proofs.home_slot.Tie as tie
 
 mul-result : tie.Need-mul-result
-mul-result c = record { fits = product-fits _ _ (search needs) (search needs) }
+mul-result c =
+    let h : c .args .hash ≤ 4294967295 = search needs in
+    let k : c .args .slots ≤ 4294967295 = search needs in
+    record { fits = omega (arith, mul-le-mul h k) }
 
 cast-result : tie.Need-cast-result
 unfolding spread

@@ -4,8 +4,8 @@ use mathlib.Core.Path.{_≡_, refl}
 use native.Mathlib.Omega.{arith}
 use lib.ListN.{length, length-set}
 use Rattle.key_index.specs.Ring.{spread}
-use Rattle.key_index.proofs.LawsWalk.{Walked, begin, on}
-use Rattle.key_index.proofs.LawsPut.{Taken, put-here, put-none}
+use Rattle.key_index.proofs.WalkSteps.{Walked, begin, on}
+use Rattle.key_index.proofs.PutSteps.{Taken, put-here, put-none}
 use borrow.Author.Needs.{needs}
 use Rattle.key_index.proofs.put.Statement.{statement}
 use Rattle.key_index.proofs.put.Tie as tie

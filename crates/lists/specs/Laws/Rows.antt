@@ -45,6 +45,12 @@ module _ {A : Type 0} where
   getD-rowsOf w (suc n) l zero h = sym (rowAt-zero w l)
   getD-rowsOf w (suc n) l (suc i) h = getD-rowsOf w n (drop w l) i (omega arith) ∙ sym (rowAt-suc w i l)
 
+  pub rowsOf-take : (w n : ℕ) (l : List A) (i : ℕ) → i ≤ n → take i (rowsOf w n l) ≡ rowsOf w i l
+  unfolding rowsOf
+  rowsOf-take w n l zero h = refl
+  rowsOf-take w zero l (suc i) h = absurd (omega arith)
+  rowsOf-take w (suc n) l (suc i) h = ap (λ (rest : List (List A)). take w l ∷ rest) (rowsOf-take w n (drop w l) i (omega arith))
+
   pub length-rowAt : (w i : ℕ) (l : List A) → (i + 1) * w ≤ length l → length (rowAt w i l) ≡ w
   unfolding rowAt
   length-rowAt w i l h =

@@ -1,7 +1,9 @@
 -- `key_index::gaps::close_gap` meets its contract. Assumes nothing.
 use mathlib.Core.Path.{sym, _∙_}
 use native.Mathlib.Omega.{arith}
+use borrow.Author.Needs.{needs}
 use borrow.Author.Tests.{not-true, not-false}
+use Rattle.key_index.specs.Index.{rows-in}
 use Rattle.key_index.proofs.GapSteps.{Walk, begin, finish, stop, stay, move}
 use Rattle.key_index.proofs.gaps.close_gap.Statement.{statement}
 use Rattle.key_index.proofs.gaps.close_gap.Tie as tie
@@ -15,14 +17,14 @@ abbrev μ-loop : tie.MeasureT-loop
 mul-n : tie.Need-mul-n Inv-loop μ-loop
 mul-n c = omega arith
 
-cast-n : tie.Need-cast-n Inv-loop μ-loop
-cast-n c = omega arith
-
 loop-holds : tie.Need-loop-holds Inv-loop μ-loop
 loop-holds c = begin _ _ _ _ (c .before .before .before .pre .1)
 
 next-slot-requires : tie.Need-next-slot-requires Inv-loop μ-loop
 next-slot-requires c κs = c .before .loop .inv .at-in
+
+cast-word : tie.Need-cast-word Inv-loop μ-loop
+cast-word c = search needs
 
 mul-word : tie.Need-mul-word Inv-loop μ-loop
 mul-word c = omega arith
@@ -49,15 +51,10 @@ sub-left c = omega arith
 home-away-requires : tie.Need-home-away-requires Inv-loop μ-loop
 home-away-requires c κs =
     let f = c .before .before .before .before .before .before .before .before .before .pre .0 in
-    record {
-      columns = f .columns;
-      keys = f .keys;
-      capacity = f .capacity;
-      count = f .count;
-      cells = f .cells;
-      names = sym (c .before .names-row .ensures) ∙ not-false _ (c .if1 .left);
-      slot = c .before .before .before .next-slot .ensures .below;
-    }
+    (rows-in _ _ _ f, sym (c .before .names-row .ensures) ∙ not-false _ (c .if1 .left), c .before .before .before .next-slot .ensures .1)
+
+cast-store : tie.Need-cast-store Inv-loop μ-loop
+cast-store c = search needs
 
 mul-store : tie.Need-mul-store Inv-loop μ-loop
 mul-store c = omega arith
@@ -96,9 +93,9 @@ close-gap-spec =
     Inv-loop
     μ-loop
     mul-n
-    cast-n
     loop-holds
     next-slot-requires
+    cast-word
     mul-word
     slice-read-word
     names-row-requires
@@ -107,6 +104,7 @@ close-gap-spec =
     add-gap
     sub-left
     home-away-requires
+    cast-store
     mul-store
     slice-write-store
     loop-less

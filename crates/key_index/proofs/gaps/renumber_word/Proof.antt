@@ -6,8 +6,8 @@ use native.Mathlib.Omega.{arith}
 use lib.ListN.{length, getD}
 use borrow.Author.Needs.{needs}
 use borrow.Author.Tests.{not-true, not-false}
-use Rattle.key_index.specs.Gaps.{namesRow}
-use Rattle.key_index.proofs.RankLaws.{below-le}
+use Rattle.row_buffer.specs.Laws.{setBelow-le}
+use Rattle.key_index.specs.Ring.{namesRow}
 use Rattle.key_index.proofs.RenumberSteps.{stays, too-large, has-new, in-words}
 use Rattle.key_index.proofs.gaps.renumber_word.Statement.{statement}
 use Rattle.key_index.proofs.gaps.renumber_word.Tie as tie
@@ -57,7 +57,7 @@ rank-requires c κs = search needs
 few : (c : tie.After-rank) → c .rank .result ≤ 65600
 few c =
     let a = c .before .before .before .before .before .before .before .before .args in
-    omega (arith, c .rank .ensures, c .before .before .if2 .left, below-le (getD (a .live .now) ((a .word % 2 ^ 17 - 1) / 64) 0) ((a .word % 2 ^ 17 - 1) % 64))
+    omega (arith, c .rank .ensures, c .before .before .if2 .left, setBelow-le (getD (a .live .now) ((a .word % 2 ^ 17 - 1) / 64) 0) ((a .word % 2 ^ 17 - 1) % 64))
 
 add-result : tie.Need-add-result
 add-result c = omega (arith, few c)

@@ -7,6 +7,9 @@ use Rattle.key_index.proofs.gaps.take_out.Tie as tie
 close-gap-requires : tie.Need-close-gap-requires
 close-gap-requires c κs = search needs
 
+cast-store : tie.Need-cast-store
+cast-store c = search needs
+
 mul-store : tie.Need-mul-store
 mul-store c = search needs
 
@@ -22,4 +25,4 @@ returns c =
     taken _ _ _ _ _ _ (s .pre .0) (s .pre .1) (c .before .before .close-gap .ensures)
 
 pub take-out-spec : {M : Type 1} → statement M
-take-out-spec = tie.close (tie.spec close-gap-requires mul-store slice-write-store same-length returns)
+take-out-spec = tie.close (tie.spec close-gap-requires cast-store mul-store slice-write-store same-length returns)

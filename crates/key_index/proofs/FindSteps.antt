@@ -1,5 +1,6 @@
--- The answers of `find`. Assumes nothing.
-use Prim.Native.Nat.{ℕ, _+_, _%_, _^_, _≤_, _<_}
+-- The answers of `find`, one law for each way to return: at a free slot, after a full round, and at a slot that leads to the
+-- row. Assumes nothing.
+use Prim.Native.Nat.{ℕ, _%_, _^_, _≤_, _<_}
 use mathlib.Core.Path.{_≡_, sym, ap, _∙_}
 use mathlib.Core.List.{List}
 use native.Mathlib.Decide.{decLt, ℕ-discrete}
@@ -9,9 +10,9 @@ use Rattle.cells.specs.Cells.{compact, keyHash}
 use Rattle.key_index.specs.declared.Keyed.{Keyed}
 use Rattle.key_index.specs.declared.Found.the-variants.{None, At}
 use Rattle.key_index.specs.Slots.{LiveAt, keyAt, slots, word, home, slotFrom, StandsAt, KeysSound}
-use Rattle.key_index.specs.Ring.{spread, tagged, home-spread, word-tagged, word-some, word-row, tagged-row}
+use Rattle.key_index.specs.Ring.{spread, home-spread, word-tagged, word-some, word-same, tagged-row}
 use Rattle.key_index.specs.Index.{Leads, FoundAt, FoundIs}
-use Rattle.key_index.proofs.LawsWalk.{Walked}
+use Rattle.key_index.proofs.WalkSteps.{Walked}
 
 -- a lookup passes a slot that is not free and leads to no row with the key
 pub record Past (t : Keyed) (rows key : List ℕ) (hash w : ℕ) : Type 0 where
@@ -43,31 +44,29 @@ module _ (t : Keyed) (rows store key : List ℕ) (hash : ℕ) (few : t .rows ≤
   stands : KeysSound t rows store → (i : ℕ) → LiveAt t rows i → keyAt t rows i ≡ key → (d : ℕ) × StandsAt (slots t) store key i d
   stands sound i live k = rw k at (sound .leads i live)
 
-  -- the walk came to a free slot
-  pub found-free : (at passed : ℕ) → Passed at passed → getD store at 0 ≡ 0 → FoundIs t rows store key hash None
-  found-free at passed w z =
-      record { row-in = λ row slot e. absurd (none-at row slot e); slot-in = λ row slot e. absurd (none-at row slot e); none = gone; at = λ _ _ row slot e. absurd (none-at row slot e) }
-    where
-      gone : hash ≡ compact (keyHash key) → KeysSound t rows store → None ≡ None → (i : ℕ) → LiveAt t rows i → keyAt t rows i ≡ key → ⊥
-      gone e sound _ i live k =
-          let s = stands sound i live k in
-          let h : passed ≤ s .0 = not-passed at passed w e i (s .0) live k (s .1) in
-          let f : getD store (slotFrom (slots t) (home (slots t) key) passed) 0 ≡ 0 = rw (← home-spread (slots t) hash key e, ← w .here) z in
-          elim (ℕ-discrete passed (s .0)) [
-            | yes q ↦ let g : word key i ≡ 0 = sym (s .1 .there) ∙ rw (← q) f in omega (arith, word-some key i)
-            | no q ↦ s .1 .way passed (omega arith) f
-          ]
+  module _ (at passed : ℕ) (w : Passed at passed) where
+    -- no row is found where none with the key can stand past the slots passed
+    found-none : (hash ≡ compact (keyHash key) → (i d : ℕ) → passed ≤ d → StandsAt (slots t) store key i d → ⊥) → FoundIs t rows store key hash None
+    found-none f =
+        record {
+          row-in = λ row slot e. absurd (none-at row slot e);
+          slot-in = λ row slot e. absurd (none-at row slot e);
+          none = λ e sound _ i live k. let s = stands sound i live k in f e i (s .0) (not-passed at passed w e i (s .0) live k (s .1)) (s .1);
+          at = λ _ _ row slot e. absurd (none-at row slot e);
+        }
 
-  -- the walk went all the way round
-  pub found-round : (at passed : ℕ) → Passed at passed → slots t ≤ passed → FoundIs t rows store key hash None
-  found-round at passed w m =
-      record { row-in = λ row slot e. absurd (none-at row slot e); slot-in = λ row slot e. absurd (none-at row slot e); none = gone; at = λ _ _ row slot e. absurd (none-at row slot e) }
-    where
-      gone : hash ≡ compact (keyHash key) → KeysSound t rows store → None ≡ None → (i : ℕ) → LiveAt t rows i → keyAt t rows i ≡ key → ⊥
-      gone e sound _ i live k =
-          let s = stands sound i live k in
-          let h : passed ≤ s .0 = not-passed at passed w e i (s .0) live k (s .1) in
-          omega (arith, s .1 .below)
+    -- the walk came to a free slot
+    pub found-free : getD store at 0 ≡ 0 → FoundIs t rows store key hash None
+    found-free z = found-none (λ e i d h s.
+        let f : getD store (slotFrom (slots t) (home (slots t) key) passed) 0 ≡ 0 = rw (← home-spread (slots t) hash key e, ← w .here) z in
+        elim (ℕ-discrete passed d) [
+          | yes q ↦ let g : word key i ≡ 0 = sym (s .there) ∙ rw (← q) f in omega (arith, word-some key i)
+          | no q ↦ s .way passed (omega arith) f
+        ])
+
+    -- the walk went all the way round
+    pub found-round : slots t ≤ passed → FoundIs t rows store key hash None
+    found-round m = found-none (λ e i d h s. omega (arith, s .below))
 
   -- a slot leads to the row
   pub found-row : (at row : ℕ) → at < slots t → Leads t rows key hash (getD store at 0) row → 0 < getD store at 0 → FoundIs t rows store key hash (At row at)
@@ -82,8 +81,6 @@ module _ (t : Keyed) (rows store key : List ℕ) (hash : ℕ) (few : t .rows ≤
       the-one : hash ≡ compact (keyHash key) → KeysSound t rows store → FoundAt t rows store key row at
       the-one e sound =
           let o = sound .only-live at h some in
-          let a : word (keyAt t rows (o .0)) (o .0) % 2 ^ 17 ≡ o .0 + 1 = word-row (keyAt t rows (o .0)) (o .0) (omega (arith, o .1 .0)) in
-          let b : tagged hash row % 2 ^ 17 ≡ row + 1 = tagged-row hash row (omega (arith, l .below)) in
-          let c : word (keyAt t rows (o .0)) (o .0) % 2 ^ 17 ≡ tagged hash row % 2 ^ 17 = ap (λ (x : ℕ). x % 2 ^ 17) (sym (o .2) ∙ l .tag) in
-          let q : o .0 ≡ row = omega arith in
-          record { live = rw q at (o .1); key-is = l .cells; slot-in = h; word-is = l .tag ∙ word-tagged hash row key e }
+          let w : getD store at 0 ≡ word key row = l .tag ∙ word-tagged hash row key e in
+          let q : o .0 ≡ row = word-same _ _ (o .0) row (omega (arith, o .1 .0)) (omega (arith, l .below)) (sym (o .2) ∙ w) in
+          record { live = rw q at (o .1); key-is = l .cells; slot-in = h; word-is = w }

@@ -5,14 +5,9 @@ use mathlib.Core.List.{List, [], _∷_}
 use native.Mathlib.Numerals.{add-one}
 use native.Mathlib.Omega.{arith}
 use lib.ListN.{length, drop, getD, set}
+use Rattle.lists.specs.Lists.{mapFront}
 
 module _ {A : Type 0} where
-  -- the first n mapped
-  unfoldable pub mapFront : (A → A) → ℕ → List A → List A
-  mapFront f zero l = l
-  mapFront f (suc n) [] = []
-  mapFront f (suc n) (x ∷ xs) = f x ∷ mapFront f n xs
-
   module _ (f : A → A) where
     pub length-mapFront : (n : ℕ) (l : List A) → length (mapFront f n l) ≡ length l
     unfolding mapFront

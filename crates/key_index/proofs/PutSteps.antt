@@ -1,4 +1,5 @@
--- The answers of `put`, and the turns of `empty`. Assumes nothing.
+-- The answers of `put`, one law for each way to return, and the turns of `empty`, as one more slot is made free. Assumes
+-- nothing.
 use Prim.Native.Nat.{ℕ, _+_, _*_, _≤_, _<_}
 use mathlib.Core.Path.{_≡_, refl, sym, ap, _∙_}
 use mathlib.Core.Bool.{true, false, false≢true}
@@ -10,7 +11,7 @@ use Rattle.lists.specs.Lists.{putAt}
 use Rattle.lists.specs.Laws.Parts.{drop-putAt, length-putAt, putAt-nil, putAt-then, set-putAt}
 use Rattle.key_index.specs.Ring.{spread, tagged, slot-met}
 use Rattle.key_index.specs.Index.{PutIs, zeros, EmptyIs}
-use Rattle.key_index.proofs.LawsWalk.{Walked}
+use Rattle.key_index.proofs.WalkSteps.{Walked}
 
 -- a slot that is not free
 abbrev pub Taken : ℕ → Type 0

@@ -1,4 +1,5 @@
--- A walk round the slots, as the loops of `find` and `put` make it. Assumes nothing.
+-- A walk round the slots, as the loops of `find` and `put` make it: how it begins, and how it goes on by one. Assumes
+-- nothing.
 use Prim.Native.Nat.{ℕ, _+_, _≤_, _<_}
 use mathlib.Core.Path.{_≡_, sym, ap, _∙_}
 use mathlib.Core.List.{List}
@@ -6,7 +7,7 @@ use native.Mathlib.Omega.{arith}
 use lib.ListN.{getD}
 use borrow.Author.Count.{below-more}
 use Rattle.key_index.specs.Slots.{slotFrom}
-use Rattle.key_index.specs.Ring.{slot-below, slot-first, slot-add}
+use Rattle.key_index.specs.Ring.{slot-below, slot-zero, slot-then}
 
 -- `passed` slots from `start` on were passed, each for the reason P, and `at` is the next
 pub record Walked (n : ℕ) (store : List ℕ) (P : ℕ → Type 0) (start at passed : ℕ) : Type 0 where
@@ -19,7 +20,7 @@ module _ (n : ℕ) (store : List ℕ) (P : ℕ → Type 0) (start : ℕ) where
   pub begin : (at : ℕ) → at ≡ start → at < n → Walked n store P start at 0
   begin at e h =
       let k : start < n = omega arith in
-      record { here = e ∙ sym (slot-first n start k); inside = h; most = omega arith; each = λ e k. absurd (omega arith) }
+      record { here = e ∙ sym (slot-zero n start k); inside = h; most = omega arith; each = λ e k. absurd (omega arith) }
 
   pub on : (at passed next : ℕ) → Walked n store P start at passed → passed < n → P (getD store at 0) → next ≡ slotFrom n at 1
       → Walked n store P start next (passed + 1)
@@ -27,7 +28,7 @@ module _ (n : ℕ) (store : List ℕ) (P : ℕ → Type 0) (start : ℕ) where
       let some : 0 < n = omega arith in
       let q : P (getD store (slotFrom n start passed) 0) = rw (w .here) at p in
       record {
-        here = e ∙ ap (λ (a : ℕ). slotFrom n a 1) (w .here) ∙ slot-add n start passed 1;
+        here = e ∙ ap (λ (a : ℕ). slotFrom n a 1) (w .here) ∙ slot-then n start passed 1;
         inside = rw e (slot-below n at 1 some);
         most = omega arith;
         each = below-more _ passed (w .each) q;

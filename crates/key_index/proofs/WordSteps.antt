@@ -1,0 +1,65 @@
+-- What is read from a slot's word: whether it names a row, where that row lies, and whether it has a key, one law for each
+-- way of `names_row` and `is_hit` to return. Assumes nothing.
+use Prim.Native.Nat.{ℕ, _+_, _-_, _*_, _/_, _%_, _^_, _≤_, _<_}
+use mathlib.Core.Path.{_≡_, sym, ap, _∙_}
+use mathlib.Core.Bool.{Bool, true, false, false≢true}
+use mathlib.Core.List.{List}
+use native.Mathlib.Nat.{mul-le-mul}
+use native.Mathlib.Omega.{arith}
+use lib.Dec.{leb}
+use lib.ListN.{length}
+use borrow.Author.Tests.{lt-ltb}
+use Rattle.lists.specs.Lists.{same}
+use Rattle.lists.specs.Laws.Rising.{same-refl, same-eq}
+use Rattle.lists.specs.Laws.Rows.{row-in}
+use Rattle.key_index.specs.declared.Keyed.{Keyed}
+use Rattle.key_index.specs.Slots.{keyAt}
+use Rattle.key_index.specs.Ring.{tagged, namesRow, tagged-row, tagged-bits, tagged-of, names-yes, names-number}
+use Rattle.key_index.specs.Index.{RowsIn, Leads, HitIs}
+
+pub names-some : (t : Keyed) (w : ℕ) → (w % 2 ^ 17 ≡ 0 → ⊥) → leb (w % 2 ^ 17) (t .rows) ≡ namesRow t w
+unfolding namesRow
+names-some t w ne = let p : 0 < w % 2 ^ 17 = omega arith in rw (lt-ltb 0 (w % 2 ^ 17) p)
+
+-- a word that names a row has its number, from 1 on, and the row lies in its store
+pub record Named (t : Keyed) (rows : List ℕ) (w : ℕ) : Type 0 where
+  pub some : 0 < w % 2 ^ 17
+  pub row : w % 2 ^ 17 - 1 < t .rows
+  pub inside : (w % 2 ^ 17 - 1) * t .columns + t .columns ≤ length rows
+  pub small : (w % 2 ^ 17 - 1) * t .columns + t .columns ≤ 524288
+
+pub named : (t : Keyed) (rows : List ℕ) (w : ℕ) → RowsIn t rows → namesRow t w ≡ true → Named t rows w
+named t rows w f e =
+    let n = names-number t w e in
+    let r : w % 2 ^ 17 - 1 < t .capacity = omega (arith, f .count, n) in
+    let i = row-in (w % 2 ^ 17 - 1) (t .capacity) (t .columns) r in
+    record { some = n .0; row = omega (arith, n); inside = omega (arith, f .cells); small = omega (arith, mul-le-mul (f .most) (f .most-columns)) }
+
+module _ (t : Keyed) (rows key : List ℕ) (hash w row : ℕ) (few : t .rows ≤ 65536) where
+  pub hit-bits : (w / 2 ^ 17 ≡ hash % 2 ^ 15 → ⊥) → HitIs t rows key hash w row false
+  hit-bits ne =
+      record {
+        yes = λ e. absurd (false≢true e);
+        no = λ _ i l. ne (ap (λ (x : ℕ). x / 2 ^ 17) (l .tag) ∙ tagged-bits hash i (omega (arith, l .below)));
+      }
+
+  -- the word says which row it is
+  the-row : (i : ℕ) → Leads t rows key hash w i → w % 2 ^ 17 ≡ i + 1
+  the-row i l = ap (λ (x : ℕ). x % 2 ^ 17) (l .tag) ∙ tagged-row hash i (omega (arith, l .below))
+
+  pub hit-nameless : namesRow t w ≡ false → HitIs t rows key hash w row false
+  hit-nameless e =
+      record {
+        yes = λ y. absurd (false≢true y);
+        no = λ _ i l. let q = the-row i l in false≢true (sym e ∙ names-yes t w (omega arith) (omega (arith, l .below)));
+      }
+
+  pub hit-cells : w / 2 ^ 17 ≡ hash % 2 ^ 15 → 0 < w % 2 ^ 17 → row ≡ w % 2 ^ 17 - 1 → row < t .rows → (r : Bool) → r ≡ same (keyAt t rows row) key
+      → HitIs t rows key hash w row r
+  hit-cells bits some e h r q =
+      record {
+        yes = λ y. record { tag = tagged-of hash w bits some ∙ ap (tagged hash) (sym e); below = h; cells = same-eq _ _ (sym q ∙ y) };
+        no = λ z i l.
+            let f : i ≡ row = omega (arith, the-row i l) in
+            false≢true (sym z ∙ q ∙ ap (λ (k : List ℕ). same k key) (ap (keyAt t rows) (sym f) ∙ l .cells) ∙ same-refl key);
+      }

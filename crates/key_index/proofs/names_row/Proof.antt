@@ -1,0 +1,15 @@
+-- `key_index::names_row` meets its contract. Assumes nothing.
+use mathlib.Core.Path.{sym}
+use Rattle.key_index.specs.Ring.{names-none}
+use Rattle.key_index.proofs.WordSteps.{names-some}
+use Rattle.key_index.proofs.names_row.Statement.{statement}
+use Rattle.key_index.proofs.names_row.Tie as tie
+
+returns : tie.Need-returns
+returns c = sym (names-none _ _ (c .if1 .taken))
+
+returns-2 : tie.Need-returns-2
+returns-2 c = names-some _ _ (c .before .if1 .left)
+
+pub names-row-spec : {M : Type 1} → statement M
+names-row-spec = tie.close (tie.spec returns returns-2)
