@@ -4,3 +4,4 @@ pub mod FindSteps
 pub mod PutSteps
 pub mod GapSteps
 pub mod RenumberSteps
+pub mod CheckSteps

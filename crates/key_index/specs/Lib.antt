@@ -7,3 +7,4 @@ pub mod Rows
 pub mod Unrolled
 pub mod GapLaws
 pub mod RenumberLaws
+pub mod Check

@@ -10,6 +10,7 @@ ghost use Rattle.key_index.specs.Ring.{spread, tagged, namesRow};
 ghost use Rattle.key_index.specs.Index.{Room, RowsIn, Fits, HitIs, FoundIs, PutIs, EmptyIs};
 
 pub mod gaps; // gaps.rt: rows taken out and renumbered
+pub mod check; // check.rt: whether a key store is sound
 
 // The numbers of a table that its key index goes by.
 pub struct Keyed {
