@@ -1,5 +1,6 @@
 // Functions from inside the library under C names, so that they can be compared with the Rust and measured by themselves.
-// What they require is tested; a table or a store that does not fit is answered by a number that nothing else gives.
+// They are proved safe and to end; what they answer is said by the contracts of the functions that they call, not here. What
+// those require is tested; a table or a store that does not fit is answered by a number that nothing else gives.
 use key_index::Found;
 use key_index::Keyed;
 ghost use mathlib.Core.Path.{_≡_};

@@ -1,5 +1,5 @@
-// The library for C and Rust callers. Each function is the library's own under a C name, with the same contract, and asks
-// nothing of its caller: a slice is a pointer and a length, an enum becomes words, and what a function of the library
+// The library for C and Rust callers. Each function of this file is the library's own under a C name, with its contract, and
+// asks nothing of its caller: a slice is a pointer and a length, an enum becomes words, and what a function of the library
 // requires is tested.
 pub mod inner; // inner.rt: the key index and the sort entries, for comparing and measuring
 
