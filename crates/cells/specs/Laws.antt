@@ -1,5 +1,5 @@
 -- What callers may rely on of compact hashes. Assumes nothing.
-use Prim.Native.Nat.{ℕ, _*_, _+_, _^_, _<_}
+use Prim.Native.Nat.{ℕ, _^_, _<_}
 use mathlib.Core.Path.{_≡_}
 use mathlib.Core.List.{List, [], _∷_}
 use native.Mathlib.Omega.{arith}

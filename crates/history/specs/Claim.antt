@@ -1,12 +1,11 @@
 -- The order's term 3, as one claim about its two lists. Assumes nothing.
-use Prim.Native.Nat.{ℕ, zero, suc}
+use Prim.Native.Nat.{ℕ, suc}
 use mathlib.Core.Path.{_≡_}
-use mathlib.Core.Bool.{Bool, true, false, cond, _&&_}
+use mathlib.Core.Bool.{Bool, true, cond, _&&_}
 use mathlib.Core.List.{List, [], _∷_}
 use lib.Dec.{ltb}
 use Rattle.lists.specs.Lists.{keep, every, rising, has, rowAt, rowsOf}
 use Rattle.offsets.specs.Subsets.{Subset, members}
-use Rattle.constraints.specs.declared.Constraint.{Constraint}
 use Rattle.constraints.specs.Constraints.{isLive, met}
 use Rattle.plain.specs.Staged.{Opening}
 use Rattle.plain.specs.Plain.{Numbered, liveRows, opened}

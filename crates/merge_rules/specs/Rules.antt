@@ -1,8 +1,8 @@
 -- Merge rules (document 01, "Merge rules"): what a rule makes of an old and a new row of the same key. Assumes nothing.
-use Prim.Native.Nat.{ℕ, zero, suc, min, max}
-use mathlib.Core.Bool.{Bool, true, false, cond, not, _&&_, _||_}
+use Prim.Native.Nat.{ℕ, suc, min, max}
+use mathlib.Core.Bool.{Bool, false, cond, not, _&&_, _||_}
 use mathlib.Core.List.{List, [], _∷_}
-use lib.Dec.{leb, ltb, eqb}
+use lib.Dec.{leb, eqb}
 
 -- "a cell outside keys and sort column"
 unfoldable pub ruledColumn : ℕ → ℕ → ℕ → Bool

@@ -1,10 +1,10 @@
 -- Subsets (document 01, "Subsets"): well-formed ones, their members, `bounds`, `intersect` and `retain` with the Rust's
 -- forms. Assumes nothing.
-use Prim.Native.Nat.{ℕ, zero, suc, _+_, _-_, min, max}
-use mathlib.Core.Bool.{Bool, true, false, cond, _&&_}
+use Prim.Native.Nat.{ℕ, _+_, _-_, min, max}
+use mathlib.Core.Bool.{Bool, cond, _&&_}
 use mathlib.Core.List.{List, [], _∷_}
 use lib.ListN.{length}
-use lib.Dec.{leb, ltb, eqb}
+use lib.Dec.{leb, eqb}
 use Rattle.lists.specs.Lists.{keep, every, countFrom, rising, has, within}
 
 -- "A dense range start..end (end not included), or a strictly rising list of at most 65,536 u32 ids"

@@ -5,7 +5,6 @@ use mathlib.Core.Bool.{cond}
 use mathlib.Core.List.{List, [], _∷_}
 use lib.Dec.{eqb}
 use Rattle.plain.specs.Staged.{Staged}
-use Rattle.plain.specs.Merging.{Inserted}
 use Rattle.plain.specs.Plain.{Plain, Lengths, stageRefusal, stage, mergeRefusal, merged, compactRefusal, compacted, clearRefusal, cleared}
 
 pub data Call : Type 0 where

@@ -1,7 +1,7 @@
 -- The inserts of a merge, one after another, until one must be appended and cannot be. Over any kind of table. Assumes
 -- nothing.
-use Prim.Native.Nat.{ℕ, zero, suc}
-use mathlib.Core.Bool.{Bool, true, false}
+use Prim.Native.Nat.{ℕ, suc}
+use mathlib.Core.Bool.{Bool, true}
 use mathlib.Core.List.{List, [], _∷_}
 
 -- what an insert does: nothing, a row appended, or a stop with its number

@@ -1,13 +1,13 @@
 -- The plain table (document 01, "Plain table"): what a table is, with no header, no store and no key index. Assumes
 -- nothing.
-use Prim.Native.Nat.{ℕ, zero, suc, _+_, _*_, _/_, _-_}
+use Prim.Native.Nat.{ℕ, zero, suc, _+_, _*_, _/_}
 use mathlib.Core.Bool.{Bool, true, false, cond, not, _&&_, _||_}
 use mathlib.Core.List.{List, [], _∷_, _++_, map}
-use lib.ListN.{length, take, getD, set}
+use lib.ListN.{length, take, getD}
 use lib.Dec.{leb, ltb, eqb}
 use Rattle.lists.specs.Lists.{keep, count}
-use Rattle.refusals.specs.Refusals.{Rung, rung, first}
-use Rattle.merge_rules.specs.Rules.{Ruled, kept, made, ruled}
+use Rattle.refusals.specs.Refusals.{rung, first}
+use Rattle.merge_rules.specs.Rules.{kept, made, ruled}
 use Rattle.plain.specs.Staged.{Opening, openable, Staged, insert, removeKey, removeRow, wordsOf, wordsAll, keyRemovals, RowRemoval, rowRemovals, inserts, hasKey, skipped, due}
 use Rattle.plain.specs.Merging.{Insertion, kept as leaves, appended, stopped, Inserted, inserted, insertAll}
 

@@ -2,13 +2,13 @@
 use Prim.Native.Nat.{ℕ, _≤_, _<_}
 use mathlib.Core.Path.{_≡_}
 use mathlib.Core.Bool.{Bool, true, not, _||_}
-use mathlib.Core.List.{List, []}
+use mathlib.Core.List.{[]}
 use lib.ListN.{length, take, getD}
 use lib.Dec.{eqb}
 use Rattle.lists.specs.Lists.{every}
 use Rattle.cells.specs.Cells.{isDead}
-use Rattle.plain.specs.Staged.{Opening, openable}
-use Rattle.plain.specs.Plain.{Row, deadRow, Plain, wrongWidth}
+use Rattle.plain.specs.Staged.{openable}
+use Rattle.plain.specs.Plain.{Row, Plain, wrongWidth}
 
 -- row i, a dead one of no cells past the end
 abbrev pub rowOf : Plain → ℕ → Row

@@ -1,7 +1,7 @@
 -- Staged records and what a merge makes of their order; nothing here knows how rows are kept. Assumes nothing.
-use Prim.Native.Nat.{ℕ, zero, suc, _+_, _/_, max}
-use mathlib.Core.Bool.{Bool, true, false, cond, not, _&&_}
-use mathlib.Core.List.{List, [], _∷_, _++_}
+use Prim.Native.Nat.{ℕ, _+_, _/_, max}
+use mathlib.Core.Bool.{Bool, not, _&&_}
+use mathlib.Core.List.{List, [], _∷_}
 use lib.ListN.{take, getD}
 use lib.Dec.{leb, ltb, eqb}
 use Rattle.lists.specs.Lists.{same}

@@ -1,6 +1,6 @@
 -- The paper's wrong turns, and traps beside them, as merges that come out differently if one is taken: each a list of
 -- calls, the last of them a merge, and what that merge leaves. One statement says that all come out. Assumes nothing.
-use Prim.Native.Nat.{ℕ, zero, suc}
+use Prim.Native.Nat.{ℕ}
 use mathlib.Core.Path.{_≡_, refl}
 use mathlib.Core.Bool.{Bool, true, false, _&&_, Bool·beq}
 use mathlib.Core.List.{List, [], _∷_, map}
@@ -10,9 +10,9 @@ use Rattle.lists.specs.Lists.{every, same, count, keep}
 use Rattle.refusals.specs.Refusals.{first}
 use Rattle.cells.specs.Cells.{isDead}
 use Rattle.merge_rules.specs.Rules.{ruledColumn, taken, madeCell, madeFrom, changesFrom, ruled}
-use Rattle.plain.specs.Staged.{Opening, openable, Staged, insert, removeKey, removeRow, wordsOf, wordsAll, keyRemovals, rowRemovals, inserts, hasKey, skipped, due}
+use Rattle.plain.specs.Staged.{Opening, openable, insert, removeKey, removeRow, wordsOf, wordsAll, keyRemovals, rowRemovals, inserts, hasKey, skipped, due}
 use Rattle.plain.specs.Merging.{Inserted, insertAll}
-use Rattle.plain.specs.Plain.{Plain, Numbered, liveFrom, liveRows, dead, Lengths, storesShort, wordsShort, pendingShort, opened, wrongWidth, noSuchRow, usedAfter, stageRefusal, stage, liveWithKey, killIf, withoutKey, withoutKeys, dies, withoutRow, withoutRows, liveOf, admits, stop, append, put, insertion, applied, compacted, compactIfDue, unstaged, merged, mergeRefusal}
+use Rattle.plain.specs.Plain.{Plain, Numbered, liveFrom, liveRows, dead, storesShort, wordsShort, pendingShort, opened, wrongWidth, noSuchRow, usedAfter, stageRefusal, stage, liveWithKey, killIf, withoutKey, withoutKeys, dies, withoutRow, withoutRows, liveOf, admits, stop, append, put, insertion, applied, compacted, compactIfDue, unstaged, merged, mergeRefusal}
 use Rattle.plain.specs.Calls.{Call, staging, merging, Lent, refusal, done, after, afterAll}
 
 pub record Turn : Type 0 where

@@ -1,13 +1,13 @@
 -- Questions on rows (document 01, "Operations": refine by one and by a list, any match, page). They go by the header and
 -- the row store alone, so each is promised of any table. Assumes nothing.
-use Prim.Native.Nat.{ℕ, _+_, _-_, _*_, _<_, min}
+use Prim.Native.Nat.{ℕ, _+_, _-_, min}
 use mathlib.Core.Path.{_≡_}
-use mathlib.Core.Bool.{Bool, true, false, cond, not, _||_}
-use mathlib.Core.List.{List, [], _∷_, _++_}
+use mathlib.Core.Bool.{Bool, cond, not, _||_}
+use mathlib.Core.List.{List, [], _∷_}
 use lib.ListN.{length, take, drop}
-use lib.Dec.{leb, ltb}
+use lib.Dec.{ltb}
 use Rattle.lists.specs.Lists.{putAt, keep, every, some, rowAt}
-use Rattle.refusals.specs.Refusals.{Rung, rung, first, Reply, refused, accepted, reply}
+use Rattle.refusals.specs.Refusals.{rung, first, Reply, refused, accepted, reply}
 use Rattle.offsets.specs.declared.SubsetAnswer.{SubsetAnswer}
 use Rattle.offsets.specs.Subsets.{Subset, wellFormed, members, size, endOf, retain, narrowed}
 use Rattle.offsets.specs.Answers.{Answered}

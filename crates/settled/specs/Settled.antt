@@ -1,7 +1,7 @@
 -- The twelve settled examples of document 01, (a) to (l), as data, and the test whether one comes out as the paper says.
 -- The definitions that it runs are those that the contracts cite. Assumes nothing.
-use Prim.Native.Nat.{ℕ, zero, suc, _-_}
-use mathlib.Core.Bool.{Bool, true, false, not, _&&_, Bool·beq}
+use Prim.Native.Nat.{ℕ, suc, _-_}
+use mathlib.Core.Bool.{Bool, true, false, _&&_, Bool·beq}
 use mathlib.Core.List.{List, [], _∷_, _++_, map}
 use lib.ListN.{length, getD, replicate}
 use lib.Dec.{eqb}
@@ -13,10 +13,10 @@ use Rattle.offsets.specs.Answers.{intersectReply}
 use Rattle.constraints.specs.declared.Constraint.{Constraint}
 use Rattle.row_buffer.specs.Ranks.{setBelow, liveWord, newNumber}
 use Rattle.sort_entries.specs.Entries.{Entry, entry, fastRange}
-use Rattle.plain.specs.Staged.{Opening, Staged, insert}
+use Rattle.plain.specs.Staged.{Opening, insert}
 use Rattle.plain.specs.Merging.{Inserted}
 use Rattle.plain.specs.Plain.{Row, Plain, Numbered, liveRows, Lengths, opened, merged, compacted}
-use Rattle.plain.specs.Calls.{Call, staging, merging, Lent, afterAll}
+use Rattle.plain.specs.Calls.{staging, merging, Lent, afterAll}
 use Rattle.table.specs.declared.Header.{Header}
 use Rattle.table.specs.Numbers.{Maybe, none, one}
 use Rattle.queries.specs.Queries.{refineOneReply, refineListReply, PageReply, pageReply}

@@ -1,8 +1,8 @@
 -- Sort entries (document 01, "Sort entries"): appending, rebuilding, and the fast range. Assumes nothing.
 use Prim.Native.Nat.{ℕ, zero, suc, _+_}
-use mathlib.Core.Bool.{Bool, true, false, cond, not, _&&_, _||_}
+use mathlib.Core.Bool.{Bool, true, cond, not, _&&_}
 use mathlib.Core.List.{List, [], _∷_, _++_, map}
-use lib.ListN.{length, drop, getD}
+use lib.ListN.{drop, getD}
 use lib.Dec.{leb, ltb, eqb}
 use Rattle.lists.specs.Lists.{every, rising}
 use Rattle.offsets.specs.Subsets.{Subset, range}

@@ -2,9 +2,9 @@
 -- `ensures`, over what the function is lent and what it leaves, and what a history of calls is made of. Assumes nothing.
 use Prim.Native.Nat.{ℕ, _+_, _*_, _<_}
 use mathlib.Core.Path.{_≡_}
-use mathlib.Core.Bool.{Bool, true, false, cond, not, _||_}
-use mathlib.Core.List.{List, [], _∷_}
-use lib.ListN.{length, take, drop, getD}
+use mathlib.Core.Bool.{true, false, cond, not, _||_}
+use mathlib.Core.List.{List, []}
+use lib.ListN.{length, drop, getD}
 use lib.Dec.{eqb}
 use Rattle.lists.specs.Lists.{putAt, rowsOf}
 use Rattle.refusals.specs.Refusals.{Reply, refused, accepted, reply, verdict, ruling}
@@ -13,8 +13,7 @@ use Rattle.constraints.specs.declared.Constraint.{Constraint}
 use Rattle.sort_entries.specs.Entries.{entriesOf, entriesSound, fastRange}
 use Rattle.key_index.specs.Slots.{KeysSound}
 use Rattle.plain.specs.Staged.{Opening, Staged, wordsOf}
-use Rattle.plain.specs.Merging.{Inserted}
-use Rattle.plain.specs.Plain.{Row, Plain, Number, none as noNumber, one as oneNumber, numberFrom, liveWithKey, Lengths, storesShort, openRefusal, opened, applied, merged, compacted, cleared}
+use Rattle.plain.specs.Plain.{Plain, Number, none as noNumber, one as oneNumber, numberFrom, liveWithKey, Lengths, storesShort, openRefusal, opened, applied, merged, compacted, cleared}
 use Rattle.plain.specs.Proper.{Proper, rowOf}
 use Rattle.table.specs.declared.Header.{Header}
 use Rattle.table.specs.declared.TableAnswer.{TableAnswer}

@@ -1,14 +1,13 @@
 -- What each operation turns away, "on any numbers at all": one ladder each, over the header and the lengths of what is
 -- lent. The first number that applies; 0 if none. Assumes nothing.
-use Prim.Native.Nat.{ℕ, _+_, _*_, _/_}
-use mathlib.Core.Bool.{Bool, true, false, not, _&&_, _||_}
-use mathlib.Core.List.{List, [], _∷_}
-use lib.ListN.{length}
+use Prim.Native.Nat.{ℕ, _+_, _*_}
+use mathlib.Core.Bool.{Bool, not, _&&_, _||_}
+use mathlib.Core.List.{[], _∷_}
 use lib.Dec.{leb, ltb, eqb}
-use Rattle.refusals.specs.Refusals.{Rung, rung, first}
+use Rattle.refusals.specs.Refusals.{rung, first}
 use Rattle.constraints.specs.declared.Constraint.{Constraint}
 use Rattle.constraints.specs.Constraints.{known}
-use Rattle.plain.specs.Staged.{Opening, openable, Staged, wordsOf}
+use Rattle.plain.specs.Staged.{openable, Staged, wordsOf}
 use Rattle.plain.specs.Plain.{Lengths, storesShort, wordsShort, wrongWidth, noSuchRow}
 use Rattle.table.specs.declared.Header.{Header}
 use Rattle.table.specs.Numbers.{openingOf}

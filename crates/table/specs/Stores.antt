@@ -1,10 +1,10 @@
 -- What the stores of a table hold: how a plain table is shown by a header and stores, and what an operation that takes one
 -- plain table to another leaves in every lent cell. Assumes nothing.
-use Prim.Native.Nat.{ℕ, zero, suc, _+_, _*_}
+use Prim.Native.Nat.{ℕ}
 use mathlib.Core.Path.{_≡_}
-use mathlib.Core.Bool.{Bool, true, false, cond, not}
-use mathlib.Core.List.{List, [], _∷_, _++_, map}
-use lib.ListN.{length, take, drop, getD, set}
+use mathlib.Core.Bool.{true, cond, not}
+use mathlib.Core.List.{List, [], _∷_, map}
+use lib.ListN.{length, take, getD, set}
 use Rattle.lists.specs.Lists.{putAt, every, rowsOf, flat}
 use Rattle.cells.specs.Cells.{compact, keyHash}
 use Rattle.sort_entries.specs.Entries.{Entry, entriesOf, words, rebuilt}

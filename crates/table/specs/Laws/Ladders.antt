@@ -1,5 +1,5 @@
 -- The ladders over a header and those of the plain table that it shows turn away the same. Assumes nothing.
-use mathlib.Core.Path.{_≡_, refl}
+use mathlib.Core.Path.{_≡_}
 use lib.ListN.{length}
 use Rattle.refusals.specs.Refusals.{first}
 use Rattle.plain.specs.Staged.{Staged}

@@ -1,7 +1,7 @@
 -- What the stores of a table that shows a plain table say of each row, and what its header and lengths pass. Assumes
 -- nothing.
 use Prim.Native.Nat.{ℕ, _*_, _≤_, _<_}
-use mathlib.Core.Path.{_≡_, refl, sym, ap, _∙_}
+use mathlib.Core.Path.{_≡_, sym, ap, _∙_}
 use mathlib.Core.Bool.{true, false, not, _||_}
 use mathlib.Core.List.{List, [], map}
 use native.Mathlib.Nat.{mul-le-mul-right}

@@ -11,7 +11,7 @@ use lib.ListN.{length, take, getD, set, length-map, length-set}
 use lib.Seq.{getD-set-same}
 use borrow.Author.Tests.{ltb-false, le-ltb, leb-true, eq-eqb, not-false}
 use Rattle.refusals.specs.Refusals.{first}
-use Rattle.lists.specs.Lists.{count, every, rowAt, rowsOf}
+use Rattle.lists.specs.Lists.{count, rowAt, rowsOf}
 use Rattle.lists.specs.Laws.Keep.{split, and-left, and-right, every-of}
 use Rattle.lists.specs.Laws.Rows.{length-rowsOf, getD-rowsOf, length-rowAt}
 use Rattle.lists.specs.Laws.Every.{or-no-left, or-no-right, getD-map-below, count-alike}
@@ -22,7 +22,7 @@ use Rattle.sort_entries.specs.Laws.Rebuilt.{NeverFalls, rebuilt-sound, rebuilt-
 use Rattle.sort_entries.specs.Laws.Stores.{length-entriesOf}
 use Rattle.sort_entries.specs.Laws.Sound.{sound-climb}
 use Rattle.sort_entries.specs.Laws.Values.{valueAt-climbs, rebuilt-same}
-use Rattle.plain.specs.Staged.{Opening, openable, Staged}
+use Rattle.plain.specs.Staged.{openable, Staged}
 use Rattle.plain.specs.Plain.{Row, Plain, dead}
 use Rattle.plain.specs.Proper.{Proper, rowOf, sortCell}
 use Rattle.plain.specs.Laws.Rows.{noRow, wideRow, firstFits, live-below}
