@@ -51,6 +51,7 @@ module _ (t : Keyed) (rows store key : List ℕ) (hash : ℕ) (few : t .rows ≤
         record {
           row-in = λ row slot e. absurd (none-at row slot e);
           slot-in = λ row slot e. absurd (none-at row slot e);
+          first = λ row slot e. absurd (none-at row slot e);
           none = λ e sound _ i live k. let s = stands sound i live k in f e i (s .0) (not-passed at passed w e i (s .0) live k (s .1)) (s .1);
           at = λ _ _ row slot e. absurd (none-at row slot e);
         }
@@ -68,19 +69,20 @@ module _ (t : Keyed) (rows store key : List ℕ) (hash : ℕ) (few : t .rows ≤
     pub found-round : slots t ≤ passed → FoundIs t rows store key hash None
     found-round m = found-none (λ e i d h s. omega (arith, s .below))
 
-  -- a slot leads to the row
-  pub found-row : (at row : ℕ) → at < slots t → Leads t rows key hash (getD store at 0) row → 0 < getD store at 0 → FoundIs t rows store key hash (At row at)
-  found-row at row h l some =
+  -- a slot leads to the row, and none passed does
+  pub found-row : (at passed row : ℕ) → Passed at passed → Leads t rows key hash (getD store at 0) row → 0 < getD store at 0 → FoundIs t rows store key hash (At row at)
+  found-row at passed row walked l some =
       record {
         row-in = λ r s e. let q : row ≡ r = cc in omega (arith, l .below);
-        slot-in = λ r s e. let q : at ≡ s = cc in omega arith;
+        slot-in = λ r s e. let q : at ≡ s = cc in omega (arith, walked .inside);
+        first = λ r s e. let q : row ≡ r = cc in rw (← q) (passed, record { leads = rw (← walked .here) l; way = λ e h. walked .each e h .other });
         none = λ _ _ e. absurd (none-at row at (sym e));
         at = λ e sound r s f. let q : row ≡ r = cc in let p : at ≡ s = cc in rw (← q, ← p) (the-one e sound);
       }
     where
       the-one : hash ≡ compact (keyHash key) → KeysSound t rows store → FoundAt t rows store key row at
       the-one e sound =
-          let o = sound .only-live at h some in
+          let o = sound .only-live at (walked .inside) some in
           let w : getD store at 0 ≡ word key row = l .tag ∙ word-tagged hash row key e in
           let q : o .0 ≡ row = word-same _ _ (o .0) row (omega (arith, o .1 .0)) (omega (arith, l .below)) (sym (o .2) ∙ w) in
-          record { live = rw q at (o .1); key-is = l .cells; slot-in = h; word-is = w }
+          record { live = rw q at (o .1); key-is = l .cells; slot-in = walked .inside; word-is = w }

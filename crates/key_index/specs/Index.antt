@@ -66,11 +66,17 @@ pub record FoundAt (t : Keyed) (rows store key : List ℕ) (row slot : ℕ) : Ty
   pub slot-in : slot < slots t
   pub word-is : getD store slot 0 ≡ word key row
 
--- What a lookup finds. On any store it answers with a row and a slot that there are; the rest is promised of a sound store
--- and the key's own hash.
+-- the d-th slot from the hash's home is the first that leads to a row with the key: so no other row can be found
+pub record FirstHit (t : Keyed) (rows store key : List ℕ) (hash row d : ℕ) : Type 0 where
+  pub leads : Leads t rows key hash (getD store (slotFrom (slots t) (spread (slots t) hash) d) 0) row
+  pub way : (e : ℕ) → e < d → (i : ℕ) → Leads t rows key hash (getD store (slotFrom (slots t) (spread (slots t) hash) e) 0) i → ⊥
+
+-- What a lookup finds. On any store it answers with a row and a slot that there are, and with the same row again; the rest
+-- is promised of a sound store and the key's own hash.
 pub record FoundIs (t : Keyed) (rows store key : List ℕ) (hash : ℕ) (r : Found) : Type 0 where
   pub row-in : (row slot : ℕ) → r ≡ At row slot → row < t .rows
   pub slot-in : (row slot : ℕ) → r ≡ At row slot → slot < slots t
+  pub first : (row slot : ℕ) → r ≡ At row slot → (d : ℕ) × FirstHit t rows store key hash row d
   pub none : hash ≡ compact (keyHash key) → KeysSound t rows store → r ≡ None → (i : ℕ) → LiveAt t rows i → keyAt t rows i ≡ key → ⊥
   pub at : hash ≡ compact (keyHash key) → KeysSound t rows store → (row slot : ℕ) → r ≡ At row slot → FoundAt t rows store key row slot
 

@@ -6,7 +6,7 @@ use mathlib.Core.Logic.{_⊎_, inl, inr}
 use mathlib.Core.Bool.{Bool, true, false≢true}
 use mathlib.Core.List.{List}
 use native.Mathlib.Nat.{zero-add}
-use native.Mathlib.Decide.{ℕ-discrete}
+use native.Mathlib.Decide.{decLt, ℕ-discrete}
 use native.Mathlib.Omega.{arith}
 use lib.ListN.{length, drop, getD, set, length-replicate, getD-replicate}
 use lib.Seq.{drop-set-lt, getD-set-same, getD-set-other}
@@ -22,7 +22,7 @@ use Rattle.key_index.specs.declared.Found.the-variants.{None, At}
 use Rattle.key_index.specs.Slots.{LiveAt, keyAt, slots, word, home, slotFrom, StandsAt, KeysSound}
 use Rattle.key_index.specs.Ring.{tagged, rowNamed, home-spread, word-tagged, word-some, word-row, word-same, slot-below, slot-met}
 use Rattle.key_index.specs.Pigeons.{pigeons}
-use Rattle.key_index.specs.Index.{Fits, FirstFree, FoundAt, FoundIs, PutIs, zeros, EmptyIs, nothing, row, matches, scanFrom, scan, rowOf}
+use Rattle.key_index.specs.Index.{Fits, FirstFree, FoundAt, FirstHit, FoundIs, PutIs, zeros, EmptyIs, nothing, row, matches, scanFrom, scan, rowOf}
 
 -- ---- a slot is free
 
@@ -311,3 +311,20 @@ find-scan t rows store key hash (At i slot) f e sound differ =
     let g = f .at e sound i slot refl in
     sym (scan-at t rows key 0 (t .rows) i (omega arith) (omega (arith, g .live .0)) (matches-of t rows key i (g .live) (g .key-is))
     (λ j h m. let q : j ≡ i = differ j i (matches-live t rows key j (omega (arith, g .live .0)) m) (g .live) (matches-key t rows key j m ∙ sym (g .key-is)) in omega arith))
+
+-- ---- two lookups of one key
+
+tagged-one : (hash i j : ℕ) → tagged hash i ≡ tagged hash j → i ≡ j
+unfolding tagged
+tagged-one hash i j e = omega arith
+
+-- they find the same row, on any store
+pub first-one : (t : Keyed) (rows store key : List ℕ) (hash i j d e : ℕ) → FirstHit t rows store key hash i d → FirstHit t rows store key hash j e → i ≡ j
+first-one t rows store key hash i j d e f g =
+    elim (decLt d e) [
+      | yes h ↦ absurd (g .way d h i (f .leads))
+      | no h ↦ elim (decLt e d) [
+        | yes k ↦ absurd (f .way e k j (g .leads))
+        | no k ↦ let z : e ≡ d = omega arith in tagged-one hash i j (sym (f .leads .tag) ∙ rw z at (g .leads .tag))
+      ]
+    ]

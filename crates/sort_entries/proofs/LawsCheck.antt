@@ -2,7 +2,7 @@
 use Prim.Native.Nat.{ℕ, suc, _+_, _-_, _*_, _≤_, _<_}
 use mathlib.Core.Path.{_≡_, refl, sym, ap, _∙_}
 use mathlib.Core.Logic.{inl, inr}
-use mathlib.Core.Bool.{Bool, true, false, _&&_, true≢false, false≢true}
+use mathlib.Core.Bool.{Bool, true, false, _&&_}
 use mathlib.Core.List.{List, [], _∷_}
 use native.Mathlib.Nat.{add-zero, sub-zero}
 use native.Mathlib.Numerals.{add-one}
@@ -19,13 +19,7 @@ use Rattle.constraints.specs.Constraints.{isLive}
 use Rattle.sort_entries.specs.Entries.{Entry, entry, entriesOf, firstRow, valueAt, entriesSound}
 use Rattle.sort_entries.specs.Laws.Stores.{length-entriesOf}
 use Rattle.sort_entries.specs.Laws.Sound.{valueOf, rowOf, value-word, row-word, sound-first, sound-facts, sound-of}
-use Rattle.sort_entries.specs.Checks.{Told, Follows, Advanced, headValue, cellSound, cellsSound}
-
-told-yes : {claim : Type 0} → claim → Told claim true
-told-yes p = record { yes = λ e. p; no = λ e q. absurd (true≢false e) }
-
-told-no : {claim : Type 0} → (claim → ⊥) → Told claim false
-told-no f = record { yes = λ e. absurd (false≢true e); no = λ e. f }
+use Rattle.sort_entries.specs.Checks.{Told, told-yes, told-no, Follows, Advanced, headValue, cellSound, cellsSound}
 
 -- ---- one entry
 

@@ -1,7 +1,7 @@
 -- What the checks of entries and of sort cells promise. Assumes nothing.
 use Prim.Native.Nat.{ℕ, _+_, _*_, _≤_, _<_}
 use mathlib.Core.Path.{_≡_}
-use mathlib.Core.Bool.{Bool, true, false, not, _||_}
+use mathlib.Core.Bool.{Bool, true, false, not, _||_, true≢false, false≢true}
 use mathlib.Core.List.{List, [], _∷_}
 use lib.ListN.{length, drop, getD}
 use lib.Dec.{eqb}
@@ -13,6 +13,12 @@ use Rattle.sort_entries.specs.Entries.{Entry, entriesOf, valueAt}
 pub record Told (claim : Type 0) (r : Bool) : Type 0 where
   pub yes : r ≡ true → claim
   pub no : r ≡ false → claim → ⊥
+
+pub told-yes : {claim : Type 0} → claim → Told claim true
+told-yes p = record { yes = λ e. p; no = λ e q. absurd (true≢false e) }
+
+pub told-no : {claim : Type 0} → (claim → ⊥) → Told claim false
+told-no f = record { yes = λ e. absurd (false≢true e); no = λ e. f }
 
 -- the entry at place i lies below the row count, and above the one before it
 pub record Follows (store : List ℕ) (rows i : ℕ) : Type 0 where

@@ -6,3 +6,5 @@ pub mod Ladders
 pub mod Staging
 pub mod Sound
 pub mod Lookup
+pub mod Refusals
+pub mod Opening

@@ -70,6 +70,11 @@ SlotsPast capacity keys keys′ = drop (2 * capacity) keys′ ≡ drop (2 * capa
 -- Where the choice is the program's: of the key store only soundness is promised, and that no slot past it is written; of
 -- compaction words after a compaction nothing.
 
+-- the numbers given to an opening
+abbrev pub opening : ℕ → ℕ → ℕ → ℕ → ℕ → Opening
+opening columns keys sort rule capacity =
+    record { columns = columns; keys = keys; sort = sort; rule = rule; capacity = capacity }
+
 -- *Open*: lent rows, keys, sort entries and pending; all but keys are lent shared, so that they stay as they are
 pub record Opened (o : Opening) (generation : ℕ) (rows keys sorts pending : List ℕ) (answer : TableAnswer) (keys′ : List ℕ) : Type 0 where
   pub answers : tableSays answer ≡ reply (openRefusal o (lengths rows keys sorts pending [] [])) (headerOf (opened o generation))

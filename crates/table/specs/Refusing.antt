@@ -10,7 +10,13 @@ use Rattle.constraints.specs.Constraints.{known}
 use Rattle.plain.specs.Staged.{openable, Staged, wordsOf}
 use Rattle.plain.specs.Plain.{Lengths, storesShort, wordsShort, wrongWidth, noSuchRow}
 use Rattle.table.specs.declared.Header.{Header}
+use Rattle.table.specs.declared.Lent.{Lent}
 use Rattle.table.specs.Numbers.{openingOf}
+
+-- the lengths of what an operation is lent
+abbrev pub lengthsOf : Lent → Lengths
+lengthsOf l =
+    record { rows = l .rows; keys = l .keys; sorts = l .sorts; pending = l .pending; liveWords = l .live; baseWords = l .base }
 
 -- test 1: "header numbers outside their bounds (dead rows or sort entries above the row count, row count above capacity,
 -- keys 0 or above columns, sort column not a column, rule above 3, ..)"

@@ -1,4 +1,12 @@
 // The table: `SortedWritesTable` of table/mod.rs, over lent stores. The types that its definitions speak of.
+ghost use mathlib.Core.Path.{_≡_};
+ghost use Rattle.table.specs.Sound.{keyedOf};
+use key_index::Keyed;
+
+pub mod refusing; // refusing.rt: what each operation turns away
+pub mod opening; // opening.rt: open and clear
+pub mod staging; // staging.rt: records staged for a merge
+pub mod reading; // reading.rt: lookups, fast range, version
 
 // A table's numbers. The stores that go with it are lent at each call.
 pub struct Header {
@@ -12,6 +20,16 @@ pub struct Header {
     pub entries: u32,
     pub pending: u32,
     pub generation: u32,
+}
+
+// The lengths of the stores that an operation is lent; 0 for one that it is not.
+pub struct Lent {
+    pub rows: usize,
+    pub keys: usize,
+    pub sorts: usize,
+    pub pending: usize,
+    pub live: usize,
+    pub base: usize,
 }
 
 // Opening, the three stagings, compact and clear: the header that the call leaves.
@@ -69,4 +87,16 @@ pub enum VersionAnswer {
 pub enum SoundAnswer {
     Refused(u32),
     Sound(bool),
+}
+
+// The numbers that the key index goes by.
+pub fn keyed(h: Header) -> Keyed
+    ensures { λ r. ⌜ r ≡ keyedOf h ⌝ }
+{
+    Keyed {
+        columns: h.columns,
+        keys: h.keys,
+        capacity: h.capacity,
+        rows: h.rows,
+    }
 }

@@ -51,7 +51,7 @@ sub-row c = omega (arith, leads-some _ _ _ _ _ _ (few (c .before .before .before
 returns-2 : tie.Need-returns-2 Inv-loop μ-loop
 returns-2 c =
     let l = c .before .before .before .before .before .loop in
-    found-row _ _ _ _ _ (few (c .before .before .before .before .before .before .before .before .before .before .before)) (l .at) _ (l .inv .inside) (c .before .is-hit .ensures .yes (c .if2 .taken)) (omega arith)
+    found-row _ _ _ _ _ (few (c .before .before .before .before .before .before .before .before .before .before .before)) (l .at) (l .passed) _ (l .inv) (c .before .is-hit .ensures .yes (c .if2 .taken)) (omega arith)
 
 next-slot-requires : tie.Need-next-slot-requires Inv-loop μ-loop
 next-slot-requires c κs = search needs

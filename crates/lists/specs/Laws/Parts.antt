@@ -86,6 +86,18 @@ module _ {A : Type 0} where
   unfolding putAt
   putAt-nil l at = rw add-zero (take-append-drop at l)
 
+  -- written at the start: how another list starts, and more, where both go on alike after that
+  pub putAt-start : (l m w : List A) (n : ℕ) → n ≤ length m → drop (n + length w) l ≡ drop (n + length w) m → putAt l 0 (take n m ++ w) ≡ putAt m n w
+  unfolding putAt
+  putAt-start l m w n h e =
+      let k : 0 + length (take n m ++ w) ≡ n + length w = simp (length-append, length-take) (omega arith) in
+      rw (k, e) (append-assoc (take n m) w (drop (n + length w) m))
+
+  -- and no more
+  pub putAt-alike : (l m : List A) (n : ℕ) → n ≤ length m → drop n l ≡ drop n m → putAt l 0 (take n m) ≡ m
+  putAt-alike l m n h e =
+      ap (putAt l 0) (sym (append-nil (take n m))) ∙ putAt-start l m [] n h (rw (add-zero n) e) ∙ putAt-nil m n
+
   -- a write right after another
   pub putAt-then : (l v w : List A) (at : ℕ) → at + (length v + length w) ≤ length l → putAt (putAt l at v) (at + length v) w ≡ putAt l at (v ++ w)
   unfolding putAt
@@ -98,13 +110,21 @@ module _ {A : Type 0} where
       ∙ ap (λ (x : List A). take at l ++ x) (sym (append-assoc v w _))
       ∙ ap (λ (k : ℕ). take at l ++ (v ++ w ++ drop k l)) e
 
-  -- a write over another
-  pub putAt-again : (l v w : List A) (at : ℕ) → at + length v ≤ length l → length v ≡ length w → putAt (putAt l at v) at w ≡ putAt l at w
+  -- a write over another, that is no longer
+  pub putAt-over : (l v w : List A) (at : ℕ) → at + length v ≤ length l → length v ≤ length w → putAt (putAt l at v) at w ≡ putAt l at w
   unfolding putAt
-  putAt-again l v w at h e =
+  putAt-over l v w at h e =
       let k : at ≤ at = omega arith in
       let g : at + length v ≤ at + length w = omega arith in
       ap₂ (λ (x y : List A). x ++ (w ++ y)) (take-putAt l v at h at k) (drop-putAt l v at h _ g)
+
+  -- and as long
+  pub putAt-again : (l v w : List A) (at : ℕ) → at + length v ≤ length l → length v ≡ length w → putAt (putAt l at v) at w ≡ putAt l at w
+  putAt-again l v w at h e = putAt-over l v w at h (omega arith)
+
+  -- what stands at the front, written there again
+  pub putAt-front : (l : List A) (n : ℕ) → n ≤ length l → putAt l 0 (take n l) ≡ l
+  putAt-front l n h = putAt-alike l l n h refl
 
   -- two writes apart, in either order
   pub putAt-apart : (l v w : List A) (a b : ℕ) → a + length v ≤ b → b + length w ≤ length l → putAt (putAt l a v) b w ≡ putAt (putAt l b w) a v

@@ -8,7 +8,7 @@ use native.Mathlib.Decide.{ℕ-discrete}
 use native.Mathlib.Omega.{arith}
 use lib.Dec.{leb, ltb, eqb}
 use lib.ListN.{length, take, getD}
-use borrow.Author.Tests.{leb-true, ltb-true, leb-false, eqb-true, eqb-false, lt-ltb, not-true, not-false}
+use borrow.Author.Tests.{leb-true, ltb-true, leb-false, eqb-true, eqb-false, le-leb, lt-ltb, not-true, not-false}
 use Rattle.lists.specs.Lists.{every}
 use Rattle.lists.specs.Laws.Keep.{split, and-left, and-right, every-getD}
 use Rattle.lists.specs.Laws.Every.{and-both, every-head, every-tail, every-cons, every-snoc}
@@ -56,6 +56,21 @@ openable-bounds o e =
       capacity-some = leb-true _ _ (and-right (leb 1 (o .columns) && leb (o .columns) 8 && leb 1 (o .keys) && leb (o .keys) (o .columns) && ltb (o .sort) (o .columns) && leb (o .rule) 3) _ a);
       capacity-few = leb-true _ _ (and-right (leb 1 (o .columns) && leb (o .columns) 8 && leb 1 (o .keys) && leb (o .keys) (o .columns) && ltb (o .sort) (o .columns) && leb (o .rule) 3 && leb 1 (o .capacity)) _ e);
     }
+
+-- numbers within their bounds are accepted
+pub bounds-openable : (o : Opening) → Bounds o → openable o ≡ true
+unfolding openable
+bounds-openable o b =
+    rw (
+      le-leb _ _ (b .columns-some),
+      le-leb _ _ (b .columns-few),
+      le-leb _ _ (b .keys-some),
+      le-leb _ _ (b .keys-few),
+      lt-ltb _ _ (b .sort-column),
+      le-leb _ _ (b .rule-known),
+      le-leb _ _ (b .capacity-some),
+      le-leb _ _ (b .capacity-few),
+    )
 
 -- ---- proper, and the rows as a list
 

@@ -28,6 +28,14 @@ push-few v row es =
       | inr l ↦ rw (push-same v row es l) (omega arith)
     ]
 
+-- and no fewer
+pub push-grows : (v row : ℕ) (es : List Entry) → length es ≤ length (push v row es)
+push-grows v row es =
+    elim (split (last (λ w. ltb w v) es)) [
+      | inl l ↦ rw (push-new v row es l) (simp length-append (omega arith))
+      | inr l ↦ rw (push-same v row es l) (omega arith)
+    ]
+
 pub pushAll-snoc : (row : ℕ) (vs : List ℕ) (v : ℕ) (es : List Entry) → pushAll row (vs ++ (v ∷ [])) es ≡ push v (row + length vs) (pushAll row vs es)
 unfolding pushAll
 pushAll-snoc row [] v es = ap (λ (r : ℕ). push v r es) (sym (add-zero row))

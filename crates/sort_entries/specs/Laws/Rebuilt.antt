@@ -14,7 +14,7 @@ use borrow.Author.Tests.{leb-true, le-leb}
 use Rattle.lists.specs.Lists.{keep, every, rising}
 use Rattle.lists.specs.Laws.Keep.{split, keep-yes, keep-no}
 use Rattle.sort_entries.specs.Entries.{Entry, last, admits, push, rebuilt, pushAll, firstRow, valueAt, entriesSound}
-use Rattle.sort_entries.specs.Laws.Push.{push-few, rebuilt-snoc}
+use Rattle.sort_entries.specs.Laws.Push.{push-few, push-grows, rebuilt-snoc}
 use Rattle.sort_entries.specs.Laws.Grow.{last-valueAt, admits-valueAt, admits-none, push-sound, push-earlier, push-here}
 
 -- a value is at least each one before it
@@ -99,6 +99,22 @@ pushAll-few row (v ∷ vs) es = let a = pushAll-few (suc row) vs (push v row es)
 pub rebuilt-few : (vs : List ℕ) → length (rebuilt vs) ≤ length vs
 unfolding rebuilt
 rebuilt-few vs = let a = pushAll-few 0 vs [] in omega arith
+
+-- further rows take no entry away
+pushAll-grows : (row : ℕ) (vs : List ℕ) (es : List Entry) → length es ≤ length (pushAll row vs es)
+unfolding pushAll
+pushAll-grows row [] es = omega arith
+pushAll-grows row (v ∷ vs) es = let a = pushAll-grows (suc row) vs (push v row es) in let b = push-grows v row es in omega arith
+
+pushAll-front : (row n : ℕ) (vs : List ℕ) (es : List Entry) → length (pushAll row (take n vs) es) ≤ length (pushAll row vs es)
+unfolding pushAll
+pushAll-front row zero vs es = pushAll-grows row vs es
+pushAll-front row (suc n) [] es = omega arith
+pushAll-front row (suc n) (v ∷ vs) es = pushAll-front (suc row) n vs (push v row es)
+
+pub rebuilt-front : (n : ℕ) (vs : List ℕ) → length (rebuilt (take n vs)) ≤ length (rebuilt vs)
+unfolding rebuilt
+rebuilt-front n vs = pushAll-front 0 n vs []
 
 -- ---- values that never fall
 

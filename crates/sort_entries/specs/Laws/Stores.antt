@@ -20,6 +20,12 @@ unfolding words
 length-words [] = refl
 length-words (e ∷ es) = let h = length-words es in omega arith
 
+-- one pair more
+pub words-snoc : (es : List Entry) (e : Entry) → words (es ++ (e ∷ [])) ≡ words es ++ (e .value ∷ e .row ∷ [])
+unfolding words
+words-snoc [] e = refl
+words-snoc (a ∷ es) e = ap (λ (l : List ℕ). a .value ∷ a .row ∷ l) (words-snoc es e)
+
 pub length-entriesOf : (n : ℕ) (store : List ℕ) → length (entriesOf n store) ≡ n
 unfolding entriesOf
 length-entriesOf zero store = refl

@@ -49,12 +49,14 @@ module _ {p : Plain} {s : Stores} (r : Represents p s) (key : List ℕ) where
   keys-same : s .header .keys ≡ p .opening .keys
   keys-same = ap (λ (h : Header). h .keys) (r .shown .header)
 
-  passes-live : (i : ℕ) → liveWithKey (p .opening .keys) key (rowOf p i) ≡ true → LiveAt (keyedOf (s .header)) (s .rows) i × (keyAt (keyedOf (s .header)) (s .rows) i ≡ key)
+  -- a row of the key is live in the stores and has the key
+  pub passes-live : (i : ℕ) → liveWithKey (p .opening .keys) key (rowOf p i) ≡ true → LiveAt (keyedOf (s .header)) (s .rows) i × (keyAt (keyedOf (s .header)) (s .rows) i ≡ key)
   passes-live i t =
       let e = liveWithKey-live (p .opening .keys) key (rowOf p i) t in
       (live-in r i e, rw (keys-same, ← live-cells r i e) (liveWithKey-key (p .opening .keys) key (rowOf p i) t))
 
-  live-passes : (i : ℕ) → LiveAt (keyedOf (s .header)) (s .rows) i → keyAt (keyedOf (s .header)) (s .rows) i ≡ key → liveWithKey (p .opening .keys) key (rowOf p i) ≡ true
+  -- conversely
+  pub live-passes : (i : ℕ) → LiveAt (keyedOf (s .header)) (s .rows) i → keyAt (keyedOf (s .header)) (s .rows) i ≡ key → liveWithKey (p .opening .keys) key (rowOf p i) ≡ true
   live-passes i l e =
       let q = in-live r i l in
       liveWithKey-of (p .opening .keys) key (rowOf p i) q (rw (live-cells r i q, ← keys-same) e)

@@ -1,20 +1,19 @@
 -- A table that shows a plain table is sound, and a sound table shows one. Assumes nothing.
-use Prim.Native.Nat.{ℕ, zero, suc, _+_, _*_, _≤_, _<_}
+use Prim.Native.Nat.{ℕ, zero, suc, _+_, _≤_, _<_}
 use mathlib.Core.Path.{_≡_, refl, sym, ap, _∙_}
 use mathlib.Core.Logic.{inl, inr}
-use mathlib.Core.Bool.{Bool, true, false, cond, not, _&&_, _||_}
+use mathlib.Core.Bool.{Bool, true, false, cond, not}
 use mathlib.Core.List.{List, [], _∷_, map}
 use native.Mathlib.Nat.{add-zero, zero-add, mul-le-mul-right}
 use native.Mathlib.Omega.{arith}
-use lib.Dec.{leb, ltb}
 use lib.ListN.{length, take, getD, set, length-map, length-set}
 use lib.Seq.{getD-set-same}
-use borrow.Author.Tests.{ltb-false, le-ltb, leb-true, eq-eqb, not-false}
+use borrow.Author.Tests.{le-ltb, eq-eqb}
 use Rattle.refusals.specs.Refusals.{first}
 use Rattle.lists.specs.Lists.{count, rowAt, rowsOf}
-use Rattle.lists.specs.Laws.Keep.{split, and-left, and-right, every-of}
+use Rattle.lists.specs.Laws.Keep.{split, every-of}
 use Rattle.lists.specs.Laws.Rows.{length-rowsOf, getD-rowsOf, length-rowAt}
-use Rattle.lists.specs.Laws.Every.{or-no-left, or-no-right, getD-map-below, count-alike}
+use Rattle.lists.specs.Laws.Every.{getD-map-below, count-alike}
 use Rattle.constraints.specs.Constraints.{isLive}
 use Rattle.key_index.specs.Slots.{LiveAt, keyAt}
 use Rattle.sort_entries.specs.Entries.{Entry, entriesOf, valueAt, entriesSound}
@@ -22,20 +21,20 @@ use Rattle.sort_entries.specs.Laws.Rebuilt.{NeverFalls, rebuilt-sound, rebuilt-
 use Rattle.sort_entries.specs.Laws.Stores.{length-entriesOf}
 use Rattle.sort_entries.specs.Laws.Sound.{sound-climb}
 use Rattle.sort_entries.specs.Laws.Values.{valueAt-climbs, rebuilt-same}
-use Rattle.plain.specs.Staged.{openable, Staged}
+use Rattle.plain.specs.Staged.{Staged}
 use Rattle.plain.specs.Plain.{Row, Plain, dead}
 use Rattle.plain.specs.Proper.{Proper, rowOf, sortCell}
 use Rattle.plain.specs.Laws.Rows.{noRow, wideRow, firstFits, live-below}
-use Rattle.plain.specs.Laws.Proper.{openable-bounds}
-use Rattle.plain.specs.Laws.Calls.{first-no, first-rest}
+use Rattle.plain.specs.Laws.Proper.{bounds-openable}
 use Rattle.table.specs.declared.Header.{Header}
 use Rattle.table.specs.Numbers.{openingOf}
-use Rattle.table.specs.Refusing.{outside, pendingOutside, rowsShort, pairsShort, soundRefusal}
-use Rattle.table.specs.Stores.{entries, headerOf, stored}
+use Rattle.table.specs.Refusing.{pendingOutside, rowsShort, pairsShort, soundRefusal}
+use Rattle.table.specs.Stores.{entries, headerOf}
 use Rattle.table.specs.Sound.{keyedOf, Sound}
 use Rattle.table.specs.Promises.{Stores, stores, lengths, Represents}
 use Rattle.table.specs.Laws.Stored.{RowShown}
-use Rattle.table.specs.Laws.Shown.{LongEnough, long-stores, rows-shown-of, header-inside, represents-long, row-shown, rows-counted, in-live, live-cells}
+use Rattle.table.specs.Laws.Shown.{long-stores, rows-shown-of, header-inside, represents-long, row-shown, rows-counted, in-live, live-cells}
+use Rattle.table.specs.Laws.Refusals.{Tested, sound-tested}
 use Rattle.table.specs.Laws.Pending.{holds-fits}
 
 -- ---- the sort cells of a plain table
@@ -176,39 +175,6 @@ plainRow-sort sort value cells h f = go (isLive cells) refl
     go true e = f e
     go false e = getD-set-same cells sort value 0 h
 
--- what tests 1 and 2 of a sound table say
-pub record Tested (h : Header) (rows keys sorts pending : ℕ) : Type 0 where
-  pub numbers : openable (openingOf h) ≡ true
-  pub rows-fit : h .rows ≤ h .capacity
-  pub dead-fit : h .dead ≤ h .rows
-  pub entries-fit : h .entries ≤ h .rows
-  pub pending-fit : h .pending ≤ pending
-  pub long : LongEnough (openingOf h) rows keys sorts
-
--- where neither applies
-pub sound-tested : (h : Header) (rows keys sorts pending : ℕ) → soundRefusal h rows keys sorts pending ≡ 0 → Tested h rows keys sorts pending
-unfolding soundRefusal pendingOutside outside rowsShort pairsShort
-sound-tested h rows keys sorts pending e =
-    let a = first-no _ 0 _ e in
-    let b = first-no _ 1 _ (first-rest _ 0 _ e) in
-    let c = not-false _ (or-no-left _ _ a) in
-    let d = and-left (openable (openingOf h) && leb (h .rows) (h .capacity) && leb (h .dead) (h .rows)) _ c in
-    let f = and-left (openable (openingOf h) && leb (h .rows) (h .capacity)) _ d in
-    let g = or-no-left (ltb rows (h .capacity * h .columns) || ltb keys (2 * h .capacity)) _ b in
-    record {
-      numbers = and-left (openable (openingOf h)) _ f;
-      rows-fit = leb-true _ _ (and-right (openable (openingOf h)) _ f);
-      dead-fit = leb-true _ _ (and-right (openable (openingOf h) && leb (h .rows) (h .capacity)) _ d);
-      entries-fit = leb-true _ _ (and-right (openable (openingOf h) && leb (h .rows) (h .capacity) && leb (h .dead) (h .rows)) _ c);
-      pending-fit = ltb-false _ _ (or-no-right (outside h) _ a);
-      long =
-          record {
-            rows-long = ltb-false _ _ (or-no-left (ltb rows (h .capacity * h .columns)) _ g);
-            keys-long = ltb-false _ _ (or-no-right (ltb rows (h .capacity * h .columns)) _ g);
-            sorts-long = ltb-false _ _ (or-no-right (ltb rows (h .capacity * h .columns) || ltb keys (2 * h .capacity)) _ b);
-          };
-    }
-
 module _ {h : Header} {rows keys sorts pending : List ℕ} {staged : List Staged} (s : Sound h rows keys sorts pending staged) where
   sound-facts : Tested h (length rows) (length keys) (length sorts) (length pending)
   sound-facts = sound-tested h (length rows) (length keys) (length sorts) (length pending) (s .tested)
@@ -232,13 +198,13 @@ module _ {h : Header} {rows keys sorts pending : List ℕ} {staged : List Staged
       (let t = sound-facts in
       let a : i + 1 ≤ h .rows = omega arith in
       let b = mul-le-mul-right (h .columns) a in
-      let c = mul-le-mul-right (h .columns) (t .rows-fit) in
+      let c = mul-le-mul-right (h .columns) (t .inside .rows-fit) in
       omega (arith, t .long .rows-long))
 
   -- each row's sort cell is what the entries record
   pub plainOf-sort : (i : ℕ) → i < h .rows → getD (rowOf (plainOf h rows sorts staged) i .cells) (h .sort) 0 ≡ valueAt i (entriesOf (h .entries) sorts)
   plainOf-sort i k =
-      let t = openable-bounds (openingOf h) (sound-facts .numbers) .sort-column in
+      let t = sound-facts .inside .bounds .sort-column in
       rw (plainOf-row i k)
       (plainRow-sort (h .sort) (valueAt i (entriesOf (h .entries) sorts)) (rowAt (h .columns) i rows) (omega (arith, width-at i k)) (λ e. s .sorted i (k, e)))
 
@@ -255,9 +221,9 @@ module _ {h : Header} {rows keys sorts pending : List ℕ} {staged : List Staged
   plainOf-proper g =
       let t = sound-facts in
       record {
-        numbers = t .numbers;
+        numbers = bounds-openable (openingOf h) (t .inside .bounds);
         generation-fits = g;
-        rows-fit = omega (arith, plainOf-length, t .rows-fit);
+        rows-fit = omega (arith, plainOf-length, t .inside .rows-fit);
         widths = every-of (wideRow (h .columns)) noRow (plainOf h rows sorts staged .rows) wide;
         live-first = every-of firstFits noRow (plainOf h rows sorts staged .rows) first-fits;
         keys-differ = λ i j a b e. s .keys-differ i j (plainOf-live i a) (plainOf-live j b) (ap (take (h .keys)) (sym (plainOf-cells i a)) ∙ e ∙ ap (take (h .keys)) (plainOf-cells j b));

@@ -1,0 +1,96 @@
+-- `table::compaction::keep_row` meets its contract. Assumes nothing.
+use native.Mathlib.Omega.{arith}
+use borrow.Author.Needs.{needs}
+use Rattle.compaction.proofs.CompactionSteps.{from-place, to-place, row-kept}
+use Rattle.compaction.proofs.keep_row.Statement.{statement}
+use Rattle.compaction.proofs.keep_row.Tie as tie
+
+cast-word : tie.Need-cast-word
+cast-word c = search needs
+
+mul-add-mark : tie.Need-mul-add-mark
+mul-add-mark c = search needs
+
+slice-read-add-mark : tie.Need-slice-read-add-mark
+slice-read-add-mark c = search needs
+
+add-mark-requires : tie.Need-add-mark-requires
+add-mark-requires c κs = search needs
+
+mul-live : tie.Need-mul-live
+mul-live c = search needs
+
+slice-write-live : tie.Need-slice-write-live
+slice-write-live c = search needs
+
+mul-to : tie.Need-mul-to
+mul-to c = omega (arith, from-place (c .before .before .before .before .before .before .before .pre), to-place (c .before .before .before .before .before .before .before .pre))
+
+cast-to : tie.Need-cast-to
+cast-to c = omega (arith, from-place (c .before .before .before .before .before .before .before .pre), to-place (c .before .before .before .before .before .before .before .pre))
+
+mul-from : tie.Need-mul-from
+mul-from c = omega (arith, from-place (c .before .before .before .before .before .before .before .before .pre))
+
+cast-from : tie.Need-cast-from
+cast-from c = omega (arith, from-place (c .before .before .before .before .before .before .before .before .pre))
+
+cast-width : tie.Need-cast-width
+cast-width c = search needs
+
+move-down-requires : tie.Need-move-down-requires
+move-down-requires c κs = (to-place (c .before .before .before .before .before .before .before .before .before .before .pre), from-place (c .before .before .before .before .before .before .before .before .before .before .pre) .inside)
+
+cast-cell : tie.Need-cast-cell
+cast-cell c = search needs
+
+add-cell : tie.Need-add-cell
+add-cell c = omega (arith, from-place (c .before .before .before .before .before .before .before .before .before .before .before .before .before .before .pre), to-place (c .before .before .before .before .before .before .before .before .before .before .before .before .before .before .pre))
+
+mul-rebuild-entry : tie.Need-mul-rebuild-entry
+mul-rebuild-entry c = omega (arith, from-place (c .before .before .before .before .before .before .before .before .before .before .before .before .before .before .before .pre), to-place (c .before .before .before .before .before .before .before .before .before .before .before .before .before .before .before .pre))
+
+slice-read-rebuild-entry : tie.Need-slice-read-rebuild-entry
+slice-read-rebuild-entry c = omega (arith, from-place (c .before .before .before .before .before .before .before .before .before .before .before .before .before .before .before .before .pre), to-place (c .before .before .before .before .before .before .before .before .before .before .before .before .before .before .before .before .pre), c .before .before .before .before .before .before .before .before .before .before .before .before .before .before .before .before .pre .sort-column)
+
+rebuild-entry-requires : tie.Need-rebuild-entry-requires
+rebuild-entry-requires c κs = search needs
+
+same-length : tie.Need-same-length
+same-length c = search needs
+
+same-length-2 : tie.Need-same-length-2
+same-length-2 c = search needs
+
+same-length-3 : tie.Need-same-length-3
+same-length-3 c = search needs
+
+returns : tie.Need-returns
+returns c =
+    row-kept (c .before .before .before .before .before .before .before .before .before .before .before .before .before .before .before .before .before .before .before .pre) _ _ _ _ (c .before .before .before .before .before .before .before .before .before .before .before .before .before .before .add-mark .ensures) (c .before .before .before .before .before .before .before .before .move-down .ensures) (c .before .before .rebuild-entry .ensures)
+
+pub keep-row-spec : {M : Type 1} → statement M
+keep-row-spec =
+    tie.close
+    (tie.spec
+    cast-word
+    mul-add-mark
+    slice-read-add-mark
+    add-mark-requires
+    mul-live
+    slice-write-live
+    mul-to
+    cast-to
+    mul-from
+    cast-from
+    cast-width
+    move-down-requires
+    cast-cell
+    add-cell
+    mul-rebuild-entry
+    slice-read-rebuild-entry
+    rebuild-entry-requires
+    same-length
+    same-length-2
+    same-length-3
+    returns)

@@ -1,0 +1,131 @@
+// Compaction: `rehash_impl` of table/mod.rs. One pass moves the live rows down, marks them in the compaction words and rebuilds
+// the sort entries; a second gives the key store the new row numbers, without hashing.
+ghost use mathlib.Core.Path.{_≡_};
+ghost use Prim.Native.Nat.{_/_, _<_};
+ghost use lib.ListN.{length};
+ghost use Rattle.table.specs.Promises.{Compacting};
+ghost use Rattle.compaction.specs.Compaction.{Lendable, Compaction};
+ghost use Rattle.compaction.specs.Compactions.{Begun, Keepable, RowKept, Closable, Closed};
+use table::Header;
+use table::Lent;
+use table::TableAnswer;
+use table::keyed;
+use table::refusing::compact_refusal;
+
+// How many rows and sort entries a compaction has kept so far.
+pub struct Kept {
+    pub rows: u32,
+    pub entries: u32,
+}
+
+// At each 64th row a new compaction word begins, with the number of the next live row beside it.
+fn begin_word(live: &mut [u64], base: &mut [u32], row: u32, kept: u32)
+    requires { ⌜ (row / 64 < length (now live)) × (row / 64 < length (now base)) ⌝ }
+    ensures { λ _. ⌜ Begun (now (live .entry)) (now (base .entry)) row kept (now (live .exit)) (now (base .exit)) ⌝ }
+{
+    if row % 64 == 0 {
+        let at = (row / 64) as usize;
+        live[at] = 0;
+        base[at] = kept;
+    }
+}
+
+// A live row is marked, moved down and recorded in the sort entries. Answers their number.
+fn keep_row(
+    h: Header,
+    rows: &mut [u32],
+    sorts: &mut [u32],
+    live: &mut [u64],
+    row: u32,
+    kept: Kept,
+) -> u32
+    requires { ⌜ Keepable h (now rows) (now sorts) (now live) row kept ⌝ }
+    ensures { λ r. ⌜ RowKept h (now (rows .entry)) (now (sorts .entry)) (now (live .entry)) row kept r (now (rows .exit)) (now (sorts .exit)) (now (live .exit)) ⌝ }
+{
+    let word = (row / 64) as usize;
+    live[word] = row_buffer::add_mark(live[word], row % 64);
+    let to = (kept.rows * h.columns) as usize;
+    let from = (row * h.columns) as usize;
+    let width = h.columns as usize;
+    row_buffer::move_down(rows, to, from, width);
+    let cell = to + h.sort as usize;
+    sort_entries::rebuild_entry(sorts, kept.entries, rows[cell], kept.rows)
+}
+
+// The live rows close up in order.
+fn close_up(
+    h: Header,
+    rows: &mut [u32],
+    sorts: &mut [u32],
+    live: &mut [u64],
+    base: &mut [u32],
+) -> Kept
+    requires { ⌜ Closable h (now rows) (now sorts) (now live) (now base) ⌝ }
+    ensures { λ r. ⌜ Closed h (now (rows .entry)) (now (sorts .entry)) r (now (rows .exit)) (now (sorts .exit)) (now (live .exit)) (now (base .exit)) ⌝ }
+{
+    let mut kept = Kept {
+        rows: 0,
+        entries: 0,
+    };
+    let mut next: u32 = 0;
+    while next < h.rows {
+        let row = next;
+        next += 1;
+        begin_word(live, base, row, kept.rows);
+        let at = (row * h.columns) as usize;
+        if !row_buffer::is_dead(rows, at) {
+            let entries = keep_row(h, rows, sorts, live, row, kept);
+            kept.entries = entries;
+            kept.rows += 1;
+        }
+    }
+    kept
+}
+
+// Compacts a table whose header and stores were tested.
+pub fn compact_rows(
+    h: Header,
+    rows: &mut [u32],
+    keys: &mut [u32],
+    sorts: &mut [u32],
+    live: &mut [u64],
+    base: &mut [u32],
+) -> Header
+    requires { ⌜ Lendable h (now rows) (now keys) (now sorts) (now live) (now base) × (h .generation < 4294967295) ⌝ }
+    ensures { λ r. ⌜ Compaction h (now (rows .entry)) (now (keys .entry)) (now (sorts .entry)) r (now (rows .exit)) (now (keys .exit)) (now (sorts .exit)) ⌝ }
+{
+    let kept = close_up(h, rows, sorts, live, base);
+    key_index::gaps::renumber(keyed(h), keys, live, base);
+    let mut n = h;
+    n.rows = kept.rows;
+    n.dead = 0;
+    n.entries = kept.entries;
+    n.generation = h.generation + 1;
+    n
+}
+
+// Compacts, with dead rows or without: `rehash`.
+pub fn compact(
+    h: Header,
+    rows: &mut [u32],
+    keys: &mut [u32],
+    sorts: &mut [u32],
+    live: &mut [u64],
+    base: &mut [u32],
+) -> TableAnswer
+    ensures { λ r. ⌜ Compacting h (now (rows .entry)) (now (keys .entry)) (now (sorts .entry)) (now (live .entry)) (now (base .entry)) r (now (rows .exit)) (now (keys .exit)) (now (sorts .exit)) (now (live .exit)) (now (base .exit)) ⌝ }
+{
+    let l = Lent {
+        rows: rows.len(),
+        keys: keys.len(),
+        sorts: sorts.len(),
+        pending: 0,
+        live: live.len(),
+        base: base.len(),
+    };
+    let refusal = compact_refusal(h, l);
+    if refusal != 0 {
+        return TableAnswer::Refused(refusal);
+    }
+    TableAnswer::Table(compact_rows(h, rows, keys, sorts, live, base))
+}

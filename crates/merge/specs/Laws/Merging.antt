@@ -1,0 +1,109 @@
+-- A merge is what its passes leave, with pending emptied and, if it did not stop and that is due, dead rows dropped. Assumes
+-- nothing.
+use Prim.Native.Nat.{ℕ}
+use mathlib.Core.Path.{_≡_, sym, ap, ap₂, _∙_}
+use mathlib.Core.Bool.{true, false}
+use mathlib.Core.List.{List, []}
+use native.Mathlib.Omega.{arith}
+use lib.ListN.{length}
+use borrow.Author.Tests.{eq-eqb, ne-eqb}
+use Rattle.refusals.specs.Refusals.{accepted}
+use Rattle.lists.specs.Lists.{putAt, flat}
+use Rattle.lists.specs.Laws.Keep.{every-keep}
+use Rattle.plain.specs.Staged.{Staged, due, rowRemovals, inserts}
+use Rattle.plain.specs.Merging.{Inserted, insertAll}
+use Rattle.plain.specs.Plain.{Plain, dead, withoutRows, insertion, applied, compacted, compactIfDue, unstaged, merged}
+use Rattle.table.specs.declared.Header.{Header}
+use Rattle.table.specs.declared.Merge.{Merge}
+use Rattle.table.specs.declared.MergeAnswer.the-variants.{Merged}
+use Rattle.table.specs.Numbers.{mergeSays}
+use Rattle.table.specs.Stores.{headerOf, rowStore}
+use Rattle.table.specs.Promises.{Stores, stores, Represents, mergeOf, mergedRows, mergedSorts, MergedTable}
+use Rattle.merge.specs.Steps.{Steps, removedAll, InsertedTable}
+use Rattle.merge.specs.Merging.{AppliedTable, finished, FinishedTable}
+use Rattle.table.specs.Laws.Stored.{stored-live}
+use Rattle.merge.specs.Laws.Steps.{steps-refl, first-stored, steps-then, removedAll-keys, removedAll-rows}
+
+-- ---- the passes
+
+-- removals by key, then removals by row, then inserts
+pub passes-applied : (p p₁ p₂ : Plain) → p₁ ≡ removedAll 1 (p .staged) p → p₁ .staged ≡ p .staged
+    → p₂ ≡ removedAll 2 (p₁ .staged) p₁ → p₂ .staged ≡ p₁ .staged → insertAll insertion (inserts (p₂ .staged)) 0 false p₂ ≡ applied p
+unfolding applied
+passes-applied p p₁ p₂ a b c d =
+    ap₂ (λ (staged : List Staged) (q : Plain). insertAll insertion (inserts staged) 0 false q) (d ∙ b)
+    (c
+    ∙ removedAll-rows (p₁ .staged) p₁
+    ∙ ap₂ (λ (staged : List Staged) (q : Plain). withoutRows (rowRemovals staged) q) b (a ∙ removedAll-keys (p .staged) p))
+
+-- what the three leave
+pub passes-table : {p p₁ p₂ : Plain} {s s₁ s₂ s₃ : Stores} {m : Merge} → Represents p s
+    → p₁ ≡ removedAll 1 (p .staged) p → Steps p p₁ s s₁ → p₂ ≡ removedAll 2 (p₁ .staged) p₁ → Steps p₁ p₂ s₁ s₂ → InsertedTable p₂ s₂ s₃ m
+    → AppliedTable p s s₃ m
+passes-table {p} {p₁} {p₂} {s} {s₁} {s₂} {s₃} {m} r a f b g i =
+    let e = passes-applied p p₁ p₂ a (f .later .staged) b (g .later .staged) in
+    let t = steps-then r (steps-then r f g) (i .steps) in
+    record {
+      steps = rw e at t;
+      status = i .status ∙ ap (λ (x : Inserted Plain). x .status) e;
+      place = i .place ∙ ap (λ (x : Inserted Plain). x .place) e;
+      added = i .added ∙ ap (λ (x : Inserted Plain). x .added) e;
+    }
+
+-- ---- what follows the passes
+
+-- a merge that stopped
+pub finished-stopped : (status : ℕ) (p : Plain) → (status ≡ 0 → ⊥) → finished status p ≡ unstaged p
+finished-stopped status p e = rw (ne-eqb status 0 e)
+
+-- one that did not, with too few dead rows or no generation left
+pub finished-kept : (status : ℕ) (p : Plain) → status ≡ 0 → due (dead p) (length (p .rows)) (p .generation) ≡ false → finished status p ≡ unstaged p
+unfolding compactIfDue unstaged dead
+finished-kept status p e d = rw (eq-eqb status 0 e, d)
+
+-- one that did not, with more
+pub finished-compacted : (status : ℕ) (p : Plain) → status ≡ 0 → due (dead p) (length (p .rows)) (p .generation) ≡ true → finished status p ≡ compacted (unstaged p)
+unfolding compactIfDue unstaged dead
+finished-compacted status p e d = rw (eq-eqb status 0 e, d)
+
+-- rows that were kept are live: what stood there before makes no difference
+pub compacted-store : (p : Plain) (before : List (List ℕ)) (store : List ℕ) → rowStore (compacted p) [] store ≡ rowStore (compacted p) before store
+unfolding rowStore compacted
+compacted-store p before store =
+    let e = every-keep (λ row. row .live) (p .rows) in
+    ap (λ (rows : List (List ℕ)). putAt store 0 (flat rows)) (stored-live (compacted p .rows) [] e ∙ sym (stored-live (compacted p .rows) before e))
+
+-- a compaction is another generation
+pub compacted-generation : (p : Plain) → compacted (unstaged p) .generation ≡ p .generation → ⊥
+unfolding compacted unstaged
+compacted-generation p e = omega arith
+
+-- ---- the whole
+
+module _ {h : Header} {rows keys sorts pending live base : List ℕ} {m : Merge} {rows₁ keys₁ sorts₁ : List ℕ} {r : Merge} {rows′ keys′ sorts′ live′ base′ : List ℕ} {p : Plain}
+    (shown : Represents p (stores h rows keys sorts pending))
+    (a : AppliedTable p (stores h rows keys sorts pending) (stores (m .header) rows₁ keys₁ sorts₁ pending) m)
+    (f : FinishedTable m rows₁ keys₁ sorts₁ live base r rows′ keys′ sorts′ live′ base′ pending (applied p .table)) where
+  -- it leaves the merged table
+  merged-finished : finished (m .status) (applied p .table) ≡ merged p .table
+  unfolding merged
+  merged-finished = ap (λ (status : ℕ). finished status (applied p .table)) (a .status)
+
+  merged-answer : r ≡ mergeOf p
+  unfolding merged
+  merged-answer =
+      let e = ap headerOf merged-finished in
+      f .header ∙ (λ i. record { header = e i; status = a .status i; place = a .place i; added = a .added i })
+
+  -- the two halves are a merge
+  pub merged-table : MergedTable h rows keys sorts pending live base (Merged r) rows′ keys′ sorts′ live′ base′ p
+  unfolding mergeSays mergedRows mergedSorts
+  merged-table =
+      let before = first-stored shown (a .steps) (steps-refl (a .steps .represents)) in
+      record {
+        answers = ap accepted merged-answer;
+        rows-after = rw merged-finished at (rw (before, a .steps .rows-after) at (f .rows-after));
+        sorts-after = rw merged-finished at (rw (a .steps .sorts-after) at (f .sorts-after));
+        represents = rw (merged-finished, merged-answer) at (f .represents);
+        words = λ e. f .words (ap (λ (q : Plain). q .generation) merged-finished ∙ e ∙ sym (a .steps .later .generation));
+      }

@@ -1,0 +1,5 @@
+pub mod Steps
+pub mod Inserts
+pub mod Passes
+pub mod Merging
+pub mod Laws

@@ -1,0 +1,112 @@
+// `merge` of table/mod.rs: its passes over the pending records, then pending emptied and, unless it stopped, the compaction
+// that may be due.
+ghost use mathlib.Core.Path.{_≡_};
+ghost use Prim.Native.Nat.{_≤_};
+ghost use Rattle.plain.specs.Staged as rules;
+ghost use Rattle.table.specs.Promises.{Merging};
+ghost use Rattle.merge.specs.Steps.{Ready};
+ghost use Rattle.compaction.specs.Compaction.{Lendable};
+ghost use Rattle.merge.specs.Merging.{Applying, Finishing};
+use compaction::compact_rows;
+use passes::insert_all;
+use passes::remove_all;
+use table::Header;
+use table::Lent;
+use table::Merge;
+use table::MergeAnswer;
+use table::refusing::LAST_GENERATION;
+use table::refusing::merge_refusal;
+
+pub mod removals; // removals.rt: one removal, by key or by row
+pub mod inserts; // inserts.rt: one insert
+pub mod passes; // passes.rt: all pending records, kind by kind
+
+// What an insert of a merge does: nothing, a row is appended, or the merge stops with a number.
+pub enum Insertion {
+    Kept,
+    Appended(Header),
+    Stopped(u32),
+}
+
+// Dead rows call for a compaction, and the generation has room for it.
+fn is_due(h: Header) -> bool
+    ensures { λ r. ⌜ r ≡ rules.due (h .dead) (h .rows) (h .generation) ⌝ }
+{
+    if h.generation == LAST_GENERATION {
+        return false;
+    }
+    if h.dead <= 16 {
+        return false;
+    }
+    h.rows / 2 < h.dead
+}
+
+// The pending records are applied: removals by key, removals by row, inserts.
+fn apply_pending(
+    h: Header,
+    rows: &mut [u32],
+    keys: &mut [u32],
+    sorts: &mut [u32],
+    pending: &[u32],
+) -> Merge
+    requires { ⌜ Ready h (now rows) (now keys) (now sorts) (now pending) × (h .dead ≤ h .rows) ⌝ }
+    ensures { λ r. ⌜ Applying h (now (rows .entry)) (now (keys .entry)) (now (sorts .entry)) (now (pending .entry)) r (now (rows .exit)) (now (keys .exit)) (now (sorts .exit)) ⌝ }
+{
+    let without_keys = remove_all(h, rows, keys, pending, 1);
+    let without_rows = remove_all(without_keys, rows, keys, pending, 2);
+    insert_all(without_rows, rows, keys, sorts, pending)
+}
+
+// Pending is emptied and, unless the merge stopped, dead rows are dropped if that is due.
+fn finish(
+    m: Merge,
+    rows: &mut [u32],
+    keys: &mut [u32],
+    sorts: &mut [u32],
+    live: &mut [u64],
+    base: &mut [u32],
+) -> Merge
+    requires { ⌜ Lendable (m .header) (now rows) (now keys) (now sorts) (now live) (now base) ⌝ }
+    ensures { λ r. ⌜ Finishing m (now (rows .entry)) (now (keys .entry)) (now (sorts .entry)) (now (live .entry)) (now (base .entry)) r (now (rows .exit)) (now (keys .exit)) (now (sorts .exit)) (now (live .exit)) (now (base .exit)) ⌝ }
+{
+    let mut n = m.header;
+    n.pending = 0;
+    let mut r = m;
+    r.header = n;
+    if m.status != 0 {
+        return r;
+    }
+    if !is_due(n) {
+        return r;
+    }
+    let compacted = compact_rows(n, rows, keys, sorts, live, base);
+    r.header = compacted;
+    r
+}
+
+pub fn merge(
+    h: Header,
+    rows: &mut [u32],
+    keys: &mut [u32],
+    sorts: &mut [u32],
+    pending: &[u32],
+    live: &mut [u64],
+    base: &mut [u32],
+) -> MergeAnswer
+    ensures { λ r. ⌜ Merging h (now (rows .entry)) (now (keys .entry)) (now (sorts .entry)) (now (pending .entry)) (now (live .entry)) (now (base .entry)) r (now (rows .exit)) (now (keys .exit)) (now (sorts .exit)) (now (live .exit)) (now (base .exit)) ⌝ }
+{
+    let l = Lent {
+        rows: rows.len(),
+        keys: keys.len(),
+        sorts: sorts.len(),
+        pending: pending.len(),
+        live: live.len(),
+        base: base.len(),
+    };
+    let refusal = merge_refusal(h, l);
+    if refusal != 0 {
+        return MergeAnswer::Refused(refusal);
+    }
+    let m = apply_pending(h, rows, keys, sorts, pending);
+    MergeAnswer::Merged(finish(m, rows, keys, sorts, live, base))
+}

@@ -1,0 +1,29 @@
+-- `table::checking::rows_sound` meets its contract. Assumes nothing.
+use mathlib.Core.Path.{sym, _∙_}
+use borrow.Author.Needs.{needs}
+use borrow.Author.Tests.{not-true, not-false}
+use Rattle.soundness.proofs.CheckingSteps.{rows-miscounted, rows-unsorted, rows-told}
+use Rattle.soundness.proofs.rows_sound.Statement.{statement}
+use Rattle.soundness.proofs.rows_sound.Tie as tie
+
+dead-rows-requires : tie.Need-dead-rows-requires
+dead-rows-requires c κs = search needs
+
+returns : tie.Need-returns
+returns c = rows-miscounted _ _ _ (λ e. c .if1 .taken (e ∙ sym (c .before .before .dead-rows .ensures)))
+
+entries-sound-requires : tie.Need-entries-sound-requires
+entries-sound-requires c κs = search needs
+
+returns-2 : tie.Need-returns-2
+returns-2 c = rows-unsorted _ _ _ (sym (not-true _ (c .if2 .taken)) ∙ c .before .entries-sound .ensures)
+
+sort-cells-sound-requires : tie.Need-sort-cells-sound-requires
+sort-cells-sound-requires c κs = search needs
+
+returns-3 : tie.Need-returns-3
+returns-3 c =
+    rows-told _ _ _ (c .before .before .before .if1 .left ∙ c .before .before .before .before .before .dead-rows .ensures) (sym (not-false _ (c .before .if2 .left)) ∙ c .before .before .entries-sound .ensures) _ (c .sort-cells-sound .ensures)
+
+pub rows-sound-spec : {M : Type 1} → statement M
+rows-sound-spec = tie.close (tie.spec dead-rows-requires returns entries-sound-requires returns-2 sort-cells-sound-requires returns-3)

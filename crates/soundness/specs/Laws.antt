@@ -1,0 +1,2 @@
+-- What may be relied on of the definitions beside.
+pub mod Checks

@@ -1,0 +1,2 @@
+pub mod RefusingSteps
+pub mod ReadingSteps

@@ -1,0 +1,39 @@
+-- `table::refusing::clear_refusal` meets its contract. Assumes nothing.
+use mathlib.Core.Path.{sym, _∙_}
+use Rattle.table.proofs.RefusingSteps.{clear-outside, clear-short, clear-early, clear-empty, clear-last}
+use borrow.Author.Needs.{needs}
+use Rattle.table.proofs.refusing.clear_refusal.Statement.{statement}
+use Rattle.table.proofs.refusing.clear_refusal.Tie as tie
+
+is-outside-requires : tie.Need-is-outside-requires
+is-outside-requires c κs = search needs
+
+returns : tie.Need-returns
+returns c = clear-outside _ _ (sym (c .before .is-outside .ensures) ∙ c .if1 .taken)
+
+is-pairs-short-requires : tie.Need-is-pairs-short-requires
+is-pairs-short-requires c κs = (sym (c .before .is-outside .ensures) ∙ c .if1 .left)
+
+returns-2 : tie.Need-returns-2
+returns-2 c = clear-short _ _ (sym (c .before .before .before .is-outside .ensures) ∙ c .before .before .if1 .left) (sym (c .before .is-pairs-short .ensures) ∙ c .if2 .taken)
+
+returns-3 : tie.Need-returns-3
+returns-3 c = clear-early _ _ (sym (c .before .before .before .before .before .is-outside .ensures) ∙ c .before .before .before .before .if1 .left) (sym (c .before .before .before .is-pairs-short .ensures) ∙ c .before .before .if2 .left) (c .if3 .taken)
+
+returns-4 : tie.Need-returns-4
+returns-4 c = clear-empty _ _ (sym (c .before .before .before .before .before .before .before .is-outside .ensures) ∙ c .before .before .before .before .before .before .if1 .left) (sym (c .before .before .before .before .before .is-pairs-short .ensures) ∙ c .before .before .before .before .if2 .left) (c .before .before .if3 .left) (c .if4 .taken)
+
+returns-5 : tie.Need-returns-5
+returns-5 c = clear-last _ _ (sym (c .before .before .before .before .before .before .before .is-outside .ensures) ∙ c .before .before .before .before .before .before .if1 .left) (sym (c .before .before .before .before .before .is-pairs-short .ensures) ∙ c .before .before .before .before .if2 .left) (c .before .before .if3 .left) (c .if4 .left)
+
+pub clear-refusal-spec : {M : Type 1} → statement M
+clear-refusal-spec =
+    tie.close
+    (tie.spec
+    is-outside-requires
+    returns
+    is-pairs-short-requires
+    returns-2
+    returns-3
+    returns-4
+    returns-5)

@@ -1,0 +1,43 @@
+-- `table::refusing::compact_refusal` meets its contract. Assumes nothing.
+use mathlib.Core.Path.{sym, _∙_}
+use Rattle.table.proofs.RefusingSteps.{compact-outside, compact-stores, compact-words, compact-last, compact-none}
+use borrow.Author.Needs.{needs}
+use Rattle.table.proofs.refusing.compact_refusal.Statement.{statement}
+use Rattle.table.proofs.refusing.compact_refusal.Tie as tie
+
+is-outside-requires : tie.Need-is-outside-requires
+is-outside-requires c κs = search needs
+
+returns : tie.Need-returns
+returns c = compact-outside _ _ (sym (c .before .is-outside .ensures) ∙ c .if1 .taken)
+
+is-stores-short-requires : tie.Need-is-stores-short-requires
+is-stores-short-requires c κs = (sym (c .before .is-outside .ensures) ∙ c .if1 .left)
+
+returns-2 : tie.Need-returns-2
+returns-2 c = compact-stores _ _ (sym (c .before .before .before .is-outside .ensures) ∙ c .before .before .if1 .left) (sym (c .before .is-stores-short .ensures) ∙ c .if2 .taken)
+
+is-words-short-requires : tie.Need-is-words-short-requires
+is-words-short-requires c κs = (sym (c .before .before .before .is-outside .ensures) ∙ c .before .before .if1 .left)
+
+returns-3 : tie.Need-returns-3
+returns-3 c = compact-words _ _ (sym (c .before .before .before .before .before .is-outside .ensures) ∙ c .before .before .before .before .if1 .left) (sym (c .before .before .before .is-stores-short .ensures) ∙ c .before .before .if2 .left) (sym (c .before .is-words-short .ensures) ∙ c .if3 .taken)
+
+returns-4 : tie.Need-returns-4
+returns-4 c = compact-last _ _ (sym (c .before .before .before .before .before .before .before .is-outside .ensures) ∙ c .before .before .before .before .before .before .if1 .left) (sym (c .before .before .before .before .before .is-stores-short .ensures) ∙ c .before .before .before .before .if2 .left) (sym (c .before .before .before .is-words-short .ensures) ∙ c .before .before .if3 .left) (c .if4 .taken)
+
+returns-5 : tie.Need-returns-5
+returns-5 c = compact-none _ _ (sym (c .before .before .before .before .before .before .before .is-outside .ensures) ∙ c .before .before .before .before .before .before .if1 .left) (sym (c .before .before .before .before .before .is-stores-short .ensures) ∙ c .before .before .before .before .if2 .left) (sym (c .before .before .before .is-words-short .ensures) ∙ c .before .before .if3 .left) (c .if4 .left)
+
+pub compact-refusal-spec : {M : Type 1} → statement M
+compact-refusal-spec =
+    tie.close
+    (tie.spec
+    is-outside-requires
+    returns
+    is-stores-short-requires
+    returns-2
+    is-words-short-requires
+    returns-3
+    returns-4
+    returns-5)

@@ -1,0 +1,183 @@
+-- An opening and a clear: the stores show the empty plain table, or the one whose staged records are gone. Assumes nothing.
+use Prim.Native.Nat.{ℕ, zero, suc, _+_, _*_, _≤_, _<_}
+use mathlib.Core.Path.{_≡_, refl, sym, ap, _∙_}
+use mathlib.Core.Bool.{true, false}
+use mathlib.Core.List.{List, []}
+use native.Mathlib.Decide.{ℕ-discrete}
+use native.Mathlib.Omega.{arith}
+use lib.ListN.{length, length-replicate}
+use borrow.Author.Tests.{lt-ltb, le-ltb, not-false}
+use Rattle.lists.specs.Lists.{every, count, rowsOf, flat}
+use Rattle.lists.specs.Laws.Parts.{length-putAt}
+use Rattle.refusals.specs.Refusals.{reply, verdict, ruling, accepted}
+use Rattle.sort_entries.specs.Entries.{entriesOf, rebuilt, pushAll}
+use Rattle.key_index.specs.Index.{zeros, EmptyIs}
+use Rattle.key_index.specs.Laws.{emptied, empty-sound}
+use Rattle.plain.specs.Staged.{Opening, openable, wordsAll}
+use Rattle.plain.specs.Plain.{Plain, dead, storesShort, openRefusal, opened, unstaged, cleared}
+use Rattle.plain.specs.Laws.Calls.{first-no, first-rest}
+use Rattle.plain.specs.Laws.Proper.{opened-proper, unstaged-proper}
+use Rattle.table.specs.declared.Header.{Header}
+use Rattle.table.specs.declared.TableAnswer.the-variants.{Refused, Table}
+use Rattle.table.specs.Numbers.{openingOf, tableSays}
+use Rattle.table.specs.Refusing.{clearRefusal}
+use Rattle.table.specs.Stores.{entries, headerOf, stored}
+use Rattle.table.specs.Promises.{Stores, stores, lengths, Represents, Opened, withPending, Clearing}
+use Rattle.table.specs.Laws.Shown.{stores-long, long-stores, rows-counted}
+use Rattle.table.specs.Laws.Refusals.{clear-accepted}
+
+-- ---- an empty table
+
+-- its header
+abbrev pub emptyHeader : Opening → ℕ → Header
+emptyHeader o generation =
+    record {
+      columns = o .columns;
+      keys = o .keys;
+      sort = o .sort;
+      rule = o .rule;
+      capacity = o .capacity;
+      rows = 0;
+      dead = 0;
+      entries = 0;
+      pending = 0;
+      generation = generation;
+    }
+
+pub header-opened : (o : Opening) (generation : ℕ) → emptyHeader o generation ≡ headerOf (opened o generation)
+unfolding opened dead count entries rebuilt pushAll wordsAll
+header-opened o generation = refl
+
+-- freed slots are as many as before
+pub empty-length : (capacity : ℕ) (keys keys′ : List ℕ) → 2 * capacity ≤ length keys → EmptyIs capacity keys keys′ → length keys′ ≡ length keys
+empty-length capacity keys keys′ long e =
+    let r : length (zeros (2 * capacity)) ≡ 2 * capacity = length-replicate (2 * capacity) 0 in
+    ap length (e .free) ∙ length-putAt keys (zeros (2 * capacity)) 0 (omega arith)
+
+module _ (o : Opening) (generation : ℕ) (rows keys keys′ sorts pending : List ℕ) where
+  -- once its slots are free, the stores show an empty table
+  pub empty-represents : openable o ≡ true → generation ≤ 4294967295 → storesShort o (lengths rows keys sorts pending [] []) ≡ false
+      → EmptyIs (o .capacity) keys keys′ → Represents (opened o generation) (stores (headerOf (opened o generation)) rows keys′ sorts pending)
+  unfolding opened entries rebuilt pushAll entriesOf stored rowsOf every wordsAll flat
+  empty-represents bounds fits long e =
+      let l = stores-long o (lengths rows keys sorts pending [] []) long in
+      let n = empty-length (o .capacity) keys keys′ (l .keys-long) e in
+      record {
+        proper = opened-proper o generation bounds fits;
+        long-enough = long-stores o (lengths rows keys′ sorts pending [] []) (record { rows-long = l .rows-long; keys-long = omega (arith, l .keys-long); sorts-long = l .sorts-long });
+        shown = record { header = refl; rows-shown = refl; entries-shown = refl; pending-held = record { whole = refl; in-order = refl } };
+        keyed = empty-sound _ rows keys′ (λ i live. absurd (omega (arith, live .0))) (emptied (o .capacity) keys keys′ (l .keys-long) e);
+      }
+
+-- ---- *Open*
+
+module _ (o : Opening) (generation : ℕ) (rows keys sorts pending : List ℕ) where
+  -- one that is turned away
+  pub opened-refused : (n : ℕ) → n ≡ openRefusal o (lengths rows keys sorts pending [] []) → (n ≡ 0 → ⊥)
+      → Opened o generation rows keys sorts pending (Refused n) keys
+  unfolding tableSays reply
+  opened-refused zero e ne = absurd (ne refl)
+  opened-refused (suc n) e ne =
+      record {
+        answers = rw (← e);
+        unchanged = λ k. refl;
+        past = refl;
+        represents = λ z. absurd (omega arith);
+      }
+
+  -- one that is not
+  pub opened-done : (keys′ : List ℕ) → openRefusal o (lengths rows keys sorts pending [] []) ≡ 0 → generation ≤ 4294967295 → EmptyIs (o .capacity) keys keys′
+      → Opened o generation rows keys sorts pending (Table (emptyHeader o generation)) keys′
+  unfolding tableSays reply openRefusal
+  opened-done keys′ e fits free =
+      record {
+        answers = rw e (ap accepted (header-opened o generation));
+        unchanged = λ k. absurd (omega arith);
+        past = free .tail;
+        represents = λ z. empty-represents o generation rows keys keys′ sorts pending (not-false _ (first-no _ 0 _ e)) fits (first-no _ 1 _ (first-rest _ 0 _ e)) free;
+      }
+
+-- ---- *Clear*
+
+-- with rows, an empty table of the next generation; without, the table with nothing staged
+cleared-some : (p : Plain) → 0 < length (p .rows) → cleared p ≡ opened (p .opening) (p .generation + 1)
+unfolding cleared opened
+cleared-some p h = rw (lt-ltb 0 (length (p .rows)) h)
+
+cleared-none : (p : Plain) → length (p .rows) ≡ 0 → cleared p ≡ unstaged p
+unfolding cleared
+cleared-none p e = rw (le-ltb 0 (length (p .rows)) (omega arith))
+
+-- a table with nothing staged
+header-unstaged : (p : Plain) → withPending (headerOf p) 0 ≡ headerOf (unstaged p)
+unfolding unstaged dead entries wordsAll
+header-unstaged p = refl
+
+pub unstaged-represents : {p : Plain} {s : Stores} → Represents p s → Represents (unstaged p) (stores (withPending (s .header) 0) (s .rows) (s .keys) (s .sorts) (s .pending))
+unfolding unstaged entries every wordsAll flat
+unstaged-represents {p} {s} t =
+    record {
+      proper = unstaged-proper (t .proper);
+      long-enough = t .long-enough;
+      shown =
+          record {
+            header = ap (λ (h : Header). withPending h 0) (t .shown .header) ∙ header-unstaged p;
+            rows-shown = t .shown .rows-shown;
+            entries-shown = t .shown .entries-shown;
+            pending-held = record { whole = refl; in-order = refl };
+          };
+      keyed = t .keyed;
+    }
+
+-- the generation after one that is not the last, or is that of no rows
+pub next-fits : (generation rows : ℕ) → generation ≤ 4294967295 → (generation ≡ 4294967295 → rows ≡ 0) → 0 < rows → generation + 1 ≤ 4294967295
+next-fits generation rows fits last some = elim (ℕ-discrete generation 4294967295) [ yes e ↦ absurd (omega (arith, last e)) | no ne ↦ omega arith ]
+
+module _ (h : Header) (keys : List ℕ) where
+  -- one that is turned away
+  pub clear-refused : (n : ℕ) → n ≡ clearRefusal h (length keys) → (n ≡ 0 → ⊥) → Clearing h keys (Refused n) keys
+  unfolding tableSays verdict ruling
+  clear-refused zero e ne = absurd (ne refl)
+  clear-refused (suc n) e ne =
+      record {
+        refusal = rw (← e);
+        unchanged = λ k. refl;
+        past = refl;
+        table = λ z rows sorts pending p t. absurd (omega arith);
+      }
+
+  -- one of a table without rows
+  pub clear-pending : clearRefusal h (length keys) ≡ 0 → h .rows ≡ 0 → Clearing h keys (Table (withPending h 0)) keys
+  unfolding tableSays verdict ruling
+  clear-pending e none =
+      record {
+        refusal = rw e;
+        unchanged = λ k. refl;
+        past = refl;
+        table = λ z rows sorts pending p t.
+            let q : cleared p ≡ unstaged p = cleared-none p (sym (rows-counted t) ∙ none) in
+            let u = unstaged-represents t in
+            record { answers = rw q (ap accepted (u .shown .header)); represents = rw (q, ← (u .shown .header)) u };
+      }
+
+  -- one of a table with rows
+  pub clear-all : (keys′ : List ℕ) → clearRefusal h (length keys) ≡ 0 → 0 < h .rows → EmptyIs (h .capacity) keys keys′
+      → Clearing h keys (Table (emptyHeader (openingOf h) (h .generation + 1))) keys′
+  unfolding tableSays verdict ruling
+  clear-all keys′ e some free =
+      let a = clear-accepted h (length keys) e in
+      record {
+        refusal = rw e;
+        unchanged = λ k. absurd (omega arith);
+        past = free .tail;
+        table = λ z rows sorts pending p t.
+            let q : cleared p ≡ opened (p .opening) (p .generation + 1) = cleared-some p (omega (arith, rows-counted t)) in
+            let g : h .generation ≡ p .generation = ap (λ (x : Header). x .generation) (t .shown .header) in
+            let o : openingOf h ≡ p .opening = ap openingOf (t .shown .header) in
+            let k : h .capacity ≡ p .opening .capacity = ap (λ (x : Header). x .capacity) (t .shown .header) in
+            let fits : p .generation + 1 ≤ 4294967295 = next-fits (p .generation) (h .rows) (t .proper .generation-fits) (rw g at (a .last-empty)) some in
+            record {
+              answers = rw (q, o, g) (ap accepted (header-opened (p .opening) (p .generation + 1)));
+              represents = rw q (empty-represents (p .opening) (p .generation + 1) rows keys keys′ sorts pending (t .proper .numbers) fits (t .long-enough) (rw k at free));
+            };
+      }

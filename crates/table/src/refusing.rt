@@ -1,0 +1,263 @@
+// What each operation turns away, "on any numbers at all": one function for each ladder of specs/Refusing.antt, over the
+// header and the lengths of what is lent. 0 if nothing is turned away.
+ghost use mathlib.Core.Path.{_≡_};
+ghost use mathlib.Core.Bool.{false};
+ghost use Rattle.plain.specs.Staged.{openable};
+ghost use Rattle.plain.specs.Plain.{storesShort, wordsShort, openRefusal};
+ghost use Rattle.table.specs.Numbers.{openingOf};
+ghost use Rattle.table.specs.Refusing as rules;
+ghost use Rattle.table.specs.Refusing.{lengthsOf};
+use super::Header;
+use super::Lent;
+use constraints::Constraint;
+
+pub const LAST_GENERATION: u32 = 0xffff_ffff;
+
+// The numbers of an opening are within their bounds.
+fn is_openable(h: Header) -> bool
+    ensures { λ r. ⌜ r ≡ openable (openingOf h) ⌝ }
+{
+    if h.columns < 1 {
+        return false;
+    }
+    if 8 < h.columns {
+        return false;
+    }
+    if h.keys < 1 {
+        return false;
+    }
+    if h.columns < h.keys {
+        return false;
+    }
+    if h.columns <= h.sort {
+        return false;
+    }
+    if 3 < h.rule {
+        return false;
+    }
+    if h.capacity < 1 {
+        return false;
+    }
+    h.capacity <= 65536
+}
+
+// Test 1 without the pending store.
+pub fn is_outside(h: Header) -> bool
+    ensures { λ r. ⌜ r ≡ rules.outside h ⌝ }
+{
+    if !is_openable(h) {
+        return true;
+    }
+    if h.capacity < h.rows {
+        return true;
+    }
+    if h.rows < h.dead {
+        return true;
+    }
+    h.rows < h.entries
+}
+
+// Test 1 with the pending store.
+pub fn is_pending_outside(h: Header, pending: usize) -> bool
+    ensures { λ r. ⌜ r ≡ rules.pendingOutside h pending ⌝ }
+{
+    if is_outside(h) {
+        return true;
+    }
+    pending < h.pending as usize
+}
+
+// Test 2 of the row store.
+pub fn is_rows_short(h: Header, rows: usize) -> bool
+    requires { ⌜ rules.outside h ≡ false ⌝ }
+    ensures { λ r. ⌜ r ≡ rules.rowsShort h rows ⌝ }
+{
+    let needed = h.capacity * h.columns;
+    rows < needed as usize
+}
+
+// Test 2 of the key store or of the sort entries.
+fn is_pairs_short(h: Header, store: usize) -> bool
+    requires { ⌜ rules.outside h ≡ false ⌝ }
+    ensures { λ r. ⌜ r ≡ rules.pairsShort h store ⌝ }
+{
+    let needed = 2 * h.capacity;
+    store < needed as usize
+}
+
+// Test 2 of rows, keys and sort entries.
+fn is_stores_short(h: Header, l: Lent) -> bool
+    requires { ⌜ rules.outside h ≡ false ⌝ }
+    ensures { λ r. ⌜ r ≡ storesShort (openingOf h) (lengthsOf l) ⌝ }
+{
+    if is_rows_short(h, l.rows) {
+        return true;
+    }
+    if is_pairs_short(h, l.keys) {
+        return true;
+    }
+    is_pairs_short(h, l.sorts)
+}
+
+// Test 2 of the compaction words.
+fn is_words_short(h: Header, l: Lent) -> bool
+    requires { ⌜ rules.outside h ≡ false ⌝ }
+    ensures { λ r. ⌜ r ≡ wordsShort (openingOf h) (lengthsOf l) ⌝ }
+{
+    let needed = (h.capacity + 63) / 64;
+    if l.live < needed as usize {
+        return true;
+    }
+    l.base < needed as usize
+}
+
+// *Open*, of a header with no rows.
+pub fn open_refusal(h: Header, l: Lent) -> u32
+    requires { ⌜ (h .rows ≡ 0) × (h .dead ≡ 0) × (h .entries ≡ 0) ⌝ }
+    ensures { λ r. ⌜ r ≡ openRefusal (openingOf h) (lengthsOf l) ⌝ }
+{
+    if is_outside(h) {
+        return 1;
+    }
+    if !is_stores_short(h, l) {
+        return 0;
+    }
+    2
+}
+
+// The soundness check.
+pub fn sound_refusal(h: Header, l: Lent) -> u32
+    ensures { λ r. ⌜ r ≡ rules.soundRefusal h (l .rows) (l .keys) (l .sorts) (l .pending) ⌝ }
+{
+    if is_pending_outside(h, l.pending) {
+        return 1;
+    }
+    if is_stores_short(h, l) {
+        return 2;
+    }
+    0
+}
+
+// *Merge*: all that the soundness check asks, and compaction words.
+pub fn merge_refusal(h: Header, l: Lent) -> u32
+    ensures { λ r. ⌜ r ≡ rules.mergeRefusal h (lengthsOf l) ⌝ }
+{
+    let stores = sound_refusal(h, l);
+    if stores != 0 {
+        return stores;
+    }
+    if is_words_short(h, l) {
+        return 2;
+    }
+    0
+}
+
+// *Compact*
+pub fn compact_refusal(h: Header, l: Lent) -> u32
+    ensures { λ r. ⌜ r ≡ rules.compactRefusal h (lengthsOf l) ⌝ }
+{
+    if is_outside(h) {
+        return 1;
+    }
+    if is_stores_short(h, l) {
+        return 2;
+    }
+    if is_words_short(h, l) {
+        return 2;
+    }
+    if h.generation == LAST_GENERATION {
+        return 10;
+    }
+    0
+}
+
+// *Clear*
+pub fn clear_refusal(h: Header, keys: usize) -> u32
+    ensures { λ r. ⌜ r ≡ rules.clearRefusal h keys ⌝ }
+{
+    if is_outside(h) {
+        return 1;
+    }
+    if is_pairs_short(h, keys) {
+        return 2;
+    }
+    if h.generation != LAST_GENERATION {
+        return 0;
+    }
+    if h.rows == 0 {
+        return 0;
+    }
+    10
+}
+
+// *Key lookup*
+pub fn lookup_refusal(h: Header, rows: usize, keys: usize, cells: usize) -> u32
+    ensures { λ r. ⌜ r ≡ rules.lookupRefusal h rows keys cells ⌝ }
+{
+    if is_outside(h) {
+        return 1;
+    }
+    if is_rows_short(h, rows) {
+        return 2;
+    }
+    if is_pairs_short(h, keys) {
+        return 2;
+    }
+    if cells != h.keys as usize {
+        return 3;
+    }
+    0
+}
+
+// *One cell*
+pub fn cell_refusal(h: Header, rows: usize, keys: usize, cells: usize, column: u32) -> u32
+    ensures { λ r. ⌜ r ≡ rules.cellRefusal h rows keys cells column ⌝ }
+{
+    let lookup = lookup_refusal(h, rows, keys, cells);
+    if lookup != 0 {
+        return lookup;
+    }
+    if h.columns <= column {
+        return 6;
+    }
+    0
+}
+
+// *Fast range*
+pub fn fast_refusal(h: Header, sorts: usize, c: Constraint) -> u32
+    ensures { λ r. ⌜ r ≡ rules.fastRefusal h sorts c ⌝ }
+{
+    if is_outside(h) {
+        return 1;
+    }
+    if is_pairs_short(h, sorts) {
+        return 2;
+    }
+    if !constraints::known(c, h.columns) {
+        return 6;
+    }
+    0
+}
+
+// *Version*
+pub fn version_refusal(h: Header) -> u32
+    ensures { λ r. ⌜ r ≡ rules.versionRefusal h ⌝ }
+{
+    if !is_outside(h) {
+        return 0;
+    }
+    1
+}
+
+// *Rows since*
+pub fn since_refusal(h: Header, row: u32) -> u32
+    ensures { λ r. ⌜ r ≡ rules.sinceRefusal h row ⌝ }
+{
+    if is_outside(h) {
+        return 1;
+    }
+    if h.rows < row {
+        return 5;
+    }
+    0
+}
