@@ -2,7 +2,7 @@
 // that may be due.
 ghost use mathlib.Core.Path.{_≡_};
 ghost use Prim.Native.Nat.{_≤_};
-ghost use Rattle.plain.specs.Staged as rules;
+ghost use Rattle.plain.specs.Staged.{due};
 ghost use Rattle.table.specs.Promises.{Merging};
 ghost use Rattle.merge.specs.Steps.{Ready};
 ghost use Rattle.compaction.specs.Compaction.{Lendable};
@@ -14,12 +14,14 @@ use table::Header;
 use table::Lent;
 use table::Merge;
 use table::MergeAnswer;
+use table::REMOVE_KEY;
+use table::REMOVE_ROW;
 use table::refusing::LAST_GENERATION;
 use table::refusing::merge_refusal;
 
-pub mod removals; // removals.rt: one removal, by key or by row
-pub mod inserts; // inserts.rt: one insert
-pub mod passes; // passes.rt: all pending records, kind by kind
+mod removals; // removals.rt: one removal, by key or by row
+mod inserts; // inserts.rt: one insert
+mod passes; // passes.rt: all pending records, kind by kind
 
 // What an insert of a merge does: nothing, a row is appended, or the merge stops with a number.
 pub enum Insertion {
@@ -30,7 +32,7 @@ pub enum Insertion {
 
 // Dead rows call for a compaction, and the generation has room for it.
 fn is_due(h: Header) -> bool
-    ensures { λ r. ⌜ r ≡ rules.due (h .dead) (h .rows) (h .generation) ⌝ }
+    ensures { λ r. ⌜ r ≡ due (h .dead) (h .rows) (h .generation) ⌝ }
 {
     if h.generation == LAST_GENERATION {
         return false;
@@ -52,8 +54,8 @@ fn apply_pending(
     requires { ⌜ Ready h (now rows) (now keys) (now sorts) (now pending) × (h .dead ≤ h .rows) ⌝ }
     ensures { λ r. ⌜ Applying h (now (rows .entry)) (now (keys .entry)) (now (sorts .entry)) (now (pending .entry)) r (now (rows .exit)) (now (keys .exit)) (now (sorts .exit)) ⌝ }
 {
-    let without_keys = remove_all(h, rows, keys, pending, 1);
-    let without_rows = remove_all(without_keys, rows, keys, pending, 2);
+    let without_keys = remove_all(h, rows, keys, pending, REMOVE_KEY);
+    let without_rows = remove_all(without_keys, rows, keys, pending, REMOVE_ROW);
     insert_all(without_rows, rows, keys, sorts, pending)
 }
 

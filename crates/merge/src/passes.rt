@@ -11,7 +11,10 @@ use super::inserts::insert_row;
 use super::removals::remove_key;
 use super::removals::remove_row;
 use table::Header;
+use table::INSERT;
 use table::Merge;
+use table::REMOVE_KEY;
+use table::REMOVE_ROW;
 
 // The words of the record at a place of the pending store, 0 if none begins there that is whole.
 pub fn record_length(h: Header, pending: &[u32], at: u32) -> u32
@@ -22,11 +25,11 @@ pub fn record_length(h: Header, pending: &[u32], at: u32) -> u32
         return 0;
     }
     let kind = pending[at as usize];
-    if 2 < kind {
+    if REMOVE_ROW < kind {
         return 0;
     }
     let mut words = h.columns + 2;
-    if kind != 0 {
+    if kind != INSERT {
         words = h.keys + 1 + kind;
     }
     if h.pending - at < words {
@@ -43,7 +46,7 @@ fn remove_record(h: Header, rows: &mut [u32], keys: &mut [u32], pending: &[u32],
     let place = at as usize;
     let width = h.keys as usize;
     let hash = pending[place + 1];
-    if pending[place] == 1 {
+    if pending[place] == REMOVE_KEY {
         let from = place + 2;
         let to = from + width;
         return remove_key(h, rows, keys, &pending[from..to], hash);
@@ -113,7 +116,7 @@ fn insert_next(
     ensures { λ r. ⌜ InsertedNext m (now (rows .entry)) (now (keys .entry)) (now (sorts .entry)) (now (pending .entry)) at r (now (rows .exit)) (now (keys .exit)) (now (sorts .exit)) ⌝ }
 {
     let start = at as usize;
-    if pending[start] != 0 {
+    if pending[start] != INSERT {
         return m;
     }
     let n = m.header;

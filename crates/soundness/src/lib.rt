@@ -1,4 +1,5 @@
-// The soundness check: yes exactly for sound stores. Time linear in slots, rows and pending words. Is safe on any stores: a
+// The soundness check: yes exactly for sound stores. Time linear in slots, rows and pending words, where keys spread over
+// the slots as they should. Is safe on any stores: a
 // word is tested before it is a row or a length.
 ghost use mathlib.Core.Path.{_≡_};
 ghost use Prim.Native.Nat.{_<_, _≤_};
@@ -15,7 +16,10 @@ ghost use Rattle.soundness.specs.Checks.{deadRows, RowsSound, IndexSound
 use key_index::Found;
 use key_index::Keyed;
 use table::Header;
+use table::INSERT;
 use table::Lent;
+use table::REMOVE_KEY;
+use table::REMOVE_ROW;
 use table::SoundAnswer;
 use table::refusing;
 
@@ -101,13 +105,13 @@ fn kind_words(h: Header, kind: u32) -> u32
     requires { ⌜ (h .columns ≤ 8) × (h .keys ≤ h .columns) ⌝ }
     ensures { λ r. ⌜ r ≡ kindWords (openingOf h) kind ⌝ }
 {
-    if kind == 0 {
+    if kind == INSERT {
         return h.columns + 2;
     }
-    if kind == 1 {
+    if kind == REMOVE_KEY {
         return h.keys + 2;
     }
-    if kind == 2 {
+    if kind == REMOVE_ROW {
         return h.keys + 3;
     }
     0
@@ -117,7 +121,7 @@ fn kind_words(h: Header, kind: u32) -> u32
 fn key_place(kind: u32) -> u32
     ensures { λ r. ⌜ r ≡ keyPlace kind ⌝ }
 {
-    if kind == 2 {
+    if kind == REMOVE_ROW {
         return 3;
     }
     2

@@ -22,6 +22,13 @@ pub struct Header {
     pub generation: u32,
 }
 
+// A pending record's first word says its kind.
+pub const INSERT: u32 = 0;
+
+pub const REMOVE_KEY: u32 = 1;
+
+pub const REMOVE_ROW: u32 = 2;
+
 // The lengths of the stores that an operation is lent; 0 for one that it is not.
 pub struct Lent {
     pub rows: usize,

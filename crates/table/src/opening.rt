@@ -6,7 +6,8 @@ use super::TableAnswer;
 use super::refusing::clear_refusal;
 use super::refusing::open_refusal;
 
-// An empty table in the lent stores. Rows, sort entries and pending are lent for their lengths alone.
+// An empty table in the lent stores. Rows and sort entries are lent for their lengths alone; pending
+// may have any length.
 pub fn open_table(
     columns: u32,
     key_columns: u32,

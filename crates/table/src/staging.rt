@@ -9,6 +9,9 @@ ghost use Rattle.plain.specs.Staged.{insert, removeKey, removeRow};
 ghost use Rattle.table.specs.Stagings.{overfull, ladder};
 ghost use Rattle.table.specs.Promises.{Staging};
 use super::Header;
+use super::INSERT;
+use super::REMOVE_KEY;
+use super::REMOVE_ROW;
 use super::TableAnswer;
 use super::refusing::is_pending_outside;
 
@@ -57,7 +60,7 @@ fn write_row_head(pending: &mut [u32], at: usize, hash: u32, row: u32)
     requires { ⌜ at + 3 ≤ length (now pending) ⌝ }
     ensures { λ _. ⌜ now (pending .exit) ≡ putAt (now (pending .entry)) at (2 ∷ hash ∷ row ∷ []) ⌝ }
 {
-    pending[at] = 2;
+    pending[at] = REMOVE_ROW;
     pending[at + 1] = hash;
     pending[at + 2] = row;
 }
@@ -89,7 +92,7 @@ pub fn stage_insert(h: Header, pending: &mut [u32], cells: &[u32]) -> TableAnswe
         return TableAnswer::Refused(refusal);
     }
     let hash = cells::compact_hash(&cells[..h.keys as usize]);
-    write_record(pending, h.pending as usize, 0, hash, cells);
+    write_record(pending, h.pending as usize, INSERT, hash, cells);
     let mut n = h;
     n.pending = h.pending + (h.columns + 2);
     TableAnswer::Table(n)
@@ -104,7 +107,7 @@ pub fn stage_remove(h: Header, pending: &mut [u32], key: &[u32]) -> TableAnswer
         return TableAnswer::Refused(refusal);
     }
     let hash = cells::compact_hash(key);
-    write_record(pending, h.pending as usize, 1, hash, key);
+    write_record(pending, h.pending as usize, REMOVE_KEY, hash, key);
     let mut n = h;
     n.pending = h.pending + (h.keys + 2);
     TableAnswer::Table(n)
