@@ -1,0 +1,142 @@
+-- The ways through `parse`: the numbers read so far, and what is to come behind them. Assumes nothing.
+use Prim.Native.Nat.{ℕ, _+_, _*_, _≤_, _<_}
+use mathlib.Core.Path.{_≡_, refl, sym, ap, _∙_}
+use mathlib.Core.Bool.{Bool, true, false, _&&_}
+use mathlib.Core.List.{List, [], _∷_, _++_, map, append-nil, append-assoc}
+use native.Mathlib.Numerals.{add-one}
+use native.Mathlib.Omega.{arith}
+use lib.ListN.{length, take, drop, getD, set, length-set, length-take}
+use lib.Seq.{take-suc-set}
+use Rattle.lists.specs.Lists.{putAt, every}
+use Rattle.lists.specs.Laws.Parts.{putAt-nil}
+use Rattle.lists.specs.Laws.Search.{put-more}
+use Rattle.levels_text.specs.Lines.{valueFrom, isDecimal, isForm, letter, numbers, accepted}
+use Rattle.levels_text.specs.declared.Field.{Field}
+use Rattle.levels_text.specs.declared.Field.the-variants.{Wrong as NoField, Decimal}
+use Rattle.levels_text.specs.declared.Parsed.the-variants.{Wrong, Line}
+use Rattle.levels_text.specs.Reading.{fieldAt, FieldIs, ParsedIs, parsed-wrong, parsed-right}
+use Rattle.levels_text.specs.Laws.{first, others, first-end, others-end, first-at-comma, first-at-more, others-at-comma, others-at-more, next-first, next-others, next-inside, decimal-some, no-letter, no-decimal, accepted-line}
+
+-- count numbers are read from the bytes before a place, and stored; the letter stands alone if nothing stands before the next comma
+pub record Numbers (line lent stored : List ℕ) (at count : ℕ) : Type 0 where
+  pub inside : at ≤ length line
+  pub room : 2 * count + 1 ≤ at
+  pub short : length line ≤ 120
+  pub long : 59 ≤ length lent
+  pub same : length stored ≡ length lent
+  pub alone : length (first line) ≡ 1 + length (first (drop at line))
+  pub decimals : every isDecimal (others line) ≡ every isDecimal (others (drop at line))
+  pub worth : numbers line ≡ take count stored ++ map (valueFrom 0) (others (drop at line))
+  pub put : stored ≡ putAt lent 0 (take count stored)
+
+module _ (line lent : List ℕ) (short : length line ≤ 120) (long : 59 ≤ length lent) (some : 0 < length line) (ne : getD line 0 0 ≡ 44 → ⊥) where
+  pub numbers-begin : Numbers line lent lent 1 0
+  unfolding numbers others
+  numbers-begin = record {
+    inside = omega arith;
+    room = omega arith;
+    short = short;
+    long = long;
+    same = refl;
+    alone = let e : length (first line) ≡ length (getD line 0 0 ∷ first (drop 1 line)) = ap length (first-at-more line 0 some ne) in omega arith;
+    decimals = ap (every isDecimal) (others-at-more line 0 some ne);
+    worth = ap (map (valueFrom 0)) (others-at-more line 0 some ne);
+    put = sym (putAt-nil lent 0);
+  }
+
+module _ (line lent stored : List ℕ) (at count : ℕ) (s : Numbers line lent stored at count) where
+  -- no line of the forms
+  pub wrong-line : accepted line ≡ false → ParsedIs line lent Wrong stored
+  wrong-line e = parsed-wrong line lent stored e (λ h. absurd (let l = s .long in omega arith))
+
+  module _ (before : at < length line) where
+    pub wrong-letter : (getD line at 0 ≡ 44 → ⊥) → ParsedIs line lent Wrong stored
+    wrong-letter ne =
+        let more = ap length (first-at-more line at before ne) in
+        wrong-line (no-letter line (λ e. omega (arith, s .alone, more)))
+
+    module _ (comma : getD line at 0 ≡ 44) where
+      field-cons : every isDecimal (others (drop at line)) ≡ (isDecimal (fieldAt line (at + 1)) && every isDecimal (others (drop (at + 1) line)))
+      unfolding fieldAt first every
+      field-cons = ap (every isDecimal) (others-at-comma line at before comma)
+
+      pub wrong-number : (r : Field) → FieldIs line (at + 1) r → r ≡ NoField → ParsedIs line lent Wrong stored
+      wrong-number r f e = wrong-line (no-decimal line (s .decimals ∙ field-cons ∙ rw (f .wrong e)))
+
+      module _ (r : Field) (f : FieldIs line (at + 1) r) (value next : ℕ) (told : r ≡ Decimal value next) where
+        place : next ≡ at + 1 + length (first (drop (at + 1) line))
+        unfolding fieldAt first
+        place = f .right value next told .2
+
+        -- the place moves on, and stays in the line
+        pub next-place : (at + 2 ≤ next) × (next ≤ length line)
+        unfolding fieldAt first
+        next-place =
+            let some = decimal-some (fieldAt line (at + 1)) (f .right value next told .0) in
+            let after : at + 1 ≤ length line = omega arith in
+            let within = next-inside line (at + 1) after in
+            (omega (arith, place, some), omega (arith, place, within))
+
+        behind : first (drop next line) ≡ []
+        behind = rw place (next-first line (at + 1))
+
+        later : others (drop next line) ≡ others (drop (at + 1) line)
+        later = rw place (next-others line (at + 1))
+
+        worth-more : map (valueFrom 0) (others (drop at line)) ≡ (value ∷ []) ++ map (valueFrom 0) (others (drop next line))
+        unfolding fieldAt first
+        worth-more =
+            ap (map (valueFrom 0)) (others-at-comma line at before comma)
+            ∙ ap (λ (v : ℕ). v ∷ map (valueFrom 0) (others (drop (at + 1) line))) (sym (f .right value next told .1))
+            ∙ ap (λ (l : List (List ℕ)). value ∷ map (valueFrom 0) l) (sym later)
+
+        -- a line so short has no number too many
+        pub fits : count < length stored
+        fits = omega (arith, s .room, s .same, s .short, s .long, next-place .0, next-place .1)
+
+        taken : take (count + 1) (set stored count value) ≡ take count stored ++ (value ∷ [])
+        taken = rw add-one (take-suc-set stored count value fits)
+
+        read-length : count ≡ length (take count stored)
+        read-length = rw length-take (omega (arith, fits))
+
+        pub numbers-more : Numbers line lent (set stored count value) next (count + 1)
+        numbers-more = record {
+          inside = next-place .1;
+          room = omega (arith, s .room, next-place .0);
+          short = s .short;
+          long = s .long;
+          same = length-set stored count value ∙ s .same;
+          alone = s .alone ∙ ap (λ (l : List ℕ). 1 + length l) (first-at-comma line at before comma ∙ sym behind);
+          decimals = s .decimals ∙ field-cons ∙ rw (f .right value next told .0) (ap (every isDecimal) (sym later));
+          worth =
+              s .worth
+              ∙ ap (λ (l : List ℕ). take count stored ++ l) worth-more
+              ∙ sym (append-assoc (take count stored) (value ∷ []) (map (valueFrom 0) (others (drop next line))))
+              ∙ ap (λ (l : List ℕ). l ++ map (valueFrom 0) (others (drop next line))) (sym taken);
+          put =
+              ap (λ (l : List ℕ). set l count value) (s .put)
+              ∙ put-more lent (take count stored) count value read-length (omega (arith, fits, s .same))
+              ∙ ap (putAt lent 0) (sym taken);
+        }
+
+  module _ (ended : length line ≤ at) where
+    all-read : numbers line ≡ take count stored
+    all-read = s .worth ∙ rw (others-end line at ended) (append-nil (take count stored))
+
+    counted : length (numbers line) ≡ count
+    counted = ap length all-read ∙ rw length-take (omega (arith, s .room, s .inside, s .same, s .short, s .long))
+
+    form : accepted line ≡ isForm (letter line) count
+    form =
+        let one : length (first line) ≡ 1 = let e = ap length (first-end line at ended) in omega (arith, s .alone, e) in
+        accepted-line line (s .short) one (s .decimals ∙ rw (others-end line at ended) (unfold every in refl))
+        ∙ ap (isForm (letter line)) counted
+
+    pub parsed-line : (b : Bool) → b ≡ isForm (letter line) count → b ≡ true → ParsedIs line lent (Line (letter line) count) stored
+    parsed-line b e t =
+        parsed-right line lent (letter line) count stored (s .long) (form ∙ sym e ∙ t) refl (sym counted)
+        (s .put ∙ ap (putAt lent 0) (sym all-read))
+
+    pub wrong-form : (b : Bool) → b ≡ isForm (letter line) count → b ≡ false → ParsedIs line lent Wrong stored
+    wrong-form b e t = wrong-line (form ∙ sym e ∙ t)

@@ -1,0 +1,59 @@
+-- The lines that `levels` reads (document 01, "The program `levels`"): a letter and comma-parted decimals. Bytes are numbers,
+-- in ASCII. Assumes nothing.
+use Prim.Native.Nat.{ℕ, _+_, _-_, _*_}
+use mathlib.Core.Bool.{Bool, cond, not, _&&_, _||_}
+use mathlib.Core.List.{List, [], _∷_, map}
+use lib.ListN.{length, getD, drop}
+use lib.Dec.{leb, ltb, eqb}
+use Rattle.lists.specs.Lists.{every}
+
+-- "comma-parted fields": what stands before, between and behind the commas
+unfoldable pub fields : List ℕ → List (List ℕ)
+fields [] = [] ∷ []
+fields (byte ∷ bytes) = cond (eqb byte 44) ([] ∷ fields bytes) (longer byte (fields bytes))
+  where
+    longer : ℕ → List (List ℕ) → List (List ℕ)
+    longer byte [] = []
+    longer byte (field ∷ rest) = (byte ∷ field) ∷ rest
+
+-- the number that digits show, behind those already read
+unfoldable pub valueFrom : ℕ → List ℕ → ℕ
+valueFrom n [] = n
+valueFrom n (digit ∷ digits) = valueFrom (10 * n + (digit - 48)) digits
+
+-- "decimals up to 4294967295 without leading zeros"
+unfoldable pub isDecimal : List ℕ → Bool
+isDecimal field =
+    every (λ byte. leb 48 byte && leb byte 57) field
+    && ltb 0 (length field)
+    && (eqb (length field) 1 || not (eqb (getD field 0 0) 48))
+    && leb (valueFrom 0 field) 4294967295
+
+-- a letter and decimals, "at most 120 characters"
+unfoldable pub isLine : List ℕ → Bool
+isLine bytes =
+    leb (length bytes) 120 && eqb (length (getD (fields bytes) 0 [])) 1 && every isDecimal (drop 1 (fields bytes))
+
+-- its letter and its numbers
+unfoldable pub letter : List ℕ → ℕ
+letter bytes = getD bytes 0 0
+
+unfoldable pub numbers : List ℕ → List ℕ
+numbers bytes = map (valueFrom 0) (drop 1 (fields bytes))
+
+-- the letters that stand alone: M (77), V (86), L (76), C (67), G (71)
+unfoldable pub isBare : ℕ → Bool
+isBare letter = eqb letter 77 || eqb letter 86 || eqb letter 76 || eqb letter 67 || eqb letter 71
+
+-- the forms of a line: how many numbers O (79), I (73), R (82), K (75), F (70) and the bare letters take
+unfoldable pub isForm : ℕ → ℕ → Bool
+isForm letter count =
+    cond (eqb letter 79) (eqb count 6)
+    (cond (eqb letter 73 || eqb letter 82) (leb 1 count)
+    (cond (eqb letter 75) (leb 2 count)
+    (cond (eqb letter 70) (eqb count 3)
+    (isBare letter && eqb count 0))))
+
+-- "a line not of these forms" is refused with 11
+unfoldable pub accepted : List ℕ → Bool
+accepted bytes = isLine bytes && isForm (letter bytes) (length (numbers bytes))
