@@ -5,8 +5,10 @@ use mathlib.Core.Path.{_≡_, refl, sym, ap, ap₂, _∙_}
 use mathlib.Core.Bool.{true, false, not}
 use mathlib.Core.List.{List, [], _∷_, _++_}
 use native.Mathlib.Nat.{mul-le-mul-right}
+use native.Mathlib.Decide.{ℕ-discrete}
 use native.Mathlib.Omega.{arith}
 use lib.ListN.{length, take, drop, getD, set, length-take, length-drop, length-set, length-append}
+use lib.Seq.{drop-set-lt}
 use borrow.Author.Tests.{eq-eqb, ne-eqb}
 use Rattle.lists.specs.Lists.{putAt, keep, rowAt, rowsOf, flat, mapFront}
 use Rattle.lists.specs.Laws.Parts.{putAt-nil, getD-putAt-in}
@@ -29,7 +31,7 @@ use Rattle.compaction.specs.declared.Kept.{Kept}
 use Rattle.table.specs.Numbers.{tableSays}
 use Rattle.table.specs.Refusing.{compactRefusal}
 use Rattle.table.specs.Sound.{keyedOf}
-use Rattle.table.specs.Promises.{lengths, Compacting}
+use Rattle.table.specs.Promises.{WordsPast, lengths, Compacting}
 use Rattle.table.specs.Laws.Refusals.{inside-fits, compact-accepted}
 use Rattle.compaction.specs.Compaction.{Lendable, Compaction}
 use Rattle.compaction.specs.Compactions.{Begun, Keepable, RowKept, Closable, Closed, liveStored, entriesFor, closedHeader}
@@ -43,6 +45,15 @@ module _ (live base : List ℕ) (row kept : ℕ) where
 
   pub begun-later : (row % 64 ≡ 0 → ⊥) → Begun live base row kept live base
   begun-later e = record { marks = rw (ne-eqb (row % 64) 0 e); first = rw (ne-eqb (row % 64) 0 e) }
+
+  -- the words past the row's stay as they were
+  begun-past : (n : ℕ) (live′ base′ : List ℕ) → row / 64 < n → Begun live base row kept live′ base′
+      → (drop n live′ ≡ drop n live) × (drop n base′ ≡ drop n base)
+  begun-past n live′ base′ k b =
+      elim (ℕ-discrete (row % 64) 0) [
+        | yes z ↦ rw (b .marks, b .first, eq-eqb (row % 64) 0 z) (drop-set-lt n live (row / 64) 0 k, drop-set-lt n base (row / 64) kept k)
+        | no z ↦ rw (b .marks, b .first, ne-eqb (row % 64) 0 z) (refl, refl)
+      ]
 
 -- ---- a row is kept
 
@@ -97,6 +108,7 @@ module _ (h : Header) (rows₀ sorts₀ live₀ base₀ : List ℕ) where
     pub entered : kept .entries ≡ length (entriesFor (h .sort) (liveStored (h .columns) row rows₀))
     pub recorded : sorts ≡ putAt sorts₀ 0 (words (entriesFor (h .sort) (liveStored (h .columns) row rows₀)))
     pub numbered : Words (rowsOf (h .columns) (h .rows) rows₀) row row live base
+    pub words-past : WordsPast (h .capacity) live₀ live × WordsPast (h .capacity) base₀ base
 
   pub close-begin : Closing rows₀ sorts₀ live₀ base₀ (record { rows = 0; entries = 0 }) 0
   unfolding liveStored entriesFor rowsOf keep flat rebuilt pushAll words
@@ -114,6 +126,7 @@ module _ (h : Header) (rows₀ sorts₀ live₀ base₀ : List ℕ) where
         entered = refl;
         recorded = sym (putAt-nil sorts₀ 0);
         numbered = words-begin _ live₀ base₀;
+        words-past = (refl, refl);
       }
 
 module _ {h : Header} {rows₀ sorts₀ live₀ base₀ : List ℕ} (c : Closable h rows₀ sorts₀ live₀ base₀) where
@@ -131,6 +144,10 @@ module _ {h : Header} {rows₀ sorts₀ live₀ base₀ : List ℕ} (c : Closabl
     pub cells-in : Placed (h .columns) (length rows) row
     cells-in = rw (s .rows-same) (placed h rows₀ row (c .within) more)
 
+    -- its words are among those needed, so that none past them is written
+    word-needed : row / 64 < (h .capacity + 63) / 64
+    word-needed = omega (arith, c .within .count)
+
     next-same : rowAt (h .columns) row rows ≡ rowAt (h .columns) row rows₀
     next-same = rw (s .closed) (next-row (h .columns) row rows₀ (placed h rows₀ row (c .within) more .inside))
 
@@ -146,6 +163,11 @@ module _ {h : Header} {rows₀ sorts₀ live₀ base₀ : List ℕ} (c : Closabl
       begun =
           words-begun (rowsOf (h .columns) (h .rows) rows₀) row live base (s .numbered) (words-in .0) (words-in .1) (kept .rows) (s .counted ∙ number-next row (s .row-in))
           live₁ base₁ b
+
+      past-begun : WordsPast (h .capacity) live₀ live₁ × WordsPast (h .capacity) base₀ base₁
+      past-begun =
+          let p = begun-past live base row (kept .rows) ((h .capacity + 63) / 64) live₁ base₁ word-needed b in
+          (p .0 ∙ s .words-past .0, p .1 ∙ s .words-past .1)
 
       -- it can be kept
       pub can-keep : length live₁ ≡ length live → Keepable h rows sorts live₁ row kept
@@ -188,6 +210,7 @@ module _ {h : Header} {rows₀ sorts₀ live₀ base₀ : List ℕ} (c : Closabl
             entered = s .entered ∙ ap (λ (l : List (List ℕ)). length (entriesFor (h .sort) l)) same;
             recorded = s .recorded ∙ ap (λ (l : List (List ℕ)). putAt sorts₀ 0 (words (entriesFor (h .sort) l))) same;
             numbered = words-passed (rowsOf (h .columns) (h .rows) rows₀) row live₁ base₁ begun (reads-at ∙ e);
+            words-past = past-begun;
           }
 
       -- it is kept
@@ -219,6 +242,11 @@ module _ {h : Header} {rows₀ sorts₀ live₀ base₀ : List ℕ} (c : Closabl
             ∙ ap (λ (n : ℕ). putAt (putAt rows₀ 0 (flat lv)) (n * h .columns) (rowAt (h .columns) row rows₀)) (s .counted)
             ∙ close-one (h .columns) row rows₀ (placed h rows₀ row (c .within) more .inside) lives
 
+        past-marked : WordsPast (h .capacity) live₁ live′
+        past-marked =
+            ap (drop ((h .capacity + 63) / 64)) (k .marked)
+            ∙ drop-set-lt ((h .capacity + 63) / 64) live₁ (row / 64) (getD live₁ (row / 64) 0 + 2 ^ (row % 64)) word-needed
+
         pub close-kept : length live₁ ≡ length live → length base₁ ≡ length base → length rows′ ≡ length rows → length sorts′ ≡ length sorts
             → Closing h rows₀ sorts₀ live₀ base₀ rows′ sorts′ live′ base₁ (record { rows = kept .rows + 1; entries = r }) (row + 1)
         close-kept el eb er es =
@@ -235,11 +263,12 @@ module _ {h : Header} {rows₀ sorts₀ live₀ base₀ : List ℕ} (c : Closabl
               entered = entries-after .0 ∙ ap length entries-grown;
               recorded = entries-after .1 ∙ ap (λ (l : List Entry). putAt sorts₀ 0 (words l)) entries-grown;
               numbered = rw (k .marked) (words-marked (rowsOf (h .columns) (h .rows) rows₀) row live₁ base₁ begun (rw el (words-in .0)) (reads-at ∙ lives));
+              words-past = (past-marked ∙ past-begun .0, past-begun .1);
             }
 
   -- all rows are done
   pub close-end : {rows sorts live base : List ℕ} {kept : Kept} {row : ℕ} → Closing h rows₀ sorts₀ live₀ base₀ rows sorts live base kept row → h .rows ≤ row
-      → Closed h rows₀ sorts₀ kept rows sorts live base
+      → Closed h rows₀ sorts₀ live₀ base₀ kept rows sorts live base
   close-end {rows} {sorts} {live} {base} {kept} {row} s k =
       let e : row ≡ h .rows = omega (arith, s .row-in) in
       record {
@@ -250,6 +279,7 @@ module _ {h : Header} {rows₀ sorts₀ live₀ base₀ : List ℕ} (c : Closabl
         numbered = λ i l.
             words-number (rowsOf (h .columns) (h .rows) rows₀) (h .rows) live base (rw e at (s .numbered)) i (l .0)
             ∙ sym (below-number (keyedOf h) rows₀ (h .rows) i (omega (arith, l .0)));
+        words-past = s .words-past;
       }
 
 -- ---- the whole compaction
@@ -273,8 +303,8 @@ module _ {h : Header} {rows keys sorts live base : List ℕ} (lent : Lendable h 
         rw e
         (record { capacity = lent .fits .most; count = lent .fits .count; marks = rw el (lent .live-long); firsts = rw eb (lent .base-long) }, lent .fits .long)
 
-    pub compact-end : {kept : Kept} {rows′ keys′ sorts′ : List ℕ} → h .generation < 4294967295 → Closed h rows sorts kept rows′ sorts′ live′ base′
-        → keys′ ≡ mapFront (renumbered t live′ base′) (slots t) keys → Compaction h rows keys sorts (closedHeader h kept) rows′ keys′ sorts′
+    pub compact-end : {kept : Kept} {rows′ keys′ sorts′ : List ℕ} → h .generation < 4294967295 → Closed h rows sorts live base kept rows′ sorts′ live′ base′
+        → keys′ ≡ mapFront (renumbered t live′ base′) (slots t) keys → Compaction h rows keys sorts live base (closedHeader h kept) rows′ keys′ sorts′ live′ base′
     compact-end {kept} {rows′} {keys′} {sorts′} g c k = rw (k, e) (compaction h rows keys sorts live base lent kept rows′ sorts′ live′ base′ c g)
 
 -- ---- the entry point
@@ -289,6 +319,7 @@ module _ (h : Header) (rows keys sorts live base : List ℕ) where
         refusal = verdict-refused (tableSays (TableRefused n)) _ n refl e some;
         unchanged = λ k. (refl, refl, refl, refl, refl);
         past = refl;
+        words-past = (refl, refl);
         table = λ z. absurd (some (e ∙ z));
       }
 
@@ -308,7 +339,7 @@ module _ (h : Header) (rows keys sorts live base : List ℕ) where
         )
 
     -- it is done
-    pub compact-done : (h′ : Header) (rows′ keys′ sorts′ live′ base′ : List ℕ) → Compaction h rows keys sorts h′ rows′ keys′ sorts′
+    pub compact-done : (h′ : Header) (rows′ keys′ sorts′ live′ base′ : List ℕ) → Compaction h rows keys sorts live base h′ rows′ keys′ sorts′ live′ base′
         → Compacting h rows keys sorts live base (Table h′) rows′ keys′ sorts′ live′ base′
     unfolding tableSays
     compact-done h′ rows′ keys′ sorts′ live′ base′ c =
@@ -317,6 +348,7 @@ module _ (h : Header) (rows keys sorts live base : List ℕ) where
           refusal = verdict-accepted (tableSays (Table h′)) _ h′ refl e;
           unchanged = λ k. absurd (omega (arith, e));
           past = c .past;
+          words-past = c .words-past;
           table = λ z pending p r.
               let k = c .table pending p r in
               record {

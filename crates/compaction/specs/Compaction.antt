@@ -8,7 +8,7 @@ use Rattle.plain.specs.Plain.{Plain, compacted}
 use Rattle.table.specs.declared.Header.{Header}
 use Rattle.table.specs.Stores.{headerOf, rowStore, sortStore}
 use Rattle.table.specs.Sound.{keyedOf}
-use Rattle.table.specs.Promises.{stores, Represents, SlotsPast}
+use Rattle.table.specs.Promises.{stores, Represents, SlotsPast, WordsPast}
 
 -- numbers within their bounds, and stores and compaction words long enough
 pub record Lendable (h : Header) (rows keys sorts live base : List ℕ) : Type 0 where
@@ -18,13 +18,14 @@ pub record Lendable (h : Header) (rows keys sorts live base : List ℕ) : Type 0
   pub live-long : (h .capacity + 63) / 64 ≤ length live
   pub base-long : (h .capacity + 63) / 64 ≤ length base
 
-module _ (h : Header) (rows keys sorts : List ℕ) (h′ : Header) (rows′ keys′ sorts′ : List ℕ) where
-  pub record ClosedUp (pending : List ℕ) (p : Plain) : Type 0 where
-    pub header : h′ ≡ headerOf (compacted p)
-    pub rows-after : rows′ ≡ rowStore (compacted p) [] rows
-    pub sorts-after : sorts′ ≡ sortStore (compacted p) sorts
-    pub represents : Represents (compacted p) (stores h′ rows′ keys′ sorts′ pending)
+pub record ClosedUp (h : Header) (rows keys sorts : List ℕ) (h′ : Header) (rows′ keys′ sorts′ pending : List ℕ) (p : Plain) : Type 0 where
+  pub header : h′ ≡ headerOf (compacted p)
+  pub rows-after : rows′ ≡ rowStore (compacted p) [] rows
+  pub sorts-after : sorts′ ≡ sortStore (compacted p) sorts
+  pub represents : Represents (compacted p) (stores h′ rows′ keys′ sorts′ pending)
 
-  pub record Compaction : Type 0 where
-    pub past : SlotsPast (h .capacity) keys keys′
-    pub table : (pending : List ℕ) (p : Plain) → Represents p (stores h rows keys sorts pending) → ClosedUp pending p
+pub record Compaction (h : Header) (rows keys sorts live base : List ℕ) (h′ : Header) (rows′ keys′ sorts′ live′ base′ : List ℕ) : Type 0 where
+  pub past : SlotsPast (h .capacity) keys keys′
+  pub words-past : WordsPast (h .capacity) live live′ × WordsPast (h .capacity) base base′
+  pub table : (pending : List ℕ) (p : Plain) → Represents p (stores h rows keys sorts pending)
+      → ClosedUp h rows keys sorts h′ rows′ keys′ sorts′ pending p

@@ -16,6 +16,7 @@ use Rattle.key_index.specs.RenumberLaws.{liveBelow}
 use Rattle.table.specs.declared.Header.{Header}
 use Rattle.compaction.specs.declared.Kept.{Kept}
 use Rattle.table.specs.Sound.{keyedOf}
+use Rattle.table.specs.Promises.{WordsPast}
 
 -- at a row that begins a word, its marks are none and its first number is the next
 pub record Begun (live base : List ℕ) (row kept : ℕ) (live′ base′ : List ℕ) : Type 0 where
@@ -59,12 +60,13 @@ abbrev pub closedRows : Header → List ℕ → List (List ℕ)
 closedRows h rows = liveStored (h .columns) (h .rows) rows
 
 -- the live rows have closed up, and the words tell their new numbers
-pub record Closed (h : Header) (rows sorts : List ℕ) (kept : Kept) (rows′ sorts′ live′ base′ : List ℕ) : Type 0 where
+pub record Closed (h : Header) (rows sorts live base : List ℕ) (kept : Kept) (rows′ sorts′ live′ base′ : List ℕ) : Type 0 where
   pub rows-counted : kept .rows ≡ length (closedRows h rows)
   pub rows-after : rows′ ≡ putAt rows 0 (flat (closedRows h rows))
   pub entries-counted : kept .entries ≡ length (entriesFor (h .sort) (closedRows h rows))
   pub sorts-after : sorts′ ≡ putAt sorts 0 (words (entriesFor (h .sort) (closedRows h rows)))
   pub numbered : (i : ℕ) → LiveAt (keyedOf h) rows i → newRow live′ base′ i ≡ liveBelow (keyedOf h) rows i
+  pub words-past : WordsPast (h .capacity) live live′ × WordsPast (h .capacity) base base′
 
 -- the header that goes with them
 abbrev pub closedHeader : Header → Kept → Header

@@ -61,7 +61,7 @@ fn close_up(
     base: &mut [u32],
 ) -> Kept
     requires { ⌜ Closable h (now rows) (now sorts) (now live) (now base) ⌝ }
-    ensures { λ r. ⌜ Closed h (now (rows .entry)) (now (sorts .entry)) r (now (rows .exit)) (now (sorts .exit)) (now (live .exit)) (now (base .exit)) ⌝ }
+    ensures { λ r. ⌜ Closed h (now (rows .entry)) (now (sorts .entry)) (now (live .entry)) (now (base .entry)) r (now (rows .exit)) (now (sorts .exit)) (now (live .exit)) (now (base .exit)) ⌝ }
 {
     let mut kept = Kept {
         rows: 0,
@@ -92,7 +92,7 @@ pub fn compact_rows(
     base: &mut [u32],
 ) -> Header
     requires { ⌜ Lendable h (now rows) (now keys) (now sorts) (now live) (now base) × (h .generation < 4294967295) ⌝ }
-    ensures { λ r. ⌜ Compaction h (now (rows .entry)) (now (keys .entry)) (now (sorts .entry)) r (now (rows .exit)) (now (keys .exit)) (now (sorts .exit)) ⌝ }
+    ensures { λ r. ⌜ Compaction h (now (rows .entry)) (now (keys .entry)) (now (sorts .entry)) (now (live .entry)) (now (base .entry)) r (now (rows .exit)) (now (keys .exit)) (now (sorts .exit)) (now (live .exit)) (now (base .exit)) ⌝ }
 {
     let kept = close_up(h, rows, sorts, live, base);
     key_index::gaps::renumber(keyed(h), keys, live, base);

@@ -2,6 +2,8 @@
 // asks nothing of its caller: a slice is a pointer and a length, an enum becomes words, and what a function of the library
 // requires is tested.
 pub mod inner; // inner.rt: the key index and the sort entries, for comparing and measuring
+pub mod tables; // tables.rt: a whole table
+pub mod questions; // questions.rt: questions on its rows
 
 use constraints::Constraint;
 use offsets::SubsetAnswer;

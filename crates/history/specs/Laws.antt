@@ -2,5 +2,6 @@
 pub mod Live
 pub mod Replies
 pub mod Calls
+pub mod Further
 pub mod Narrowing
 pub mod Questions

@@ -123,6 +123,7 @@ module _ (m : Merge) (rows keys sorts live base : List ℕ) where
   finish-same same =
       record {
         past = refl;
+        words-past = (refl, refl);
         table = λ pending p r.
             let u = unstaged-represents r in
             let e = same pending p r in
@@ -147,11 +148,12 @@ module _ (m : Merge) (rows keys sorts live base : List ℕ) where
 
   -- one is
   pub finish-compacted : m .status ≡ 0 → due (m .header .dead) (m .header .rows) (m .header .generation) ≡ true
-      → (h′ : Header) (rows′ keys′ sorts′ live′ base′ : List ℕ) → Compaction (withPending (m .header) 0) rows keys sorts h′ rows′ keys′ sorts′
+      → (h′ : Header) (rows′ keys′ sorts′ live′ base′ : List ℕ) → Compaction (withPending (m .header) 0) rows keys sorts live base h′ rows′ keys′ sorts′ live′ base′
       → Finishing m rows keys sorts live base (withHeader m h′) rows′ keys′ sorts′ live′ base′
   finish-compacted went d h′ rows′ keys′ sorts′ live′ base′ c =
       record {
         past = c .past;
+        words-past = c .words-past;
         table = λ pending p r.
             let k = c .table pending (unstaged p) (unstaged-represents r) in
             let e = finished-compacted (m .status) p went (rw (r .shown .header) at d) in
@@ -176,6 +178,7 @@ module _ (h : Header) (rows keys sorts pending live base : List ℕ) where
         refusal = verdict-refused (mergeSays (MergeRefused n)) _ n refl e some;
         unchanged = λ k. (refl, refl, refl, refl, refl);
         past = refl;
+        words-past = (refl, refl);
         table = λ z. absurd (some (e ∙ z));
       }
 
@@ -236,6 +239,7 @@ module _ (h : Header) (rows keys sorts pending live base : List ℕ) where
             refusal = verdict-accepted (mergeSays (Merged r)) _ r refl e;
             unchanged = λ k. absurd (omega (arith, e));
             past = (rw n at (f .past)) ∙ applying .past;
+            words-past = rw n at (f .words-past);
             table = λ z p shown.
                 let a = applying .table p shown in
                 merged-table shown a (f .table pending (applied p .table) (a .steps .represents));

@@ -10,7 +10,7 @@ use Rattle.plain.specs.Plain.{Plain, applied, compactIfDue, unstaged}
 use Rattle.table.specs.declared.Header.{Header}
 use Rattle.table.specs.declared.Merge.{Merge}
 use Rattle.table.specs.Stores.{headerOf, rowStore, sortStore}
-use Rattle.table.specs.Promises.{Stores, stores, Represents, SlotsPast}
+use Rattle.table.specs.Promises.{Stores, stores, Represents, SlotsPast, WordsPast}
 use Rattle.merge.specs.Steps.{Steps, withCounts}
 
 -- ---- the passes over the pending records
@@ -49,4 +49,5 @@ module _ (m : Merge) (rows keys sorts live base : List ℕ) (r : Merge) (rows′
 
   pub record Finishing : Type 0 where
     pub past : SlotsPast (m .header .capacity) keys keys′
+    pub words-past : WordsPast (m .header .capacity) live live′ × WordsPast (m .header .capacity) base base′
     pub table : (pending : List ℕ) (p : Plain) → Represents p (stores (m .header) rows keys sorts pending) → FinishedTable pending p

@@ -18,8 +18,7 @@ use Rattle.offsets.specs.declared.SubsetAnswer.the-variants.{Refused, Ra
 use Rattle.offsets.specs.Subsets.{Subset, range, list, wellFormed, listOrNothing, intersect}
 use Rattle.offsets.specs.Answers.{subsetOf, answerOf, written, Answered, room, intersectRefusal, intersectReply}
 use Rattle.offsets.specs.Common.{Wrote, Fitting, Searchable, common}
-use Rattle.offsets.specs.Laws.{answered-list, formed-order, formed-rising, formed-short}
-use Rattle.offsets.proofs.Forms.{dense-is, sparse-is}
+use Rattle.offsets.specs.Laws.{dense-is, sparse-is, answered-list, formed-order, formed-rising, formed-short}
 
 -- ---- answers
 

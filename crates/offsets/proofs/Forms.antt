@@ -10,32 +10,24 @@ use borrow.Author.Tests.{le-leb, lt-leb}
 use Rattle.lists.specs.Lists.{rising}
 use Rattle.offsets.specs.declared.SubsetHead.{SubsetHead}
 use Rattle.offsets.specs.declared.BoundsAnswer.the-variants.{None, Ends}
-use Rattle.offsets.specs.Subsets.{range, list, wellFormed, size, lastOf, ends, bounds}
+use Rattle.offsets.specs.Subsets.{list, wellFormed, size, lastOf, ends, bounds}
 use Rattle.offsets.specs.Ends.{boundsOf}
-use Rattle.offsets.specs.Laws.{lastOf-getD}
+use Rattle.offsets.specs.Laws.{dense-is, sparse-is, lastOf-getD}
 use Rattle.offsets.specs.Answers.{subsetOf}
 use Rattle.offsets.specs.Common.{alike}
 
 module _ (head : SubsetHead) (ids : List ℕ) where
-  pub dense-is : head .dense ≡ true → subsetOf head ids ≡ range (head .start) (head .end)
-  unfolding subsetOf
-  dense-is e = rw e
-
-  pub sparse-is : head .dense ≡ false → subsetOf head ids ≡ list ids
-  unfolding subsetOf
-  sparse-is e = rw e
-
   pub formed-range : head .dense ≡ true → leb (head .start) (head .end) ≡ wellFormed (subsetOf head ids)
   unfolding wellFormed
-  formed-range e = rw (dense-is e)
+  formed-range e = rw (dense-is head ids e)
 
   pub formed-long : head .dense ≡ false → 65536 < length ids → false ≡ wellFormed (subsetOf head ids)
   unfolding wellFormed
-  formed-long e h = rw (sparse-is e, lt-leb (length ids) 65536 h) (sym (and-false (rising ids)))
+  formed-long e h = rw (sparse-is head ids e, lt-leb (length ids) 65536 h) (sym (and-false (rising ids)))
 
   pub formed-list : head .dense ≡ false → length ids ≤ 65536 → rising ids ≡ wellFormed (subsetOf head ids)
   unfolding wellFormed
-  formed-list e h = rw (sparse-is e, le-leb (length ids) 65536 h) (sym (and-true (rising ids)))
+  formed-list e h = rw (sparse-is head ids e, le-leb (length ids) 65536 h) (sym (and-true (rising ids)))
 
 -- ---- like lengths, half by half
 

@@ -3,7 +3,7 @@
 use Prim.Native.Nat.{ℕ, zero, suc, _+_, _-_, _≤_, _<_, min, max}
 use mathlib.Core.Path.{_≡_, refl, sym, ap, _∙_}
 use mathlib.Core.Logic.{inl, inr}
-use mathlib.Core.Bool.{Bool, true}
+use mathlib.Core.Bool.{Bool, true, false}
 use mathlib.Core.List.{List, [], _∷_}
 use native.Mathlib.Decide.{decLt, ℕ-discrete}
 use native.Mathlib.Omega.{arith}
@@ -15,11 +15,23 @@ use Rattle.lists.specs.Laws.Keep.{split, and-left, and-right, keep-same, keep-e
 use Rattle.lists.specs.Laws.Rising.{length-countFrom, getD-countFrom, rising-keep, rising-countFrom, rising-at, has-countFrom, keep-has-comm, keep-within-countFrom, neighbours-countFrom}
 use Rattle.lists.specs.Laws.Search.{take-put}
 use Rattle.refusals.specs.Refusals.{Reply, refused, accepted}
+use Rattle.offsets.specs.declared.SubsetHead.{SubsetHead}
 use Rattle.offsets.specs.declared.SubsetAnswer.{SubsetAnswer}
 use Rattle.offsets.specs.declared.SubsetAnswer.the-variants.{Range, List as Ids}
 use Rattle.offsets.specs.Subsets.{Subset, range, list, wellFormed, members, size, lastOf, endOf, listOrNothing, intersect, shaped, retain, narrowed}
-use Rattle.offsets.specs.Answers.{answerOf, readOff, written, Answered}
+use Rattle.offsets.specs.Answers.{subsetOf, answerOf, readOff, written, Answered}
 use Rattle.offsets.specs.Common.{Wrote}
+
+-- ---- a borrowed subset, by its kind
+
+module _ (head : SubsetHead) (ids : List ℕ) where
+  pub dense-is : head .dense ≡ true → subsetOf head ids ≡ range (head .start) (head .end)
+  unfolding subsetOf
+  dense-is e = rw e
+
+  pub sparse-is : head .dense ≡ false → subsetOf head ids ≡ list ids
+  unfolding subsetOf
+  sparse-is e = rw e
 
 -- ---- well-formed subsets
 

@@ -32,18 +32,35 @@ pub enum SubsetAnswer {
 
 pub const LONGEST_LIST: usize = 65536;
 
-// The ids rise strictly.
+// How many ids the test for rising goes on by at a time: few enough that the compiler unrolls a block's loop.
+const BLOCK: usize = 64;
+
+// The ids of a block rise strictly. All of them are looked at, with no return on the way, so that the test compiles to
+// vector code.
+fn is_block_rising(ids: &[u32]) -> bool
+    ensures { λ r. ⌜ r ≡ rising (now (ids .entry)) ⌝ }
+{
+    let mut rises = true;
+    let mut i = 1;
+    while i < ids.len() {
+        rises = rises & (ids[i - 1] < ids[i]);
+        i += 1;
+    }
+    rises
+}
+
+// The ids rise strictly: block by block up to the first that does not rise, each from the last id of the one before.
 pub fn is_rising(ids: &[u32]) -> bool
     ensures { λ r. ⌜ r ≡ rising (now (ids .entry)) ⌝ }
 {
-    let mut i = 1;
-    while i < ids.len() {
-        if ids[i] <= ids[i - 1] {
+    let mut at = 0;
+    while BLOCK < ids.len() - at {
+        if !is_block_rising(&ids[at..at + BLOCK + 1]) {
             return false;
         }
-        i += 1;
+        at += BLOCK;
     }
-    true
+    is_block_rising(&ids[at..])
 }
 
 pub fn is_well_formed(head: SubsetHead, ids: &[u32]) -> bool
@@ -457,7 +474,7 @@ pub fn push_id(output: &mut [u32], count: u32, id: u32) -> u32
 }
 
 // Writes the ids of a range to the start of the output.
-fn fill_from_dense(output: &mut [u32], start: u32, end: u32)
+pub fn fill_from_dense(output: &mut [u32], start: u32, end: u32)
     requires { ⌜ (start ≤ end) × (end - start ≤ length (now output)) ⌝ }
     ensures { λ _. ⌜ now (output .exit) ≡ putAt (now (output .entry)) 0 (countFrom start (end - start)) ⌝ }
 {

@@ -1,1 +1,3 @@
 pub mod Queries
+pub mod Sweeping
+pub mod Borrowed

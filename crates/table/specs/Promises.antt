@@ -1,6 +1,6 @@
 -- What each entry point promises: of every input, and of a table that shows a plain table. Each record is one function's
 -- `ensures`, over what the function is lent and what it leaves, and what a history of calls is made of. Assumes nothing.
-use Prim.Native.Nat.{ℕ, _+_, _*_, _<_}
+use Prim.Native.Nat.{ℕ, _+_, _*_, _/_, _<_}
 use mathlib.Core.Path.{_≡_}
 use mathlib.Core.Bool.{true, false, cond, not, _||_}
 use mathlib.Core.List.{List, []}
@@ -25,7 +25,6 @@ use Rattle.table.specs.declared.RangeAnswer.{RangeAnswer}
 use Rattle.table.specs.declared.Version.{Version}
 use Rattle.table.specs.declared.VersionAnswer.{VersionAnswer}
 use Rattle.table.specs.declared.SoundAnswer.{SoundAnswer}
-use Rattle.table.specs.declared.SoundAnswer.the-variants.{Sound as IsSound}
 use Rattle.table.specs.Numbers.{openingOf, Maybe, none, one, tableSays, mergeSays, rowSays, cellSays, rangeSays, versionSays, soundSays}
 use Rattle.table.specs.Refusing.{stageRefusal, mergeRefusal, compactRefusal, clearRefusal, lookupRefusal, cellRefusal, fastRefusal, versionRefusal, sinceRefusal, soundRefusal}
 use Rattle.table.specs.Stores.{headerOf, stored, rowStore, sortStore, recordWords, Shows}
@@ -67,8 +66,12 @@ headerMerged h (accepted m) = m .header
 abbrev pub SlotsPast : ℕ → List ℕ → List ℕ → Type 0
 SlotsPast capacity keys keys′ = drop (2 * capacity) keys′ ≡ drop (2 * capacity) keys
 
+-- compaction words past those needed are never written
+abbrev pub WordsPast : ℕ → List ℕ → List ℕ → Type 0
+WordsPast capacity words words′ = drop ((capacity + 63) / 64) words′ ≡ drop ((capacity + 63) / 64) words
+
 -- Where the choice is the program's: of the key store only soundness is promised, and that no slot past it is written; of
--- compaction words after a compaction nothing.
+-- the compaction words needed, after a compaction, nothing.
 
 -- the numbers given to an opening
 abbrev pub opening : ℕ → ℕ → ℕ → ℕ → ℕ → Opening
@@ -137,6 +140,7 @@ module _ (h : Header) (rows keys sorts pending live base : List ℕ) (answer : M
     pub unchanged : 0 < mergeRefusal h (lengths rows keys sorts pending live base)
         → (rows′ ≡ rows) × (keys′ ≡ keys) × (sorts′ ≡ sorts) × (live′ ≡ live) × (base′ ≡ base)
     pub past : SlotsPast (h .capacity) keys keys′
+    pub words-past : WordsPast (h .capacity) live live′ × WordsPast (h .capacity) base base′
     pub table : mergeRefusal h (lengths rows keys sorts pending live base) ≡ 0
         → (p : Plain) → Represents p (stores h rows keys sorts pending) → MergedTable p
 
@@ -153,6 +157,7 @@ module _ (h : Header) (rows keys sorts live base : List ℕ) (answer : TableAnsw
     pub unchanged : 0 < compactRefusal h (lengths rows keys sorts [] live base)
         → (rows′ ≡ rows) × (keys′ ≡ keys) × (sorts′ ≡ sorts) × (live′ ≡ live) × (base′ ≡ base)
     pub past : SlotsPast (h .capacity) keys keys′
+    pub words-past : WordsPast (h .capacity) live live′ × WordsPast (h .capacity) base base′
     pub table : compactRefusal h (lengths rows keys sorts [] live base) ≡ 0
         → (pending : List ℕ) (p : Plain) → Represents p (stores h rows keys sorts pending) → CompactedTable pending p
 
@@ -215,5 +220,5 @@ pub record RowsSince (h : Header) (row : ℕ) (answer : RangeAnswer) : Type 0 wh
 -- the soundness check: lent all stores. It "says yes exactly for sound stores"
 pub record Checked (h : Header) (rows keys sorts pending : List ℕ) (answer : SoundAnswer) : Type 0 where
   pub refusal : verdict (soundSays answer) ≡ ruling (soundRefusal h (length rows) (length keys) (length sorts) (length pending))
-  pub sound : answer ≡ IsSound true → (staged : List Staged) × Sound h rows keys sorts pending staged
-  pub unsound : answer ≡ IsSound false → (staged : List Staged) → Sound h rows keys sorts pending staged → ⊥
+  pub sound : soundSays answer ≡ accepted true → (staged : List Staged) × Sound h rows keys sorts pending staged
+  pub unsound : soundSays answer ≡ accepted false → (staged : List Staged) → Sound h rows keys sorts pending staged → ⊥

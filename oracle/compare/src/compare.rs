@@ -1,5 +1,6 @@
-//! Two judges on one history. The plain table is asked first; what it refuses changes nothing and is not asked of the
-//! other. All else must be the same: each answer, and after each call what can be seen of the whole table.
+//! Two judges on one history. The plain table is asked first; what it refuses changes nothing and is asked of the other only
+//! if that follows the paper in everything. All else must be the same: each answer, and after each call what can be seen of the
+//! whole table.
 
 use crate::counts::{Counts, is_held_back};
 use crate::guard::guarded;
@@ -7,10 +8,15 @@ use crate::history::{Act, Step, UNOPENED};
 use calls::{Answer, Call, Contents, DEAD, Judge, Lengths, Opening, Question, Subset};
 use plain::Plain;
 
-/// The other judge: how to make one, and the hash by which it tells keys apart in a removal by row.
+/// The other judge: how to make one, and what it may be asked.
 pub struct Rival<J> {
     pub make: fn() -> J,
+    /// The hash by which it tells keys apart in a removal by row.
     pub key_hash: fn(&[u32]) -> u32,
+    /// Whether it follows the paper in everything: refusals, stops, capacity, the last generation.
+    pub follows_paper: bool,
+    /// Whether it has this question.
+    pub has: fn(&Question) -> bool,
 }
 
 /// Where two judges differ: the step's place in the history and what each says.
@@ -93,6 +99,7 @@ impl<'a, J: Judge> Pair<'a, J> {
         let answer = self.plain.call(&step.lent, call);
         counts.step(&self.opening, step, &answer);
         if matches!(answer, Answer::Refused(_)) {
+            self.refused(step, call, &answer, counts)?;
             return Ok(answer);
         }
         let is_staging = self.note(call, counts);
@@ -102,7 +109,8 @@ impl<'a, J: Judge> Pair<'a, J> {
             self.watch(&answer, &after, counts);
             self.seen = after;
         }
-        if matches!(answer, Answer::Merged { status: 9, .. }) && self.following {
+        let is_stopped = matches!(answer, Answer::Merged { status: 9, .. });
+        if is_stopped && self.following && !self.rival.follows_paper {
             self.expect_panic(&step.lent, counts)?;
         }
         if self.following {
@@ -114,6 +122,22 @@ impl<'a, J: Judge> Pair<'a, J> {
             }
         }
         Ok(answer)
+    }
+
+    /// What the plain table refuses, the other must refuse too, if it follows the paper.
+    fn refused(
+        &mut self,
+        step: &Step,
+        call: &Call,
+        answer: &Answer,
+        counts: &mut Counts,
+    ) -> Result<(), Unlike> {
+        if !self.rival.follows_paper {
+            return Ok(());
+        }
+        counts.compared += 1;
+        let heard = guarded(|| self.other.call(&step.lent, call));
+        agree(&Ok(answer.clone()), &heard)
     }
 
     /// Keeps what an accepted call means for the comparison; says whether it is a staging.
@@ -142,6 +166,9 @@ impl<'a, J: Judge> Pair<'a, J> {
         let Answer::Merged { status, .. } = answer else {
             return;
         };
+        if self.rival.follows_paper {
+            return;
+        }
         let rows = std::mem::take(&mut self.rows_to_remove);
         for (row, key) in &rows {
             counts.row_removal(&self.seen, *row, key);
@@ -186,6 +213,18 @@ impl<'a, J: Judge> Pair<'a, J> {
         }
     }
 
+    /// Whether the other judge is asked this too.
+    fn is_asked(&self, question: &Question, answer: &Answer) -> bool {
+        if !(self.rival.has)(question) {
+            return false;
+        }
+        if self.rival.follows_paper {
+            return true;
+        }
+        let needs_no_table = matches!(question, Question::Intersect { .. });
+        !matches!(answer, Answer::Refused(_)) && (self.following || needs_no_table)
+    }
+
     fn ask(
         &mut self,
         step: &Step,
@@ -194,11 +233,10 @@ impl<'a, J: Judge> Pair<'a, J> {
     ) -> Result<Answer, Unlike> {
         let answer = self.plain.ask(&step.lent, asked);
         counts.step(&self.opening, step, &answer);
-        let needs_no_table = matches!(asked, Question::Intersect { .. });
-        if matches!(answer, Answer::Refused(_)) || !(self.following || needs_no_table) {
+        if !self.is_asked(asked, &answer) {
             return Ok(answer);
         }
-        if intersects_greatest_id(asked) {
+        if intersects_greatest_id(asked) && !self.rival.follows_paper {
             counts.feature("not asked: range with the greatest id");
             return Ok(answer);
         }
@@ -209,7 +247,7 @@ impl<'a, J: Judge> Pair<'a, J> {
     }
 }
 
-/// A known difference: of a list behind a range the Rust takes the last id plus one, which does not fit where that id
+/// A known difference of the Rust: of a list behind a range the Rust takes the last id plus one, which does not fit where that id
 /// is the greatest.
 fn intersects_greatest_id(question: &Question) -> bool {
     match question {

@@ -342,7 +342,7 @@ impl Counts {
                 .sum()
         };
         println!("{} calls, {} questions", total(0..7), total(7..17));
-        println!("{} answers compared with the Rust's", self.compared);
+        println!("{} answers compared with the other judge's", self.compared);
         for (kind, (name, _)) in KINDS.iter().enumerate() {
             let outcomes = self.steps.get(&kind).copied().unwrap_or_default();
             let refused = outcomes

@@ -1,5 +1,5 @@
-//! The comparison of the two judges, the plain table, written from the paper, and the carried-over Rust; and of the proved
-//! library with the Rust.
+//! The comparison of the two judges, the plain table, written from the paper, and the carried-over Rust; of the proved table
+//! with the plain one; and of the proved library's functions with the Rust's.
 
 mod compare;
 mod counts;
@@ -19,12 +19,14 @@ mod tests;
 mod text;
 
 use compare::Rival;
+use mouldgrey::ProvedTable;
 use rust_table::RustTable;
 use std::process::ExitCode;
 
 const USAGE: &str = "\
 usage: oracle                   the gate's run: all short histories, many by chance from a fixed seed, the proved library
        oracle run COUNT [SEED]  any number of histories by chance
+       oracle proved COUNT SEED the same for the proved table beside the plain one
        oracle record [SEED]     prints the recorded list
        oracle replay FILE       checks a recorded list against both judges
        oracle bench             measures the proved library beside the Rust (build it with --release)";
@@ -32,6 +34,15 @@ usage: oracle                   the gate's run: all short histories, many by cha
 const RUST: Rival<RustTable> = Rival {
     make: RustTable::new,
     key_hash: rust_table::key_hash,
+    follows_paper: false,
+    has: |_| true,
+};
+
+const PROVED: Rival<ProvedTable> = Rival {
+    make: ProvedTable::new,
+    key_hash: mouldgrey::compact_hash,
+    follows_paper: true,
+    has: ProvedTable::has,
 };
 
 fn main() -> ExitCode {
@@ -52,6 +63,7 @@ fn command(arguments: &[&str]) -> Result<(), String> {
         [] => gate(),
         ["run", count] => run::run(&RUST, number(count)?, 0),
         ["run", count, seed] => run::run(&RUST, number(count)?, number(seed)?),
+        ["proved", count, seed] => run::run(&PROVED, number(count)?, number(seed)?),
         ["record"] => record(record::SEED),
         ["record", seed] => record(number(seed)?),
         ["replay", file] => replay(file),
@@ -65,6 +77,8 @@ fn command(arguments: &[&str]) -> Result<(), String> {
 
 fn gate() -> Result<(), String> {
     run::gate(&RUST)?;
+    println!("the proved library and the plain table:");
+    println!("  {}", run::gate_proved(&PROVED)?);
     println!("the proved library and the Rust:");
     for line in proved::compare()? {
         println!("  {line}");

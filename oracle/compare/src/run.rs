@@ -13,7 +13,7 @@ use std::thread;
 
 /// The gate's seed and number of histories by chance.
 const GATE_SEED: u64 = 20_260_901;
-const GATE_COUNT: u64 = 100_000;
+const GATE_COUNT: u64 = 60_000;
 
 /// A history in which the judges differ, and where it came from.
 struct Found {
@@ -21,21 +21,36 @@ struct Found {
     history: Vec<Step>,
 }
 
-/// The gate's run: all short histories, a fixed number by chance, the known differences. Every case must be seen.
-pub fn gate<J: Judge>(rival: &Rival<J>) -> Result<(), String> {
+/// The gate's run: all short histories and a fixed number by chance.
+fn histories<J: Judge>(rival: &Rival<J>) -> Result<Counts, String> {
     let mut counts = Counts::default();
     in_parts(rival, &mut counts, &short_part)?;
     in_parts(rival, &mut counts, &|rival, part, counts, stop| {
         chance_part(rival, (0, GATE_COUNT, GATE_SEED), part, counts, stop)
     })?;
+    Ok(counts)
+}
+
+/// The gate's run against the Rust, with the known differences. Every case must be seen.
+pub fn gate<J: Judge>(rust: &Rival<J>) -> Result<(), String> {
+    let counts = histories(rust)?;
     counts.print();
-    for line in known::check(rival)? {
+    for line in known::check(rust)? {
         println!("  {line}");
     }
     match counts.missing(&GATE, |_| true).as_slice() {
         [] => Ok(()),
         missing => Err(format!("never seen: {missing:?}")),
     }
+}
+
+/// The same histories against the proved table: every answer, refusals and stops too.
+pub fn gate_proved<J: Judge>(proved: &Rival<J>) -> Result<String, String> {
+    let counts = histories(proved)?;
+    Ok(format!(
+        "tables: {} histories by chance, {} short ones, {} answers",
+        counts.histories, counts.short_histories, counts.compared
+    ))
 }
 
 /// Any number of histories by chance from a seed.

@@ -83,7 +83,12 @@ fn rival(make: fn() -> Faulty) -> Rival<Faulty> {
         let step = |hash: u32, cell: &u32| hash.wrapping_mul(0x0100_0193) ^ cell;
         key.iter().fold(7, step)
     };
-    Rival { make, key_hash }
+    Rival {
+        make,
+        key_hash,
+        follows_paper: false,
+        has: |_| true,
+    }
 }
 
 /// The smallest history, as lines, in which the fault shows.

@@ -2,6 +2,7 @@
 
 mod keys;
 mod offsets;
+mod tables;
 mod time;
 
 /// A line for each thing measured.
@@ -9,4 +10,5 @@ pub fn bench() {
     println!("times of the proved library and of the Rust, in nanoseconds, and their ratio");
     offsets::intersect();
     keys::index();
+    tables::operations();
 }

@@ -20,6 +20,27 @@ pub fn nanoseconds<R>(mut work: impl FnMut() -> R) -> f64 {
     least
 }
 
+/// Nanoseconds for work that uses up what it works on: the least of some rounds, making it anew not counted.
+pub fn nanoseconds_anew<S>(mut make: impl FnMut() -> S, mut work: impl FnMut(&mut S)) -> f64 {
+    let mut least = f64::INFINITY;
+    for _ in 0..20 {
+        let mut made = make();
+        let start = Instant::now();
+        work(&mut made);
+        least = least.min(start.elapsed().as_nanos() as f64);
+        black_box(&made);
+    }
+    least
+}
+
+/// Prints a line.
+pub fn tell(name: &str, ours: f64, theirs: f64) {
+    println!(
+        "  {name:52} {ours:12.1} {theirs:12.1} {:7.2}",
+        ours / theirs
+    );
+}
+
 /// Measures both in turn and prints a line.
 pub fn compare<R, S>(name: &str, ours: impl FnMut() -> R, theirs: impl FnMut() -> S) {
     compare_each(name, 1, ours, theirs);
@@ -32,10 +53,10 @@ pub fn compare_each<R, S>(
     ours: impl FnMut() -> R,
     theirs: impl FnMut() -> S,
 ) {
-    let ours = nanoseconds(ours) / pieces as f64;
-    let theirs = nanoseconds(theirs) / pieces as f64;
-    println!(
-        "  {name:52} {ours:12.1} {theirs:12.1} {:7.2}",
-        ours / theirs
+    let pieces = pieces as f64;
+    tell(
+        name,
+        nanoseconds(ours) / pieces,
+        nanoseconds(theirs) / pieces,
     );
 }

@@ -1,7 +1,10 @@
 //! The proved library as Rust calls it. Nothing checks these declarations against the Rattle source, so there is one for
 //! each exported function and a safe function over it; a slice passes as a pointer and a length.
 
+mod table;
+
 use calls::{Condition, Subset};
+pub use table::ProvedTable;
 
 mod exported {
     unsafe extern "C" {
@@ -236,6 +239,18 @@ pub enum SubsetAnswer {
     List(u32),
 }
 
+impl SubsetAnswer {
+    /// The answer that three words tell.
+    fn told(words: [u32; 3]) -> SubsetAnswer {
+        match words {
+            [0, number, 0] => SubsetAnswer::Refused(number),
+            [1, start, end] => SubsetAnswer::Range(start, end),
+            [2, count, 0] => SubsetAnswer::List(count),
+            _ => panic!("no answer: {words:?}"),
+        }
+    }
+}
+
 /// A subset as it is passed: kind, two ends, ids.
 fn parts(subset: &Subset) -> (bool, u32, u32, &[u32]) {
     match subset {
@@ -267,12 +282,8 @@ pub fn intersect(first: &Subset, second: &Subset, output: &mut [u32]) -> SubsetA
             words.len(),
         )
     };
-    match (done, words) {
-        (true, [0, number, 0]) => SubsetAnswer::Refused(number),
-        (true, [1, start, end]) => SubsetAnswer::Range(start, end),
-        (true, [2, count, 0]) => SubsetAnswer::List(count),
-        _ => panic!("no answer: {words:?}"),
-    }
+    assert!(done, "no answer: {words:?}");
+    SubsetAnswer::told(words)
 }
 
 /// A table's numbers, as its key index goes by them.

@@ -246,7 +246,7 @@ live-cells-of (p ∷ ps) (row ∷ rows) n f =
       | inr e ↦ rw (← s .live, e, ih)
     ]
 
-module _ (h : Header) (rows sorts : List ℕ) (kept : Kept) (rows′ sorts′ live′ base′ : List ℕ) (c : Closed h rows sorts kept rows′ sorts′ live′ base′)
+module _ (h : Header) (rows sorts live base : List ℕ) (kept : Kept) (rows′ sorts′ live′ base′ : List ℕ) (c : Closed h rows sorts live base kept rows′ sorts′ live′ base′)
     (fits : h .rows * h .columns ≤ length rows) where
   closed-fits : 0 + length (flat (closedRows h rows)) ≤ length rows
   closed-fits = omega (arith, flat-below (h .columns) (h .rows) rows fits)
@@ -286,7 +286,7 @@ module _ (h : Header) (rows sorts : List ℕ) (kept : Kept) (rows′ sorts′ li
       }
 
 module _ (h : Header) (rows keys sorts live base : List ℕ) (lent : Lendable h rows keys sorts live base) (kept : Kept) (rows′ sorts′ live′ base′ : List ℕ)
-    (c : Closed h rows sorts kept rows′ sorts′ live′ base′) where
+    (c : Closed h rows sorts live base kept rows′ sorts′ live′ base′) where
   abbrev keys′ : List ℕ
   keys′ = mapFront (renumbered (keyedOf h) live′ base′) (slots (keyedOf h)) keys
 
@@ -294,7 +294,7 @@ module _ (h : Header) (rows keys sorts live base : List ℕ) (lent : Lendable h 
   rows-fit = omega (arith, lent .fits .cells, mul-le-mul-right (h .columns) (lent .fits .count))
 
   same-rows : length rows′ ≡ length rows
-  same-rows = rw (c .rows-after) (length-putAt rows (flat (closedRows h rows)) 0 (closed-fits h rows sorts kept rows′ sorts′ live′ base′ c rows-fit))
+  same-rows = rw (c .rows-after) (length-putAt rows (flat (closedRows h rows)) 0 (closed-fits h rows sorts live base kept rows′ sorts′ live′ base′ c rows-fit))
 
   same-sorts : length sorts′ ≡ length sorts
   same-sorts =
@@ -330,7 +330,7 @@ module _ (h : Header) (rows keys sorts live base : List ℕ) (lent : Lendable h 
         rw (kept-count, c .entries-counted, kept-entries, r .shown .header, dead-compacted p) (unfold compacted in refl)
 
     rows-read : rowsOf (h .columns) (kept .rows) rows′ ≡ closedRows h rows
-    rows-read = closed-read h rows sorts kept rows′ sorts′ live′ base′ c rows-fit
+    rows-read = closed-read h rows sorts live base kept rows′ sorts′ live′ base′ c rows-fit
 
     long-after : storesShort (p .opening) (lengths rows′ keys′ sorts′ pending [] []) ≡ false
     unfolding storesShort
@@ -352,7 +352,7 @@ module _ (h : Header) (rows keys sorts live base : List ℕ) (lent : Lendable h 
           long-enough = unfold compacted in long-after;
           shown = shown-after;
           keyed = renumber-sound (keyedOf h) rows (keyedOf (closedHeader h kept)) rows′ live′ base′
-              (closed-numbers h rows sorts kept rows′ sorts′ live′ base′ c rows-fit) keys (small (keyedOf h) rows keys (lent .fits)) (lent .fits .long) (r .keyed);
+              (closed-numbers h rows sorts live base kept rows′ sorts′ live′ base′ c rows-fit) keys (small (keyedOf h) rows keys (lent .fits)) (lent .fits .long) (r .keyed);
         }
 
     closed-up : ClosedUp h rows keys sorts (closedHeader h kept) rows′ keys′ sorts′ pending p
@@ -366,9 +366,10 @@ module _ (h : Header) (rows keys sorts live base : List ℕ) (lent : Lendable h 
         }
 
   -- a compaction, once the live rows have closed up and the key store has their new numbers
-  pub compaction : h .generation < 4294967295 → Compaction h rows keys sorts (closedHeader h kept) rows′ keys′ sorts′
+  pub compaction : h .generation < 4294967295 → Compaction h rows keys sorts live base (closedHeader h kept) rows′ keys′ sorts′ live′ base′
   compaction g =
       record {
         past = drop-mapFront (renumbered (keyedOf h) live′ base′) (slots (keyedOf h)) keys;
+        words-past = c .words-past;
         table = λ pending p r. closed-up pending p r g;
       }

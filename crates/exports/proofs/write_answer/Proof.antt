@@ -1,21 +1,9 @@
 -- `exports::write_answer` meets its contract. Assumes nothing.
-use Prim.Native.Nat.{ℕ}
-use mathlib.Core.Path.{_≡_, refl}
-use mathlib.Core.List.{List, [], _∷_}
-use native.Mathlib.Omega.{arith}
-use lib.ListN.{length, set}
 use borrow.Author.Needs.{needs}
 use Rattle.exports.specs.Words.{subsetWords}
+use Rattle.exports.proofs.Written.{three}
 use Rattle.exports.proofs.write_answer.Statement.{statement}
 use Rattle.exports.proofs.write_answer.Tie as tie
-
--- three words, all written
-three : (l : List ℕ) (a b d : ℕ) → length l ≡ 3 → set (set (set l 0 a) 1 b) 2 d ≡ a ∷ b ∷ d ∷ []
-three [] a b d e = absurd (omega arith)
-three (x ∷ []) a b d e = absurd (omega arith)
-three (x ∷ (y ∷ [])) a b d e = absurd (omega arith)
-three (x ∷ (y ∷ (z ∷ []))) a b d e = refl
-three (x ∷ (y ∷ (z ∷ (w ∷ l)))) a b d e = absurd (omega arith)
 
 enum-known-answer : tie.Need-enum-known-answer
 enum-known-answer c = search needs

@@ -1,11 +1,12 @@
--- Laws of Booleans and of tests that all elements of a list pass. Assumes nothing.
-use Prim.Native.Nat.{ℕ, zero, suc, _<_, suc-le-suc}
-use mathlib.Core.Path.{_≡_, refl, sym}
-use mathlib.Core.Bool.{Bool, true, false, not, _&&_, _||_, false≢true}
+-- Laws of Booleans and of tests that all elements of a list pass, or one. Assumes nothing.
+use Prim.Native.Nat.{ℕ, zero, suc, _+_, _<_, suc-le-suc}
+use mathlib.Core.Path.{_≡_, refl, sym, ap, _∙_}
+use mathlib.Core.Bool.{Bool, true, false, not, _&&_, _||_, and-true, and-assoc, false≢true}
 use mathlib.Core.List.{List, [], _∷_, _++_, map}
+use native.Mathlib.Numerals.{add-one}
 use native.Mathlib.Omega.{arith}
-use lib.ListN.{length, getD}
-use Rattle.lists.specs.Lists.{keep, count, every}
+use lib.ListN.{length, drop, getD}
+use Rattle.lists.specs.Lists.{keep, count, every, some}
 use Rattle.lists.specs.Laws.Keep.{and-left, and-right, keep-every, every-keep}
 
 -- both hold
@@ -89,3 +90,20 @@ module _ {A B : Type 0} where
   count-alike s t d e [] (y ∷ ys) n f = absurd (omega arith)
   count-alike s t d e (x ∷ xs) [] n f = absurd (omega arith)
   count-alike s t d e (x ∷ xs) (y ∷ ys) n f = rw (f 0 (omega arith), count-alike s t d e xs ys (omega arith) (λ i h. f (suc i) (suc-le-suc h)))
+
+module _ {A : Type 0} (test : A → Bool) where
+  -- one more at the end, whether all pass or not
+  pub every-more : (xs : List A) (x : A) → every test (xs ++ (x ∷ [])) ≡ (every test xs && test x)
+  unfolding every
+  every-more [] x = and-true (test x)
+  every-more (y ∷ xs) x = ap (λ (b : Bool). test y && b) (every-more xs x) ∙ sym (and-assoc (test y) (every test xs) (test x))
+
+  some-suc : (d : A) (xs : List A) (i : ℕ) → i < length xs → some test (drop i xs) ≡ (test (getD xs i d) || some test (drop (suc i) xs))
+  unfolding some
+  some-suc d [] i h = absurd (omega arith)
+  some-suc d (x ∷ xs) zero h = refl
+  some-suc d (x ∷ xs) (suc i) h = some-suc d xs i (omega arith)
+
+  -- from a place on, the element there passes or one after it
+  pub some-step : (d : A) (xs : List A) (i : ℕ) → i < length xs → some test (drop i xs) ≡ (test (getD xs i d) || some test (drop (i + 1) xs))
+  some-step d xs i h = rw (add-one i) (some-suc d xs i h)

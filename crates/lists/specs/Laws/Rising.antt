@@ -2,7 +2,7 @@
 use Prim.Native.Nat.{ℕ, zero, suc, _+_, _-_, _≤_, _<_, min, max, suc-le-suc}
 use mathlib.Core.Path.{_≡_, refl, sym, ap, ap₂, _∙_}
 use mathlib.Core.Logic.{_⊎_, inl, inr}
-use mathlib.Core.Bool.{Bool, true, false, _&&_, _||_, and-comm, and-false, or-assoc, false≢true}
+use mathlib.Core.Bool.{Bool, true, false, _&&_, _||_, and-assoc, and-comm, and-true, and-false, or-assoc, false≢true}
 use mathlib.Core.List.{List, [], _∷_, _++_}
 use native.Mathlib.Nat.{zero-add, add-zero, suc-add, add-suc, zero-min, min-zero, suc-min-suc, zero-sub, sub-zero, suc-sub-suc}
 use native.Mathlib.Decide.{decLt, ℕ-discrete}
@@ -89,6 +89,10 @@ above-tail x y ys e = and-right (ltb x y) _ e
 pub above-cons : (x y : ℕ) (ys : List ℕ) → x < y → above y ys ≡ true → above x (y ∷ ys) ≡ true
 unfolding above
 above-cons x y ys h e = rw (lt-ltb x y h, e)
+
+above-past : (x y : ℕ) (ys : List ℕ) → x < y → above x (y ∷ ys) ≡ above y ys
+unfolding above
+above-past x y ys h = rw (lt-ltb x y h)
 
 pub above-rising : (x : ℕ) (l : List ℕ) → above x l ≡ true → rising l ≡ true
 unfolding rising
@@ -179,6 +183,35 @@ pub rising-drop : (n : ℕ) (l : List ℕ) → rising l ≡ true → rising (dro
 rising-drop zero l e = e
 rising-drop (suc n) [] e = e
 rising-drop (suc n) (x ∷ xs) e = rising-drop n xs (rising-tail x xs e)
+
+rising-take-suc : (n : ℕ) (l : List ℕ) → suc n < length l → rising (take (suc (suc n)) l) ≡ (rising (take (suc n) l) && ltb (getD l n 0) (getD l (suc n) 0))
+unfolding rising above
+rising-take-suc n [] h = absurd (omega arith)
+rising-take-suc n (x ∷ []) h = absurd (omega arith)
+rising-take-suc zero (x ∷ y ∷ ys) h = and-true (ltb x y)
+rising-take-suc (suc n) (x ∷ y ∷ ys) h =
+    ap (λ (b : Bool). ltb x y && b) (rising-take-suc n (y ∷ ys) (omega arith)) ∙ sym (and-assoc (ltb x y) (rising (take (suc n) (y ∷ ys))) _)
+
+-- one number more
+pub rising-take-more : (i : ℕ) (l : List ℕ) → 1 ≤ i → i < length l → rising (take (i + 1) l) ≡ (rising (take i l) && ltb (getD l (i - 1) 0) (getD l i 0))
+rising-take-more zero l o h = absurd (omega arith)
+rising-take-more (suc n) l o h = rw add-one (let z : suc n - 1 ≡ n = omega arith in rw z (rising-take-suc n l h))
+
+pub rising-take-one : (l : List ℕ) → rising (take 1 l) ≡ true
+unfolding rising above
+rising-take-one [] = refl
+rising-take-one (x ∷ xs) = refl
+
+rising-past-suc : (n : ℕ) (l : List ℕ) → n < length l → rising (take (suc n) l) ≡ true → rising l ≡ rising (drop n l)
+unfolding rising
+rising-past-suc zero l h e = refl
+rising-past-suc (suc n) [] h e = absurd (omega arith)
+rising-past-suc (suc n) (x ∷ []) h e = absurd (omega arith)
+rising-past-suc (suc n) (x ∷ y ∷ ys) h e = above-past x y ys (above-head x y (take n ys) e) ∙ rising-past-suc n (y ∷ ys) (omega arith) (above-tail x y (take n ys) e)
+
+-- two parts that meet in the number at place n: where the first rises, the second decides
+pub rising-past : (n : ℕ) (l : List ℕ) → n < length l → rising (take (n + 1) l) ≡ true → rising l ≡ rising (drop n l)
+rising-past n l h e = rising-past-suc n l h (rw add-one at e)
 
 -- ---- members
 

@@ -1,0 +1,52 @@
+-- `replay::call_length` meets its contract. Assumes nothing.
+use Prim.Native.Nat.{_+_}
+use native.Mathlib.Omega.{arith}
+use Rattle.replay.specs.Laws.Encoding.{length-end, length-cut, length-whole}
+use borrow.Author.Needs.{needs}
+use Rattle.replay.proofs.call_length.Statement.{statement}
+use Rattle.replay.proofs.call_length.Tie as tie
+
+sub-left : tie.Need-sub-left
+sub-left c = search needs
+
+returns : tie.Need-returns
+returns c = length-end _ _ (c .before .pre) (c .if1 .taken)
+
+add-count : tie.Need-add-count
+add-count c = search needs
+
+mul-count : tie.Need-mul-count
+mul-count c = search needs
+
+shared-slice-read-count : tie.Need-shared-slice-read-count
+shared-slice-read-count c = search needs
+
+cast-count : tie.Need-cast-count
+cast-count c = omega (arith, c .shared-slice-known .given (c .before .before .args .at + 1))
+
+add-if2 : tie.Need-add-if2
+add-if2 c = omega (arith, c .shared-slice-known .given (c .before .before .args .at + 1))
+
+returns-2 : tie.Need-returns-2
+returns-2 c = length-cut _ _ (c .before .before .before .pre) (c .if2 .taken)
+
+add-result : tie.Need-add-result
+add-result c = search needs
+
+returns-3 : tie.Need-returns-3
+returns-3 c = length-whole _ _ (c .before .before .before .pre) (c .if2 .left)
+
+pub call-length-spec : {M : Type 1} → statement M
+call-length-spec =
+    tie.close
+    (tie.spec
+    sub-left
+    returns
+    add-count
+    mul-count
+    shared-slice-read-count
+    cast-count
+    add-if2
+    returns-2
+    add-result
+    returns-3)

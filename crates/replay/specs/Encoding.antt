@@ -1,0 +1,37 @@
+-- An encoding of lists of calls as words: each call a kind, a count and so many words. Every list of words is one; what is
+-- no call is passed over. Assumes nothing.
+use Prim.Native.Nat.{ℕ, zero, suc}
+use mathlib.Core.Bool.{cond}
+use mathlib.Core.List.{List, [], _∷_, _++_}
+use lib.ListN.{length, take}
+use lib.Dec.{leb, eqb}
+use Rattle.plain.specs.Staged.{insert, removeKey, removeRow}
+use Rattle.plain.specs.Calls.{Call, staging, merging, compacting, clearing}
+
+-- a removal by row: the row, then the key; without a row no call
+unfoldable pub rowRemoval : List ℕ → List Call
+rowRemoval [] = []
+rowRemoval (row ∷ key) = staging (removeRow row key) ∷ []
+
+-- the call of a kind and its words: kind 0 an insert of these cells, 1 a removal by this key, 2 a removal by row, 3 a merge,
+-- 4 a compaction, 5 a clear, whose words count for nothing; any other kind is no call
+unfoldable pub callOf : ℕ → List ℕ → List Call
+callOf kind words =
+    cond (eqb kind 0)
+    (staging (insert words) ∷ [])
+    (cond (eqb kind 1)
+    (staging (removeKey words) ∷ [])
+    (cond (eqb kind 2)
+    (rowRemoval words)
+    (cond (eqb kind 3) (merging ∷ []) (cond (eqb kind 4) (compacting ∷ []) (cond (eqb kind 5) (clearing ∷ []) [])))))
+
+-- the calls of the words after the first n, which belong to the call before; one that is cut off ends the list
+unfoldable pub decodedAfter : ℕ → List ℕ → List Call
+decodedAfter n [] = []
+decodedAfter (suc n) (word ∷ words) = decodedAfter n words
+decodedAfter zero (kind ∷ []) = []
+decodedAfter zero (kind ∷ count ∷ words) =
+    cond (leb count (length words)) (callOf kind (take count words) ++ decodedAfter count words) []
+
+abbrev pub decoded : List ℕ → List Call
+decoded words = decodedAfter 0 words

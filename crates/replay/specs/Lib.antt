@@ -1,0 +1,4 @@
+pub mod Encoding
+pub mod Replaying
+pub mod Laws
+pub mod Theorem

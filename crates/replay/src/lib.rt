@@ -1,0 +1,133 @@
+// Lists of calls, read from words and made one after another on lent stores: what is claimed of histories holds of running
+// code.
+ghost use mathlib.Core.Path.{_≡_};
+ghost use Prim.Native.Nat.{_≤_};
+ghost use lib.ListN.{length};
+ghost use Rattle.table.specs.Numbers.{tableSays, mergeSays};
+ghost use Rattle.table.specs.Promises.{headerAfter, headerMerged, stores, lengths};
+ghost use Rattle.replay.specs.Encoding.{callOf, decoded};
+ghost use Rattle.replay.specs.Replaying.{CallLength, Made, MadeOnPending, Replayed};
+use compaction::compact;
+use merge::merge;
+use table::Header;
+use table::MergeAnswer;
+use table::TableAnswer;
+use table::opening::clear;
+use table::staging::stage_insert;
+use table::staging::stage_remove;
+use table::staging::stage_remove_row;
+
+// The words of the call at a place, its kind and count among them; 0 if none stands there whole.
+fn call_length(calls: &[u32], at: usize) -> usize
+    requires { ⌜ at ≤ length (now calls) ⌝ }
+    ensures { λ r. ⌜ CallLength (now (calls .entry)) at r ⌝ }
+{
+    let left = calls.len() - at;
+    if left < 2 {
+        return 0;
+    }
+    let count = calls[at + 1] as usize;
+    if left < count + 2 {
+        return 0;
+    }
+    count + 2
+}
+
+// A refused call leaves the header as it was.
+fn header_after(h: Header, answer: TableAnswer) -> Header
+    ensures { λ r. ⌜ r ≡ headerAfter h (tableSays answer) ⌝ }
+{
+    match answer {
+        TableAnswer::Refused(_) => h,
+        TableAnswer::Table(n) => n,
+    }
+}
+
+fn header_merged(h: Header, answer: MergeAnswer) -> Header
+    ensures { λ r. ⌜ r ≡ headerMerged h (mergeSays answer) ⌝ }
+{
+    match answer {
+        MergeAnswer::Refused(_) => h,
+        MergeAnswer::Merged(m) => m.header,
+    }
+}
+
+// Kinds 0 to 2, which need the pending store alone.
+fn stage(h: Header, kind: u32, cells: &[u32], pending: &mut [u32]) -> Header
+    requires { ⌜ kind ≤ 2 ⌝ }
+    ensures { λ r. ⌜ MadeOnPending (callOf kind (now (cells .entry))) h (now (pending .entry)) r (now (pending .exit)) ⌝ }
+{
+    if kind == 0 {
+        return header_after(h, stage_insert(h, pending, cells));
+    }
+    if kind == 1 {
+        return header_after(h, stage_remove(h, pending, cells));
+    }
+    if cells.len() == 0 {
+        return h;
+    }
+    header_after(h, stage_remove_row(h, pending, cells[0], &cells[1..]))
+}
+
+// One call.
+fn make_call(
+    h: Header,
+    kind: u32,
+    cells: &[u32],
+    rows: &mut [u32],
+    keys: &mut [u32],
+    sorts: &mut [u32],
+    pending: &mut [u32],
+    live: &mut [u64],
+    base: &mut [u32],
+) -> Header
+    ensures { λ r. ⌜ Made (callOf kind (now (cells .entry))) (lengths (now (rows .entry)) (now (keys .entry)) (now (sorts .entry)) (now (pending .entry)) (now (live .entry)) (now (base .entry))) (stores h (now (rows .entry)) (now (keys .entry)) (now (sorts .entry)) (now (pending .entry))) (stores r (now (rows .exit)) (now (keys .exit)) (now (sorts .exit)) (now (pending .exit))) ⌝ }
+{
+    if kind <= 2 {
+        return stage(h, kind, cells, pending);
+    }
+    if kind == 3 {
+        return header_merged(h, merge(h, rows, keys, sorts, pending, live, base));
+    }
+    if kind == 4 {
+        return header_after(h, compact(h, rows, keys, sorts, live, base));
+    }
+    if kind == 5 {
+        return header_after(h, clear(h, keys));
+    }
+    h
+}
+
+// All calls, in order; a refused one leaves all as it is.
+pub fn replay(
+    h: Header,
+    calls: &[u32],
+    rows: &mut [u32],
+    keys: &mut [u32],
+    sorts: &mut [u32],
+    pending: &mut [u32],
+    live: &mut [u64],
+    base: &mut [u32],
+) -> Header
+    ensures { λ r. ⌜ Replayed (decoded (now (calls .entry))) (lengths (now (rows .entry)) (now (keys .entry)) (now (sorts .entry)) (now (pending .entry)) (now (live .entry)) (now (base .entry))) (stores h (now (rows .entry)) (now (keys .entry)) (now (sorts .entry)) (now (pending .entry))) (stores r (now (rows .exit)) (now (keys .exit)) (now (sorts .exit)) (now (pending .exit))) ⌝ }
+{
+    let mut n = h;
+    let mut at: usize = 0;
+    let mut words = call_length(calls, at);
+    while words != 0 {
+        n = make_call(
+            n,
+            calls[at],
+            &calls[at + 2..at + words],
+            rows,
+            keys,
+            sorts,
+            pending,
+            live,
+            base,
+        );
+        at += words;
+        words = call_length(calls, at);
+    }
+    n
+}
