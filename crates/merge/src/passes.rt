@@ -122,25 +122,24 @@ fn insert_next(
     let n = m.header;
     let hash = pending[start + 1];
     let one = insert_row(n, rows, keys, sorts, pending, at + 2, hash);
+    let mut r = m;
     match one {
-        Insertion::Kept => Merge {
-            header: n,
-            status: 0,
-            place: m.place + 1,
-            added: m.added,
-        },
-        Insertion::Appended(next) => Merge {
-            header: next,
-            status: 0,
-            place: m.place + 1,
-            added: true,
-        },
-        Insertion::Stopped(number) => Merge {
-            header: n,
-            status: number,
-            place: m.place,
-            added: m.added,
-        },
+        Insertion::Kept => {
+            r.status = 0;
+            r.place = m.place + 1;
+            r
+        }
+        Insertion::Appended(next) => {
+            r.header = next;
+            r.status = 0;
+            r.place = m.place + 1;
+            r.added = true;
+            r
+        }
+        Insertion::Stopped(number) => {
+            r.status = number;
+            r
+        }
     }
 }
 

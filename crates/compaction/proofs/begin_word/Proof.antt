@@ -1,4 +1,4 @@
--- `table::compaction::begin_word` meets its contract. Assumes nothing.
+-- `compaction::begin_word` meets its contract. Assumes nothing.
 use borrow.Author.Needs.{needs}
 use Rattle.compaction.proofs.CompactionSteps.{begun-first, begun-later}
 use Rattle.compaction.proofs.begin_word.Statement.{statement}

@@ -1,4 +1,4 @@
--- `table::compaction::close_up` meets its contract: the turns of its loop are those of `Closing`. Assumes nothing.
+-- `compaction::close_up` meets its contract: the turns of its loop are those of `Closing`. Assumes nothing.
 use Prim.Native.Nat.{_-_}
 use mathlib.Core.Path.{sym, _∙_}
 use native.Mathlib.Omega.{arith}

@@ -1,4 +1,4 @@
--- `table::compaction::compact_rows` meets its contract. Assumes nothing.
+-- `compaction::compact_rows` meets its contract. Assumes nothing.
 use native.Mathlib.Omega.{arith}
 use borrow.Author.Needs.{needs}
 use Rattle.compaction.proofs.CompactionSteps.{closable, can-renumber, compact-end}

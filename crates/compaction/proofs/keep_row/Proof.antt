@@ -1,4 +1,4 @@
--- `table::compaction::keep_row` meets its contract. Assumes nothing.
+-- `compaction::keep_row` meets its contract. Assumes nothing.
 use native.Mathlib.Omega.{arith}
 use borrow.Author.Needs.{needs}
 use Rattle.compaction.proofs.CompactionSteps.{from-place, to-place, row-kept}

@@ -1,4 +1,4 @@
--- `table::merging::apply_pending` meets its contract. Assumes nothing.
+-- `merge::apply_pending` meets its contract. Assumes nothing.
 use native.Mathlib.Omega.{arith}
 use borrow.Author.Needs.{needs}
 use Rattle.merge.proofs.MergingSteps.{second-ready, third-ready, passed}

@@ -1,4 +1,4 @@
--- `table::merging::finish` meets its contract. Assumes nothing.
+-- `merge::finish` meets its contract. Assumes nothing.
 use mathlib.Core.Path.{sym, _∙_}
 use native.Mathlib.Omega.{arith}
 use borrow.Author.Needs.{needs}

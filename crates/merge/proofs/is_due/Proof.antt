@@ -1,4 +1,4 @@
--- `table::merging::is_due` meets its contract. Assumes nothing.
+-- `merge::is_due` meets its contract. Assumes nothing.
 use Rattle.merge.proofs.MergingSteps.{due-last, due-few, due-half}
 use Rattle.merge.proofs.is_due.Statement.{statement}
 use Rattle.merge.proofs.is_due.Tie as tie

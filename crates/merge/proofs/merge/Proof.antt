@@ -1,4 +1,4 @@
--- `table::merging::merge` meets its contract. Assumes nothing.
+-- `merge::merge` meets its contract. Assumes nothing.
 use borrow.Author.Needs.{needs}
 use Rattle.merge.proofs.MergingSteps.{merge-refused, merge-ready, merge-lendable, merge-done}
 use Rattle.merge.proofs.merge.Statement.{statement}

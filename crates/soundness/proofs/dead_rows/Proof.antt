@@ -1,4 +1,4 @@
--- `table::checking::dead_rows` meets its contract. Assumes nothing.
+-- `soundness::dead_rows` meets its contract. Assumes nothing.
 use Prim.Native.Nat.{ℕ, _+_, _-_, _≤_, _<_}
 use mathlib.Core.Path.{_≡_, refl, sym, ap, _∙_}
 use native.Mathlib.Omega.{arith}

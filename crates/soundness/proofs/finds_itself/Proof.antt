@@ -1,4 +1,4 @@
--- `table::checking::finds_itself` meets its contract. Assumes nothing.
+-- `soundness::finds_itself` meets its contract. Assumes nothing.
 use mathlib.Core.Path.{sym, _∙_}
 use native.Mathlib.Omega.{arith}
 use borrow.Author.Needs.{needs}

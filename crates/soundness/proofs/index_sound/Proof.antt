@@ -1,4 +1,4 @@
--- `table::checking::index_sound` meets its contract. Assumes nothing.
+-- `soundness::index_sound` meets its contract. Assumes nothing.
 use borrow.Author.Needs.{needs}
 use borrow.Author.Tests.{not-true, not-false}
 use Rattle.soundness.proofs.CheckingSteps.{index-astray, index-told}

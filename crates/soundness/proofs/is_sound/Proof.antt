@@ -1,4 +1,4 @@
--- `table::checking::is_sound` meets its contract. Assumes nothing.
+-- `soundness::is_sound` meets its contract. Assumes nothing.
 use mathlib.Core.Path.{sym, _∙_}
 use borrow.Author.Needs.{needs}
 use Rattle.soundness.proofs.CheckingSteps.{checked-refused, checked-answered}

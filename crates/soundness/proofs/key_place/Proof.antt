@@ -1,4 +1,4 @@
--- `table::checking::key_place` meets its contract. Assumes nothing.
+-- `soundness::key_place` meets its contract. Assumes nothing.
 use borrow.Author.Tests.{eq-eqb, ne-eqb}
 use Rattle.soundness.specs.Checks.{keyPlace}
 use Rattle.soundness.proofs.key_place.Statement.{statement}

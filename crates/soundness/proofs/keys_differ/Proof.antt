@@ -1,4 +1,4 @@
--- `table::checking::keys_differ` meets its contract. The loop's invariant: each live row passed is found by its key. Assumes nothing.
+-- `soundness::keys_differ` meets its contract. The loop's invariant: each live row passed is found by its key. Assumes nothing.
 use Prim.Native.Nat.{ℕ, _-_, _≤_, _<_}
 use native.Mathlib.Omega.{arith}
 use borrow.Author.Count.{below-more}

@@ -1,4 +1,4 @@
--- `table::checking::kind_words` meets its contract. Assumes nothing.
+-- `soundness::kind_words` meets its contract. Assumes nothing.
 use borrow.Author.Needs.{needs}
 use borrow.Author.Tests.{eq-eqb, ne-eqb}
 use Rattle.soundness.specs.Checks.{kindWords}

@@ -1,4 +1,4 @@
--- `table::checking::pending_whole` meets its contract. The loop's invariant: records fill the words from `at` on exactly if they fill all. Assumes nothing.
+-- `soundness::pending_whole` meets its contract. The loop's invariant: records fill the words from `at` on exactly if they fill all. Assumes nothing.
 use Prim.Native.Nat.{_+_, _-_, _≤_}
 use native.Mathlib.Omega.{arith}
 use borrow.Author.Needs.{needs}

@@ -1,4 +1,4 @@
--- `table::checking::record_words` meets its contract. Assumes nothing.
+-- `soundness::record_words` meets its contract. Assumes nothing.
 use native.Mathlib.Omega.{arith}
 use lib.ListN.{getD}
 use borrow.Author.Needs.{needs}

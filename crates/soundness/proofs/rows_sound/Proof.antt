@@ -1,4 +1,4 @@
--- `table::checking::rows_sound` meets its contract. Assumes nothing.
+-- `soundness::rows_sound` meets its contract. Assumes nothing.
 use mathlib.Core.Path.{sym, _∙_}
 use borrow.Author.Needs.{needs}
 use borrow.Author.Tests.{not-true, not-false}

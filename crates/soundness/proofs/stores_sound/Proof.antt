@@ -1,4 +1,4 @@
--- `table::checking::stores_sound` meets its contract. Assumes nothing.
+-- `soundness::stores_sound` meets its contract. Assumes nothing.
 use borrow.Author.Needs.{needs}
 use borrow.Author.Tests.{not-true, not-false}
 use Rattle.soundness.specs.Laws.Checks.{sound-fits, sound-cells, sound-held, sound-pending}

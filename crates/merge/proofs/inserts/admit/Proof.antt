@@ -1,4 +1,4 @@
--- `table::inserts::admit` meets its contract: a stop, or the entries with the next row's. Assumes nothing.
+-- `merge::inserts::admit` meets its contract: a stop, or the entries with the next row's. Assumes nothing.
 use borrow.Author.Needs.{needs}
 use native.Mathlib.Omega.{arith}
 use Prim.Native.Nat.{ℕ}

@@ -1,4 +1,4 @@
--- `table::inserts::insert_new` meets its contract. Assumes nothing.
+-- `merge::inserts::insert_new` meets its contract. Assumes nothing.
 use Prim.Native.Nat.{_<_}
 use native.Mathlib.Omega.{arith}
 use mathlib.Core.Path.{ap}

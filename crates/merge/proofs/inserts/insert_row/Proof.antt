@@ -1,4 +1,4 @@
--- `table::inserts::insert_row` meets its contract. Assumes nothing.
+-- `merge::inserts::insert_row` meets its contract. Assumes nothing.
 use borrow.Author.Needs.{needs}
 use Rattle.merge.proofs.InsertSteps.{inserts-skipped, findable, growable, found-row, found-slot, inserts-new, inserts-known}
 use Rattle.merge.proofs.inserts.insert_row.Statement.{statement}

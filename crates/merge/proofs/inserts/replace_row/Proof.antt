@@ -1,4 +1,4 @@
--- `table::inserts::replace_row` meets its contract. Assumes nothing.
+-- `merge::inserts::replace_row` meets its contract. Assumes nothing.
 use Prim.Native.Nat.{ℕ, _*_, _<_}
 use mathlib.Core.Path.{ap, _∙_}
 use mathlib.Core.List.{List}

@@ -1,4 +1,4 @@
--- `table::passes::insert_all` meets its contract. The loop's invariant: what all inserts come to is what those of the records
+-- `merge::passes::insert_all` meets its contract. The loop's invariant: what all inserts come to is what those of the records
 -- still to come do from here. Assumes nothing.
 use Prim.Native.Nat.{_-_}
 use native.Mathlib.Omega.{arith}

@@ -1,4 +1,4 @@
--- `table::passes::insert_next` meets its contract. Assumes nothing.
+-- `merge::passes::insert_next` meets its contract. Assumes nothing.
 use native.Mathlib.Omega.{arith}
 use Rattle.merge.proofs.PassInserts.{inserted-other, inserted-kept, inserted-appended, inserted-stopped}
 use borrow.Author.Needs.{needs}
@@ -32,14 +32,14 @@ insert-row-requires c κs = let p = c .before .before .before .before .before .b
 enum-told : tie.Need-enum-told
 enum-told c = search needs
 
-add-t26 : tie.Need-add-t26
-add-t26 c = search needs
+add-r : tie.Need-add-r
+add-r c = search needs
 
 enum-known-one : tie.Need-enum-known-one
 enum-known-one c = search needs
 
-add-t27 : tie.Need-add-t27
-add-t27 c = let p = c .before .before .before .before .before .before .before .before .before .before .before .before .before .before .before .before .before .before .before .before .before .before .pre in omega (arith, p .place-fits, p .inside)
+add-r-2 : tie.Need-add-r-2
+add-r-2 c = let p = c .before .before .before .before .before .before .before .before .before .before .before .before .before .before .before .before .before .before .before .before .before .before .pre in omega (arith, p .place-fits, p .inside)
 
 enum-known-one-2 : tie.Need-enum-known-one-2
 enum-known-one-2 c = search needs
@@ -99,9 +99,9 @@ insert-next-spec =
     add-insert-row
     insert-row-requires
     enum-told
-    add-t26
+    add-r
     enum-known-one
-    add-t27
+    add-r-2
     enum-known-one-2
     same-length
     same-length-2

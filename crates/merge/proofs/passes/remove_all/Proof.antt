@@ -1,4 +1,4 @@
--- `table::passes::remove_all` meets its contract. The loop's invariant: the removals so far and those of the records still to
+-- `merge::passes::remove_all` meets its contract. The loop's invariant: the removals so far and those of the records still to
 -- come are the removals of all records. Assumes nothing.
 use Prim.Native.Nat.{_-_}
 use native.Mathlib.Omega.{arith}

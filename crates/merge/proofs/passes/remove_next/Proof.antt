@@ -1,4 +1,4 @@
--- `table::passes::remove_next` meets its contract. Assumes nothing.
+-- `merge::passes::remove_next` meets its contract. Assumes nothing.
 use mathlib.Core.Path.{sym, ap}
 use Rattle.merge.specs.Steps.{died}
 use Rattle.merge.proofs.PassRemovals.{removed-other, removed-kind}

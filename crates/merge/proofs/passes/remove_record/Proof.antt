@@ -1,4 +1,4 @@
--- `table::passes::remove_record` meets its contract. Assumes nothing.
+-- `merge::passes::remove_record` meets its contract. Assumes nothing.
 use native.Mathlib.Omega.{arith}
 use Rattle.merge.proofs.PassRemovals.{removed-key, removed-row}
 use borrow.Author.Needs.{needs}

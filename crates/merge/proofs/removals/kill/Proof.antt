@@ -1,4 +1,4 @@
--- `table::removals::kill` meets its contract. Assumes nothing.
+-- `merge::removals::kill` meets its contract. Assumes nothing.
 use native.Mathlib.Omega.{arith}
 use borrow.Author.Needs.{needs}
 use Rattle.merge.proofs.RemovalSteps.{first-cell, killed}

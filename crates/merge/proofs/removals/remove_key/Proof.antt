@@ -1,4 +1,4 @@
--- `table::removals::remove_key` meets its contract. Assumes nothing.
+-- `merge::removals::remove_key` meets its contract. Assumes nothing.
 use native.Mathlib.Omega.{arith}
 use borrow.Author.Needs.{needs}
 use Rattle.merge.proofs.RemovalSteps.{find-fits, kill-fits, key-absent, key-dead}
