@@ -11,9 +11,10 @@ use calls::Judge;
 use std::sync::atomic::{AtomicBool, Ordering};
 use std::thread;
 
-/// The gate's seed and number of histories by chance.
+/// The gate's seed and numbers of histories by chance, against the Rust and against the proved table.
 const GATE_SEED: u64 = 20_260_901;
-const GATE_COUNT: u64 = 60_000;
+const GATE_COUNT: u64 = 100_000;
+const PROVED_COUNT: u64 = 40_000;
 
 /// A history in which the judges differ, and where it came from.
 struct Found {
@@ -21,19 +22,19 @@ struct Found {
     history: Vec<Step>,
 }
 
-/// The gate's run: all short histories and a fixed number by chance.
-fn histories<J: Judge>(rival: &Rival<J>) -> Result<Counts, String> {
+/// The gate's run: all short histories and so many by chance.
+fn histories<J: Judge>(rival: &Rival<J>, count: u64) -> Result<Counts, String> {
     let mut counts = Counts::default();
     in_parts(rival, &mut counts, &short_part)?;
     in_parts(rival, &mut counts, &|rival, part, counts, stop| {
-        chance_part(rival, (0, GATE_COUNT, GATE_SEED), part, counts, stop)
+        chance_part(rival, (0, count, GATE_SEED), part, counts, stop)
     })?;
     Ok(counts)
 }
 
 /// The gate's run against the Rust, with the known differences. Every case must be seen.
 pub fn gate<J: Judge>(rust: &Rival<J>) -> Result<(), String> {
-    let counts = histories(rust)?;
+    let counts = histories(rust, GATE_COUNT)?;
     counts.print();
     for line in known::check(rust)? {
         println!("  {line}");
@@ -44,9 +45,9 @@ pub fn gate<J: Judge>(rust: &Rival<J>) -> Result<(), String> {
     }
 }
 
-/// The same histories against the proved table: every answer, refusals and stops too.
+/// Histories against the proved table: every answer, refusals and stops too.
 pub fn gate_proved<J: Judge>(proved: &Rival<J>) -> Result<String, String> {
-    let counts = histories(proved)?;
+    let counts = histories(proved, PROVED_COUNT)?;
     Ok(format!(
         "tables: {} histories by chance, {} short ones, {} answers",
         counts.histories, counts.short_histories, counts.compared
