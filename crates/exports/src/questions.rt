@@ -21,7 +21,8 @@ fn subset_number(answer: SubsetAnswer) -> u32
     }
 }
 
-// The answer goes into three words, as that of `mouldgrey_intersect`.
+// The answer goes into three words, as that of `mouldgrey_intersect`. Nothing is written to the output where the header is not
+// ten words or the answer's words not three.
 #[no_mangle]
 pub extern "C" fn mouldgrey_refine_one(
     header: &[u32],
@@ -36,7 +37,7 @@ pub extern "C" fn mouldgrey_refine_one(
     output: &mut [u32],
     words: &mut [u32],
 ) -> u32
-    ensures { λ r. ⌜ Asked (λ answer. RefinedOne (headerIn (now (header .entry))) (now (rows .entry)) (subsetOf (record { dense = dense; start = start; end = end }) (now (ids .entry))) (record { kind = kind; column = column; value = value }) (now (output .entry)) answer (now (output .exit))) subsetNumber subsetWords 3 (now (header .entry)) (now (words .entry)) r (now (words .exit)) ⌝ }
+    ensures { λ r. ⌜ Asked (λ answer. RefinedOne (headerIn (now (header .entry))) (now (rows .entry)) (subsetOf (record { dense = dense; start = start; end = end }) (now (ids .entry))) (record { kind = kind; column = column; value = value }) (now (output .entry)) answer (now (output .exit))) subsetNumber subsetWords 3 (now (header .entry)) (now (words .entry)) r (now (words .exit)) × (((length (now (header .entry)) ≡ 10) × (length (now (words .entry)) ≡ 3) → ⊥) → now (output .exit) ≡ now (output .entry)) ⌝ }
 {
     if header.len() != 10 {
         return 1;

@@ -1,15 +1,15 @@
 -- `exports::questions::mouldgrey_refine_one` meets its contract. Assumes nothing.
-use mathlib.Core.Path.{sym}
+use mathlib.Core.Path.{refl, sym}
 use borrow.Author.Needs.{needs}
 use Rattle.exports.specs.Tables.{asked-unheaded, asked-unworded, asked-done}
 use Rattle.exports.proofs.questions.mouldgrey_refine_one.Statement.{statement}
 use Rattle.exports.proofs.questions.mouldgrey_refine_one.Tie as tie
 
 returns : tie.Need-returns
-returns c = asked-unheaded (c .if1 .taken)
+returns c = (asked-unheaded (c .if1 .taken), λ n. refl)
 
 returns-2 : tie.Need-returns-2
-returns-2 c = asked-unworded (c .before .if1 .left) (c .if2 .taken)
+returns-2 c = (asked-unworded (c .before .if1 .left) (c .if2 .taken), λ n. refl)
 
 header-of-requires : tie.Need-header-of-requires
 header-of-requires c κs = search needs
@@ -34,10 +34,12 @@ returns-3 c =
     let w = c .before .before .before in
     let q = w .before .before .before .before in
     let h = q .before .before in
-    let t = h .before in
-    rw (sym (h .header-of .ensures))
-    (asked-done (t .before .if1 .left) (t .if2 .left) (q .refine-one .ensures)
-    (record { numbered = c .subset-number .ensures; worded = w .write-answer .ensures }))
+    let t = h .before in (
+      rw (sym (h .header-of .ensures))
+          (asked-done (t .before .if1 .left) (t .if2 .left) (q .refine-one .ensures)
+          (record { numbered = c .subset-number .ensures; worded = w .write-answer .ensures })),
+      λ n. absurd (n (t .before .if1 .left, t .if2 .left)),
+    )
 
 pub mouldgrey-refine-one-spec : {M : Type 1} → statement M
 mouldgrey-refine-one-spec =
