@@ -22,8 +22,9 @@ use Rattle.sort_entries.specs.Laws.Push.{push-few}
 use Rattle.row_buffer.specs.Ranks.{liveAt, newNumber}
 use Rattle.key_index.specs.declared.Keyed.{Keyed}
 use Rattle.key_index.specs.Slots.{slots}
-use Rattle.key_index.specs.Index.{RowsIn, rows-in, renumbered, Ranked}
-use Rattle.key_index.specs.RenumberLaws.{below-number, live-among}
+use Rattle.key_index.specs.Index.{RowsIn, rows-in}
+use Rattle.key_gaps.specs.Gaps.{renumbered, Ranked}
+use Rattle.key_gaps.specs.RenumberLaws.{below-number, live-among}
 use Rattle.refusals.specs.Laws.{verdict-refused, verdict-accepted}
 use Rattle.table.specs.declared.Header.{Header}
 use Rattle.table.specs.declared.TableAnswer.the-variants.{Refused as TableRefused, Table}

@@ -11,8 +11,9 @@ use Rattle.constraints.specs.Constraints.{isLive}
 use Rattle.sort_entries.specs.Entries.{Entry, words, rebuilt}
 use Rattle.sort_entries.specs.Append.{Room, Rebuild}
 use Rattle.key_index.specs.Slots.{LiveAt}
-use Rattle.key_index.specs.Index.{RowsIn, newRow}
-use Rattle.key_index.specs.RenumberLaws.{liveBelow}
+use Rattle.key_index.specs.Index.{RowsIn}
+use Rattle.key_gaps.specs.Gaps.{newRow}
+use Rattle.key_gaps.specs.RenumberLaws.{liveBelow}
 use Rattle.table.specs.declared.Header.{Header}
 use Rattle.compaction.specs.declared.Kept.{Kept}
 use Rattle.table.specs.Sound.{keyedOf}

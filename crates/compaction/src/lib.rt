@@ -95,7 +95,7 @@ pub fn compact_rows(
     ensures { λ r. ⌜ Compaction h (now (rows .entry)) (now (keys .entry)) (now (sorts .entry)) (now (live .entry)) (now (base .entry)) r (now (rows .exit)) (now (keys .exit)) (now (sorts .exit)) (now (live .exit)) (now (base .exit)) ⌝ }
 {
     let kept = close_up(h, rows, sorts, live, base);
-    key_index::gaps::renumber(keyed(h), keys, live, base);
+    key_gaps::renumber(keyed(h), keys, live, base);
     let mut n = h;
     n.rows = kept.rows;
     n.dead = 0;

@@ -1,245 +1,164 @@
-// The library for C and Rust callers. Each function of this file is the library's own under a C name, with its contract, and
-// asks nothing of its caller: a slice is a pointer and a length, an enum becomes words, and what a function of the library
-// requires is tested.
-pub mod inner; // inner.rt: the key index and the sort entries, for comparing and measuring
-pub mod tables; // tables.rt: a whole table
-pub mod questions; // questions.rt: questions on its rows
-
-use constraints::Constraint;
-use offsets::SubsetAnswer;
-use offsets::SubsetHead;
+// The calls that change a table, and the soundness check, under C names. Slices go as a pointer and a length.
 ghost use mathlib.Core.Path.{_≡_};
-ghost use mathlib.Core.List.{[], _∷_};
-ghost use Prim.Native.Nat.{_+_, _≤_, _<_};
-ghost use lib.ListN.{length, take, drop};
-ghost use Rattle.lists.specs.Lists.{putAt};
-ghost use Rattle.row_buffer.specs.Ranks.{setBelow};
-ghost use Rattle.merge_rules.specs.Survivor.{survivor};
-ghost use Rattle.cells.specs.Cells.{isDead, compact, probed, keyHash};
-ghost use Rattle.constraints.specs.Constraints.{known, meets};
-ghost use Rattle.merge_rules.specs.Rules.{changesFrom};
-ghost use Rattle.offsets.specs.Answers.{subsetOf};
-ghost use Rattle.exports.specs.Words.{subsetWords, Intersected, Made, Survives};
+ghost use Rattle.plain.specs.Staged.{insert, removeKey, removeRow};
+ghost use Rattle.table.specs.Promises.{opening, Opened, Staging, Merging, Compacting, Clearing, Checked};
+ghost use Rattle.words.specs.Words.{headerIn, soundNumber, soundWords, Called, MergeCalled, Asked};
+use words::header_of;
+use words::write_merge;
+use words::write_sound;
+use words::write_table;
 
 #[no_mangle]
-pub extern "C" fn mouldgrey_is_stale(first: u32) -> bool
-    ensures { λ r. ⌜ r ≡ isDead first ⌝ }
+pub extern "C" fn mouldgrey_open_table(
+    columns: u32,
+    key_columns: u32,
+    sort: u32,
+    rule: u32,
+    capacity: u32,
+    generation: u32,
+    header: &mut [u32],
+    rows: &[u32],
+    keys: &mut [u32],
+    sorts: &[u32],
+    pending: &[u32],
+) -> u32
+    ensures { λ r. ⌜ Called (λ answer. Opened (opening columns «key_columns» sort rule capacity) generation (now (rows .entry)) (now (keys .entry)) (now (sorts .entry)) (now (pending .entry)) answer (now (keys .exit))) (now (keys .exit) ≡ now (keys .entry)) (now (header .entry)) r (now (header .exit)) ⌝ }
 {
-    cells::is_stale(first)
-}
-
-#[no_mangle]
-pub extern "C" fn mouldgrey_from_full(full: u64) -> u32
-    ensures { λ r. ⌜ r ≡ compact full ⌝ }
-{
-    cells::from_full(full)
-}
-
-#[no_mangle]
-pub extern "C" fn mouldgrey_probe(hash: u32) -> u64
-    ensures { λ r. ⌜ r ≡ probed hash ⌝ }
-{
-    cells::probe(hash)
-}
-
-#[no_mangle]
-pub extern "C" fn mouldgrey_key_hash(key: &[u32]) -> u64
-    ensures { λ r. ⌜ r ≡ keyHash (now (key .entry)) ⌝ }
-{
-    cells::key_hash(key)
-}
-
-#[no_mangle]
-pub extern "C" fn mouldgrey_compact_hash(key: &[u32]) -> u32
-    ensures { λ r. ⌜ r ≡ compact (keyHash (now (key .entry))) ⌝ }
-{
-    cells::compact_hash(key)
-}
-
-// The answer's three words.
-fn write_answer(answer: SubsetAnswer, words: &mut [u32])
-    requires { ⌜ length (now words) ≡ 3 ⌝ }
-    ensures { λ _. ⌜ now (words .exit) ≡ subsetWords answer ⌝ }
-{
-    match answer {
-        SubsetAnswer::Refused(number) => {
-            words[0] = 0;
-            words[1] = number;
-            words[2] = 0;
-        }
-        SubsetAnswer::Range(start, end) => {
-            words[0] = 1;
-            words[1] = start;
-            words[2] = end;
-        }
-        SubsetAnswer::List(count) => {
-            words[0] = 2;
-            words[1] = count;
-            words[2] = 0;
-        }
+    if header.len() != 10 {
+        return 1;
     }
-}
-
-#[no_mangle]
-pub extern "C" fn mouldgrey_known(kind: u32, column: u32, value: u32, columns: u32) -> bool
-    ensures { λ r. ⌜ r ≡ known columns (record { kind = kind; column = column; value = value }) ⌝ }
-{
-    constraints::known(
-        Constraint {
-            kind,
-            column,
-            value,
-        },
+    let answer = opening::open_table(
         columns,
-    )
+        key_columns,
+        sort,
+        rule,
+        capacity,
+        generation,
+        rows,
+        keys,
+        sorts,
+        pending,
+    );
+    write_table(answer, header)
 }
 
 #[no_mangle]
-pub extern "C" fn mouldgrey_meets(kind: u32, column: u32, value: u32, row: &[u32]) -> bool
-    ensures { λ r. ⌜ r ≡ meets (now (row .entry)) (record { kind = kind; column = column; value = value } ∷ []) ⌝ }
+pub extern "C" fn mouldgrey_stage_insert(
+    header: &mut [u32],
+    pending: &mut [u32],
+    cells: &[u32],
+) -> u32
+    ensures { λ r. ⌜ Called (λ answer. Staging (headerIn (now (header .entry))) (now (pending .entry)) (insert (now (cells .entry))) answer (now (pending .exit))) (now (pending .exit) ≡ now (pending .entry)) (now (header .entry)) r (now (header .exit)) ⌝ }
 {
-    constraints::meets(
-        Constraint {
-            kind,
-            column,
-            value,
-        },
-        row,
-    )
+    if header.len() != 10 {
+        return 1;
+    }
+    let answer = staging::stage_insert(header_of(header), pending, cells);
+    write_table(answer, header)
 }
 
 #[no_mangle]
-pub extern "C" fn mouldgrey_changes(
-    rule: u32,
-    keys: u32,
-    sort: u32,
-    old: &[u32],
-    new: &[u32],
-) -> bool
-    ensures { λ r. ⌜ r ≡ changesFrom rule keys sort 0 (now (old .entry)) (now (new .entry)) ⌝ }
+pub extern "C" fn mouldgrey_stage_remove(
+    header: &mut [u32],
+    pending: &mut [u32],
+    key: &[u32],
+) -> u32
+    ensures { λ r. ⌜ Called (λ answer. Staging (headerIn (now (header .entry))) (now (pending .entry)) (removeKey (now (key .entry))) answer (now (pending .exit))) (now (pending .exit) ≡ now (pending .entry)) (now (header .entry)) r (now (header .exit)) ⌝ }
 {
-    merge_rules::changes(rule, keys, sort, old, new)
+    if header.len() != 10 {
+        return 1;
+    }
+    let answer = staging::stage_remove(header_of(header), pending, key);
+    write_table(answer, header)
 }
 
-// The common ids of two subsets. The answer goes into three words; false, and nothing done, where those are not three.
 #[no_mangle]
-pub extern "C" fn mouldgrey_intersect(
-    dense: bool,
-    start: u32,
-    end: u32,
-    ids: &[u32],
-    other_dense: bool,
-    other_start: u32,
-    other_end: u32,
-    other_ids: &[u32],
-    output: &mut [u32],
+pub extern "C" fn mouldgrey_stage_remove_row(
+    header: &mut [u32],
+    pending: &mut [u32],
+    row: u32,
+    key: &[u32],
+) -> u32
+    ensures { λ r. ⌜ Called (λ answer. Staging (headerIn (now (header .entry))) (now (pending .entry)) (removeRow row (now (key .entry))) answer (now (pending .exit))) (now (pending .exit) ≡ now (pending .entry)) (now (header .entry)) r (now (header .exit)) ⌝ }
+{
+    if header.len() != 10 {
+        return 1;
+    }
+    let answer = staging::stage_remove_row(header_of(header), pending, row, key);
+    write_table(answer, header)
+}
+
+// The answer goes into three words: the stop's number and place, and 1 if a row was appended.
+#[no_mangle]
+pub extern "C" fn mouldgrey_merge(
+    header: &mut [u32],
+    rows: &mut [u32],
+    keys: &mut [u32],
+    sorts: &mut [u32],
+    pending: &[u32],
+    live: &mut [u64],
+    base: &mut [u32],
     words: &mut [u32],
-) -> bool
-    ensures { λ r. ⌜ Intersected (subsetOf (record { dense = dense; start = start; end = end }) (now (ids .entry))) (subsetOf (record { dense = «other_dense»; start = «other_start»; end = «other_end» }) (now («other_ids» .entry))) (now (output .entry)) (now (words .entry)) r (now (output .exit)) (now (words .exit)) ⌝ }
+) -> u32
+    ensures { λ r. ⌜ MergeCalled (λ answer. Merging (headerIn (now (header .entry))) (now (rows .entry)) (now (keys .entry)) (now (sorts .entry)) (now (pending .entry)) (now (live .entry)) (now (base .entry)) answer (now (rows .exit)) (now (keys .exit)) (now (sorts .exit)) (now (live .exit)) (now (base .exit))) ((now (rows .exit) ≡ now (rows .entry)) × (now (keys .exit) ≡ now (keys .entry)) × (now (sorts .exit) ≡ now (sorts .entry)) × (now (live .exit) ≡ now (live .entry)) × (now (base .exit) ≡ now (base .entry))) (now (header .entry)) (now (words .entry)) r (now (header .exit)) (now (words .exit)) ⌝ }
 {
+    if header.len() != 10 {
+        return 1;
+    }
     if words.len() != 3 {
-        return false;
+        return 2;
     }
-    let first = SubsetHead { dense, start, end };
-    let second = SubsetHead {
-        dense: other_dense,
-        start: other_start,
-        end: other_end,
-    };
-    let answer = offsets::intersect(first, ids, second, other_ids, output);
-    write_answer(answer, words);
-    true
+    let answer = merge::merge(header_of(header), rows, keys, sorts, pending, live, base);
+    write_merge(answer, header, words)
 }
 
-// What a rule makes of an old and a new row, into the start of `out`; false, and nothing done, where the rows differ in
-// length or `out` is shorter.
 #[no_mangle]
-pub extern "C" fn mouldgrey_make(
-    rule: u32,
-    keys: u32,
-    sort: u32,
-    old: &[u32],
-    new: &[u32],
-    out: &mut [u32],
-) -> bool
-    ensures { λ r. ⌜ Made rule keys sort (now (old .entry)) (now (new .entry)) (now (out .entry)) r (now (out .exit)) ⌝ }
+pub extern "C" fn mouldgrey_compact(
+    header: &mut [u32],
+    rows: &mut [u32],
+    keys: &mut [u32],
+    sorts: &mut [u32],
+    live: &mut [u64],
+    base: &mut [u32],
+) -> u32
+    ensures { λ r. ⌜ Called (λ answer. Compacting (headerIn (now (header .entry))) (now (rows .entry)) (now (keys .entry)) (now (sorts .entry)) (now (live .entry)) (now (base .entry)) answer (now (rows .exit)) (now (keys .exit)) (now (sorts .exit)) (now (live .exit)) (now (base .exit))) ((now (rows .exit) ≡ now (rows .entry)) × (now (keys .exit) ≡ now (keys .entry)) × (now (sorts .exit) ≡ now (sorts .entry)) × (now (live .exit) ≡ now (live .entry)) × (now (base .exit) ≡ now (base .entry))) (now (header .entry)) r (now (header .exit)) ⌝ }
 {
-    if old.len() != new.len() {
-        return false;
+    if header.len() != 10 {
+        return 1;
     }
-    if out.len() < old.len() {
-        return false;
-    }
-    merge_rules::make(rule, keys, sort, old, new, out);
-    true
+    let answer = compaction::compact(header_of(header), rows, keys, sorts, live, base);
+    write_table(answer, header)
 }
 
-// The row that survives under rule 0 or 1, copied to the start of `out`; false, and nothing done, under another rule, where
-// a row does not lie in its store or `out` is shorter.
 #[no_mangle]
-pub extern "C" fn mouldgrey_surviving_row<'a>(
-    rule: u32,
-    keys: u32,
-    sort: u32,
-    width: usize,
-    rows: &'a [u32],
-    old: usize,
-    pending: &'a [u32],
-    new: usize,
-    out: &mut [u32],
-) -> bool
-    ensures { λ r. ⌜ Survives rule keys sort width (now (rows .entry)) old (now (pending .entry)) new (now (out .entry)) r (now (out .exit)) ⌝ }
+pub extern "C" fn mouldgrey_clear(header: &mut [u32], keys: &mut [u32]) -> u32
+    ensures { λ r. ⌜ Called (λ answer. Clearing (headerIn (now (header .entry))) (now (keys .entry)) answer (now (keys .exit))) (now (keys .exit) ≡ now (keys .entry)) (now (header .entry)) r (now (header .exit)) ⌝ }
 {
-    if 1 < rule {
-        return false;
+    if header.len() != 10 {
+        return 1;
     }
-    if rows.len() < width {
-        return false;
-    }
-    if rows.len() - width < old {
-        return false;
-    }
-    if pending.len() < width {
-        return false;
-    }
-    if pending.len() - width < new {
-        return false;
-    }
-    if out.len() < width {
-        return false;
-    }
-    copy_survivor(rule, keys, sort, width, rows, old, pending, new, out);
-    true
+    let answer = opening::clear(header_of(header), keys);
+    write_table(answer, header)
 }
 
-fn copy_survivor<'a>(
-    rule: u32,
-    keys: u32,
-    sort: u32,
-    width: usize,
-    rows: &'a [u32],
-    old: usize,
-    pending: &'a [u32],
-    new: usize,
-    out: &mut [u32],
-)
-    requires { ⌜ (old + width ≤ length (now rows)) × (new + width ≤ length (now pending)) × (width ≤ length (now out)) × (rule ≤ 1) ⌝ }
-    ensures { λ _. ⌜ now (out .exit) ≡ putAt (now (out .entry)) 0 (survivor rule keys sort (take width (drop old (now (rows .entry)))) (take width (drop new (now (pending .entry))))) ⌝ }
-{
-    let row = merge_rules::surviving_row(rule, keys, sort, width, rows, old, pending, new);
-    row_buffer::write_row(out, 0, row);
-}
-
-// A live row's new number in a compaction; 0 past the limits of a word and a table.
+// The answer goes into one word: 1 for sound stores.
 #[no_mangle]
-pub extern "C" fn mouldgrey_rank(live: u64, base: u32, bit: u32) -> u32
-    ensures { λ r. ⌜ (bit < 64 → base ≤ 65536 → r ≡ base + setBelow live bit) ⌝ }
+pub extern "C" fn mouldgrey_is_sound(
+    header: &[u32],
+    rows: &[u32],
+    keys: &[u32],
+    sorts: &[u32],
+    pending: &[u32],
+    words: &mut [u32],
+) -> u32
+    ensures { λ r. ⌜ Asked (λ answer. Checked (headerIn (now (header .entry))) (now (rows .entry)) (now (keys .entry)) (now (sorts .entry)) (now (pending .entry)) answer) soundNumber soundWords 1 (now (header .entry)) (now (words .entry)) r (now (words .exit)) ⌝ }
 {
-    if 64 <= bit {
-        return 0;
+    if header.len() != 10 {
+        return 1;
     }
-    if 65536 < base {
-        return 0;
+    if words.len() != 1 {
+        return 2;
     }
-    row_buffer::rank(live, base, bit)
+    let answer = soundness::is_sound(header_of(header), rows, keys, sorts, pending);
+    write_sound(answer, words)
 }

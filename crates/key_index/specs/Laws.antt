@@ -105,6 +105,15 @@ empty-sound t rows store none free =
       leads = λ i live. absurd (none i live);
     }
 
+-- conversely
+pub empty-free : (t : Keyed) (rows store : List ℕ) → ((i : ℕ) → LiveAt t rows i → ⊥) → KeysSound t rows store
+    → (slot : ℕ) → slot < slots t → getD store slot 0 ≡ 0
+empty-free t rows store none sound slot h =
+    elim (decLt 0 (getD store slot 0)) [
+      | yes some ↦ let held = sound .only-live slot h some in absurd (none (held .0) (held .1))
+      | no free ↦ omega arith
+    ]
+
 pub emptied : (capacity : ℕ) (store store′ : List ℕ) → 2 * capacity ≤ length store → EmptyIs capacity store store′
     → (slot : ℕ) → slot < 2 * capacity → getD store′ slot 0 ≡ 0
 emptied capacity store store′ long e slot h =

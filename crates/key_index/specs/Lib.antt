@@ -5,6 +5,4 @@ pub mod Pigeons
 pub mod Laws
 pub mod Rows
 pub mod Unrolled
-pub mod GapLaws
-pub mod RenumberLaws
-pub mod Check
+pub mod Lines

@@ -9,9 +9,6 @@ ghost use Rattle.key_index.specs.Slots.{slots, slotFrom};
 ghost use Rattle.key_index.specs.Ring.{spread, tagged, namesRow};
 ghost use Rattle.key_index.specs.Index.{Room, RowsIn, Fits, HitIs, FoundIs, PutIs, EmptyIs};
 
-pub mod gaps; // gaps.rt: rows taken out and renumbered
-pub mod check; // check.rt: whether a key store is sound
-
 // The numbers of a table that its key index goes by.
 pub struct Keyed {
     pub columns: u32,
@@ -27,12 +24,12 @@ pub enum Found {
 }
 
 // A slot's word: the row's number plus 1 in the low 17 bits, 15 bits of the hash above.
-const ROW_RANGE: u32 = 0x2_0000;
+pub const ROW_RANGE: u32 = 0x2_0000;
 
 const HASH_RANGE: u32 = 0x8000;
 
 // The hash spread over the slots: multiplied and divided, so that any number of slots will do without a remainder.
-fn home_slot(slots: u32, hash: u32) -> u32
+pub fn home_slot(slots: u32, hash: u32) -> u32
     requires { ⌜ 0 < slots ⌝ }
     ensures { λ r. ⌜ r ≡ spread slots hash ⌝ }
     ensures { λ r. ⌜ r < slots ⌝ }
@@ -40,7 +37,7 @@ fn home_slot(slots: u32, hash: u32) -> u32
     (hash as u64 * slots as u64 / 0x1_0000_0000) as u32
 }
 
-fn slot_word(hash: u32, row: u32) -> u32
+pub fn slot_word(hash: u32, row: u32) -> u32
     requires { ⌜ row < 65536 ⌝ }
     ensures { λ r. ⌜ r ≡ tagged hash row ⌝ }
 {
@@ -48,7 +45,7 @@ fn slot_word(hash: u32, row: u32) -> u32
 }
 
 // The slot after, going round.
-fn next_slot(slots: u32, at: u32) -> u32
+pub fn next_slot(slots: u32, at: u32) -> u32
     requires { ⌜ at < slots ⌝ }
     ensures { λ r. ⌜ r ≡ slotFrom slots at 1 ⌝ }
     ensures { λ r. ⌜ r < slots ⌝ }
@@ -61,7 +58,7 @@ fn next_slot(slots: u32, at: u32) -> u32
 }
 
 // Whether a word names a row of the table. In a sound store each word but 0 does.
-fn names_row(t: Keyed, word: u32) -> bool
+pub fn names_row(t: Keyed, word: u32) -> bool
     ensures { λ r. ⌜ r ≡ namesRow t word ⌝ }
 {
     let number = word % ROW_RANGE;

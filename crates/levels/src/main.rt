@@ -1,25 +1,19 @@
 // The program `levels` (document 01): reads lines of table operations from standard input and answers each on standard
 // output before it reads the next. It makes the stores and lends them to the library.
-mod bytes; // bytes.rt: a text that grows
-mod input; // input.rt: lines of standard input
-mod output; // output.rt: a line of standard output
-mod changes; // changes.rt: lines that change the table
-mod questions; // questions.rt: lines that ask
-
 ghost use mathlib.Core.Path.{_≡_};
 ghost use mathlib.Core.Bool.{true};
 ghost use Prim.Native.Nat.{_≤_};
 ghost use lib.ListN.{length as len};
 ghost use Rattle.levels_text.specs.Lines.{isForm};
-use changes::merge_pending;
-use changes::remake;
-use changes::stage;
-use input::Input;
-use input::next_line;
+use levels_calls::ask;
+use levels_calls::merge_pending;
+use levels_calls::remake;
+use levels_calls::stage;
+use levels_lines::Input;
+use levels_lines::next_line;
+use levels_lines::refuse;
 use levels_text::MOST_NUMBERS;
 use levels_text::Parsed;
-use output::refuse;
-use questions::ask;
 use table::Header;
 
 // The bytes of a line that are kept: one more than a line may have, so that a longer one is seen to be.
@@ -67,7 +61,7 @@ fn serve(
 }
 
 // Any line, of the first bytes of the lent ones.
-fn answer(
+pub fn answer(
     h: Header,
     line: &[u8],
     length: usize,

@@ -1,6 +1,2 @@
-pub mod RemovalSteps
-pub mod InsertSteps
-pub mod PassRecords
-pub mod PassRemovals
-pub mod PassInserts
 pub mod MergingSteps
+pub mod PassInserts

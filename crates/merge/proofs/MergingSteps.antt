@@ -20,12 +20,14 @@ use Rattle.table.specs.declared.MergeAnswer.the-variants.{Refused as MergeRefus
 use Rattle.table.specs.Numbers.{mergeSays}
 use Rattle.table.specs.Refusing.{mergeRefusal}
 use Rattle.table.specs.Promises.{stores, lengths, Represents, withPending, Merging}
-use Rattle.merge.specs.Steps.{withCounts, withDead, Ready, Removable, Removals, Insertions}
+use Rattle.pending.specs.Steps.{withCounts, withDead, Ready}
+use Rattle.merge.specs.Insertions.{Insertions}
+use Rattle.removals.specs.Removals.{Removable, Removals}
 use Rattle.compaction.specs.Compaction.{Lendable, Compaction}
 use Rattle.merge.specs.Merging.{Applying, finished, withHeader, Finishing}
 use Rattle.table.specs.Laws.Refusals.{inside-fits, Mergeable, merge-accepted}
 use Rattle.table.specs.Laws.Opening.{unstaged-represents}
-use Rattle.merge.specs.Laws.Steps.{steps-refl}
+use Rattle.pending.specs.Laws.Steps.{steps-refl}
 use Rattle.merge.specs.Laws.Merging.{passes-table, finished-stopped, finished-kept, finished-compacted, compacted-store, compacted-generation, merged-table}
 
 -- ---- a compaction is due

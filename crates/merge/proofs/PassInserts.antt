@@ -12,14 +12,15 @@ use Rattle.plain.specs.Merging.{kept, appended, stopped, Inserted, inserted, in
 use Rattle.plain.specs.Plain.{Plain, insertion}
 use Rattle.table.specs.declared.Header.{Header}
 use Rattle.table.specs.declared.Merge.{Merge}
-use Rattle.merge.specs.declared.Insertion.{Insertion}
-use Rattle.merge.specs.declared.Insertion.the-variants.{Kept, Appended, Stopped}
+use Rattle.inserts.specs.declared.Insertion.{Insertion}
+use Rattle.inserts.specs.declared.Insertion.the-variants.{Kept, Appended, Stopped}
 use Rattle.table.specs.Numbers.{openingOf}
 use Rattle.table.specs.Promises.{Stores, stores, Represents, SlotsPast}
-use Rattle.merge.specs.Steps.{Steps, Recounted, Ready, Waiting, kindOf, RecordLength, Comes, Inserting, InsertedTable, Insertions}
-use Rattle.merge.specs.Passes.{InsertNext, InsertGoes, InsertedNext}
-use Rattle.merge.specs.Laws.Steps.{steps-refl, steps-then, waiting-start, words-some, waiting-next, waiting-kind, waiting-hash, waiting-cells, recounted-refl, recounted-capacity, recounted-then, recounted-waiting}
-use Rattle.merge.proofs.PassRecords.{Next, record-long}
+use Rattle.pending.specs.Steps.{Steps, Recounted, Ready, Waiting, kindOf, RecordLength}
+use Rattle.merge.specs.Insertions.{InsertedTable, Insertions, InsertNext, InsertGoes, InsertedNext}
+use Rattle.inserts.specs.Inserting.{Comes, Inserting}
+use Rattle.pending.specs.Laws.Steps.{steps-refl, steps-then, waiting-start, words-some, waiting-next, waiting-kind, waiting-hash, waiting-cells, recounted-refl, recounted-capacity, recounted-then, recounted-waiting}
+use Rattle.pending.proofs.PassRecords.{Next, record-long}
 
 -- ---- one insert
 

@@ -1,7 +1,2 @@
--- What may be relied on of the definitions beside.
-pub mod Steps
-pub mod Dying
-pub mod Admission
-pub mod Growth
-pub mod Inserts
+-- What may be relied on of the definitions.
 pub mod Merging

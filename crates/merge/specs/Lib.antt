@@ -1,5 +1,3 @@
-pub mod Steps
-pub mod Inserts
-pub mod Passes
+pub mod Insertions
 pub mod Merging
 pub mod Laws

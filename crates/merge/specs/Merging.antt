@@ -11,7 +11,7 @@ use Rattle.table.specs.declared.Header.{Header}
 use Rattle.table.specs.declared.Merge.{Merge}
 use Rattle.table.specs.Stores.{headerOf, rowStore, sortStore}
 use Rattle.table.specs.Promises.{Stores, stores, Represents, SlotsPast, WordsPast}
-use Rattle.merge.specs.Steps.{Steps, withCounts}
+use Rattle.pending.specs.Steps.{Steps, withCounts}
 
 -- ---- the passes over the pending records
 

@@ -1,16 +1,20 @@
-// `merge` of table/mod.rs: its passes over the pending records, then pending emptied and, unless it stopped, the compaction
-// that may be due.
-ghost use mathlib.Core.Path.{_≡_};
+// `merge` of table/mod.rs: removals by key, removals by row, inserts; then pending emptied and, unless it stopped, the
+// compaction that may be due.
 ghost use Prim.Native.Nat.{_≤_};
+ghost use Rattle.pending.specs.Steps.{Ready};
+ghost use Rattle.merge.specs.Insertions.{Insertions, InsertNext, InsertedNext};
+ghost use mathlib.Core.Path.{_≡_};
 ghost use Rattle.plain.specs.Staged.{due};
 ghost use Rattle.table.specs.Promises.{Merging};
-ghost use Rattle.merge.specs.Steps.{Ready};
 ghost use Rattle.compaction.specs.Compaction.{Lendable};
 ghost use Rattle.merge.specs.Merging.{Applying, Finishing};
 use compaction::compact_rows;
-use passes::insert_all;
-use passes::remove_all;
+use inserts::Insertion;
+use inserts::insert_row;
+use pending::record_length;
+use removals::remove_all;
 use table::Header;
+use table::INSERT;
 use table::Lent;
 use table::Merge;
 use table::MergeAnswer;
@@ -19,15 +23,76 @@ use table::REMOVE_ROW;
 use table::refusing::LAST_GENERATION;
 use table::refusing::merge_refusal;
 
-mod removals; // removals.rt: one removal, by key or by row
-mod inserts; // inserts.rt: one insert
-mod passes; // passes.rt: all pending records, kind by kind
+// The record at a place, if it is an insert. Takes what the inserts before it have come to, and answers with what it comes
+// to: `place` is that of the next insert, unless this one stops the merge.
+fn insert_next(
+    m: Merge,
+    rows: &mut [u32],
+    keys: &mut [u32],
+    sorts: &mut [u32],
+    pending: &[u32],
+    at: u32,
+) -> Merge
+    requires { ⌜ InsertNext m (now rows) (now keys) (now sorts) (now pending) at ⌝ }
+    ensures { λ r. ⌜ InsertedNext m (now (rows .entry)) (now (keys .entry)) (now (sorts .entry)) (now (pending .entry)) at r (now (rows .exit)) (now (keys .exit)) (now (sorts .exit)) ⌝ }
+{
+    let start = at as usize;
+    if pending[start] != INSERT {
+        return m;
+    }
+    let n = m.header;
+    let hash = pending[start + 1];
+    let one = insert_row(n, rows, keys, sorts, pending, at + 2, hash);
+    let mut r = m;
+    match one {
+        Insertion::Kept => {
+            r.status = 0;
+            r.place = m.place + 1;
+            r
+        }
+        Insertion::Appended(next) => {
+            r.header = next;
+            r.status = 0;
+            r.place = m.place + 1;
+            r.added = true;
+            r
+        }
+        Insertion::Stopped(number) => {
+            r.status = number;
+            r
+        }
+    }
+}
 
-// What an insert of a merge does: nothing, a row is appended, or the merge stops with a number.
-pub enum Insertion {
-    Kept,
-    Appended(Header),
-    Stopped(u32),
+// All inserts, in staging order, until one must be appended and cannot be.
+pub fn insert_all(
+    h: Header,
+    rows: &mut [u32],
+    keys: &mut [u32],
+    sorts: &mut [u32],
+    pending: &[u32],
+) -> Merge
+    requires { ⌜ Ready h (now rows) (now keys) (now sorts) (now pending) ⌝ }
+    ensures { λ r. ⌜ Insertions h (now (rows .entry)) (now (keys .entry)) (now (sorts .entry)) (now (pending .entry)) r (now (rows .exit)) (now (keys .exit)) (now (sorts .exit)) ⌝ }
+{
+    let mut done = Merge {
+        header: h,
+        status: 0,
+        place: 0,
+        added: false,
+    };
+    let mut at: u32 = 0;
+    let mut words = record_length(h, pending, at);
+    while words != 0 {
+        done = insert_next(done, rows, keys, sorts, pending, at);
+        if done.status != 0 {
+            return done;
+        }
+        at += words;
+        words = record_length(h, pending, at);
+    }
+    done.place = 0;
+    done
 }
 
 // Dead rows call for a compaction, and the generation has room for it.

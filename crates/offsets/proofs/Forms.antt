@@ -1,7 +1,7 @@
--- A borrowed subset by its kind: which are well-formed, their sizes and ends; and lists of like length. Assumes nothing.
-use Prim.Native.Nat.{ℕ, suc, _+_, _-_, _*_, _/_, _≤_, _<_}
+-- A borrowed subset by its kind: which are well-formed, their sizes and ends. Assumes nothing.
+use Prim.Native.Nat.{ℕ, suc, _+_, _-_, _≤_, _<_}
 use mathlib.Core.Path.{_≡_, refl, sym, ap, _∙_}
-use mathlib.Core.Bool.{Bool, true, false, _&&_, and-false, and-true}
+use mathlib.Core.Bool.{true, false, and-false, and-true}
 use mathlib.Core.List.{List, [], _∷_}
 use native.Mathlib.Omega.{arith}
 use lib.Dec.{leb}
@@ -14,7 +14,6 @@ use Rattle.offsets.specs.Subsets.{list, wellFormed, size, lastOf, ends, 
 use Rattle.offsets.specs.Ends.{boundsOf}
 use Rattle.offsets.specs.Laws.{dense-is, sparse-is, lastOf-getD}
 use Rattle.offsets.specs.Answers.{subsetOf}
-use Rattle.offsets.specs.Common.{alike}
 
 module _ (head : SubsetHead) (ids : List ℕ) where
   pub formed-range : head .dense ≡ true → leb (head .start) (head .end) ≡ wellFormed (subsetOf head ids)
@@ -28,27 +27,6 @@ module _ (head : SubsetHead) (ids : List ℕ) where
   pub formed-list : head .dense ≡ false → length ids ≤ 65536 → rising ids ≡ wellFormed (subsetOf head ids)
   unfolding wellFormed
   formed-list e h = rw (sparse-is head ids e, le-leb (length ids) 65536 h) (sym (and-true (rising ids)))
-
--- ---- like lengths, half by half
-
-module _ (a b : ℕ) where
-  pub half-yes : (r : Bool) → a ≤ 16 → r ≡ leb b 16 → r ≡ (leb a 16 && leb b 16)
-  half-yes r h e = rw (le-leb a 16 h) e
-
-  pub half-no : (r : Bool) → 16 < a → r ≡ leb a 16 → r ≡ (leb a 16 && leb b 16)
-  half-no r h e = e ∙ rw (lt-leb a 16 h)
-
-  pub alike-short : (r : Bool) → r ≡ (leb a 16 && leb b 16) → r ≡ true → r ≡ alike a b
-  unfolding alike
-  alike-short r e q = let z : (leb a 16 && leb b 16) ≡ true = sym e ∙ q in rw z q
-
-  pub alike-upper : (r : Bool) → r ≡ (leb a 16 && leb b 16) → r ≡ false → a / 4 ≤ b → leb b (a * 4) ≡ alike a b
-  unfolding alike
-  alike-upper r e q h = let z : (leb a 16 && leb b 16) ≡ false = sym e ∙ q in rw (z, le-leb (a / 4) b h)
-
-  pub alike-not : (r : Bool) → r ≡ (leb a 16 && leb b 16) → r ≡ false → b < a / 4 → leb (a / 4) b ≡ alike a b
-  unfolding alike
-  alike-not r e q h = let z : (leb a 16 && leb b 16) ≡ false = sym e ∙ q in rw (z, lt-leb (a / 4) b h)
 
 -- ---- size and ends, by kind
 

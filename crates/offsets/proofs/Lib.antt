@@ -1,5 +1,2 @@
-pub mod Search
 pub mod Forms
-pub mod Common
-pub mod Answers
-pub mod Grow
+pub mod Rising

@@ -33,6 +33,11 @@ pub record Answered (r : Reply Subset) (output : List ℕ) (answer : SubsetAnswe
   pub answers : answer ≡ answerOf r
   pub writes : output′ ≡ putAt output 0 (written r)
 
+-- ids written from the start of an output, and how many
+pub record Wrote (output ids : List ℕ) (n : ℕ) (output′ : List ℕ) : Type 0 where
+  pub number : n ≡ length ids
+  pub cells : output′ ≡ putAt output 0 ids
+
 -- an answer as its caller reads it: refused, a range, or the first ids of the output
 unfoldable pub readOff : SubsetAnswer → List ℕ → Reply Subset
 readOff (Refused n) output = refused n

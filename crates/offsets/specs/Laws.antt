@@ -1,5 +1,5 @@
--- The set laws of subsets: what crates above this one may use of `intersect`, `retain` and `narrowed`; and what an answer
--- says whose ids are written. Assumes nothing.
+-- The set laws of subsets: what crates above this one may use of `intersect`, `retain` and `narrowed`; what an answer says
+-- whose ids are written; and that a reply determines it. Assumes nothing.
 use Prim.Native.Nat.{ℕ, zero, suc, _+_, _-_, _≤_, _<_, min, max}
 use mathlib.Core.Path.{_≡_, refl, sym, ap, _∙_}
 use mathlib.Core.Logic.{inl, inr}
@@ -15,12 +15,12 @@ use Rattle.lists.specs.Laws.Keep.{split, and-left, and-right, keep-same, keep-e
 use Rattle.lists.specs.Laws.Rising.{length-countFrom, getD-countFrom, rising-keep, rising-countFrom, rising-at, has-countFrom, keep-has-comm, keep-within-countFrom, neighbours-countFrom}
 use Rattle.lists.specs.Laws.Search.{take-put}
 use Rattle.refusals.specs.Refusals.{Reply, refused, accepted}
+use Rattle.refusals.specs.Determined.{Same}
 use Rattle.offsets.specs.declared.SubsetHead.{SubsetHead}
 use Rattle.offsets.specs.declared.SubsetAnswer.{SubsetAnswer}
 use Rattle.offsets.specs.declared.SubsetAnswer.the-variants.{Range, List as Ids}
 use Rattle.offsets.specs.Subsets.{Subset, range, list, wellFormed, members, size, lastOf, endOf, listOrNothing, intersect, shaped, retain, narrowed}
-use Rattle.offsets.specs.Answers.{subsetOf, answerOf, readOff, written, Answered}
-use Rattle.offsets.specs.Common.{Wrote}
+use Rattle.offsets.specs.Answers.{subsetOf, answerOf, readOff, written, Answered, Wrote}
 
 -- ---- a borrowed subset, by its kind
 
@@ -254,3 +254,9 @@ read-off (refused n) output answer output′ h a = rw (a .answers)
 read-off (accepted (range start end)) output answer output′ h a = rw (a .answers)
 read-off (accepted (list ids)) output answer output′ h a =
     rw (a .answers, a .writes) (ap (λ (l : List ℕ). accepted (list l)) (take-put output ids))
+
+-- The reply determines the answer and the output: no choice is left. That is all of *Intersect*, whose reply is
+-- `intersectReply`, and of a refine.
+pub answered-determined : {r : Reply Subset} {output output₁ output₂ : List ℕ} {a b : SubsetAnswer}
+    → Answered r output a output₁ → Answered r output b output₂ → Same a b output₁ output₂
+answered-determined x y = record { answer = x .answers ∙ sym (y .answers); cells = x .writes ∙ sym (y .writes) }

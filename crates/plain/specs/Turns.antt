@@ -3,10 +3,10 @@
 use Prim.Native.Nat.{ℕ}
 use mathlib.Core.Path.{_≡_, refl}
 use mathlib.Core.Bool.{Bool, true, false, _&&_, Bool·beq}
-use mathlib.Core.List.{List, [], _∷_, map}
+use mathlib.Core.List.{List, [], _∷_, _++_, map}
 use lib.ListN.{length}
 use lib.Dec.{eqb}
-use Rattle.lists.specs.Lists.{every, same, count, keep}
+use Rattle.lists.specs.Lists.{every, same, count, keep, countFrom}
 use Rattle.refusals.specs.Refusals.{first}
 use Rattle.cells.specs.Cells.{isDead}
 use Rattle.merge_rules.specs.Rules.{ruledColumn, taken, madeCell, madeFrom, changesFrom, ruled}
@@ -116,6 +116,19 @@ turns =
       dead-after = 1;
       live-after = row 1 (level 2 5 12) ∷ [];
     }
+    -- a merge that stops compacts nothing, though all its 17 rows are dead
+    ∷ record {
+      opening = levels 20;
+      before =
+          map (λ key. staging (insert (level key 5 12))) (countFrom 1 17)
+          ++ (merging ∷ map (λ key. staging (removeKey (key ∷ []))) (countFrom 1 17))
+          ++ (staging (insert (level 30 5 11)) ∷ []);
+      status = 9;
+      place = 0;
+      added = false;
+      dead-after = 17;
+      live-after = [];
+    }
     ∷ []
 
 abbrev sameRow : Numbered → Numbered → Bool
@@ -129,7 +142,7 @@ sameRows (a ∷ rest) (b ∷ bs) = sameRow a b && sameRows rest bs
 
 abbrev lent : Call → Lent
 lent call =
-    record { call = call; lengths = record { rows = 27; keys = 18; sorts = 18; pending = 100; liveWords = 1; baseWords = 1 } }
+    record { call = call; lengths = record { rows = 60; keys = 40; sorts = 40; pending = 100; liveWords = 1; baseWords = 1 } }
 
 -- the merge after a turn's calls
 abbrev outcome : Turn → Inserted Plain
@@ -147,5 +160,5 @@ comesOut t =
     && sameRows (liveRows (outcome t .table)) (t .live-after)
 
 pub all-come-out : every comesOut turns ≡ true
-unfolding every same count keep first isDead ruledColumn taken madeCell madeFrom changesFrom ruled openable wordsOf wordsAll keyRemovals rowRemovals inserts hasKey skipped due insertAll liveFrom liveRows dead storesShort wordsShort pendingShort opened wrongWidth noSuchRow usedAfter stageRefusal stage liveWithKey killIf withoutKey withoutKeys dies withoutRow withoutRows liveOf admits stop append put insertion applied compacted compactIfDue unstaged merged mergeRefusal refusal done after afterAll turns sameRows comesOut
+unfolding every same count keep countFrom first isDead ruledColumn taken madeCell madeFrom changesFrom ruled openable wordsOf wordsAll keyRemovals rowRemovals inserts hasKey skipped due insertAll liveFrom liveRows dead storesShort wordsShort pendingShort opened wrongWidth noSuchRow usedAfter stageRefusal stage liveWithKey killIf withoutKey withoutKeys dies withoutRow withoutRows liveOf admits stop append put insertion applied compacted compactIfDue unstaged merged mergeRefusal refusal done after afterAll turns sameRows comesOut
 all-come-out = refl

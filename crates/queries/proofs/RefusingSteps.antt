@@ -19,7 +19,7 @@ use Rattle.constraints.specs.Constraints.{known}
 use Rattle.table.specs.declared.Header.{Header}
 use Rattle.table.specs.Refusing.{outside, rowsShort}
 use Rattle.queries.specs.Queries.{pastRows, unknown, refineRefusal, matchRefusal, pageRefusal}
-use Rattle.queries.specs.Sweeping.{Askable, subsetRefusal, RefineRefused, MatchRefused, PageRefused}
+use Rattle.queries.specs.Tests.{Askable, subsetRefusal, RefineRefused, MatchRefused, PageRefused}
 
 -- ---- test 5
 

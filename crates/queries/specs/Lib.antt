@@ -1,3 +1,3 @@
 pub mod Queries
-pub mod Sweeping
-pub mod Borrowed
+pub mod Tests
+pub mod Laws

@@ -4,7 +4,7 @@ ghost use mathlib.Core.Path.{_≡_};
 ghost use Rattle.offsets.specs.Answers.{subsetOf};
 ghost use Rattle.queries.specs.Queries.{pastRows};
 ghost use Prim.Native.Nat.{min};
-ghost use Rattle.queries.specs.Sweeping.{subsetRefusal, RefineRefused, MatchRefused, PageRefused};
+ghost use Rattle.queries.specs.Tests.{subsetRefusal, RefineRefused, MatchRefused, PageRefused};
 use offsets::BoundsAnswer;
 use offsets::SubsetHead;
 use table::Header;
@@ -39,7 +39,7 @@ fn subset_refusal(h: Header, rows: usize, head: SubsetHead, ids: &[u32]) -> u32
 }
 
 // *Refine by one, by a list*
-pub(crate) fn refine_refusal(
+pub fn refine_refusal(
     h: Header,
     rows: usize,
     head: SubsetHead,
@@ -63,13 +63,7 @@ pub(crate) fn refine_refusal(
 }
 
 // *Any match*
-pub(crate) fn match_refusal(
-    h: Header,
-    rows: usize,
-    head: SubsetHead,
-    ids: &[u32],
-    known: bool,
-) -> u32
+pub fn match_refusal(h: Header, rows: usize, head: SubsetHead, ids: &[u32], known: bool) -> u32
     ensures { λ r. ⌜ MatchRefused h rows (subsetOf head (now (ids .entry))) known r ⌝ }
 {
     let number = subset_refusal(h, rows, head, ids);
@@ -82,14 +76,14 @@ pub(crate) fn match_refusal(
     0
 }
 
-pub(crate) fn smaller(a: usize, b: usize) -> usize
+pub fn smaller(a: usize, b: usize) -> usize
     ensures { λ r. ⌜ r ≡ min a b ⌝ }
 {
     if a < b { a } else { b }
 }
 
 // *Page*
-pub(crate) fn page_refusal(
+pub fn page_refusal(
     h: Header,
     rows: usize,
     head: SubsetHead,

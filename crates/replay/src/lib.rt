@@ -9,13 +9,13 @@ ghost use Rattle.replay.specs.Encoding.{callOf, decoded};
 ghost use Rattle.replay.specs.Replaying.{CallLength, Made, MadeOnPending, Replayed};
 use compaction::compact;
 use merge::merge;
+use opening::clear;
+use staging::stage_insert;
+use staging::stage_remove;
+use staging::stage_remove_row;
 use table::Header;
 use table::MergeAnswer;
 use table::TableAnswer;
-use table::opening::clear;
-use table::staging::stage_insert;
-use table::staging::stage_remove;
-use table::staging::stage_remove_row;
 
 // The words of the call at a place, its kind and count among them; 0 if none stands there whole.
 fn call_length(calls: &[u32], at: usize) -> usize

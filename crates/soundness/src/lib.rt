@@ -94,7 +94,7 @@ fn index_sound(t: Keyed, rows: &[u32], keys: &[u32]) -> bool
     requires { ⌜ Fits t (now rows) (now keys) ⌝ }
     ensures { λ r. ⌜ Told (IndexSound t (now (rows .entry)) (now (keys .entry))) r ⌝ }
 {
-    if !key_index::check::keys_sound(t, rows, keys) {
+    if !key_check::keys_sound(t, rows, keys) {
         return false;
     }
     keys_differ(t, rows, keys)

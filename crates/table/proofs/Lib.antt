@@ -1,2 +1,1 @@
 pub mod RefusingSteps
-pub mod ReadingSteps

@@ -8,3 +8,5 @@ pub mod Sound
 pub mod Lookup
 pub mod Refusals
 pub mod Opening
+pub mod Answers
+pub mod Determined

@@ -4,4 +4,3 @@ pub mod Stores
 pub mod Sound
 pub mod Promises
 pub mod Laws
-pub mod Stagings

@@ -1,12 +1,10 @@
-// The table: `SortedWritesTable` of table/mod.rs, over lent stores. The types that its definitions speak of.
+// The table: `SortedWritesTable` of table/mod.rs, over lent stores. The types that its definitions speak of, and what each
+// operation turns away; the operations themselves stand in crates above.
 ghost use mathlib.Core.Path.{_≡_};
 ghost use Rattle.table.specs.Sound.{keyedOf};
 use key_index::Keyed;
 
 pub mod refusing; // refusing.rt: what each operation turns away
-pub mod opening; // opening.rt: open and clear
-pub mod staging; // staging.rt: records staged for a merge
-pub mod reading; // reading.rt: lookups, fast range, version
 
 // A table's numbers. The stores that go with it are lent at each call.
 pub struct Header {

@@ -28,9 +28,9 @@ use Rattle.sort_entries.specs.Laws.Stores.{length-words, words-snoc, entriesOf-
 use Rattle.row_buffer.specs.Ranks.{liveAt, liveWord, newNumber}
 use Rattle.row_buffer.specs.Laws.{word-none, word-live, word-dead, word-lt, number-rank, keep-at}
 use Rattle.key_index.specs.Slots.{LiveAt, slots}
-use Rattle.key_index.specs.Index.{newRow, renumbered}
-use Rattle.key_index.specs.RenumberLaws.{liveBelow, below-number, live-among, live-rises, Compacted, renumber-sound}
-use Rattle.key_index.specs.GapLaws.{small}
+use Rattle.key_gaps.specs.Gaps.{newRow, renumbered}
+use Rattle.key_gaps.specs.RenumberLaws.{liveBelow, below-number, live-among, live-rises, Compacted, renumber-sound}
+use Rattle.key_index.specs.Lines.{small}
 use Rattle.plain.specs.Plain.{Row, Plain, storesShort, compacted}
 use Rattle.plain.specs.Laws.Rows.{noRow}
 use Rattle.plain.specs.Laws.Proper.{compacted-proper}

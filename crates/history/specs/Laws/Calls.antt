@@ -6,6 +6,7 @@ use mathlib.Core.Logic.{inl, inr}
 use mathlib.Core.List.{List, []}
 use lib.ListN.{length}
 use Rattle.refusals.specs.Refusals.{Reply, refused, accepted}
+use Rattle.refusals.specs.Laws.{some-number, ruled-refused}
 use Rattle.plain.specs.Staged.{Opening, Staged}
 use Rattle.plain.specs.Plain.{Plain, Lengths, opened, storesShort, wordsShort, compactRefusal as plainCompact}
 use Rattle.plain.specs.Calls.{Call, staging, merging, compacting, clearing, refusal, done, after, Lent, afterAll}
@@ -20,7 +21,7 @@ use Rattle.table.specs.Stores.{headerOf}
 use Rattle.table.specs.Promises.{Stores, stores, lengths, Represents, headerAfter, headerMerged, Staging, Merging, Compacting, Clearing}
 use Rattle.table.specs.Laws.Ladders.{stage-ladders, merge-ladders, compact-ladders, clear-ladders}
 use Rattle.table.specs.Laws.Staging.{staging-represents}
-use Rattle.history.specs.Laws.Replies.{some-number, ruled-refused, reply-refused, reply-accepted, accepted-number, accepted-same}
+use Rattle.history.specs.Laws.Replies.{reply-refused, reply-accepted, accepted-number, accepted-same}
 use Rattle.history.specs.Histories.{Step, staged, merged, compacted, cleared, Steps, end, next, History}
 
 -- ---- the header after a refused call, and after an accepted one

@@ -1,21 +1,8 @@
 -- Replies: which ladders were passed, and what their answers are. Assumes nothing.
 use Prim.Native.Nat.{ℕ, zero, suc, _<_}
 use mathlib.Core.Path.{_≡_, refl}
-use mathlib.Core.Logic.{_⊎_, inl, inr}
 use native.Mathlib.Omega.{arith}
 use Rattle.refusals.specs.Refusals.{Reply, refused, accepted, reply, verdict, ruling}
-
--- a number is 0 or not
-pub some-number : (n : ℕ) → (n ≡ 0) ⊎ (0 < n)
-some-number zero = inl refl
-some-number (suc n) = inr (omega arith)
-
--- the answer of a ladder that turns away is its number
-pub ruled-refused : {A : Type 0} (r : Reply A) (n : ℕ) → verdict r ≡ ruling n → 0 < n → r ≡ refused n
-unfolding verdict ruling
-ruled-refused r zero e h = absurd (omega arith)
-ruled-refused (refused m) (suc n) e h = cc
-ruled-refused (accepted a) (suc n) e h = absurd (let z : _≡_ {A = ℕ} 0 1 = cc in omega arith)
 
 -- a ladder whose answer is a value turned nothing away
 pub ruled-accepted : {A : Type 0} (r : Reply A) (a : A) (n : ℕ) → verdict r ≡ ruling n → r ≡ accepted a → n ≡ 0

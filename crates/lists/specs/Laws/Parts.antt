@@ -82,6 +82,15 @@ module _ {A : Type 0} where
         let k : length (take at l ++ w) ≡ at + length w = simp (length-append, length-take) (omega arith) in
         rw (← append-assoc (take at l) w (drop (at + length w) l)) (take-at (take at l ++ w) (drop (at + length w) l) (at + length w) k)
 
+  -- two lists whose first n elements are alike, and whose rest is
+  pub same-parts : (d : A) (n : ℕ) (l m : List A) → n ≤ length l → n ≤ length m → ((i : ℕ) → i < n → getD l i d ≡ getD m i d)
+      → drop n l ≡ drop n m → l ≡ m
+  same-parts d zero l m h k f e = e
+  same-parts d (suc n) [] m h k f e = absurd (omega arith)
+  same-parts d (suc n) (x ∷ xs) [] h k f e = absurd (omega arith)
+  same-parts d (suc n) (x ∷ xs) (y ∷ ys) h k f e =
+      ap₂ (λ (a : A) (r : List A). a ∷ r) (f zero (omega arith)) (same-parts d n xs ys (omega arith) (omega arith) (λ i g. f (suc i) (omega arith)) e)
+
   pub putAt-nil : (l : List A) (at : ℕ) → putAt l at [] ≡ l
   unfolding putAt
   putAt-nil l at = rw add-zero (take-append-drop at l)

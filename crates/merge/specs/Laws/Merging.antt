@@ -19,10 +19,13 @@ use Rattle.table.specs.declared.MergeAnswer.the-variants.{Merged}
 use Rattle.table.specs.Numbers.{mergeSays}
 use Rattle.table.specs.Stores.{headerOf, rowStore}
 use Rattle.table.specs.Promises.{Stores, stores, Represents, mergeOf, mergedRows, mergedSorts, MergedTable}
-use Rattle.merge.specs.Steps.{Steps, removedAll, InsertedTable}
+use Rattle.pending.specs.Steps.{Steps}
+use Rattle.merge.specs.Insertions.{InsertedTable}
+use Rattle.removals.specs.Removals.{removedAll}
 use Rattle.merge.specs.Merging.{AppliedTable, finished, FinishedTable}
 use Rattle.table.specs.Laws.Stored.{stored-live}
-use Rattle.merge.specs.Laws.Steps.{steps-refl, first-stored, steps-then, removedAll-keys, removedAll-rows}
+use Rattle.pending.specs.Laws.Steps.{steps-refl, first-stored, steps-then}
+use Rattle.removals.specs.Laws.Removals.{removedAll-keys, removedAll-rows}
 
 -- ---- the passes
 

@@ -2,7 +2,7 @@
 use Prim.Native.Nat.{_-_}
 use lib.ListN.{length}
 use borrow.Author.Needs.{needs}
-use Rattle.offsets.proofs.Search.{Tested, tested-begin, tested-more, tested-all}
+use Rattle.offsets.proofs.Rising.{Tested, tested-begin, tested-more, tested-all}
 use Rattle.offsets.proofs.is_block_rising.Statement.{statement}
 use Rattle.offsets.proofs.is_block_rising.Tie as tie
 

@@ -4,7 +4,7 @@ use mathlib.Core.Path.{_∙_}
 use lib.ListN.{length}
 use borrow.Author.Needs.{needs}
 use borrow.Author.Tests.{not-true, not-false}
-use Rattle.offsets.proofs.Search.{Onward, onward-begin, onward-more, onward-fall, onward-end}
+use Rattle.offsets.proofs.Rising.{Onward, onward-begin, onward-more, onward-fall, onward-end}
 use Rattle.offsets.proofs.is_rising.Statement.{statement}
 use Rattle.offsets.proofs.is_rising.Tie as tie
 

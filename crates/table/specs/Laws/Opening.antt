@@ -1,6 +1,7 @@
 -- An opening and a clear: the stores show the empty plain table, or the one whose staged records are gone. Assumes nothing.
 use Prim.Native.Nat.{ℕ, zero, suc, _+_, _*_, _≤_, _<_}
 use mathlib.Core.Path.{_≡_, refl, sym, ap, _∙_}
+use mathlib.Core.Logic.{⊎-elim}
 use mathlib.Core.Bool.{true, false}
 use mathlib.Core.List.{List, []}
 use native.Mathlib.Decide.{ℕ-discrete}
@@ -10,6 +11,7 @@ use borrow.Author.Tests.{lt-ltb, le-ltb, not-false}
 use Rattle.lists.specs.Lists.{every, count, rowsOf, flat}
 use Rattle.lists.specs.Laws.Parts.{length-putAt}
 use Rattle.refusals.specs.Refusals.{reply, verdict, ruling, accepted}
+use Rattle.refusals.specs.Laws.{some-number}
 use Rattle.sort_entries.specs.Entries.{entriesOf, rebuilt, pushAll}
 use Rattle.key_index.specs.Index.{zeros, EmptyIs}
 use Rattle.key_index.specs.Laws.{emptied, empty-sound}
@@ -107,6 +109,15 @@ cleared-some p h = rw (lt-ltb 0 (length (p .rows)) h)
 cleared-none : (p : Plain) → length (p .rows) ≡ 0 → cleared p ≡ unstaged p
 unfolding cleared
 cleared-none p e = rw (le-ltb 0 (length (p .rows)) (omega arith))
+
+-- either way no row is left, and the opening's numbers stay
+pub cleared-rows : (p : Plain) → length (cleared p .rows) ≡ 0
+unfolding opened unstaged
+cleared-rows p = ⊎-elim (λ e. rw (cleared-none p e) e) (λ h. rw (cleared-some p h)) (some-number (length (p .rows)))
+
+pub cleared-opening : (p : Plain) → cleared p .opening ≡ p .opening
+unfolding opened unstaged
+cleared-opening p = ⊎-elim (λ e. rw (cleared-none p e)) (λ h. rw (cleared-some p h)) (some-number (length (p .rows)))
 
 -- a table with nothing staged
 header-unstaged : (p : Plain) → withPending (headerOf p) 0 ≡ headerOf (unstaged p)

@@ -1,0 +1,178 @@
+// The questions under C names: lookups, fast range, versions, refining, intersect.
+ghost use mathlib.Core.Path.{_≡_};
+ghost use lib.ListN.{length};
+ghost use Rattle.table.specs.Promises.{LookedUp, CellRead, RangeRead, RowsSince, VersionRead};
+ghost use Rattle.words.specs.Words.{headerIn, rowNumber, rowWords, cellNumber, cellWords, rangeNumber, rangeWords, versionNumber, versionWords, Asked, subsetNumber, subsetWords};
+ghost use Rattle.offsets.specs.Answers.{subsetOf};
+ghost use Rattle.queries.specs.Queries.{RefinedOne};
+ghost use Rattle.exports_questions.specs.Intersecting.{Intersected};
+use constraints::Constraint;
+use offsets::SubsetHead;
+use words::header_of;
+use words::subset_number;
+use words::write_answer;
+use words::write_cell;
+use words::write_range;
+use words::write_row;
+use words::write_version;
+
+#[no_mangle]
+pub extern "C" fn mouldgrey_get_row(
+    header: &[u32],
+    rows: &[u32],
+    keys: &[u32],
+    key: &[u32],
+    words: &mut [u32],
+) -> u32
+    ensures { λ r. ⌜ Asked (λ answer. LookedUp (headerIn (now (header .entry))) (now (rows .entry)) (now (keys .entry)) (now (key .entry)) answer) rowNumber rowWords 2 (now (header .entry)) (now (words .entry)) r (now (words .exit)) ⌝ }
+{
+    if header.len() != 10 {
+        return 1;
+    }
+    if words.len() != 2 {
+        return 2;
+    }
+    let answer = reading::get_row(header_of(header), rows, keys, key);
+    write_row(answer, words)
+}
+
+#[no_mangle]
+pub extern "C" fn mouldgrey_get_row_column(
+    header: &[u32],
+    rows: &[u32],
+    keys: &[u32],
+    key: &[u32],
+    column: u32,
+    words: &mut [u32],
+) -> u32
+    ensures { λ r. ⌜ Asked (λ answer. CellRead (headerIn (now (header .entry))) (now (rows .entry)) (now (keys .entry)) (now (key .entry)) column answer) cellNumber cellWords 2 (now (header .entry)) (now (words .entry)) r (now (words .exit)) ⌝ }
+{
+    if header.len() != 10 {
+        return 1;
+    }
+    if words.len() != 2 {
+        return 2;
+    }
+    let answer = reading::get_row_column(header_of(header), rows, keys, key, column);
+    write_cell(answer, words)
+}
+
+#[no_mangle]
+pub extern "C" fn mouldgrey_fast_subset(
+    header: &[u32],
+    sorts: &[u32],
+    kind: u32,
+    column: u32,
+    value: u32,
+    words: &mut [u32],
+) -> u32
+    ensures { λ r. ⌜ Asked (λ answer. RangeRead (headerIn (now (header .entry))) (now (sorts .entry)) (record { kind = kind; column = column; value = value }) answer) rangeNumber rangeWords 3 (now (header .entry)) (now (words .entry)) r (now (words .exit)) ⌝ }
+{
+    if header.len() != 10 {
+        return 1;
+    }
+    if words.len() != 3 {
+        return 2;
+    }
+    let c = Constraint {
+        kind,
+        column,
+        value,
+    };
+    let answer = reading::fast_subset(header_of(header), sorts, c);
+    write_range(answer, words)
+}
+
+#[no_mangle]
+pub extern "C" fn mouldgrey_updates_since(header: &[u32], row: u32, words: &mut [u32]) -> u32
+    ensures { λ r. ⌜ Asked (λ answer. RowsSince (headerIn (now (header .entry))) row answer) rangeNumber rangeWords 3 (now (header .entry)) (now (words .entry)) r (now (words .exit)) ⌝ }
+{
+    if header.len() != 10 {
+        return 1;
+    }
+    if words.len() != 3 {
+        return 2;
+    }
+    let answer = reading::updates_since(header_of(header), row);
+    write_range(answer, words)
+}
+
+// The answer goes into two words: generation and row count.
+#[no_mangle]
+pub extern "C" fn mouldgrey_version(header: &[u32], words: &mut [u32]) -> u32
+    ensures { λ r. ⌜ Asked (λ answer. VersionRead (headerIn (now (header .entry))) answer) versionNumber versionWords 2 (now (header .entry)) (now (words .entry)) r (now (words .exit)) ⌝ }
+{
+    if header.len() != 10 {
+        return 1;
+    }
+    if words.len() != 2 {
+        return 2;
+    }
+    let answer = reading::version(header_of(header));
+    write_version(answer, words)
+}
+
+// The answer goes into three words, as that of `mouldgrey_intersect`. Nothing is written to the output where the header is not
+// ten words or the answer's words not three.
+#[no_mangle]
+pub extern "C" fn mouldgrey_refine_one(
+    header: &[u32],
+    rows: &[u32],
+    dense: bool,
+    start: u32,
+    end: u32,
+    ids: &[u32],
+    kind: u32,
+    column: u32,
+    value: u32,
+    output: &mut [u32],
+    words: &mut [u32],
+) -> u32
+    ensures { λ r. ⌜ Asked (λ answer. RefinedOne (headerIn (now (header .entry))) (now (rows .entry)) (subsetOf (record { dense = dense; start = start; end = end }) (now (ids .entry))) (record { kind = kind; column = column; value = value }) (now (output .entry)) answer (now (output .exit))) subsetNumber subsetWords 3 (now (header .entry)) (now (words .entry)) r (now (words .exit)) × (((length (now (header .entry)) ≡ 10) × (length (now (words .entry)) ≡ 3) → ⊥) → now (output .exit) ≡ now (output .entry)) ⌝ }
+{
+    if header.len() != 10 {
+        return 1;
+    }
+    if words.len() != 3 {
+        return 2;
+    }
+    let head = SubsetHead { dense, start, end };
+    let c = Constraint {
+        kind,
+        column,
+        value,
+    };
+    let answer = questions::refine_one(header_of(header), rows, head, ids, c, output);
+    write_answer(answer, words);
+    subset_number(answer)
+}
+
+// The common ids of two subsets. The answer goes into three words; false, and nothing done, where those are not three.
+#[no_mangle]
+pub extern "C" fn mouldgrey_intersect(
+    dense: bool,
+    start: u32,
+    end: u32,
+    ids: &[u32],
+    other_dense: bool,
+    other_start: u32,
+    other_end: u32,
+    other_ids: &[u32],
+    output: &mut [u32],
+    words: &mut [u32],
+) -> bool
+    ensures { λ r. ⌜ Intersected (subsetOf (record { dense = dense; start = start; end = end }) (now (ids .entry))) (subsetOf (record { dense = «other_dense»; start = «other_start»; end = «other_end» }) (now («other_ids» .entry))) (now (output .entry)) (now (words .entry)) r (now (output .exit)) (now (words .exit)) ⌝ }
+{
+    if words.len() != 3 {
+        return false;
+    }
+    let first = SubsetHead { dense, start, end };
+    let second = SubsetHead {
+        dense: other_dense,
+        start: other_start,
+        end: other_end,
+    };
+    let answer = intersection::intersect(first, ids, second, other_ids, output);
+    write_answer(answer, words);
+    true
+}

@@ -1,0 +1,114 @@
+-- `merge::inserts::replace_row` meets its contract. Assumes nothing.
+use Prim.Native.Nat.{ℕ, _*_, _<_}
+use mathlib.Core.Path.{ap, _∙_}
+use mathlib.Core.List.{List}
+use native.Mathlib.Omega.{arith}
+use lib.ListN.{length, length-set}
+use borrow.Author.Needs.{needs}
+use Rattle.lists.specs.Lists.{putAt}
+use Rattle.inserts.proofs.InsertSteps.{Placed, placed, stop-of, entered-of, stayed-of, replaced-of}
+use Rattle.inserts.proofs.replace_row.Statement.{statement}
+use Rattle.inserts.proofs.replace_row.Tie as tie
+
+-- there is room for the row
+room : (c : tie.After-entries) → let h = c .before .before .before .before .before .before .before .before .before .before .before .before .args .h in h .rows < h .capacity
+room c = entered-of _ _ _ _ _ (c .before .before .before .before .admit .ensures) _ (c .entries .given .1) .room
+
+-- its place
+place : (c : tie.After-entries) → let a = c .before .before .before .before .before .before .before .before .before .before .before .before .args in Placed (a .h) (a .rows .now) (a .h .rows)
+place c = placed _ _ _ (c .before .before .before .before .before .before .before .before .before .before .before .before .pre .0 .fits) _ (room c)
+
+-- the old row's place
+old-place : (c : tie.After-entries) → let a = c .before .before .before .before .before .before .before .before .before .before .before .before .args in Placed (a .h) (a .rows .now) (a .old)
+old-place c = let s = c .before .before .before .before .before .before .before .before .before .before .before .before in placed _ _ _ (s .pre .0 .fits) _ (omega (arith, s .pre .1, room c))
+
+cast-admit : tie.Need-cast-admit
+cast-admit c = search needs
+
+mul-admit : tie.Need-mul-admit
+mul-admit c = search needs
+
+shared-slice-read-admit : tie.Need-shared-slice-read-admit
+shared-slice-read-admit c = search needs
+
+admit-requires : tie.Need-admit-requires
+admit-requires c κs = search needs
+
+enum-known-number : tie.Need-enum-known-number
+enum-known-number c = search needs
+
+enum-known-entries : tie.Need-enum-known-entries
+enum-known-entries c = search needs
+
+mul-set-stale : tie.Need-mul-set-stale
+mul-set-stale c = omega (arith, old-place (c .before .before .before))
+
+cast-set-stale : tie.Need-cast-set-stale
+cast-set-stale c = omega (arith, old-place (c .before .before .before))
+
+set-stale-requires : tie.Need-set-stale-requires
+set-stale-requires c κs = omega (arith, old-place (c .before .before .before), c .before .before .before .before .before .before .before .before .before .before .before .before .before .before .before .pre .0 .fits .some-columns)
+
+mul-write-row : tie.Need-mul-write-row
+mul-write-row c = omega (arith, place (c .before .before .before .before .before .before .before .before))
+
+cast-write-row : tie.Need-cast-write-row
+cast-write-row c = omega (arith, place (c .before .before .before .before .before .before .before .before))
+
+write-row-requires : tie.Need-write-row-requires
+write-row-requires c κs =
+    let a = c .before .before .before .before .before .before .before .before .before .before .before .before .before .before .before .before .before .before .before .before .args in
+    omega (arith, place (c .before .before .before .before .before .before .before .before), c .before .before .before .before .before .before .before .before .before .before .before .before .before .before .before .before .before .before .before .before .pre .0 .width, ap length (c .before .before .before .before .set-stale .ensures .cells) ∙ length-set (a .rows .now) (a .old * a .h .columns) 4294967295)
+
+replace-requires : tie.Need-replace-requires
+replace-requires c κs = let p = c .before .before .before .before .before .before .before .before .before .before .before .before .before .before .before .before .before .before .before .before .before .before .before .before .pre in omega (arith, room (c .before .before .before .before .before .before .before .before .before .before .before .before), p .0 .fits, p .2)
+
+grown-requires : tie.Need-grown-requires
+grown-requires c κs = omega (arith, room (c .before .before .before .before .before .before .before .before .before .before .before .before .before .before .before), c .before .before .before .before .before .before .before .before .before .before .before .before .before .before .before .before .before .before .before .before .before .before .before .before .before .before .before .pre .0)
+
+same-length : tie.Need-same-length
+same-length c = search needs
+
+returns : tie.Need-returns
+returns c = stayed-of _ _ _ _ _ _ _ (stop-of _ _ _ _ _ (c .before .before .before .before .before .admit .ensures) _ (c .before .number .given .1))
+
+same-length-2 : tie.Need-same-length-2
+same-length-2 c = search needs
+
+same-length-3 : tie.Need-same-length-3
+same-length-3 c = search needs
+
+same-length-4 : tie.Need-same-length-4
+same-length-4 c = entered-of _ _ _ _ _ (c .before .before .before .before .before .before .before .before .before .before .before .before .before .before .before .before .before .before .before .before .admit .ensures) _ (c .before .before .before .before .before .before .before .before .before .before .before .before .before .before .before .before .entries .given .1) .same
+
+returns-2 : tie.Need-returns-2
+returns-2 c =
+    let a = c .before .before .before .before .before .before .before .before .before .before .before .before .before .before .before .before .before .before .before .before .before .before .before .before .before .before .before .before .args in
+    replaced-of _ _ _ _ _ _ _ _ (entered-of _ _ _ _ _ (c .before .before .before .before .before .before .before .before .before .before .before .before .before .before .before .before .before .before .before .before .admit .ensures) _ (c .before .before .before .before .before .before .before .before .before .before .before .before .before .before .before .before .entries .given .1)) _ _ _ (a .old) (a .slot)
+    (c .before .before .before .before .before .before .before .write-row .ensures ∙ ap (λ (rows : List ℕ). putAt rows (a .h .rows * a .h .columns) (a .cells .now)) (c .before .before .before .before .before .before .before .before .before .before .before .before .set-stale .ensures .cells))
+    (c .before .before .before .replace .ensures) (c .grown .ensures)
+
+pub replace-row-spec : {M : Type 1} → statement M
+replace-row-spec =
+    tie.close
+    (tie.spec
+    cast-admit
+    mul-admit
+    shared-slice-read-admit
+    admit-requires
+    enum-known-number
+    enum-known-entries
+    mul-set-stale
+    cast-set-stale
+    set-stale-requires
+    mul-write-row
+    cast-write-row
+    write-row-requires
+    replace-requires
+    grown-requires
+    same-length
+    returns
+    same-length-2
+    same-length-3
+    same-length-4
+    returns-2)

@@ -1,0 +1,3 @@
+pub mod Inserting
+pub mod Inserts
+pub mod Laws

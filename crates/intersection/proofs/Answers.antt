@@ -1,0 +1,157 @@
+-- What each answer says, and the tests of an intersection one by one. Assumes nothing.
+use Prim.Native.Nat.{ℕ, zero, suc, _≤_, _<_, min, max}
+use mathlib.Core.Path.{_≡_, refl, sym}
+use mathlib.Core.Logic.{inl, inr}
+use mathlib.Core.Bool.{Bool, true, false}
+use mathlib.Core.List.{List, [], _∷_}
+use native.Mathlib.Decide.{decLt}
+use native.Mathlib.Omega.{arith}
+use lib.ListN.{length}
+use borrow.Author.Tests.{lt-ltb, le-ltb}
+use Rattle.lists.specs.Lists.{keep, within}
+use Rattle.lists.specs.Laws.Parts.{putAt-nil}
+use Rattle.lists.specs.Laws.Keep.{split, length-keep, count-le}
+use Rattle.refusals.specs.Refusals.{first, refused, accepted, reply}
+use Rattle.offsets.specs.declared.SubsetHead.{SubsetHead}
+use Rattle.offsets.specs.declared.SubsetAnswer.{SubsetAnswer}
+use Rattle.offsets.specs.declared.SubsetAnswer.the-variants.{Refused, Range, List as Ids}
+use Rattle.offsets.specs.Subsets.{Subset, range, list, wellFormed, listOrNothing, intersect}
+use Rattle.offsets.specs.Answers.{subsetOf, answerOf, written, Answered, room, intersectRefusal, intersectReply, Wrote}
+use Rattle.intersection.specs.Common.{Fitting, Searchable, common}
+use Rattle.offsets.specs.Laws.{dense-is, sparse-is, answered-list, formed-order, formed-rising, formed-short}
+
+-- ---- answers
+
+pub answered-none : (ids output : List ℕ) (n : ℕ) (output′ : List ℕ) → Wrote output ids n output′ → n ≡ 0 → Answered (accepted (listOrNothing ids)) output (Range 0 0) output′
+unfolding answerOf written listOrNothing
+answered-none [] output n output′ w e = record { answers = refl; writes = w .cells }
+answered-none (x ∷ xs) output n output′ w e = absurd (let k = w .number in omega arith)
+
+pub answered-some : (ids output : List ℕ) (n : ℕ) (output′ : List ℕ) → Wrote output ids n output′ → (n ≡ 0 → ⊥) → Answered (accepted (listOrNothing ids)) output (Ids n) output′
+unfolding listOrNothing
+answered-some [] output n output′ w e = absurd (e (w .number))
+answered-some (x ∷ xs) output n output′ w e = answered-list (x ∷ xs) output n output′ w
+
+-- what is kept of a short list is counted by a u32
+pub wrote-few : (test : ℕ → Bool) (ids output : List ℕ) (n : ℕ) (output′ : List ℕ) → Wrote output (keep test ids) n output′ → n ≤ length ids
+wrote-few test ids output n output′ w = let a = length-keep test ids in let b = count-le test ids in let c = w .number in omega arith
+
+pub wrote-few-common : (ids others output : List ℕ) (n : ℕ) (output′ : List ℕ) → Wrote output (common ids others) n output′ → n ≤ length ids
+unfolding common
+wrote-few-common ids others output n output′ w = wrote-few _ ids output n output′ w
+
+-- ---- the tests
+
+module _ (a b : Subset) (n : ℕ) where
+  pub refusal-first : wellFormed a ≡ false → 4 ≡ intersectRefusal a b n
+  unfolding intersectRefusal first
+  refusal-first p = rw p
+
+  pub refusal-second : wellFormed a ≡ true → wellFormed b ≡ false → 4 ≡ intersectRefusal a b n
+  unfolding intersectRefusal first
+  refusal-second p q = rw (p, q)
+
+  pub refusal-room : wellFormed a ≡ true → wellFormed b ≡ true → n < room a b → 2 ≡ intersectRefusal a b n
+  unfolding intersectRefusal first
+  refusal-room p q h = rw (p, q, lt-ltb n (room a b) h)
+
+  pub refusal-none : wellFormed a ≡ true → wellFormed b ≡ true → room a b ≤ n → 0 ≡ intersectRefusal a b n
+  unfolding intersectRefusal first
+  refusal-none p q h = rw (p, q, le-ltb n (room a b) h)
+
+-- none of them applies
+pub record Allowed (a b : Subset) (n : ℕ) : Type 0 where
+  pub formed : wellFormed a ≡ true
+  pub formed-other : wellFormed b ≡ true
+  pub fits : room a b ≤ n
+
+pub allowed : (a b : Subset) (n : ℕ) → intersectRefusal a b n ≡ 0 → Allowed a b n
+allowed a b n e =
+    elim (split (wellFormed a)) [
+      | inl p ↦ elim (split (wellFormed b)) [
+        | inl q ↦ elim (decLt n (room a b)) [
+          | yes h ↦ absurd (let z = refusal-room a b n p q h in omega arith)
+          | no h ↦ record { formed = p; formed-other = q; fits = omega arith }
+        ]
+        | inr q ↦ absurd (let z = refusal-second a b n p q in omega arith)
+      ]
+      | inr p ↦ absurd (let z = refusal-first a b n p in omega arith)
+    ]
+
+-- ---- the reply
+
+reply-refused : (n : ℕ) (s : Subset) → (n ≡ 0 → ⊥) → reply n s ≡ refused n
+unfolding reply
+reply-refused zero s e = absurd (e refl)
+reply-refused (suc n) s e = refl
+
+pub answered-refused : (a b : Subset) (n : ℕ) (output : List ℕ) (r : ℕ) → r ≡ intersectRefusal a b n → (r ≡ 0 → ⊥) → Answered (intersectReply a b n) output (Refused r) output
+unfolding answerOf written intersectReply
+answered-refused a b n output r e z =
+    let k : reply (intersectRefusal a b n) (intersect a b) ≡ refused r = rw (← e) (reply-refused r (intersect a b) z) in
+    record { answers = rw k; writes = rw k (sym (putAt-nil output 0)) }
+
+pub replied : (a b : Subset) (n : ℕ) → intersectRefusal a b n ≡ 0 → intersectReply a b n ≡ accepted (intersect a b)
+unfolding intersectReply reply
+replied a b n e = rw e
+
+-- ---- by kind: the room, what may be kept, and the reply
+
+module _ (f g : SubsetHead) (ids others : List ℕ) where
+  pub room-ranges : f .dense ≡ true → g .dense ≡ true → 0 ≡ room (subsetOf f ids) (subsetOf g others)
+  unfolding room
+  room-ranges p q = rw (dense-is f ids p, dense-is g others q)
+
+  pub room-range-list : f .dense ≡ true → g .dense ≡ false → length others ≡ room (subsetOf f ids) (subsetOf g others)
+  unfolding room
+  room-range-list p q = rw (dense-is f ids p, sparse-is g others q)
+
+  pub room-list : f .dense ≡ false → length ids ≡ room (subsetOf f ids) (subsetOf g others)
+  unfolding room
+  room-list p = rw (sparse-is f ids p)
+
+pub order-of : (f : SubsetHead) (ids : List ℕ) → f .dense ≡ true → wellFormed (subsetOf f ids) ≡ true → f .start ≤ f .end
+order-of f ids p w = formed-order (f .start) (f .end) (rw (dense-is f ids p) at w)
+
+pub searchable-of : (f : SubsetHead) (ids : List ℕ) → f .dense ≡ false → wellFormed (subsetOf f ids) ≡ true → Searchable ids
+searchable-of f ids p w = let v = rw (sparse-is f ids p) at w in record { up = formed-rising ids v; short = formed-short ids v }
+
+pub fitting-of : (ids output : List ℕ) → Searchable ids → length ids ≤ length output → Fitting ids output
+fitting-of ids output s h = record { up = s .up; short = s .short; fits = h }
+
+module _ (f g : SubsetHead) (ids others output : List ℕ) (e : intersectRefusal (subsetOf f ids) (subsetOf g others) (length output) ≡ 0) where
+  can : Allowed (subsetOf f ids) (subsetOf g others) (length output)
+  can = allowed (subsetOf f ids) (subsetOf g others) (length output) e
+
+  pub can-range-list : f .dense ≡ true → g .dense ≡ false → Fitting others output × (f .start ≤ f .end)
+  can-range-list p q =
+      (fitting-of others output (searchable-of g others q (can .formed-other)) (rw (room-range-list f g ids others p q) (can .fits)), order-of f ids p (can .formed))
+
+  pub can-list-range : f .dense ≡ false → g .dense ≡ true → Fitting ids output × (g .start ≤ g .end)
+  can-list-range p q =
+      (fitting-of ids output (searchable-of f ids p (can .formed)) (rw (room-list f g ids others p) (can .fits)), order-of g others q (can .formed-other))
+
+  pub can-lists : f .dense ≡ false → g .dense ≡ false → Fitting ids output × Searchable others
+  can-lists p q =
+      (fitting-of ids output (searchable-of f ids p (can .formed)) (rw (room-list f g ids others p) (can .fits)), searchable-of g others q (can .formed-other))
+
+  module _ (r : SubsetAnswer) (output′ : List ℕ) where
+    pub as-ranges : f .dense ≡ true → g .dense ≡ true → Answered (accepted (range (max (f .start) (g .start)) (max (max (f .start) (g .start)) (min (f .end) (g .end))))) output r output′
+        → Answered (intersectReply (subsetOf f ids) (subsetOf g others) (length output)) output r output′
+    unfolding intersect
+    as-ranges p q w = rw (replied _ _ _ e, dense-is f ids p, dense-is g others q) w
+
+    pub as-range-list : f .dense ≡ true → g .dense ≡ false → Answered (accepted (listOrNothing (keep (within (f .start) (f .end)) others))) output r output′
+        → Answered (intersectReply (subsetOf f ids) (subsetOf g others) (length output)) output r output′
+    unfolding intersect
+    as-range-list p q w = rw (replied _ _ _ e, dense-is f ids p, sparse-is g others q) w
+
+    pub as-list-range : f .dense ≡ false → g .dense ≡ true → Answered (accepted (list (keep (within (g .start) (g .end)) ids))) output r output′
+        → Answered (intersectReply (subsetOf f ids) (subsetOf g others) (length output)) output r output′
+    unfolding intersect
+    as-list-range p q w = rw (replied _ _ _ e, sparse-is f ids p, dense-is g others q) w
+
+    pub as-lists : f .dense ≡ false → g .dense ≡ false → Answered (accepted (list (common ids others))) output r output′
+        → Answered (intersectReply (subsetOf f ids) (subsetOf g others) (length output)) output r output′
+    unfolding intersect common
+    as-lists p q w = rw (replied _ _ _ e, sparse-is f ids p, sparse-is g others q) w

@@ -1,0 +1,63 @@
+-- `key_index::check::count_live` meets its contract. Assumes nothing.
+use Prim.Native.Nat.{ℕ, _+_, _-_, _≤_}
+use mathlib.Core.Path.{_≡_, refl, sym, ap, _∙_}
+use native.Mathlib.Omega.{arith}
+use Rattle.key_check.specs.Check.{liveRow, tally, tally-yes, tally-no, tally-le}
+use Rattle.key_check.proofs.count_live.Statement.{statement}
+use Rattle.key_check.proofs.count_live.Tie as tie
+
+abbrev Inv-loop : tie.InvT-loop
+Inv-loop t rows live₀ row₀ live row = (row ≤ t .rows) × (live ≡ tally (liveRow t rows) row)
+
+abbrev μ-loop : tie.MeasureT-loop
+μ-loop t rows live₀ row₀ live row = t .rows - row
+
+loop-holds : tie.Need-loop-holds Inv-loop μ-loop
+loop-holds c = (omega arith, unfold tally in refl)
+
+row-live-requires : tie.Need-row-live-requires Inv-loop μ-loop
+row-live-requires c κs = (c .before .before .before .before .pre, omega (arith, c .if1 .taken))
+
+add-row : tie.Need-add-row Inv-loop μ-loop
+add-row c = omega arith
+
+add-live : tie.Need-add-live Inv-loop μ-loop
+add-live c =
+    let s = c .before .before .before .before in
+    let a = s .before .before .args in
+    omega (arith, s .loop .inv .1, tally-le (liveRow (a .t) (a .rows .now)) (s .loop .row), c .before .before .if1 .taken)
+
+loop-less : tie.Need-loop-less Inv-loop μ-loop
+loop-less c = omega arith
+
+loop-again : tie.Need-loop-again Inv-loop μ-loop
+loop-again c =
+    (omega arith, ap (λ (n : ℕ). n + 1) (c .before .before .before .before .loop .inv .1) ∙ sym (tally-yes _ _ (sym (c .before .row-live .ensures) ∙ c .if2 .taken)))
+
+loop-less-2 : tie.Need-loop-less-2 Inv-loop μ-loop
+loop-less-2 c = omega arith
+
+loop-again-2 : tie.Need-loop-again-2 Inv-loop μ-loop
+loop-again-2 c = (omega arith, c .before .before .before .before .loop .inv .1 ∙ sym (tally-no _ _ (sym (c .before .row-live .ensures) ∙ c .if2 .left)))
+
+returns : tie.Need-returns Inv-loop μ-loop
+returns c =
+    let s = c .before .before in
+    let e : s .loop .row ≡ s .before .before .args .t .rows = omega (arith, s .loop .inv .0, c .if1 .left) in
+    s .loop .inv .1 ∙ ap (tally _) e
+
+pub count-live-spec : {M : Type 1} → statement M
+count-live-spec =
+    tie.close
+    (tie.spec
+    Inv-loop
+    μ-loop
+    loop-holds
+    row-live-requires
+    add-row
+    add-live
+    loop-less
+    loop-again
+    loop-less-2
+    loop-again-2
+    returns)

@@ -1,0 +1,139 @@
+// The part of the table's soundness check that is about the key store: whether it leads to exactly the live rows. Takes
+// time linear in slots and rows: one pass over the rows, one up to a free slot, and one round from there. Is safe on any
+// store: a word is tested before it is a row.
+ghost use mathlib.Core.Path.{_≡_};
+ghost use Prim.Native.Nat.{_<_, _≤_};
+ghost use lib.ListN.{length};
+ghost use Rattle.cells.specs.Cells.{compact, keyHash};
+ghost use Rattle.key_index.specs.Slots.{keyAt, slots};
+ghost use Rattle.key_index.specs.Index.{Fits};
+ghost use Rattle.key_check.specs.Check.{RowsLie, liveRow, liveRows, StandsIs, FreeIs, RoundFits, KeysChecked};
+use key_index::Keyed;
+use key_index::ROW_RANGE;
+use key_index::home_slot;
+use key_index::slot_word;
+
+// Whether a row is live.
+fn row_live(t: Keyed, rows: &[u32], row: u32) -> bool
+    requires { ⌜ RowsLie t (now rows) × (row < t .rows) ⌝ }
+    ensures { λ r. ⌜ r ≡ liveRow t (now (rows .entry)) row ⌝ }
+{
+    let from = (row * t.columns) as usize;
+    let to = from + t.columns as usize;
+    constraints::is_live(&rows[from..to])
+}
+
+// The compact hash of a row's key.
+fn row_hash(t: Keyed, rows: &[u32], row: u32) -> u32
+    requires { ⌜ RowsLie t (now rows) × (row < t .rows) ⌝ }
+    ensures { λ r. ⌜ r ≡ compact (keyHash (keyAt t (now (rows .entry)) row)) ⌝ }
+{
+    let from = (row * t.columns) as usize;
+    let to = from + t.keys as usize;
+    cells::compact_hash(&rows[from..to])
+}
+
+// How many rows are live.
+fn count_live(t: Keyed, rows: &[u32]) -> u32
+    requires { ⌜ RowsLie t (now rows) ⌝ }
+    ensures { λ r. ⌜ r ≡ liveRows t (now (rows .entry)) ⌝ }
+{
+    let mut live: u32 = 0;
+    let mut row: u32 = 0;
+    while row < t.rows {
+        let one = row_live(t, rows, row);
+        row += 1;
+        if one {
+            live += 1;
+        }
+    }
+    live
+}
+
+// The first free slot of n, or n if there is none.
+fn free_slot(n: u32, store: &[u32]) -> u32
+    requires { ⌜ n ≤ length (now store) ⌝ }
+    ensures { λ r. ⌜ FreeIs n (now (store .entry)) r ⌝ }
+{
+    let mut at: u32 = 0;
+    while at < n {
+        if store[at as usize] == 0 {
+            return at;
+        }
+        at += 1;
+    }
+    n
+}
+
+// Whether the word in slot `at`, the last of `run` taken slots in a row, is that of a live row whose home lies in the run:
+// then no slot from the home to here is free, and none of them has to be looked at again.
+fn stands(t: Keyed, rows: &[u32], word: u32, at: u32, run: u32) -> bool
+    requires { ⌜ RowsLie t (now rows) × (at < slots t) ⌝ }
+    ensures { λ r. ⌜ StandsIs t (now (rows .entry)) word at run r ⌝ }
+{
+    let number = word % ROW_RANGE;
+    if number == 0 {
+        return false;
+    }
+    if t.rows < number {
+        return false;
+    }
+    let row = number - 1;
+    if !row_live(t, rows, row) {
+        return false;
+    }
+    let hash = row_hash(t, rows, row);
+    if word != slot_word(hash, row) {
+        return false;
+    }
+    let n = 2 * t.capacity;
+    let home = home_slot(n, hash);
+    (at + (n - home)) % n < run
+}
+
+// Whether the slots from a free one on, once round, hold the live rows, each once. `seen` has a mark for each row, none of
+// them set yet. Each slot has a row of its own, so that no live row is missed where slots and live rows are equally many.
+fn round_holds(t: Keyed, rows: &[u32], store: &[u32], free: u32, live: u32, seen: &mut [u8]) -> bool
+    requires { ⌜ RoundFits t (now rows) (now store) free live (now seen) ⌝ }
+    ensures { λ r. ⌜ KeysChecked t (now (rows .entry)) (now (store .entry)) r ⌝ }
+{
+    let n = 2 * t.capacity;
+    let mut run: u32 = 0;
+    let mut taken: u32 = 0;
+    let mut place: u32 = 1;
+    while place < n {
+        let at = (free + place) % n;
+        let word = store[at as usize];
+        place += 1;
+        if word == 0 {
+            run = 0;
+        } else {
+            run += 1;
+            taken += 1;
+            if !stands(t, rows, word, at, run) {
+                return false;
+            }
+            let row = (word % ROW_RANGE - 1) as usize;
+            if seen[row] != 0 {
+                return false;
+            }
+            seen[row] = 1;
+        }
+    }
+    taken == live
+}
+
+// Whether a key store leads to exactly the live rows.
+pub fn keys_sound(t: Keyed, rows: &[u32], store: &[u32]) -> bool
+    requires { ⌜ Fits t (now rows) (now store) ⌝ }
+    ensures { λ r. ⌜ KeysChecked t (now (rows .entry)) (now (store .entry)) r ⌝ }
+{
+    let live = count_live(t, rows);
+    let n = 2 * t.capacity;
+    let free = free_slot(n, store);
+    if n <= free {
+        return false;
+    }
+    let mut seen = [0u8; 65536];
+    round_holds(t, rows, store, free, live, &mut seen)
+}

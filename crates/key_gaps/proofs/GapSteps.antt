@@ -1,0 +1,103 @@
+-- The steps of `take_out` as the definitions of specs/Index.antt: distances round the ring, the home of a word's row, and the
+-- walk that closes the gap. Assumes nothing.
+use Prim.Native.Nat.{ℕ, _+_, _-_, _*_, _%_, _^_, _≤_, _<_}
+use mathlib.Core.Path.{_≡_, refl, sym, ap, _∙_}
+use mathlib.Core.Bool.{true, false}
+use mathlib.Core.List.{List}
+use native.Mathlib.Nat.{mod-eq-of-lt, add-mod-right}
+use native.Mathlib.Omega.{arith}
+use lib.ListN.{length, take, drop, getD, set, length-set}
+use Rattle.cells.specs.Cells.{compact, keyHash}
+use Rattle.row_buffer.specs.Laws.{key-row}
+use Rattle.key_index.specs.declared.Keyed.{Keyed}
+use Rattle.key_index.specs.Slots.{keyAt, slots, slotFrom}
+use Rattle.key_index.specs.Ring.{spread, rowNamed, namesRow, away, home-spread}
+use Rattle.key_index.specs.Index.{Fits, homeOf}
+use Rattle.key_gaps.specs.Gaps.{closed, Shifted, TakenOut}
+use Rattle.key_gaps.specs.GapLaws.{closed-spent, closed-stop, closed-stay, closed-move, closed-length, closed-rest, take-out-sound}
+
+-- ---- distances
+
+pub away-ahead : (n a b : ℕ) → b < n → a ≤ b → b - a ≡ away n a b
+unfolding away
+away-ahead n a b h k =
+    let e : b + (n - a) ≡ b - a + n = omega arith in
+    let i : b - a < n = omega arith in
+    sym (rw e (add-mod-right (b - a) n ∙ mod-eq-of-lt i))
+
+pub away-behind : (n a b : ℕ) → a < n → b < a → b + n - a ≡ away n a b
+unfolding away
+away-behind n a b h k =
+    let e : b + (n - a) ≡ b + n - a = omega arith in
+    let i : b + n - a < n = omega arith in
+    sym (rw e (mod-eq-of-lt i))
+
+-- ---- homes
+
+-- the part of the row store that is lent is the row's key
+pub key-part : (t : Keyed) (rows : List ℕ) (w : ℕ) → t .keys ≤ t .columns → let from = (w % 2 ^ 17 - 1) * t .columns in
+    take (from + t .keys - from) (drop from rows) ≡ keyAt t rows (rowNamed w)
+unfolding rowNamed
+key-part t rows w h =
+    let from = (w % 2 ^ 17 - 1) * t .columns in
+    let k : from + t .keys - from ≡ t .keys = omega arith in
+    rw k (sym (key-row (t .columns) (w % 2 ^ 17 - 1) (t .keys) rows h))
+
+-- the home slot of its hash
+pub home-part : (t : Keyed) (rows : List ℕ) (w hash : ℕ) (part : List ℕ) → part ≡ keyAt t rows (rowNamed w) → hash ≡ compact (keyHash part)
+    → spread (slots t) hash ≡ homeOf t rows w
+unfolding homeOf
+home-part t rows w hash part e f = home-spread (slots t) hash (keyAt t rows (rowNamed w)) (f ∙ ap (λ (key : List ℕ). compact (keyHash key)) e)
+
+-- ---- the walk that closes a gap
+
+-- what holds at the loop's head: what is to come from here is what was to come from the start
+pub record Walk (t : Keyed) (rows store₀ : List ℕ) (slot : ℕ) (store : List ℕ) (hole gap at left : ℕ) : Type 0 where
+  pub hole-in : hole < slots t
+  pub at-in : at < slots t
+  pub count : gap + left ≤ slots t
+  pub same : length store ≡ length store₀
+  pub walk : closed t rows left hole gap at store ≡ closed t rows (slots t) slot 0 slot store₀
+
+pub begin : (t : Keyed) (rows store : List ℕ) (slot : ℕ) → slot < slots t → Walk t rows store slot store slot 0 slot (slots t)
+begin t rows store slot h = record { hole-in = h; at-in = h; count = omega arith; same = refl; walk = refl }
+
+module _ (t : Keyed) (rows store₀ : List ℕ) (slot : ℕ) (store : List ℕ) (hole gap at left : ℕ) (s : Walk t rows store₀ slot store hole gap at left) where
+  pub finish : left ≤ 0 → Shifted t rows store₀ slot hole store
+  finish h = record { walk = sym (closed-spent t rows left hole gap at store h) ∙ s .walk; below = s .hole-in; same = s .same }
+
+  module _ (next : ℕ) (n : (next ≡ slotFrom (slots t) at 1) × (next < slots t)) (more : 0 < left) where
+    pub stop : namesRow t (getD store next 0) ≡ false → Shifted t rows store₀ slot hole store
+    stop e = record { walk = sym (closed-stop t rows left hole gap at store more (rw (n .0) at e)) ∙ s .walk; below = s .hole-in; same = s .same }
+
+    pub stay : namesRow t (getD store next 0) ≡ true → away (slots t) (homeOf t rows (getD store next 0)) next < gap + 1
+        → Walk t rows store₀ slot store hole (gap + 1) next (left - 1)
+    stay e h =
+        record {
+          hole-in = s .hole-in;
+          at-in = n .1;
+          count = omega (arith, s .count);
+          same = s .same;
+          walk = rw (n .0) (sym (closed-stay t rows left hole gap at store more (rw (n .0) at e) (rw (n .0) at h)) ∙ s .walk);
+        }
+
+    pub move : namesRow t (getD store next 0) ≡ true → gap + 1 ≤ away (slots t) (homeOf t rows (getD store next 0)) next
+        → Walk t rows store₀ slot (set store hole (getD store next 0)) next 0 next (left - 1)
+    move e h =
+        record {
+          hole-in = n .1;
+          at-in = n .1;
+          count = omega (arith, s .count);
+          same = length-set store hole (getD store next 0) ∙ s .same;
+          walk = rw (n .0) (sym (closed-move t rows left hole gap at store more (rw (n .0) at e) (rw (n .0) at h)) ∙ s .walk);
+        }
+
+-- once the last hole is freed the row is taken out
+pub taken : (t : Keyed) (rows store : List ℕ) (slot r : ℕ) (store′ : List ℕ) → Fits t rows store → slot < slots t → Shifted t rows store slot r store′
+    → TakenOut t rows store slot (set store′ r 0)
+taken t rows store slot r store′ f h s =
+    record {
+      sound = λ k row live e. rw (s .walk) (take-out-sound t rows store f row live k slot h e);
+      rest = rw (s .walk) (closed-rest t rows (slots t) slot 0 slot store h);
+      same = rw (s .walk) (closed-length t rows (slots t) slot 0 slot store);
+    }

@@ -1,0 +1,115 @@
+-- `key_index::gaps::close_gap` meets its contract. Assumes nothing.
+use mathlib.Core.Path.{sym, _∙_}
+use native.Mathlib.Omega.{arith}
+use borrow.Author.Needs.{needs}
+use borrow.Author.Tests.{not-true, not-false}
+use Rattle.key_index.specs.Index.{rows-in}
+use Rattle.key_gaps.proofs.GapSteps.{Walk, begin, finish, stop, stay, move}
+use Rattle.key_gaps.proofs.close_gap.Statement.{statement}
+use Rattle.key_gaps.proofs.close_gap.Tie as tie
+
+abbrev Inv-loop : tie.InvT-loop
+Inv-loop t rows store₀ slot n hole₀ gap₀ at₀ left₀ store hole gap at left = Walk t rows store₀ slot store hole gap at left
+
+abbrev μ-loop : tie.MeasureT-loop
+μ-loop t rows store₀ slot n hole₀ gap₀ at₀ left₀ store hole gap at left = left
+
+mul-n : tie.Need-mul-n Inv-loop μ-loop
+mul-n c = omega arith
+
+loop-holds : tie.Need-loop-holds Inv-loop μ-loop
+loop-holds c = begin _ _ _ _ (c .before .before .before .pre .1)
+
+next-slot-requires : tie.Need-next-slot-requires Inv-loop μ-loop
+next-slot-requires c κs = c .before .loop .inv .at-in
+
+cast-word : tie.Need-cast-word Inv-loop μ-loop
+cast-word c = search needs
+
+mul-word : tie.Need-mul-word Inv-loop μ-loop
+mul-word c = omega arith
+
+slice-read-word : tie.Need-slice-read-word Inv-loop μ-loop
+slice-read-word c = omega arith
+
+names-row-requires : tie.Need-names-row-requires Inv-loop μ-loop
+names-row-requires c κs = tt
+
+same-length : tie.Need-same-length Inv-loop μ-loop
+same-length c = c .before .before .before .before .before .loop .inv .same
+
+returns : tie.Need-returns Inv-loop μ-loop
+returns c =
+    stop _ _ _ _ _ _ _ _ _ (c .before .before .before .before .before .loop .inv) _ (c .before .before .before .next-slot .ensures) (omega (arith, c .before .before .before .before .loop-test .taken)) (sym (c .before .names-row .ensures) ∙ not-true _ (c .if1 .taken))
+
+add-gap : tie.Need-add-gap Inv-loop μ-loop
+add-gap c = omega arith
+
+sub-left : tie.Need-sub-left Inv-loop μ-loop
+sub-left c = omega arith
+
+home-away-requires : tie.Need-home-away-requires Inv-loop μ-loop
+home-away-requires c κs =
+    let f = c .before .before .before .before .before .before .before .before .before .pre .0 in
+    (rows-in _ _ _ f, sym (c .before .names-row .ensures) ∙ not-false _ (c .if1 .left), c .before .before .before .next-slot .ensures .1)
+
+cast-store : tie.Need-cast-store Inv-loop μ-loop
+cast-store c = search needs
+
+mul-store : tie.Need-mul-store Inv-loop μ-loop
+mul-store c = omega arith
+
+slice-write-store : tie.Need-slice-write-store Inv-loop μ-loop
+slice-write-store c = omega arith
+
+loop-less : tie.Need-loop-less Inv-loop μ-loop
+loop-less c = omega arith
+
+loop-again : tie.Need-loop-again Inv-loop μ-loop
+loop-again c =
+    let l = c .before .before .before .before .before .before .before in
+    move _ _ _ _ _ _ _ _ _ (l .loop .inv) _ (c .before .before .before .before .before .next-slot .ensures) (omega (arith, c .before .before .before .before .before .before .loop-test .taken))
+    (sym (c .before .before .before .names-row .ensures) ∙ not-false _ (c .before .before .if1 .left)) (omega (arith, c .before .home-away .ensures))
+
+loop-less-2 : tie.Need-loop-less-2 Inv-loop μ-loop
+loop-less-2 c = omega arith
+
+loop-again-2 : tie.Need-loop-again-2 Inv-loop μ-loop
+loop-again-2 c =
+    let l = c .before .before .before .before .before .before .before in
+    stay _ _ _ _ _ _ _ _ _ (l .loop .inv) _ (c .before .before .before .before .before .next-slot .ensures) (omega (arith, c .before .before .before .before .before .before .loop-test .taken))
+    (sym (c .before .before .before .names-row .ensures) ∙ not-false _ (c .before .before .if1 .left)) (omega (arith, c .before .home-away .ensures))
+
+same-length-2 : tie.Need-same-length-2 Inv-loop μ-loop
+same-length-2 c = c .before .loop .inv .same
+
+returns-2 : tie.Need-returns-2 Inv-loop μ-loop
+returns-2 c = finish _ _ _ _ _ _ _ _ _ (c .before .loop .inv) (omega (arith, c .loop-test .left))
+
+pub close-gap-spec : {M : Type 1} → statement M
+close-gap-spec =
+    tie.close
+    (tie.spec
+    Inv-loop
+    μ-loop
+    mul-n
+    loop-holds
+    next-slot-requires
+    cast-word
+    mul-word
+    slice-read-word
+    names-row-requires
+    same-length
+    returns
+    add-gap
+    sub-left
+    home-away-requires
+    cast-store
+    mul-store
+    slice-write-store
+    loop-less
+    loop-again
+    loop-less-2
+    loop-again-2
+    same-length-2
+    returns-2)

@@ -1,0 +1,3 @@
+pub mod Gaps
+pub mod GapLaws
+pub mod RenumberLaws

@@ -1,0 +1,135 @@
+-- The loops of the searches, a step at a time, and what each return of a scan says. Assumes nothing.
+use Prim.Native.Nat.{ℕ, _+_, _-_, _*_, _≤_, _<_}
+use mathlib.Core.Path.{_≡_, sym, ap}
+use mathlib.Core.Bool.{true, false}
+use mathlib.Core.List.{List}
+use native.Mathlib.Omega.{arith}
+use lib.ListN.{length, getD}
+use Rattle.lists.specs.Lists.{rising, has}
+use Rattle.lists.specs.Laws.Search.{place, place-le, place-past, place-upto, place-at, has-place, has-not-place}
+use Rattle.offset_search.specs.declared.Scan.{Scan}
+use Rattle.offset_search.specs.declared.Scan.the-variants.{Found, Next}
+use Rattle.offset_search.specs.Search.{SearchedPart, ReachedBetween, scanPlace, scan, ScannedAt, Scanned}
+
+-- ---- the binary search
+
+-- the target's place lies between two others
+pub record Halved (ids : List ℕ) (start end target low high : ℕ) : Type 0 where
+  pub from : start ≤ low
+  pub order : low ≤ high
+  pub upto : high ≤ end
+  pub after : rising ids ≡ true → start ≤ place target ids → low ≤ place target ids
+  pub before : rising ids ≡ true → place target ids ≤ end → place target ids ≤ high
+
+pub halved-begin : (ids : List ℕ) (start end target : ℕ) → start ≤ end → Halved ids start end target start end
+halved-begin ids start end target h = record { from = omega arith; order = h; upto = omega arith; after = λ e k. k; before = λ e k. k }
+
+module _ (ids : List ℕ) (start end target low high mid : ℕ) (s : Halved ids start end target low high) (in-list : end ≤ length ids) (a : low ≤ mid) (b : mid < high) where
+  pub halved-up : getD ids mid 0 < target → Halved ids start end target (mid + 1) high
+  halved-up h =
+      record {
+        from = omega (arith, s .from);
+        order = omega arith;
+        upto = s .upto;
+        after = λ e k. let p = place-past target ids e mid (omega (arith, s .upto)) h in omega arith;
+        before = s .before;
+      }
+
+  pub halved-down : target ≤ getD ids mid 0 → Halved ids start end target low mid
+  halved-down h =
+      record {
+        from = s .from;
+        order = a;
+        upto = omega (arith, s .upto);
+        after = s .after;
+        before = λ e k. place-upto target ids e mid (omega (arith, s .upto)) h;
+      }
+
+pub halved-end : (ids : List ℕ) (start end target low high : ℕ) → Halved ids start end target low high → high ≤ low → SearchedPart ids start end target low
+halved-end ids start end target low high s h =
+    record {
+      from = s .from;
+      upto = omega (arith, s .order, s .upto);
+      first = λ e a b. let p = s .after e a in let q = s .before e b in omega arith;
+    }
+
+-- ---- the strides
+
+-- the id at `low` is below the target
+pub record Strides (ids : List ℕ) (target low step : ℕ) : Type 0 where
+  pub inside : low < length ids
+  pub on : 1 ≤ step
+  pub behind : rising ids ≡ true → low < place target ids
+
+module _ (ids : List ℕ) (target low step : ℕ) (s : Strides ids target low step) where
+  pub stride-more : step < length ids - low → getD ids (low + step) 0 < target → Strides ids target (low + step) (step * 2)
+  stride-more h k =
+      record {
+        inside = omega arith;
+        on = omega (arith, s .on);
+        behind = λ e. place-past target ids e (low + step) (omega arith) k;
+      }
+
+  pub stride-over : step < length ids - low → target ≤ getD ids (low + step) 0 → ReachedBetween ids target (low + 1) (low + step)
+  stride-over h k =
+      record {
+        order = omega (arith, s .on);
+        within = omega arith;
+        after = λ e. (let p = s .behind e in omega arith);
+        upto = λ e. place-upto target ids e (low + step) (omega arith) k;
+      }
+
+  pub stride-end : ReachedBetween ids target (low + 1) (length ids)
+  stride-end =
+      record {
+        order = omega (arith, s .inside);
+        within = omega arith;
+        after = λ e. (let p = s .behind e in omega arith);
+        upto = λ e. place-le target ids;
+      }
+
+-- ---- what a scan says
+
+scan-hit : (ids : List ℕ) (target p : ℕ) → rising ids ≡ true → p < length ids → getD ids p 0 ≡ target → Found p ≡ scan target ids
+unfolding scan
+scan-hit ids target p e h k = rw (has-place target ids p h k) (ap Found (sym (place-at target ids e p h k)))
+
+scan-miss : (ids : List ℕ) (target p : ℕ) → rising ids ≡ true → p ≡ place target ids → (p < length ids → getD ids p 0 ≡ target → ⊥) → Next p ≡ scan target ids
+unfolding scan
+scan-miss ids target p e q f =
+    let n : has target ids ≡ false = has-not-place target ids e (rw q at f) in
+    rw n (ap Next q)
+
+pub at-end : (ids : List ℕ) (at target : ℕ) → at ≤ length ids → length ids ≤ at → ScannedAt ids at target (Next at)
+unfolding scanPlace
+at-end ids at target h k = record { within = h; finds = λ e q. scan-miss ids target at e q (λ a b. omega arith) }
+
+pub at-hit : (ids : List ℕ) (at target : ℕ) → at < length ids → getD ids at 0 ≡ target → ScannedAt ids at target (Found at)
+unfolding scanPlace
+at-hit ids at target h k = record { within = omega arith; finds = λ e q. scan-hit ids target at e h k }
+
+pub at-miss : (ids : List ℕ) (at target : ℕ) → at ≤ length ids → (getD ids at 0 ≡ target → ⊥) → ScannedAt ids at target (Next at)
+unfolding scanPlace
+at-miss ids at target h k = record { within = h; finds = λ e q. scan-miss ids target at e q (λ a b. k b) }
+
+pub scanned-end : (ids : List ℕ) (start target : ℕ) → length ids ≤ start → Scanned ids start target (Next (length ids))
+unfolding scanPlace
+scanned-end ids start target h =
+    record { within = omega arith; finds = λ e q. scan-miss ids target (length ids) e (let p = place-le target ids in omega arith) (λ a b. omega arith) }
+
+pub scanned-hit : (ids : List ℕ) (start target p : ℕ) → p < length ids → getD ids p 0 ≡ target → Scanned ids start target (Found p)
+unfolding scanPlace
+scanned-hit ids start target p h k = record { within = omega arith; finds = λ e q. scan-hit ids target p e h k }
+
+pub scanned-before : (ids : List ℕ) (start target : ℕ) → start < length ids → target < getD ids start 0 → Scanned ids start target (Next start)
+unfolding scanPlace
+scanned-before ids start target h k =
+    record {
+      within = omega arith;
+      finds = λ e q. scan-miss ids target start e (let p = place-upto target ids e start h (omega arith) in omega arith) (λ a b. omega arith);
+    }
+
+-- after the strides: the binary search gives the place, and the last look what stands there
+pub scanned-part : (ids : List ℕ) (start target low high p : ℕ) (r : Scan) → ReachedBetween ids target low high → SearchedPart ids low high target p → ScannedAt ids p target r
+    → Scanned ids start target r
+scanned-part ids start target low high p r g s a = record { within = a .within; finds = λ e q. a .finds e (s .first e (g .after e) (g .upto e)) }

@@ -1,0 +1,15 @@
+-- `offsets::binary_search_from` meets its contract. Assumes nothing.
+use borrow.Author.Needs.{needs}
+use Rattle.lists.specs.Laws.Search.{place-le}
+use Rattle.offset_search.proofs.binary_search_from.Statement.{statement}
+use Rattle.offset_search.proofs.binary_search_from.Tie as tie
+
+binary-search-part-requires : tie.Need-binary-search-part-requires
+binary-search-part-requires c κs = search needs
+
+returns : tie.Need-returns
+returns c = let s = c .binary-search-part .ensures in
+    record { from = s .from; within = s .upto; first = λ e h. s .first e h (place-le _ _) }
+
+pub binary-search-from-spec : {M : Type 1} → statement M
+binary-search-from-spec = tie.close (tie.spec binary-search-part-requires returns)

@@ -1,0 +1,116 @@
+// Searches in a rising list of ids: offsets/mod.rs. A binary search, and the search by doubling strides that `intersection`
+// makes in the longer of two lists.
+ghost use mathlib.Core.Path.{_≡_};
+ghost use Prim.Native.Nat.{_≤_, _<_};
+ghost use mathlib.Core.Bool.{true};
+ghost use lib.ListN.{length};
+ghost use Rattle.lists.specs.Lists.{rising};
+ghost use Rattle.lists.specs.Laws.Search.{place};
+ghost use Rattle.offset_search.specs.Search.{Searched, SearchedFrom, SearchedPart, Reached, ScannedAt, Scanned};
+
+// The binary search of `binary_search_from` in the part of the list between two places.
+fn binary_search_part(ids: &[u32], start: usize, end: usize, target: u32) -> usize
+    requires { ⌜ (start ≤ end) × (end ≤ length (now ids)) ⌝ }
+    ensures { λ r. ⌜ SearchedPart (now (ids .entry)) start end target r ⌝ }
+{
+    let mut low = start;
+    let mut high = end;
+    while low < high {
+        let mid = low + (high - low) / 2;
+        if ids[mid] < target {
+            low = mid + 1;
+        } else {
+            high = mid;
+        }
+    }
+    low
+}
+
+// The first place from `start` on whose id is not below the target, where the ids rise and those before `start` are below
+// it.
+pub fn binary_search_from(ids: &[u32], start: usize, target: u32) -> usize
+    requires { ⌜ start ≤ length (now ids) ⌝ }
+    ensures { λ r. ⌜ SearchedFrom (now (ids .entry)) start target r ⌝ }
+{
+    let end = ids.len();
+    binary_search_part(ids, start, end, target)
+}
+
+// The first place whose id is not below the target.
+pub fn binary_search_by_id(ids: &[u32], target: u32) -> usize
+    ensures { λ r. ⌜ Searched (now (ids .entry)) target r ⌝ }
+{
+    binary_search_from(ids, 0, target)
+}
+
+// Where a list has the target, or the place at which it would stand.
+pub enum Scan {
+    Found(usize),
+    Next(usize),
+}
+
+// Where strides stop: on the target, or with its place between two others.
+enum Reach {
+    At(usize),
+    Between(usize, usize),
+}
+
+// Strides from `start`, whose id is below the target, each twice as long as the one before, until one is too long.
+fn gallop(ids: &[u32], start: usize, target: u32) -> Reach
+    requires { ⌜ (start < length (now ids)) × (rising (now ids) ≡ true → start < place target (now ids)) ⌝ }
+    ensures { λ r. ⌜ Reached (now (ids .entry)) target r ⌝ }
+{
+    let mut low = start;
+    let mut step = 1;
+    while step < ids.len() - low {
+        let probe = low + step;
+        let id = ids[probe];
+        if id == target {
+            return Reach::At(probe);
+        }
+        if target < id {
+            return Reach::Between(low + 1, probe);
+        }
+        low = probe;
+        step *= 2;
+    }
+    Reach::Between(low + 1, ids.len())
+}
+
+// What stands at the target's place.
+fn scan_at(ids: &[u32], at: usize, target: u32) -> Scan
+    requires { ⌜ at ≤ length (now ids) ⌝ }
+    ensures { λ r. ⌜ ScannedAt (now (ids .entry)) at target r ⌝ }
+{
+    if ids.len() <= at {
+        return Scan::Next(at);
+    }
+    if ids[at] == target {
+        return Scan::Found(at);
+    }
+    Scan::Next(at)
+}
+
+// The target's place from `start` on, by doubling strides and a binary search in the last one, where the ids rise and
+// those before `start` are below the target.
+pub fn scan_for_offset(ids: &[u32], start: usize, target: u32) -> Scan
+    ensures { λ r. ⌜ Scanned (now (ids .entry)) start target r ⌝ }
+{
+    if ids.len() <= start {
+        return Scan::Next(ids.len());
+    }
+    let id = ids[start];
+    if id == target {
+        return Scan::Found(start);
+    }
+    if target < id {
+        return Scan::Next(start);
+    }
+    match gallop(ids, start, target) {
+        Reach::At(p) => Scan::Found(p),
+        Reach::Between(low, high) => {
+            let p = binary_search_part(ids, low, high, target);
+            scan_at(ids, p, target)
+        }
+    }
+}

@@ -1,0 +1,72 @@
+// Open and clear.
+ghost use Rattle.table.specs.Promises.{Opened, Clearing, opening};
+use table::Header;
+use table::Lent;
+use table::TableAnswer;
+use table::refusing::clear_refusal;
+use table::refusing::open_refusal;
+
+// An empty table in the lent stores. Rows and sort entries are lent for their lengths alone; pending
+// may have any length.
+pub fn open_table(
+    columns: u32,
+    key_columns: u32,
+    sort: u32,
+    rule: u32,
+    capacity: u32,
+    generation: u32,
+    rows: &[u32],
+    keys: &mut [u32],
+    sorts: &[u32],
+    pending: &[u32],
+) -> TableAnswer
+    ensures { λ r. ⌜ Opened (opening columns «key_columns» sort rule capacity) generation (now (rows .entry)) (now (keys .entry)) (now (sorts .entry)) (now (pending .entry)) r (now (keys .exit)) ⌝ }
+{
+    let h = Header {
+        columns: columns,
+        keys: key_columns,
+        sort: sort,
+        rule: rule,
+        capacity: capacity,
+        rows: 0,
+        dead: 0,
+        entries: 0,
+        pending: 0,
+        generation: generation,
+    };
+    let l = Lent {
+        rows: rows.len(),
+        keys: keys.len(),
+        sorts: sorts.len(),
+        pending: pending.len(),
+        live: 0,
+        base: 0,
+    };
+    let refusal = open_refusal(h, l);
+    if refusal != 0 {
+        return TableAnswer::Refused(refusal);
+    }
+    key_index::empty(capacity, keys);
+    TableAnswer::Table(h)
+}
+
+// Empties pending and, where there are rows, the table.
+pub fn clear(h: Header, keys: &mut [u32]) -> TableAnswer
+    ensures { λ r. ⌜ Clearing h (now (keys .entry)) r (now (keys .exit)) ⌝ }
+{
+    let refusal = clear_refusal(h, keys.len());
+    if refusal != 0 {
+        return TableAnswer::Refused(refusal);
+    }
+    let mut n = h;
+    n.pending = 0;
+    if h.rows == 0 {
+        return TableAnswer::Table(n);
+    }
+    key_index::empty(h.capacity, keys);
+    n.rows = 0;
+    n.dead = 0;
+    n.entries = 0;
+    n.generation = h.generation + 1;
+    TableAnswer::Table(n)
+}

@@ -1,0 +1,40 @@
+-- `exports::copy_survivor` meets its contract. Assumes nothing.
+use Prim.Native.Nat.{ℕ, _+_, _≤_}
+use mathlib.Core.Path.{_≡_, sym, _∙_}
+use mathlib.Core.List.{List}
+use borrow.Author.Needs.{needs}
+use native.Mathlib.Omega.{arith}
+use lib.ListN.{length, take, drop, length-take, length-drop}
+use Rattle.merge_rules.specs.Survivor.{survivor}
+use Rattle.merge_rules.specs.Laws.{survivor-length}
+use Rattle.probes.proofs.copy_survivor.Statement.{statement}
+use Rattle.probes.proofs.copy_survivor.Tie as tie
+
+-- the surviving row is as wide as a row
+survivor-fits : (rule keys sort width : ℕ) (rows : List ℕ) (old : ℕ) (pending : List ℕ) (new : ℕ) → old + width ≤ length rows → new + width ≤ length pending
+    → length (survivor rule keys sort (take width (drop old rows)) (take width (drop new pending))) ≡ width
+survivor-fits rule keys sort width rows old pending new h k =
+    let a : length (take width (drop old rows)) ≡ width = simp (length-take, length-drop) (omega arith) in
+    let b : length (take width (drop new pending)) ≡ width = simp (length-take, length-drop) (omega arith) in
+    survivor-length rule keys sort _ _ (a ∙ sym b) ∙ a
+
+surviving-row-requires : tie.Need-surviving-row-requires
+surviving-row-requires c κs = search needs
+
+write-row-requires : tie.Need-write-row-requires
+write-row-requires c κs =
+    let s = c .before .before .before .before .before in
+    let a = s .args in
+    let l = survivor-fits (a .rule) (a .keys) (a .sort) (a .width) (a .rows .now) (a .old) (a .pending .now) (a .new) (s .pre .0) (s .pre .1) in
+    let w = s .pre .2 in
+    rw (c .before .surviving-row .ensures) (omega arith)
+
+same-length : tie.Need-same-length
+same-length c = search needs
+
+returns : tie.Need-returns
+returns c = c .before .before .write-row .ensures ∙ rw (c .before .before .before .before .surviving-row .ensures)
+
+pub copy-survivor-spec : {M : Type 1} → statement M
+copy-survivor-spec =
+    tie.close (tie.spec surviving-row-requires write-row-requires same-length returns)

@@ -1,0 +1,57 @@
+-- `exports::mouldgrey_surviving_row` meets its contract. Assumes nothing.
+use borrow.Author.Needs.{needs}
+use native.Mathlib.Omega.{arith}
+use Rattle.probes.specs.Parts.{survives-nothing, survives-done}
+use Rattle.probes.proofs.mouldgrey_surviving_row.Statement.{statement}
+use Rattle.probes.proofs.mouldgrey_surviving_row.Tie as tie
+
+returns : tie.Need-returns
+returns c = survives-nothing _ _ _ _ _ _ _ _ _ (λ f. let h = f .0 in omega arith)
+
+returns-2 : tie.Need-returns-2
+returns-2 c = survives-nothing _ _ _ _ _ _ _ _ _ (λ f. let h = f .1 in omega arith)
+
+sub-if3 : tie.Need-sub-if3
+sub-if3 c = search needs
+
+returns-3 : tie.Need-returns-3
+returns-3 c = survives-nothing _ _ _ _ _ _ _ _ _ (λ f. let h = f .1 in omega arith)
+
+returns-4 : tie.Need-returns-4
+returns-4 c = survives-nothing _ _ _ _ _ _ _ _ _ (λ f. let h = f .2 in omega arith)
+
+sub-if5 : tie.Need-sub-if5
+sub-if5 c = search needs
+
+returns-5 : tie.Need-returns-5
+returns-5 c = survives-nothing _ _ _ _ _ _ _ _ _ (λ f. let h = f .2 in omega arith)
+
+returns-6 : tie.Need-returns-6
+returns-6 c = survives-nothing _ _ _ _ _ _ _ _ _ (λ f. let h = f .3 in omega arith)
+
+copy-survivor-requires : tie.Need-copy-survivor-requires
+copy-survivor-requires c κs = search needs
+
+same-length : tie.Need-same-length
+same-length c = search needs
+
+returns-7 : tie.Need-returns-7
+returns-7 c =
+    let q = c .before .before .before .before .before .before .before .before .before .if1 .left in
+    survives-done _ _ _ _ _ _ _ _ _ _ (omega arith) (c .before .before .copy-survivor .ensures)
+
+pub mouldgrey-surviving-row-spec : {M : Type 1} → statement M
+mouldgrey-surviving-row-spec =
+    tie.close
+    (tie.spec
+    returns
+    returns-2
+    sub-if3
+    returns-3
+    returns-4
+    sub-if5
+    returns-5
+    returns-6
+    copy-survivor-requires
+    same-length
+    returns-7)

@@ -1,0 +1,51 @@
+-- What the functions of single parts promise, where they are called for comparing and measuring. Assumes nothing.
+use Prim.Native.Nat.{ℕ, _+_, _*_, _≤_}
+use mathlib.Core.Path.{_≡_, refl}
+use mathlib.Core.Bool.{Bool, true, false, true≢false, false≢true}
+use mathlib.Core.List.{List}
+use lib.ListN.{length, take, drop}
+use Rattle.lists.specs.Lists.{putAt}
+use Rattle.key_index.specs.declared.Keyed.{Keyed}
+use Rattle.merge_rules.specs.Rules.{madeFrom}
+use Rattle.merge_rules.specs.Survivor.{survivor}
+
+-- a row made into a lent one: nothing is done where it does not fit
+pub record Made (rule keys sort : ℕ) (old new out : List ℕ) (r : Bool) (out′ : List ℕ) : Type 0 where
+  pub done : r ≡ true → (length old ≡ length new) × (out′ ≡ putAt out 0 (madeFrom rule keys sort 0 old new))
+  pub nothing : r ≡ false → ((length old ≡ length new) × (length old ≤ length out) → ⊥) × (out′ ≡ out)
+
+-- a surviving row copied out: nothing is done under another rule than 0 and 1, where a row does not lie in its store, or
+-- where it does not fit
+pub record Survives (rule keys sort width : ℕ) (rows : List ℕ) (old : ℕ) (pending : List ℕ) (new : ℕ) (out : List ℕ) (r : Bool) (out′ : List ℕ) : Type 0 where
+  pub done : r ≡ true → (rule ≤ 1) × (out′ ≡ putAt out 0 (survivor rule keys sort (take width (drop old rows)) (take width (drop new pending))))
+  pub nothing : r ≡ false → ((rule ≤ 1) × (old + width ≤ length rows) × (new + width ≤ length pending) × (width ≤ length out) → ⊥) × (out′ ≡ out)
+
+module _ (rule keys sort : ℕ) (old new out : List ℕ) where
+  pub made-nothing : ((length old ≡ length new) × (length old ≤ length out) → ⊥) → Made rule keys sort old new out false out
+  made-nothing n = record { done = λ e. absurd (false≢true e); nothing = λ e. (n, refl) }
+
+  pub made-done : (out′ : List ℕ) → length old ≡ length new → out′ ≡ putAt out 0 (madeFrom rule keys sort 0 old new)
+      → Made rule keys sort old new out true out′
+  made-done out′ l w = record { done = λ e. (l, w); nothing = λ e. absurd (true≢false e) }
+
+module _ (rule keys sort width : ℕ) (rows : List ℕ) (old : ℕ) (pending : List ℕ) (new : ℕ) (out : List ℕ) where
+  pub survives-nothing : ((rule ≤ 1) × (old + width ≤ length rows) × (new + width ≤ length pending) × (width ≤ length out) → ⊥)
+      → Survives rule keys sort width rows old pending new out false out
+  survives-nothing n = record { done = λ e. absurd (false≢true e); nothing = λ e. (n, refl) }
+
+  pub survives-done : (out′ : List ℕ) → rule ≤ 1
+      → out′ ≡ putAt out 0 (survivor rule keys sort (take width (drop old rows)) (take width (drop new pending)))
+      → Survives rule keys sort width rows old pending new out true out′
+  survives-done out′ q w = record { done = λ e. (q, w); nothing = λ e. absurd (true≢false e) }
+
+-- a table's numbers are within their bounds, and these lengths of its row and key store enough
+pub record Sized (t : Keyed) (rows store : ℕ) : Type 0 where
+  pub some-columns : 1 ≤ t .columns
+  pub most-columns : t .columns ≤ 8
+  pub some-keys : 1 ≤ t .keys
+  pub most-keys : t .keys ≤ t .columns
+  pub some-capacity : 1 ≤ t .capacity
+  pub most-capacity : t .capacity ≤ 65536
+  pub count : t .rows ≤ t .capacity
+  pub cells : t .capacity * t .columns ≤ rows
+  pub slots : 2 * t .capacity ≤ store

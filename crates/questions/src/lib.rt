@@ -1,0 +1,96 @@
+// Refine by one and by a list, any match, page.
+ghost use Rattle.offsets.specs.Answers.{subsetOf};
+ghost use Rattle.queries.specs.Queries.{RefinedOne, RefinedList, Matched, PageRead};
+use constraints::Constraint;
+use offsets::SubsetAnswer;
+use offsets::SubsetHead;
+use queries::MatchAnswer;
+use queries::PageAnswer;
+use sweeping::close_match;
+use sweeping::close_page;
+use sweeping::close_refine;
+use sweeping::open_match;
+use sweeping::open_page;
+use sweeping::open_refine;
+use sweeping::retain;
+use sweeping::write_found;
+use table::Header;
+use walks::all_pass;
+use walks::find_match;
+use walks::sweep_all;
+
+// The rows of a subset that are live and meet a condition: a range while they are neighbours, of a list a list.
+pub fn refine_one(
+    h: Header,
+    rows: &[u32],
+    head: SubsetHead,
+    ids: &[u32],
+    c: Constraint,
+    out: &mut [u32],
+) -> SubsetAnswer
+    ensures { λ r. ⌜ RefinedOne h (now (rows .entry)) (subsetOf head (now (ids .entry))) c (now (out .entry)) r (now (out .exit)) ⌝ }
+{
+    let known = constraints::known(c, h.columns);
+    let begun = open_refine(h, rows.len(), head, ids, known, out.len());
+    if begun.refused != 0 {
+        return SubsetAnswer::Refused(begun.refused);
+    }
+    let done = retain(h, rows, head, ids, c, begun, out);
+    if head.dense {
+        return retain::grown(done.found);
+    }
+    let count = write_found(done.found, out);
+    SubsetAnswer::List(count)
+}
+
+// The rows of a subset that are live and meet all conditions: the range if all of it is kept, else a list.
+pub fn refine_ref(
+    h: Header,
+    rows: &[u32],
+    head: SubsetHead,
+    ids: &[u32],
+    conditions: &[Constraint],
+    out: &mut [u32],
+) -> SubsetAnswer
+    ensures { λ r. ⌜ RefinedList h (now (rows .entry)) (subsetOf head (now (ids .entry))) (now (conditions .entry)) (now (out .entry)) r (now (out .exit)) ⌝ }
+{
+    let known = all_pass(true, h, rows, 0, conditions);
+    let begun = open_refine(h, rows.len(), head, ids, known, out.len());
+    let done = sweep_all(h, rows, head, ids, conditions, begun, out);
+    close_refine(head, done, out)
+}
+
+// Whether a row of a subset is live and meets all conditions.
+pub fn contains_match(
+    h: Header,
+    rows: &[u32],
+    head: SubsetHead,
+    ids: &[u32],
+    conditions: &[Constraint],
+) -> MatchAnswer
+    ensures { λ r. ⌜ Matched h (now (rows .entry)) (subsetOf head (now (ids .entry))) (now (conditions .entry)) r ⌝ }
+{
+    let known = all_pass(true, h, rows, 0, conditions);
+    let begun = open_match(h, rows.len(), head, ids, known);
+    let done = find_match(h, rows, head, ids, conditions, begun);
+    close_match(done)
+}
+
+// A page: visits n ids of a subset from the start place on, and writes those of the live rows that meet all conditions.
+pub fn read_page(
+    h: Header,
+    rows: &[u32],
+    head: SubsetHead,
+    ids: &[u32],
+    start: u32,
+    n: usize,
+    conditions: &[Constraint],
+    out: &mut [u32],
+) -> PageAnswer
+    ensures { λ r. ⌜ PageRead h (now (rows .entry)) (subsetOf head (now (ids .entry))) start n (now (conditions .entry)) (now (out .entry)) r (now (out .exit)) ⌝ }
+{
+    let known = all_pass(true, h, rows, 0, conditions);
+    let begun = open_page(h, rows.len(), head, ids, start, n, known, out.len());
+    let done = sweep_all(h, rows, head, ids, conditions, begun, out);
+    close_page(head, ids, done, out)
+}

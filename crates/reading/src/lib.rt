@@ -1,0 +1,93 @@
+// What may be asked of a table by its header and key store or sort entries: `get_row`, `get_row_column`, `fast_subset`,
+// `version` and `updates_since` of table/mod.rs.
+ghost use Rattle.table.specs.Promises.{LookedUp, CellRead, RangeRead, VersionRead, RowsSince};
+use constraints::Constraint;
+use key_index::Found;
+use table::CellAnswer;
+use table::Header;
+use table::RangeAnswer;
+use table::RowAnswer;
+use table::Version;
+use table::VersionAnswer;
+use table::keyed;
+use table::refusing::cell_refusal;
+use table::refusing::fast_refusal;
+use table::refusing::lookup_refusal;
+use table::refusing::since_refusal;
+use table::refusing::version_refusal;
+
+// The number of the key's live row.
+pub fn get_row(h: Header, rows: &[u32], keys: &[u32], key: &[u32]) -> RowAnswer
+    ensures { λ r. ⌜ LookedUp h (now (rows .entry)) (now (keys .entry)) (now (key .entry)) r ⌝ }
+{
+    let refusal = lookup_refusal(h, rows.len(), keys.len(), key.len());
+    if refusal != 0 {
+        return RowAnswer::Refused(refusal);
+    }
+    let found = key_index::find(keyed(h), rows, keys, key, cells::compact_hash(key));
+    match found {
+        Found::None => RowAnswer::None,
+        Found::At(row, slot) => RowAnswer::Row(row),
+    }
+}
+
+// One cell of the key's live row.
+pub fn get_row_column(h: Header, rows: &[u32], keys: &[u32], key: &[u32], column: u32) -> CellAnswer
+    ensures { λ r. ⌜ CellRead h (now (rows .entry)) (now (keys .entry)) (now (key .entry)) column r ⌝ }
+{
+    let refusal = cell_refusal(h, rows.len(), keys.len(), key.len(), column);
+    if refusal != 0 {
+        return CellAnswer::Refused(refusal);
+    }
+    let found = key_index::find(keyed(h), rows, keys, key, cells::compact_hash(key));
+    match found {
+        Found::None => CellAnswer::None,
+        Found::At(row, slot) => {
+            let at = (row * h.columns + column) as usize;
+            CellAnswer::Cell(rows[at])
+        }
+    }
+}
+
+// The rows of a condition on the sort column; none for any other.
+pub fn fast_subset(h: Header, sorts: &[u32], c: Constraint) -> RangeAnswer
+    ensures { λ r. ⌜ RangeRead h (now (sorts .entry)) c r ⌝ }
+{
+    let refusal = fast_refusal(h, sorts.len(), c);
+    if refusal != 0 {
+        return RangeAnswer::Refused(refusal);
+    }
+    if c.kind == 0 {
+        return RangeAnswer::None;
+    }
+    if c.column != h.sort {
+        return RangeAnswer::None;
+    }
+    let range = sort_entries::fast_range(sorts, h.entries, h.rows, c.kind, c.value);
+    RangeAnswer::Range(range.start, range.end)
+}
+
+// Generation and row count.
+pub fn version(h: Header) -> VersionAnswer
+    ensures { λ r. ⌜ VersionRead h r ⌝ }
+{
+    let refusal = version_refusal(h);
+    if refusal != 0 {
+        return VersionAnswer::Refused(refusal);
+    }
+    VersionAnswer::Version(Version {
+        generation: h.generation,
+        rows: h.rows,
+    })
+}
+
+// The rows from one on.
+pub fn updates_since(h: Header, row: u32) -> RangeAnswer
+    ensures { λ r. ⌜ RowsSince h row r ⌝ }
+{
+    let refusal = since_refusal(h, row);
+    if refusal != 0 {
+        return RangeAnswer::Refused(refusal);
+    }
+    RangeAnswer::Range(row, h.rows)
+}

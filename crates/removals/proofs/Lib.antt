@@ -1,0 +1,2 @@
+pub mod PassRemovals
+pub mod RemovalSteps

@@ -1,0 +1,203 @@
+-- The removals of a pass: one record's turn, and what holds at each turn of the loop over the pending records. Assumes
+-- nothing.
+use Prim.Native.Nat.{ℕ, _+_, _*_, _-_, _≤_, _<_}
+use mathlib.Core.Path.{_≡_, refl, sym, _∙_}
+use mathlib.Core.Bool.{Bool, true, false, cond}
+use mathlib.Core.List.{List, [], _∷_}
+use native.Mathlib.Decide.{ℕ-discrete}
+use native.Mathlib.Nat.{add-zero}
+use native.Mathlib.Omega.{arith}
+use lib.Dec.{eqb}
+use lib.ListN.{length, take, drop, getD}
+use borrow.Author.Tests.{eq-eqb, ne-eqb}
+use Rattle.key_index.specs.Index.{Fits}
+use Rattle.plain.specs.Staged.{Staged, insert, removeKey, removeRow, wordsOf}
+use Rattle.plain.specs.Plain.{Plain}
+use Rattle.table.specs.declared.Header.{Header}
+use Rattle.table.specs.Numbers.{openingOf}
+use Rattle.table.specs.Sound.{keyedOf}
+use Rattle.table.specs.Promises.{Stores, stores, Represents, SlotsPast}
+use Rattle.pending.specs.Steps.{Steps, withDead, Waiting, kindOf, RecordLength}
+use Rattle.removals.specs.Removals.{removed, removedAll, died, Removal, RemovalAt, Removed, Removable, Removals, RemovalNext, RemovedNext}
+use Rattle.pending.specs.Laws.Steps.{steps-refl, steps-then, waiting-start, words-some, waiting-next, waiting-kind, waiting-hash, waiting-key, waiting-row, waiting-row-key}
+use Rattle.pending.proofs.PassRecords.{Next, record-long}
+
+-- ---- one removal
+
+died-few : (r : Bool) → died r ≤ 1
+unfolding died
+died-few true = omega arith
+died-few false = omega arith
+
+module _ {h : Header} {rows keys pending : List ℕ} {at : ℕ} {r : Bool} {rows′ keys′ : List ℕ} where
+  -- by key
+  pub removed-key : Removal h rows keys (removeKey (take (at + 2 + h .keys - (at + 2)) (drop (at + 2) pending))) (getD pending (at + 1) 0) r rows′ keys′
+      → getD pending at 0 ≡ 1 → Removed h rows keys pending at r rows′ keys′
+  removed-key m k = record { past = m .past; table = table }
+    where
+      table : (removal : Staged) (rest : List Staged) → Next h pending at removal rest → (kindOf removal ≡ 0 → ⊥)
+          → (dead : ℕ) (sorts : List ℕ) (p : Plain) → Represents p (stores (withDead h dead) rows keys sorts pending)
+          → Steps p (removed removal p) (stores (withDead h dead) rows keys sorts pending) (stores (withDead h (dead + died r)) rows′ keys′ sorts pending)
+      table (insert cells) rest w ne dead sorts p t = absurd (ne (unfold kindOf in refl))
+      table (removeKey key) rest w ne dead sorts p t =
+          let q : at + 2 + h .keys - (at + 2) ≡ h .keys = omega arith in
+          let m′ : Removal h rows keys (removeKey key) (getD pending (at + 1) 0) r rows′ keys′ = rw (q, waiting-key w) at m in
+          m′ .table (waiting-hash w) dead sorts pending p t
+      table (removeRow row key) rest w ne dead sorts p t = let e : getD pending at 0 ≡ 2 = unfold kindOf in waiting-kind w in absurd (omega arith)
+
+  -- by row
+  pub removed-row : Removal h rows keys (removeRow (getD pending (at + 2) 0) (take (at + 3 + h .keys - (at + 3)) (drop (at + 3) pending))) (getD pending (at + 1) 0) r rows′ keys′
+      → (getD pending at 0 ≡ 1 → ⊥) → Removed h rows keys pending at r rows′ keys′
+  removed-row m k = record { past = m .past; table = table }
+    where
+      table : (removal : Staged) (rest : List Staged) → Next h pending at removal rest → (kindOf removal ≡ 0 → ⊥)
+          → (dead : ℕ) (sorts : List ℕ) (p : Plain) → Represents p (stores (withDead h dead) rows keys sorts pending)
+          → Steps p (removed removal p) (stores (withDead h dead) rows keys sorts pending) (stores (withDead h (dead + died r)) rows′ keys′ sorts pending)
+      table (insert cells) rest w ne dead sorts p t = absurd (ne (unfold kindOf in refl))
+      table (removeKey key) rest w ne dead sorts p t = absurd (k (unfold kindOf in waiting-kind w))
+      table (removeRow row key) rest w ne dead sorts p t =
+          let q : at + 3 + h .keys - (at + 3) ≡ h .keys = omega arith in
+          let m′ : Removal h rows keys (removeRow row key) (getD pending (at + 1) 0) r rows′ keys′ = rw (q, waiting-row w, waiting-row-key w) at m in
+          m′ .table (waiting-hash w) dead sorts pending p t
+
+  -- a record of the kind is made
+  pub removed-kind : {kind : ℕ} (n : ℕ) → getD pending at 0 ≡ kind → 1 ≤ kind → n ≡ died r → Removed h rows keys pending at r rows′ keys′
+      → RemovedNext h rows keys pending at kind n rows′ keys′
+  removed-kind {kind} n e k d m =
+      record {
+        past = m .past;
+        few = rw d (died-few r);
+        table = λ removal rest w dead sorts p t.
+            let q : kindOf removal ≡ kind = sym (waiting-kind w) ∙ e in
+            rw (eq-eqb _ _ q, d) (m .table removal rest w (λ z. omega arith) dead sorts p t);
+      }
+
+-- any other record is passed over
+pub removed-other : {h : Header} {rows keys pending : List ℕ} {at kind : ℕ} → (getD pending at 0 ≡ kind → ⊥) → RemovedNext h rows keys pending at kind 0 rows keys
+removed-other {h} {rows} {keys} {pending} {at} {kind} ne =
+    record {
+      past = refl;
+      few = omega arith;
+      table = λ removal rest w dead sorts p t.
+          let q : eqb (kindOf removal) kind ≡ false = ne-eqb _ _ (λ e. ne (waiting-kind w ∙ e)) in
+          rw (q, add-zero dead) (steps-refl t);
+    }
+
+-- ---- the loop over the removals
+
+-- what the removals so far have come to, and the records still to come
+pub record Removes (kind at : ℕ) (p : Plain) (s s′ : Stores) : Type 0 where
+  pub now : Plain
+  pub rest : List Staged
+  pub waiting : Waiting (openingOf (s .header)) (s .pending) (s .header .pending) at rest
+  pub same : removedAll kind (p .staged) p ≡ removedAll kind rest now
+  pub steps : Steps p now s s′
+
+-- the loop's invariant
+pub record Removing (h : Header) (rows keys pending : List ℕ) (kind : ℕ) (rows′ keys′ : List ℕ) (dead at words : ℕ) : Type 0 where
+  pub here : RecordLength h pending at words
+  pub inside : at ≤ h .pending
+  pub few : 3 * dead ≤ 3 * h .dead + at
+  pub fits : Fits (keyedOf h) rows′ keys′
+  pub rows-same : length rows′ ≡ length rows
+  pub keys-same : length keys′ ≡ length keys
+  pub past : SlotsPast (h .capacity) keys keys′
+  pub table : (sorts : List ℕ) (p : Plain) → Represents p (stores h rows keys sorts pending)
+      → Removes kind at p (stores h rows keys sorts pending) (stores (withDead h dead) rows′ keys′ sorts pending)
+
+module _ {h : Header} {rows keys pending : List ℕ} {kind : ℕ} (a : Removable h rows keys pending kind) where
+  pub removing-begin : {words : ℕ} → RecordLength h pending 0 words → Removing h rows keys pending kind rows keys (h .dead) 0 words
+  removing-begin l =
+      record {
+        here = l;
+        inside = omega arith;
+        few = omega arith;
+        fits = a .fits;
+        rows-same = refl;
+        keys-same = refl;
+        past = refl;
+        table = λ sorts p t. record { now = p; rest = p .staged; waiting = waiting-start t; same = refl; steps = steps-refl t };
+      }
+
+  module _ {rows′ keys′ : List ℕ} {dead at words : ℕ} (v : Removing h rows keys pending kind rows′ keys′ dead at words) where
+    module _ (some : words ≡ 0 → ⊥) where
+      pub removing-long : 3 ≤ words
+      removing-long = record-long (v .here) (a .fits .some-columns) (a .fits .some-keys) (omega arith)
+
+      pub removing-inside : at + words ≤ h .pending
+      removing-inside = v .here .inside (omega arith)
+
+      -- the record at the place stands whole
+      pub removing-requires : RemovalNext h rows′ keys′ pending at kind
+      removing-requires =
+          record {
+            fits = v .fits;
+            inside = omega (arith, removing-long, removing-inside, a .pending-fits);
+            whole = whole;
+            some-kind = a .some-kind;
+          }
+        where
+          whole : getD pending at 0 ≡ kind → RemovalAt h pending at
+          whole e =
+              let z : 0 < words = omega arith in
+              let i = removing-inside in
+              let k = a .some-kind in
+              let m = a .most-kind in
+              elim (ℕ-discrete (getD pending at 0) 1) [
+                | yes q ↦
+                    let n = v .here .of-key z q in
+                    record { of-key = omega (arith, a .pending-fits); of-row = λ f. absurd (f q) }
+                | no q ↦
+                    let n = v .here .of-row z (omega arith) in
+                    record { of-key = omega (arith, a .pending-fits); of-row = λ f. omega (arith, a .pending-fits) }
+              ]
+
+      -- once more
+      pub removing-again : {r : ℕ} {rows″ keys″ : List ℕ} {next : ℕ} → RemovedNext h rows′ keys′ pending at kind r rows″ keys″ → RecordLength h pending (at + words) next
+          → length rows″ ≡ length rows′ → length keys″ ≡ length keys′ → Removing h rows keys pending kind rows″ keys″ (dead + r) (at + words) next
+      removing-again {r} {rows″} {keys″} one l same-rows same-keys =
+          record {
+            here = l;
+            inside = removing-inside;
+            few = omega (arith, removing-long, v .few, one .few);
+            fits = omega (arith, v .fits);
+            rows-same = same-rows ∙ v .rows-same;
+            keys-same = same-keys ∙ v .keys-same;
+            past = one .past ∙ v .past;
+            table = λ sorts p t. on sorts p t (v .table sorts p t .rest) refl;
+          }
+        where
+          on : (sorts : List ℕ) (p : Plain) (t : Represents p (stores h rows keys sorts pending)) (rest : List Staged) → v .table sorts p t .rest ≡ rest
+              → Removes kind (at + words) p (stores h rows keys sorts pending) (stores (withDead h (dead + r)) rows″ keys″ sorts pending)
+          on sorts p t [] e = absurd (some (v .here .none (rw e at (v .table sorts p t .waiting))))
+          on sorts p t (first ∷ rest) e =
+              let g = v .table sorts p t in
+              let w : Next h pending at first rest = rw e at (g .waiting) in
+              let n : words ≡ wordsOf (openingOf h) first = v .here .next first rest w in
+              record {
+                now = cond (eqb (kindOf first) kind) (removed first (g .now)) (g .now);
+                rest = rest;
+                waiting = rw n (waiting-next w);
+                same = g .same ∙ rw e (unfold removedAll in refl);
+                steps = steps-then t (g .steps) (one .table first rest w dead sorts (g .now) (g .steps .represents));
+              }
+
+    -- no record is left
+    pub removing-end : words ≡ 0 → Removals h rows keys pending kind (withDead h dead) rows′ keys′
+    removing-end z =
+        record {
+          header = refl;
+          dead-few = omega (arith, v .few, v .inside);
+          past = v .past;
+          table = λ sorts p t. done sorts p t (v .table sorts p t .rest) refl;
+        }
+      where
+        done : (sorts : List ℕ) (p : Plain) (t : Represents p (stores h rows keys sorts pending)) (rest : List Staged) → v .table sorts p t .rest ≡ rest
+            → Steps p (removedAll kind (p .staged) p) (stores h rows keys sorts pending) (stores (withDead h dead) rows′ keys′ sorts pending)
+        done sorts p t [] e =
+            let g = v .table sorts p t in
+            let q : removedAll kind (p .staged) p ≡ g .now = g .same ∙ rw e (unfold removedAll in refl) in
+            rw q (g .steps)
+        done sorts p t (first ∷ rest) e =
+            let w : Next h pending at first rest = rw e at (v .table sorts p t .waiting) in
+            absurd (omega (arith, v .here .next first rest w, words-some (openingOf h) first))

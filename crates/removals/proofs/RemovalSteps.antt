@@ -1,0 +1,141 @@
+-- What a removal leaves, from what its calls say: a row that is marked dead, a key that no live row has, and the live row of
+-- a key. Assumes nothing.
+use Prim.Native.Nat.{ℕ, _+_, _*_, _≤_, _<_}
+use mathlib.Core.Path.{_≡_, refl, sym, ap, _∙_}
+use mathlib.Core.Bool.{Bool, true, false, not}
+use mathlib.Core.List.{List}
+use native.Mathlib.Nat.{add-zero, mul-le-mul}
+use native.Mathlib.Omega.{arith}
+use lib.ListN.{length, getD}
+use Rattle.lists.specs.Laws.Rows.{row-in, getD-rowAt}
+use Rattle.cells.specs.Cells.{isDead, compact, keyHash}
+use Rattle.constraints.specs.Constraints.{isLive}
+use Rattle.row_buffer.specs.Rows.{Staled}
+use Rattle.key_index.specs.declared.Keyed.{Keyed}
+use Rattle.key_index.specs.declared.Found.{Found}
+use Rattle.key_index.specs.declared.Found.the-variants.{None, At}
+use Rattle.key_index.specs.Slots.{LiveAt, keyAt, slots, KeysSound}
+use Rattle.key_index.specs.Index.{Fits, FoundAt, FoundIs}
+use Rattle.key_gaps.specs.Gaps.{TakenOut}
+use Rattle.plain.specs.Staged.{removeKey, removeRow}
+use Rattle.plain.specs.Plain.{Plain}
+use Rattle.table.specs.declared.Header.{Header}
+use Rattle.table.specs.Sound.{keyedOf}
+use Rattle.table.specs.Promises.{stores, Represents}
+use Rattle.pending.specs.Steps.{Steps, withDead, hashOf}
+use Rattle.removals.specs.Removals.{Kills, Removal, died, removed}
+use Rattle.table.specs.Laws.Shown.{in-live}
+use Rattle.pending.specs.Laws.Steps.{steps-refl}
+use Rattle.pending.specs.Laws.Dying.{dying, dying-steps, withoutKey-none, withoutKey-one, withoutRow-none, withoutRow-one, withoutRow-other}
+
+-- ---- a row is taken out and marked
+
+-- its first cell lies in the store
+pub first-cell : (t : Keyed) (rows keys : List ℕ) (row : ℕ) → Fits t rows keys → row < t .rows → (row * t .columns < length rows) × (row * t .columns < 524288)
+first-cell t rows keys row f h =
+    let a = row-in row (t .capacity) (t .columns) (omega (arith, f .count)) in
+    let b = mul-le-mul (f .most) (f .most-columns) in
+    (omega (arith, f .cells, f .some-columns), omega (arith, f .some-columns))
+
+pub killed : (t : Keyed) (rows keys : List ℕ) (row slot : ℕ) (was : Bool) (rows′ keys′ : List ℕ) → Fits t rows keys
+    → TakenOut t rows keys slot keys′ → Staled rows (row * t .columns) was rows′ → Kills t rows keys row slot (not was) rows′ keys′
+unfolding isLive
+killed t rows keys row slot was rows′ keys′ f taken staled =
+    record {
+      marks = staled .cells;
+      was-live =
+          let some : 0 < t .columns = omega (arith, f .some-columns) in
+          ap not
+          (staled .before
+          ∙ ap isDead (ap (λ (at : ℕ). getD rows at 0) (sym (add-zero (row * t .columns))) ∙ sym (getD-rowAt (t .columns) row rows 0 0 some)));
+      past = taken .rest;
+      keyed = λ sound live word. rw (staled .cells) (taken .sound sound row live word);
+    }
+
+-- ---- a removal
+
+-- what a lookup asks, and a kill of the row that it finds
+pub find-fits : {t u : Keyed} {rows keys : List ℕ} {n : ℕ} → t ≡ u → (Fits u rows keys) × (n ≡ u .keys) → (Fits t rows keys) × (n ≡ t .keys)
+find-fits e f = rw e f
+
+pub kill-fits : {t u : Keyed} {rows keys key : List ℕ} {hash : ℕ} {found : Found} (row slot : ℕ) → t ≡ u → Fits u rows keys
+    → FoundIs t rows keys key hash found → found ≡ At row slot → (Fits t rows keys) × (row < t .rows) × (slot < slots t)
+kill-fits row slot e f finds q = (rw e f, finds .row-in row slot q, finds .slot-in row slot q)
+
+-- the row that it finds, by another name
+pub found-same : {found : Found} {at row slot : ℕ} → at ≡ row → found ≡ At at slot → found ≡ At row slot
+found-same e q = rw e at q
+
+-- nothing changes
+unchanged : {p p′ : Plain} (h : Header) {rows keys sorts pending : List ℕ} (dead : ℕ) → p′ ≡ p → Represents p (stores (withDead h dead) rows keys sorts pending)
+    → Steps p p′ (stores (withDead h dead) rows keys sorts pending) (stores (withDead h (dead + died false)) rows keys sorts pending)
+unfolding died
+unchanged h dead e r = rw (e, add-zero dead) (steps-refl r)
+
+module _ (h : Header) (rows keys key : List ℕ) (hash : ℕ) (t : Keyed) (numbers : t ≡ keyedOf h) (found : Found) (finds : FoundIs t rows keys key hash found) where
+  -- the key has no live row
+  nowhere : found ≡ None → hash ≡ compact (keyHash key) → KeysSound (keyedOf h) rows keys → (i : ℕ) → LiveAt (keyedOf h) rows i → keyAt (keyedOf h) rows i ≡ key → ⊥
+  nowhere q e sound = (rw numbers at finds) .none e sound q
+
+  pub key-absent : found ≡ None → Removal h rows keys (removeKey key) hash false rows keys
+  unfolding removed hashOf
+  key-absent q =
+      record {
+        past = refl;
+        table = λ e dead sorts pending p r. unchanged h dead (withoutKey-none r key (nowhere q e (r .keyed))) r;
+      }
+
+  pub row-absent : (row : ℕ) → found ≡ None → Removal h rows keys (removeRow row key) hash false rows keys
+  unfolding removed hashOf
+  row-absent row q =
+      record {
+        past = refl;
+        table = λ e dead sorts pending p r. unchanged h dead (withoutRow-none r key (nowhere q e (r .keyed)) row) r;
+      }
+
+  module _ (at slot : ℕ) (is : found ≡ At at slot) where
+    somewhere : hash ≡ compact (keyHash key) → KeysSound (keyedOf h) rows keys → FoundAt (keyedOf h) rows keys key at slot
+    somewhere e sound = (rw numbers at finds) .at e sound at slot is
+
+    -- it is another row
+    pub row-other : (row : ℕ) → (at ≡ row → ⊥) → Removal h rows keys (removeRow row key) hash false rows keys
+    unfolding removed hashOf
+    row-other row ne =
+        record {
+          past = refl;
+          table = λ e dead sorts pending p r.
+              let f = somewhere e (r .keyed) in
+              unchanged h dead (withoutRow-other r key at row (f .live) (f .key-is) ne) r;
+        }
+
+    module _ (r : Bool) (rows′ keys′ : List ℕ) (long : 2 * h .capacity ≤ length keys′) (kills : Kills t rows keys at slot r rows′ keys′) where
+      -- the live row of the key dies
+      dead-now : {p : Plain} (dead : ℕ) (sorts pending : List ℕ) → hash ≡ compact (keyHash key) → Represents p (stores (withDead h dead) rows keys sorts pending)
+          → Steps p (dying p at) (stores (withDead h dead) rows keys sorts pending) (stores (withDead h (dead + died r)) rows′ keys′ sorts pending)
+      unfolding died
+      dead-now dead sorts pending e s =
+          let k : Kills (keyedOf h) rows keys at slot r rows′ keys′ = rw numbers at kills in
+          let f = somewhere e (s .keyed) in
+          let lives : r ≡ true = k .was-live ∙ f .live .1 in
+          let sound : KeysSound (keyedOf h) rows′ keys′ = k .keyed (s .keyed) (f .live) (rw (f .key-is) (f .word-is)) in
+          rw (lives, k .marks) (dying-steps s at (in-live s at (f .live)) keys′ long (rw (k .marks) at sound))
+
+      pub key-dead : Removal h rows keys (removeKey key) hash r rows′ keys′
+      unfolding removed hashOf
+      key-dead =
+          record {
+            past = rw numbers at (kills .past);
+            table = λ e dead sorts pending p s.
+                let f = somewhere e (s .keyed) in
+                rw (withoutKey-one s key at (f .live) (f .key-is)) (dead-now dead sorts pending e s);
+          }
+
+      pub row-dead : Removal h rows keys (removeRow at key) hash r rows′ keys′
+      unfolding removed hashOf
+      row-dead =
+          record {
+            past = rw numbers at (kills .past);
+            table = λ e dead sorts pending p s.
+                let f = somewhere e (s .keyed) in
+                rw (withoutRow-one s key at (f .live) (f .key-is)) (dead-now dead sorts pending e s);
+          }

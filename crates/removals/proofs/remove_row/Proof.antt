@@ -1,0 +1,76 @@
+-- `merge::removals::remove_row` meets its contract. Assumes nothing.
+use native.Mathlib.Omega.{arith}
+use borrow.Author.Needs.{needs}
+use Rattle.removals.proofs.RemovalSteps.{find-fits, kill-fits, found-same, row-absent, row-other, row-dead}
+use Rattle.removals.proofs.remove_row.Statement.{statement}
+use Rattle.removals.proofs.remove_row.Tie as tie
+
+keyed-requires : tie.Need-keyed-requires
+keyed-requires c κs = search needs
+
+find-requires : tie.Need-find-requires
+find-requires c κs = find-fits (c .before .before .keyed .ensures) (c .before .before .before .before .before .before .pre)
+
+enum-told : tie.Need-enum-told
+enum-told c = search needs
+
+enum-known-found : tie.Need-enum-known-found
+enum-known-found c = search needs
+
+same-length : tie.Need-same-length
+same-length c = search needs
+
+same-length-2 : tie.Need-same-length-2
+same-length-2 c = search needs
+
+returns : tie.Need-returns
+returns c =
+    let f = c .before .before .before .before in
+    row-other _ _ _ _ _ _ (f .before .before .before .keyed .ensures) _ (f .find .ensures) _ _ (c .before .before .found .given .1) _ (c .if1 .taken)
+
+kill-requires : tie.Need-kill-requires
+kill-requires c κs =
+    let f = c .before .before .before .before .before .before in
+    kill-fits _ _ (f .before .before .before .keyed .ensures) (f .before .before .before .before .before .before .before .pre .0) (f .find .ensures) (found-same (c .before .before .if1 .left) (c .before .before .before .before .found .given .1))
+
+same-length-3 : tie.Need-same-length-3
+same-length-3 c = search needs
+
+same-length-4 : tie.Need-same-length-4
+same-length-4 c = search needs
+
+returns-2 : tie.Need-returns-2
+returns-2 c =
+    let f = c .before .before in
+    row-absent _ _ _ _ _ _ (f .before .before .before .keyed .ensures) _ (f .find .ensures) _ (c .enum-told .given .1)
+
+same-length-5 : tie.Need-same-length-5
+same-length-5 c = search needs
+
+same-length-6 : tie.Need-same-length-6
+same-length-6 c = search needs
+
+returns-3 : tie.Need-returns-3
+returns-3 c =
+    let f = c .before .before .before .before .before .before .before .before .before .before .before in
+    row-dead _ _ _ _ _ _ (f .before .before .before .keyed .ensures) _ (f .find .ensures) _ _ (found-same (c .before .before .before .before .before .before .before .if1 .left) (c .before .before .before .before .before .before .before .before .before .found .given .1)) _ _ _
+    (omega (arith, f .before .before .before .before .before .before .before .pre .0 .long)) (c .before .before .before .before .kill .ensures)
+
+pub remove-row-spec : {M : Type 1} → statement M
+remove-row-spec =
+    tie.close
+    (tie.spec
+    keyed-requires
+    find-requires
+    enum-told
+    enum-known-found
+    same-length
+    same-length-2
+    returns
+    kill-requires
+    same-length-3
+    same-length-4
+    returns-2
+    same-length-5
+    same-length-6
+    returns-3)

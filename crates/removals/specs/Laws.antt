@@ -1,0 +1,2 @@
+-- What may be relied on of the definitions.
+pub mod Removals

@@ -1,0 +1,59 @@
+-- `offsets::fill_from_dense` meets its contract. Assumes nothing.
+use Prim.Native.Nat.{_-_}
+use borrow.Author.Needs.{needs}
+use Rattle.retain.proofs.Grow.{Filled, filled-begin, filled-more, filled-end}
+use Rattle.retain.proofs.fill_from_dense.Statement.{statement}
+use Rattle.retain.proofs.fill_from_dense.Tie as tie
+
+abbrev Inv-loop : tie.InvT-loop
+Inv-loop output₀ start end id₀ output id = Filled output₀ output start end id
+
+abbrev μ-loop : tie.MeasureT-loop
+μ-loop output₀ start end id₀ output id = end - id
+
+loop-holds : tie.Need-loop-holds Inv-loop μ-loop
+loop-holds c = filled-begin _ _ _ (c .pre .0)
+
+sub-at : tie.Need-sub-at Inv-loop μ-loop
+sub-at c = search needs
+
+cast-at : tie.Need-cast-at Inv-loop μ-loop
+cast-at c = search needs
+
+mul-output : tie.Need-mul-output Inv-loop μ-loop
+mul-output c = search needs
+
+slice-write-output : tie.Need-slice-write-output Inv-loop μ-loop
+slice-write-output c = search needs
+
+add-id : tie.Need-add-id Inv-loop μ-loop
+add-id c = search needs
+
+loop-less : tie.Need-loop-less Inv-loop μ-loop
+loop-less c = search needs
+
+loop-again : tie.Need-loop-again Inv-loop μ-loop
+loop-again c = filled-more _ _ _ _ _ (c .before .before .pre .1) (c .before .loop .inv) (c .loop-test .taken)
+
+same-length : tie.Need-same-length Inv-loop μ-loop
+same-length c = c .before .loop .inv .same
+
+returns : tie.Need-returns Inv-loop μ-loop
+returns c = filled-end _ _ _ _ _ (c .before .loop .inv) (c .loop-test .left)
+
+pub fill-from-dense-spec : {M : Type 1} → statement M
+fill-from-dense-spec =
+    tie.close
+    (tie.spec
+    Inv-loop
+    μ-loop
+    loop-holds
+    sub-at
+    cast-at
+    mul-output
+    slice-write-output
+    add-id
+    loop-less
+    loop-again
+    same-length
+    returns)

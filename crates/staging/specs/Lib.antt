@@ -1,0 +1,2 @@
+pub mod Stagings
+pub mod Laws

@@ -1,0 +1,4 @@
+pub mod AnswerSteps
+pub mod MatchSteps
+pub mod PageSteps
+pub mod SweepSteps

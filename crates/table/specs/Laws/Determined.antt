@@ -1,0 +1,262 @@
+-- Each promise determines the outcome: two outcomes that both meet it, on the same input, are the same answer and the same
+-- lent cells, so that it shuts out every other program at once. Choice is left in three places only: after a merge or a
+-- compaction, the key store's slots below 2 × capacity; after a compaction, the compaction words needed; and, where the
+-- stores are no table's, all but the refusal and what is never written. Assumes nothing.
+use Prim.Native.Nat.{ℕ, _*_, _<_}
+use mathlib.Core.Path.{_≡_, refl, sym, ap, _∙_}
+use mathlib.Core.Logic.{⊎-elim}
+use mathlib.Core.Bool.{true, false}
+use mathlib.Core.List.{List, []}
+use native.Mathlib.Omega.{arith}
+use lib.ListN.{length}
+use Rattle.lists.specs.Laws.Parts.{same-parts}
+use Rattle.refusals.specs.Refusals.{verdict}
+use Rattle.refusals.specs.Laws.{some-number}
+use Rattle.refusals.specs.Determined.{Same, SameAnswer, refused-same, answer-same}
+use Rattle.constraints.specs.declared.Constraint.{Constraint}
+use Rattle.sort_entries.specs.Entries.{entriesOf, entriesSound}
+use Rattle.key_index.specs.Laws.{empty-free}
+use Rattle.plain.specs.Staged.{Opening, Staged}
+use Rattle.plain.specs.Plain.{Plain, openRefusal, opened, merged, cleared}
+use Rattle.table.specs.declared.Header.{Header}
+use Rattle.table.specs.declared.TableAnswer.{TableAnswer}
+use Rattle.table.specs.declared.MergeAnswer.{MergeAnswer}
+use Rattle.table.specs.declared.RowAnswer.{RowAnswer}
+use Rattle.table.specs.declared.CellAnswer.{CellAnswer}
+use Rattle.table.specs.declared.RangeAnswer.{RangeAnswer}
+use Rattle.table.specs.declared.VersionAnswer.{VersionAnswer}
+use Rattle.table.specs.declared.SoundAnswer.{SoundAnswer}
+use Rattle.table.specs.declared.SoundAnswer.the-variants.{Refused, Sound}
+use Rattle.table.specs.Numbers.{tableSays, mergeSays, rowSays, cellSays, rangeSays, soundSays}
+use Rattle.table.specs.Refusing.{stageRefusal, mergeRefusal, compactRefusal, clearRefusal, lookupRefusal, cellRefusal, fastRefusal}
+use Rattle.table.specs.Promises.{stores, lengths, Represents, SlotsPast, WordsPast, Opened, Staging, Merging, Compacting, Clearing, LookedUp, CellRead, RangeRead, VersionRead, RowsSince, Checked}
+use Rattle.table.specs.Laws.Shown.{represents-long, rows-counted}
+use Rattle.table.specs.Laws.Opening.{cleared-rows, cleared-opening}
+use Rattle.table.specs.Laws.Answers.{table-said, merge-said, row-said, cell-said, range-said, version-said}
+
+-- ---- *Open*
+
+-- of a table without rows the key store has no choice: every slot is free
+empty-keys : (p : Plain) (h : Header) (rows sorts pending keys₁ keys₂ : List ℕ) → length (p .rows) ≡ 0
+    → Represents p (stores h rows keys₁ sorts pending) → Represents p (stores h rows keys₂ sorts pending)
+    → SlotsPast (p .opening .capacity) keys₁ keys₂ → keys₁ ≡ keys₂
+empty-keys p h rows sorts pending keys₁ keys₂ none r s past =
+    let n : h .rows ≡ 0 = rows-counted r ∙ none in
+    let c : h .capacity ≡ p .opening .capacity = ap (λ (x : Header). x .capacity) (r .shown .header) in
+    same-parts 0 (2 * p .opening .capacity) keys₁ keys₂ (represents-long r .keys-long) (represents-long s .keys-long)
+    (λ i k. empty-free _ rows keys₁ (λ j live. omega (arith, live .0)) (r .keyed) i (omega arith) ∙ sym (empty-free _ rows keys₂ (λ j live. omega (arith, live .0)) (s .keyed) i (omega arith)))
+    (sym past)
+
+pub opened-determined : {o : Opening} {generation : ℕ} {rows keys sorts pending keys₁ keys₂ : List ℕ} {a b : TableAnswer}
+    → Opened o generation rows keys sorts pending a keys₁ → Opened o generation rows keys sorts pending b keys₂ → Same a b keys₁ keys₂
+unfolding opened
+opened-determined {o} {generation} {rows} {keys} {sorts} {pending} {keys₁} {keys₂} {a} {b} x y =
+    record {
+      answer = table-said a b (x .answers ∙ sym (y .answers));
+      cells =
+          ⊎-elim
+          (λ none. empty-keys (opened o generation) _ rows sorts pending keys₁ keys₂ refl (x .represents none) (y .represents none) (y .past ∙ sym (x .past)))
+          (λ some. x .unchanged some ∙ sym (y .unchanged some))
+          (some-number (openRefusal o (lengths rows keys sorts pending [] [])));
+    }
+
+-- ---- *Stage*
+
+-- the paper leaves the layout of the pending store open; the promise does not
+pub staging-determined : {h : Header} {r : Staged} {pending pending₁ pending₂ : List ℕ} {a b : TableAnswer}
+    → Staging h pending r a pending₁ → Staging h pending r b pending₂ → Same a b pending₁ pending₂
+staging-determined {h} {r} {pending} {a = a} {b = b} x y =
+    record {
+      answer = table-said a b (x .answers ∙ sym (y .answers));
+      cells =
+          ⊎-elim (λ none. x .written none ∙ sym (y .written none)) (λ some. x .unchanged some ∙ sym (y .unchanged some))
+          (some-number (stageRefusal h (length pending) r));
+    }
+
+-- ---- *Merge*, *Compact*
+
+-- what one of them leaves: its answer, and each list that it is lent to write to
+pub record Left (A : Type 0) : Type 0 where
+  pub answer : A
+  pub rows : List ℕ
+  pub keys : List ℕ
+  pub sorts : List ℕ
+  pub live : List ℕ
+  pub base : List ℕ
+
+-- two of them, of a table: the same but for the choices
+pub record SameTable {A : Type 0} (x y : Left A) : Type 0 where
+  pub answer : x .answer ≡ y .answer
+  pub rows : x .rows ≡ y .rows
+  pub sorts : x .sorts ≡ y .sorts
+
+-- what is all the same
+same-table : {A : Type 0} {x y : Left A} → x ≡ y → SameTable x y
+same-table {A} e =
+    record { answer = ap (λ (z : Left A). z .answer) e; rows = ap (λ (z : Left A). z .rows) e; sorts = ap (λ (z : Left A). z .sorts) e }
+
+-- the lists that were lent are as they were
+abbrev Unchanged : {A : Type 0} → List ℕ → List ℕ → List ℕ → List ℕ → List ℕ → Left A → Type 0
+Unchanged rows keys sorts live base x = (x .rows ≡ rows) × (x .keys ≡ keys) × (x .sorts ≡ sorts) × (x .live ≡ live) × (x .base ≡ base)
+
+left-same : {A : Type 0} (rows keys sorts live base : List ℕ) (x y : Left A) → x .answer ≡ y .answer
+    → Unchanged rows keys sorts live base x → Unchanged rows keys sorts live base y → x ≡ y
+left-same rows keys sorts live base x y answers u v =
+    λ i. record {
+      answer = answers i;
+      rows = (u .0 ∙ sym (v .0)) i;
+      keys = (u .1 ∙ sym (v .1)) i;
+      sorts = (u .2 ∙ sym (v .2)) i;
+      live = (u .3 ∙ sym (v .3)) i;
+      base = (u .4 ∙ sym (v .4)) i;
+    }
+
+module _ (h : Header) (rows keys sorts pending live base : List ℕ) (x y : Left MergeAnswer) where
+  pub record SameMerge : Type 0 where
+    -- of any stores: refused by the same number, or both accepted
+    pub verdicts : verdict (mergeSays (x .answer)) ≡ verdict (mergeSays (y .answer))
+    pub refused : 0 < mergeRefusal h (lengths rows keys sorts pending live base) → x ≡ y
+    -- and what is never written
+    pub slots-past : SlotsPast (h .capacity) (x .keys) (y .keys)
+    pub words-past : WordsPast (h .capacity) (x .live) (y .live) × WordsPast (h .capacity) (x .base) (y .base)
+    -- of a table: all but the choices
+    pub table : (p : Plain) → Represents p (stores h rows keys sorts pending) → SameTable x y
+    -- and the compaction words, where nothing is compacted
+    pub words : (p : Plain) → Represents p (stores h rows keys sorts pending) → merged p .table .generation ≡ p .generation
+        → (x .live ≡ y .live) × (x .base ≡ y .base)
+
+  pub merging-determined : Merging h rows keys sorts pending live base (x .answer) (x .rows) (x .keys) (x .sorts) (x .live) (x .base)
+      → Merging h rows keys sorts pending live base (y .answer) (y .rows) (y .keys) (y .sorts) (y .live) (y .base) → SameMerge
+  merging-determined u v =
+      let n = some-number (mergeRefusal h (lengths rows keys sorts pending live base)) in
+      let alike : 0 < mergeRefusal h (lengths rows keys sorts pending live base) → x ≡ y =
+      λ some. left-same rows keys sorts live base x y (refused-same merge-said (u .refusal) (v .refusal) some) (u .unchanged some) (v .unchanged some) in
+      record {
+        verdicts = u .refusal ∙ sym (v .refusal);
+        refused = alike;
+        slots-past = v .past ∙ sym (u .past);
+        words-past = (v .words-past .0 ∙ sym (u .words-past .0), v .words-past .1 ∙ sym (u .words-past .1));
+        table = λ p t.
+            ⊎-elim
+            (λ none.
+            let e = u .table none p t in
+            let f = v .table none p t in
+            record { answer = merge-said _ _ (e .answers ∙ sym (f .answers)); rows = e .rows-after ∙ sym (f .rows-after); sorts = e .sorts-after ∙ sym (f .sorts-after) })
+            (λ some. same-table (alike some))
+            n;
+        words = λ p t same.
+            ⊎-elim
+            (λ none.
+            let e = u .table none p t .words same in
+            let f = v .table none p t .words same in
+            (e .0 ∙ sym (f .0), e .1 ∙ sym (f .1)))
+            (λ some. (ap (λ (z : Left MergeAnswer). z .live) (alike some), ap (λ (z : Left MergeAnswer). z .base) (alike some)))
+            n;
+      }
+
+module _ (h : Header) (rows keys sorts live base : List ℕ) (x y : Left TableAnswer) where
+  pub record SameCompaction : Type 0 where
+    -- of any stores: refused by the same number, or both accepted
+    pub verdicts : verdict (tableSays (x .answer)) ≡ verdict (tableSays (y .answer))
+    pub refused : 0 < compactRefusal h (lengths rows keys sorts [] live base) → x ≡ y
+    -- and what is never written
+    pub slots-past : SlotsPast (h .capacity) (x .keys) (y .keys)
+    pub words-past : WordsPast (h .capacity) (x .live) (y .live) × WordsPast (h .capacity) (x .base) (y .base)
+    -- of a table: all but the choices
+    pub table : (pending : List ℕ) (p : Plain) → Represents p (stores h rows keys sorts pending) → SameTable x y
+
+  pub compacting-determined : Compacting h rows keys sorts live base (x .answer) (x .rows) (x .keys) (x .sorts) (x .live) (x .base)
+      → Compacting h rows keys sorts live base (y .answer) (y .rows) (y .keys) (y .sorts) (y .live) (y .base) → SameCompaction
+  compacting-determined u v =
+      let alike : 0 < compactRefusal h (lengths rows keys sorts [] live base) → x ≡ y =
+      λ some. left-same rows keys sorts live base x y (refused-same table-said (u .refusal) (v .refusal) some) (u .unchanged some) (v .unchanged some) in
+      record {
+        verdicts = u .refusal ∙ sym (v .refusal);
+        refused = alike;
+        slots-past = v .past ∙ sym (u .past);
+        words-past = (v .words-past .0 ∙ sym (u .words-past .0), v .words-past .1 ∙ sym (u .words-past .1));
+        table = λ pending p t.
+            ⊎-elim
+            (λ none.
+            let e = u .table none pending p t in
+            let f = v .table none pending p t in
+            record { answer = table-said _ _ (e .answers ∙ sym (f .answers)); rows = e .rows-after ∙ sym (f .rows-after); sorts = e .sorts-after ∙ sym (f .sorts-after) })
+            (λ some. same-table (alike some))
+            (some-number (compactRefusal h (lengths rows keys sorts [] live base)));
+      }
+
+-- ---- *Clear*
+
+module _ (h : Header) (keys : List ℕ) (a : TableAnswer) (keys₁ : List ℕ) (b : TableAnswer) (keys₂ : List ℕ) where
+  pub record SameClear : Type 0 where
+    -- of any stores: refused by the same number, or both accepted
+    pub verdicts : verdict (tableSays a) ≡ verdict (tableSays b)
+    pub refused : 0 < clearRefusal h (length keys) → Same a b keys₁ keys₂
+    -- and what is never written
+    pub slots-past : SlotsPast (h .capacity) keys₁ keys₂
+    -- of a table, all: no row is left, so that every slot is free
+    pub table : (rows sorts pending : List ℕ) (p : Plain) → Represents p (stores h rows keys sorts pending) → Same a b keys₁ keys₂
+
+  pub clearing-determined : Clearing h keys a keys₁ → Clearing h keys b keys₂ → SameClear
+  clearing-determined u v =
+      let alike : 0 < clearRefusal h (length keys) → Same a b keys₁ keys₂ =
+      λ some. record { answer = refused-same table-said (u .refusal) (v .refusal) some; cells = u .unchanged some ∙ sym (v .unchanged some) } in
+      record {
+        verdicts = u .refusal ∙ sym (v .refusal);
+        refused = alike;
+        slots-past = v .past ∙ sym (u .past);
+        table = λ rows sorts pending p t.
+            ⊎-elim
+            (λ none.
+            let e = u .table none rows sorts pending p t in
+            let f = v .table none rows sorts pending p t in
+            let c : h .capacity ≡ cleared p .opening .capacity =
+            ap (λ (g : Header). g .capacity) (t .shown .header) ∙ ap (λ (o : Opening). o .capacity) (sym (cleared-opening p)) in
+            record {
+              answer = table-said a b (e .answers ∙ sym (f .answers));
+              cells = empty-keys (cleared p) _ rows sorts pending keys₁ keys₂ (cleared-rows p) (e .represents) (f .represents) (rw c at (v .past ∙ sym (u .past)));
+            })
+            alike
+            (some-number (clearRefusal h (length keys)));
+      }
+
+-- ---- *Key lookup*, *one cell*, *Fast range*
+
+-- the header, rows and keys are those of some table
+abbrev pub OfTable : Header → List ℕ → List ℕ → Type 0
+OfTable h rows keys = (sorts pending : List ℕ) × (p : Plain) × Represents p (stores h rows keys sorts pending)
+
+pub looked-up-determined : {h : Header} {rows keys key : List ℕ} {a b : RowAnswer} → LookedUp h rows keys key a → LookedUp h rows keys key b
+    → SameAnswer rowSays (lookupRefusal h (length rows) (length keys) (length key)) (OfTable h rows keys) a b
+looked-up-determined u v =
+    answer-same row-said (u .refusal) (v .refusal) (λ none t. u .table none (t .0) (t .1) (t .2) (t .3) ∙ sym (v .table none (t .0) (t .1) (t .2) (t .3)))
+
+pub cell-read-determined : {h : Header} {rows keys key : List ℕ} {column : ℕ} {a b : CellAnswer} → CellRead h rows keys key column a → CellRead h rows keys key column b
+    → SameAnswer cellSays (cellRefusal h (length rows) (length keys) (length key) column) (OfTable h rows keys) a b
+cell-read-determined u v =
+    answer-same cell-said (u .refusal) (v .refusal) (λ none t. u .table none (t .0) (t .1) (t .2) (t .3) ∙ sym (v .table none (t .0) (t .1) (t .2) (t .3)))
+
+pub range-read-determined : {h : Header} {sorts : List ℕ} {c : Constraint} {a b : RangeAnswer} → RangeRead h sorts c a → RangeRead h sorts c b
+    → SameAnswer rangeSays (fastRefusal h (length sorts) c) (entriesSound (entriesOf (h .entries) sorts) (h .rows) ≡ true) a b
+range-read-determined u v = answer-same range-said (u .refusal) (v .refusal) (λ none rise. u .table none rise ∙ sym (v .table none rise))
+
+-- ---- *Version*, *Rows since*
+
+pub version-read-determined : {h : Header} {a b : VersionAnswer} → VersionRead h a → VersionRead h b → a ≡ b
+version-read-determined {a = a} {b = b} x y = version-said a b (x .answers ∙ sym (y .answers))
+
+pub rows-since-determined : {h : Header} {row : ℕ} {a b : RangeAnswer} → RowsSince h row a → RowsSince h row b → a ≡ b
+rows-since-determined {a = a} {b = b} x y = range-said a b (x .answers ∙ sym (y .answers))
+
+-- ---- the soundness check: stores are sound or they are not
+
+pub checked-determined : {h : Header} {rows keys sorts pending : List ℕ} {a b : SoundAnswer}
+    → Checked h rows keys sorts pending a → Checked h rows keys sorts pending b → a ≡ b
+unfolding soundSays verdict
+checked-determined {a = Refused m} {b = Refused n} x y = let e = x .refusal ∙ sym (y .refusal) in cc
+checked-determined {a = Refused m} {b = Sound s} x y = let e = x .refusal ∙ sym (y .refusal) in cc
+checked-determined {a = Sound r} {b = Refused n} x y = let e = x .refusal ∙ sym (y .refusal) in cc
+checked-determined {a = Sound true} {b = Sound true} x y = refl
+checked-determined {a = Sound true} {b = Sound false} x y = let s = x .sound refl in absurd (y .unsound refl (s .0) (s .1))
+checked-determined {a = Sound false} {b = Sound true} x y = let s = y .sound refl in absurd (x .unsound refl (s .0) (s .1))
+checked-determined {a = Sound false} {b = Sound false} x y = refl

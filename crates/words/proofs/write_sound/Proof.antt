@@ -1,0 +1,53 @@
+-- `exports::tables::write_sound` meets its contract. Assumes nothing.
+use mathlib.Core.Path.{refl, ap, _∙_}
+use mathlib.Core.List.{[], _∷_}
+use Rattle.words.proofs.Written.{alone}
+use Rattle.words.specs.Words.{soundNumber, soundWords}
+use borrow.Author.Needs.{needs}
+use Rattle.words.proofs.write_sound.Statement.{statement}
+use Rattle.words.proofs.write_sound.Tie as tie
+
+enum-known-answer : tie.Need-enum-known-answer
+enum-known-answer c = search needs
+
+slice-write-words : tie.Need-slice-write-words
+slice-write-words c = search needs
+
+enum-known-answer-2 : tie.Need-enum-known-answer-2
+enum-known-answer-2 c = search needs
+
+bit-of-requires : tie.Need-bit-of-requires
+bit-of-requires c κs = search needs
+
+slice-write-words-2 : tie.Need-slice-write-words-2
+slice-write-words-2 c = search needs
+
+same-length : tie.Need-same-length
+same-length c = search needs
+
+returns : tie.Need-returns
+unfolding soundNumber soundWords
+returns c = rw (c .before .answer .given .1) record { numbered = refl; worded = alone (c .before .before .before .before .args .words .now) _ (c .before .before .before .before .pre) }
+
+same-length-2 : tie.Need-same-length-2
+same-length-2 c = search needs
+
+returns-2 : tie.Need-returns-2
+unfolding soundNumber soundWords
+returns-2 c =
+    let s = c .before .before .before .before .before in
+    rw (c .before .before .answer2 .given .1) record { numbered = refl; worded = alone (s .args .words .now) _ (s .pre) ∙ ap (λ b. b ∷ []) (c .bit-of .ensures) }
+
+pub write-sound-spec : {M : Type 1} → statement M
+write-sound-spec =
+    tie.close
+    (tie.spec
+    enum-known-answer
+    slice-write-words
+    enum-known-answer-2
+    bit-of-requires
+    slice-write-words-2
+    same-length
+    returns
+    same-length-2
+    returns-2)

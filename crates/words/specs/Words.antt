@@ -1,0 +1,224 @@
+-- Headers and answers in words, for callers that have neither structs nor enums, and what a function under a C name promises: the
+-- library's own promise, of an answer that its words tell. Assumes nothing.
+use Prim.Native.Nat.{ℕ}
+use mathlib.Core.Path.{_≡_, refl}
+use mathlib.Core.Bool.{Bool, cond}
+use mathlib.Core.List.{List, [], _∷_}
+use lib.ListN.{length, getD}
+use Rattle.offsets.specs.declared.SubsetAnswer.{SubsetAnswer}
+use Rattle.offsets.specs.declared.SubsetAnswer.the-variants.{Refused as SubsetRefused, Range as SubsetRange, List as SubsetList, Refused, Range, List as Ids}
+use Rattle.table.specs.declared.Header.{Header}
+use Rattle.table.specs.declared.TableAnswer.{TableAnswer}
+use Rattle.table.specs.declared.TableAnswer.the-variants.{Refused as TableRefused, Table}
+use Rattle.table.specs.declared.Merge.{Merge}
+use Rattle.table.specs.declared.MergeAnswer.{MergeAnswer}
+use Rattle.table.specs.declared.MergeAnswer.the-variants.{Refused as MergeRefused, Merged}
+use Rattle.table.specs.declared.RowAnswer.{RowAnswer}
+use Rattle.table.specs.declared.RowAnswer.the-variants.{Refused as RowRefused, None as NoRow, Row}
+use Rattle.table.specs.declared.CellAnswer.{CellAnswer}
+use Rattle.table.specs.declared.CellAnswer.the-variants.{Refused as CellRefused, None as NoCell, Cell}
+use Rattle.table.specs.declared.RangeAnswer.{RangeAnswer}
+use Rattle.table.specs.declared.RangeAnswer.the-variants.{Refused as RangeRefused, None as NoRange, Range}
+use Rattle.table.specs.declared.Version.{Version}
+use Rattle.table.specs.declared.VersionAnswer.{VersionAnswer}
+use Rattle.table.specs.declared.VersionAnswer.the-variants.{Refused as VersionRefused, Version as Versioned}
+use Rattle.table.specs.declared.SoundAnswer.{SoundAnswer}
+use Rattle.table.specs.declared.SoundAnswer.the-variants.{Refused as SoundRefused, Sound}
+
+-- a header's ten words, in the order of its fields
+unfoldable pub headerIn : List ℕ → Header
+headerIn words =
+    record {
+      columns = getD words 0 0;
+      keys = getD words 1 0;
+      sort = getD words 2 0;
+      rule = getD words 3 0;
+      capacity = getD words 4 0;
+      rows = getD words 5 0;
+      dead = getD words 6 0;
+      entries = getD words 7 0;
+      pending = getD words 8 0;
+      generation = getD words 9 0;
+    }
+
+unfoldable pub headerWords : Header → List ℕ
+headerWords h =
+    h .columns
+    ∷ h .keys
+    ∷ h .sort
+    ∷ h .rule
+    ∷ h .capacity
+    ∷ h .rows
+    ∷ h .dead
+    ∷ h .entries
+    ∷ h .pending
+    ∷ h .generation
+    ∷ []
+
+-- ---- what is told of an answer: the refusal's number, 0 if there is none; the header's words, as they were if refused; and
+-- the answer's own words
+
+unfoldable pub tableNumber : TableAnswer → ℕ
+tableNumber (TableRefused n) = n
+tableNumber (Table h) = 0
+
+unfoldable pub tableHeader : List ℕ → TableAnswer → List ℕ
+tableHeader words (TableRefused n) = words
+tableHeader words (Table h) = headerWords h
+
+-- 1 for yes
+unfoldable pub bit : Bool → ℕ
+bit b = cond b 1 0
+
+unfoldable pub mergeNumber : MergeAnswer → ℕ
+mergeNumber (MergeRefused n) = n
+mergeNumber (Merged m) = 0
+
+unfoldable pub mergeHeader : List ℕ → MergeAnswer → List ℕ
+mergeHeader words (MergeRefused n) = words
+mergeHeader words (Merged m) = headerWords (m .header)
+
+-- the stop's number and place, and whether a row was appended
+unfoldable pub mergeWords : List ℕ → MergeAnswer → List ℕ
+mergeWords words (MergeRefused n) = words
+mergeWords words (Merged m) = m .status ∷ m .place ∷ bit (m .added) ∷ []
+
+-- 1 and the value, or all 0
+unfoldable pub rowNumber : RowAnswer → ℕ
+rowNumber (RowRefused n) = n
+rowNumber NoRow = 0
+rowNumber (Row row) = 0
+
+unfoldable pub rowWords : RowAnswer → List ℕ
+rowWords (RowRefused n) = 0 ∷ 0 ∷ []
+rowWords NoRow = 0 ∷ 0 ∷ []
+rowWords (Row row) = 1 ∷ row ∷ []
+
+unfoldable pub cellNumber : CellAnswer → ℕ
+cellNumber (CellRefused n) = n
+cellNumber NoCell = 0
+cellNumber (Cell cell) = 0
+
+unfoldable pub cellWords : CellAnswer → List ℕ
+cellWords (CellRefused n) = 0 ∷ 0 ∷ []
+cellWords NoCell = 0 ∷ 0 ∷ []
+cellWords (Cell cell) = 1 ∷ cell ∷ []
+
+unfoldable pub rangeNumber : RangeAnswer → ℕ
+rangeNumber (RangeRefused n) = n
+rangeNumber NoRange = 0
+rangeNumber (Range start end) = 0
+
+unfoldable pub rangeWords : RangeAnswer → List ℕ
+rangeWords (RangeRefused n) = 0 ∷ 0 ∷ 0 ∷ []
+rangeWords NoRange = 0 ∷ 0 ∷ 0 ∷ []
+rangeWords (Range start end) = 1 ∷ start ∷ end ∷ []
+
+unfoldable pub versionNumber : VersionAnswer → ℕ
+versionNumber (VersionRefused n) = n
+versionNumber (Versioned v) = 0
+
+unfoldable pub versionWords : VersionAnswer → List ℕ
+versionWords (VersionRefused n) = 0 ∷ 0 ∷ []
+versionWords (Versioned v) = v .generation ∷ v .rows ∷ []
+
+unfoldable pub soundNumber : SoundAnswer → ℕ
+soundNumber (SoundRefused n) = n
+soundNumber (Sound answer) = 0
+
+unfoldable pub soundWords : SoundAnswer → List ℕ
+soundWords (SoundRefused n) = 0 ∷ []
+soundWords (Sound answer) = bit answer ∷ []
+
+-- of a subset as an answer: 0 and the refusal's number; 1 and a range's two ends; 2 and how many ids were written
+unfoldable pub subsetWords : SubsetAnswer → List ℕ
+subsetWords (Refused n) = 0 ∷ n ∷ 0 ∷ []
+subsetWords (Range start end) = 1 ∷ start ∷ end ∷ []
+subsetWords (Ids n) = 2 ∷ n ∷ 0 ∷ []
+
+unfoldable pub subsetNumber : SubsetAnswer → ℕ
+subsetNumber (SubsetRefused n) = n
+subsetNumber (SubsetRange start end) = 0
+subsetNumber (SubsetList count) = 0
+
+-- ---- promises
+
+-- an answer's number and words are told
+pub record Told {A : Type 0} (number : A → ℕ) (words : A → List ℕ) (answer : A) (r : ℕ) (words′ : List ℕ) : Type 0 where
+  pub numbered : r ≡ number answer
+  pub worded : words′ ≡ words answer
+
+-- a merge's answer is told
+pub record MergeTold (answer : MergeAnswer) (header words : List ℕ) (r : ℕ) (header′ words′ : List ℕ) : Type 0 where
+  pub numbered : r ≡ mergeNumber answer
+  pub headed : header′ ≡ mergeHeader header answer
+  pub worded : words′ ≡ mergeWords words answer
+
+-- A call that leaves a header. Where the header is ten words, the library's promise holds of an answer that the number and the
+-- header's words tell; else the number is 1 and nothing has changed.
+pub record Called (promise : TableAnswer → Type 0) (unchanged : Type 0) (header : List ℕ) (r : ℕ) (header′ : List ℕ) : Type 0 where
+  pub done : length header ≡ 10 → (answer : TableAnswer) × promise answer × (r ≡ tableNumber answer) × (header′ ≡ tableHeader header answer)
+  pub unheaded : (length header ≡ 10 → ⊥) → unchanged × (r ≡ 1) × (header′ ≡ header)
+
+-- A merge, whose answer goes into three words. Where the header is not ten words, the number is 1; where it is, but these are
+-- not three, it is 2; and nothing has changed.
+pub record MergeCalled (promise : MergeAnswer → Type 0) (unchanged : Type 0) (header words : List ℕ) (r : ℕ) (header′ words′ : List ℕ) : Type 0 where
+  pub done : length header ≡ 10 → length words ≡ 3
+      → (answer : MergeAnswer) × promise answer × (r ≡ mergeNumber answer) × (header′ ≡ mergeHeader header answer) × (words′ ≡ mergeWords words answer)
+  pub unheaded : (length header ≡ 10 → ⊥) → unchanged × (r ≡ 1) × (header′ ≡ header) × (words′ ≡ words)
+  pub unworded : length header ≡ 10 → (length words ≡ 3 → ⊥) → unchanged × (r ≡ 2) × (header′ ≡ header) × (words′ ≡ words)
+
+-- A question, whose answer goes into so many words; 1 and 2 as for a merge.
+pub record Asked {A : Type 0} (promise : A → Type 0) (number : A → ℕ) (told : A → List ℕ) (count : ℕ) (header words : List ℕ) (r : ℕ) (words′ : List ℕ) : Type 0 where
+  pub done : length header ≡ 10 → length words ≡ count → (answer : A) × promise answer × (r ≡ number answer) × (words′ ≡ told answer)
+  pub unheaded : (length header ≡ 10 → ⊥) → (r ≡ 1) × (words′ ≡ words)
+  pub unworded : length header ≡ 10 → (length words ≡ count → ⊥) → (r ≡ 2) × (words′ ≡ words)
+
+-- ---- a promise is kept: nothing is done, or an answer told
+
+module _ {promise : TableAnswer → Type 0} {unchanged : Type 0} {header : List ℕ} where
+  pub called-unheaded : (length header ≡ 10 → ⊥) → unchanged → Called promise unchanged header 1 header
+  called-unheaded n u = record { done = λ e. absurd (n e); unheaded = λ e. (u, refl, refl) }
+
+  pub called-done : {answer : TableAnswer} {r : ℕ} {header′ : List ℕ} → length header ≡ 10 → promise answer
+      → Told tableNumber (tableHeader header) answer r header′ → Called promise unchanged header r header′
+  called-done {answer} l p t =
+      record { done = λ e. (answer, p, t .numbered, t .worded); unheaded = λ n. absurd (n l) }
+
+module _ {promise : MergeAnswer → Type 0} {unchanged : Type 0} {header words : List ℕ} where
+  pub merge-unheaded : (length header ≡ 10 → ⊥) → unchanged → MergeCalled promise unchanged header words 1 header words
+  merge-unheaded n u =
+      record { done = λ e d. absurd (n e); unheaded = λ m. (u, refl, refl, refl); unworded = λ e m. absurd (n e) }
+
+  pub merge-unworded : length header ≡ 10 → (length words ≡ 3 → ⊥) → unchanged
+      → MergeCalled promise unchanged header words 2 header words
+  merge-unworded l n u =
+      record { done = λ e d. absurd (n d); unheaded = λ m. absurd (m l); unworded = λ e m. (u, refl, refl, refl) }
+
+  pub merge-done : {answer : MergeAnswer} {r : ℕ} {header′ words′ : List ℕ} → length header ≡ 10 → length words ≡ 3
+      → promise answer → MergeTold answer header words r header′ words′
+      → MergeCalled promise unchanged header words r header′ words′
+  merge-done {answer} l k p t =
+      record {
+        done = λ e d. (answer, p, t .numbered, t .headed, t .worded);
+        unheaded = λ n. absurd (n l);
+        unworded = λ e n. absurd (n k);
+      }
+
+module _ {A : Type 0} {promise : A → Type 0} {number : A → ℕ} {told : A → List ℕ} {count : ℕ} {header words : List ℕ} where
+  pub asked-unheaded : (length header ≡ 10 → ⊥) → Asked promise number told count header words 1 words
+  asked-unheaded n =
+      record { done = λ e d. absurd (n e); unheaded = λ m. (refl, refl); unworded = λ e m. absurd (n e) }
+
+  pub asked-unworded : length header ≡ 10 → (length words ≡ count → ⊥) → Asked promise number told count header words 2 words
+  asked-unworded l n =
+      record { done = λ e d. absurd (n d); unheaded = λ m. absurd (m l); unworded = λ e m. (refl, refl) }
+
+  pub asked-done : {answer : A} {r : ℕ} {words′ : List ℕ} → length header ≡ 10 → length words ≡ count → promise answer
+      → Told number told answer r words′ → Asked promise number told count header words r words′
+  asked-done {answer} l k p t =
+      record {
+        done = λ e d. (answer, p, t .numbered, t .worded);
+        unheaded = λ n. absurd (n l);
+        unworded = λ e n. absurd (n k);
+      }

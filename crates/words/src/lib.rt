@@ -1,0 +1,229 @@
+// Headers and answers in words, for callers that have neither structs nor enums: what the functions under C names read and
+// write.
+ghost use mathlib.Core.Path.{_≡_};
+ghost use mathlib.Core.List.{[], _∷_};
+ghost use lib.ListN.{length};
+ghost use Rattle.words.specs.Words.{bit, headerIn, headerWords, tableNumber, tableHeader, rowNumber, rowWords, cellNumber, cellWords, rangeNumber, rangeWords, versionNumber, versionWords, soundNumber, soundWords, Told, MergeTold, subsetWords, subsetNumber};
+use offsets::SubsetAnswer;
+use table::CellAnswer;
+use table::Header;
+use table::MergeAnswer;
+use table::RangeAnswer;
+use table::RowAnswer;
+use table::SoundAnswer;
+use table::TableAnswer;
+use table::VersionAnswer;
+
+pub fn header_of(words: &[u32]) -> Header
+    requires { ⌜ length (now words) ≡ 10 ⌝ }
+    ensures { λ r. ⌜ r ≡ headerIn (now (words .entry)) ⌝ }
+{
+    Header {
+        columns: words[0],
+        keys: words[1],
+        sort: words[2],
+        rule: words[3],
+        capacity: words[4],
+        rows: words[5],
+        dead: words[6],
+        entries: words[7],
+        pending: words[8],
+        generation: words[9],
+    }
+}
+
+fn write_header(h: Header, words: &mut [u32])
+    requires { ⌜ length (now words) ≡ 10 ⌝ }
+    ensures { λ _. ⌜ now (words .exit) ≡ headerWords h ⌝ }
+{
+    words[0] = h.columns;
+    words[1] = h.keys;
+    words[2] = h.sort;
+    words[3] = h.rule;
+    words[4] = h.capacity;
+    words[5] = h.rows;
+    words[6] = h.dead;
+    words[7] = h.entries;
+    words[8] = h.pending;
+    words[9] = h.generation;
+}
+
+fn write_two(words: &mut [u32], first: u32, second: u32)
+    requires { ⌜ length (now words) ≡ 2 ⌝ }
+    ensures { λ _. ⌜ now (words .exit) ≡ first ∷ second ∷ [] ⌝ }
+{
+    words[0] = first;
+    words[1] = second;
+}
+
+fn write_three(words: &mut [u32], first: u32, second: u32, third: u32)
+    requires { ⌜ length (now words) ≡ 3 ⌝ }
+    ensures { λ _. ⌜ now (words .exit) ≡ first ∷ second ∷ third ∷ [] ⌝ }
+{
+    words[0] = first;
+    words[1] = second;
+    words[2] = third;
+}
+
+// 1 for yes.
+fn bit_of(answer: bool) -> u32
+    ensures { λ r. ⌜ r ≡ bit answer ⌝ }
+{
+    if answer {
+        return 1;
+    }
+    0
+}
+
+pub fn write_table(answer: TableAnswer, words: &mut [u32]) -> u32
+    requires { ⌜ length (now words) ≡ 10 ⌝ }
+    ensures { λ r. ⌜ Told tableNumber (tableHeader (now (words .entry))) answer r (now (words .exit)) ⌝ }
+{
+    match answer {
+        TableAnswer::Refused(number) => number,
+        TableAnswer::Table(h) => {
+            write_header(h, words);
+            0
+        }
+    }
+}
+
+pub fn write_merge(answer: MergeAnswer, header: &mut [u32], words: &mut [u32]) -> u32
+    requires { ⌜ (length (now header) ≡ 10) × (length (now words) ≡ 3) ⌝ }
+    ensures { λ r. ⌜ MergeTold answer (now (header .entry)) (now (words .entry)) r (now (header .exit)) (now (words .exit)) ⌝ }
+{
+    match answer {
+        MergeAnswer::Refused(number) => number,
+        MergeAnswer::Merged(m) => {
+            write_header(m.header, header);
+            write_three(words, m.status, m.place, bit_of(m.added));
+            0
+        }
+    }
+}
+
+pub fn write_row(answer: RowAnswer, words: &mut [u32]) -> u32
+    requires { ⌜ length (now words) ≡ 2 ⌝ }
+    ensures { λ r. ⌜ Told rowNumber rowWords answer r (now (words .exit)) ⌝ }
+{
+    match answer {
+        RowAnswer::Refused(number) => {
+            write_two(words, 0, 0);
+            number
+        }
+        RowAnswer::None => {
+            write_two(words, 0, 0);
+            0
+        }
+        RowAnswer::Row(row) => {
+            write_two(words, 1, row);
+            0
+        }
+    }
+}
+
+pub fn write_cell(answer: CellAnswer, words: &mut [u32]) -> u32
+    requires { ⌜ length (now words) ≡ 2 ⌝ }
+    ensures { λ r. ⌜ Told cellNumber cellWords answer r (now (words .exit)) ⌝ }
+{
+    match answer {
+        CellAnswer::Refused(number) => {
+            write_two(words, 0, 0);
+            number
+        }
+        CellAnswer::None => {
+            write_two(words, 0, 0);
+            0
+        }
+        CellAnswer::Cell(cell) => {
+            write_two(words, 1, cell);
+            0
+        }
+    }
+}
+
+pub fn write_range(answer: RangeAnswer, words: &mut [u32]) -> u32
+    requires { ⌜ length (now words) ≡ 3 ⌝ }
+    ensures { λ r. ⌜ Told rangeNumber rangeWords answer r (now (words .exit)) ⌝ }
+{
+    match answer {
+        RangeAnswer::Refused(number) => {
+            write_three(words, 0, 0, 0);
+            number
+        }
+        RangeAnswer::None => {
+            write_three(words, 0, 0, 0);
+            0
+        }
+        RangeAnswer::Range(start, end) => {
+            write_three(words, 1, start, end);
+            0
+        }
+    }
+}
+
+pub fn write_version(answer: VersionAnswer, words: &mut [u32]) -> u32
+    requires { ⌜ length (now words) ≡ 2 ⌝ }
+    ensures { λ r. ⌜ Told versionNumber versionWords answer r (now (words .exit)) ⌝ }
+{
+    match answer {
+        VersionAnswer::Refused(number) => {
+            write_two(words, 0, 0);
+            number
+        }
+        VersionAnswer::Version(v) => {
+            write_two(words, v.generation, v.rows);
+            0
+        }
+    }
+}
+
+pub fn write_sound(answer: SoundAnswer, words: &mut [u32]) -> u32
+    requires { ⌜ length (now words) ≡ 1 ⌝ }
+    ensures { λ r. ⌜ Told soundNumber soundWords answer r (now (words .exit)) ⌝ }
+{
+    match answer {
+        SoundAnswer::Refused(number) => {
+            words[0] = 0;
+            number
+        }
+        SoundAnswer::Sound(sound) => {
+            words[0] = bit_of(sound);
+            0
+        }
+    }
+}
+
+// The answer's three words.
+pub fn write_answer(answer: SubsetAnswer, words: &mut [u32])
+    requires { ⌜ length (now words) ≡ 3 ⌝ }
+    ensures { λ _. ⌜ now (words .exit) ≡ subsetWords answer ⌝ }
+{
+    match answer {
+        SubsetAnswer::Refused(number) => {
+            words[0] = 0;
+            words[1] = number;
+            words[2] = 0;
+        }
+        SubsetAnswer::Range(start, end) => {
+            words[0] = 1;
+            words[1] = start;
+            words[2] = end;
+        }
+        SubsetAnswer::List(count) => {
+            words[0] = 2;
+            words[1] = count;
+            words[2] = 0;
+        }
+    }
+}
+
+pub fn subset_number(answer: SubsetAnswer) -> u32
+    ensures { λ r. ⌜ r ≡ subsetNumber answer ⌝ }
+{
+    match answer {
+        SubsetAnswer::Refused(number) => number,
+        SubsetAnswer::Range(start, end) => 0,
+        SubsetAnswer::List(count) => 0,
+    }
+}
