@@ -17,25 +17,26 @@ use Rattle.lists.specs.Laws.Rows.{row-in}
 use Rattle.cells.specs.Cells.{isDead}
 use Rattle.constraints.specs.Constraints.{isLive}
 use Rattle.sort_entries.specs.Entries.{Entry, words, push, pushAll, rebuilt}
-use Rattle.sort_entries.specs.Append.{Rebuild}
+use Rattle.sort_entries.specs.inner.Append.{Rebuild}
 use Rattle.sort_entries.specs.Laws.Push.{push-few}
 use Rattle.row_buffer.specs.Ranks.{liveAt, newNumber}
 use Rattle.key_index.specs.declared.Keyed.{Keyed}
 use Rattle.key_index.specs.Slots.{slots}
-use Rattle.key_index.specs.Index.{RowsIn, rows-in}
-use Rattle.key_gaps.specs.Gaps.{renumbered, Ranked}
-use Rattle.key_gaps.specs.RenumberLaws.{below-number, live-among}
-use Rattle.refusals.specs.Laws.{verdict-refused, verdict-accepted}
+use Rattle.key_index.specs.inner.Index.{RowsIn}
+use Rattle.key_index.specs.Laws.Index.{rows-in}
+use Rattle.key_gaps.specs.inner.Gaps.{renumbered, Ranked}
+use Rattle.key_gaps.specs.Laws.Renumbering.{below-number, live-among}
+use Rattle.refusals.specs.Laws.Replies.{verdict-refused, verdict-accepted}
 use Rattle.table.specs.declared.Header.{Header}
 use Rattle.table.specs.declared.TableAnswer.the-variants.{Refused as TableRefused, Table}
 use Rattle.compaction.specs.declared.Kept.{Kept}
 use Rattle.table.specs.Numbers.{tableSays}
 use Rattle.table.specs.Refusing.{compactRefusal}
 use Rattle.table.specs.Sound.{keyedOf}
-use Rattle.table.specs.Promises.{WordsPast, lengths, Compacting}
+use Rattle.table.specs.Promises.{body, compactionWords, PastNeeded, lengths, Compacting}
 use Rattle.table.specs.Laws.Refusals.{inside-fits, compact-accepted}
-use Rattle.compaction.specs.Compaction.{Lendable, Compaction}
-use Rattle.compaction.specs.Compactions.{Begun, Keepable, RowKept, Closable, Closed, liveStored, entriesFor, closedHeader}
+use Rattle.compaction.specs.inner.Compaction.{Lendable, Compaction}
+use Rattle.compaction.specs.inner.ClosingUp.{Begun, Keepable, RowKept, Closable, Closed, liveStored, entriesFor, closedHeader}
 use Rattle.compaction.specs.Laws.Compaction.{live-first, live-one, live-none, next-row, close-one, entries-one, rebuild-one, Words, words-begin, words-begun, word-below, words-marked, words-passed, words-number, compaction}
 
 -- ---- a word is begun
@@ -109,7 +110,7 @@ module _ (h : Header) (rows₀ sorts₀ live₀ base₀ : List ℕ) where
     pub entered : kept .entries ≡ length (entriesFor (h .sort) (liveStored (h .columns) row rows₀))
     pub recorded : sorts ≡ putAt sorts₀ 0 (words (entriesFor (h .sort) (liveStored (h .columns) row rows₀)))
     pub numbered : Words (rowsOf (h .columns) (h .rows) rows₀) row row live base
-    pub words-past : WordsPast (h .capacity) live₀ live × WordsPast (h .capacity) base₀ base
+    pub words-past : PastNeeded (h .capacity) live₀ live × PastNeeded (h .capacity) base₀ base
 
   pub close-begin : Closing rows₀ sorts₀ live₀ base₀ (record { rows = 0; entries = 0 }) 0
   unfolding liveStored entriesFor rowsOf keep flat rebuilt pushAll words
@@ -165,7 +166,7 @@ module _ {h : Header} {rows₀ sorts₀ live₀ base₀ : List ℕ} (c : Closabl
           words-begun (rowsOf (h .columns) (h .rows) rows₀) row live base (s .numbered) (words-in .0) (words-in .1) (kept .rows) (s .counted ∙ number-next row (s .row-in))
           live₁ base₁ b
 
-      past-begun : WordsPast (h .capacity) live₀ live₁ × WordsPast (h .capacity) base₀ base₁
+      past-begun : PastNeeded (h .capacity) live₀ live₁ × PastNeeded (h .capacity) base₀ base₁
       past-begun =
           let p = begun-past live base row (kept .rows) ((h .capacity + 63) / 64) live₁ base₁ word-needed b in
           (p .0 ∙ s .words-past .0, p .1 ∙ s .words-past .1)
@@ -243,7 +244,7 @@ module _ {h : Header} {rows₀ sorts₀ live₀ base₀ : List ℕ} (c : Closabl
             ∙ ap (λ (n : ℕ). putAt (putAt rows₀ 0 (flat lv)) (n * h .columns) (rowAt (h .columns) row rows₀)) (s .counted)
             ∙ close-one (h .columns) row rows₀ (placed h rows₀ row (c .within) more .inside) lives
 
-        past-marked : WordsPast (h .capacity) live₁ live′
+        past-marked : PastNeeded (h .capacity) live₁ live′
         past-marked =
             ap (drop ((h .capacity + 63) / 64)) (k .marked)
             ∙ drop-set-lt ((h .capacity + 63) / 64) live₁ (row / 64) (getD live₁ (row / 64) 0 + 2 ^ (row % 64)) word-needed
@@ -313,12 +314,12 @@ module _ {h : Header} {rows keys sorts live base : List ℕ} (lent : Lendable h 
 module _ (h : Header) (rows keys sorts live base : List ℕ) where
   -- a compaction is turned away
   pub compact-refused : (n : ℕ) → n ≡ compactRefusal h (lengths rows keys sorts [] live base) → (n ≡ 0 → ⊥)
-      → Compacting h rows keys sorts live base (TableRefused n) rows keys sorts live base
+      → Compacting h (body rows keys sorts) (compactionWords live base) (TableRefused n) (body rows keys sorts) (compactionWords live base)
   unfolding tableSays
   compact-refused n e some =
       record {
         refusal = verdict-refused (tableSays (TableRefused n)) _ n refl e some;
-        unchanged = λ k. (refl, refl, refl, refl, refl);
+        unchanged = λ k. (refl, refl);
         past = refl;
         words-past = (refl, refl);
         table = λ z. absurd (some (e ∙ z));
@@ -341,7 +342,7 @@ module _ (h : Header) (rows keys sorts live base : List ℕ) where
 
     -- it is done
     pub compact-done : (h′ : Header) (rows′ keys′ sorts′ live′ base′ : List ℕ) → Compaction h rows keys sorts live base h′ rows′ keys′ sorts′ live′ base′
-        → Compacting h rows keys sorts live base (Table h′) rows′ keys′ sorts′ live′ base′
+        → Compacting h (body rows keys sorts) (compactionWords live base) (Table h′) (body rows′ keys′ sorts′) (compactionWords live′ base′)
     unfolding tableSays
     compact-done h′ rows′ keys′ sorts′ live′ base′ c =
         let e = sym number ∙ taken in

@@ -1,2 +1,2 @@
--- What may be relied on of the definitions beside.
+-- What follows from the definitions.
 pub mod Compaction

@@ -1,3 +1,2 @@
-pub mod Compaction
-pub mod Compactions
+pub mod inner
 pub mod Laws

@@ -3,9 +3,9 @@
 ghost use mathlib.Core.Path.{_≡_};
 ghost use Prim.Native.Nat.{_/_, _<_};
 ghost use lib.ListN.{length};
-ghost use Rattle.table.specs.Promises.{Compacting};
-ghost use Rattle.compaction.specs.Compaction.{Lendable, Compaction};
-ghost use Rattle.compaction.specs.Compactions.{Begun, Keepable, RowKept, Closable, Closed};
+ghost use Rattle.table.specs.Promises.{body, compactionWords, Compacting};
+ghost use Rattle.compaction.specs.inner.Compaction.{Lendable, Compaction};
+ghost use Rattle.compaction.specs.inner.ClosingUp.{Begun, Keepable, RowKept, Closable, Closed};
 use table::Header;
 use table::Lent;
 use table::TableAnswer;
@@ -113,7 +113,7 @@ pub fn compact(
     live: &mut [u64],
     base: &mut [u32],
 ) -> TableAnswer
-    ensures { λ r. ⌜ Compacting h (now (rows .entry)) (now (keys .entry)) (now (sorts .entry)) (now (live .entry)) (now (base .entry)) r (now (rows .exit)) (now (keys .exit)) (now (sorts .exit)) (now (live .exit)) (now (base .exit)) ⌝ }
+    ensures { λ r. ⌜ Compacting h (body (now (rows .entry)) (now (keys .entry)) (now (sorts .entry))) (compactionWords (now (live .entry)) (now (base .entry))) r (body (now (rows .exit)) (now (keys .exit)) (now (sorts .exit))) (compactionWords (now (live .exit)) (now (base .exit))) ⌝ }
 {
     let l = Lent {
         rows: rows.len(),

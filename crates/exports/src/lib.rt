@@ -1,7 +1,7 @@
 // The calls that change a table, and the soundness check, under C names. Slices go as a pointer and a length.
 ghost use mathlib.Core.Path.{_≡_};
 ghost use Rattle.plain.specs.Staged.{insert, removeKey, removeRow};
-ghost use Rattle.table.specs.Promises.{opening, Opened, Staging, Merging, Compacting, Clearing, Checked};
+ghost use Rattle.table.specs.Promises.{stores, body, compactionWords, opening, Opened, Staging, Merging, Compacting, Clearing, Checked};
 ghost use Rattle.words.specs.Words.{headerIn, soundNumber, soundWords, Called, MergeCalled, Asked};
 use words::header_of;
 use words::write_merge;
@@ -22,7 +22,7 @@ pub extern "C" fn mouldgrey_open_table(
     sorts: &[u32],
     pending: &[u32],
 ) -> u32
-    ensures { λ r. ⌜ Called (λ answer. Opened (opening columns «key_columns» sort rule capacity) generation (now (rows .entry)) (now (keys .entry)) (now (sorts .entry)) (now (pending .entry)) answer (now (keys .exit))) (now (keys .exit) ≡ now (keys .entry)) (now (header .entry)) r (now (header .exit)) ⌝ }
+    ensures { λ r. ⌜ Called (λ answer. Opened (opening columns «key_columns» sort rule capacity) generation (body (now (rows .entry)) (now (keys .entry)) (now (sorts .entry))) (now (pending .entry)) answer (now (keys .exit))) (now (keys .exit) ≡ now (keys .entry)) (now (header .entry)) r (now (header .exit)) ⌝ }
 {
     if header.len() != 10 {
         return 1;
@@ -100,7 +100,7 @@ pub extern "C" fn mouldgrey_merge(
     base: &mut [u32],
     words: &mut [u32],
 ) -> u32
-    ensures { λ r. ⌜ MergeCalled (λ answer. Merging (headerIn (now (header .entry))) (now (rows .entry)) (now (keys .entry)) (now (sorts .entry)) (now (pending .entry)) (now (live .entry)) (now (base .entry)) answer (now (rows .exit)) (now (keys .exit)) (now (sorts .exit)) (now (live .exit)) (now (base .exit))) ((now (rows .exit) ≡ now (rows .entry)) × (now (keys .exit) ≡ now (keys .entry)) × (now (sorts .exit) ≡ now (sorts .entry)) × (now (live .exit) ≡ now (live .entry)) × (now (base .exit) ≡ now (base .entry))) (now (header .entry)) (now (words .entry)) r (now (header .exit)) (now (words .exit)) ⌝ }
+    ensures { λ r. ⌜ MergeCalled (λ answer. Merging (stores (headerIn (now (header .entry))) (now (rows .entry)) (now (keys .entry)) (now (sorts .entry)) (now (pending .entry))) (compactionWords (now (live .entry)) (now (base .entry))) answer (body (now (rows .exit)) (now (keys .exit)) (now (sorts .exit))) (compactionWords (now (live .exit)) (now (base .exit)))) ((now (rows .exit) ≡ now (rows .entry)) × (now (keys .exit) ≡ now (keys .entry)) × (now (sorts .exit) ≡ now (sorts .entry)) × (now (live .exit) ≡ now (live .entry)) × (now (base .exit) ≡ now (base .entry))) (now (header .entry)) (now (words .entry)) r (now (header .exit)) (now (words .exit)) ⌝ }
 {
     if header.len() != 10 {
         return 1;
@@ -121,7 +121,7 @@ pub extern "C" fn mouldgrey_compact(
     live: &mut [u64],
     base: &mut [u32],
 ) -> u32
-    ensures { λ r. ⌜ Called (λ answer. Compacting (headerIn (now (header .entry))) (now (rows .entry)) (now (keys .entry)) (now (sorts .entry)) (now (live .entry)) (now (base .entry)) answer (now (rows .exit)) (now (keys .exit)) (now (sorts .exit)) (now (live .exit)) (now (base .exit))) ((now (rows .exit) ≡ now (rows .entry)) × (now (keys .exit) ≡ now (keys .entry)) × (now (sorts .exit) ≡ now (sorts .entry)) × (now (live .exit) ≡ now (live .entry)) × (now (base .exit) ≡ now (base .entry))) (now (header .entry)) r (now (header .exit)) ⌝ }
+    ensures { λ r. ⌜ Called (λ answer. Compacting (headerIn (now (header .entry))) (body (now (rows .entry)) (now (keys .entry)) (now (sorts .entry))) (compactionWords (now (live .entry)) (now (base .entry))) answer (body (now (rows .exit)) (now (keys .exit)) (now (sorts .exit))) (compactionWords (now (live .exit)) (now (base .exit)))) ((now (rows .exit) ≡ now (rows .entry)) × (now (keys .exit) ≡ now (keys .entry)) × (now (sorts .exit) ≡ now (sorts .entry)) × (now (live .exit) ≡ now (live .entry)) × (now (base .exit) ≡ now (base .entry))) (now (header .entry)) r (now (header .exit)) ⌝ }
 {
     if header.len() != 10 {
         return 1;

@@ -1,21 +1,20 @@
 -- What `mouldgrey_intersect` promises. Assumes nothing.
 use Prim.Native.Nat.{ℕ}
-use mathlib.Core.Path.{_≡_, refl, sym, ap, _∙_}
+use mathlib.Core.Path.{_≡_, refl, sym}
 use mathlib.Core.Bool.{Bool, true, false}
 use mathlib.Core.List.{List}
 use lib.ListN.{length}
 use lib.Dec.{eqb}
 use borrow.Author.Tests.{eq-eqb, ne-eqb}
-use Rattle.lists.specs.Lists.{putAt}
 use Rattle.offsets.specs.Subsets.{Subset}
-use Rattle.offsets.specs.Answers.{answerOf, written, Answered, intersectReply}
+use Rattle.offsets.specs.Answers.{Answered, intersectReply}
 use Rattle.offsets.specs.declared.SubsetAnswer.{SubsetAnswer}
 use Rattle.words.specs.Words.{subsetWords}
 
 -- an intersection whose answer goes into three words: nothing is done where they are not three
 pub record Intersected (a b : Subset) (output words : List ℕ) (r : Bool) (output′ words′ : List ℕ) : Type 0 where
   pub three : r ≡ eqb (length words) 3
-  pub done : length words ≡ 3 → (words′ ≡ subsetWords (answerOf (intersectReply a b (length output)))) × (output′ ≡ putAt output 0 (written (intersectReply a b (length output))))
+  pub done : length words ≡ 3 → (answer : SubsetAnswer) × Answered (intersectReply a b (length output)) output answer output′ × (words′ ≡ subsetWords answer)
   pub nothing : (length words ≡ 3 → ⊥) → (words′ ≡ words) × (output′ ≡ output)
 
 pub intersected-nothing : (a b : Subset) (output words : List ℕ) → (length words ≡ 3 → ⊥) → Intersected a b output words false output words
@@ -28,6 +27,6 @@ pub intersected-done : (a b : Subset) (output words : List ℕ) (answer : Subset
 intersected-done a b output words answer output′ words′ l r w =
     record {
       three = sym (eq-eqb _ _ l);
-      done = λ e. (w ∙ ap subsetWords (r .answers), r .writes);
+      done = λ e. (answer, r, w);
       nothing = λ n. absurd (n l);
     }

@@ -1,7 +1,8 @@
--- What may be relied on of the claim about histories.
+-- What follows from the definitions.
 pub mod Live
 pub mod Replies
 pub mod Calls
 pub mod Further
 pub mod Narrowing
 pub mod Questions
+pub mod Theorem

@@ -2,4 +2,3 @@ pub mod Histories
 pub mod Runs
 pub mod Claim
 pub mod Laws
-pub mod Theorem

@@ -1,10 +1,12 @@
 -- Runs of questions (the order, term 3): "take any starting subset and any list of steps. A step refines by a condition or
--- by a list of them (an empty one will do), or intersects with a subset of ours or a condition's sort-column range; each works on the ids that
--- the last accepted one left, and a refused one counts for nothing". Assumes nothing.
+-- by a list of them (an empty one will do), or intersects with a subset of ours or a condition's sort-column range; each works
+-- on the ids that the last accepted one left, and a refused one counts for nothing". Assumes nothing.
 use Prim.Native.Nat.{ℕ}
 use mathlib.Core.Path.{_≡_}
 use mathlib.Core.Bool.{Bool, true, false, _||_}
+use mathlib.Core.Logic.{_⊎_}
 use mathlib.Core.List.{List, [], _∷_, _++_}
+use mathlib.Core.Option.{some}
 use lib.ListN.{length}
 use Rattle.refusals.specs.Refusals.{Reply, refused, accepted}
 use Rattle.offsets.specs.declared.SubsetAnswer.{SubsetAnswer}
@@ -12,7 +14,7 @@ use Rattle.offsets.specs.Subsets.{Subset, members}
 use Rattle.offsets.specs.Answers.{Answered, readOff, intersectReply}
 use Rattle.constraints.specs.declared.Constraint.{Constraint}
 use Rattle.table.specs.declared.RangeAnswer.{RangeAnswer}
-use Rattle.table.specs.Numbers.{none, one, rangeSays}
+use Rattle.table.specs.Numbers.{rangeSays}
 use Rattle.table.specs.Promises.{Stores, RangeRead}
 use Rattle.queries.specs.Queries.{RefinedOne, RefinedList}
 
@@ -53,8 +55,15 @@ unfoldable pub gathered : Reply Subset → Gathered → Gathered
 gathered (refused n) g = nothing
 gathered (accepted subset) g = g
 
--- one question on a table, on the ids that are left, each with an output of its own. `intersect` takes the two subsets in
--- either order. "where [the fast range] is *none*, the step and its condition count for nothing"
+-- `intersect` takes the two subsets in either order
+abbrev pub Intersected : Subset → Subset → List ℕ → SubsetAnswer → List ℕ → Type 0
+Intersected a b output answer output′ =
+    Answered (intersectReply a b (length output)) output answer output′
+    ⊎ Answered (intersectReply b a (length output)) output answer output′
+
+-- one question on a table, on the ids that are left, each with an output of its own. A range step gathers its condition, not
+-- the range: the ids left are to meet it as if it had been refined by. "where [the fast range] is *none*, the
+-- step and its condition count for nothing", as where it is refused
 pub data Asked (s : Stores) (a : Subset) : Question → Subset → Gathered → Type 0 where
   one-refined : (c : Constraint) (output output′ : List ℕ) (answer : SubsetAnswer)
       → RefinedOne (s .header) (s .rows) a c output answer output′
@@ -63,27 +72,18 @@ pub data Asked (s : Stores) (a : Subset) : Question → Subset → Gathered → 
       → RefinedList (s .header) (s .rows) a cs output answer output′
       → Asked s a (refineList cs) (left a (readOff answer output′)) (gathered (readOff answer output′) (byRefining cs))
   intersected : (b : Subset) (output output′ : List ℕ) (answer : SubsetAnswer)
-      → Answered (intersectReply a b (length output)) output answer output′
-      → Asked s a (intersectWith b) (left a (readOff answer output′)) (gathered (readOff answer output′) (bySubset b))
-  intersected-first : (b : Subset) (output output′ : List ℕ) (answer : SubsetAnswer)
-      → Answered (intersectReply b a (length output)) output answer output′
+      → Intersected a b output answer output′
       → Asked s a (intersectWith b) (left a (readOff answer output′)) (gathered (readOff answer output′) (bySubset b))
   range-intersected : (b : Subset) (c : Constraint) (range : RangeAnswer) (output output′ : List ℕ) (answer : SubsetAnswer)
-      → RangeRead (s .header) (s .sorts) c range → rangeSays range ≡ accepted (one b)
-      → Answered (intersectReply a b (length output)) output answer output′
+      → RangeRead (s .header) (s .sorts) c range → rangeSays range ≡ accepted (some b)
+      → Intersected a b output answer output′
       → Asked s a (intersectRange c) (left a (readOff answer output′)) (gathered (readOff answer output′) (byRange c))
-  range-intersected-first : (b : Subset) (c : Constraint) (range : RangeAnswer) (output output′ : List ℕ) (answer : SubsetAnswer)
-      → RangeRead (s .header) (s .sorts) c range → rangeSays range ≡ accepted (one b)
-      → Answered (intersectReply b a (length output)) output answer output′
-      → Asked s a (intersectRange c) (left a (readOff answer output′)) (gathered (readOff answer output′) (byRange c))
-  range-none : (c : Constraint) (range : RangeAnswer)
-      → RangeRead (s .header) (s .sorts) c range → rangeSays range ≡ accepted none
-      → Asked s a (intersectRange c) a nothing
-  range-refused : (c : Constraint) (range : RangeAnswer) (n : ℕ)
-      → RangeRead (s .header) (s .sorts) c range → rangeSays range ≡ refused n
+  range-nothing : (c : Constraint) (range : RangeAnswer)
+      → RangeRead (s .header) (s .sorts) c range → ((b : Subset) → rangeSays range ≡ accepted (some b) → ⊥)
       → Asked s a (intersectRange c) a nothing
 
--- the questions one after another; each may be put on any subset that has the ids left, a range or a list
+-- the questions one after another; each may be put on any subset that has the ids left, a range or a list: a caller may copy
+-- the ids of one form into the other
 pub data Run (s : Stores) : Subset → List Question → Subset → Gathered → Type 0 where
   end : (a : Subset) → Run s a [] a nothing
   next : {a b b′ c : Subset} {q : Question} {qs : List Question} {g h : Gathered}

@@ -15,21 +15,21 @@ use Rattle.lists.specs.Laws.Rows.{row-in}
 use Rattle.cells.specs.Cells.{isDead}
 use Rattle.merge_rules.specs.Rules.{changesFrom, madeFrom}
 use Rattle.merge_rules.specs.Survivor.{survivor}
-use Rattle.merge_rules.specs.Laws.{survivor-length}
+use Rattle.merge_rules.specs.Laws.Rules.{survivor-length}
 use Rattle.key_index.specs.declared.Keyed.{Keyed}
 use Rattle.key_index.specs.declared.Found.{Found}
 use Rattle.key_index.specs.declared.Found.the-variants.{None, At}
-use Rattle.key_index.specs.Ring.{tagged}
-use Rattle.key_index.specs.Index.{Fits, FoundIs, PutIs}
+use Rattle.key_index.specs.Slots.{tagged}
+use Rattle.key_index.specs.inner.Index.{Fits, FoundIs, PutIs}
 use Rattle.table.specs.declared.Header.{Header}
 use Rattle.inserts.specs.declared.Insertion.{Insertion}
 use Rattle.inserts.specs.declared.Insertion.the-variants.{Kept, Appended, Stopped}
 use Rattle.inserts.specs.declared.Admission.{Admission}
 use Rattle.inserts.specs.declared.Admission.the-variants.{Stop, Entries}
 use Rattle.table.specs.Sound.{keyedOf}
-use Rattle.pending.specs.Steps.{withCounts, Ready}
-use Rattle.inserts.specs.Inserting.{Inserting}
-use Rattle.inserts.specs.Inserts.{Stops, Entered, AdmissionIs, Growable, Stayed, Grew, NewIs, Replaced, ReplaceIs, Changes, rowMade, Makeable, MadeIs, KeptOld, KnownIs}
+use Rattle.pending.specs.inner.Becoming.{withCounts, Ready}
+use Rattle.inserts.specs.inner.Inserting.{Inserting}
+use Rattle.inserts.specs.inner.Parts.{Stops, Entered, AdmissionIs, Growable, Stayed, Grew, NewIs, Replaced, ReplaceIs, Changes, rowMade, Makeable, MadeIs, KeptOld, KnownIs}
 use Rattle.inserts.specs.Laws.Inserts.{length-made, skip-inserts, new-inserts, known-inserts}
 
 -- ---- places in the row store

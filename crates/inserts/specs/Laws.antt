@@ -1,4 +1,4 @@
--- What may be relied on of the definitions.
+-- What follows from the definitions.
 pub mod Admission
 pub mod Growth
 pub mod Inserts

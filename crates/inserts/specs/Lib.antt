@@ -1,3 +1,2 @@
-pub mod Inserting
-pub mod Inserts
+pub mod inner
 pub mod Laws

@@ -2,10 +2,10 @@
 // old one dies. Stops are tested before anything is written.
 ghost use mathlib.Core.Path.{_≡_};
 ghost use Prim.Native.Nat.{_≤_, _+_, _*_, _<_};
-ghost use Rattle.pending.specs.Steps.{Ready, withCounts};
+ghost use Rattle.pending.specs.inner.Becoming.{Ready, withCounts};
 ghost use lib.ListN.{take, drop};
-ghost use Rattle.inserts.specs.Inserting.{Inserting};
-ghost use Rattle.inserts.specs.Inserts.{Enterable, AdmissionIs, Growable, NewIs, ReplaceIs, MadeIs, Makeable, KnownIs};
+ghost use Rattle.inserts.specs.inner.Inserting.{Inserting};
+ghost use Rattle.inserts.specs.inner.Parts.{Enterable, AdmissionIs, Growable, NewIs, ReplaceIs, MadeIs, Makeable, KnownIs};
 use key_index::Found;
 use sort_entries::Appended;
 use table::Header;

@@ -4,7 +4,7 @@ use mathlib.Core.Path.{_≡_, sym, _∙_}
 use mathlib.Core.Bool.{Bool, true, false, _&&_}
 use lib.Dec.{leb}
 use borrow.Author.Tests.{le-leb, lt-leb}
-use Rattle.intersection.specs.Common.{alike}
+use Rattle.intersection.specs.inner.Common.{alike}
 
 module _ (a b : ℕ) where
   pub half-yes : (r : Bool) → a ≤ 16 → r ≡ leb b 16 → r ≡ (leb a 16 && leb b 16)

@@ -9,15 +9,15 @@ use native.Mathlib.Numerals.{add-one}
 use native.Mathlib.Omega.{arith}
 use lib.ListN.{length, take, drop, getD, set, length-append, length-drop, length-set}
 use lib.Seq.{take-suc, take-all, length-take-le}
-use Rattle.lists.specs.Lists.{putAt, keep, rising, has, within}
+use Rattle.lists.specs.Lists.{putAt, keep, rising, has, within, place}
 use Rattle.lists.specs.Laws.Parts.{putAt-nil}
 use Rattle.lists.specs.Laws.Keep.{split, keep-step, keep-skip}
 use Rattle.lists.specs.Laws.Rising.{rising-at, keep-has-comm}
-use Rattle.lists.specs.Laws.Search.{place, place-le, place-past, place-upto, place-mono, has-place, has-not-place, has-in-place, keep-within-places, keep-stop, put-more}
+use Rattle.lists.specs.Laws.Search.{place-le, place-past, place-upto, place-mono, has-place, has-not-place, has-in-place, keep-within-places, keep-stop, put-more}
 use Rattle.offset_search.specs.declared.Scan.the-variants.{Found, Next}
-use Rattle.offset_search.specs.Search.{scanPlace, scan, Scanned}
-use Rattle.intersection.specs.Common.{Fitting, Searchable, common}
-use Rattle.offsets.specs.Answers.{Wrote}
+use Rattle.offset_search.specs.inner.Search.{scanPlace, scan, Scanned}
+use Rattle.intersection.specs.inner.Common.{Fitting, Searchable, common}
+use Rattle.offsets.specs.inner.Writing.{Wrote}
 
 -- ---- the copy
 

@@ -1,1 +1,1 @@
-pub mod Common
+pub mod inner

@@ -8,13 +8,14 @@ use native.Mathlib.Nat.{mod-eq-of-lt, add-mod-right}
 use native.Mathlib.Omega.{arith}
 use lib.ListN.{length, take, drop, getD, set, length-set}
 use Rattle.cells.specs.Cells.{compact, keyHash}
-use Rattle.row_buffer.specs.Laws.{key-row}
+use Rattle.row_buffer.specs.Laws.Rows.{key-row}
 use Rattle.key_index.specs.declared.Keyed.{Keyed}
-use Rattle.key_index.specs.Slots.{keyAt, slots, slotFrom}
-use Rattle.key_index.specs.Ring.{spread, rowNamed, namesRow, away, home-spread}
-use Rattle.key_index.specs.Index.{Fits, homeOf}
-use Rattle.key_gaps.specs.Gaps.{closed, Shifted, TakenOut}
-use Rattle.key_gaps.specs.GapLaws.{closed-spent, closed-stop, closed-stay, closed-move, closed-length, closed-rest, take-out-sound}
+use Rattle.key_index.specs.Slots.{keyAt, slots, slotFrom, spread}
+use Rattle.key_index.specs.inner.Ring.{rowNamed, namesRow, away}
+use Rattle.key_index.specs.Laws.Ring.{home-spread}
+use Rattle.key_index.specs.inner.Index.{Fits, homeOf}
+use Rattle.key_gaps.specs.inner.Gaps.{closed, Shifted, TakenOut}
+use Rattle.key_gaps.specs.Laws.Gaps.{closed-spent, closed-stop, closed-stay, closed-move, closed-length, closed-rest, take-out-sound}
 
 -- ---- distances
 

@@ -12,8 +12,9 @@ use Rattle.lists.specs.Laws.Front.{length-mapFront, mapFront-step}
 use Rattle.row_buffer.specs.Ranks.{setBelow}
 use Rattle.key_index.specs.declared.Keyed.{Keyed}
 use Rattle.key_index.specs.Slots.{slots}
-use Rattle.key_index.specs.Ring.{rowNamed, namesRow, names-number}
-use Rattle.key_gaps.specs.Gaps.{newRow, renumbered, Ranked}
+use Rattle.key_index.specs.inner.Ring.{rowNamed, namesRow}
+use Rattle.key_index.specs.Laws.Ring.{names-number}
+use Rattle.key_gaps.specs.inner.Gaps.{newRow, renumbered, Ranked}
 
 module _ (t : Keyed) (w : ℕ) (live base : List ℕ) where
   -- a word that names no row stays

@@ -1,3 +1,2 @@
-pub mod Gaps
-pub mod GapLaws
-pub mod RenumberLaws
+pub mod inner
+pub mod Laws

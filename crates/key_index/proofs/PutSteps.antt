@@ -9,8 +9,9 @@ use lib.ListN.{length, getD, set, drop, length-replicate, replicate-append-repli
 use lib.Seq.{drop-set-lt}
 use Rattle.lists.specs.Lists.{putAt}
 use Rattle.lists.specs.Laws.Parts.{drop-putAt, length-putAt, putAt-nil, putAt-then, set-putAt}
-use Rattle.key_index.specs.Ring.{spread, tagged, slot-met}
-use Rattle.key_index.specs.Index.{PutIs, zeros, EmptyIs}
+use Rattle.key_index.specs.Laws.Ring.{slot-met}
+use Rattle.key_index.specs.Slots.{spread, tagged}
+use Rattle.key_index.specs.inner.Index.{PutIs, zeros, EmptyIs}
 use Rattle.key_index.proofs.WalkSteps.{Walked}
 
 -- a slot that is not free

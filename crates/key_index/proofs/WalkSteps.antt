@@ -7,7 +7,7 @@ use native.Mathlib.Omega.{arith}
 use lib.ListN.{getD}
 use borrow.Author.Count.{below-more}
 use Rattle.key_index.specs.Slots.{slotFrom}
-use Rattle.key_index.specs.Ring.{slot-below, slot-zero, slot-then}
+use Rattle.key_index.specs.Laws.Ring.{slot-below, slot-zero, slot-then}
 
 -- `passed` slots from `start` on were passed, each for the reason P, and `at` is the next
 pub record Walked (n : ℕ) (store : List ℕ) (P : ℕ → Type 0) (start at passed : ℕ) : Type 0 where

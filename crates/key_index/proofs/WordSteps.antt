@@ -13,9 +13,10 @@ use Rattle.lists.specs.Lists.{same}
 use Rattle.lists.specs.Laws.Rising.{same-refl, same-eq}
 use Rattle.lists.specs.Laws.Rows.{row-in}
 use Rattle.key_index.specs.declared.Keyed.{Keyed}
-use Rattle.key_index.specs.Slots.{keyAt}
-use Rattle.key_index.specs.Ring.{tagged, namesRow, tagged-row, tagged-bits, tagged-of, names-yes, names-number}
-use Rattle.key_index.specs.Index.{RowsIn, Leads, HitIs}
+use Rattle.key_index.specs.Slots.{keyAt, tagged}
+use Rattle.key_index.specs.inner.Ring.{namesRow}
+use Rattle.key_index.specs.Laws.Ring.{tagged-row, tagged-bits, tagged-of, names-yes, names-number}
+use Rattle.key_index.specs.inner.Index.{RowsIn, Leads, HitIs}
 
 pub names-some : (t : Keyed) (w : ℕ) → (w % 2 ^ 17 ≡ 0 → ⊥) → leb (w % 2 ^ 17) (t .rows) ≡ namesRow t w
 unfolding namesRow

@@ -5,9 +5,9 @@
 ghost use mathlib.Core.Path.{_≡_};
 ghost use Prim.Native.Nat.{_-_, _%_, _^_, _<_};
 ghost use lib.ListN.{length, set};
-ghost use Rattle.key_index.specs.Slots.{slots, slotFrom};
-ghost use Rattle.key_index.specs.Ring.{spread, tagged, namesRow};
-ghost use Rattle.key_index.specs.Index.{Room, RowsIn, Fits, HitIs, FoundIs, PutIs, EmptyIs};
+ghost use Rattle.key_index.specs.Slots.{slots, slotFrom, spread, tagged};
+ghost use Rattle.key_index.specs.inner.Ring.{namesRow};
+ghost use Rattle.key_index.specs.inner.Index.{Room, RowsIn, Fits, HitIs, FoundIs, PutIs, EmptyIs};
 
 // The numbers of a table that its key index goes by.
 pub struct Keyed {

@@ -9,8 +9,8 @@ use lib.ListN.{length, drop, getD}
 use borrow.Author.Tests.{eq-eqb, ne-eqb, le-leb, lt-leb, le-ltb, lt-ltb}
 use Rattle.levels_text.specs.Lines.{valueFrom, isDecimal}
 use Rattle.levels_text.specs.declared.Field.the-variants.{Wrong, Decimal}
-use Rattle.levels_text.specs.Reading.{fieldAt, FieldIs, field-wrong, field-right}
-use Rattle.levels_text.specs.Laws.{first, first-at-more, decimalFrom, decimal-start}
+use Rattle.levels_text.specs.inner.Reading.{fieldAt, FieldIs, field-wrong, field-right}
+use Rattle.levels_text.specs.Laws.Lines.{first, first-at-more, decimalFrom, decimal-start}
 
 -- value is that of the bytes from start up to a place, which may begin a decimal
 pub record Digits (line : List ℕ) (start value at : ℕ) : Type 0 where

@@ -14,8 +14,8 @@ use Rattle.levels_text.specs.Lines.{valueFrom, isDecimal, isForm, letter
 use Rattle.levels_text.specs.declared.Field.{Field}
 use Rattle.levels_text.specs.declared.Field.the-variants.{Wrong as NoField, Decimal}
 use Rattle.levels_text.specs.declared.Parsed.the-variants.{Wrong, Line}
-use Rattle.levels_text.specs.Reading.{fieldAt, FieldIs, ParsedIs, parsed-wrong, parsed-right}
-use Rattle.levels_text.specs.Laws.{first, others, first-end, others-end, first-at-comma, first-at-more, others-at-comma, others-at-more, next-first, next-others, next-inside, decimal-some, no-letter, no-decimal, accepted-line}
+use Rattle.levels_text.specs.inner.Reading.{fieldAt, FieldIs, ParsedIs, parsed-wrong, parsed-right}
+use Rattle.levels_text.specs.Laws.Lines.{first, others, first-end, others-end, first-at-comma, first-at-more, others-at-comma, others-at-more, next-first, next-others, next-inside, decimal-some, no-letter, no-decimal, accepted-line}
 
 -- count numbers are read from the bytes before a place, and stored; the letter stands alone if nothing stands before the next comma
 pub record Numbers (line lent stored : List ℕ) (at count : ℕ) : Type 0 where

@@ -1,3 +1,3 @@
 pub mod Lines
-pub mod Reading
+pub mod inner
 pub mod Laws

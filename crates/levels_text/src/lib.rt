@@ -2,7 +2,7 @@
 // asked of a caller: where there is no room for the numbers, every line is wrong.
 ghost use mathlib.Core.Path.{_≡_};
 ghost use Rattle.levels_text.specs.Lines.{isBare, isForm};
-ghost use Rattle.levels_text.specs.Reading.{FieldIs, ParsedIs};
+ghost use Rattle.levels_text.specs.inner.Reading.{FieldIs, ParsedIs};
 
 // At most 120 bytes hold a letter and 59 numbers.
 pub const MOST_NUMBERS: usize = 59;

@@ -2,6 +2,7 @@
 use Prim.Native.Nat.{ℕ, zero, suc, _+_, _*_}
 use mathlib.Core.Bool.{Bool, true, false, cond, _&&_, _||_}
 use mathlib.Core.List.{List, [], _∷_, _++_}
+use mathlib.Core.Option.{Option, none, some}
 use lib.ListN.{length, take, drop}
 use lib.Dec.{leb, ltb, eqb}
 
@@ -26,9 +27,14 @@ module _ {A : Type 0} where
   every test (x ∷ xs) = test x && every test xs
 
   -- one at least passes it
-  unfoldable pub some : (A → Bool) → List A → Bool
-  some test [] = false
-  some test (x ∷ xs) = test x || some test xs
+  unfoldable pub any : (A → Bool) → List A → Bool
+  any test [] = false
+  any test (x ∷ xs) = test x || any test xs
+
+  -- the first that passes it, if there is one
+  unfoldable pub firstOf : (A → Bool) → List A → Option A
+  firstOf test [] = none
+  firstOf test (x ∷ xs) = cond (test x) (some x) (firstOf test xs)
 
   -- the cells from place i times w on, w of them: row i of a store of rows of width w
   unfoldable pub rowAt : ℕ → ℕ → List A → List A
@@ -69,6 +75,11 @@ rising (x ∷ xs) = above x xs
 unfoldable pub has : ℕ → List ℕ → Bool
 has x [] = false
 has x (y ∷ ys) = eqb x y || has x ys
+
+-- the first place whose number is not below x
+unfoldable pub place : ℕ → List ℕ → ℕ
+place x [] = 0
+place x (y ∷ ys) = cond (ltb y x) (suc (place x ys)) 0
 
 -- a ≤ x < b
 unfoldable pub within : ℕ → ℕ → ℕ → Bool

@@ -9,9 +9,9 @@ use lib.Dec.{ltb}
 use lib.ListN.{length}
 use borrow.Author.Tests.{ltb-true, ltb-false, lt-ltb, le-ltb, eq-eqb, ne-eqb, eqb-false, not-true}
 use Rattle.lists.specs.Laws.Keep.{split, and-right}
-use Rattle.refusals.specs.Laws.{verdict-refused, verdict-accepted}
+use Rattle.refusals.specs.Laws.Replies.{verdict-refused, verdict-accepted}
 use Rattle.key_index.specs.declared.Keyed.{Keyed}
-use Rattle.key_index.specs.Index.{Fits}
+use Rattle.key_index.specs.inner.Index.{Fits}
 use Rattle.plain.specs.Staged.{due}
 use Rattle.plain.specs.Plain.{Plain, applied, unstaged}
 use Rattle.table.specs.declared.Header.{Header}
@@ -19,12 +19,12 @@ use Rattle.table.specs.declared.Merge.{Merge}
 use Rattle.table.specs.declared.MergeAnswer.the-variants.{Refused as MergeRefused, Merged}
 use Rattle.table.specs.Numbers.{mergeSays}
 use Rattle.table.specs.Refusing.{mergeRefusal}
-use Rattle.table.specs.Promises.{stores, lengths, Represents, withPending, Merging}
-use Rattle.pending.specs.Steps.{withCounts, withDead, Ready}
-use Rattle.merge.specs.Insertions.{Insertions}
-use Rattle.removals.specs.Removals.{Removable, Removals}
-use Rattle.compaction.specs.Compaction.{Lendable, Compaction}
-use Rattle.merge.specs.Merging.{Applying, finished, withHeader, Finishing}
+use Rattle.table.specs.Promises.{stores, body, compactionWords, lengths, Represents, withPending, Merging}
+use Rattle.pending.specs.inner.Becoming.{withCounts, withDead, Ready}
+use Rattle.merge.specs.inner.Insertions.{Insertions}
+use Rattle.removals.specs.inner.Removals.{Removable, Removals}
+use Rattle.compaction.specs.inner.Compaction.{Lendable, Compaction}
+use Rattle.merge.specs.inner.Parts.{Applying, finished, withHeader, Finishing}
 use Rattle.table.specs.Laws.Refusals.{inside-fits, Mergeable, merge-accepted}
 use Rattle.table.specs.Laws.Opening.{unstaged-represents}
 use Rattle.pending.specs.Laws.Steps.{steps-refl}
@@ -173,12 +173,12 @@ module _ (m : Merge) (rows keys sorts live base : List ℕ) where
 module _ (h : Header) (rows keys sorts pending live base : List ℕ) where
   -- a merge is turned away
   pub merge-refused : (n : ℕ) → n ≡ mergeRefusal h (lengths rows keys sorts pending live base) → (n ≡ 0 → ⊥)
-      → Merging h rows keys sorts pending live base (MergeRefused n) rows keys sorts live base
+      → Merging (stores h rows keys sorts pending) (compactionWords live base) (MergeRefused n) (body rows keys sorts) (compactionWords live base)
   unfolding mergeSays
   merge-refused n e some =
       record {
         refusal = verdict-refused (mergeSays (MergeRefused n)) _ n refl e some;
-        unchanged = λ k. (refl, refl, refl, refl, refl);
+        unchanged = λ k. (refl, refl);
         past = refl;
         words-past = (refl, refl);
         table = λ z. absurd (some (e ∙ z));
@@ -232,7 +232,7 @@ module _ (h : Header) (rows keys sorts pending live base : List ℕ) where
 
       -- a merge is done
       pub merge-done : (r : Merge) (rows′ keys′ sorts′ live′ base′ : List ℕ) → Finishing m rows₁ keys₁ sorts₁ live base r rows′ keys′ sorts′ live′ base′
-          → Merging h rows keys sorts pending live base (Merged r) rows′ keys′ sorts′ live′ base′
+          → Merging (stores h rows keys sorts pending) (compactionWords live base) (Merged r) (body rows′ keys′ sorts′) (compactionWords live′ base′)
       unfolding mergeSays
       merge-done r rows′ keys′ sorts′ live′ base′ f =
           let n : m .header .capacity ≡ h .capacity = ap (λ (x : Header). x .capacity) (applying .counts) in

@@ -8,35 +8,34 @@ use native.Mathlib.Numerals.{add-one}
 use native.Mathlib.Omega.{arith}
 use lib.ListN.{length, take, drop, getD}
 use Rattle.plain.specs.Staged.{Staged, insert, removeKey, removeRow, wordsOf, inserts}
-use Rattle.plain.specs.Merging.{kept, appended, stopped, Inserted, inserted, insertAll}
-use Rattle.plain.specs.Plain.{Plain, insertion}
+use Rattle.plain.specs.Plain.{unchanged, appended, stopped, Inserted, inserted, insertAll, Plain, insertion}
 use Rattle.table.specs.declared.Header.{Header}
 use Rattle.table.specs.declared.Merge.{Merge}
 use Rattle.inserts.specs.declared.Insertion.{Insertion}
 use Rattle.inserts.specs.declared.Insertion.the-variants.{Kept, Appended, Stopped}
 use Rattle.table.specs.Numbers.{openingOf}
 use Rattle.table.specs.Promises.{Stores, stores, Represents, SlotsPast}
-use Rattle.pending.specs.Steps.{Steps, Recounted, Ready, Waiting, kindOf, RecordLength}
-use Rattle.merge.specs.Insertions.{InsertedTable, Insertions, InsertNext, InsertGoes, InsertedNext}
-use Rattle.inserts.specs.Inserting.{Comes, Inserting}
+use Rattle.pending.specs.inner.Becoming.{Steps, Recounted, Ready, Waiting, kindOf, RecordLength}
+use Rattle.merge.specs.inner.Insertions.{InsertedTable, Insertions, InsertNext, InsertGoes, InsertedNext}
+use Rattle.inserts.specs.inner.Inserting.{Comes, Inserting}
 use Rattle.pending.specs.Laws.Steps.{steps-refl, steps-then, waiting-start, words-some, waiting-next, waiting-kind, waiting-hash, waiting-cells, recounted-refl, recounted-capacity, recounted-then, recounted-waiting}
 use Rattle.pending.proofs.PassRecords.{Next, record-long}
 
 -- ---- one insert
 
 -- what the inserts come to goes on after one that is kept or appended, and ends at one that stops
-goes-kept : (cells : List ℕ) (rest : List Staged) (place : ℕ) (added : Bool) (p : Plain) → insertion cells p ≡ kept
-    → insertAll insertion (inserts (insert cells ∷ rest)) place added p ≡ insertAll insertion (inserts rest) (place + 1) added p
+goes-kept : (cells : List ℕ) (rest : List Staged) (place : ℕ) (added : Bool) (p : Plain) → insertion cells p ≡ unchanged
+    → insertAll (inserts (insert cells ∷ rest)) place added p ≡ insertAll (inserts rest) (place + 1) added p
 unfolding insertAll inserts
 goes-kept cells rest place added p e = rw (e, add-one place)
 
 goes-appended : (cells : List ℕ) (rest : List Staged) (place : ℕ) (added : Bool) (p p′ : Plain) → insertion cells p ≡ appended p′
-    → insertAll insertion (inserts (insert cells ∷ rest)) place added p ≡ insertAll insertion (inserts rest) (place + 1) true p′
+    → insertAll (inserts (insert cells ∷ rest)) place added p ≡ insertAll (inserts rest) (place + 1) true p′
 unfolding insertAll inserts
 goes-appended cells rest place added p p′ e = rw (e, add-one place)
 
 goes-stopped : (cells : List ℕ) (rest : List Staged) (place : ℕ) (added : Bool) (p : Plain) (n : ℕ) → insertion cells p ≡ stopped n
-    → insertAll insertion (inserts (insert cells ∷ rest)) place added p ≡ inserted p n place added
+    → insertAll (inserts (insert cells ∷ rest)) place added p ≡ inserted p n place added
 unfolding insertAll inserts
 goes-stopped cells rest place added p n e = rw e
 
@@ -151,7 +150,7 @@ pub record Inserts (at : ℕ) (m : Merge) (p : Plain) (s s′ : Stores) : Type 0
   pub now : Plain
   pub rest : List Staged
   pub waiting : Waiting (openingOf (s .header)) (s .pending) (s .header .pending) at rest
-  pub same : insertAll insertion (inserts (p .staged)) 0 false p ≡ insertAll insertion (inserts rest) (m .place) (m .added) now
+  pub same : insertAll (inserts (p .staged)) 0 false p ≡ insertAll (inserts rest) (m .place) (m .added) now
   pub steps : Steps p now s s′
 
 -- the loop's invariant
@@ -241,8 +240,8 @@ module _ {h : Header} {rows keys sorts pending : List ℕ} (a : Ready h rows key
           pub next : Plain
           pub waiting : Waiting (openingOf h) pending (h .pending) (at + words) rest
           pub steps : Steps p next Start (stores (r .header) rows″ keys″ sorts″ pending)
-          pub goes-on : r .status ≡ 0 → insertAll insertion (inserts (p .staged)) 0 false p ≡ insertAll insertion (inserts rest) (r .place) (r .added) next
-          pub stops : (r .status ≡ 0 → ⊥) → insertAll insertion (inserts (p .staged)) 0 false p ≡ inserted next (r .status) (r .place) (r .added)
+          pub goes-on : r .status ≡ 0 → insertAll (inserts (p .staged)) 0 false p ≡ insertAll (inserts rest) (r .place) (r .added) next
+          pub stops : (r .status ≡ 0 → ⊥) → insertAll (inserts (p .staged)) 0 false p ≡ inserted next (r .status) (r .place) (r .added)
 
         turn : (p : Plain) → Represents p Start → Turn p
         turn p t = go (v .table p t .rest) refl
@@ -254,7 +253,7 @@ module _ {h : Header} {rows keys sorts pending : List ℕ} (a : Ready h rows key
                 let w : Next h pending at first rest = rw e at (g .waiting) in
                 let n : words ≡ wordsOf (openingOf h) first = v .here .next first rest w in
                 let x = one .table (v .going) first rest (recounted-waiting (v .header) w) (g .now) (g .steps .represents) in
-                let q : insertAll insertion (inserts (p .staged)) 0 false p ≡ insertAll insertion (inserts (first ∷ rest)) (m .place) (m .added) (g .now) = rw (← e) (g .same) in
+                let q : insertAll (inserts (p .staged)) 0 false p ≡ insertAll (inserts (first ∷ rest)) (m .place) (m .added) (g .now) = rw (← e) (g .same) in
                 record {
                   rest = rest;
                   next = x .next;
@@ -295,9 +294,9 @@ module _ {h : Header} {rows keys sorts pending : List ℕ} (a : Ready h rows key
                   let q = x .stops f in
                   record {
                     steps = rw q (x .steps);
-                    status = sym (ap (λ (y : Inserted Plain). y .status) q);
-                    place = sym (ap (λ (y : Inserted Plain). y .place) q);
-                    added = sym (ap (λ (y : Inserted Plain). y .added) q);
+                    status = sym (ap (λ (y : Inserted). y .status) q);
+                    place = sym (ap (λ (y : Inserted). y .place) q);
+                    added = sym (ap (λ (y : Inserted). y .added) q);
                   };
             }
 
@@ -309,12 +308,12 @@ module _ {h : Header} {rows keys sorts pending : List ℕ} (a : Ready h rows key
             → InsertedTable p Start (stores (m .header) rows′ keys′ sorts′ pending) (merge (m .header) (m .status) 0 (m .added))
         done p t [] e =
             let g = v .table p t in
-            let q : insertAll insertion (inserts (p .staged)) 0 false p ≡ inserted (g .now) 0 0 (m .added) = g .same ∙ rw e (unfold inserts insertAll in refl) in
+            let q : insertAll (inserts (p .staged)) 0 false p ≡ inserted (g .now) 0 0 (m .added) = g .same ∙ rw e (unfold inserts insertAll in refl) in
             record {
               steps = rw q (g .steps);
-              status = v .going ∙ sym (ap (λ (y : Inserted Plain). y .status) q);
-              place = sym (ap (λ (y : Inserted Plain). y .place) q);
-              added = sym (ap (λ (y : Inserted Plain). y .added) q);
+              status = v .going ∙ sym (ap (λ (y : Inserted). y .status) q);
+              place = sym (ap (λ (y : Inserted). y .place) q);
+              added = sym (ap (λ (y : Inserted). y .added) q);
             }
         done p t (first ∷ rest) e =
             let w : Next h pending at first rest = rw e at (v .table p t .waiting) in

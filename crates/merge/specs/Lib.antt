@@ -1,3 +1,2 @@
-pub mod Insertions
-pub mod Merging
+pub mod inner
 pub mod Laws

@@ -1,13 +1,13 @@
 // `merge` of table/mod.rs: removals by key, removals by row, inserts; then pending emptied and, unless it stopped, the
 // compaction that may be due.
 ghost use Prim.Native.Nat.{_≤_};
-ghost use Rattle.pending.specs.Steps.{Ready};
-ghost use Rattle.merge.specs.Insertions.{Insertions, InsertNext, InsertedNext};
+ghost use Rattle.pending.specs.inner.Becoming.{Ready};
+ghost use Rattle.merge.specs.inner.Insertions.{Insertions, InsertNext, InsertedNext};
 ghost use mathlib.Core.Path.{_≡_};
 ghost use Rattle.plain.specs.Staged.{due};
-ghost use Rattle.table.specs.Promises.{Merging};
-ghost use Rattle.compaction.specs.Compaction.{Lendable};
-ghost use Rattle.merge.specs.Merging.{Applying, Finishing};
+ghost use Rattle.table.specs.Promises.{stores, body, compactionWords, Merging};
+ghost use Rattle.compaction.specs.inner.Compaction.{Lendable};
+ghost use Rattle.merge.specs.inner.Parts.{Applying, Finishing};
 use compaction::compact_rows;
 use inserts::Insertion;
 use inserts::insert_row;
@@ -160,7 +160,7 @@ pub fn merge(
     live: &mut [u64],
     base: &mut [u32],
 ) -> MergeAnswer
-    ensures { λ r. ⌜ Merging h (now (rows .entry)) (now (keys .entry)) (now (sorts .entry)) (now (pending .entry)) (now (live .entry)) (now (base .entry)) r (now (rows .exit)) (now (keys .exit)) (now (sorts .exit)) (now (live .exit)) (now (base .exit)) ⌝ }
+    ensures { λ r. ⌜ Merging (stores h (now (rows .entry)) (now (keys .entry)) (now (sorts .entry)) (now (pending .entry))) (compactionWords (now (live .entry)) (now (base .entry))) r (body (now (rows .exit)) (now (keys .exit)) (now (sorts .exit))) (compactionWords (now (live .exit)) (now (base .exit))) ⌝ }
 {
     let l = Lent {
         rows: rows.len(),

@@ -14,7 +14,7 @@ use Rattle.lists.specs.Lists.{putAt}
 use Rattle.lists.specs.Laws.Parts.{copy-step}
 use Rattle.merge_rules.specs.Rules.{ruledColumn, taken, madeCell, madeFrom, changesFrom}
 use Rattle.merge_rules.specs.Survivor.{survivor}
-use Rattle.merge_rules.specs.Laws.{made-length, made-at}
+use Rattle.merge_rules.specs.Laws.Rules.{made-length, made-at}
 
 module _ (rule keys sort column old new : ℕ) where
   pub cell-ruled : ruledColumn keys sort column ≡ true → madeCell rule keys sort column old new ≡ taken rule old new

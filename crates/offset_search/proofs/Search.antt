@@ -5,11 +5,11 @@ use mathlib.Core.Bool.{true, false}
 use mathlib.Core.List.{List}
 use native.Mathlib.Omega.{arith}
 use lib.ListN.{length, getD}
-use Rattle.lists.specs.Lists.{rising, has}
-use Rattle.lists.specs.Laws.Search.{place, place-le, place-past, place-upto, place-at, has-place, has-not-place}
+use Rattle.lists.specs.Lists.{rising, has, place}
+use Rattle.lists.specs.Laws.Search.{place-le, place-past, place-upto, place-at, has-place, has-not-place}
 use Rattle.offset_search.specs.declared.Scan.{Scan}
 use Rattle.offset_search.specs.declared.Scan.the-variants.{Found, Next}
-use Rattle.offset_search.specs.Search.{SearchedPart, ReachedBetween, scanPlace, scan, ScannedAt, Scanned}
+use Rattle.offset_search.specs.inner.Search.{SearchedPart, ReachedBetween, scanPlace, scan, ScannedAt, Scanned}
 
 -- ---- the binary search
 

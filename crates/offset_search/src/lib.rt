@@ -4,9 +4,8 @@ ghost use mathlib.Core.Path.{_≡_};
 ghost use Prim.Native.Nat.{_≤_, _<_};
 ghost use mathlib.Core.Bool.{true};
 ghost use lib.ListN.{length};
-ghost use Rattle.lists.specs.Lists.{rising};
-ghost use Rattle.lists.specs.Laws.Search.{place};
-ghost use Rattle.offset_search.specs.Search.{Searched, SearchedFrom, SearchedPart, Reached, ScannedAt, Scanned};
+ghost use Rattle.lists.specs.Lists.{rising, place};
+ghost use Rattle.offset_search.specs.inner.Search.{Searched, SearchedFrom, SearchedPart, Reached, ScannedAt, Scanned};
 
 // The binary search of `binary_search_from` in the part of the list between two places.
 fn binary_search_part(ids: &[u32], start: usize, end: usize, target: u32) -> usize

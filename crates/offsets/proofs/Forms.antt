@@ -3,6 +3,7 @@ use Prim.Native.Nat.{ℕ, suc, _+_, _-_, _≤_, _<_}
 use mathlib.Core.Path.{_≡_, refl, sym, ap, _∙_}
 use mathlib.Core.Bool.{true, false, and-false, and-true}
 use mathlib.Core.List.{List, [], _∷_}
+use mathlib.Core.Option.{some}
 use native.Mathlib.Omega.{arith}
 use lib.Dec.{leb}
 use lib.ListN.{length, getD}
@@ -10,10 +11,10 @@ use borrow.Author.Tests.{le-leb, lt-leb}
 use Rattle.lists.specs.Lists.{rising}
 use Rattle.offsets.specs.declared.SubsetHead.{SubsetHead}
 use Rattle.offsets.specs.declared.BoundsAnswer.the-variants.{None, Ends}
-use Rattle.offsets.specs.Subsets.{list, wellFormed, size, lastOf, ends, bounds}
-use Rattle.offsets.specs.Ends.{boundsOf}
-use Rattle.offsets.specs.Laws.{dense-is, sparse-is, lastOf-getD}
+use Rattle.offsets.specs.Subsets.{list, wellFormed, size, lastOf, bounds}
+use Rattle.offsets.specs.Laws.Subsets.{dense-is, sparse-is, lastOf-getD}
 use Rattle.offsets.specs.Answers.{subsetOf}
+use Rattle.offsets.specs.inner.Writing.{boundsSays}
 
 module _ (head : SubsetHead) (ids : List ℕ) where
   pub formed-range : head .dense ≡ true → leb (head .start) (head .end) ≡ wellFormed (subsetOf head ids)
@@ -30,11 +31,11 @@ module _ (head : SubsetHead) (ids : List ℕ) where
 
 -- ---- size and ends, by kind
 
-said-ends : (start end : ℕ) → boundsOf (Ends start end) ≡ ends start end
-unfolding boundsOf
+said-ends : (start end : ℕ) → boundsSays (Ends start end) ≡ some (record { start = start; end = end })
+unfolding boundsSays
 said-ends start end = refl
 
-bounds-cons : (x : ℕ) (xs : List ℕ) → ends x (lastOf x xs + 1) ≡ bounds (list (x ∷ xs))
+bounds-cons : (x : ℕ) (xs : List ℕ) → some (record { start = x; end = lastOf x xs + 1 }) ≡ bounds (list (x ∷ xs))
 unfolding bounds
 bounds-cons x xs = refl
 
@@ -47,24 +48,24 @@ module _ (head : SubsetHead) (ids : List ℕ) where
   unfolding size
   size-list e = rw (sparse-is head ids e)
 
-  pub bounds-range : head .dense ≡ true → boundsOf (Ends (head .start) (head .end)) ≡ bounds (subsetOf head ids)
-  unfolding bounds boundsOf
+  pub bounds-range : head .dense ≡ true → boundsSays (Ends (head .start) (head .end)) ≡ bounds (subsetOf head ids)
+  unfolding bounds boundsSays
   bounds-range e = rw (dense-is head ids e)
 
-  pub bounds-none : head .dense ≡ false → length ids ≡ 0 → boundsOf None ≡ bounds (subsetOf head ids)
+  pub bounds-none : head .dense ≡ false → length ids ≡ 0 → boundsSays None ≡ bounds (subsetOf head ids)
   bounds-none e h = rw (sparse-is head ids e) (go ids h)
     where
-      go : (l : List ℕ) → length l ≡ 0 → boundsOf None ≡ bounds (list l)
-      go [] h = unfold bounds boundsOf in refl
+      go : (l : List ℕ) → length l ≡ 0 → boundsSays None ≡ bounds (list l)
+      go [] h = unfold bounds boundsSays in refl
       go (x ∷ xs) h = absurd (omega arith)
 
-  pub bounds-list : head .dense ≡ false → (length ids ≡ 0 → ⊥) → boundsOf (Ends (getD ids 0 0) (getD ids (length ids - 1) 0 + 1)) ≡ bounds (subsetOf head ids)
+  pub bounds-list : head .dense ≡ false → (length ids ≡ 0 → ⊥) → boundsSays (Ends (getD ids 0 0) (getD ids (length ids - 1) 0 + 1)) ≡ bounds (subsetOf head ids)
   bounds-list e h = rw (sparse-is head ids e) (go ids h)
     where
-      go : (l : List ℕ) → (length l ≡ 0 → ⊥) → boundsOf (Ends (getD l 0 0) (getD l (length l - 1) 0 + 1)) ≡ bounds (list l)
+      go : (l : List ℕ) → (length l ≡ 0 → ⊥) → boundsSays (Ends (getD l 0 0) (getD l (length l - 1) 0 + 1)) ≡ bounds (list l)
       go [] h = absurd (h refl)
       go (x ∷ xs) h =
           let k : suc (length xs) - 1 ≡ length xs = omega arith in
           said-ends x (getD (x ∷ xs) (suc (length xs) - 1) 0 + 1)
-          ∙ ap (λ (n : ℕ). ends x (n + 1)) (ap (λ (i : ℕ). getD (x ∷ xs) i 0) k ∙ sym (lastOf-getD x xs))
+          ∙ ap (λ (n : ℕ). some (record { start = x; end = n + 1 })) (ap (λ (i : ℕ). getD (x ∷ xs) i 0) k ∙ sym (lastOf-getD x xs))
           ∙ bounds-cons x xs

@@ -16,11 +16,21 @@ use Rattle.offsets.specs.Subsets.{Subset, range, list, wellFormed, inter
 unfoldable pub subsetOf : SubsetHead → List ℕ → Subset
 subsetOf head ids = cond (head .dense) (range (head .start) (head .end)) (list ids)
 
--- the answer of a reply: its number, its two ends, or how many ids it has
-unfoldable pub answerOf : Reply Subset → SubsetAnswer
-answerOf (refused n) = Refused n
-answerOf (accepted (range start end)) = Range start end
-answerOf (accepted (list ids)) = Ids (length ids)
+-- what an answer tells of a subset: its two ends, or how many ids it has
+pub data Shape : Type 0 where
+  dense : ℕ → ℕ → Shape
+  sparse : ℕ → Shape
+
+unfoldable pub subsetSays : SubsetAnswer → Reply Shape
+subsetSays (Refused n) = refused n
+subsetSays (Range start end) = accepted (dense start end)
+subsetSays (Ids n) = accepted (sparse n)
+
+-- what is told of a reply
+unfoldable pub shape : Reply Subset → Reply Shape
+shape (refused n) = refused n
+shape (accepted (range start end)) = accepted (dense start end)
+shape (accepted (list ids)) = accepted (sparse (length ids))
 
 -- the ids that it writes: "A range as answer writes no id"
 unfoldable pub written : Reply Subset → List ℕ
@@ -30,13 +40,8 @@ written (accepted (list ids)) = ids
 
 -- an answer and its output: "output beyond the ids written is unchanged"
 pub record Answered (r : Reply Subset) (output : List ℕ) (answer : SubsetAnswer) (output′ : List ℕ) : Type 0 where
-  pub answers : answer ≡ answerOf r
+  pub answers : subsetSays answer ≡ shape r
   pub writes : output′ ≡ putAt output 0 (written r)
-
--- ids written from the start of an output, and how many
-pub record Wrote (output ids : List ℕ) (n : ℕ) (output′ : List ℕ) : Type 0 where
-  pub number : n ≡ length ids
-  pub cells : output′ ≡ putAt output 0 ids
 
 -- an answer as its caller reads it: refused, a range, or the first ids of the output
 unfoldable pub readOff : SubsetAnswer → List ℕ → Reply Subset

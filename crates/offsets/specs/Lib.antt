@@ -1,4 +1,4 @@
 pub mod Subsets
 pub mod Answers
-pub mod Ends
+pub mod inner
 pub mod Laws

@@ -3,9 +3,10 @@
 use Prim.Native.Nat.{ℕ, _+_, _-_, min, max}
 use mathlib.Core.Bool.{Bool, cond, _&&_}
 use mathlib.Core.List.{List, [], _∷_}
+use mathlib.Core.Option.{Option, none, some}
 use lib.ListN.{length}
-use lib.Dec.{leb, eqb}
-use Rattle.lists.specs.Lists.{keep, every, countFrom, rising, has, within}
+use lib.Dec.{leb}
+use Rattle.lists.specs.Lists.{keep, every, countFrom, rising, has, within, same}
 
 -- "A dense range start..end (end not included), or a strictly rising list of at most 65,536 u32 ids"
 pub data Subset : Type 0 where
@@ -31,20 +32,18 @@ lastOf x [] = x
 lastOf x (y ∷ ys) = lastOf y ys
 
 -- "`bounds` gives the ends of a subset"; an empty list has none
-pub data Bounds : Type 0 where
-  none : Bounds
-  ends : ℕ → ℕ → Bounds
+pub record Ends : Type 0 where
+  pub start : ℕ
+  pub end : ℕ
 
-unfoldable pub bounds : Subset → Bounds
-bounds (range start end) = ends start end
+unfoldable pub bounds : Subset → Option Ends
+bounds (range start end) = some (record { start = start; end = end })
 bounds (list []) = none
-bounds (list (x ∷ xs)) = ends x (lastOf x xs + 1)
+bounds (list (x ∷ xs)) = some (record { start = x; end = lastOf x xs + 1 })
 
 -- the end that test 5 looks at: "range end or last id plus one"; an empty list has 0
 unfoldable pub endOf : Subset → ℕ
-endOf (range start end) = end
-endOf (list []) = 0
-endOf (list (x ∷ xs)) = lastOf x xs + 1
+endOf subset = elim (bounds subset) [ none ↦ 0 | some ends ↦ ends .end ]
 
 -- "a range with a list gives a list, or 0..0 if nothing is common"
 unfoldable pub listOrNothing : List ℕ → Subset
@@ -63,7 +62,8 @@ intersect (list ids) (list others) = list (keep (λ id. has id others) ids)
 unfoldable pub shaped : List ℕ → Subset
 shaped [] = range 0 0
 shaped (x ∷ xs) =
-    cond (eqb (lastOf x xs + 1) (x + length (x ∷ xs))) (range x (lastOf x xs + 1)) (list (x ∷ xs))
+    let n = length (x ∷ xs) in
+    cond (same (x ∷ xs) (countFrom x n)) (range x (x + n)) (list (x ∷ xs))
 
 unfoldable pub retain : (ℕ → Bool) → Subset → Subset
 retain test (range start end) = shaped (keep test (countFrom start (end - start)))

@@ -1,5 +1,5 @@
 // Open and clear.
-ghost use Rattle.table.specs.Promises.{Opened, Clearing, opening};
+ghost use Rattle.table.specs.Promises.{body, Opened, Clearing, opening};
 use table::Header;
 use table::Lent;
 use table::TableAnswer;
@@ -20,7 +20,7 @@ pub fn open_table(
     sorts: &[u32],
     pending: &[u32],
 ) -> TableAnswer
-    ensures { λ r. ⌜ Opened (opening columns «key_columns» sort rule capacity) generation (now (rows .entry)) (now (keys .entry)) (now (sorts .entry)) (now (pending .entry)) r (now (keys .exit)) ⌝ }
+    ensures { λ r. ⌜ Opened (opening columns «key_columns» sort rule capacity) generation (body (now (rows .entry)) (now (keys .entry)) (now (sorts .entry))) (now (pending .entry)) r (now (keys .exit)) ⌝ }
 {
     let h = Header {
         columns: columns,

@@ -8,7 +8,7 @@ use lib.ListN.{getD}
 use Rattle.plain.specs.Staged.{Staged, insert, removeKey, removeRow, wordsOf, wordsAll}
 use Rattle.table.specs.declared.Header.{Header}
 use Rattle.table.specs.Numbers.{openingOf}
-use Rattle.pending.specs.Steps.{Waiting, kindOf, RecordLength}
+use Rattle.pending.specs.inner.Becoming.{Waiting, kindOf, RecordLength}
 use Rattle.pending.specs.Laws.Steps.{words-some, waiting-inside, waiting-kind}
 
 most-kind : (r : Staged) → kindOf r ≤ 2

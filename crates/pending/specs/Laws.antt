@@ -1,3 +1,3 @@
--- What may be relied on of the definitions beside.
+-- What follows from the definitions.
 pub mod Steps
 pub mod Dying

@@ -2,7 +2,7 @@
 // length are tested before it is read.
 ghost use Prim.Native.Nat.{_≤_};
 ghost use lib.ListN.{length};
-ghost use Rattle.pending.specs.Steps.{RecordLength};
+ghost use Rattle.pending.specs.inner.Becoming.{RecordLength};
 use table::Header;
 use table::INSERT;
 use table::REMOVE_ROW;

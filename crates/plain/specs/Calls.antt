@@ -1,22 +1,37 @@
 -- Calls on a plain table: "stagings, merges, compactions and clears, stopped and refused ones included". A refusal changes
 -- nothing. Assumes nothing.
 use Prim.Native.Nat.{ℕ}
-use mathlib.Core.Bool.{cond}
+use mathlib.Core.Bool.{Bool, false, cond}
 use mathlib.Core.List.{List, [], _∷_}
-use lib.Dec.{eqb}
-use Rattle.plain.specs.Staged.{Staged}
-use Rattle.plain.specs.Plain.{Plain, Lengths, stageRefusal, stage, mergeRefusal, merged, compactRefusal, compacted, clearRefusal, cleared}
+use lib.Dec.{ltb, eqb}
+use lib.ListN.{length}
+use Rattle.plain.specs.Staged.{Staged, wordsAll}
+use Rattle.plain.specs.Plain.{Plain, stage, merged, compacted, cleared}
+use Rattle.plain.specs.Refusing.{Lengths, Counts, stageLadder, mergeLadder, compactLadder, clearLadder}
 
 pub data Call : Type 0 where
   staging : Staged → Call
   merging compacting clearing : Call
 
+unfoldable pub countsOf : Plain → Counts
+countsOf p =
+    record {
+      opening = p .opening;
+      generation = p .generation;
+      rows = length (p .rows);
+      used = wordsAll (p .opening) (p .staged);
+    }
+
+-- all that is left of test 1 on a table that was opened: "pending words used above the pending store"
+unfoldable pub pendingShort : Plain → ℕ → Bool
+pendingShort p pending = ltb pending (countsOf p .used)
+
 -- the first number that applies, 0 if none
 unfoldable pub refusal : Plain → Lengths → Call → ℕ
-refusal p l (staging r) = stageRefusal p l r
-refusal p l merging = mergeRefusal p l
-refusal p l compacting = compactRefusal p l
-refusal p l clearing = clearRefusal p l
+refusal p l (staging r) = stageLadder (pendingShort p (l .pending)) (countsOf p) (l .pending) r
+refusal p l merging = mergeLadder (pendingShort p (l .pending)) (countsOf p) l
+refusal p l compacting = compactLadder false (countsOf p) l
+refusal p l clearing = clearLadder false (countsOf p) (l .keys)
 
 -- what an accepted call leaves
 unfoldable pub done : Plain → Call → Plain

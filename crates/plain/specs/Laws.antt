@@ -1,6 +1,8 @@
--- What may be relied on of the plain table.
+-- What follows from the definitions.
 pub mod Rows
+pub mod Lookup
 pub mod Calls
 pub mod Counts
 pub mod Proper
 pub mod Live
+pub mod Turns

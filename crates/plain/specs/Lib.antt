@@ -1,7 +1,6 @@
 pub mod Staged
-pub mod Merging
+pub mod Refusing
 pub mod Plain
 pub mod Calls
 pub mod Proper
 pub mod Laws
-pub mod Turns

@@ -1,15 +1,15 @@
 -- The plain table (document 01, "Plain table"): what a table is, with no header, no store and no key index. Assumes
 -- nothing.
-use Prim.Native.Nat.{ℕ, zero, suc, _+_, _*_, _/_}
-use mathlib.Core.Bool.{Bool, true, false, cond, not, _&&_, _||_}
+use Prim.Native.Nat.{ℕ, zero, suc, _+_}
+use mathlib.Core.Bool.{Bool, true, false, cond, not, _&&_}
 use mathlib.Core.List.{List, [], _∷_, _++_, map}
+use mathlib.Core.Option.{Option, none, some}
 use lib.ListN.{length, take, getD}
 use lib.Dec.{leb, ltb, eqb}
-use Rattle.lists.specs.Lists.{keep, count}
+use Rattle.lists.specs.Lists.{keep, count, firstOf}
 use Rattle.refusals.specs.Refusals.{rung, first}
 use Rattle.merge_rules.specs.Rules.{kept, made, ruled}
-use Rattle.plain.specs.Staged.{Opening, openable, Staged, insert, removeKey, removeRow, wordsOf, wordsAll, keyRemovals, RowRemoval, rowRemovals, inserts, hasKey, skipped, due}
-use Rattle.plain.specs.Merging.{Insertion, kept as leaves, appended, stopped, Inserted, inserted, insertAll}
+use Rattle.plain.specs.Staged.{Opening, Staged, keyRemovals, RowRemoval, rowRemovals, inserts, hasKey, skipped, due}
 
 -- "rows live or dead": "dead rows keep their cells until compaction drops them"
 pub record Row : Type 0 where
@@ -50,76 +50,18 @@ liveFrom n (row ∷ rows) =
 unfoldable pub liveRows : Plain → List Numbered
 liveRows p = liveFrom 0 (p .rows)
 
--- "a key .. its one live row": its number, counted from n, if there is one
-pub data Number : Type 0 where
-  none : Number
-  one : ℕ → Number
-
-unfoldable pub numberFrom : (Row → Bool) → ℕ → List Row → Number
-numberFrom test n [] = none
-numberFrom test n (row ∷ rows) = cond (test row) (one n) (numberFrom test (suc n) rows)
+-- "a key .. its one live row", if there is one
+unfoldable pub lookup : Plain → List ℕ → Option Numbered
+lookup p key = firstOf (λ row. hasKey (p .opening .keys) key (row .cells)) (liveRows p)
 
 unfoldable pub dead : Plain → ℕ
 dead p = count (λ row. not (row .live)) (p .rows)
 
--- the lengths of the stores that a call is lent
-pub record Lengths : Type 0 where
-  pub rows : ℕ
-  pub keys : ℕ
-  pub sorts : ℕ
-  pub pending : ℕ
-  pub liveWords : ℕ
-  pub baseWords : ℕ
-
--- "rows, capacity times columns; keys, 2 times capacity; sort entries, 2 times capacity"
-unfoldable pub storesShort : Opening → Lengths → Bool
-storesShort o l =
-    ltb (l .rows) (o .capacity * o .columns) || ltb (l .keys) (2 * o .capacity) || ltb (l .sorts) (2 * o .capacity)
-
--- "compaction words, capacity over 64 rounded up of u64 and of u32"
-unfoldable pub wordsShort : Opening → Lengths → Bool
-wordsShort o l = ltb (l .liveWords) ((o .capacity + 63) / 64) || ltb (l .baseWords) ((o .capacity + 63) / 64)
-
--- "pending words used above the pending store": all that is left of test 1 on a table that was opened
-unfoldable pub pendingShort : Plain → Lengths → Bool
-pendingShort p l = ltb (l .pending) (wordsAll (p .opening) (p .staged))
-
--- Open
-
-unfoldable pub openRefusal : Opening → Lengths → ℕ
-openRefusal o l = first (rung (not (openable o)) 1 ∷ rung (storesShort o l) 2 ∷ [])
-
--- "Empties the table"
+-- Open: "Empties the table"
 unfoldable pub opened : Opening → ℕ → Plain
 opened o generation = record { opening = o; generation = generation; rows = []; staged = [] }
 
 -- Stage insert, removal by key, removal by row
-
--- "wrong number of cells"
-unfoldable pub wrongWidth : Opening → Staged → Bool
-wrongWidth o (insert cells) = not (eqb (length cells) (o .columns))
-wrongWidth o (removeKey key) = not (eqb (length key) (o .keys))
-wrongWidth o (removeRow row key) = not (eqb (length key) (o .keys))
-
--- "row not below the row count"
-unfoldable pub noSuchRow : ℕ → Staged → Bool
-noSuchRow rows (insert cells) = false
-noSuchRow rows (removeKey key) = false
-noSuchRow rows (removeRow row key) = leb rows row
-
--- the words used after this record is staged; 7 also where their number would leave a u32
-unfoldable pub usedAfter : Plain → Staged → ℕ
-usedAfter p r = wordsAll (p .opening) (p .staged) + wordsOf (p .opening) r
-
-unfoldable pub stageRefusal : Plain → Lengths → Staged → ℕ
-stageRefusal p l r =
-    first
-    (rung (pendingShort p l) 1
-    ∷ rung (wrongWidth (p .opening) r) 3
-    ∷ rung (noSuchRow (length (p .rows)) r) 5
-    ∷ rung (ltb (l .pending) (usedAfter p r) || ltb 4294967295 (usedAfter p r)) 7
-    ∷ [])
-
 unfoldable pub stage : Plain → Staged → Plain
 stage p r = with p (p .generation) (p .rows) (p .staged ++ (r ∷ []))
 
@@ -154,53 +96,74 @@ unfoldable pub withoutRows : List RowRemoval → Plain → Plain
 withoutRows [] p = p
 withoutRows (r ∷ rs) p = withoutRows rs (withoutRow r p)
 
--- the live row of a key, if any
-pub data Found : Type 0 where
-  none : Found
-  one : List ℕ → Found
+-- "the last entry's value is the last row's sort cell"; without a row there is none
+unfoldable pub lastValue : ℕ → List Row → Option ℕ
+lastValue sort [] = none
+lastValue sort (row ∷ []) = some (getD (row .cells) sort 0)
+lastValue sort (row ∷ (next ∷ rows)) = lastValue sort (next ∷ rows)
 
-unfoldable pub liveOf : ℕ → List ℕ → List Row → Found
-liveOf keys key [] = none
-liveOf keys key (row ∷ rows) = cond (liveWithKey keys key row) (one (row .cells)) (liveOf keys key rows)
-
--- "the last entry's value is the last row's sort cell"; without a row every value goes in
-unfoldable pub admits : ℕ → ℕ → List Row → Bool
-admits sort value [] = true
-admits sort value (row ∷ []) = leb (getD (row .cells) sort 0) value
-admits sort value (row ∷ (next ∷ rows)) = admits sort value (next ∷ rows)
+-- "sort value below the last entry's"
+unfoldable pub below : ℕ → Option ℕ → Bool
+below value none = false
+below value (some last) = ltb value last
 
 -- "8, row count equals capacity, tested before 9, sort value below the last entry's"
 unfoldable pub stop : List ℕ → Plain → ℕ
 stop cells p =
     first
     (rung (leb (p .opening .capacity) (length (p .rows))) 8
-    ∷ rung (not (admits (p .opening .sort) (getD cells (p .opening .sort) 0) (p .rows))) 9
+    ∷ rung (below (getD cells (p .opening .sort) 0) (lastValue (p .opening .sort) (p .rows))) 9
     ∷ [])
 
+-- what an insert does: nothing, a row appended, or a stop with its number
+pub data Insertion : Type 0 where
+  unchanged : Insertion
+  appended : Plain → Insertion
+  stopped : ℕ → Insertion
+
 -- a row that must be appended, and the rows that it is appended to
-unfoldable pub append : List ℕ → Plain → List Row → Insertion Plain
+unfoldable pub append : List ℕ → Plain → List Row → Insertion
 append cells p rows =
     cond (eqb (stop cells p) 0) (appended (withRows p (rows ++ (liveRow cells ∷ [])))) (stopped (stop cells p))
 
 -- "A new key is appended. A known key goes through the rule; a row so made is appended and the old row dies"
-unfoldable pub put : List ℕ → Found → Plain → Insertion Plain
+unfoldable pub put : List ℕ → Option Numbered → Plain → Insertion
 put cells none p = append cells p (p .rows)
-put cells (one old) p =
-    elim (ruled (p .opening .rule) (p .opening .keys) (p .opening .sort) old cells) [
-      | kept ↦ leaves
+put cells (some old) p =
+    elim (ruled (p .opening .rule) (p .opening .keys) (p .opening .sort) (old .cells) cells) [
+      | kept ↦ unchanged
       | made row ↦ append row p (killIf (liveWithKey (p .opening .keys) (take (p .opening .keys) cells)) (p .rows))
     ]
 
-unfoldable pub insertion : List ℕ → Plain → Insertion Plain
-insertion cells p =
-    cond (skipped cells)
-    leaves
-    (put cells (liveOf (p .opening .keys) (take (p .opening .keys) cells) (p .rows)) p)
+unfoldable pub insertion : List ℕ → Plain → Insertion
+insertion cells p = cond (skipped cells) unchanged (put cells (lookup p (take (p .opening .keys) cells)) p)
+
+-- what the inserts of a merge leave: the table, the stop's number and place ("both 0 if not stopped"), and "*added*: a row
+-- was appended"
+pub record Inserted : Type 0 where
+  pub table : Plain
+  pub status : ℕ
+  pub place : ℕ
+  pub added : Bool
+
+abbrev pub inserted : Plain → ℕ → ℕ → Bool → Inserted
+inserted p status place added = record { table = p; status = status; place = place; added = added }
+
+-- what comes of an insert at a place: the rest goes on, or the merge stops there
+abbrev pub goOn : Insertion → ℕ → Bool → Plain → (Bool → Plain → Inserted) → Inserted
+goOn unchanged place added p rest = rest added p
+goOn (appended p′) place added p rest = rest true p′
+goOn (stopped number) place added p rest = inserted p number place added
+
+-- the inserts from this place on, "among all staged inserts from 0", until one must be appended and cannot be
+unfoldable pub insertAll : List (List ℕ) → ℕ → Bool → Plain → Inserted
+insertAll [] place added p = inserted p 0 0 added
+insertAll (cells ∷ rest) place added p = goOn (insertion cells p) place added p (insertAll rest (suc place))
 
 -- "takes removals by key, then removals by row, then inserts"
-unfoldable pub applied : Plain → Inserted Plain
+unfoldable pub applied : Plain → Inserted
 applied p =
-    insertAll insertion (inserts (p .staged)) 0 false
+    insertAll (inserts (p .staged)) 0 false
     (withoutRows (rowRemovals (p .staged)) (withoutKeys (keyRemovals (p .staged)) p))
 
 -- Compaction: "drops them and the others close up in order", "the generation rises by one"
@@ -214,31 +177,11 @@ unfoldable pub unstaged : Plain → Plain
 unstaged p = with p (p .generation) (p .rows) []
 
 -- what a merge leaves: if it stopped, "pending is emptied, no compaction follows"
-unfoldable pub merged : Plain → Inserted Plain
+unfoldable pub merged : Plain → Inserted
 merged p =
     let m = applied p in
     inserted (cond (eqb (m .status) 0) (compactIfDue (unstaged (m .table))) (unstaged (m .table))) (m .status) (m .place) (m .added)
 
-unfoldable pub mergeRefusal : Plain → Lengths → ℕ
-mergeRefusal p l =
-    first (rung (pendingShort p l) 1 ∷ rung (storesShort (p .opening) l || wordsShort (p .opening) l) 2 ∷ [])
-
--- Compact
-
-unfoldable pub compactRefusal : Plain → Lengths → ℕ
-compactRefusal p l =
-    first
-    (rung (storesShort (p .opening) l || wordsShort (p .opening) l) 2 ∷ rung (eqb (p .generation) 4294967295) 10 ∷ [])
-
--- Clear: "10, as above, only if there are rows. Unless refused, empties pending; with rows, the rest too, and the
--- generation rises by one"
-
-unfoldable pub clearRefusal : Plain → Lengths → ℕ
-clearRefusal p l =
-    first
-    (rung (ltb (l .keys) (2 * p .opening .capacity)) 2
-    ∷ rung (eqb (p .generation) 4294967295 && ltb 0 (length (p .rows))) 10
-    ∷ [])
-
+-- Clear: "Unless refused, empties pending; with rows, the rest too, and the generation rises by one"
 unfoldable pub cleared : Plain → Plain
 cleared p = cond (ltb 0 (length (p .rows))) (with p (p .generation + 1) [] []) (unstaged p)

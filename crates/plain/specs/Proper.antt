@@ -8,7 +8,8 @@ use lib.Dec.{eqb}
 use Rattle.lists.specs.Lists.{every}
 use Rattle.cells.specs.Cells.{isDead}
 use Rattle.plain.specs.Staged.{openable}
-use Rattle.plain.specs.Plain.{Row, Plain, wrongWidth}
+use Rattle.plain.specs.Refusing.{wrongWidth}
+use Rattle.plain.specs.Plain.{Row, Plain}
 
 -- row i, a dead one of no cells past the end
 abbrev pub rowOf : Plain → ℕ → Row

@@ -1,4 +1,5 @@
--- Staged records and what a merge makes of their order; nothing here knows how rows are kept. Assumes nothing.
+-- An opening's numbers, staged records and their order in a merge, and when a compaction is due; nothing here knows how rows
+-- are kept. Assumes nothing.
 use Prim.Native.Nat.{ℕ, _+_, _/_, max}
 use mathlib.Core.Bool.{Bool, not, _&&_}
 use mathlib.Core.List.{List, [], _∷_}

@@ -10,7 +10,7 @@ ghost use Rattle.merge_rules.specs.Survivor.{survivor};
 ghost use Rattle.cells.specs.Cells.{isDead, compact, probed, keyHash};
 ghost use Rattle.constraints.specs.Constraints.{known, meets};
 ghost use Rattle.merge_rules.specs.Rules.{changesFrom};
-ghost use Rattle.probes.specs.Parts.{Made, Survives, Sized};
+ghost use Rattle.probes.specs.inner.Parts.{Made, Survives, Sized};
 ghost use mathlib.Core.Bool.{true};
 use constraints::Constraint;
 use key_index::Found;

@@ -4,6 +4,7 @@ use mathlib.Core.Path.{_≡_, refl, sym, ap, _∙_}
 use mathlib.Core.Logic.{inl, inr}
 use mathlib.Core.Bool.{Bool, true, false, not}
 use mathlib.Core.List.{List, [], _∷_}
+use mathlib.Core.Option.{Option, none, some}
 use native.Mathlib.Omega.{arith}
 use lib.Dec.{ltb}
 use borrow.Author.Tests.{lt-ltb, le-ltb}
@@ -12,40 +13,37 @@ use Rattle.lists.specs.Laws.Keep.{split}
 use Rattle.refusals.specs.Refusals.{rung, first}
 use Rattle.offsets.specs.declared.BoundsAnswer.{BoundsAnswer}
 use Rattle.offsets.specs.declared.BoundsAnswer.the-variants.{None, Ends}
-use Rattle.offsets.specs.Subsets.{Subset, range, list, wellFormed, size, Bounds, none, ends, bounds, endOf}
-use Rattle.offsets.specs.Ends.{boundsOf}
+use Rattle.offsets.specs.Subsets.{Subset, range, list, wellFormed, size, Ends as Extent, bounds, endOf}
+use Rattle.offsets.specs.inner.Writing.{boundsSays}
 use Rattle.constraints.specs.declared.Constraint.{Constraint}
 use Rattle.constraints.specs.Constraints.{known}
 use Rattle.table.specs.declared.Header.{Header}
 use Rattle.table.specs.Refusing.{outside, rowsShort}
-use Rattle.queries.specs.Queries.{pastRows, unknown, refineRefusal, matchRefusal, pageRefusal}
-use Rattle.queries.specs.Tests.{Askable, subsetRefusal, RefineRefused, MatchRefused, PageRefused}
+use Rattle.queries.specs.Queries.{pastRows, unknown, tests, refineRefusal, matchRefusal, pageRefusal}
+use Rattle.queries.specs.inner.Tests.{Askable, subsetRefusal, RefineRefused, MatchRefused, PageRefused}
 
 -- ---- test 5
 
--- the upper end, 0 where there is none
-abbrev upper : Bounds → ℕ
+-- the end of the ends, 0 where there are none
+abbrev upper : Option Extent → ℕ
 upper none = 0
-upper (ends start end) = end
+upper (some extent) = extent .end
 
-upper-is : (subset : Subset) → upper (bounds subset) ≡ endOf subset
-unfolding bounds endOf
-upper-is (range start end) = refl
-upper-is (list []) = refl
-upper-is (list (x ∷ xs)) = refl
+end-is : (subset : Subset) → upper (bounds subset) ≡ endOf subset
+unfolding endOf bounds
+end-is (range start end) = refl
+end-is (list []) = refl
+end-is (list (x ∷ xs)) = refl
 
-module _ (h : Header) (subset : Subset) (r : BoundsAnswer) (e : boundsOf r ≡ bounds subset) where
-  past-is : ltb (h .rows) (upper (boundsOf r)) ≡ pastRows h subset
-  unfolding pastRows
-  past-is = ap (λ (end : ℕ). ltb (h .rows) end) (ap upper e ∙ upper-is subset)
-
+module _ (h : Header) (subset : Subset) (r : BoundsAnswer) (e : boundsSays r ≡ bounds subset) where
   pub past-none : r ≡ None → false ≡ pastRows h subset
-  unfolding boundsOf
-  past-none q = sym (le-ltb (h .rows) 0 (omega arith)) ∙ ap (λ (a : BoundsAnswer). ltb (h .rows) (upper (boundsOf a))) (sym q) ∙ past-is
+  unfolding boundsSays pastRows
+  past-none q =
+      sym (le-ltb (h .rows) 0 (omega arith)) ∙ ap (λ (extent : Option Extent). ltb (h .rows) (upper extent)) (ap boundsSays (sym q) ∙ e) ∙ ap (ltb (h .rows)) (end-is subset)
 
   pub past-ends : (start end : ℕ) → r ≡ Ends start end → ltb (h .rows) end ≡ pastRows h subset
-  unfolding boundsOf
-  past-ends start end q = ap (λ (a : BoundsAnswer). ltb (h .rows) (upper (boundsOf a))) (sym q) ∙ past-is
+  unfolding boundsSays pastRows
+  past-ends start end q = ap (λ (extent : Option Extent). ltb (h .rows) (upper extent)) (ap boundsSays (sym q) ∙ e) ∙ ap (ltb (h .rows)) (end-is subset)
 
 -- ---- the tests that all questions share
 
@@ -91,7 +89,7 @@ module _ (h : Header) (rows : ℕ) (subset : Subset) where
   module _ (output : ℕ) where
     module _ (conditions : List Constraint) where
       refine-shared : (subsetRefusal h rows subset ≡ 0 → ⊥) → subsetRefusal h rows subset ≡ refineRefusal h rows subset conditions output
-      unfolding subsetRefusal refineRefusal first
+      unfolding subsetRefusal refineRefusal first tests
       refine-shared n =
           elim (split (outside h)) [
             | inl a ↦ rw a
@@ -109,7 +107,7 @@ module _ (h : Header) (rows : ℕ) (subset : Subset) where
 
       refine-rest : (knows : Bool) → Askable h rows subset → knows ≡ every (known (h .columns)) conditions
           → refineRefusal h rows subset conditions output ≡ first (rung (not knows) 6 ∷ rung (ltb output (size subset)) 2 ∷ [])
-      unfolding refineRefusal unknown first
+      unfolding refineRefusal unknown first tests
       refine-rest knows a k = rw (a .inside, a .long, a .formed, a .below, k)
 
     pub refine-early : (knows : Bool) (number : ℕ) → number ≡ subsetRefusal h rows subset → (number ≡ 0 → ⊥) → RefineRefused h rows subset knows output number
@@ -151,7 +149,7 @@ module _ (h : Header) (rows : ℕ) (subset : Subset) where
   -- ---- any match
 
   match-shared : (conditions : List Constraint) → (subsetRefusal h rows subset ≡ 0 → ⊥) → subsetRefusal h rows subset ≡ matchRefusal h rows subset conditions
-  unfolding subsetRefusal matchRefusal first
+  unfolding subsetRefusal matchRefusal first tests
   match-shared conditions n =
       elim (split (outside h)) [
         | inl a ↦ rw a
@@ -169,7 +167,7 @@ module _ (h : Header) (rows : ℕ) (subset : Subset) where
 
   match-rest : (conditions : List Constraint) (knows : Bool) → Askable h rows subset → knows ≡ every (known (h .columns)) conditions
       → matchRefusal h rows subset conditions ≡ first (rung (not knows) 6 ∷ [])
-  unfolding matchRefusal unknown first
+  unfolding matchRefusal unknown first tests
   match-rest conditions knows a k = rw (a .inside, a .long, a .formed, a .below, k)
 
   module _ (knows : Bool) where
@@ -189,7 +187,7 @@ module _ (h : Header) (rows : ℕ) (subset : Subset) where
   module _ (start n output : ℕ) where
     module _ (conditions : List Constraint) where
       page-shared : (subsetRefusal h rows subset ≡ 0 → ⊥) → subsetRefusal h rows subset ≡ pageRefusal h rows subset start n conditions output
-      unfolding subsetRefusal pageRefusal first
+      unfolding subsetRefusal pageRefusal first tests
       page-shared m =
           elim (split (outside h)) [
             | inl a ↦ rw a
@@ -207,7 +205,7 @@ module _ (h : Header) (rows : ℕ) (subset : Subset) where
 
       page-rest : (knows : Bool) → Askable h rows subset → knows ≡ every (known (h .columns)) conditions
           → pageRefusal h rows subset start n conditions output ≡ first (rung (ltb (size subset) start) 5 ∷ rung (not knows) 6 ∷ rung (ltb output (min n (size subset - start))) 2 ∷ [])
-      unfolding pageRefusal unknown first
+      unfolding pageRefusal unknown first tests
       page-rest knows a k = rw (a .inside, a .long, a .formed, a .below, k)
 
     module _ (knows : Bool) where

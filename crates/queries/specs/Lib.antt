@@ -1,3 +1,3 @@
 pub mod Queries
-pub mod Tests
+pub mod inner
 pub mod Laws

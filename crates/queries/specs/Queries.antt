@@ -3,18 +3,18 @@
 use Prim.Native.Nat.{ℕ, _+_, _-_, min}
 use mathlib.Core.Path.{_≡_}
 use mathlib.Core.Bool.{Bool, cond, not, _||_}
-use mathlib.Core.List.{List, [], _∷_}
+use mathlib.Core.List.{List, [], _∷_, _++_}
+use mathlib.Core.Option.{Option, none, some}
 use lib.ListN.{length, take, drop}
 use lib.Dec.{ltb}
-use Rattle.lists.specs.Lists.{putAt, keep, every, some, rowAt}
-use Rattle.refusals.specs.Refusals.{rung, first, Reply, refused, accepted, reply}
+use Rattle.lists.specs.Lists.{putAt, keep, every, any, rowAt}
+use Rattle.refusals.specs.Refusals.{Rung, rung, first, Reply, refused, accepted, reply}
 use Rattle.offsets.specs.declared.SubsetAnswer.{SubsetAnswer}
 use Rattle.offsets.specs.Subsets.{Subset, wellFormed, members, size, endOf, retain, narrowed}
 use Rattle.offsets.specs.Answers.{Answered}
 use Rattle.constraints.specs.declared.Constraint.{Constraint}
 use Rattle.constraints.specs.Constraints.{known, meets}
 use Rattle.table.specs.declared.Header.{Header}
-use Rattle.table.specs.Numbers.{Maybe, none, one}
 use Rattle.table.specs.Refusing.{outside, rowsShort}
 use Rattle.queries.specs.declared.MatchAnswer.{MatchAnswer}
 use Rattle.queries.specs.declared.MatchAnswer.the-variants.{Refused as MatchRefused, Match}
@@ -36,40 +36,31 @@ pastRows h subset = ltb (h .rows) (endOf subset)
 unfoldable pub unknown : Header → List Constraint → Bool
 unknown h conditions = not (every (known (h .columns)) conditions)
 
--- *Refine by one, by a list*: 1, 2, 4, 5, 6, "2 again, output shorter than the subset"
+-- the tests that all questions share, 1, 2, 4, 5 and 6, with each question's own reading of 5
+unfoldable pub tests : Header → ℕ → Subset → Bool → List Constraint → List Rung
+tests h rows subset beyond conditions =
+    rung (outside h) 1
+    ∷ rung (rowsShort h rows) 2
+    ∷ rung (not (wellFormed subset)) 4
+    ∷ rung beyond 5
+    ∷ rung (unknown h conditions) 6
+    ∷ []
+
+-- *Refine by one, by a list*: "2 again, output shorter than the subset"
 unfoldable pub refineRefusal : Header → ℕ → Subset → List Constraint → ℕ → ℕ
 refineRefusal h rows subset conditions output =
-    first
-    (rung (outside h) 1
-    ∷ rung (rowsShort h rows) 2
-    ∷ rung (not (wellFormed subset)) 4
-    ∷ rung (pastRows h subset) 5
-    ∷ rung (unknown h conditions) 6
-    ∷ rung (ltb output (size subset)) 2
-    ∷ [])
+    first (tests h rows subset (pastRows h subset) conditions ++ (rung (ltb output (size subset)) 2 ∷ []))
 
--- *any match* "has none"
+-- "any match has none"
 unfoldable pub matchRefusal : Header → ℕ → Subset → List Constraint → ℕ
-matchRefusal h rows subset conditions =
-    first
-    (rung (outside h) 1
-    ∷ rung (rowsShort h rows) 2
-    ∷ rung (not (wellFormed subset)) 4
-    ∷ rung (pastRows h subset) 5
-    ∷ rung (unknown h conditions) 6
-    ∷ [])
+matchRefusal h rows subset conditions = first (tests h rows subset (pastRows h subset) conditions)
 
 -- *Page*: 5 "also start place above the subset's size", "2 again, output shorter than the smaller of n and what remains"
 unfoldable pub pageRefusal : Header → ℕ → Subset → ℕ → ℕ → List Constraint → ℕ → ℕ
 pageRefusal h rows subset start n conditions output =
     first
-    (rung (outside h) 1
-    ∷ rung (rowsShort h rows) 2
-    ∷ rung (not (wellFormed subset)) 4
-    ∷ rung (pastRows h subset || ltb (size subset) start) 5
-    ∷ rung (unknown h conditions) 6
-    ∷ rung (ltb output (min n (size subset - start))) 2
-    ∷ [])
+    (tests h rows subset (pastRows h subset || ltb (size subset) start) conditions
+    ++ (rung (ltb output (min n (size subset - start))) 2 ∷ []))
 
 -- refine by one is `retain`, by a list `narrowed`
 unfoldable pub refineOneReply : Header → List ℕ → Subset → Constraint → ℕ → Reply Subset
@@ -82,19 +73,19 @@ refineListReply h rows subset conditions output =
 
 unfoldable pub matchReply : Header → List ℕ → Subset → List Constraint → Reply Bool
 matchReply h rows subset conditions =
-    reply (matchRefusal h (length rows) subset conditions) (some (matches h rows conditions) (members subset))
+    reply (matchRefusal h (length rows) subset conditions) (any (matches h rows conditions) (members subset))
 
 -- "Visits n ids from the start place, writes the live matching ones"
 unfoldable pub visited : Subset → ℕ → ℕ → List ℕ
 visited subset start n = take n (drop start (members subset))
 
 -- "the next place or *none*. n = 0 gives the start place back unless nothing remains"
-unfoldable pub nextPlace : Subset → ℕ → ℕ → Maybe ℕ
-nextPlace subset start n = cond (ltb (start + n) (size subset)) (one (start + n)) none
+unfoldable pub nextPlace : Subset → ℕ → ℕ → Option ℕ
+nextPlace subset start n = cond (ltb (start + n) (size subset)) (some (start + n)) none
 
 pub record PageReply : Type 0 where
   pub ids : List ℕ
-  pub next : Maybe ℕ
+  pub next : Option ℕ
 
 unfoldable pub pageReply : Header → List ℕ → Subset → ℕ → ℕ → List Constraint → ℕ → Reply PageReply
 pageReply h rows subset start n conditions output =
@@ -107,14 +98,23 @@ unfoldable pub matchSays : MatchAnswer → Reply Bool
 matchSays (MatchRefused n) = refused n
 matchSays (Match answer) = accepted answer
 
-unfoldable pub nextOf : Maybe ℕ → NextPlace
-nextOf none = None
-nextOf (one place) = At place
+unfoldable pub nextSays : NextPlace → Option ℕ
+nextSays None = none
+nextSays (At place) = some place
 
--- the answer of a reply: how many ids were written, and the next place
-unfoldable pub pageOf : Reply PageReply → PageAnswer
-pageOf (refused n) = PageRefused n
-pageOf (accepted page) = Paged (record { written = length (page .ids); next = nextOf (page .next) })
+-- of a page: how many ids were written, and the next place
+pub record PageTold : Type 0 where
+  pub written : ℕ
+  pub next : Option ℕ
+
+unfoldable pub pageSays : PageAnswer → Reply PageTold
+pageSays (PageRefused n) = refused n
+pageSays (Paged page) = accepted (record { written = page .written; next = nextSays (page .next) })
+
+-- what is told of a reply, and the ids that it writes
+unfoldable pub pageTold : Reply PageReply → Reply PageTold
+pageTold (refused n) = refused n
+pageTold (accepted page) = accepted (record { written = length (page .ids); next = page .next })
 
 unfoldable pub pageWrites : Reply PageReply → List ℕ
 pageWrites (refused n) = []
@@ -132,5 +132,5 @@ pub record Matched (h : Header) (rows : List ℕ) (subset : Subset) (conditions 
   pub answers : matchSays answer ≡ matchReply h rows subset conditions
 
 pub record PageRead (h : Header) (rows : List ℕ) (subset : Subset) (start n : ℕ) (conditions : List Constraint) (output : List ℕ) (answer : PageAnswer) (output′ : List ℕ) : Type 0 where
-  pub answers : answer ≡ pageOf (pageReply h rows subset start n conditions (length output))
+  pub answers : pageSays answer ≡ pageTold (pageReply h rows subset start n conditions (length output))
   pub writes : output′ ≡ putAt output 0 (pageWrites (pageReply h rows subset start n conditions (length output)))

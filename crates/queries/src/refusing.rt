@@ -4,7 +4,7 @@ ghost use mathlib.Core.Path.{_≡_};
 ghost use Rattle.offsets.specs.Answers.{subsetOf};
 ghost use Rattle.queries.specs.Queries.{pastRows};
 ghost use Prim.Native.Nat.{min};
-ghost use Rattle.queries.specs.Tests.{subsetRefusal, RefineRefused, MatchRefused, PageRefused};
+ghost use Rattle.queries.specs.inner.Tests.{subsetRefusal, RefineRefused, MatchRefused, PageRefused};
 use offsets::BoundsAnswer;
 use offsets::SubsetHead;
 use table::Header;

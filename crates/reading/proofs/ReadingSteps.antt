@@ -1,35 +1,35 @@
 -- The ways out of each function of reading.rt, and what its calls ask. Assumes nothing.
 use Prim.Native.Nat.{ℕ, _+_, _*_, _≤_, _<_}
 use mathlib.Core.Path.{_≡_, refl, sym, _∙_}
+use mathlib.Core.Option.{none, some as one}
 use mathlib.Core.List.{List}
 use native.Mathlib.Nat.{mul-le-mul}
 use native.Mathlib.Omega.{arith}
 use lib.ListN.{length, getD}
 use borrow.Author.Tests.{eq-eqb, ne-eqb}
 use Rattle.lists.specs.Laws.Rows.{row-in, getD-rowAt}
-use Rattle.refusals.specs.Laws.{reply-refused, reply-accepted, verdict-refused, verdict-accepted}
+use Rattle.refusals.specs.Laws.Replies.{reply-refused, reply-accepted, verdict-refused, verdict-accepted}
 use Rattle.cells.specs.Cells.{compact, keyHash}
 use Rattle.offsets.specs.Subsets.{range}
 use Rattle.constraints.specs.declared.Constraint.{Constraint}
 use Rattle.sort_entries.specs.declared.Range.{Range as Rows}
-use Rattle.sort_entries.specs.Search.{Held, Ranged}
+use Rattle.sort_entries.specs.inner.Search.{Held, Ranged}
+use Rattle.lists.specs.Lists.{rowAt}
 use Rattle.key_index.specs.declared.Keyed.{Keyed}
 use Rattle.key_index.specs.declared.Found.{Found}
 use Rattle.key_index.specs.declared.Found.the-variants.{None, At}
-use Rattle.key_index.specs.Index.{Fits, FoundIs}
-use Rattle.plain.specs.Plain.{Plain, none as noNumber, one as oneNumber}
-use Rattle.plain.specs.Proper.{rowOf}
+use Rattle.key_index.specs.inner.Index.{Fits, FoundIs}
+use Rattle.plain.specs.Plain.{Plain, lookup}
 use Rattle.table.specs.declared.Header.{Header}
 use Rattle.table.specs.declared.RowAnswer.the-variants.{Refused as RowRefused, None as NoRow, Row}
 use Rattle.table.specs.declared.CellAnswer.the-variants.{Refused as CellRefused, None as NoCell, Cell}
 use Rattle.table.specs.declared.RangeAnswer.the-variants.{Refused as RangeRefused, None as NoRange, Range}
 use Rattle.table.specs.declared.VersionAnswer.the-variants.{Refused as VersionRefused, Version as Versioned}
-use Rattle.table.specs.Numbers.{none, one, rowSays, cellSays, rangeSays, versionSays}
+use Rattle.table.specs.Numbers.{rowSays, cellSays, rangeSays, versionSays}
 use Rattle.table.specs.Refusing.{lookupRefusal, cellRefusal, fastRefusal, versionRefusal, sinceRefusal}
 use Rattle.table.specs.Sound.{keyedOf}
-use Rattle.table.specs.Promises.{stores, Represents, numberFound, cellFound, lookup, LookedUp, CellRead, fastSubset, RangeRead, VersionRead, RowsSince}
-use Rattle.table.specs.Laws.Shown.{in-live, live-cells}
-use Rattle.table.specs.Laws.Lookup.{row-lookup, none-lookup}
+use Rattle.table.specs.Promises.{stores, Represents, LookedUp, CellRead, fastSubset, RangeRead, VersionRead, RowsSince}
+use Rattle.table.specs.Laws.Lookup.{row-lookup, none-found as nothing-found}
 use Rattle.table.specs.Laws.Refusals.{Lookable, lookup-accepted, Readable, cell-accepted, fast-accepted, inside-fits}
 
 -- ---- *Key lookup*, *one cell*
@@ -66,21 +66,16 @@ module _ (h : Header) (rows keys key : List ℕ) where
     found-is = rw e at f
 
     module _ {p : Plain} (sorts pending : List ℕ) (r : Represents p (stores h rows keys sorts pending)) where
-      none-found : found ≡ None → lookup p key ≡ noNumber
-      none-found q = none-lookup r key (found-is .none hashed (r .keyed) q)
+      none-found : found ≡ None → lookup p key ≡ none
+      none-found q = nothing-found r key (found-is .none hashed (r .keyed) q)
 
-      row-found : (row slot : ℕ) → found ≡ At row slot → lookup p key ≡ oneNumber row
+      row-found : (row slot : ℕ) → found ≡ At row slot → lookup p key ≡ one (record { number = row; cells = rowAt (h .columns) row rows })
       row-found row slot q =
           let a = found-is .at hashed (r .keyed) row slot q in
           row-lookup r key row (a .live) (a .key-is)
 
-      row-cells : (row slot column : ℕ) → found ≡ At row slot → column < h .columns → getD (rowOf p row .cells) column 0 ≡ getD rows (row * h .columns + column) 0
-      row-cells row slot column q k =
-          let a = found-is .at hashed (r .keyed) row slot q in
-          rw (live-cells r row (in-live r row (a .live))) (getD-rowAt (h .columns) row rows column 0 k)
-
     pub row-none : (n : ℕ) → n ≡ lookupRefusal h (length rows) (length keys) (length key) → n ≡ 0 → found ≡ None → LookedUp h rows keys key NoRow
-    unfolding rowSays numberFound
+    unfolding rowSays
     row-none n number zero-is q =
         record {
           refusal = verdict-accepted _ _ none refl (sym number ∙ zero-is);
@@ -88,7 +83,7 @@ module _ (h : Header) (rows keys key : List ℕ) where
         }
 
     pub row-some : (n row slot : ℕ) → n ≡ lookupRefusal h (length rows) (length keys) (length key) → n ≡ 0 → found ≡ At row slot → LookedUp h rows keys key (Row row)
-    unfolding rowSays numberFound
+    unfolding rowSays
     row-some n row slot number zero-is q =
         record {
           refusal = verdict-accepted _ _ (one row) refl (sym number ∙ zero-is);
@@ -100,7 +95,7 @@ module _ (h : Header) (rows keys key : List ℕ) where
       readable = cell-accepted h _ _ _ column (sym number ∙ zero-is)
 
       pub cell-none : found ≡ None → CellRead h rows keys key column NoCell
-      unfolding cellSays cellFound
+      unfolding cellSays
       cell-none q =
           record {
             refusal = verdict-accepted _ _ none refl (sym number ∙ zero-is);
@@ -121,11 +116,11 @@ module _ (h : Header) (rows keys key : List ℕ) where
           }
 
       pub cell-found : (row slot : ℕ) → found ≡ At row slot → CellRead h rows keys key column (Cell (getD rows (row * h .columns + column) 0))
-      unfolding cellSays cellFound
+      unfolding cellSays
       cell-found row slot q =
           record {
             refusal = verdict-accepted _ _ (one _) refl (sym number ∙ zero-is);
-            table = λ accepts sorts pending p r. rw (row-found sorts pending r row slot q, row-cells sorts pending r row slot column q (readable .column-there));
+            table = λ accepts sorts pending p r. rw (row-found sorts pending r row slot q, getD-rowAt (h .columns) row rows column 0 (readable .column-there));
           }
 
 -- ---- *Fast range*

@@ -10,15 +10,15 @@ use native.Mathlib.Omega.{arith}
 use lib.Dec.{eqb}
 use lib.ListN.{length, take, drop, getD}
 use borrow.Author.Tests.{eq-eqb, ne-eqb}
-use Rattle.key_index.specs.Index.{Fits}
+use Rattle.key_index.specs.inner.Index.{Fits}
 use Rattle.plain.specs.Staged.{Staged, insert, removeKey, removeRow, wordsOf}
 use Rattle.plain.specs.Plain.{Plain}
 use Rattle.table.specs.declared.Header.{Header}
 use Rattle.table.specs.Numbers.{openingOf}
 use Rattle.table.specs.Sound.{keyedOf}
 use Rattle.table.specs.Promises.{Stores, stores, Represents, SlotsPast}
-use Rattle.pending.specs.Steps.{Steps, withDead, Waiting, kindOf, RecordLength}
-use Rattle.removals.specs.Removals.{removed, removedAll, died, Removal, RemovalAt, Removed, Removable, Removals, RemovalNext, RemovedNext}
+use Rattle.pending.specs.inner.Becoming.{Steps, withDead, Waiting, kindOf, RecordLength}
+use Rattle.removals.specs.inner.Removals.{removed, removedAll, died, Removal, RemovalAt, Removed, Removable, Removals, RemovalNext, RemovedNext}
 use Rattle.pending.specs.Laws.Steps.{steps-refl, steps-then, waiting-start, words-some, waiting-next, waiting-kind, waiting-hash, waiting-key, waiting-row, waiting-row-key}
 use Rattle.pending.proofs.PassRecords.{Next, record-long}
 

@@ -10,20 +10,20 @@ use lib.ListN.{length, getD}
 use Rattle.lists.specs.Laws.Rows.{row-in, getD-rowAt}
 use Rattle.cells.specs.Cells.{isDead, compact, keyHash}
 use Rattle.constraints.specs.Constraints.{isLive}
-use Rattle.row_buffer.specs.Rows.{Staled}
+use Rattle.row_buffer.specs.inner.Rows.{Staled}
 use Rattle.key_index.specs.declared.Keyed.{Keyed}
 use Rattle.key_index.specs.declared.Found.{Found}
 use Rattle.key_index.specs.declared.Found.the-variants.{None, At}
 use Rattle.key_index.specs.Slots.{LiveAt, keyAt, slots, KeysSound}
-use Rattle.key_index.specs.Index.{Fits, FoundAt, FoundIs}
-use Rattle.key_gaps.specs.Gaps.{TakenOut}
+use Rattle.key_index.specs.inner.Index.{Fits, FoundAt, FoundIs}
+use Rattle.key_gaps.specs.inner.Gaps.{TakenOut}
 use Rattle.plain.specs.Staged.{removeKey, removeRow}
 use Rattle.plain.specs.Plain.{Plain}
 use Rattle.table.specs.declared.Header.{Header}
 use Rattle.table.specs.Sound.{keyedOf}
 use Rattle.table.specs.Promises.{stores, Represents}
-use Rattle.pending.specs.Steps.{Steps, withDead, hashOf}
-use Rattle.removals.specs.Removals.{Kills, Removal, died, removed}
+use Rattle.pending.specs.inner.Becoming.{Steps, withDead, hashOf}
+use Rattle.removals.specs.inner.Removals.{Kills, Removal, died, removed}
 use Rattle.table.specs.Laws.Shown.{in-live}
 use Rattle.pending.specs.Laws.Steps.{steps-refl}
 use Rattle.pending.specs.Laws.Dying.{dying, dying-steps, withoutKey-none, withoutKey-one, withoutRow-none, withoutRow-one, withoutRow-other}

@@ -1,2 +1,2 @@
-pub mod Removals
+pub mod inner
 pub mod Laws

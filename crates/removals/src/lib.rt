@@ -3,11 +3,11 @@
 ghost use mathlib.Core.Path.{_≡_};
 ghost use Prim.Native.Nat.{_<_};
 ghost use lib.ListN.{length};
-ghost use Rattle.key_index.specs.Index.{Fits};
+ghost use Rattle.key_index.specs.inner.Index.{Fits};
 ghost use Rattle.key_index.specs.Slots.{slots};
 ghost use Rattle.plain.specs.Staged.{removeKey, removeRow};
 ghost use Rattle.table.specs.Sound.{keyedOf};
-ghost use Rattle.removals.specs.Removals.{Kills, Removal, RemovalAt, Removed, Removable, Removals, RemovalNext, RemovedNext};
+ghost use Rattle.removals.specs.inner.Removals.{Kills, Removal, RemovalAt, Removed, Removable, Removals, RemovalNext, RemovedNext};
 use key_index::Found;
 use key_index::Keyed;
 use pending::record_length;

@@ -5,7 +5,7 @@ use mathlib.Core.Path.{_≡_, refl, _∙_}
 use mathlib.Core.List.{List}
 use native.Mathlib.Omega.{arith}
 use lib.ListN.{take, drop, getD}
-use Rattle.plain.specs.Plain.{Lengths}
+use Rattle.plain.specs.Refusing.{Lengths}
 use Rattle.table.specs.declared.Header.{Header}
 use Rattle.table.specs.declared.TableAnswer.{TableAnswer}
 use Rattle.table.specs.declared.TableAnswer.the-variants.{Refused as TableRefused, Table}
@@ -15,9 +15,9 @@ use Rattle.table.specs.declared.MergeAnswer.the-variants.{Refused as MergeRefus
 use Rattle.table.specs.Numbers.{tableSays, mergeSays}
 use Rattle.table.specs.Promises.{Stores, headerAfter, headerMerged}
 use Rattle.replay.specs.Encoding.{callOf, decoded}
-use Rattle.replay.specs.Replaying.{CallLength, Made, Replayed}
+use Rattle.replay.specs.inner.Replaying.{CallLength, Made, Replayed}
 use Rattle.replay.specs.Laws.Replaying.{none-made, made-then}
-use Rattle.replay.specs.Theorem.{replayed}
+use Rattle.replay.specs.Laws.Theorem.{replayed}
 
 -- ---- the header that an answer leaves
 

@@ -1,3 +1,4 @@
--- What may be relied on of the encoding and of calls that are replayed.
+-- What follows from the definitions.
 pub mod Encoding
 pub mod Replaying
+pub mod Theorem

@@ -1,4 +1,3 @@
 pub mod Encoding
-pub mod Replaying
+pub mod inner
 pub mod Laws
-pub mod Theorem

@@ -6,7 +6,7 @@ ghost use lib.ListN.{length};
 ghost use Rattle.table.specs.Numbers.{tableSays, mergeSays};
 ghost use Rattle.table.specs.Promises.{headerAfter, headerMerged, stores, lengths};
 ghost use Rattle.replay.specs.Encoding.{callOf, decoded};
-ghost use Rattle.replay.specs.Replaying.{CallLength, Made, MadeOnPending, Replayed};
+ghost use Rattle.replay.specs.inner.Replaying.{CallLength, Made, MadeOnPending, Replayed};
 use compaction::compact;
 use merge::merge;
 use opening::clear;

@@ -17,8 +17,8 @@ use Rattle.retain.specs.declared.Growing.{Growing}
 use Rattle.offsets.specs.declared.SubsetAnswer.the-variants.{Range, List as Ids}
 use Rattle.offsets.specs.Subsets.{range, list, shaped}
 use Rattle.offsets.specs.Answers.{Answered}
-use Rattle.retain.specs.Grow.{Grows, NextId, CanAdd, Adds, Begins, Ends, Pushes}
-use Rattle.offsets.specs.Laws.{answered-range, answered-list, lastOf-getD, shaped-list, shaped-countFrom}
+use Rattle.retain.specs.inner.Growing.{Grows, NextId, CanAdd, Adds, Begins, Ends, Pushes}
+use Rattle.offsets.specs.Laws.Subsets.{answered-range, answered-list, shaped-list, shaped-countFrom}
 
 -- ---- a push
 
@@ -272,6 +272,7 @@ ended-list g d = record { ends = ended }
         let r = s .as-list d in
         let k : suc (length xs) - 1 ≡ length xs = omega arith in
         let gap : x + suc (length xs) ≤ getD (x ∷ xs) (length xs) 0 = rw k at (r .gap) in
-        let last = lastOf-getD x xs in
-        let e : shaped (x ∷ xs) ≡ list (x ∷ xs) = shaped-list x xs (omega arith) in
+        let apart : (x ∷ xs) ≡ countFrom x (suc (length xs)) → ⊥ =
+        λ q. let last : getD (x ∷ xs) (length xs) 0 ≡ x + length xs = rw q (getD-countFrom x (suc (length xs)) (length xs) 0 (omega arith)) in omega arith in
+        let e : shaped (x ∷ xs) ≡ list (x ∷ xs) = shaped-list x xs apart in
         rw e (answered-list (x ∷ xs) output₀ (g .count) output (r .wrote))

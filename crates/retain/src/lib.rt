@@ -4,7 +4,7 @@ ghost use mathlib.Core.Path.{_≡_};
 ghost use Prim.Native.Nat.{_-_, _≤_, _<_};
 ghost use lib.ListN.{length};
 ghost use Rattle.lists.specs.Lists.{putAt, countFrom};
-ghost use Rattle.retain.specs.Grow.{CanAdd, Adds, Begins, Ends, Pushes};
+ghost use Rattle.retain.specs.inner.Growing.{CanAdd, Adds, Begins, Ends, Pushes};
 use offsets::SubsetAnswer;
 
 // The answer of `retain` over a range as it grows: a range start..end while the kept ids are neighbours, then the first

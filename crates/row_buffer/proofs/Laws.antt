@@ -17,7 +17,7 @@ use borrow.Rule.Slice.PartMut.{putMid}
 use Rattle.lists.specs.Lists.{putAt, same}
 use Rattle.lists.specs.Laws.Parts.{put-part, part-to-end, copy-step}
 use Rattle.row_buffer.specs.Ranks.{setBelow}
-use Rattle.row_buffer.specs.Laws.{ones-below}
+use Rattle.row_buffer.specs.Laws.Rows.{ones-below}
 
 -- ---- the copier inside a part
 

@@ -1,3 +1,3 @@
-pub mod Rows
 pub mod Ranks
+pub mod inner
 pub mod Laws

@@ -7,7 +7,7 @@ ghost use mathlib.Core.List.{_++_};
 ghost use lib.ListN.{length, take, drop, getD};
 ghost use Rattle.lists.specs.Lists.{putAt, same};
 ghost use Rattle.cells.specs.Cells.{isDead};
-ghost use Rattle.row_buffer.specs.Rows.{Staled};
+ghost use Rattle.row_buffer.specs.inner.Rows.{Staled};
 ghost use Rattle.row_buffer.specs.Ranks.{setBelow};
 
 // The row at `at` is dead.

@@ -2,6 +2,7 @@
 -- The definitions that it runs are those that the contracts cite. Assumes nothing.
 use Prim.Native.Nat.{ℕ, suc, _-_}
 use mathlib.Core.Bool.{Bool, true, false, _&&_, Bool·beq}
+use mathlib.Core.Option.{Option, none, some}
 use mathlib.Core.List.{List, [], _∷_, _++_, map}
 use lib.ListN.{length, getD, replicate}
 use lib.Dec.{eqb}
@@ -14,11 +15,10 @@ use Rattle.constraints.specs.declared.Constraint.{Constraint}
 use Rattle.row_buffer.specs.Ranks.{setBelow, liveWord, newNumber}
 use Rattle.sort_entries.specs.Entries.{Entry, entry, fastRange}
 use Rattle.plain.specs.Staged.{Opening, insert}
-use Rattle.plain.specs.Merging.{Inserted}
-use Rattle.plain.specs.Plain.{Row, Plain, Numbered, liveRows, Lengths, opened, merged, compacted}
+use Rattle.plain.specs.Plain.{Inserted, Row, Plain, Numbered, liveRows, opened, merged, compacted}
+use Rattle.plain.specs.Refusing.{Lengths}
 use Rattle.plain.specs.Calls.{staging, merging, Lent, afterAll}
 use Rattle.table.specs.declared.Header.{Header}
-use Rattle.table.specs.Numbers.{Maybe, none, one}
 use Rattle.queries.specs.Queries.{refineOneReply, refineListReply, PageReply, pageReply}
 
 pub data Example : Type 0 where
@@ -29,7 +29,7 @@ pub data Example : Type 0 where
   -- a table of one column with these cells, and the rows of a range whose cell is 7: refined by one, and by a list
   refines : List ℕ → Subset → Subset → Subset → Example
   -- a subset of a table of so many live rows, a start place, n, the ids written and the next place
-  pages : ℕ → Subset → ℕ → ℕ → List ℕ → Maybe ℕ → Example
+  pages : ℕ → Subset → ℕ → ℕ → List ℕ → Option ℕ → Example
   -- dead rows, row count, and whether a merge of such a table, with nothing staged, compacts
   goes : ℕ → ℕ → Bool → Example
   -- which rows are live, a row, and its number after a compaction: as the rows close up, and by its word of live marks
@@ -52,10 +52,10 @@ examples =
     -- (e)
     ∷ refines (5 ∷ 7 ∷ 7 ∷ 5 ∷ []) (range 0 4) (range 1 3) (list (1 ∷ 2 ∷ []))
     -- (f)
-    ∷ pages 10 (range 0 10) 4 5 (4 ∷ 5 ∷ 6 ∷ 7 ∷ 8 ∷ []) (one 9)
+    ∷ pages 10 (range 0 10) 4 5 (4 ∷ 5 ∷ 6 ∷ 7 ∷ 8 ∷ []) (some 9)
     ∷ pages 10 (range 0 10) 4 6 (4 ∷ 5 ∷ 6 ∷ 7 ∷ 8 ∷ 9 ∷ []) none
     -- (g)
-    ∷ pages 10 (list (2 ∷ 4 ∷ 6 ∷ [])) 1 0 [] (one 1)
+    ∷ pages 10 (list (2 ∷ 4 ∷ 6 ∷ [])) 1 0 [] (some 1)
     ∷ pages 10 (list (2 ∷ 4 ∷ 6 ∷ [])) 3 0 [] none
     -- (h)
     ∷ goes 16 32 false
@@ -86,13 +86,13 @@ abbrev pub isSubset : Reply Subset → Subset → Bool
 isSubset (refused n) subset = false
 isSubset (accepted answer) subset = sameSubset answer subset
 
-abbrev pub sameNext : Maybe ℕ → Maybe ℕ → Bool
+abbrev pub sameNext : Option ℕ → Option ℕ → Bool
 sameNext none none = true
-sameNext none (one b) = false
-sameNext (one a) none = false
-sameNext (one a) (one b) = eqb a b
+sameNext none (some b) = false
+sameNext (some a) none = false
+sameNext (some a) (some b) = eqb a b
 
-abbrev pub isPage : Reply PageReply → List ℕ → Maybe ℕ → Bool
+abbrev pub isPage : Reply PageReply → List ℕ → Option ℕ → Bool
 isPage (refused n) ids next = false
 isPage (accepted page) ids next = same (page .ids) ids && sameNext (page .next) next
 
@@ -147,7 +147,7 @@ cellsAt p i = getD (p .rows) i (record { live = false; cells = [] }) .cells
 abbrev pub tableOf : List Row → Plain
 tableOf rows = record { opening = oneCell; generation = 0; rows = rows; staged = [] }
 
-abbrev pub mergeAfter : List (List ℕ) → List (List ℕ) → Inserted Plain
+abbrev pub mergeAfter : List (List ℕ) → List (List ℕ) → Inserted
 mergeAfter before now =
     merged (afterAll (afterAll (afterAll (opened levels 0) (stagings before)) mergeCall) (stagings now))
 

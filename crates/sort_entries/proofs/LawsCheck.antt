@@ -19,7 +19,7 @@ use Rattle.constraints.specs.Constraints.{isLive}
 use Rattle.sort_entries.specs.Entries.{Entry, entry, entriesOf, firstRow, valueAt, entriesSound}
 use Rattle.sort_entries.specs.Laws.Stores.{length-entriesOf}
 use Rattle.sort_entries.specs.Laws.Sound.{valueOf, rowOf, value-word, row-word, sound-first, sound-facts, sound-of}
-use Rattle.sort_entries.specs.Checks.{Told, told-yes, told-no, Follows, Advanced, headValue, cellSound, cellsSound}
+use Rattle.sort_entries.specs.inner.Checks.{Told, told-yes, told-no, Follows, Advanced, headValue, cellSound, cellsSound}
 
 -- ---- one entry
 

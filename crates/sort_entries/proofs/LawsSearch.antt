@@ -10,14 +10,14 @@ use lib.ListN.{length, drop, getD}
 use lib.Dec.{eqb}
 use borrow.Author.Tests.{ne-eqb}
 use Rattle.offsets.specs.Subsets.{Subset, range}
-use Rattle.sort_entries.specs.Entries.{entriesOf, firstRow, Place, found, absent, rangeAt, fastRange, entriesSound}
+use Rattle.sort_entries.specs.Entries.{entriesOf, firstRow, Position, found, absent, rangeAt, fastRange, entriesSound}
 use Rattle.sort_entries.specs.Laws.Stores.{length-entriesOf}
 use Rattle.sort_entries.specs.Laws.Sound.{valueOf, value-word, row-word, sound-facts, firstRow-drop, firstRow-past}
 use Rattle.sort_entries.specs.Laws.Ranges.{place-found, place-absent}
 use Rattle.sort_entries.specs.declared.Standing.the-variants.{Found, Absent}
 use Rattle.sort_entries.specs.declared.Standing.{Standing}
 use Rattle.sort_entries.specs.declared.Range.{Range}
-use Rattle.sort_entries.specs.Search.{Located, Stands, Ranged, standsAt, rangeOf}
+use Rattle.sort_entries.specs.inner.Search.{Located, Stands, Ranged, standsAt, rangeOf}
 
 pub begin : (store : List ℕ) (n v : ℕ) → Located store n v 0 n
 begin store n v = record { order = omega arith; inside = omega arith; below = λ i e. absurd (omega arith); above = λ h. absurd (omega arith) }
@@ -116,4 +116,4 @@ absent-rest kind g rows a b =
 pub ranged : (store : List ℕ) (n rows kind v : ℕ) (s t : Standing) (r : Range) → Stands store n rows v s → s ≡ t → rangeOf r ≡ rangeAt kind (standsAt t) rows → Ranged store n rows kind v r
 unfolding fastRange
 ranged store n rows kind v s t r p q e =
-    record { is = λ sound. e ∙ ap (λ (x : Standing). rangeAt kind (standsAt x) rows) (sym q) ∙ ap (λ (x : Place). rangeAt kind x rows) (p .is sound) }
+    record { is = λ sound. e ∙ ap (λ (x : Standing). rangeAt kind (standsAt x) rows) (sym q) ∙ ap (λ (x : Position). rangeAt kind x rows) (p .is sound) }

@@ -1,6 +1,6 @@
 -- Sort entries (document 01, "Sort entries"): appending, rebuilding, and the fast range. Assumes nothing.
 use Prim.Native.Nat.{ℕ, zero, suc, _+_}
-use mathlib.Core.Bool.{Bool, true, cond, not, _&&_}
+use mathlib.Core.Bool.{Bool, true, cond, _&&_}
 use mathlib.Core.List.{List, [], _∷_, _++_, map}
 use lib.ListN.{drop, getD}
 use lib.Dec.{leb, ltb, eqb}
@@ -30,10 +30,6 @@ last test [] = true
 last test (e ∷ []) = test (e .value)
 last test (e ∷ (f ∷ es)) = last test (f ∷ es)
 
--- not "sort value below the last entry's"
-unfoldable pub admits : ℕ → List Entry → Bool
-admits value es = last (λ v. leb v value) es
-
 -- the entries after a row of this sort value is appended: one more only if the value rises
 unfoldable pub push : ℕ → ℕ → List Entry → List Entry
 push value row es = cond (last (λ v. ltb v value) es) (es ++ (entry value row ∷ [])) es
@@ -43,7 +39,7 @@ unfoldable pub pushAll : ℕ → List ℕ → List Entry → List Entry
 pushAll row [] es = es
 pushAll row (value ∷ values) es = pushAll (suc row) values (push value row es)
 
--- "Sort entries are rebuilt from live rows": their sort cells, numbered from 0
+-- the entries of rows of these sort values, numbered from 0. A compaction's are "rebuilt from live rows": it has no others
 unfoldable pub rebuilt : List ℕ → List Entry
 rebuilt values = pushAll 0 values []
 
@@ -54,17 +50,17 @@ firstRow (e ∷ es) rows = e .row
 
 -- where a value stands: "f the row of an entry of value v, b the next entry's row or the row count", or, without such an
 -- entry, "g the row of the first entry above v or the row count"
-pub data Place : Type 0 where
-  found : ℕ → ℕ → Place
-  absent : ℕ → Place
+pub data Position : Type 0 where
+  found : ℕ → ℕ → Position
+  absent : ℕ → Position
 
-unfoldable pub place : ℕ → List Entry → ℕ → Place
-place v [] rows = absent rows
-place v (e ∷ es) rows =
-    cond (ltb (e .value) v) (place v es rows) (cond (eqb (e .value) v) (found (e .row) (firstRow es rows)) (absent (e .row)))
+unfoldable pub position : ℕ → List Entry → ℕ → Position
+position v [] rows = absent rows
+position v (e ∷ es) rows =
+    cond (ltb (e .value) v) (position v es rows) (cond (eqb (e .value) v) (found (e .row) (firstRow es rows)) (absent (e .row)))
 
 -- kinds 1 to 5: equal, less, greater, at most, at least
-unfoldable pub rangeAt : ℕ → Place → ℕ → Subset
+unfoldable pub rangeAt : ℕ → Position → ℕ → Subset
 rangeAt kind (found f b) rows =
     cond (eqb kind 1) (range f b)
     (cond (eqb kind 2) (range 0 f) (cond (eqb kind 3) (range b rows) (cond (eqb kind 4) (range 0 b) (range f rows))))
@@ -74,7 +70,7 @@ rangeAt kind (absent g) rows =
 
 -- the rows of a condition of kind 1 to 5 on the sort column
 unfoldable pub fastRange : ℕ → ℕ → List Entry → ℕ → Subset
-fastRange kind value es rows = rangeAt kind (place value es rows) rows
+fastRange kind value es rows = rangeAt kind (position value es rows) rows
 
 -- the value of the last entry at or below a row
 unfoldable pub valueAt : ℕ → List Entry → ℕ
@@ -82,10 +78,15 @@ valueAt row [] = 0
 valueAt row (e ∷ []) = e .value
 valueAt row (e ∷ (f ∷ es)) = cond (leb (f .row) row) (valueAt row (f ∷ es)) (e .value)
 
+-- "begin at row 0 where there is a row"; without a row there is no entry
+unfoldable pub begins : List Entry → ℕ → Bool
+begins [] rows = eqb rows 0
+begins (e ∷ es) rows = eqb (e .row) 0
+
 -- "sort entries rise strictly, lie below the row count and begin at row 0 where there is a row"
 unfoldable pub entriesSound : List Entry → ℕ → Bool
 entriesSound es rows =
     rising (map (λ e. e .value) es)
     && rising (map (λ e. e .row) es)
     && every (λ e. ltb (e .row) rows) es
-    && eqb (firstRow es rows) 0
+    && begins es rows

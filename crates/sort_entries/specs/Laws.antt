@@ -1,4 +1,4 @@
--- What may be relied on of the definitions of Entries.antt.
+-- What follows from the definitions.
 pub mod Stores
 pub mod Push
 pub mod Sound

@@ -1,5 +1,3 @@
 pub mod Entries
-pub mod Append
-pub mod Search
-pub mod Checks
+pub mod inner
 pub mod Laws

@@ -3,9 +3,9 @@ ghost use mathlib.Core.Path.{_≡_};
 ghost use Prim.Native.Nat.{_≤_, _<_};
 ghost use lib.ListN.{drop};
 ghost use Rattle.sort_entries.specs.Entries.{entriesOf, firstRow, rangeAt, entriesSound};
-ghost use Rattle.sort_entries.specs.Append.{Room, Append, Rebuild};
-ghost use Rattle.sort_entries.specs.Search.{Held, Located, Stands, Ranged, standsAt, rangeOf};
-ghost use Rattle.sort_entries.specs.Checks.{Told, Follows, Advanced, headValue, Cells, cellSound, cellsSound};
+ghost use Rattle.sort_entries.specs.inner.Append.{Room, Append, Rebuild};
+ghost use Rattle.sort_entries.specs.inner.Search.{Held, Located, Stands, Ranged, standsAt, rangeOf};
+ghost use Rattle.sort_entries.specs.inner.Checks.{Told, Follows, Advanced, headValue, Cells, cellSound, cellsSound};
 
 // What appending a row does to the entries: it is refused, its value is that of the last entry, or it has a new entry.
 pub enum Appended {

@@ -16,16 +16,15 @@ use Rattle.lists.specs.Lists.{count, rowAt, rowsOf}
 use Rattle.lists.specs.Laws.Keep.{count-append, count-le}
 use Rattle.lists.specs.Laws.Rows.{row-in, length-rowsOf, rowsOf-snoc, getD-rowAt}
 use Rattle.cells.specs.Cells.{isDead, compact, keyHash}
-use Rattle.row_buffer.specs.Laws.{key-row}
+use Rattle.row_buffer.specs.Laws.Rows.{key-row}
 use Rattle.constraints.specs.Constraints.{isLive}
 use Rattle.key_index.specs.declared.Keyed.{Keyed}
 use Rattle.key_index.specs.declared.Found.{Found}
 use Rattle.key_index.specs.declared.Found.the-variants.{None, At}
 use Rattle.key_index.specs.Slots.{LiveAt, keyAt, KeysSound}
-use Rattle.key_index.specs.Index.{Fits, FoundIs}
-use Rattle.key_index.specs.Laws.{KeysDiffer}
+use Rattle.key_index.specs.inner.Index.{Fits, FoundIs, KeysDiffer}
 use Rattle.sort_entries.specs.Entries.{entriesOf, entriesSound}
-use Rattle.sort_entries.specs.Checks.{Told, told-yes, told-no, cellsSound}
+use Rattle.sort_entries.specs.inner.Checks.{Told, told-yes, told-no, cellsSound}
 use Rattle.sort_entries.specs.Laws.Cells.{cells-live, cells-of}
 use Rattle.plain.specs.Staged.{Opening, Staged, insert, removeKey, removeRow, wordsOf}
 use Rattle.table.specs.declared.Header.{Header}
@@ -34,7 +33,7 @@ use Rattle.table.specs.Numbers.{openingOf, soundSays}
 use Rattle.table.specs.Refusing.{soundRefusal}
 use Rattle.table.specs.Sound.{keyedOf}
 use Rattle.table.specs.Promises.{Checked}
-use Rattle.soundness.specs.Checks.{deadRows, RowsSound, IndexSound, OwnIs, kindWords, keyPlace, keyWords, Begins, RecordRead, HoldsFrom, PendingWhole, SoundStores}
+use Rattle.soundness.specs.inner.Checks.{deadRows, RowsSound, IndexSound, OwnIs, kindWords, keyPlace, keyWords, Begins, RecordRead, HoldsFrom, PendingWhole, SoundStores}
 use Rattle.soundness.specs.Laws.Checks.{parts-sound, sound-rows, sound-index, sound-whole, own-dead, own-none, own-at, begins-words, begins-hash, words-begin, holds-cons, holds-head, holds-tail, holds-none, holds-some, holds-pending, pending-holds}
 
 -- ---- rows

@@ -1,2 +1,2 @@
-pub mod Stagings
+pub mod inner
 pub mod Laws

@@ -15,27 +15,28 @@ use Rattle.lists.specs.Laws.Parts.{putAt-nil}
 use Rattle.lists.specs.Laws.Keep.{split, and-left, and-right, keep-every, keep-length-every, length-keep, count-le}
 use Rattle.lists.specs.Laws.Rising.{length-countFrom, getD-countFrom}
 use Rattle.refusals.specs.Refusals.{refused, accepted, reply}
-use Rattle.refusals.specs.Laws.{reply-refused, reply-accepted}
+use Rattle.refusals.specs.Laws.Replies.{reply-refused, reply-accepted}
 use Rattle.offsets.specs.declared.SubsetHead.{SubsetHead}
 use Rattle.retain.specs.declared.Growing.{Growing}
 use Rattle.offsets.specs.declared.SubsetAnswer.{SubsetAnswer}
 use Rattle.offsets.specs.declared.SubsetAnswer.the-variants.{Refused, Range, List as Ids}
 use Rattle.offsets.specs.Subsets.{Subset, range, list, members, size, retain, narrowed}
-use Rattle.offsets.specs.Answers.{subsetOf, answerOf, written, Answered, Wrote}
-use Rattle.retain.specs.Grow.{Grows, Ends}
-use Rattle.offsets.specs.Laws.{dense-is, sparse-is, formed-order, length-members, answered-range, answered-list}
+use Rattle.offsets.specs.Answers.{subsetOf, subsetSays, shape, written, Answered}
+use Rattle.offsets.specs.inner.Writing.{Wrote}
+use Rattle.retain.specs.inner.Growing.{Grows, Ends}
+use Rattle.offsets.specs.Laws.Subsets.{dense-is, sparse-is, formed-order, length-members, answered-range, answered-list}
 use Rattle.constraints.specs.declared.Constraint.{Constraint}
 use Rattle.constraints.specs.Constraints.{known}
 use Rattle.table.specs.declared.Header.{Header}
 use Rattle.sweeping.specs.declared.Sweep.{Sweep}
 use Rattle.queries.specs.Queries.{matches, refineRefusal, visited, refineOneReply, refineListReply, RefinedOne, RefinedList}
-use Rattle.sweeping.specs.Sweeping.{RefineOpened, Finished, CanWrite, Writes, whole, CanClose, RefineClosed}
+use Rattle.sweeping.specs.inner.Sweeping.{RefineOpened, Finished, CanWrite, Writes, whole, CanClose, RefineClosed}
 
 -- ---- replies
 
 module _ (number : ℕ) (value : Subset) (output : List ℕ) where
   pub answered-refused : (n : ℕ) → n ≡ number → (n ≡ 0 → ⊥) → Answered (reply number value) output (Refused n) output
-  unfolding answerOf written
+  unfolding subsetSays shape written
   answered-refused n e z =
       let k : reply number value ≡ refused n = sym (reply-refused (refused n) number n value refl e z) in
       record { answers = rw k; writes = rw k (sym (putAt-nil output 0)) }

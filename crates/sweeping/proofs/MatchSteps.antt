@@ -9,16 +9,16 @@ use native.Mathlib.Omega.{arith}
 use lib.Dec.{ltb}
 use lib.ListN.{length, drop, getD, drop-of-length-le}
 use borrow.Author.Tests.{lt-ltb, le-ltb}
-use Rattle.lists.specs.Lists.{every, some, rowAt}
-use Rattle.lists.specs.Laws.Every.{some-step}
+use Rattle.lists.specs.Lists.{every, any, rowAt}
+use Rattle.lists.specs.Laws.Every.{any-step}
 use Rattle.lists.specs.Laws.Keep.{split}
 use Rattle.lists.specs.Laws.Rising.{length-countFrom}
 use Rattle.refusals.specs.Refusals.{refused, accepted}
-use Rattle.refusals.specs.Laws.{reply-refused, reply-accepted}
+use Rattle.refusals.specs.Laws.Replies.{reply-refused, reply-accepted}
 use Rattle.retain.specs.declared.Growing.{Growing}
 use Rattle.offsets.specs.Subsets.{Subset, members, size}
-use Rattle.retain.specs.Grow.{Begins}
-use Rattle.offsets.specs.Laws.{length-members}
+use Rattle.retain.specs.inner.Growing.{Begins}
+use Rattle.offsets.specs.Laws.Subsets.{length-members}
 use Rattle.constraints.specs.declared.Constraint.{Constraint}
 use Rattle.constraints.specs.Constraints.{known, isLive}
 use Rattle.table.specs.declared.Header.{Header}
@@ -26,8 +26,8 @@ use Rattle.queries.specs.declared.MatchAnswer.{MatchAnswer}
 use Rattle.queries.specs.declared.MatchAnswer.the-variants.{Refused as MatchIsRefused, Match}
 use Rattle.sweeping.specs.declared.Sweep.{Sweep}
 use Rattle.queries.specs.Queries.{matches, matchRefusal, matchReply, matchSays, Matched}
-use Rattle.sweeping.specs.Sweeping.{RowLies, Placed, foundSome, Lookable, MatchOpened, Looking, CanLook, Looks, Found, MatchClosed}
-use Rattle.queries.specs.Tests.{MatchRefused}
+use Rattle.sweeping.specs.inner.Sweeping.{RowLies, Placed, foundSome, Lookable, MatchOpened, Looking, CanLook, Looks, Found, MatchClosed}
+use Rattle.queries.specs.inner.Tests.{MatchRefused}
 use Rattle.sweeping.proofs.SweepSteps.{id-lies, id-small}
 
 -- ---- the beginning
@@ -105,8 +105,8 @@ module _ (h : Header) (rows : ℕ) (subset : Subset) (s : Sweep) (c : CanLook h 
   pub look-small : s .id < 65536
   look-small = rw (c .id-is) (id-small h rows subset (c .askable) (s .next) place-in)
 
-  look-step : (test : ℕ → Bool) → some test (drop (s .next) (members subset)) ≡ (test (s .id) || some test (drop (s .next + 1) (members subset)))
-  look-step test = rw (c .id-is) (some-step test 0 (members subset) (s .next) (omega (arith, place-in, length-members subset)))
+  look-step : (test : ℕ → Bool) → any test (drop (s .next) (members subset)) ≡ (test (s .id) || any test (drop (s .next + 1) (members subset)))
+  look-step test = rw (c .id-is) (any-step test 0 (members subset) (s .next) (omega (arith, place-in, length-members subset)))
 
 module _ (h : Header) (rows : List ℕ) (subset : Subset) (s : Sweep) (meets : Bool) (c : CanLook h (length rows) subset s) (s′ : Sweep) where
   pub looks-hit : (found : Growing) → found .start < found .end → (isLive (rowAt (h .columns) (s .id) rows) && meets) ≡ true → Placed subset (s .refused) (s .end) (s .end) found s′
@@ -126,11 +126,11 @@ module _ (h : Header) (rows : List ℕ) (subset : Subset) (s : Sweep) (meets : B
       }
     where
       hit : (test : ℕ → Bool) (s₀ : Sweep) → Looking subset test s₀ s → test (s .id) ≡ true → s .refused ≡ 0
-          → (foundSome (s′ .found) || some test (drop (s′ .next) (members subset))) ≡ some test (members subset)
+          → (foundSome (s′ .found) || any test (drop (s′ .next) (members subset))) ≡ any test (members subset)
       hit test s₀ v t z =
           let a : foundSome (s′ .found) ≡ true = rw (p .found-is) (unfold foundSome in lt-ltb (found .start) (found .end) f) in
-          let b : some test (drop (s .next) (members subset)) ≡ true = look-step h (length rows) subset s c test ∙ rw t in
-          let w : (foundSome (s .found) || true) ≡ some test (members subset) = rw b at (v .finds z) in
+          let b : any test (drop (s .next) (members subset)) ≡ true = look-step h (length rows) subset s c test ∙ rw t in
+          let w : (foundSome (s .found) || true) ≡ any test (members subset) = rw b at (v .finds z) in
           rw a (sym (or-true (foundSome (s .found))) ∙ w)
 
   pub looks-on : (isLive (rowAt (h .columns) (s .id) rows) && meets) ≡ false → Placed subset (s .refused) (s .next + 1) (s .end) (s .found) s′ → Looks h rows subset s meets s′
@@ -149,9 +149,9 @@ module _ (h : Header) (rows : List ℕ) (subset : Subset) (s : Sweep) (meets : B
       }
     where
       miss : (test : ℕ → Bool) (s₀ : Sweep) → Looking subset test s₀ s → test (s .id) ≡ false → s .refused ≡ 0
-          → (foundSome (s′ .found) || some test (drop (s′ .next) (members subset))) ≡ some test (members subset)
+          → (foundSome (s′ .found) || any test (drop (s′ .next) (members subset))) ≡ any test (members subset)
       miss test s₀ v t z =
-          let b : some test (drop (s .next) (members subset)) ≡ some test (drop (s .next + 1) (members subset)) = look-step h (length rows) subset s c test ∙ rw t in
+          let b : any test (drop (s .next) (members subset)) ≡ any test (drop (s .next + 1) (members subset)) = look-step h (length rows) subset s c test ∙ rw t in
           rw (p .found-is, p .next-is, ← b) (v .finds z)
 
 -- ---- the end
@@ -166,8 +166,8 @@ found-all h rows subset test s₀ l s v e =
           sym (or-false (foundSome (s .found))) ∙ ap (λ (b : Bool). foundSome (s .found) || b) (sym (none d)) ∙ v .finds z;
     }
   where
-    none : {m : List ℕ} → m ≡ [] → some test m ≡ false
-    none e = unfold some in rw e
+    none : {m : List ℕ} → m ≡ [] → any test m ≡ false
+    none e = unfold any in rw e
 
 module _ (s : Sweep) where
   pub match-refused : (s .refused ≡ 0 → ⊥) → MatchClosed s (MatchIsRefused (s .refused))
@@ -184,8 +184,8 @@ match-answered h rows subset conditions knows s k o s′ f answer c =
     record {
       answers =
           elim (ℕ-discrete (s′ .refused) 0) [
-            | yes z ↦ rw (c .tells z) (reply-accepted (accepted (foundSome (s′ .found))) (matchRefusal h (length rows) subset conditions) (some (matches h rows conditions) (members subset)) (ap accepted (f .finds z)) (sym number ∙ z))
-            | no n ↦ rw (c .refuses n) (reply-refused (refused (s′ .refused)) (matchRefusal h (length rows) subset conditions) (s′ .refused) (some (matches h rows conditions) (members subset)) refl number n)
+            | yes z ↦ rw (c .tells z) (reply-accepted (accepted (foundSome (s′ .found))) (matchRefusal h (length rows) subset conditions) (any (matches h rows conditions) (members subset)) (ap accepted (f .finds z)) (sym number ∙ z))
+            | no n ↦ rw (c .refuses n) (reply-refused (refused (s′ .refused)) (matchRefusal h (length rows) subset conditions) (s′ .refused) (any (matches h rows conditions) (members subset)) refl number n)
           ];
     }
   where

@@ -2,6 +2,7 @@
 use Prim.Native.Nat.{ℕ, _+_, _-_, _≤_, _<_, min}
 use mathlib.Core.Path.{_≡_, refl, sym, ap, ap₂, _∙_}
 use mathlib.Core.Bool.{Bool, false, cond}
+use mathlib.Core.Option.{Option, none, some}
 use mathlib.Core.List.{List}
 use native.Mathlib.Decide.{decLt, ℕ-discrete}
 use native.Mathlib.Omega.{arith}
@@ -12,15 +13,14 @@ use borrow.Author.Tests.{lt-ltb, le-ltb}
 use Rattle.lists.specs.Lists.{putAt, keep, every}
 use Rattle.lists.specs.Laws.Parts.{putAt-nil}
 use Rattle.refusals.specs.Refusals.{Reply, refused, accepted}
-use Rattle.refusals.specs.Laws.{reply-refused, reply-accepted}
+use Rattle.refusals.specs.Laws.Replies.{reply-refused, reply-accepted}
 use Rattle.retain.specs.declared.Growing.{Growing}
-use Rattle.offsets.specs.Subsets.{Subset, range, list, members, size, endOf}
-use Rattle.retain.specs.Grow.{Grows, Begins}
-use Rattle.offsets.specs.Laws.{formed-short, length-members}
+use Rattle.offsets.specs.Subsets.{Subset, range, list, members, size, endOf, bounds}
+use Rattle.retain.specs.inner.Growing.{Grows, Begins}
+use Rattle.offsets.specs.Laws.Subsets.{formed-short, length-members}
 use Rattle.constraints.specs.declared.Constraint.{Constraint}
 use Rattle.constraints.specs.Constraints.{known}
 use Rattle.table.specs.declared.Header.{Header}
-use Rattle.table.specs.Numbers.{Maybe, none, one}
 use Rattle.table.specs.Laws.Refusals.{outside-inside}
 use Rattle.queries.specs.declared.NextPlace.{NextPlace}
 use Rattle.queries.specs.declared.NextPlace.the-variants.{None, At}
@@ -28,9 +28,9 @@ use Rattle.queries.specs.declared.Page.{Page}
 use Rattle.queries.specs.declared.PageAnswer.{PageAnswer}
 use Rattle.queries.specs.declared.PageAnswer.the-variants.{Refused as PageIsRefused, Page as Paged}
 use Rattle.sweeping.specs.declared.Sweep.{Sweep}
-use Rattle.queries.specs.Queries.{matches, pageRefusal, visited, nextPlace, PageReply, pageReply, nextOf, pageOf, pageWrites, PageRead}
-use Rattle.sweeping.specs.Sweeping.{Placed, PageOpened, Finished, Writes, nextAt, CanPage, PageClosed}
-use Rattle.queries.specs.Tests.{Askable, PageRefused}
+use Rattle.queries.specs.Queries.{matches, pageRefusal, visited, nextPlace, PageReply, nextSays, PageTold, pageSays, pageTold, pageReply, pageWrites, PageRead}
+use Rattle.sweeping.specs.inner.Sweeping.{nextOf, Placed, PageOpened, Finished, Writes, nextAt, CanPage, PageClosed}
+use Rattle.queries.specs.inner.Tests.{Askable, PageRefused}
 use Rattle.sweeping.proofs.SweepSteps.{below-of, kept-few}
 use Rattle.sweeping.proofs.AnswerSteps.{unwritten}
 
@@ -82,7 +82,7 @@ unfolding size
 size-few h rows (range a b) q =
     let i = outside-inside h (q .inside) in
     let e : endOf (range a b) ≤ h .rows = below-of h (range a b) (q .below) in
-    let f : endOf (range a b) ≡ b = unfold endOf in refl in
+    let f : endOf (range a b) ≡ b = unfold endOf bounds in refl in
     omega (arith, i .rows-fit, i .bounds .capacity-few)
 size-few h rows (list ids) q = formed-short ids (q .formed)
 
@@ -123,11 +123,16 @@ visited-end subset start n =
           ap (λ (i : ℕ). take i l) m ∙ take-all (size subset - start) l (omega arith) ∙ sym (take-all n l (omega arith))
     ]
 
+next-back : (m : Option ℕ) → nextSays (nextOf m) ≡ m
+unfolding nextSays nextOf
+next-back none = refl
+next-back (some place) = refl
+
 next-is : (subset : Subset) (start n : ℕ) → start ≤ size subset → nextAt subset (start + min n (size subset - start)) ≡ nextPlace subset start n
 unfolding nextAt nextPlace
 next-is subset start n l =
     elim (decLt (start + n) (size subset)) [
-      | yes q ↦ let m : start + min n (size subset - start) ≡ start + n = omega arith in ap (λ (i : ℕ). cond (ltb i (size subset)) (one i) none) m
+      | yes q ↦ let m : start + min n (size subset - start) ≡ start + n = omega arith in ap (λ (i : ℕ). cond (ltb i (size subset)) (some i) none) m
       | no q ↦
           let a : ltb (start + min n (size subset - start)) (size subset) ≡ false = le-ltb (start + min n (size subset - start)) (size subset) (omega arith) in
           let b : ltb (start + n) (size subset) ≡ false = le-ltb (start + n) (size subset) (omega arith) in
@@ -170,7 +175,7 @@ module _ (h : Header) (rows : List ℕ) (subset : Subset) (start n : ℕ) (condi
         | yes z ↦
             let q = c .pages (f .refused-is ∙ z) output _ (page-kept z) in
             let e : nextAt subset (s′ .end) ≡ nextPlace subset start n = ap (nextAt subset) (f .end-is ∙ o .places z .1) ∙ next-is subset start n (o .within z) in
-            accepts (sym number ∙ z) (q .0 ∙ ap (λ (m : Maybe ℕ). Paged (record { written = length (keep keeps (visited subset start n)); next = nextOf m })) e) (q .1)
+            accepts (sym number ∙ z) (q .0 ∙ ap (λ (m : Option ℕ). Paged (record { written = length (keep keeps (visited subset start n)); next = nextOf m })) e) (q .1)
         | no m ↦ let q = c .refuses (λ z. m (sym (f .refused-is) ∙ z)) in refuses (s′ .refused) (f .refused-is ∙ number) (λ z. m (sym (f .refused-is) ∙ z)) (q .0) (q .1 ∙ nothing-written m)
       ]
     where
@@ -182,11 +187,11 @@ module _ (h : Header) (rows : List ℕ) (subset : Subset) (start n : ℕ) (condi
 
       accepts : pageRefusal h (length rows) subset start n conditions (length output) ≡ 0 → answer ≡ Paged (record { written = length (keep keeps (visited subset start n)); next = nextOf (nextPlace subset start n) })
           → output″ ≡ putAt output 0 (keep keeps (visited subset start n)) → PageRead h rows subset start n conditions output answer output″
-      accepts z p q = unfold pageReply pageOf pageWrites in
+      accepts z p q = unfold pageReply pageSays pageTold pageWrites in
           let e = reply-accepted (accepted read) (pageRefusal h (length rows) subset start n conditions (length output)) read refl z in
-          record { answers = p ∙ ap pageOf e; writes = q ∙ ap (λ (r : Reply PageReply). putAt output 0 (pageWrites r)) e }
+          record { answers = ap pageSays p ∙ ap (λ (m : Option ℕ). accepted (record { written = length (keep keeps (visited subset start n)); next = m })) (next-back (nextPlace subset start n)) ∙ ap pageTold e; writes = q ∙ ap (λ (r : Reply PageReply). putAt output 0 (pageWrites r)) e }
 
       refuses : (m : ℕ) → m ≡ pageRefusal h (length rows) subset start n conditions (length output) → (m ≡ 0 → ⊥) → answer ≡ PageIsRefused m → output″ ≡ output → PageRead h rows subset start n conditions output answer output″
-      refuses m z l p q = unfold pageReply pageOf pageWrites in
+      refuses m z l p q = unfold pageReply pageSays pageTold pageWrites in
           let e = reply-refused (refused m) (pageRefusal h (length rows) subset start n conditions (length output)) m read refl z l in
-          record { answers = p ∙ ap pageOf e; writes = q ∙ sym (putAt-nil output 0) ∙ ap (λ (r : Reply PageReply). putAt output 0 (pageWrites r)) e }
+          record { answers = ap pageSays p ∙ ap pageTold e; writes = q ∙ sym (putAt-nil output 0) ∙ ap (λ (r : Reply PageReply). putAt output 0 (pageWrites r)) e }

@@ -16,8 +16,8 @@ use Rattle.offsets.specs.declared.SubsetHead.{SubsetHead}
 use Rattle.retain.specs.declared.Growing.{Growing}
 use Rattle.offsets.specs.Subsets.{Subset, members, size, endOf}
 use Rattle.offsets.specs.Answers.{subsetOf}
-use Rattle.retain.specs.Grow.{Grows, NextId, CanAdd, Adds, Begins}
-use Rattle.offsets.specs.Laws.{dense-is, sparse-is, rising-members, length-members, members-below}
+use Rattle.retain.specs.inner.Growing.{Grows, NextId, CanAdd, Adds, Begins}
+use Rattle.offsets.specs.Laws.Subsets.{dense-is, sparse-is, rising-members, length-members, members-below}
 use Rattle.constraints.specs.declared.Constraint.{Constraint}
 use Rattle.constraints.specs.Constraints.{known, isLive, met, meets}
 use Rattle.table.specs.declared.Header.{Header}
@@ -25,8 +25,8 @@ use Rattle.table.specs.Refusing.{rowsShort}
 use Rattle.table.specs.Laws.Refusals.{outside-inside}
 use Rattle.sweeping.specs.declared.Sweep.{Sweep}
 use Rattle.queries.specs.Queries.{matches, pastRows, visited}
-use Rattle.sweeping.specs.Sweeping.{RowLies, passes, Placed, Sweepable, RefineOpened, Swept, KeepsRow, Decides, Steps, Finished, CanWrite, Writes}
-use Rattle.queries.specs.Tests.{Askable, RefineRefused}
+use Rattle.sweeping.specs.inner.Sweeping.{RowLies, passes, Placed, Sweepable, RefineOpened, Swept, KeepsRow, Decides, Steps, Finished, CanWrite, Writes}
+use Rattle.queries.specs.inner.Tests.{Askable, RefineRefused}
 
 -- ---- a place's id, by the subset's kind
 

@@ -14,12 +14,12 @@ use Rattle.refusals.specs.Refusals.{Rung, rung, first}
 use Rattle.constraints.specs.declared.Constraint.{Constraint}
 use Rattle.constraints.specs.Constraints.{known}
 use Rattle.plain.specs.Staged.{Opening, openable}
-use Rattle.plain.specs.Plain.{Lengths, storesShort, wordsShort, openRefusal}
+use Rattle.plain.specs.Refusing.{Lengths, storesShort, wordsShort, openRefusal, compactLadder, mergeLadder, clearLadder}
 use Rattle.plain.specs.Laws.Calls.{first-no, first-rest}
 use Rattle.plain.specs.Laws.Proper.{Bounds, openable-bounds}
 use Rattle.table.specs.declared.Header.{Header}
 use Rattle.table.specs.Numbers.{openingOf}
-use Rattle.table.specs.Refusing.{outside, pendingOutside, rowsShort, pairsShort, mergeRefusal, compactRefusal, clearRefusal, lookupRefusal, cellRefusal, fastRefusal, versionRefusal, sinceRefusal, soundRefusal}
+use Rattle.table.specs.Refusing.{outside, pendingOutside, rowsShort, pairsShort, mergeRefusal, compactRefusal, clearRefusal, lookupRefusal, cellRefusal, fastRefusal, versionRefusal, sinceRefusal, soundRefusal, lookupTests}
 use Rattle.table.specs.Laws.Refusals.{Inside, outside-inside}
 
 not-leb : (a b : ℕ) → ltb b a ≡ not (leb a b)
@@ -177,11 +177,11 @@ module _ (h : Header) where
     -- ---- *Merge*
 
     merge-outside : pendingOutside h (l .pending) ≡ true → 1 ≡ mergeRefusal h l
-    unfolding mergeRefusal first
+    unfolding mergeRefusal first mergeLadder
     merge-outside e = rw e
 
     merge-stores : pendingOutside h (l .pending) ≡ false → storesShort (openingOf h) l ≡ true → 2 ≡ mergeRefusal h l
-    unfolding mergeRefusal first
+    unfolding mergeRefusal first mergeLadder
     merge-stores e s = rw (e, s)
 
     -- what the soundness check turns away, with the same number
@@ -193,91 +193,91 @@ module _ (h : Header) where
         ]
 
     pub merge-words : soundRefusal h (l .rows) (l .keys) (l .sorts) (l .pending) ≡ 0 → wordsShort (openingOf h) l ≡ true → 2 ≡ mergeRefusal h l
-    unfolding mergeRefusal first
+    unfolding mergeRefusal first mergeLadder
     merge-words e w = let c = sound-clear e in rw (c .0, c .1, w)
 
     pub merge-none : soundRefusal h (l .rows) (l .keys) (l .sorts) (l .pending) ≡ 0 → wordsShort (openingOf h) l ≡ false → 0 ≡ mergeRefusal h l
-    unfolding mergeRefusal first
+    unfolding mergeRefusal first mergeLadder
     merge-none e w = let c = sound-clear e in rw (c .0, c .1, w)
 
     -- ---- *Compact*
 
     pub compact-outside : outside h ≡ true → 1 ≡ compactRefusal h l
-    unfolding compactRefusal first
+    unfolding compactRefusal first compactLadder
     compact-outside e = rw e
 
     pub compact-stores : outside h ≡ false → storesShort (openingOf h) l ≡ true → 2 ≡ compactRefusal h l
-    unfolding compactRefusal first
+    unfolding compactRefusal first compactLadder
     compact-stores e s = rw (e, s)
 
     module _ (e : outside h ≡ false) (s : storesShort (openingOf h) l ≡ false) where
       pub compact-words : wordsShort (openingOf h) l ≡ true → 2 ≡ compactRefusal h l
-      unfolding compactRefusal first
+      unfolding compactRefusal first compactLadder
       compact-words w = rw (e, s, w)
 
       pub compact-last : wordsShort (openingOf h) l ≡ false → h .generation ≡ 4294967295 → 10 ≡ compactRefusal h l
-      unfolding compactRefusal first
+      unfolding compactRefusal first compactLadder
       compact-last w g = rw (e, s, w, eq-eqb _ _ g)
 
       pub compact-none : wordsShort (openingOf h) l ≡ false → (h .generation ≡ 4294967295 → ⊥) → 0 ≡ compactRefusal h l
-      unfolding compactRefusal first
+      unfolding compactRefusal first compactLadder
       compact-none w g = rw (e, s, w, ne-eqb _ _ g)
 
   -- ---- *Clear*
 
   module _ (keys : ℕ) where
     pub clear-outside : outside h ≡ true → 1 ≡ clearRefusal h keys
-    unfolding clearRefusal first
+    unfolding clearRefusal first clearLadder pairsShort
     clear-outside e = rw e
 
     pub clear-short : outside h ≡ false → pairsShort h keys ≡ true → 2 ≡ clearRefusal h keys
-    unfolding clearRefusal first
+    unfolding clearRefusal first clearLadder pairsShort
     clear-short e s = rw (e, s)
 
     module _ (e : outside h ≡ false) (s : pairsShort h keys ≡ false) where
       pub clear-early : (h .generation ≡ 4294967295 → ⊥) → 0 ≡ clearRefusal h keys
-      unfolding clearRefusal first
+      unfolding clearRefusal first clearLadder pairsShort
       clear-early g = rw (e, s, ne-eqb _ _ g)
 
       pub clear-empty : h .generation ≡ 4294967295 → h .rows ≡ 0 → 0 ≡ clearRefusal h keys
-      unfolding clearRefusal first
+      unfolding clearRefusal first clearLadder pairsShort
       clear-empty g n = rw (e, s, eq-eqb _ _ g, le-ltb 0 (h .rows) (omega arith))
 
       pub clear-last : h .generation ≡ 4294967295 → (h .rows ≡ 0 → ⊥) → 10 ≡ clearRefusal h keys
-      unfolding clearRefusal first
+      unfolding clearRefusal first clearLadder pairsShort
       clear-last g n = rw (e, s, eq-eqb _ _ g, lt-ltb 0 (h .rows) (omega arith))
 
   -- ---- *Key lookup*, *one cell*
 
   module _ (rows keys cells : ℕ) where
     pub lookup-outside : outside h ≡ true → 1 ≡ lookupRefusal h rows keys cells
-    unfolding lookupRefusal first
+    unfolding lookupRefusal first lookupTests
     lookup-outside e = rw e
 
     pub lookup-rows : outside h ≡ false → rowsShort h rows ≡ true → 2 ≡ lookupRefusal h rows keys cells
-    unfolding lookupRefusal first
+    unfolding lookupRefusal first lookupTests
     lookup-rows e r = rw (e, r)
 
     module _ (e : outside h ≡ false) (r : rowsShort h rows ≡ false) where
       pub lookup-keys : pairsShort h keys ≡ true → 2 ≡ lookupRefusal h rows keys cells
-      unfolding lookupRefusal first
+      unfolding lookupRefusal first lookupTests
       lookup-keys k = rw (e, r, k)
 
       pub lookup-width : pairsShort h keys ≡ false → (cells ≡ h .keys → ⊥) → 3 ≡ lookupRefusal h rows keys cells
-      unfolding lookupRefusal first
+      unfolding lookupRefusal first lookupTests
       lookup-width k n = rw (e, r, k, ne-eqb _ _ n)
 
       pub lookup-none : pairsShort h keys ≡ false → cells ≡ h .keys → 0 ≡ lookupRefusal h rows keys cells
-      unfolding lookupRefusal first
+      unfolding lookupRefusal first lookupTests
       lookup-none k n = rw (e, r, k, eq-eqb _ _ n)
 
     module _ (column : ℕ) where
       pub cell-lookup : (lookupRefusal h rows keys cells ≡ 0 → ⊥) → lookupRefusal h rows keys cells ≡ cellRefusal h rows keys cells column
-      unfolding lookupRefusal cellRefusal
+      unfolding lookupRefusal cellRefusal lookupTests
       cell-lookup some = three-some _ _ _ _ some
 
       cell-rest : lookupRefusal h rows keys cells ≡ 0 → cellRefusal h rows keys cells column ≡ first (rung (leb (h .columns) column) 6 ∷ [])
-      unfolding lookupRefusal cellRefusal
+      unfolding lookupRefusal cellRefusal lookupTests
       cell-rest e = three-none _ _ _ _ e
 
       pub cell-above : lookupRefusal h rows keys cells ≡ 0 → h .columns ≤ column → 6 ≡ cellRefusal h rows keys cells column

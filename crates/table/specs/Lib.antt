@@ -3,4 +3,5 @@ pub mod Refusing
 pub mod Stores
 pub mod Sound
 pub mod Promises
+pub mod inner
 pub mod Laws

@@ -1,6 +1,7 @@
 -- A header's numbers, and what each answer says in the paper's terms. Assumes nothing.
 use Prim.Native.Nat.{ℕ}
 use mathlib.Core.Bool.{Bool}
+use mathlib.Core.Option.{Option, none, some}
 use Rattle.refusals.specs.Refusals.{Reply, refused, accepted}
 use Rattle.offsets.specs.Subsets.{Subset, range}
 use Rattle.plain.specs.Staged.{Opening}
@@ -27,10 +28,21 @@ abbrev pub openingOf : Header → Opening
 openingOf h =
     record { columns = h .columns; keys = h .keys; sort = h .sort; rule = h .rule; capacity = h .capacity }
 
--- an answer that may be *none*
-pub data Maybe (A : Type 0) : Type 0 where
-  none : Maybe A
-  one : A → Maybe A
+-- a header of an opening's numbers and these counts
+abbrev pub header : Opening → ℕ → ℕ → ℕ → ℕ → ℕ → Header
+header o rows dead entries pending generation =
+    record {
+      columns = o .columns;
+      keys = o .keys;
+      sort = o .sort;
+      rule = o .rule;
+      capacity = o .capacity;
+      rows = rows;
+      dead = dead;
+      entries = entries;
+      pending = pending;
+      generation = generation;
+    }
 
 unfoldable pub tableSays : TableAnswer → Reply Header
 tableSays (TableRefused n) = refused n
@@ -40,20 +52,20 @@ unfoldable pub mergeSays : MergeAnswer → Reply Merge
 mergeSays (MergeRefused n) = refused n
 mergeSays (Merged m) = accepted m
 
-unfoldable pub rowSays : RowAnswer → Reply (Maybe ℕ)
+unfoldable pub rowSays : RowAnswer → Reply (Option ℕ)
 rowSays (RowRefused n) = refused n
 rowSays NoRow = accepted none
-rowSays (Row number) = accepted (one number)
+rowSays (Row number) = accepted (some number)
 
-unfoldable pub cellSays : CellAnswer → Reply (Maybe ℕ)
+unfoldable pub cellSays : CellAnswer → Reply (Option ℕ)
 cellSays (CellRefused n) = refused n
 cellSays NoCell = accepted none
-cellSays (Cell cell) = accepted (one cell)
+cellSays (Cell cell) = accepted (some cell)
 
-unfoldable pub rangeSays : RangeAnswer → Reply (Maybe Subset)
+unfoldable pub rangeSays : RangeAnswer → Reply (Option Subset)
 rangeSays (RangeRefused n) = refused n
 rangeSays NoRange = accepted none
-rangeSays (Range start end) = accepted (one (range start end))
+rangeSays (Range start end) = accepted (some (range start end))
 
 unfoldable pub versionSays : VersionAnswer → Reply Version
 versionSays (VersionRefused n) = refused n

@@ -4,6 +4,7 @@ use Prim.Native.Nat.{ℕ, _+_, _*_, _/_, _<_}
 use mathlib.Core.Path.{_≡_}
 use mathlib.Core.Bool.{true, false, cond, not, _||_}
 use mathlib.Core.List.{List, []}
+use mathlib.Core.Option.{Option, none, some, Option·map}
 use lib.ListN.{length, drop, getD}
 use lib.Dec.{eqb}
 use Rattle.lists.specs.Lists.{putAt, rowsOf}
@@ -13,8 +14,9 @@ use Rattle.constraints.specs.declared.Constraint.{Constraint}
 use Rattle.sort_entries.specs.Entries.{entriesOf, entriesSound, fastRange}
 use Rattle.key_index.specs.Slots.{KeysSound}
 use Rattle.plain.specs.Staged.{Opening, Staged, wordsOf}
-use Rattle.plain.specs.Plain.{Plain, Number, none as noNumber, one as oneNumber, numberFrom, liveWithKey, Lengths, storesShort, openRefusal, opened, applied, merged, compacted, cleared}
-use Rattle.plain.specs.Proper.{Proper, rowOf}
+use Rattle.plain.specs.Refusing.{Lengths, storesShort, openRefusal}
+use Rattle.plain.specs.Plain.{Plain, lookup, opened, applied, merged, compacted, cleared}
+use Rattle.plain.specs.Proper.{Proper}
 use Rattle.table.specs.declared.Header.{Header}
 use Rattle.table.specs.declared.TableAnswer.{TableAnswer}
 use Rattle.table.specs.declared.Merge.{Merge}
@@ -22,10 +24,9 @@ use Rattle.table.specs.declared.MergeAnswer.{MergeAnswer}
 use Rattle.table.specs.declared.RowAnswer.{RowAnswer}
 use Rattle.table.specs.declared.CellAnswer.{CellAnswer}
 use Rattle.table.specs.declared.RangeAnswer.{RangeAnswer}
-use Rattle.table.specs.declared.Version.{Version}
 use Rattle.table.specs.declared.VersionAnswer.{VersionAnswer}
 use Rattle.table.specs.declared.SoundAnswer.{SoundAnswer}
-use Rattle.table.specs.Numbers.{openingOf, Maybe, none, one, tableSays, mergeSays, rowSays, cellSays, rangeSays, versionSays, soundSays}
+use Rattle.table.specs.Numbers.{openingOf, header, tableSays, mergeSays, rowSays, cellSays, rangeSays, versionSays, soundSays}
 use Rattle.table.specs.Refusing.{stageRefusal, mergeRefusal, compactRefusal, clearRefusal, lookupRefusal, cellRefusal, fastRefusal, versionRefusal, sinceRefusal, soundRefusal}
 use Rattle.table.specs.Stores.{headerOf, stored, rowStore, sortStore, recordWords, Shows}
 use Rattle.table.specs.Sound.{keyedOf, Sound}
@@ -41,12 +42,41 @@ pub record Stores : Type 0 where
 abbrev pub stores : Header → List ℕ → List ℕ → List ℕ → List ℕ → Stores
 stores h rows keys sorts pending = record { header = h; rows = rows; keys = keys; sorts = sorts; pending = pending }
 
+-- rows, keys and sort entries: the stores that a merge and a compaction write
+pub record Body : Type 0 where
+  pub rows : List ℕ
+  pub keys : List ℕ
+  pub sorts : List ℕ
+
+abbrev pub body : List ℕ → List ℕ → List ℕ → Body
+body rows keys sorts = record { rows = rows; keys = keys; sorts = sorts }
+
+abbrev pub bodyOf : Stores → Body
+bodyOf s = body (s .rows) (s .keys) (s .sorts)
+
+-- these with a header and the pending store
+abbrev pub joined : Header → Body → List ℕ → Stores
+joined h b pending = stores h (b .rows) (b .keys) (b .sorts) pending
+
+-- the words that mark live rows, and the numbers beside them
+pub record CompactionWords : Type 0 where
+  pub live : List ℕ
+  pub base : List ℕ
+
+abbrev pub compactionWords : List ℕ → List ℕ → CompactionWords
+compactionWords live base = record { live = live; base = base }
+
 -- the lengths of stores and compaction words
 abbrev pub lengths : List ℕ → List ℕ → List ℕ → List ℕ → List ℕ → List ℕ → Lengths
 lengths rows keys sorts pending live base =
     record { rows = length rows; keys = length keys; sorts = length sorts; pending = length pending; liveWords = length live; baseWords = length base }
 
--- the header and stores are those of a plain table
+abbrev pub lengthsLent : Stores → CompactionWords → Lengths
+lengthsLent s w = lengths (s .rows) (s .keys) (s .sorts) (s .pending) (w .live) (w .base)
+
+-- The header and stores are those of a plain table: they show it cell by cell (`Shows`), it is one that calls lead to
+-- (`Proper`), and the key store leads to its live rows (`KeysSound`). `Sound` is the paper's word, of stores alone; the two are
+-- one: stores are sound exactly if they are those of some plain table (Laws/Sound).
 pub record Represents (p : Plain) (s : Stores) : Type 0 where
   pub proper : Proper p
   pub long-enough : storesShort (p .opening) (lengths (s .rows) (s .keys) (s .sorts) (s .pending) [] []) ≡ false
@@ -67,8 +97,11 @@ abbrev pub SlotsPast : ℕ → List ℕ → List ℕ → Type 0
 SlotsPast capacity keys keys′ = drop (2 * capacity) keys′ ≡ drop (2 * capacity) keys
 
 -- compaction words past those needed are never written
-abbrev pub WordsPast : ℕ → List ℕ → List ℕ → Type 0
-WordsPast capacity words words′ = drop ((capacity + 63) / 64) words′ ≡ drop ((capacity + 63) / 64) words
+abbrev pub PastNeeded : ℕ → List ℕ → List ℕ → Type 0
+PastNeeded capacity words words′ = drop ((capacity + 63) / 64) words′ ≡ drop ((capacity + 63) / 64) words
+
+abbrev pub WordsPast : ℕ → CompactionWords → CompactionWords → Type 0
+WordsPast capacity w w′ = PastNeeded capacity (w .live) (w′ .live) × PastNeeded capacity (w .base) (w′ .base)
 
 -- Where the choice is the program's: of the key store only soundness is promised, and that no slot past it is written; of
 -- the compaction words needed, after a compaction, nothing.
@@ -79,35 +112,26 @@ opening columns keys sort rule capacity =
     record { columns = columns; keys = keys; sort = sort; rule = rule; capacity = capacity }
 
 -- *Open*: lent rows, keys, sort entries and pending; all but keys are lent shared, so that they stay as they are
-pub record Opened (o : Opening) (generation : ℕ) (rows keys sorts pending : List ℕ) (answer : TableAnswer) (keys′ : List ℕ) : Type 0 where
-  pub answers : tableSays answer ≡ reply (openRefusal o (lengths rows keys sorts pending [] [])) (headerOf (opened o generation))
-  pub unchanged : 0 < openRefusal o (lengths rows keys sorts pending [] []) → keys′ ≡ keys
-  pub past : SlotsPast (o .capacity) keys keys′
-  pub represents : openRefusal o (lengths rows keys sorts pending [] []) ≡ 0
-      → Represents (opened o generation) (stores (headerOf (opened o generation)) rows keys′ sorts pending)
+module _ (o : Opening) (generation : ℕ) (b : Body) (pending : List ℕ) (answer : TableAnswer) (keys′ : List ℕ) where
+  pub record Opened : Type 0 where
+    pub answers : tableSays answer ≡ reply (openRefusal o (lengths (b .rows) (b .keys) (b .sorts) pending [] [])) (headerOf (opened o generation))
+    pub unchanged : 0 < openRefusal o (lengths (b .rows) (b .keys) (b .sorts) pending [] []) → keys′ ≡ b .keys
+    pub past : SlotsPast (o .capacity) (b .keys) keys′
+    pub represents : openRefusal o (lengths (b .rows) (b .keys) (b .sorts) pending [] []) ≡ 0
+        → Represents (opened o generation) (stores (headerOf (opened o generation)) (b .rows) keys′ (b .sorts) pending)
 
 -- *Stage*: lent pending. Of any table, since nothing but the header and the pending store is looked at
 abbrev pub withPending : Header → ℕ → Header
-withPending h pending =
-    record {
-      columns = h .columns;
-      keys = h .keys;
-      sort = h .sort;
-      rule = h .rule;
-      capacity = h .capacity;
-      rows = h .rows;
-      dead = h .dead;
-      entries = h .entries;
-      pending = pending;
-      generation = h .generation;
-    }
+withPending h pending = header (openingOf h) (h .rows) (h .dead) (h .entries) pending (h .generation)
 
 pub record Staging (h : Header) (pending : List ℕ) (r : Staged) (answer : TableAnswer) (pending′ : List ℕ) : Type 0 where
   pub answers : tableSays answer ≡ reply (stageRefusal h (length pending) r) (withPending h (h .pending + wordsOf (openingOf h) r))
   pub unchanged : 0 < stageRefusal h (length pending) r → pending′ ≡ pending
   pub written : stageRefusal h (length pending) r ≡ 0 → pending′ ≡ putAt pending (h .pending) (recordWords (h .keys) r)
 
--- *Merge*: lent all stores and compaction words; pending is lent shared
+-- *Merge*: lent all stores and compaction words; pending is lent shared. The paper's refusals 8 and 9 stop a merge that was
+-- accepted: `status` has them. What is promised is promised for every plain table that the stores show; these differ in cells
+-- of dead rows alone, and nothing promised depends on them.
 abbrev pub mergeOf : Plain → Merge
 mergeOf p =
     record {
@@ -126,40 +150,37 @@ mergedRows p before store =
 unfoldable pub mergedSorts : Plain → List ℕ → List ℕ
 mergedSorts p store = sortStore (merged p .table) (sortStore (applied p .table) store)
 
-module _ (h : Header) (rows keys sorts pending live base : List ℕ) (answer : MergeAnswer) (rows′ keys′ sorts′ live′ base′ : List ℕ) where
+module _ (s : Stores) (w : CompactionWords) (answer : MergeAnswer) (b′ : Body) (w′ : CompactionWords) where
   pub record MergedTable (p : Plain) : Type 0 where
     pub answers : mergeSays answer ≡ accepted (mergeOf p)
-    pub rows-after : rows′ ≡ mergedRows p (rowsOf (h .columns) (h .rows) rows) rows
-    pub sorts-after : sorts′ ≡ mergedSorts p sorts
-    pub represents : Represents (merged p .table) (stores (headerOf (merged p .table)) rows′ keys′ sorts′ pending)
+    pub rows-after : b′ .rows ≡ mergedRows p (rowsOf (s .header .columns) (s .header .rows) (s .rows)) (s .rows)
+    pub sorts-after : b′ .sorts ≡ mergedSorts p (s .sorts)
+    pub represents : Represents (merged p .table) (joined (headerOf (merged p .table)) b′ (s .pending))
     -- compaction words are "unchanged where nothing is compacted"
-    pub words : merged p .table .generation ≡ p .generation → (live′ ≡ live) × (base′ ≡ base)
+    pub words : merged p .table .generation ≡ p .generation → w′ ≡ w
 
   pub record Merging : Type 0 where
-    pub refusal : verdict (mergeSays answer) ≡ ruling (mergeRefusal h (lengths rows keys sorts pending live base))
-    pub unchanged : 0 < mergeRefusal h (lengths rows keys sorts pending live base)
-        → (rows′ ≡ rows) × (keys′ ≡ keys) × (sorts′ ≡ sorts) × (live′ ≡ live) × (base′ ≡ base)
-    pub past : SlotsPast (h .capacity) keys keys′
-    pub words-past : WordsPast (h .capacity) live live′ × WordsPast (h .capacity) base base′
-    pub table : mergeRefusal h (lengths rows keys sorts pending live base) ≡ 0
-        → (p : Plain) → Represents p (stores h rows keys sorts pending) → MergedTable p
+    pub refusal : verdict (mergeSays answer) ≡ ruling (mergeRefusal (s .header) (lengthsLent s w))
+    pub unchanged : 0 < mergeRefusal (s .header) (lengthsLent s w) → (b′ ≡ bodyOf s) × (w′ ≡ w)
+    pub past : SlotsPast (s .header .capacity) (s .keys) (b′ .keys)
+    pub words-past : WordsPast (s .header .capacity) w w′
+    pub table : mergeRefusal (s .header) (lengthsLent s w) ≡ 0 → (p : Plain) → Represents p s → MergedTable p
 
 -- *Compact*: lent rows, keys, sort entries and compaction words
-module _ (h : Header) (rows keys sorts live base : List ℕ) (answer : TableAnswer) (rows′ keys′ sorts′ live′ base′ : List ℕ) where
+module _ (h : Header) (b : Body) (w : CompactionWords) (answer : TableAnswer) (b′ : Body) (w′ : CompactionWords) where
   pub record CompactedTable (pending : List ℕ) (p : Plain) : Type 0 where
     pub answers : tableSays answer ≡ accepted (headerOf (compacted p))
-    pub rows-after : rows′ ≡ rowStore (compacted p) [] rows
-    pub sorts-after : sorts′ ≡ sortStore (compacted p) sorts
-    pub represents : Represents (compacted p) (stores (headerOf (compacted p)) rows′ keys′ sorts′ pending)
+    pub rows-after : b′ .rows ≡ rowStore (compacted p) [] (b .rows)
+    pub sorts-after : b′ .sorts ≡ sortStore (compacted p) (b .sorts)
+    pub represents : Represents (compacted p) (joined (headerOf (compacted p)) b′ pending)
 
   pub record Compacting : Type 0 where
-    pub refusal : verdict (tableSays answer) ≡ ruling (compactRefusal h (lengths rows keys sorts [] live base))
-    pub unchanged : 0 < compactRefusal h (lengths rows keys sorts [] live base)
-        → (rows′ ≡ rows) × (keys′ ≡ keys) × (sorts′ ≡ sorts) × (live′ ≡ live) × (base′ ≡ base)
-    pub past : SlotsPast (h .capacity) keys keys′
-    pub words-past : WordsPast (h .capacity) live live′ × WordsPast (h .capacity) base base′
-    pub table : compactRefusal h (lengths rows keys sorts [] live base) ≡ 0
-        → (pending : List ℕ) (p : Plain) → Represents p (stores h rows keys sorts pending) → CompactedTable pending p
+    pub refusal : verdict (tableSays answer) ≡ ruling (compactRefusal h (lengthsLent (joined h b []) w))
+    pub unchanged : 0 < compactRefusal h (lengthsLent (joined h b []) w) → (b′ ≡ b) × (w′ ≡ w)
+    pub past : SlotsPast (h .capacity) (b .keys) (b′ .keys)
+    pub words-past : WordsPast (h .capacity) w w′
+    pub table : compactRefusal h (lengthsLent (joined h b []) w) ≡ 0
+        → (pending : List ℕ) (p : Plain) → Represents p (joined h b pending) → CompactedTable pending p
 
 -- *Clear*: lent keys
 module _ (h : Header) (keys : List ℕ) (answer : TableAnswer) (keys′ : List ℕ) where
@@ -174,36 +195,25 @@ module _ (h : Header) (keys : List ℕ) (answer : TableAnswer) (keys′ : List �
     pub table : clearRefusal h (length keys) ≡ 0
         → (rows sorts pending : List ℕ) (p : Plain) → Represents p (stores h rows keys sorts pending) → ClearedTable rows sorts pending p
 
--- *Key lookup, one cell*: lent rows and keys. "No live row is *none*"
-unfoldable pub numberFound : Number → Maybe ℕ
-numberFound noNumber = none
-numberFound (oneNumber n) = one n
-
-abbrev pub lookup : Plain → List ℕ → Number
-lookup p key = numberFrom (liveWithKey (p .opening .keys) key) 0 (p .rows)
-
-unfoldable pub cellFound : Plain → ℕ → Number → Maybe ℕ
-cellFound p column noNumber = none
-cellFound p column (oneNumber n) = one (getD (rowOf p n .cells) column 0)
-
+-- *Key lookup, one cell*: lent rows and keys, of a table whose other stores may be any. "No live row is *none*"
 pub record LookedUp (h : Header) (rows keys key : List ℕ) (answer : RowAnswer) : Type 0 where
   pub refusal : verdict (rowSays answer) ≡ ruling (lookupRefusal h (length rows) (length keys) (length key))
   pub table : lookupRefusal h (length rows) (length keys) (length key) ≡ 0
       → (sorts pending : List ℕ) (p : Plain) → Represents p (stores h rows keys sorts pending)
-      → rowSays answer ≡ accepted (numberFound (lookup p key))
+      → rowSays answer ≡ accepted (Option·map (λ row. row .number) (lookup p key))
 
 pub record CellRead (h : Header) (rows keys key : List ℕ) (column : ℕ) (answer : CellAnswer) : Type 0 where
   pub refusal : verdict (cellSays answer) ≡ ruling (cellRefusal h (length rows) (length keys) (length key) column)
   pub table : cellRefusal h (length rows) (length keys) (length key) column ≡ 0
       → (sorts pending : List ℕ) (p : Plain) → Represents p (stores h rows keys sorts pending)
-      → cellSays answer ≡ accepted (cellFound p column (lookup p key))
+      → cellSays answer ≡ accepted (Option·map (λ row. getD (row .cells) column 0) (lookup p key))
 
 -- *Fast range*: lent sort entries. "answers *none* for kind 0 and for any column but the sort column"
-unfoldable pub fastSubset : Header → List ℕ → Constraint → Maybe Subset
+unfoldable pub fastSubset : Header → List ℕ → Constraint → Option Subset
 fastSubset h sorts c =
     cond (eqb (c .kind) 0 || not (eqb (c .column) (h .sort)))
     none
-    (one (fastRange (c .kind) (c .value) (entriesOf (h .entries) sorts) (h .rows)))
+    (some (fastRange (c .kind) (c .value) (entriesOf (h .entries) sorts) (h .rows)))
 
 pub record RangeRead (h : Header) (sorts : List ℕ) (c : Constraint) (answer : RangeAnswer) : Type 0 where
   pub refusal : verdict (rangeSays answer) ≡ ruling (fastRefusal h (length sorts) c)
@@ -215,7 +225,7 @@ pub record VersionRead (h : Header) (answer : VersionAnswer) : Type 0 where
   pub answers : versionSays answer ≡ reply (versionRefusal h) (record { generation = h .generation; rows = h .rows })
 
 pub record RowsSince (h : Header) (row : ℕ) (answer : RangeAnswer) : Type 0 where
-  pub answers : rangeSays answer ≡ reply (sinceRefusal h row) (one (range row (h .rows)))
+  pub answers : rangeSays answer ≡ reply (sinceRefusal h row) (some (range row (h .rows)))
 
 -- the soundness check: lent all stores. It "says yes exactly for sound stores"
 pub record Checked (h : Header) (rows keys sorts pending : List ℕ) (answer : SoundAnswer) : Type 0 where

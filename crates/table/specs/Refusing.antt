@@ -1,22 +1,20 @@
 -- What each operation turns away, "on any numbers at all": one ladder each, over the header and the lengths of what is
 -- lent. The first number that applies; 0 if none. Assumes nothing.
-use Prim.Native.Nat.{ℕ, _+_, _*_}
+use Prim.Native.Nat.{ℕ, _*_}
 use mathlib.Core.Bool.{Bool, not, _&&_, _||_}
-use mathlib.Core.List.{[], _∷_}
+use mathlib.Core.List.{List, [], _∷_, _++_}
 use lib.Dec.{leb, ltb, eqb}
-use Rattle.refusals.specs.Refusals.{rung, first}
+use Rattle.refusals.specs.Refusals.{Rung, rung, first}
 use Rattle.constraints.specs.declared.Constraint.{Constraint}
 use Rattle.constraints.specs.Constraints.{known}
-use Rattle.plain.specs.Staged.{openable, Staged, wordsOf}
-use Rattle.plain.specs.Plain.{Lengths, storesShort, wordsShort, wrongWidth, noSuchRow}
+use Rattle.plain.specs.Staged.{openable, Staged}
+use Rattle.plain.specs.Refusing.{Lengths, Counts, stageLadder, mergeLadder, compactLadder, clearLadder}
 use Rattle.table.specs.declared.Header.{Header}
-use Rattle.table.specs.declared.Lent.{Lent}
 use Rattle.table.specs.Numbers.{openingOf}
 
--- the lengths of what an operation is lent
-abbrev pub lengthsOf : Lent → Lengths
-lengthsOf l =
-    record { rows = l .rows; keys = l .keys; sorts = l .sorts; pending = l .pending; liveWords = l .live; baseWords = l .base }
+-- what the tests look at of a header
+abbrev pub countsIn : Header → Counts
+countsIn h = record { opening = openingOf h; generation = h .generation; rows = h .rows; used = h .pending }
 
 -- test 1: "header numbers outside their bounds (dead rows or sort entries above the row count, row count above capacity,
 -- keys 0 or above columns, sort column not a column, rule above 3, ..)"
@@ -36,58 +34,31 @@ rowsShort h rows = ltb rows (h .capacity * h .columns)
 unfoldable pub pairsShort : Header → ℕ → Bool
 pairsShort h store = ltb store (2 * h .capacity)
 
--- *Stage*: 1, 3, 5, 7
+-- The ladders of the calls that change a table are the plain table's, with this test 1.
+
 unfoldable pub stageRefusal : Header → ℕ → Staged → ℕ
-stageRefusal h pending r =
-    first
-    (rung (pendingOutside h pending) 1
-    ∷ rung (wrongWidth (openingOf h) r) 3
-    ∷ rung (noSuchRow (h .rows) r) 5
-    ∷ rung (ltb pending (h .pending + wordsOf (openingOf h) r) || ltb 4294967295 (h .pending + wordsOf (openingOf h) r)) 7
-    ∷ [])
+stageRefusal h pending r = stageLadder (pendingOutside h pending) (countsIn h) pending r
 
--- *Merge*: 1, 2
 unfoldable pub mergeRefusal : Header → Lengths → ℕ
-mergeRefusal h l =
-    first
-    (rung (pendingOutside h (l .pending)) 1 ∷ rung (storesShort (openingOf h) l || wordsShort (openingOf h) l) 2 ∷ [])
+mergeRefusal h l = mergeLadder (pendingOutside h (l .pending)) (countsIn h) l
 
--- *Compact*: 1, 2, 10
 unfoldable pub compactRefusal : Header → Lengths → ℕ
-compactRefusal h l =
-    first
-    (rung (outside h) 1
-    ∷ rung (storesShort (openingOf h) l || wordsShort (openingOf h) l) 2
-    ∷ rung (eqb (h .generation) 4294967295) 10
-    ∷ [])
+compactRefusal h l = compactLadder (outside h) (countsIn h) l
 
--- *Clear*: 1, 2, 10 "only if there are rows"
 unfoldable pub clearRefusal : Header → ℕ → ℕ
-clearRefusal h keys =
-    first
-    (rung (outside h) 1
-    ∷ rung (pairsShort h keys) 2
-    ∷ rung (eqb (h .generation) 4294967295 && ltb 0 (h .rows)) 10
-    ∷ [])
+clearRefusal h keys = clearLadder (outside h) (countsIn h) keys
 
 -- *Key lookup*: 1, 2, 3
-unfoldable pub lookupRefusal : Header → ℕ → ℕ → ℕ → ℕ
-lookupRefusal h rows keys cells =
-    first
-    (rung (outside h) 1
-    ∷ rung (rowsShort h rows || pairsShort h keys) 2
-    ∷ rung (not (eqb cells (h .keys))) 3
-    ∷ [])
+unfoldable pub lookupTests : Header → ℕ → ℕ → ℕ → List Rung
+lookupTests h rows keys cells =
+    rung (outside h) 1 ∷ rung (rowsShort h rows || pairsShort h keys) 2 ∷ rung (not (eqb cells (h .keys))) 3 ∷ []
 
--- *one cell*: 1, 2, 3, 6
+unfoldable pub lookupRefusal : Header → ℕ → ℕ → ℕ → ℕ
+lookupRefusal h rows keys cells = first (lookupTests h rows keys cells)
+
+-- *one cell*: the same, and 6
 unfoldable pub cellRefusal : Header → ℕ → ℕ → ℕ → ℕ → ℕ
-cellRefusal h rows keys cells column =
-    first
-    (rung (outside h) 1
-    ∷ rung (rowsShort h rows || pairsShort h keys) 2
-    ∷ rung (not (eqb cells (h .keys))) 3
-    ∷ rung (leb (h .columns) column) 6
-    ∷ [])
+cellRefusal h rows keys cells column = first (lookupTests h rows keys cells ++ (rung (leb (h .columns) column) 6 ∷ []))
 
 -- *Fast range*: 1, 2, 6
 unfoldable pub fastRefusal : Header → ℕ → Constraint → ℕ

@@ -1,43 +1,38 @@
 -- What the stores of a table hold: how a plain table is shown by a header and stores, and what an operation that takes one
--- plain table to another leaves in every lent cell. Assumes nothing.
-use Prim.Native.Nat.{ℕ}
+-- plain table to another leaves in every cell of the row and sort-entry stores. Assumes nothing.
+use Prim.Native.Nat.{ℕ, _<_}
 use mathlib.Core.Path.{_≡_}
 use mathlib.Core.Bool.{true, cond, not}
 use mathlib.Core.List.{List, [], _∷_, map}
 use lib.ListN.{length, take, getD, set}
-use Rattle.lists.specs.Lists.{putAt, every, rowsOf, flat}
+use Rattle.lists.specs.Lists.{putAt, every, rowAt, flat}
 use Rattle.cells.specs.Cells.{compact, keyHash}
+use Rattle.constraints.specs.Constraints.{isLive}
 use Rattle.sort_entries.specs.Entries.{Entry, entriesOf, words, rebuilt}
 use Rattle.plain.specs.Staged.{Opening, Staged, insert, removeKey, removeRow, wordsAll}
-use Rattle.plain.specs.Plain.{Row, Plain, dead, wrongWidth}
+use Rattle.plain.specs.Refusing.{wrongWidth}
+use Rattle.plain.specs.Plain.{Row, Plain, dead}
+use Rattle.plain.specs.Proper.{rowOf}
 use Rattle.table.specs.declared.Header.{Header}
+use Rattle.table.specs.Numbers.{header}
 
--- the sort entries of a plain table: each row's sort cell, appended in turn
+-- the sort entries of a plain table: each row's sort cell, dead rows' too, appended in turn
 unfoldable pub entries : Plain → List Entry
 entries p = rebuilt (map (λ row. getD (row .cells) (p .opening .sort) 0) (p .rows))
 
 -- its header
 abbrev pub headerOf : Plain → Header
 headerOf p =
-    record {
-      columns = p .opening .columns;
-      keys = p .opening .keys;
-      sort = p .opening .sort;
-      rule = p .opening .rule;
-      capacity = p .opening .capacity;
-      rows = length (p .rows);
-      dead = dead p;
-      entries = length (entries p);
-      pending = wordsAll (p .opening) (p .staged);
-      generation = p .generation;
-    }
+    header (p .opening) (length (p .rows)) (dead p) (length (entries p)) (wordsAll (p .opening) (p .staged)) (p .generation)
 
 -- a row that dies keeps its other cells
 abbrev pub marked : List ℕ → List ℕ
 marked cells = set cells 0 4294967295
 
--- the rows as stored, over those that were stored before: a live row has its cells; a dead one the dead mark, and what
--- stood there before, or, if it is new, what was appended
+-- The rows as stored, over those that were stored before: a live row has its cells; a dead one the dead mark, and behind it
+-- what stood there before, or, if it is new, what was appended. Say 7 1 160 and, dead already, 4294967295 2 148 were stored,
+-- and a merge removes key 7 and inserts 8 1 163 and then 8 1 170 under rule 1. Stored are 4294967295 1 160 (dies now: its
+-- other cells stay), 4294967295 2 148 (dead before: as it was), 4294967295 1 163 (appended and dead in one merge) and 8 1 170.
 unfoldable pub stored : List Row → List (List ℕ) → List (List ℕ)
 stored [] before = []
 stored (row ∷ rows) [] = cond (row .live) (row .cells) (marked (row .cells)) ∷ stored rows []
@@ -63,9 +58,14 @@ pub record Holds (o : Opening) (pending : List ℕ) (staged : List Staged) : Typ
   pub whole : every (λ r. not (wrongWidth o r)) staged ≡ true
   pub in-order : take (wordsAll o staged) pending ≡ flat (map (recordWords (o .keys)) staged)
 
--- the stores show the plain table p. (Stored over itself nothing changes: live rows have p's cells, dead ones the mark.)
+-- a stored row shows a plain one: it is live exactly where that is, and then has its cells
+pub record RowShown (row : Row) (cells : List ℕ) : Type 0 where
+  pub live : row .live ≡ isLive cells
+  pub same : row .live ≡ true → row .cells ≡ cells
+
+-- the stores show the plain table p
 pub record Shows (p : Plain) (h : Header) (rows sorts pending : List ℕ) : Type 0 where
   pub header : h ≡ headerOf p
-  pub rows-shown : stored (p .rows) (rowsOf (h .columns) (h .rows) rows) ≡ rowsOf (h .columns) (h .rows) rows
+  pub rows-shown : (i : ℕ) → i < h .rows → RowShown (rowOf p i) (rowAt (h .columns) i rows)
   pub entries-shown : entriesOf (h .entries) sorts ≡ entries p
   pub pending-held : Holds (p .opening) pending (p .staged)

@@ -3,10 +3,10 @@
 ghost use mathlib.Core.Path.{_≡_};
 ghost use mathlib.Core.Bool.{false};
 ghost use Rattle.plain.specs.Staged.{openable};
-ghost use Rattle.plain.specs.Plain.{storesShort, wordsShort, openRefusal};
+ghost use Rattle.plain.specs.Refusing.{storesShort, wordsShort, openRefusal};
 ghost use Rattle.table.specs.Numbers.{openingOf};
 ghost use Rattle.table.specs.Refusing as rules;
-ghost use Rattle.table.specs.Refusing.{lengthsOf};
+ghost use Rattle.table.specs.inner.Lent.{lengthsOf};
 use super::Header;
 use super::Lent;
 use constraints::Constraint;

@@ -16,7 +16,7 @@ use Rattle.constraints.specs.Constraints.{known, meets}
 use Rattle.table.specs.declared.Header.{Header}
 use Rattle.sweeping.specs.declared.Sweep.{Sweep}
 use Rattle.queries.specs.Queries.{matches}
-use Rattle.sweeping.specs.Sweeping.{passes, Decides}
+use Rattle.sweeping.specs.inner.Sweeping.{passes, Decides}
 
 -- what is read past the end of a list of conditions
 abbrev pub none : Constraint

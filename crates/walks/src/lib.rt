@@ -4,7 +4,7 @@ ghost use lib.ListN.{length};
 ghost use Rattle.lists.specs.Lists.{every};
 ghost use Rattle.offsets.specs.Answers.{subsetOf};
 ghost use Rattle.queries.specs.Queries.{matches};
-ghost use Rattle.sweeping.specs.Sweeping.{RowNeeded, passes, Sweepable, Finished, Lookable, Found};
+ghost use Rattle.sweeping.specs.inner.Sweeping.{RowNeeded, passes, Sweepable, Finished, Lookable, Found};
 use constraints::Constraint;
 use offsets::SubsetHead;
 use sweeping::Sweep;

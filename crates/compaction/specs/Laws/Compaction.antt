@@ -21,29 +21,31 @@ use Rattle.lists.specs.Laws.Rows.{widths, length-rowsOf, length-rowAt, rowsOf-s
 use Rattle.cells.specs.Cells.{isDead}
 use Rattle.constraints.specs.Constraints.{isLive}
 use Rattle.sort_entries.specs.Entries.{Entry, entry, entriesOf, words, last, push, rebuilt}
-use Rattle.sort_entries.specs.Append.{Rebuild}
+use Rattle.sort_entries.specs.inner.Append.{Rebuild}
 use Rattle.sort_entries.specs.Laws.Push.{push-new, push-same, rebuilt-snoc}
 use Rattle.sort_entries.specs.Laws.Rebuilt.{rebuilt-few}
 use Rattle.sort_entries.specs.Laws.Stores.{length-words, words-snoc, entriesOf-put}
 use Rattle.row_buffer.specs.Ranks.{liveAt, liveWord, newNumber}
-use Rattle.row_buffer.specs.Laws.{word-none, word-live, word-dead, word-lt, number-rank, keep-at}
+use Rattle.row_buffer.specs.Laws.Rows.{word-none, word-live, word-dead, word-lt, number-rank, keep-at}
 use Rattle.key_index.specs.Slots.{LiveAt, slots}
-use Rattle.key_gaps.specs.Gaps.{newRow, renumbered}
-use Rattle.key_gaps.specs.RenumberLaws.{liveBelow, below-number, live-among, live-rises, Compacted, renumber-sound}
-use Rattle.key_index.specs.Lines.{small}
-use Rattle.plain.specs.Plain.{Row, Plain, storesShort, compacted}
+use Rattle.key_gaps.specs.inner.Gaps.{newRow, renumbered}
+use Rattle.key_gaps.specs.Laws.Renumbering.{liveBelow, below-number, live-among, live-rises, Compacted, renumber-sound}
+use Rattle.key_index.specs.Laws.Lines.{small}
+use Rattle.plain.specs.Plain.{Row, Plain, compacted}
+use Rattle.plain.specs.Refusing.{storesShort}
 use Rattle.plain.specs.Laws.Rows.{noRow}
 use Rattle.plain.specs.Laws.Proper.{compacted-proper}
 use Rattle.plain.specs.Laws.Live.{dead-compacted}
 use Rattle.table.specs.declared.Header.{Header}
 use Rattle.compaction.specs.declared.Kept.{Kept}
 use Rattle.table.specs.Sound.{keyedOf}
-use Rattle.table.specs.Stores.{entries, headerOf, stored, rowStore, sortStore, Shows}
+use Rattle.table.specs.Stores.{entries, headerOf, stored, rowStore, sortStore, Shows, RowShown}
 use Rattle.table.specs.Promises.{stores, lengths, Represents}
-use Rattle.compaction.specs.Compaction.{Lendable, ClosedUp, Compaction}
-use Rattle.compaction.specs.Compactions.{Begun, liveStored, entriesFor, closedRows, Closed, closedHeader}
-use Rattle.table.specs.Laws.Stored.{RowShown, stored-live}
-use Rattle.table.specs.Laws.Shown.{rows-counted, row-shown}
+use Rattle.compaction.specs.inner.Compaction.{Lendable, ClosedUp, Compaction}
+use Rattle.compaction.specs.inner.ClosingUp.{Begun, liveStored, entriesFor, closedRows, Closed, closedHeader}
+use Rattle.table.specs.Laws.Stored.{stored-live}
+use Rattle.plain.specs.Proper.{Proper}
+use Rattle.table.specs.Laws.Shown.{stores-long, stored-rows, rows-counted, row-shown}
 
 -- ---- the live rows close up
 
@@ -336,11 +338,15 @@ module _ (h : Header) (rows keys sorts live base : List ℕ) (lent : Lendable h 
     unfolding storesShort
     long-after = rw (same-rows, same-sorts, length-mapFront (renumbered (keyedOf h) live′ base′) (slots (keyedOf h)) keys) (r .long-enough)
 
+    proper-after : Proper (compacted p)
+    proper-after = compacted-proper (r .proper) (rw (ap (λ (n : Header). n .generation) (r .shown .header)) at g)
+
     shown-after : Shows (compacted p) (closedHeader h kept) rows′ sorts′ pending
     shown-after =
         record {
           header = header-after;
-          rows-shown = rw rows-read (kept-stored (closedRows h rows));
+          rows-shown = stored-rows (closedHeader h kept) rows′ proper-after (unfold compacted in stores-long (p .opening) (lengths rows′ keys′ sorts′ pending [] []) long-after .rows-long)
+              header-after (rw rows-read (kept-stored (closedRows h rows)));
           entries-shown = rw (c .sorts-after) (entriesOf-put (entriesFor (h .sort) (closedRows h rows)) sorts (kept .entries) (c .entries-counted) ∙ kept-entries);
           pending-held = unfold compacted in r .shown .pending-held;
         }
@@ -348,7 +354,7 @@ module _ (h : Header) (rows keys sorts live base : List ℕ) (lent : Lendable h 
     represents-after : Represents (compacted p) (stores (closedHeader h kept) rows′ keys′ sorts′ pending)
     represents-after =
         record {
-          proper = compacted-proper (r .proper) (rw (ap (λ (n : Header). n .generation) (r .shown .header)) at g);
+          proper = proper-after;
           long-enough = unfold compacted in long-after;
           shown = shown-after;
           keyed = renumber-sound (keyedOf h) rows (keyedOf (closedHeader h kept)) rows′ live′ base′

@@ -1,6 +1,6 @@
 -- `exports::tables::mouldgrey_clear` meets its contract. Assumes nothing.
 use mathlib.Core.Path.{refl, sym}
-use Rattle.words.specs.Words.{called-unheaded, called-done}
+use Rattle.words.specs.Laws.Words.{called-unheaded, called-done}
 use borrow.Author.Needs.{needs}
 use Rattle.exports.proofs.mouldgrey_clear.Statement.{statement}
 use Rattle.exports.proofs.mouldgrey_clear.Tie as tie

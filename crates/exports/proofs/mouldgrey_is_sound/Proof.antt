@@ -1,6 +1,6 @@
 -- `exports::tables::mouldgrey_is_sound` meets its contract. Assumes nothing.
 use mathlib.Core.Path.{sym}
-use Rattle.words.specs.Words.{asked-unheaded, asked-unworded, asked-done}
+use Rattle.words.specs.Laws.Words.{asked-unheaded, asked-unworded, asked-done}
 use borrow.Author.Needs.{needs}
 use Rattle.exports.proofs.mouldgrey_is_sound.Statement.{statement}
 use Rattle.exports.proofs.mouldgrey_is_sound.Tie as tie

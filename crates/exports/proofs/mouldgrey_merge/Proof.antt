@@ -1,6 +1,6 @@
 -- `exports::tables::mouldgrey_merge` meets its contract. Assumes nothing.
 use mathlib.Core.Path.{refl, sym}
-use Rattle.words.specs.Words.{merge-unheaded, merge-unworded, merge-done}
+use Rattle.words.specs.Laws.Words.{merge-unheaded, merge-unworded, merge-done}
 use borrow.Author.Needs.{needs}
 use Rattle.exports.proofs.mouldgrey_merge.Statement.{statement}
 use Rattle.exports.proofs.mouldgrey_merge.Tie as tie

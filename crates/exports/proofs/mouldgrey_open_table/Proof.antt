@@ -1,6 +1,6 @@
 -- `exports::tables::mouldgrey_open_table` meets its contract. Assumes nothing.
 use mathlib.Core.Path.{refl}
-use Rattle.words.specs.Words.{called-unheaded, called-done}
+use Rattle.words.specs.Laws.Words.{called-unheaded, called-done}
 use borrow.Author.Needs.{needs}
 use Rattle.exports.proofs.mouldgrey_open_table.Statement.{statement}
 use Rattle.exports.proofs.mouldgrey_open_table.Tie as tie

@@ -1,7 +1,7 @@
 -- `exports::questions::mouldgrey_refine_one` meets its contract. Assumes nothing.
 use mathlib.Core.Path.{refl, sym}
 use borrow.Author.Needs.{needs}
-use Rattle.words.specs.Words.{asked-unheaded, asked-unworded, asked-done}
+use Rattle.words.specs.Laws.Words.{asked-unheaded, asked-unworded, asked-done}
 use Rattle.exports_questions.proofs.mouldgrey_refine_one.Statement.{statement}
 use Rattle.exports_questions.proofs.mouldgrey_refine_one.Tie as tie
 

@@ -1,6 +1,6 @@
 -- `exports::tables::mouldgrey_updates_since` meets its contract. Assumes nothing.
 use mathlib.Core.Path.{sym}
-use Rattle.words.specs.Words.{asked-unheaded, asked-unworded, asked-done}
+use Rattle.words.specs.Laws.Words.{asked-unheaded, asked-unworded, asked-done}
 use borrow.Author.Needs.{needs}
 use Rattle.exports_questions.proofs.mouldgrey_updates_since.Statement.{statement}
 use Rattle.exports_questions.proofs.mouldgrey_updates_since.Tie as tie

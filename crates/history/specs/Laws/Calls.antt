@@ -6,9 +6,10 @@ use mathlib.Core.Logic.{inl, inr}
 use mathlib.Core.List.{List, []}
 use lib.ListN.{length}
 use Rattle.refusals.specs.Refusals.{Reply, refused, accepted}
-use Rattle.refusals.specs.Laws.{some-number, ruled-refused}
+use Rattle.refusals.specs.Laws.Replies.{some-number, ruled-refused}
 use Rattle.plain.specs.Staged.{Opening, Staged}
-use Rattle.plain.specs.Plain.{Plain, Lengths, opened, storesShort, wordsShort, compactRefusal as plainCompact}
+use Rattle.plain.specs.Plain.{Plain, opened}
+use Rattle.plain.specs.Refusing.{Lengths, storesShort, wordsShort, compactLadder}
 use Rattle.plain.specs.Calls.{Call, staging, merging, compacting, clearing, refusal, done, after, Lent, afterAll}
 use Rattle.plain.specs.Laws.Calls.{refused-nothing, accepted-done}
 use Rattle.table.specs.declared.Header.{Header}
@@ -18,7 +19,7 @@ use Rattle.table.specs.declared.MergeAnswer.{MergeAnswer}
 use Rattle.table.specs.Numbers.{tableSays, mergeSays}
 use Rattle.table.specs.Refusing.{stageRefusal, mergeRefusal, compactRefusal, clearRefusal}
 use Rattle.table.specs.Stores.{headerOf}
-use Rattle.table.specs.Promises.{Stores, stores, lengths, Represents, headerAfter, headerMerged, Staging, Merging, Compacting, Clearing}
+use Rattle.table.specs.Promises.{Stores, stores, lengths, Represents, headerAfter, headerMerged, Staging, Merging, Compacting, Clearing, Body, bodyOf, joined, CompactionWords, lengthsLent}
 use Rattle.table.specs.Laws.Ladders.{stage-ladders, merge-ladders, compact-ladders, clear-ladders}
 use Rattle.table.specs.Laws.Staging.{staging-represents}
 use Rattle.history.specs.Laws.Replies.{reply-refused, reply-accepted, accepted-number, accepted-same}
@@ -56,7 +57,7 @@ module _ {p : Plain} {s : Stores} (r : Represents p s) where
   staged-represents : (q : Staged) (answer : TableAnswer) (pending′ : List ℕ) → Staging (s .header) (s .pending) q answer pending′
       → Represents (after p (lengths (s .rows) (s .keys) (s .sorts) (s .pending) [] []) (staging q))
       (stores (headerAfter (s .header) (tableSays answer)) (s .rows) (s .keys) (s .sorts) pending′)
-  unfolding refusal done
+  unfolding done
   staged-represents q answer pending′ m =
       let l = lengths (s .rows) (s .keys) (s .sorts) (s .pending) [] [] in
       let n : ℕ = stageRefusal (s .header) (length (s .pending)) q in
@@ -70,13 +71,11 @@ module _ {p : Plain} {s : Stores} (r : Represents p s) where
             (rw (after-refused (s .header) (tableSays answer) n (m .answers ∙ reply-refused n _ h), m .unchanged h))
       ]
 
-  merged-represents : (live base : List ℕ) (answer : MergeAnswer) (rows′ keys′ sorts′ live′ base′ : List ℕ)
-      → Merging (s .header) (s .rows) (s .keys) (s .sorts) (s .pending) live base answer rows′ keys′ sorts′ live′ base′
-      → Represents (after p (lengths (s .rows) (s .keys) (s .sorts) (s .pending) live base) merging)
-      (stores (headerMerged (s .header) (mergeSays answer)) rows′ keys′ sorts′ (s .pending))
-  unfolding refusal done
-  merged-represents live base answer rows′ keys′ sorts′ live′ base′ m =
-      let l = lengths (s .rows) (s .keys) (s .sorts) (s .pending) live base in
+  merged-represents : (w : CompactionWords) (answer : MergeAnswer) (b′ : Body) (w′ : CompactionWords) → Merging s w answer b′ w′
+      → Represents (after p (lengthsLent s w) merging) (joined (headerMerged (s .header) (mergeSays answer)) b′ (s .pending))
+  unfolding done
+  merged-represents w answer b′ w′ m =
+      let l = lengthsLent s w in
       let n : ℕ = mergeRefusal (s .header) l in
       let same = merge-ladders r l in
       elim (some-number n) [
@@ -84,36 +83,32 @@ module _ {p : Plain} {s : Stores} (r : Represents p s) where
             goes l merging _ (sym same ∙ e)
             (rw (merged-accepted (s .header) (mergeSays answer) _ (m .table e p r .answers)) (m .table e p r .represents))
         | inr h ↦
-            let u = m .unchanged h in
             stays l merging _ (rw same at h)
-            (rw (merged-refused (s .header) (mergeSays answer) n (ruled-refused (mergeSays answer) n (m .refusal) h), u .0, u .1, u .2))
+            (rw (merged-refused (s .header) (mergeSays answer) n (ruled-refused (mergeSays answer) n (m .refusal) h), m .unchanged h .0))
       ]
 
-  compacted-represents : (live base : List ℕ) (answer : TableAnswer) (rows′ keys′ sorts′ live′ base′ : List ℕ)
-      → Compacting (s .header) (s .rows) (s .keys) (s .sorts) live base answer rows′ keys′ sorts′ live′ base′
-      → Represents (after p (lengths (s .rows) (s .keys) (s .sorts) (s .pending) live base) compacting)
-      (stores (headerAfter (s .header) (tableSays answer)) rows′ keys′ sorts′ (s .pending))
-  unfolding refusal done
-  compacted-represents live base answer rows′ keys′ sorts′ live′ base′ m =
-      let l = lengths (s .rows) (s .keys) (s .sorts) (s .pending) live base in
+  compacted-represents : (w : CompactionWords) (answer : TableAnswer) (b′ : Body) (w′ : CompactionWords) → Compacting (s .header) (bodyOf s) w answer b′ w′
+      → Represents (after p (lengthsLent s w) compacting) (joined (headerAfter (s .header) (tableSays answer)) b′ (s .pending))
+  unfolding done
+  compacted-represents w answer b′ w′ m =
+      let l = lengthsLent s w in
       -- the pending store is not lent, and the ladder does not look at it
-      let k = lengths (s .rows) (s .keys) (s .sorts) [] live base in
+      let k = lengthsLent (joined (s .header) (bodyOf s) []) w in
       let n : ℕ = compactRefusal (s .header) k in
-      let same : n ≡ plainCompact p l = compact-ladders r k ∙ (unfold plainCompact storesShort wordsShort in refl) in
+      let same : n ≡ refusal p l compacting = compact-ladders r k ∙ (unfold refusal compactLadder storesShort wordsShort in refl) in
       elim (some-number n) [
         | inl e ↦
             goes l compacting _ (sym same ∙ e)
             (rw (after-accepted (s .header) (tableSays answer) _ (m .table e (s .pending) p r .answers)) (m .table e (s .pending) p r .represents))
         | inr h ↦
-            let u = m .unchanged h in
             stays l compacting _ (rw same at h)
-            (rw (after-refused (s .header) (tableSays answer) n (ruled-refused (tableSays answer) n (m .refusal) h), u .0, u .1, u .2))
+            (rw (after-refused (s .header) (tableSays answer) n (ruled-refused (tableSays answer) n (m .refusal) h), m .unchanged h .0))
       ]
 
   cleared-represents : (answer : TableAnswer) (keys′ : List ℕ) → Clearing (s .header) (s .keys) answer keys′
       → Represents (after p (lengths (s .rows) (s .keys) (s .sorts) (s .pending) [] []) clearing)
       (stores (headerAfter (s .header) (tableSays answer)) (s .rows) keys′ (s .sorts) (s .pending))
-  unfolding refusal done
+  unfolding done
   cleared-represents answer keys′ m =
       let l = lengths (s .rows) (s .keys) (s .sorts) (s .pending) [] [] in
       let n : ℕ = clearRefusal (s .header) (length (s .keys)) in
@@ -132,8 +127,8 @@ module _ {p : Plain} {s : Stores} (r : Represents p s) where
 -- one call
 pub step-represents : {p : Plain} {s t : Stores} {c : Lent} → Represents p s → Step s c t → Represents (after p (c .lengths) (c .call)) t
 step-represents r (staged q answer pending′ m) = staged-represents r q answer pending′ m
-step-represents r (merged live base answer rows′ keys′ sorts′ live′ base′ m) = merged-represents r live base answer rows′ keys′ sorts′ live′ base′ m
-step-represents r (compacted live base answer rows′ keys′ sorts′ live′ base′ m) = compacted-represents r live base answer rows′ keys′ sorts′ live′ base′ m
+step-represents r (merged w answer b′ w′ m) = merged-represents r w answer b′ w′ m
+step-represents r (compacted w answer b′ w′ m) = compacted-represents r w answer b′ w′ m
 step-represents r (cleared answer keys′ m) = cleared-represents r answer keys′ m
 
 -- one after another

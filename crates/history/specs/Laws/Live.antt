@@ -2,38 +2,41 @@
 use Prim.Native.Nat.{ℕ, suc, _<_, suc-le-suc}
 use mathlib.Core.Path.{_≡_, refl, _∙_}
 use mathlib.Core.Bool.{Bool, true, false, cond}
-use mathlib.Core.List.{List, [], _∷_}
+use mathlib.Core.List.{List, [], _∷_, map}
 use native.Mathlib.Omega.{arith}
 use lib.ListN.{length, getD}
 use Rattle.lists.specs.Lists.{rowsOf}
 use Rattle.lists.specs.Laws.Rows.{length-rowsOf, getD-rowsOf}
 use Rattle.constraints.specs.Constraints.{isLive}
-use Rattle.plain.specs.Plain.{Row, Plain, liveRows}
-use Rattle.plain.specs.Plain.{liveFrom as plainLive}
+use Rattle.plain.specs.Plain.{Row, Plain, liveFrom, liveRows}
 use Rattle.plain.specs.Laws.Rows.{noRow}
 use Rattle.table.specs.Promises.{Stores, Represents}
-use Rattle.table.specs.Laws.Stored.{RowShown}
+use Rattle.table.specs.Stores.{RowShown}
 use Rattle.table.specs.Laws.Shown.{row-shown, rows-counted}
-use Rattle.history.specs.Claim.{liveFrom, liveIn}
+use Rattle.history.specs.Claim.{rowsIn, liveIn}
+
+-- a row as its cells tell
+abbrev told : List ℕ → Row
+told cells = record { live = isLive cells; cells = cells }
 
 -- rows that are shown place by place
 pub live-from : (n : ℕ) (rows : List Row) (cells : List (List ℕ)) → length cells ≡ length rows
-    → ((i : ℕ) → i < length rows → RowShown (getD rows i noRow) (getD cells i [])) → liveFrom n cells ≡ plainLive n rows
-unfolding liveFrom plainLive
+    → ((i : ℕ) → i < length rows → RowShown (getD rows i noRow) (getD cells i [])) → liveFrom n (map told cells) ≡ liveFrom n rows
+unfolding liveFrom
 live-from n [] [] e f = refl
 live-from n [] (c ∷ cells) e f = absurd (omega arith)
 live-from n (row ∷ rows) [] e f = absurd (omega arith)
 live-from n (row ∷ rows) (c ∷ cells) e f = go (live-from (suc n) rows cells (omega arith) (λ i h. f (suc i) (suc-le-suc h))) (f 0 (omega arith)) (row .live) refl
   where
-    go : liveFrom (suc n) cells ≡ plainLive (suc n) rows → RowShown row c → (b : Bool) → row .live ≡ b
-        → cond (isLive c) (record { number = n; cells = c } ∷ liveFrom (suc n) cells) (liveFrom (suc n) cells)
-        ≡ cond b (record { number = n; cells = row .cells } ∷ plainLive (suc n) rows) (plainLive (suc n) rows)
+    go : liveFrom (suc n) (map told cells) ≡ liveFrom (suc n) rows → RowShown row c → (b : Bool) → row .live ≡ b
+        → cond (isLive c) (record { number = n; cells = c } ∷ liveFrom (suc n) (map told cells)) (liveFrom (suc n) (map told cells))
+        ≡ cond b (record { number = n; cells = row .cells } ∷ liveFrom (suc n) rows) (liveFrom (suc n) rows)
     go ih s true q = rw (← s .live, q, ih, s .same q)
     go ih s false q = rw (← s .live, q, ih)
 
 -- "the live rows, numbers and cells, are those of document 01's plain table"
 pub live-shown : {p : Plain} {s : Stores} → Represents p s → liveIn s ≡ liveRows p
-unfolding liveIn liveRows
+unfolding liveIn rowsIn liveRows
 live-shown {p} {s} r =
     live-from 0 (p .rows) (rowsOf (s .header .columns) (s .header .rows) (s .rows))
     (length-rowsOf (s .header .columns) (s .header .rows) (s .rows) ∙ rows-counted r)

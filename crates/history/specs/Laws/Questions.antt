@@ -3,12 +3,13 @@ use Prim.Native.Nat.{ℕ, zero, suc, _≤_, _<_}
 use mathlib.Core.Path.{_≡_, refl, sym, ap, _∙_}
 use mathlib.Core.Logic.{inl, inr}
 use mathlib.Core.Bool.{Bool, true, not, _||_, and-true, false≢true}
+use mathlib.Core.Option.{Option, none, some}
 use mathlib.Core.List.{List, [], _∷_}
 use native.Mathlib.Omega.{arith}
 use lib.ListN.{length, getD}
 use lib.Dec.{eqb}
 use borrow.Author.Tests.{ltb-false, leb-true, eqb-true, eqb-false, ne-eqb, not-false}
-use Rattle.lists.specs.Lists.{keep, every, has, within, rowAt}
+use Rattle.lists.specs.Lists.{keep, every, has, within, rowAt, rising}
 use Rattle.lists.specs.Laws.Keep.{split, and-left, length-keep, count-le}
 use Rattle.lists.specs.Laws.Rising.{has-at, keep-has-comm}
 use Rattle.lists.specs.Laws.Every.{or-no-left, or-no-right}
@@ -16,7 +17,7 @@ use Rattle.refusals.specs.Refusals.{refused, accepted, reply}
 use Rattle.offsets.specs.declared.SubsetAnswer.{SubsetAnswer}
 use Rattle.offsets.specs.Subsets.{Subset, range, list, wellFormed, members, size, endOf, listOrNothing, intersect, retain, narrowed}
 use Rattle.offsets.specs.Answers.{Answered, readOff, written, room, intersectRefusal, intersectReply}
-use Rattle.offsets.specs.Laws.{rising-members, length-members, members-below, members-intersect, members-retain, members-narrowed, read-off}
+use Rattle.offsets.specs.Laws.Subsets.{rising-members, length-members, members-below, members-intersect, members-retain, members-narrowed, read-off}
 use Rattle.constraints.specs.declared.Constraint.{Constraint}
 use Rattle.constraints.specs.Constraints.{known, compares, met, meets}
 use Rattle.sort_entries.specs.Entries.{entriesOf, fastRange}
@@ -25,12 +26,12 @@ use Rattle.plain.specs.Plain.{Plain}
 use Rattle.plain.specs.Laws.Calls.{first-no, first-rest}
 use Rattle.table.specs.declared.Header.{Header}
 use Rattle.table.specs.declared.RangeAnswer.{RangeAnswer}
-use Rattle.table.specs.Numbers.{Maybe, one, rangeSays}
+use Rattle.table.specs.Numbers.{rangeSays}
 use Rattle.table.specs.Refusing.{fastRefusal}
 use Rattle.table.specs.Promises.{Stores, Represents, fastSubset, RangeRead}
 use Rattle.table.specs.Laws.Sound.{represents-sound}
-use Rattle.queries.specs.Queries.{matches, pastRows, refineRefusal, refineOneReply, refineListReply}
-use Rattle.history.specs.Runs.{Question, Gathered, byRefining, left, gathered, Asked, one-refined, list-refined, intersected, intersected-first, range-intersected, range-intersected-first, range-none, range-refused}
+use Rattle.queries.specs.Queries.{matches, pastRows, tests, refineRefusal, refineOneReply, refineListReply}
+use Rattle.history.specs.Runs.{Question, Gathered, byRefining, left, gathered, Intersected, Asked, one-refined, list-refined, intersected, range-intersected, range-nothing}
 use Rattle.history.specs.Laws.Replies.{ruled-accepted}
 use Rattle.history.specs.Laws.Narrowing.{alive, fits, alive-of, alive-below, alive-live, Narrows, narrows-not, narrows-keep}
 
@@ -60,7 +61,7 @@ record Refinable (h : Header) (a : Subset) (output : ℕ) : Type 0 where
   space : size a ≤ output
 
 refinable : (h : Header) (rows : ℕ) (a : Subset) (cs : List Constraint) (output : ℕ) → refineRefusal h rows a cs output ≡ 0 → Refinable h a output
-unfolding refineRefusal pastRows
+unfolding refineRefusal tests pastRows
 refinable h rows a cs output e =
     let b = first-rest _ 0 _ e in
     let c = first-rest _ 1 _ b in
@@ -125,14 +126,24 @@ intersect-fit (range a b) (list ids) = omega (arith, listed-room (keep (within a
 intersect-fit (list ids) (range a b) = unfold written in kept-room (within a b) ids
 intersect-fit (list ids) (list others) = unfold written in kept-room (λ id. has id others) ids
 
--- the ids in common, whichever subset comes first
-intersect-members : (a b : Subset) (output : ℕ) → Intersectable a b output → members (intersect a b) ≡ keep (λ id. has id (members b)) (members a)
-intersect-members a b output m = members-intersect a b (m .first-formed) (m .second-formed)
-
-intersect-turned : (a b : Subset) (output : ℕ) → Intersectable b a output → members (intersect b a) ≡ keep (λ id. has id (members b)) (members a)
-intersect-turned a b output m =
-    intersect-members b a output m
-    ∙ keep-has-comm (members b) (members a) (rising-members b (m .first-formed)) (rising-members a (m .second-formed))
+-- the ids in common, whichever subset comes first: what is left of a list of ids by one that it is intersected with
+intersected-narrows : {s : Stores} {g : Gathered} (a b : Subset) (output : List ℕ) (answer : SubsetAnswer) (output′ : List ℕ) → Intersected a b output answer output′
+    → ((v : Subset) → rising (members a) ≡ true → members v ≡ keep (λ id. has id (members b)) (members a) → Narrows s (members a) (members v) g)
+    → Narrows s (members a) (members (left a (readOff answer output′))) (gathered (readOff answer output′) g)
+unfolding intersectReply
+intersected-narrows a b output answer output′ (inl m) f =
+    let t = intersectable a b (length output) in
+    answered-narrows a _ (intersect a b) output answer output′ m
+    (λ e. omega (arith, intersect-fit a b, t e .space))
+    (λ e. f (intersect a b) (rising-members a (t e .first-formed)) (members-intersect a b (t e .first-formed) (t e .second-formed)))
+intersected-narrows a b output answer output′ (inr m) f =
+    let t = intersectable b a (length output) in
+    answered-narrows a _ (intersect b a) output answer output′ m
+    (λ e. omega (arith, intersect-fit b a, t e .space))
+    (λ e.
+    let up = rising-members a (t e .second-formed) in
+    f (intersect b a) up
+    (members-intersect b a (t e .first-formed) (t e .second-formed) ∙ keep-has-comm (members b) (members a) (rising-members b (t e .first-formed)) up))
 
 -- ---- ranges
 
@@ -142,7 +153,7 @@ record Ranged (h : Header) (sorts : List ℕ) (c : Constraint) (b : Subset) : Ty
   sorted : c .column ≡ h .sort
   is : b ≡ fastRange (c .kind) (c .value) (entriesOf (h .entries) sorts) (h .rows)
 
-ranged : (h : Header) (sorts : List ℕ) (c : Constraint) (b : Subset) → fastSubset h sorts c ≡ one b → Ranged h sorts c b
+ranged : (h : Header) (sorts : List ℕ) (c : Constraint) (b : Subset) → fastSubset h sorts c ≡ some b → Ranged h sorts c b
 unfolding fastSubset
 ranged h sorts c b e =
     elim (split (eqb (c .kind) 0 || not (eqb (c .column) (h .sort)))) [
@@ -165,31 +176,31 @@ unfolding met
 met-compared row c h = rw (ne-eqb (c .kind) 0 h)
 
 module _ {p : Plain} {s : Stores} (r : Represents p s) (c : Constraint) (answer : RangeAnswer) (b : Subset) (m : RangeRead (s .header) (s .sorts) c answer)
-    (q : rangeSays answer ≡ accepted (one b)) where
+    (q : rangeSays answer ≡ accepted (some b)) where
   -- a live row is in the range exactly if it meets the condition: its sort cell is the value recorded for it
   range-met : (id : ℕ) → alive s id ≡ true → has id (members b) ≡ met (rowAt (s .header .columns) id (s .rows)) c
   unfolding fastRefusal
   range-met id e =
       let sound = represents-sound r in
-      let n = ruled-accepted (rangeSays answer) (one b) _ (m .refusal) q in
-      let k : fastSubset (s .header) (s .sorts) c ≡ one b = same (sym (m .table n (sound .entries-rise)) ∙ q) in
+      let n = ruled-accepted (rangeSays answer) (some b) _ (m .refusal) q in
+      let k : fastSubset (s .header) (s .sorts) c ≡ some b = same (sym (m .table n (sound .entries-rise)) ∙ q) in
       let g = ranged (s .header) (s .sorts) c b k in
       let few = known-kind (s .header .columns) c (not-false _ (first-no _ 5 _ (first-rest _ 1 _ (first-rest _ 0 _ n)))) in
       let is = g .is in
       let compared = g .compared in
-      let some : 1 ≤ c .kind = omega arith in
+      let above : 1 ≤ c .kind = omega arith in
       rw is
-      (fast-range (entriesOf (s .header .entries) (s .sorts)) (s .header .rows) (c .kind) (c .value) (sound .entries-rise) some few id (alive-below s id e)
+      (fast-range (entriesOf (s .header .entries) (s .sorts)) (s .header .rows) (c .kind) (c .value) (sound .entries-rise) above few id (alive-below s id e)
       ∙ rw (met-compared (rowAt (s .header .columns) id (s .rows)) c compared, g .sorted, sound .sorted id (alive-below s id e, alive-live s id e)))
     where
-      same : {x y : Maybe Subset} → accepted x ≡ accepted y → x ≡ y
+      same : {x y : Option Subset} → accepted x ≡ accepted y → x ≡ y
       same f = cc
 
 -- ---- the questions
 
 module _ {p : Plain} {s : Stores} (r : Represents p s) where
   pub asked-narrows : {a b : Subset} {q : Question} {g : Gathered} → Asked s a q b g → Narrows s (members a) (members b) g
-  unfolding refineOneReply refineListReply intersectReply
+  unfolding refineOneReply refineListReply
   asked-narrows {a} (one-refined c output output′ answer m) =
       let f = refinable (s .header) (length (s .rows)) a (c ∷ []) (length output) in
       let is = members-retain (matches (s .header) (s .rows) (c ∷ [])) a in
@@ -201,32 +212,11 @@ module _ {p : Plain} {s : Stores} (r : Represents p s) where
       answered-narrows a _ (narrowed (matches (s .header) (s .rows) cs) a) output answer output′ (m .answered)
       (λ e. refined-fit s a cs (length output) (f e) _ is) (λ e. refined-narrows s a cs (length output) (f e) _ is)
   asked-narrows {a} (intersected b output output′ answer m) =
-      let f = intersectable a b (length output) in
-      answered-narrows a _ (intersect a b) output answer output′ m
-      (λ e. omega (arith, intersect-fit a b, f e .space))
-      (λ e.
-      narrows-keep (λ id. has id (members b)) (rising-members a (f e .first-formed)) (intersect-members a b _ (f e))
-      (λ id _. unfold fits every in sym (and-true _ ∙ and-true _)) (λ z. absurd (false≢true z)))
-  asked-narrows {a} (intersected-first b output output′ answer m) =
-      let f = intersectable b a (length output) in
-      answered-narrows a _ (intersect b a) output answer output′ m
-      (λ e. omega (arith, intersect-fit b a, f e .space))
-      (λ e.
-      narrows-keep (λ id. has id (members b)) (rising-members a (f e .second-formed)) (intersect-turned a b _ (f e))
-      (λ id _. unfold fits every in sym (and-true _ ∙ and-true _)) (λ z. absurd (false≢true z)))
+      intersected-narrows a b output answer output′ m
+      (λ v up is.
+      narrows-keep (λ id. has id (members b)) up is (λ id _. unfold fits every in sym (and-true _ ∙ and-true _)) (λ z. absurd (false≢true z)))
   asked-narrows {a} (range-intersected b c found output output′ answer read is m) =
-      let f = intersectable a b (length output) in
-      answered-narrows a _ (intersect a b) output answer output′ m
-      (λ e. omega (arith, intersect-fit a b, f e .space))
-      (λ e.
-      narrows-keep (λ id. has id (members b)) (rising-members a (f e .first-formed)) (intersect-members a b _ (f e))
-      (λ id l. range-met r c found b read is id l ∙ (unfold fits every in sym (and-true _))) (λ z. absurd (false≢true z)))
-  asked-narrows {a} (range-intersected-first b c found output output′ answer read is m) =
-      let f = intersectable b a (length output) in
-      answered-narrows a _ (intersect b a) output answer output′ m
-      (λ e. omega (arith, intersect-fit b a, f e .space))
-      (λ e.
-      narrows-keep (λ id. has id (members b)) (rising-members a (f e .second-formed)) (intersect-turned a b _ (f e))
-      (λ id l. range-met r c found b read is id l ∙ (unfold fits every in sym (and-true _))) (λ z. absurd (false≢true z)))
-  asked-narrows {a} (range-none c found read is) = narrows-not s (members a)
-  asked-narrows {a} (range-refused c found n read is) = narrows-not s (members a)
+      intersected-narrows a b output answer output′ m
+      (λ v up same.
+      narrows-keep (λ id. has id (members b)) up same (λ id l. range-met r c found b read is id l ∙ (unfold fits every in sym (and-true _))) (λ z. absurd (false≢true z)))
+  asked-narrows {a} (range-nothing c found read is) = narrows-not s (members a)

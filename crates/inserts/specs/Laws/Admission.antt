@@ -2,29 +2,30 @@
 -- table that shows a plain table stops where the plain one does. Assumes nothing.
 use Prim.Native.Nat.{ℕ, suc, _+_, _-_, _*_, _≤_, _<_}
 use mathlib.Core.Path.{_≡_, refl, sym, ap, _∙_}
-use mathlib.Core.Bool.{Bool, true, false, cond}
+use mathlib.Core.Bool.{Bool, true, false, cond, not}
 use mathlib.Core.List.{List, [], _∷_}
 use native.Mathlib.Decide.{decLt}
 use native.Mathlib.Omega.{arith}
 use lib.Dec.{leb, ltb}
 use lib.ListN.{length, getD}
-use borrow.Author.Tests.{le-leb, lt-leb}
+use borrow.Author.Tests.{le-leb, lt-leb, lt-ltb, le-ltb}
 use Rattle.lists.specs.Lists.{putAt}
 use Rattle.lists.specs.Laws.Parts.{length-putAt, putAt-alike}
 use Rattle.refusals.specs.Refusals.{first}
 use Rattle.sort_entries.specs.declared.Appended.{Appended}
 use Rattle.sort_entries.specs.declared.Appended.the-variants.{Below, Same, New}
-use Rattle.sort_entries.specs.Entries.{Entry, entriesOf, words, last, admits, push}
-use Rattle.sort_entries.specs.Append.{Room, appended, entriesAfter, storeAfter, Append, rebuild-of, rebuild-few}
+use Rattle.sort_entries.specs.Entries.{Entry, entriesOf, words, last, push}
+use Rattle.sort_entries.specs.inner.Append.{Room, appended, entriesAfter, storeAfter, Append, rebuild-of, rebuild-few}
+use Rattle.sort_entries.specs.inner.Admission.{admits}
 use Rattle.sort_entries.specs.Laws.Stores.{words-entriesOf}
 use Rattle.sort_entries.specs.Laws.Rebuilt.{rebuilt-admits, rebuilt-admits-none}
-use Rattle.plain.specs.Plain.{Row, Plain, stop, admits as plainAdmits}
+use Rattle.plain.specs.Plain.{Row, Plain, stop, lastValue, below}
 use Rattle.plain.specs.Proper.{Proper}
 use Rattle.plain.specs.Laws.Rows.{noRow, sortOf}
 use Rattle.table.specs.declared.Header.{Header}
 use Rattle.table.specs.Stores.{entries}
 use Rattle.table.specs.Promises.{Stores, Represents}
-use Rattle.inserts.specs.Inserts.{stopAt, Enterable, Stops, Entered}
+use Rattle.inserts.specs.inner.Parts.{stopAt, Enterable, Stops, Entered}
 use Rattle.table.specs.Laws.Shown.{rows-counted}
 use Rattle.table.specs.Laws.Sound.{sortCells, length-sortCells, getD-sortCells, sortCells-climb}
 
@@ -101,38 +102,43 @@ module _ (h : Header) (sorts : List ℕ) (value : ℕ) where
 -- ---- the plain table's stop
 
 -- the last row's sort cell decides
-last-admits : (sort value : ℕ) (rows : List Row) → 0 < length rows → plainAdmits sort value rows ≡ leb (sortOf sort (getD rows (length rows - 1) noRow)) value
-unfolding plainAdmits
-last-admits sort value [] h = absurd (omega arith)
-last-admits sort value (row ∷ []) h = refl
-last-admits sort value (row ∷ next ∷ rows) h =
+last-below : (sort value : ℕ) (rows : List Row) → 0 < length rows → below value (lastValue sort rows) ≡ ltb value (sortOf sort (getD rows (length rows - 1) noRow))
+unfolding lastValue below
+last-below sort value [] h = absurd (omega arith)
+last-below sort value (row ∷ []) h = refl
+last-below sort value (row ∷ next ∷ rows) h =
     let e : suc (suc (length rows)) - 1 ≡ suc (suc (length rows) - 1) = omega arith in
-    rw e (last-admits sort value (next ∷ rows) (omega arith))
+    rw e (last-below sort value (next ∷ rows) (omega arith))
+
+not-leb : (a b : ℕ) → ltb a b ≡ not (leb b a)
+not-leb a b = elim (decLt a b) [ yes k ↦ rw (lt-ltb a b k, lt-leb b a k) | no k ↦ rw (le-ltb a b (omega arith), le-leb b a (omega arith)) ]
 
 -- "the last entry's value is the last row's sort cell"
-pub admits-entries : {p : Plain} → Proper p → (value : ℕ) → plainAdmits (p .opening .sort) value (p .rows) ≡ admits value (entries p)
+below-entries : {p : Plain} → Proper p → (value : ℕ) → below value (lastValue (p .opening .sort) (p .rows)) ≡ not (admits value (entries p))
 unfolding entries
-admits-entries {p} proper value =
+below-entries {p} proper value =
     let n = length-sortCells p in
     elim (decLt 0 (length (p .rows))) [
       | yes h ↦
           let k : 0 < length (sortCells p) = omega arith in
-          last-admits (p .opening .sort) value (p .rows) h
-          ∙ sym (rebuilt-admits (sortCells p) (sortCells-climb proper) value k
+          last-below (p .opening .sort) value (p .rows) h
+          ∙ not-leb value _
+          ∙ ap not
+          (sym (rebuilt-admits (sortCells p) (sortCells-climb proper) value k
           ∙ ap (λ (i : ℕ). leb (getD (sortCells p) (i - 1) 0) value) n
-          ∙ ap (λ (v : ℕ). leb v value) (getD-sortCells p (length (p .rows) - 1) (omega arith)))
+          ∙ ap (λ (v : ℕ). leb v value) (getD-sortCells p (length (p .rows) - 1) (omega arith))))
       | no h ↦
           let z : length (p .rows) ≡ 0 = omega arith in
-          none (p .rows) z ∙ sym (rebuilt-admits-none (sortCells p) value (n ∙ z))
+          none (p .rows) z ∙ ap not (sym (rebuilt-admits-none (sortCells p) value (n ∙ z)))
     ]
   where
-    none : (rows : List Row) → length rows ≡ 0 → plainAdmits (p .opening .sort) value rows ≡ true
-    none [] e = unfold plainAdmits in refl
+    none : (rows : List Row) → length rows ≡ 0 → below value (lastValue (p .opening .sort) rows) ≡ false
+    none [] e = unfold lastValue below in refl
     none (row ∷ rows) e = absurd (omega arith)
 
 -- a table that shows a plain table stops where that does
 pub stop-same : {p : Plain} {s : Stores} → Represents p s → (cells : List ℕ) → stop cells p ≡ stopAt (s .header) (s .sorts) (getD cells (s .header .sort) 0)
 unfolding stop stopAt
 stop-same {p} {s} r cells =
-    rw (r .shown .entries-shown, rows-counted r, admits-entries (r .proper) (getD cells (p .opening .sort) 0))
+    rw (r .shown .entries-shown, rows-counted r, below-entries (r .proper) (getD cells (p .opening .sort) 0))
     (rw (r .shown .header))

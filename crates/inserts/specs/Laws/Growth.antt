@@ -14,7 +14,7 @@ use Rattle.lists.specs.Laws.Keep.{count-append}
 use Rattle.lists.specs.Laws.Parts.{length-putAt, putAt-start}
 use Rattle.lists.specs.Laws.Rows.{row-in, length-rowsOf, getD-rowsOf, rowsOf-appended, flat-rowsOf, flat-append}
 use Rattle.key_index.specs.Slots.{KeysSound}
-use Rattle.row_buffer.specs.Laws.{stale-rows}
+use Rattle.row_buffer.specs.Laws.Rows.{stale-rows}
 use Rattle.sort_entries.specs.Entries.{Entry, entriesOf, words, push, rebuilt}
 use Rattle.sort_entries.specs.Laws.Push.{rebuilt-snoc}
 use Rattle.sort_entries.specs.Laws.Stores.{length-entriesOf}
@@ -26,10 +26,10 @@ use Rattle.table.specs.declared.Header.{Header}
 use Rattle.table.specs.Stores.{entries, headerOf, marked, stored, rowStore, sortStore}
 use Rattle.table.specs.Sound.{keyedOf}
 use Rattle.table.specs.Promises.{Stores, stores, lengths, Represents}
-use Rattle.pending.specs.Steps.{Later, Steps, withCounts}
-use Rattle.inserts.specs.Inserts.{Entered}
+use Rattle.pending.specs.inner.Becoming.{Later, Steps, withCounts}
+use Rattle.inserts.specs.inner.Parts.{Entered}
 use Rattle.table.specs.Laws.Stored.{stored-again}
-use Rattle.table.specs.Laws.Shown.{long-stores, represents-long, rows-counted}
+use Rattle.table.specs.Laws.Shown.{long-stores, stored-rows, represents-long, rows-stored, rows-counted}
 use Rattle.pending.specs.Laws.Dying.{killAt, length-killAt, killAt-cells, killAt-live, entries-killAt, stored-killAt}
 
 -- ---- one row more
@@ -92,7 +92,7 @@ module _ {p : Plain} {s : Stores} (r : Represents p s) where
         cells-same = λ i. refl;
         was-live = λ i e. e;
         entries-same = refl;
-        rows-same = sym (r .shown .rows-shown);
+        rows-same = sym (rows-stored r);
         past = refl;
         long = refl;
       }
@@ -112,7 +112,7 @@ module _ {p : Plain} {s : Stores} (r : Represents p s) where
         rows-same =
             stale-rows w n i (s .rows) some-columns below
             ∙ sym (stored-killAt i (p .rows) before (live-below (p .rows) i live) (omega (arith, below, length-rowsOf w n (s .rows)))
-            ∙ ap₂ (λ (rows : List (List ℕ)) (row : List ℕ). set rows i (marked row)) (r .shown .rows-shown) (getD-rowsOf w n (s .rows) i below));
+            ∙ ap₂ (λ (rows : List (List ℕ)) (row : List ℕ). set rows i (marked row)) (rows-stored r) (getD-rowsOf w n (s .rows) i below));
         past = drop-set-lt (n * w) (s .rows) (i * w) 4294967295 (omega (arith, row-in i n w below, some-columns));
         long = length-set (s .rows) (i * w) 4294967295;
       }
@@ -225,7 +225,7 @@ module _ {p : Plain} {s : Stores} (r : Represents p s) {kept : List Row} {base :
                 shown =
                     record {
                       header = rw dead-is grown-header;
-                      rows-shown = rw rows-is grown-shown;
+                      rows-shown = stored-rows (withCounts (s .header) (s .header .rows + 1) d n) rows′ proper (rw rows-same (long .rows-long)) (rw dead-is grown-header) (rw rows-is grown-shown);
                       entries-shown = entries-grown;
                       pending-held = r .shown .pending-held;
                     };

@@ -4,6 +4,7 @@ use Prim.Native.Nat.{ℕ, zero, suc, _+_, _*_, _≤_, _<_}
 use mathlib.Core.Path.{_≡_, refl, sym, ap, ap₂, _∙_}
 use mathlib.Core.Logic.{inl, inr}
 use mathlib.Core.Bool.{Bool, true, false, false≢true}
+use mathlib.Core.Option.{none, some}
 use mathlib.Core.List.{List, [], _∷_, _++_}
 use native.Mathlib.Nat.{add-zero, suc-mul}
 use native.Mathlib.Numerals.{add-one}
@@ -19,17 +20,15 @@ use Rattle.cells.specs.Cells.{isDead, compact, keyHash}
 use Rattle.constraints.specs.Constraints.{isLive}
 use Rattle.merge_rules.specs.Rules.{changesFrom, madeFrom, Ruled, kept as ruleKept, made, ruled}
 use Rattle.merge_rules.specs.Survivor.{survivor}
-use Rattle.merge_rules.specs.Laws.{made-length, made-keys, made-first, kept-of, made-of, survives, survivor-length, ruled-made}
+use Rattle.merge_rules.specs.Laws.Rules.{made-length, made-keys, made-first, kept-of, made-of, survives, survivor-length, ruled-made}
 use Rattle.key_index.specs.declared.Found.{Found}
 use Rattle.key_index.specs.declared.Found.the-variants.{None, At}
-use Rattle.key_index.specs.Slots.{LiveAt, keyAt, KeysSound}
-use Rattle.key_index.specs.Ring.{tagged}
-use Rattle.key_index.specs.Index.{Fits, FoundAt, FoundIs, PutIs}
-use Rattle.key_index.specs.Laws.{put-sound, replace-sound, replace-tail}
-use Rattle.key_index.specs.Rows.{WithRows, grown-rows, swapped-rows}
+use Rattle.key_index.specs.Slots.{LiveAt, keyAt, KeysSound, tagged}
+use Rattle.key_index.specs.inner.Index.{Fits, FoundAt, FoundIs, PutIs}
+use Rattle.key_index.specs.Laws.Index.{put-sound, replace-sound, replace-tail}
+use Rattle.key_index.specs.Laws.Rows.{WithRows, grown-rows, swapped-rows}
 use Rattle.plain.specs.Staged.{insert, skipped}
-use Rattle.plain.specs.Merging.{kept, appended, stopped}
-use Rattle.plain.specs.Plain.{Row, Plain, liveRow, withRows, dead, liveWithKey, killIf, liveOf, none, one, stop, append, put, insertion}
+use Rattle.plain.specs.Plain.{unchanged, appended, stopped, Row, Plain, liveRow, withRows, lookup, dead, liveWithKey, killIf, stop, append, put, insertion}
 use Rattle.plain.specs.Proper.{rowOf}
 use Rattle.plain.specs.Laws.Rows.{noRow, liveWithKey-live, apart-of}
 use Rattle.plain.specs.Laws.Proper.{insertion-proper}
@@ -38,80 +37,46 @@ use Rattle.inserts.specs.declared.Insertion.{Insertion}
 use Rattle.inserts.specs.declared.Insertion.the-variants.{Kept, Appended, Stopped}
 use Rattle.table.specs.Sound.{keyedOf}
 use Rattle.table.specs.Promises.{Stores, stores, Represents}
-use Rattle.pending.specs.Steps.{Recounted, withCounts, hashOf}
-use Rattle.inserts.specs.Inserting.{Comes, Inserting}
-use Rattle.inserts.specs.Inserts.{Grew, NewIs, Replaced, Changes, rowMade, KnownIs}
+use Rattle.pending.specs.inner.Becoming.{Recounted, withCounts, hashOf}
+use Rattle.inserts.specs.inner.Inserting.{Comes, Inserting}
+use Rattle.inserts.specs.inner.Parts.{Grew, NewIs, Replaced, Changes, rowMade, KnownIs}
 use Rattle.table.specs.Laws.Stored.{marked-dead}
 use Rattle.table.specs.Laws.Shown.{in-live, live-cells}
 use Rattle.table.specs.Laws.Sound.{represents-sound}
-use Rattle.table.specs.Laws.Lookup.{passes-live, live-passes}
+use Rattle.table.specs.Laws.Lookup.{live-passes, row-lookup, none-found}
 use Rattle.pending.specs.Laws.Dying.{killAt, killIf-one, dead-killAt}
 use Rattle.inserts.specs.Laws.Admission.{stop-same}
 use Rattle.inserts.specs.Laws.Growth.{prepared-same, prepared-dead, grownBy, grown-steps}
 
--- ---- the live row of a key
-
-module _ (keys : ℕ) (key : List ℕ) where
-  liveOf-free : (rows : List Row) → ((i : ℕ) → liveWithKey keys key (getD rows i noRow) ≡ true → ⊥) → liveOf keys key rows ≡ none
-  unfolding liveOf
-  liveOf-free [] f = refl
-  liveOf-free (row ∷ rows) f =
-      elim (split (liveWithKey keys key row)) [ inl e ↦ absurd (f 0 e) | inr e ↦ rw e (liveOf-free rows (λ i. f (suc i))) ]
-
-  liveOf-one : (rows : List Row) (i : ℕ) → liveWithKey keys key (getD rows i noRow) ≡ true
-      → ((j : ℕ) → liveWithKey keys key (getD rows j noRow) ≡ true → j ≡ i) → liveOf keys key rows ≡ one (getD rows i noRow .cells)
-  unfolding liveOf
-  liveOf-one [] i e f = absurd (false≢true (liveWithKey-live keys key noRow e))
-  liveOf-one (row ∷ rows) zero e f = rw e
-  liveOf-one (row ∷ rows) (suc i) e f =
-      elim (split (liveWithKey keys key row)) [
-        | inl q ↦ absurd (let z : 0 ≡ suc i = f 0 q in omega arith)
-        | inr q ↦ rw q (liveOf-one rows i e (λ j g. let z : suc j ≡ suc i = f (suc j) g in omega arith))
-      ]
-
-module _ {p : Plain} {s : Stores} (r : Represents p s) where
-  keys-same : s .header .keys ≡ p .opening .keys
-  keys-same = ap (λ (h : Header). h .keys) (r .shown .header)
-
-  -- where no live row of the stores has the key
-  found-none : (key : List ℕ) → ((i : ℕ) → LiveAt (keyedOf (s .header)) (s .rows) i → keyAt (keyedOf (s .header)) (s .rows) i ≡ key → ⊥)
-      → liveOf (p .opening .keys) key (p .rows) ≡ none
-  found-none key f = liveOf-free (p .opening .keys) key (p .rows) (λ i e. let l = passes-live r key i e in f i (l .0) (l .1))
-
-  -- where one has it
-  found-one : (key : List ℕ) (i : ℕ) → LiveAt (keyedOf (s .header)) (s .rows) i → keyAt (keyedOf (s .header)) (s .rows) i ≡ key
-      → liveOf (p .opening .keys) key (p .rows) ≡ one (rowAt (s .header .columns) i (s .rows))
-  found-one key i l e =
-      liveOf-one (p .opening .keys) key (p .rows) i (live-passes r key i l e)
-      (λ j q. let g = passes-live r key j q in represents-sound r .keys-differ j i (g .0) l (g .1 ∙ sym e))
-      ∙ ap one (live-cells r i (in-live r i l))
+keys-same : {p : Plain} {s : Stores} → Represents p s → s .header .keys ≡ p .opening .keys
+keys-same r = ap (λ (h : Header). h .keys) (r .shown .header)
 
 -- ---- the plain table's insertion, way by way
 
 module _ (cells : List ℕ) (p : Plain) where
   -- "An insert with a dead first cell is skipped"
-  pub insertion-skips : skipped cells ≡ true → insertion cells p ≡ kept
+  pub insertion-skips : skipped cells ≡ true → insertion cells p ≡ unchanged
   unfolding insertion
   insertion-skips e = rw e
 
   -- "A new key is appended"
-  insertion-new : skipped cells ≡ false → liveOf (p .opening .keys) (take (p .opening .keys) cells) (p .rows) ≡ none
+  insertion-new : skipped cells ≡ false → lookup p (take (p .opening .keys) cells) ≡ none
       → insertion cells p ≡ append cells p (p .rows)
   unfolding insertion put
   insertion-new e f = rw (e, f)
 
   -- "A known key goes through the rule"
-  module _ (e : skipped cells ≡ false) (old : List ℕ) (f : liveOf (p .opening .keys) (take (p .opening .keys) cells) (p .rows) ≡ one old) where
+  module _ (e : skipped cells ≡ false) (number : ℕ) (old : List ℕ) (f : lookup p (take (p .opening .keys) cells) ≡ some (record { number = number; cells = old })) where
     put-ruled : (x : Ruled) → ruled (p .opening .rule) (p .opening .keys) (p .opening .sort) old cells ≡ x
-        → put cells (one old) p
-        ≡ elim x [ ruleKept ↦ kept | made row ↦ append row p (killIf (liveWithKey (p .opening .keys) (take (p .opening .keys) cells)) (p .rows)) ]
+        → put cells (some (record { number = number; cells = old })) p
+        ≡ elim x [ ruleKept ↦ unchanged | made row ↦ append row p (killIf (liveWithKey (p .opening .keys) (take (p .opening .keys) cells)) (p .rows)) ]
     unfolding put
     put-ruled x g =
         ap
-        (λ (y : Ruled). elim y [ ruleKept ↦ kept | made row ↦ append row p (killIf (liveWithKey (p .opening .keys) (take (p .opening .keys) cells)) (p .rows)) ])
+        (λ (y : Ruled). elim y [ ruleKept ↦ unchanged | made row ↦ append row p (killIf (liveWithKey (p .opening .keys) (take (p .opening .keys) cells)) (p .rows)) ])
         g
 
-    insertion-keeps : changesFrom (p .opening .rule) (p .opening .keys) (p .opening .sort) 0 old cells ≡ false → insertion cells p ≡ kept
+    insertion-keeps : changesFrom (p .opening .rule) (p .opening .keys) (p .opening .sort) 0 old cells ≡ false → insertion cells p ≡ unchanged
     unfolding insertion
     insertion-keeps g = rw (e, f) (put-ruled ruleKept (kept-of (p .opening .rule) (p .opening .keys) (p .opening .sort) old cells g))
 
@@ -278,7 +243,7 @@ module _ (h : Header) (rows keys sorts cells : List ℕ) (hash : ℕ) where
       -- a new key
       new-way : f ≡ None → insertion cells p ≡ append cells p (p .rows)
       unfolding skipped
-      new-way e = insertion-new cells p live (rw key-same (found-none r (take (h .keys) cells) (found .none hash-is (r .keyed) e)))
+      new-way e = insertion-new cells p live (rw key-same (none-found r (take (h .keys) cells) (found .none hash-is (r .keyed) e)))
 
       -- a known key
       module _ (old slot : ℕ) (e : f ≡ At old slot) where
@@ -294,8 +259,8 @@ module _ (h : Header) (rows keys sorts cells : List ℕ) (hash : ℕ) where
             (rw (add-one old, suc-mul) (omega (arith, row-in old (h .capacity) (h .columns) (omega (arith, there .live .0, fits .count)), fits .cells)))
             ∙ sym width
 
-        old-is : liveOf (p .opening .keys) (take (p .opening .keys) cells) (p .rows) ≡ one (rowAt (h .columns) old rows)
-        old-is = rw key-same (found-one r (take (h .keys) cells) old (there .live) (there .key-is))
+        old-is : lookup p (take (p .opening .keys) cells) ≡ some (record { number = old; cells = rowAt (h .columns) old rows })
+        old-is = rw key-same (row-lookup r (take (h .keys) cells) old (there .live) (there .key-is))
 
         rule-same : h .rule ≡ p .opening .rule
         rule-same = ap (λ (h : Header). h .rule) (r .shown .header)
@@ -307,9 +272,9 @@ module _ (h : Header) (rows keys sorts cells : List ℕ) (hash : ℕ) where
         changes-same = rw (← rule-same, ← keys-same r, ← sort-same)
 
         -- the old row is kept
-        keep-way : Changes h (rowAt (h .columns) old rows) cells ≡ false → insertion cells p ≡ kept
+        keep-way : Changes h (rowAt (h .columns) old rows) cells ≡ false → insertion cells p ≡ unchanged
         unfolding skipped
-        keep-way c = insertion-keeps cells p live (rowAt (h .columns) old rows) old-is (changes-same ∙ c)
+        keep-way c = insertion-keeps cells p live old (rowAt (h .columns) old rows) old-is (changes-same ∙ c)
 
         kill-same : killIf (liveWithKey (p .opening .keys) (take (p .opening .keys) cells)) (p .rows) ≡ killAt old (p .rows)
         kill-same =
@@ -324,7 +289,7 @@ module _ (h : Header) (rows keys sorts cells : List ℕ) (hash : ℕ) where
           make-way : insertion cells p ≡ append (rowMade h (rowAt (h .columns) old rows) cells) p (killAt old (p .rows))
           unfolding skipped
           make-way =
-              insertion-makes cells p live (rowAt (h .columns) old rows) old-is (changes-same ∙ c)
+              insertion-makes cells p live old (rowAt (h .columns) old rows) old-is (changes-same ∙ c)
               ∙ ap₂ (λ (row : List ℕ) (kept : List Row). append row p kept) (rw (← rule-same, ← keys-same r, ← sort-same) (sym row-is)) kill-same
 
           made-wide : length (rowMade h (rowAt (h .columns) old rows) cells) ≡ h .columns

@@ -3,7 +3,7 @@ use Prim.Native.Nat.{_-_}
 use native.Mathlib.Omega.{arith}
 use lib.ListN.{length}
 use borrow.Author.Needs.{needs}
-use Rattle.offset_search.specs.Search.{scanPlace}
+use Rattle.offset_search.specs.inner.Search.{scanPlace}
 use Rattle.intersection.proofs.Common.{Meets, meets-begin, scan-hit, scan-miss, spent, meets-end}
 use Rattle.intersection.proofs.gallop_along.Statement.{statement}
 use Rattle.intersection.proofs.gallop_along.Tie as tie

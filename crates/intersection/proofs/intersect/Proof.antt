@@ -3,7 +3,7 @@ use mathlib.Core.Path.{_≡_, sym, _∙_}
 use lib.ListN.{length}
 use borrow.Author.Needs.{needs}
 use Rattle.offsets.specs.Answers.{subsetOf, intersectRefusal}
-use Rattle.offsets.specs.Laws.{answered-range}
+use Rattle.offsets.specs.Laws.Subsets.{answered-range}
 use Rattle.intersection.proofs.Answers.{answered-refused, can-range-list, can-list-range, can-lists, as-ranges, as-range-list, as-list-range, as-lists}
 use Rattle.intersection.proofs.intersect.Statement.{statement}
 use Rattle.intersection.proofs.intersect.Tie as tie

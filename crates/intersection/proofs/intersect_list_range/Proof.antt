@@ -1,7 +1,7 @@
 -- `offsets::intersect_list_range` meets its contract. Assumes nothing.
 use native.Mathlib.Omega.{arith}
 use borrow.Author.Needs.{needs}
-use Rattle.offsets.specs.Laws.{answered-list}
+use Rattle.offsets.specs.Laws.Subsets.{answered-list}
 use Rattle.intersection.proofs.Answers.{wrote-few}
 use Rattle.intersection.proofs.intersect_list_range.Statement.{statement}
 use Rattle.intersection.proofs.intersect_list_range.Tie as tie

@@ -1,7 +1,7 @@
 -- `offsets::intersect_lists` meets its contract. Assumes nothing.
 use native.Mathlib.Omega.{arith}
 use borrow.Author.Needs.{needs}
-use Rattle.offsets.specs.Laws.{answered-list}
+use Rattle.offsets.specs.Laws.Subsets.{answered-list}
 use Rattle.intersection.proofs.Answers.{wrote-few-common}
 use Rattle.intersection.proofs.intersect_lists.Statement.{statement}
 use Rattle.intersection.proofs.intersect_lists.Tie as tie

@@ -5,7 +5,7 @@ use native.Mathlib.Omega.{arith}
 use lib.ListN.{length, getD, length-set}
 use borrow.Author.Tests.{not-true, not-false}
 use Rattle.key_index.specs.Slots.{slots}
-use Rattle.key_check.specs.Check.{named, Stands}
+use Rattle.key_check.specs.inner.Check.{named, Stands}
 use Rattle.key_check.proofs.CheckSteps.{fits-lie, Walk, Few, round-begin, slot-in, counted, round-end, turn-free, turn-wrong, turn-twice, turn-taken}
 use Rattle.key_check.proofs.round_holds.Statement.{statement}
 use Rattle.key_check.proofs.round_holds.Tie as tie

@@ -3,7 +3,7 @@ use mathlib.Core.Path.{sym, _∙_}
 use native.Mathlib.Omega.{arith}
 use borrow.Author.Needs.{needs}
 use borrow.Author.Tests.{not-true, not-false}
-use Rattle.key_index.specs.Index.{rows-in}
+use Rattle.key_index.specs.Laws.Index.{rows-in}
 use Rattle.key_gaps.proofs.GapSteps.{Walk, begin, finish, stop, stay, move}
 use Rattle.key_gaps.proofs.close_gap.Statement.{statement}
 use Rattle.key_gaps.proofs.close_gap.Tie as tie

@@ -4,7 +4,7 @@ use mathlib.Core.Path.{ap, _∙_}
 use native.Mathlib.Omega.{arith}
 use borrow.Author.Needs.{needs}
 use Rattle.key_index.specs.Slots.{slots}
-use Rattle.key_index.specs.Ring.{away}
+use Rattle.key_index.specs.inner.Ring.{away}
 use Rattle.key_index.proofs.WordSteps.{Named, named}
 use Rattle.key_gaps.proofs.GapSteps.{key-part, home-part}
 use Rattle.key_gaps.proofs.home_away.Statement.{statement}

@@ -6,8 +6,8 @@ use native.Mathlib.Omega.{arith}
 use lib.ListN.{length, getD}
 use borrow.Author.Needs.{needs}
 use borrow.Author.Tests.{not-true, not-false}
-use Rattle.row_buffer.specs.Laws.{setBelow-le}
-use Rattle.key_index.specs.Ring.{namesRow}
+use Rattle.row_buffer.specs.Laws.Rows.{setBelow-le}
+use Rattle.key_index.specs.inner.Ring.{namesRow}
 use Rattle.key_gaps.proofs.RenumberSteps.{stays, too-large, has-new, in-words}
 use Rattle.key_gaps.proofs.renumber_word.Statement.{statement}
 use Rattle.key_gaps.proofs.renumber_word.Tie as tie

@@ -5,7 +5,7 @@ use mathlib.Core.List.{List}
 use native.Mathlib.Omega.{arith}
 use lib.ListN.{length, set}
 use Rattle.lists.specs.Lists.{putAt}
-use Rattle.key_index.specs.Index.{zeros}
+use Rattle.key_index.specs.inner.Index.{zeros}
 use Rattle.key_index.proofs.PutSteps.{empty-begin, empty-step, empty-end}
 use borrow.Author.Needs.{needs}
 use Rattle.key_index.proofs.empty.Statement.{statement}

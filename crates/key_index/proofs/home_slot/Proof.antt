@@ -3,7 +3,8 @@ use Prim.Native.Nat.{_≤_}
 use mathlib.Core.Path.{refl}
 use native.Mathlib.Nat.{mul-le-mul}
 use native.Mathlib.Omega.{arith}
-use Rattle.key_index.specs.Ring.{spread, spread-below}
+use Rattle.key_index.specs.Laws.Ring.{spread-below}
+use Rattle.key_index.specs.Slots.{spread}
 use borrow.Author.Needs.{needs}
 use Rattle.key_index.proofs.home_slot.Statement.{statement}
 use Rattle.key_index.proofs.home_slot.Tie as tie

@@ -7,7 +7,7 @@ use lib.ListN.{take, drop}
 use borrow.Author.Needs.{needs}
 use borrow.Author.Tests.{not-true, not-false}
 use Rattle.lists.specs.Lists.{same}
-use Rattle.row_buffer.specs.Laws.{key-row}
+use Rattle.row_buffer.specs.Laws.Rows.{key-row}
 use Rattle.key_index.proofs.WordSteps.{Named, named, hit-bits, hit-nameless, hit-cells}
 use Rattle.key_index.proofs.is_hit.Statement.{statement}
 use Rattle.key_index.proofs.is_hit.Tie as tie

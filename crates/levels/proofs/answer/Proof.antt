@@ -2,7 +2,7 @@
 use native.Mathlib.Omega.{arith}
 use borrow.Author.Needs.{needs}
 use lib.ListN.{length-take}
-use Rattle.levels_text.specs.Reading.{parsed-fits, parsed-numbers}
+use Rattle.levels_text.specs.inner.Reading.{parsed-fits, parsed-numbers}
 use Rattle.levels.proofs.answer.Statement.{statement}
 use Rattle.levels.proofs.answer.Tie as tie
 

@@ -2,7 +2,7 @@
 use mathlib.Core.Logic.{⊎-elim}
 use native.Mathlib.Omega.{arith}
 use borrow.Author.Needs.{needs}
-use Rattle.levels_text.specs.Laws.{form-insert, form-by-row, form-by-key}
+use Rattle.levels_text.specs.Laws.Lines.{form-insert, form-by-row, form-by-key}
 use Rattle.levels.proofs.serve.Statement.{statement}
 use Rattle.levels.proofs.serve.Tie as tie
 

@@ -1,7 +1,7 @@
 -- `levels::questions::ask` is safe. Assumes nothing.
 use native.Mathlib.Omega.{arith}
 use borrow.Author.Needs.{needs}
-use Rattle.levels_text.specs.Laws.{form-range}
+use Rattle.levels_text.specs.Laws.Lines.{form-range}
 use Rattle.levels_calls.proofs.ask.Statement.{statement}
 use Rattle.levels_calls.proofs.ask.Tie as tie
 

@@ -1,7 +1,7 @@
 -- `levels::changes::remake` is safe. Assumes nothing.
 use native.Mathlib.Omega.{arith}
 use borrow.Author.Needs.{needs}
-use Rattle.levels_text.specs.Laws.{form-open}
+use Rattle.levels_text.specs.Laws.Lines.{form-open}
 use Rattle.levels_calls.proofs.remake.Statement.{statement}
 use Rattle.levels_calls.proofs.remake.Tie as tie
 

@@ -6,8 +6,8 @@ use borrow.Author.Needs.{needs}
 use lib.ListN.{length}
 use Rattle.levels_text.proofs.Numbers.{Numbers, numbers-begin, wrong-letter, wrong-number, fits, next-place, numbers-more, parsed-line, wrong-form}
 use Rattle.levels_text.specs.Lines.{letter}
-use Rattle.levels_text.specs.Reading.{parsed-no-room, parsed-wrong}
-use Rattle.levels_text.specs.Laws.{too-long, no-bytes, comma-first}
+use Rattle.levels_text.specs.inner.Reading.{parsed-no-room, parsed-wrong}
+use Rattle.levels_text.specs.Laws.Lines.{too-long, no-bytes, comma-first}
 use Rattle.levels_text.proofs.parse.Statement.{statement}
 use Rattle.levels_text.proofs.parse.Tie as tie
 

@@ -3,7 +3,7 @@ use Prim.Native.Nat.{_-_}
 use mathlib.Core.Logic.{⊎-elim}
 use borrow.Author.Needs.{needs}
 use lib.ListN.{length}
-use Rattle.levels_text.specs.Laws.{first-end, first-at-comma}
+use Rattle.levels_text.specs.Laws.Lines.{first-end, first-at-comma}
 use Rattle.levels_text.proofs.Digits.{Digits, digits-begin, digits-more, wrong-below, wrong-above, wrong-zero, wrong-large, first-digit, later-digit, field-empty, field-read}
 use Rattle.levels_text.proofs.read_field.Statement.{statement}
 use Rattle.levels_text.proofs.read_field.Tie as tie

@@ -6,7 +6,7 @@ use mathlib.Core.List.{List, [], _∷_, _++_, map}
 use native.Mathlib.Numerals.{add-one}
 use native.Mathlib.Omega.{arith}
 use lib.ListN.{length, drop, getD}
-use Rattle.lists.specs.Lists.{keep, count, every, some}
+use Rattle.lists.specs.Lists.{keep, count, every, any}
 use Rattle.lists.specs.Laws.Keep.{and-left, and-right, keep-every, every-keep}
 
 -- both hold
@@ -98,12 +98,12 @@ module _ {A : Type 0} (test : A → Bool) where
   every-more [] x = and-true (test x)
   every-more (y ∷ xs) x = ap (λ (b : Bool). test y && b) (every-more xs x) ∙ sym (and-assoc (test y) (every test xs) (test x))
 
-  some-suc : (d : A) (xs : List A) (i : ℕ) → i < length xs → some test (drop i xs) ≡ (test (getD xs i d) || some test (drop (suc i) xs))
-  unfolding some
-  some-suc d [] i h = absurd (omega arith)
-  some-suc d (x ∷ xs) zero h = refl
-  some-suc d (x ∷ xs) (suc i) h = some-suc d xs i (omega arith)
+  any-suc : (d : A) (xs : List A) (i : ℕ) → i < length xs → any test (drop i xs) ≡ (test (getD xs i d) || any test (drop (suc i) xs))
+  unfolding any
+  any-suc d [] i h = absurd (omega arith)
+  any-suc d (x ∷ xs) zero h = refl
+  any-suc d (x ∷ xs) (suc i) h = any-suc d xs i (omega arith)
 
   -- from a place on, the element there passes or one after it
-  pub some-step : (d : A) (xs : List A) (i : ℕ) → i < length xs → some test (drop i xs) ≡ (test (getD xs i d) || some test (drop (i + 1) xs))
-  some-step d xs i h = rw (add-one i) (some-suc d xs i h)
+  pub any-step : (d : A) (xs : List A) (i : ℕ) → i < length xs → any test (drop i xs) ≡ (test (getD xs i d) || any test (drop (i + 1) xs))
+  any-step d xs i h = rw (add-one i) (any-suc d xs i h)

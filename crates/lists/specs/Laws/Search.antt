@@ -11,44 +11,43 @@ use lib.Dec.{ltb}
 use lib.ListN.{length, take, drop, getD, set, length-drop, take-append-drop}
 use lib.Seq.{getD-drop, take-append-seam}
 use borrow.Author.Tests.{lt-ltb, le-ltb}
-use Rattle.lists.specs.Lists.{putAt, keep, count, rising, has, within}
+use Rattle.lists.specs.Lists.{putAt, keep, count, rising, has, within, place}
 use Rattle.lists.specs.Laws.Parts.{length-putAt, putAt-then, set-putAt}
-use Rattle.lists.specs.Laws.Keep.{split, keep-no, keep-append, count-yes, count-no, count-le}
+use Rattle.lists.specs.Laws.Keep.{split, keep-no, keep-append}
 use Rattle.lists.specs.Laws.Rising.{above-at, rising-tail, rising-at, rising-count-lt, keep-within-part, has-at, has-of}
 
--- the first place whose number is not below t
-unfoldable pub place : ℕ → List ℕ → ℕ
-place t l = count (λ x. ltb x t) l
+place-yes : (t x : ℕ) (xs : List ℕ) → x < t → place t (x ∷ xs) ≡ suc (place t xs)
+unfolding place
+place-yes t x xs h = rw (lt-ltb x t h)
+
+place-no : (t x : ℕ) (xs : List ℕ) → t ≤ x → place t (x ∷ xs) ≡ 0
+unfolding place
+place-no t x xs h = rw (le-ltb x t h)
 
 pub place-le : (t : ℕ) (l : List ℕ) → place t l ≤ length l
-unfolding place
-place-le t l = count-le (λ x. ltb x t) l
+place-le t [] = unfold place in omega arith
+place-le t (x ∷ xs) =
+    elim (decLt x t) [
+      | yes a ↦ rw (place-yes t x xs a) (suc-le-suc (place-le t xs))
+      | no a ↦ rw (place-no t x xs (omega arith)) (omega arith)
+    ]
 
 -- a number below t stands before it
 pub place-past : (t : ℕ) (l : List ℕ) → rising l ≡ true → (i : ℕ) → i < length l → getD l i 0 < t → i < place t l
-unfolding place
 place-past t [] e i h k = absurd (omega arith)
-place-past t (x ∷ xs) e zero h k = rw (count-yes (λ y. ltb y t) x xs (lt-ltb x t k)) (omega arith)
+place-past t (x ∷ xs) e zero h k = rw (place-yes t x xs k) (omega arith)
 place-past t (x ∷ xs) e (suc i) h k =
     let a : x < getD xs i 0 = rising-at (x ∷ xs) e 0 (suc i) (omega arith) h in
-    let b : x < t = omega arith in
-    rw (count-yes (λ y. ltb y t) x xs (lt-ltb x t b)) (suc-le-suc (place-past t xs (rising-tail x xs e) i (omega arith) k))
+    rw (place-yes t x xs (omega arith)) (suc-le-suc (place-past t xs (rising-tail x xs e) i (omega arith) k))
 
 -- any other at it or after it
 pub place-upto : (t : ℕ) (l : List ℕ) → rising l ≡ true → (i : ℕ) → i < length l → t ≤ getD l i 0 → place t l ≤ i
-unfolding place
 place-upto t [] e i h k = absurd (omega arith)
-place-upto t (x ∷ xs) e zero h k =
-    let z : count (λ y. ltb y t) (x ∷ xs) ≡ 0 = rising-count-lt (x ∷ xs) t 0 (omega arith) (λ i a. absurd (omega arith)) none in
-    omega arith
-  where
-    none : (i : ℕ) → 0 ≤ i → i < length (x ∷ xs) → t ≤ getD (x ∷ xs) i 0
-    none zero a b = k
-    none (suc i) a b = let c : x < getD xs i 0 = above-at x xs (unfold rising in e) i (omega arith) in omega arith
+place-upto t (x ∷ xs) e zero h k = rw (place-no t x xs k) (omega arith)
 place-upto t (x ∷ xs) e (suc i) h k =
     elim (decLt x t) [
-      | yes a ↦ rw (count-yes (λ y. ltb y t) x xs (lt-ltb x t a)) (suc-le-suc (place-upto t xs (rising-tail x xs e) i (omega arith) k))
-      | no a ↦ rw (count-no (λ y. ltb y t) x xs (le-ltb x t (omega arith))) (let b = place-upto t xs (rising-tail x xs e) i (omega arith) k in omega arith)
+      | yes a ↦ rw (place-yes t x xs a) (suc-le-suc (place-upto t xs (rising-tail x xs e) i (omega arith) k))
+      | no a ↦ rw (place-no t x xs (omega arith)) (omega arith)
     ]
 
 -- and the other way round
@@ -109,10 +108,13 @@ has-in-place t l e q =
     let b : place t l ≡ a .0 = place-at t l e (a .0) (a .1) (a .2) in
     (rw b (a .1), rw b (a .2))
 
+-- in a rising list it is how many are below
+place-count : (t : ℕ) (l : List ℕ) → rising l ≡ true → count (λ x. ltb x t) l ≡ place t l
+place-count t l e = rising-count-lt l t (place t l) (place-le t l) (λ i h. place-below t l e i h) (λ i h k. place-above t l e i h k)
+
 -- the ids kept are those between two places
 pub keep-within-places : (l : List ℕ) (a b : ℕ) → rising l ≡ true → a ≤ b → keep (within a b) l ≡ take (place b l - place a l) (drop (place a l) l)
-unfolding place
-keep-within-places l a b e h = keep-within-part l a b e h
+keep-within-places l a b e h = rw (← place-count a l e, ← place-count b l e) (keep-within-part l a b e h)
 
 -- ---- what is kept from a place on
 

@@ -11,18 +11,17 @@ use Rattle.refusals.specs.Refusals.{accepted}
 use Rattle.lists.specs.Lists.{putAt, flat}
 use Rattle.lists.specs.Laws.Keep.{every-keep}
 use Rattle.plain.specs.Staged.{Staged, due, rowRemovals, inserts}
-use Rattle.plain.specs.Merging.{Inserted, insertAll}
-use Rattle.plain.specs.Plain.{Plain, dead, withoutRows, insertion, applied, compacted, compactIfDue, unstaged, merged}
+use Rattle.plain.specs.Plain.{Inserted, insertAll, Plain, dead, withoutRows, insertion, applied, compacted, compactIfDue, unstaged, merged}
 use Rattle.table.specs.declared.Header.{Header}
 use Rattle.table.specs.declared.Merge.{Merge}
 use Rattle.table.specs.declared.MergeAnswer.the-variants.{Merged}
 use Rattle.table.specs.Numbers.{mergeSays}
 use Rattle.table.specs.Stores.{headerOf, rowStore}
-use Rattle.table.specs.Promises.{Stores, stores, Represents, mergeOf, mergedRows, mergedSorts, MergedTable}
-use Rattle.pending.specs.Steps.{Steps}
-use Rattle.merge.specs.Insertions.{InsertedTable}
-use Rattle.removals.specs.Removals.{removedAll}
-use Rattle.merge.specs.Merging.{AppliedTable, finished, FinishedTable}
+use Rattle.table.specs.Promises.{Stores, stores, body, compactionWords, Represents, mergeOf, mergedRows, mergedSorts, MergedTable}
+use Rattle.pending.specs.inner.Becoming.{Steps}
+use Rattle.merge.specs.inner.Insertions.{InsertedTable}
+use Rattle.removals.specs.inner.Removals.{removedAll}
+use Rattle.merge.specs.inner.Parts.{AppliedTable, finished, FinishedTable}
 use Rattle.table.specs.Laws.Stored.{stored-live}
 use Rattle.pending.specs.Laws.Steps.{steps-refl, first-stored, steps-then}
 use Rattle.removals.specs.Laws.Removals.{removedAll-keys, removedAll-rows}
@@ -31,10 +30,10 @@ use Rattle.removals.specs.Laws.Removals.{removedAll-keys, removedAll-rows}
 
 -- removals by key, then removals by row, then inserts
 pub passes-applied : (p p₁ p₂ : Plain) → p₁ ≡ removedAll 1 (p .staged) p → p₁ .staged ≡ p .staged
-    → p₂ ≡ removedAll 2 (p₁ .staged) p₁ → p₂ .staged ≡ p₁ .staged → insertAll insertion (inserts (p₂ .staged)) 0 false p₂ ≡ applied p
+    → p₂ ≡ removedAll 2 (p₁ .staged) p₁ → p₂ .staged ≡ p₁ .staged → insertAll (inserts (p₂ .staged)) 0 false p₂ ≡ applied p
 unfolding applied
 passes-applied p p₁ p₂ a b c d =
-    ap₂ (λ (staged : List Staged) (q : Plain). insertAll insertion (inserts staged) 0 false q) (d ∙ b)
+    ap₂ (λ (staged : List Staged) (q : Plain). insertAll (inserts staged) 0 false q) (d ∙ b)
     (c
     ∙ removedAll-rows (p₁ .staged) p₁
     ∙ ap₂ (λ (staged : List Staged) (q : Plain). withoutRows (rowRemovals staged) q) b (a ∙ removedAll-keys (p .staged) p))
@@ -48,9 +47,9 @@ passes-table {p} {p₁} {p₂} {s} {s₁} {s₂} {s₃} {m} r a f b g i =
     let t = steps-then r (steps-then r f g) (i .steps) in
     record {
       steps = rw e at t;
-      status = i .status ∙ ap (λ (x : Inserted Plain). x .status) e;
-      place = i .place ∙ ap (λ (x : Inserted Plain). x .place) e;
-      added = i .added ∙ ap (λ (x : Inserted Plain). x .added) e;
+      status = i .status ∙ ap (λ (x : Inserted). x .status) e;
+      place = i .place ∙ ap (λ (x : Inserted). x .place) e;
+      added = i .added ∙ ap (λ (x : Inserted). x .added) e;
     }
 
 -- ---- what follows the passes
@@ -99,7 +98,7 @@ module _ {h : Header} {rows keys sorts pending live base : List ℕ} {m : Merge}
       f .header ∙ (λ i. record { header = e i; status = a .status i; place = a .place i; added = a .added i })
 
   -- the two halves are a merge
-  pub merged-table : MergedTable h rows keys sorts pending live base (Merged r) rows′ keys′ sorts′ live′ base′ p
+  pub merged-table : MergedTable (stores h rows keys sorts pending) (compactionWords live base) (Merged r) (body rows′ keys′ sorts′) (compactionWords live′ base′) p
   unfolding mergeSays mergedRows mergedSorts
   merged-table =
       let before = first-stored shown (a .steps) (steps-refl (a .steps .represents)) in
@@ -108,5 +107,5 @@ module _ {h : Header} {rows keys sorts pending live base : List ℕ} {m : Merge}
         rows-after = rw merged-finished at (rw (before, a .steps .rows-after) at (f .rows-after));
         sorts-after = rw merged-finished at (rw (a .steps .sorts-after) at (f .sorts-after));
         represents = rw (merged-finished, merged-answer) at (f .represents);
-        words = λ e. f .words (ap (λ (q : Plain). q .generation) merged-finished ∙ e ∙ sym (a .steps .later .generation));
+        words = λ e. let w = f .words (ap (λ (q : Plain). q .generation) merged-finished ∙ e ∙ sym (a .steps .later .generation)) in (λ i. record { live = w .0 i; base = w .1 i });
       }

@@ -3,7 +3,7 @@ use Prim.Native.Nat.{_-_}
 use native.Mathlib.Omega.{arith}
 use lib.ListN.{length}
 use borrow.Author.Needs.{needs}
-use Rattle.offset_search.specs.Search.{Reached}
+use Rattle.offset_search.specs.inner.Search.{Reached}
 use Rattle.offset_search.proofs.Search.{Strides, stride-more, stride-over, stride-end}
 use Rattle.offset_search.proofs.gallop.Statement.{statement}
 use Rattle.offset_search.proofs.gallop.Tie as tie

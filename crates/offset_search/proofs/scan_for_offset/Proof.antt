@@ -2,7 +2,7 @@
 use native.Mathlib.Omega.{arith}
 use borrow.Author.Needs.{needs}
 use Rattle.lists.specs.Laws.Search.{place-past}
-use Rattle.offset_search.specs.Search.{Reached}
+use Rattle.offset_search.specs.inner.Search.{Reached}
 use Rattle.offset_search.proofs.Search.{scanned-end, scanned-hit, scanned-before, scanned-part}
 use Rattle.offset_search.proofs.scan_for_offset.Statement.{statement}
 use Rattle.offset_search.proofs.scan_for_offset.Tie as tie

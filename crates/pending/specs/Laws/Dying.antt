@@ -16,7 +16,7 @@ use Rattle.lists.specs.Laws.Every.{every-head, every-tail}
 use Rattle.lists.specs.Laws.Parts.{putAt-front}
 use Rattle.lists.specs.Laws.Rows.{row-in, flat-rowsOf, getD-rowsOf, length-rowsOf}
 use Rattle.key_index.specs.Slots.{LiveAt, keyAt, KeysSound}
-use Rattle.row_buffer.specs.Laws.{stale-rows}
+use Rattle.row_buffer.specs.Laws.Rows.{stale-rows}
 use Rattle.sort_entries.specs.Entries.{Entry, words, rebuilt}
 use Rattle.plain.specs.Plain.{Row, Plain, deadRow, withRows, dead, liveWithKey, killIf, withoutKey, dies, withoutRow}
 use Rattle.plain.specs.Proper.{Proper, rowOf}
@@ -26,10 +26,10 @@ use Rattle.table.specs.declared.Header.{Header}
 use Rattle.table.specs.Stores.{entries, headerOf, marked, stored, rowStore, sortStore}
 use Rattle.table.specs.Sound.{keyedOf}
 use Rattle.table.specs.Promises.{Stores, stores, lengths, Represents}
-use Rattle.pending.specs.Steps.{Later, Steps, withCounts, withDead}
+use Rattle.pending.specs.inner.Becoming.{Later, Steps, withCounts, withDead}
 use Rattle.table.specs.Laws.Stored.{stored-again}
-use Rattle.table.specs.Laws.Shown.{rows-in, long-stores, represents-long, rows-counted}
-use Rattle.table.specs.Laws.Lookup.{numberFrom-none, live-passes, none-lookup}
+use Rattle.table.specs.Laws.Shown.{rows-in, long-stores, stored-rows, represents-long, rows-stored, rows-counted}
+use Rattle.table.specs.Laws.Lookup.{passes-live, live-passes}
 use Rattle.pending.specs.Laws.Steps.{steps-refl}
 
 -- row i dies
@@ -200,7 +200,7 @@ module _ {p : Plain} {s : Stores} (r : Represents p s) (i : ℕ) (live : rowOf p
   stored-dying =
       let before = rowsOf (s .header .columns) (s .header .rows) (s .rows) in
       stored-killAt i (p .rows) before (live-below (p .rows) i live) (omega (arith, below, length-rowsOf (s .header .columns) (s .header .rows) (s .rows)))
-      ∙ ap₂ (λ (rows : List (List ℕ)) (row : List ℕ). set rows i (marked row)) (r .shown .rows-shown) (getD-rowsOf (s .header .columns) (s .header .rows) (s .rows) i below)
+      ∙ ap₂ (λ (rows : List (List ℕ)) (row : List ℕ). set rows i (marked row)) (rows-stored r) (getD-rowsOf (s .header .columns) (s .header .rows) (s .rows) i below)
 
   -- of the row store one cell changes
   pub dying-rows : rowStore (dying p i) (rowsOf (s .header .columns) (s .header .rows) (s .rows)) (s .rows) ≡ set (s .rows) (i * s .header .columns) 4294967295
@@ -229,15 +229,17 @@ module _ {p : Plain} {s : Stores} (r : Represents p s) (i : ℕ) (live : rowOf p
       let rows : List ℕ = set (s .rows) (i * s .header .columns) 4294967295 in
       let g = represents-long r in
       let n : s .header .capacity ≡ p .opening .capacity = ap (λ (h : Header). h .capacity) (r .shown .header) in
+      let header : withDead (s .header) (s .header .dead + 1) ≡ headerOf (dying p i) = rw (r .shown .header) (sym (dying-header p i live)) in
+      let fit : p .opening .capacity * p .opening .columns ≤ length rows = simp length-set (g .rows-long) in
       record {
         proper = dying-proper i (r .proper);
         long-enough =
             long-stores (p .opening) (lengths rows keys (s .sorts) (s .pending) [] [])
-            (record { rows-long = simp length-set (g .rows-long); keys-long = omega arith; sorts-long = g .sorts-long });
+            (record { rows-long = fit; keys-long = omega arith; sorts-long = g .sorts-long });
         shown =
             record {
-              header = rw (r .shown .header) (sym (dying-header p i live));
-              rows-shown = dying-shown;
+              header = header;
+              rows-shown = stored-rows (withDead (s .header) (s .header .dead + 1)) rows (dying-proper i (r .proper)) fit header dying-shown;
               entries-shown = r .shown .entries-shown ∙ sym (entries-killAt p i);
               pending-held = r .shown .pending-held;
             };
@@ -290,7 +292,7 @@ module _ {p : Plain} {s : Stores} (r : Represents p s) (key : List ℕ) where
     key-free i =
         let k : ℕ = p .opening .keys in
         elim (split (liveWithKey k key (rowOf p i))) [
-          | inl e ↦ absurd (numberFrom-none (liveWithKey k key) 0 (p .rows) (none-lookup r key none) i (live-below (p .rows) i (liveWithKey-live k key (rowOf p i) e)) e)
+          | inl e ↦ let g = passes-live r key i e in absurd (none i (g .0) (g .1))
           | inr e ↦ e
         ]
 

@@ -20,16 +20,17 @@ use Rattle.sort_entries.specs.Entries.{words}
 use Rattle.sort_entries.specs.Laws.Stores.{length-words, words-entriesOf}
 use Rattle.sort_entries.specs.Laws.Rebuilt.{rebuilt-front}
 use Rattle.plain.specs.Staged.{Opening, Staged, insert, removeKey, removeRow, wordsOf, wordsAll}
-use Rattle.plain.specs.Plain.{Plain, wrongWidth}
+use Rattle.plain.specs.Plain.{Plain}
+use Rattle.plain.specs.Refusing.{wrongWidth}
 use Rattle.plain.specs.Proper.{rowOf}
 use Rattle.plain.specs.Laws.Rows.{live-below}
 use Rattle.table.specs.declared.Header.{Header}
 use Rattle.table.specs.Numbers.{openingOf}
 use Rattle.table.specs.Stores.{entries, marked, stored, rowStore, sortStore, recordWords}
 use Rattle.table.specs.Promises.{Stores, Represents}
-use Rattle.pending.specs.Steps.{Later, Steps, withCounts, Recounted, Waiting, kindOf, hashOf}
+use Rattle.pending.specs.inner.Becoming.{Later, Steps, withCounts, Recounted, Waiting, kindOf, hashOf}
 use Rattle.table.specs.Laws.Stored.{length-stored, stored-widths, stored-at-live, stored-at-dead, stored-at-new}
-use Rattle.table.specs.Laws.Shown.{entries-few, rows-in, wide-rows, represents-long, rows-counted, live-cells}
+use Rattle.table.specs.Laws.Shown.{entries-few, rows-in, wide-rows, represents-long, rows-stored, rows-counted, live-cells}
 use Rattle.table.specs.Laws.Pending.{length-recordWords}
 use Rattle.table.specs.Laws.Sound.{sortCells, length-sortCells, getD-sortCells}
 
@@ -155,7 +156,7 @@ module _ {p : Plain} {s : Stores} (r : Represents p s) where
       let k : 2 * s .header .entries ≤ length (s .sorts) = omega (arith, length-words (entries p), words-fit) in
       record {
         later = later-refl p;
-        rows-after = sym (rw (r .shown .rows-shown, flat-rowsOf w (s .header .rows) (s .rows)) (putAt-front (s .rows) (s .header .rows * w) n));
+        rows-after = sym (rw (rows-stored r, flat-rowsOf w (s .header .rows) (s .rows)) (putAt-front (s .rows) (s .header .rows * w) n));
         sorts-after = sym (rw (← r .shown .entries-shown, words-entriesOf (s .header .entries) (s .sorts) k) (putAt-front (s .sorts) (2 * s .header .entries) k));
         represents = r;
       }

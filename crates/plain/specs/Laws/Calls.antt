@@ -6,7 +6,8 @@ use mathlib.Core.List.{List, _∷_}
 use native.Mathlib.Omega.{arith}
 use borrow.Author.Tests.{eq-eqb, ne-eqb}
 use Rattle.refusals.specs.Refusals.{Rung, rung, first}
-use Rattle.plain.specs.Plain.{Plain, Lengths}
+use Rattle.plain.specs.Refusing.{Lengths}
+use Rattle.plain.specs.Plain.{Plain}
 use Rattle.plain.specs.Calls.{Call, refusal, done, after}
 
 -- "A refusal .. changes nothing"

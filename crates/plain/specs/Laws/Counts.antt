@@ -3,6 +3,7 @@
 use Prim.Native.Nat.{ℕ, zero, suc, _≤_}
 use mathlib.Core.Path.{_≡_, refl, ap, _∙_}
 use mathlib.Core.Bool.{Bool, true, false, cond}
+use mathlib.Core.Option.{Option, none, some}
 use mathlib.Core.List.{List, [], _∷_, _++_}
 use native.Mathlib.Omega.{arith}
 use lib.Dec.{eqb}
@@ -12,9 +13,8 @@ use Rattle.lists.specs.Lists.{every}
 use Rattle.lists.specs.Laws.Every.{every-head, every-tail}
 use Rattle.merge_rules.specs.Rules.{Ruled, kept, made, ruled, madeFrom, changesFrom}
 use Rattle.plain.specs.Staged.{RowRemoval, keyRemovals, rowRemovals, inserts, skipped}
-use Rattle.plain.specs.Merging.{Insertion, kept as leaves, appended, stopped, goOn, insertAll}
-use Rattle.plain.specs.Plain.{Row, liveRow, Plain, withRows, liveWithKey, killIf, withoutKey, withoutKeys, dies, withoutRow, withoutRows, Found, none, one, liveOf, stop, append, put, insertion, applied}
-use Rattle.merge_rules.specs.Laws.{ruled-made}
+use Rattle.plain.specs.Plain.{Row, liveRow, Plain, withRows, liveWithKey, killIf, withoutKey, withoutKeys, dies, withoutRow, withoutRows, stop, append, put, insertion, applied, Numbered, lookup, Insertion, unchanged, appended, stopped, goOn, insertAll}
+use Rattle.merge_rules.specs.Laws.Rules.{ruled-made}
 
 -- ---- removals keep the count of rows
 
@@ -94,13 +94,13 @@ withoutRows-alike (r ∷ rs) p = alike-then (alike-rows p _) (withoutRows-alike 
 -- an insert that appends: it is not skipped, there is no stop, and its key is new or the rule makes a row
 pub data Appended (cells : List ℕ) (p : Plain) : Plain → Type 0 where
   new : skipped cells ≡ false
-      → liveOf (p .opening .keys) (take (p .opening .keys) cells) (p .rows) ≡ none
+      → lookup p (take (p .opening .keys) cells) ≡ none
       → stop cells p ≡ 0
       → Appended cells p (withRows p (p .rows ++ (liveRow cells ∷ [])))
-  again : (old row : List ℕ) → skipped cells ≡ false
-      → liveOf (p .opening .keys) (take (p .opening .keys) cells) (p .rows) ≡ one old
-      → changesFrom (p .opening .rule) (p .opening .keys) (p .opening .sort) 0 old cells ≡ true
-      → madeFrom (p .opening .rule) (p .opening .keys) (p .opening .sort) 0 old cells ≡ row
+  again : (old : Numbered) (row : List ℕ) → skipped cells ≡ false
+      → lookup p (take (p .opening .keys) cells) ≡ some old
+      → changesFrom (p .opening .rule) (p .opening .keys) (p .opening .sort) 0 (old .cells) cells ≡ true
+      → madeFrom (p .opening .rule) (p .opening .keys) (p .opening .sort) 0 (old .cells) cells ≡ row
       → stop row p ≡ 0
       → Appended cells p (withRows p (killIf (liveWithKey (p .opening .keys) (take (p .opening .keys) cells)) (p .rows) ++ (liveRow row ∷ [])))
 
@@ -120,26 +120,26 @@ pub insertion-appended : (cells : List ℕ) (p p′ : Plain) → insertion cells
 unfolding insertion put
 insertion-appended cells p p′ e = skip (skipped cells) refl e
   where
-    rule : (old : List ℕ) (r : Ruled)
+    rule : (old : Numbered) (r : Ruled)
         → skipped cells ≡ false
-        → liveOf (p .opening .keys) (take (p .opening .keys) cells) (p .rows) ≡ one old
-        → ruled (p .opening .rule) (p .opening .keys) (p .opening .sort) old cells ≡ r
-        → elim r [ kept ↦ leaves | made row ↦ append row p (killIf (liveWithKey (p .opening .keys) (take (p .opening .keys) cells)) (p .rows)) ] ≡ appended p′
+        → lookup p (take (p .opening .keys) cells) ≡ some old
+        → ruled (p .opening .rule) (p .opening .keys) (p .opening .sort) (old .cells) cells ≡ r
+        → elim r [ kept ↦ unchanged | made row ↦ append row p (killIf (liveWithKey (p .opening .keys) (take (p .opening .keys) cells)) (p .rows)) ] ≡ appended p′
         → Appended cells p p′
     rule old kept s l q f = absurd (let z : _≡_ {A = ℕ} 0 1 = cc in omega arith)
     rule old (made row) s l q f =
         let a = append-appended row p p′ (killIf (liveWithKey (p .opening .keys) (take (p .opening .keys) cells)) (p .rows)) f in
-        let m = ruled-made (p .opening .rule) (p .opening .keys) (p .opening .sort) old cells row q in
+        let m = ruled-made (p .opening .rule) (p .opening .keys) (p .opening .sort) (old .cells) cells row q in
         rw (← a .1) (again old row s l (m .0) (m .1) (a .0))
 
-    find : (found : Found) → skipped cells ≡ false → liveOf (p .opening .keys) (take (p .opening .keys) cells) (p .rows) ≡ found → put cells found p ≡ appended p′ → Appended cells p p′
+    find : (found : Option Numbered) → skipped cells ≡ false → lookup p (take (p .opening .keys) cells) ≡ found → put cells found p ≡ appended p′ → Appended cells p p′
     find none s l f = let a = append-appended cells p p′ (p .rows) f in rw (← a .1) (new s l (a .0))
-    find (one old) s l f = rule old (ruled (p .opening .rule) (p .opening .keys) (p .opening .sort) old cells) s l refl f
+    find (some old) s l f = rule old (ruled (p .opening .rule) (p .opening .keys) (p .opening .sort) (old .cells) cells) s l refl f
 
     skip : (b : Bool) → skipped cells ≡ b
-        → cond b leaves (put cells (liveOf (p .opening .keys) (take (p .opening .keys) cells) (p .rows)) p) ≡ appended p′ → Appended cells p p′
+        → cond b unchanged (put cells (lookup p (take (p .opening .keys) cells)) p) ≡ appended p′ → Appended cells p p′
     skip true s f = absurd (let z : _≡_ {A = ℕ} 0 1 = cc in omega arith)
-    skip false s f = find (liveOf (p .opening .keys) (take (p .opening .keys) cells) (p .rows)) s refl f
+    skip false s f = find (lookup p (take (p .opening .keys) cells)) s refl f
 
 appended-count : {cells : List ℕ} {p p′ : Plain} → Appended cells p p′ → length (p′ .rows) ≡ suc (length (p .rows))
 appended-count {cells} {p} (new s l q) = simp length-append (omega arith)
@@ -160,18 +160,18 @@ insertion-alike cells p p′ e = appended-alike (insertion-appended cells p p′
 -- ---- all the inserts
 
 -- what each insert that appends keeps, the inserts keep, where all pass the test that it needs
-pub insertAll-keeps : {T : Type 0} (insertion : List ℕ → T → Insertion T) (P : T → Type 0) (test : List ℕ → Bool)
-    → ((cells : List ℕ) (t t′ : T) → test cells ≡ true → P t → insertion cells t ≡ appended t′ → P t′)
-    → (rows : List (List ℕ)) → every test rows ≡ true → (place : ℕ) (added : Bool) (t : T) → P t → P (insertAll insertion rows place added t .table)
+pub insertAll-keeps : (P : Plain → Type 0) (test : List ℕ → Bool)
+    → ((cells : List ℕ) (p p′ : Plain) → test cells ≡ true → P p → insertion cells p ≡ appended p′ → P p′)
+    → (rows : List (List ℕ)) → every test rows ≡ true → (place : ℕ) (added : Bool) (p : Plain) → P p → P (insertAll rows place added p .table)
 unfolding insertAll
-insertAll-keeps insertion P test f [] e place added t h = h
-insertAll-keeps {T} insertion P test f (cells ∷ rest) e place added t h =
-    go (insertion cells t) refl (insertAll-keeps insertion P test f rest (every-tail test cells rest e) (suc place))
+insertAll-keeps P test f [] e place added p h = h
+insertAll-keeps P test f (cells ∷ rest) e place added p h =
+    go (insertion cells p) refl (insertAll-keeps P test f rest (every-tail test cells rest e) (suc place))
   where
-    go : (i : Insertion T) → insertion cells t ≡ i → ((added′ : Bool) (t′ : T) → P t′ → P (insertAll insertion rest (suc place) added′ t′ .table))
-        → P (goOn i place added t (insertAll insertion rest (suc place)) .table)
-    go leaves q ih = ih added t h
-    go (appended t′) q ih = ih true t′ (f cells t t′ (every-head test cells rest e) h q)
+    go : (i : Insertion) → insertion cells p ≡ i → ((added′ : Bool) (p′ : Plain) → P p′ → P (insertAll rest (suc place) added′ p′ .table))
+        → P (goOn i place added p (insertAll rest (suc place)) .table)
+    go unchanged q ih = ih added p h
+    go (appended p′) q ih = ih true p′ (f cells p p′ (every-head test cells rest e) h q)
     go (stopped n) q ih = h
 
 every-true : (rows : List (List ℕ)) → every (λ row. true) rows ≡ true
@@ -180,14 +180,14 @@ every-true [] = refl
 every-true (row ∷ rows) = every-true rows
 
 -- the inserts change rows only
-pub insertAll-alike : (rows : List (List ℕ)) (place : ℕ) (added : Bool) (p : Plain) → Alike p (insertAll insertion rows place added p .table)
+pub insertAll-alike : (rows : List (List ℕ)) (place : ℕ) (added : Bool) (p : Plain) → Alike p (insertAll rows place added p .table)
 insertAll-alike rows place added p =
-    insertAll-keeps insertion (λ t. Alike p t) (λ row. true) (λ cells t t′ u h q. alike-then h (insertion-alike cells t t′ q)) rows (every-true rows) place added p (alike-same p)
+    insertAll-keeps (λ t. Alike p t) (λ row. true) (λ cells t t′ u h q. alike-then h (insertion-alike cells t t′ q)) rows (every-true rows) place added p (alike-same p)
 
 -- no insert takes a row away
-pub insertAll-count : (rows : List (List ℕ)) (place : ℕ) (added : Bool) (p : Plain) → length (p .rows) ≤ length (insertAll insertion rows place added p .table .rows)
+pub insertAll-count : (rows : List (List ℕ)) (place : ℕ) (added : Bool) (p : Plain) → length (p .rows) ≤ length (insertAll rows place added p .table .rows)
 insertAll-count rows place added p =
-    insertAll-keeps insertion (λ t. length (p .rows) ≤ length (t .rows)) (λ row. true) (λ cells t t′ u h q. omega (arith, insertion-count cells t t′ q)) rows (every-true rows) place added p
+    insertAll-keeps (λ t. length (p .rows) ≤ length (t .rows)) (λ row. true) (λ cells t t′ u h q. omega (arith, insertion-count cells t t′ q)) rows (every-true rows) place added p
     (omega arith)
 
 -- a merge's removals and inserts leave all but the rows

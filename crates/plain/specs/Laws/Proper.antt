@@ -1,8 +1,8 @@
 -- Opening makes a proper table, and every call keeps one proper. Assumes nothing.
-use Prim.Native.Nat.{ℕ, suc, _+_, _≤_, _<_, max, _/_}
+use Prim.Native.Nat.{ℕ, _+_, _≤_, _<_, max, _/_}
 use mathlib.Core.Path.{_≡_, refl, sym, ap, _∙_}
 use mathlib.Core.Logic.{inl, inr}
-use mathlib.Core.Bool.{Bool, true, false, cond, not, _&&_, false≢true}
+use mathlib.Core.Bool.{Bool, true, false, not, _&&_, false≢true}
 use mathlib.Core.List.{List, [], _∷_, _++_}
 use native.Mathlib.Decide.{ℕ-discrete}
 use native.Mathlib.Omega.{arith}
@@ -14,12 +14,13 @@ use Rattle.lists.specs.Laws.Keep.{split, and-left, and-right, every-getD}
 use Rattle.lists.specs.Laws.Every.{and-both, every-head, every-tail, every-cons, every-snoc}
 use Rattle.cells.specs.Cells.{isDead}
 use Rattle.plain.specs.Staged.{Opening, openable, Staged, insert, removeKey, removeRow, RowRemoval, keyRemovals, rowRemovals, inserts, skipped, due}
-use Rattle.plain.specs.Merging.{appended, insertAll}
-use Rattle.plain.specs.Plain.{Row, liveRow, Plain, with, withRows, Lengths, opened, wrongWidth, stageRefusal, stage, liveWithKey, killIf, withoutKey, withoutKeys, dies, withoutRow, withoutRows, none, one, liveOf, admits, stop, insertion, applied, dead, compacted, compactIfDue, unstaged, merged, compactRefusal, clearRefusal, cleared}
-use Rattle.plain.specs.Calls.{Call, staging, merging, compacting, clearing, refusal, done, after, Lent, afterAll}
-use Rattle.plain.specs.Proper.{Proper}
-use Rattle.merge_rules.specs.Laws.{made-length, made-keys, made-first}
-use Rattle.plain.specs.Laws.Rows.{noRow, sortOf, wideRow, freeRow, Tidy, liveWithKey-key, free-dead, apart-of, apart-at, up-of, up-sorted, admits-all, Thinned, killIf-thinned, dies-thinned, keep-thinned, thinned-same, thinned-length, thinned-every, thinned-tidy, tidy-snoc}
+use Rattle.plain.specs.Plain.{Row, liveRow, Plain, with, withRows, opened, stage, liveWithKey, killIf, withoutKey, withoutKeys, dies, withoutRow, withoutRows, stop, insertion, applied, dead, compacted, compactIfDue, unstaged, merged, cleared, lastValue, below, appended, insertAll}
+use Rattle.plain.specs.Refusing.{Lengths, wrongWidth, stageLadder, compactLadder, clearLadder}
+use Rattle.plain.specs.Calls.{Call, staging, merging, compacting, clearing, refusal, done, after, Lent, afterAll, countsOf, pendingShort}
+use Rattle.plain.specs.Proper.{rowOf, Proper}
+use Rattle.merge_rules.specs.Laws.Rules.{made-length, made-keys, made-first}
+use Rattle.plain.specs.Laws.Lookup.{lookup-none, lookup-at}
+use Rattle.plain.specs.Laws.Rows.{noRow, sortOf, wideRow, freeRow, Tidy, liveWithKey-key, free-dead, apart-of, apart-at, up-of, up-sorted, last-above, Thinned, killIf-thinned, dies-thinned, keep-thinned, thinned-same, thinned-length, thinned-every, thinned-tidy, tidy-snoc}
 use Rattle.plain.specs.Laws.Calls.{refused-nothing, accepted-done, first-no, first-rest}
 use Rattle.plain.specs.Laws.Counts.{Appended, new, again, insertion-appended, insertion-alike, insertAll-keeps, alike-then, withoutKeys-alike, withoutRows-alike}
 
@@ -158,9 +159,9 @@ unfolding stop
 stop-room cells p e = leb-false _ _ (first-no _ 7 _ e)
 
 -- its sort cell is not below the last row's
-pub stop-admits : (cells : List ℕ) (p : Plain) → stop cells p ≡ 0 → admits (p .opening .sort) (getD cells (p .opening .sort) 0) (p .rows) ≡ true
+pub stop-above : (cells : List ℕ) (p : Plain) → stop cells p ≡ 0 → below (getD cells (p .opening .sort) 0) (lastValue (p .opening .sort) (p .rows)) ≡ false
 unfolding stop
-stop-admits cells p e = not-false _ (first-no _ 8 _ (first-rest _ 7 _ e))
+stop-above cells p e = first-no _ 8 _ (first-rest _ 7 _ e)
 
 -- a live row of a key that no live row has, after rows that some of the table's are dead in
 pub append-proper : {p : Plain} (cells : List ℕ) {rows : List Row} → Proper p → Thinned (p .rows) rows
@@ -172,36 +173,12 @@ pub append-proper : {p : Plain} (cells : List ℕ) {rows : List Row} → Proper 
 append-proper {p} cells {rows} h t width head free e =
     let g = proper-tidy h in
     let room = stop-room cells p e in
-    let last = admits-all (p .opening .sort) (getD cells (p .opening .sort) 0) 0 (p .rows) (g .climb) (stop-admits cells p e) in
+    let last = last-above (p .opening .sort) (getD cells (p .opening .sort) 0) 0 (p .rows) (g .climb) (stop-above cells p e) in
     withRows-proper (rows ++ (liveRow cells ∷ [])) h
     (tidy-snoc (p .opening) rows cells (thinned-tidy (p .opening) t g) (omega (arith, thinned-length t)) width head free
     (thinned-every (λ r. leb (sortOf (p .opening .sort) r) (getD cells (p .opening .sort) 0)) (λ row q. q) t last))
 
--- ---- the live row of a key
-
--- a key with no live row
-pub liveOf-none : (keys : ℕ) (key : List ℕ) (rows : List Row) → liveOf keys key rows ≡ none → every (freeRow keys key) rows ≡ true
-unfolding liveOf
-liveOf-none keys key [] e = unfold every in refl
-liveOf-none keys key (row ∷ rows) e = go (liveOf-none keys key rows) (liveWithKey keys key row) refl e
-  where
-    go : (liveOf keys key rows ≡ none → every (freeRow keys key) rows ≡ true) → (b : Bool) → liveWithKey keys key row ≡ b
-        → cond b (one (row .cells)) (liveOf keys key rows) ≡ none → every (freeRow keys key) (row ∷ rows) ≡ true
-    go ih true q f = absurd (let z : _≡_ {A = ℕ} 0 1 = cc in omega arith)
-    go ih false q f = every-cons (freeRow keys key) row rows (rw q) (ih f)
-
--- where the live row of a key lies
-pub liveOf-at : (keys : ℕ) (key : List ℕ) (rows : List Row) (old : List ℕ) → liveOf keys key rows ≡ one old
-    → (i : ℕ) × (i < length rows) × (liveWithKey keys key (getD rows i noRow) ≡ true) × (getD rows i noRow .cells ≡ old)
-unfolding liveOf
-liveOf-at keys key [] old e = absurd (let z : _≡_ {A = ℕ} 0 1 = cc in omega arith)
-liveOf-at keys key (row ∷ rows) old e = go (liveOf-at keys key rows old) (liveWithKey keys key row) refl e
-  where
-    go : (liveOf keys key rows ≡ one old → (i : ℕ) × (i < length rows) × (liveWithKey keys key (getD rows i noRow) ≡ true) × (getD rows i noRow .cells ≡ old))
-        → (b : Bool) → liveWithKey keys key row ≡ b → cond b (one (row .cells)) (liveOf keys key rows) ≡ one old
-        → (i : ℕ) × (i < suc (length rows)) × (liveWithKey keys key (getD (row ∷ rows) i noRow) ≡ true) × (getD (row ∷ rows) i noRow .cells ≡ old)
-    go ih true q f = (0, omega arith, q, cc)
-    go ih false q f = let t = ih f in (suc (t .0), omega (arith, t .1), t .2, t .3)
+-- ---- inserts
 
 -- no live row of a key is left once those of that key died
 pub killIf-free : (keys : ℕ) (key : List ℕ) (rows : List Row) → every (freeRow keys key) (killIf (liveWithKey keys key) rows) ≡ true
@@ -212,21 +189,19 @@ killIf-free keys key (row ∷ rows) =
     (elim (split (liveWithKey keys key row)) [ inl e ↦ rw e (free-dead keys key row) | inr e ↦ rw (e, e) ])
     (killIf-free keys key rows)
 
--- ---- inserts
-
 appended-proper : {cells : List ℕ} {p p′ : Plain} → Proper p → length cells ≡ p .opening .columns → Appended cells p p′ → Proper p′
 unfolding skipped
-appended-proper {cells} {p} h w (new s l e) = append-proper cells h (thinned-same (p .rows)) w s (liveOf-none _ _ (p .rows) l) e
+appended-proper {cells} {p} h w (new s l e) = append-proper cells h (thinned-same (p .rows)) w s (lookup-none p _ l) e
 appended-proper {cells} {p} h w (again old row s l c m e) =
     let keys : ℕ = p .opening .keys in
-    let t = liveOf-at keys (take keys cells) (p .rows) old l in
+    let t = lookup-at p (take keys cells) old l in
     let b = openable-bounds (p .opening) (h .numbers) in
-    let width : length old ≡ p .opening .columns = ap length (sym (t .3)) ∙ eqb-true _ _ (every-getD (wideRow (p .opening .columns)) (p .rows) (h .widths) (t .0) (t .1) noRow) in
-    let key : take keys old ≡ take keys cells = ap (take keys) (sym (t .3)) ∙ liveWithKey-key keys (take keys cells) (getD (p .rows) (t .0) noRow) (t .2) in
-    let row-key : take keys row ≡ take keys cells = ap (take keys) (sym m) ∙ made-keys (p .opening .rule) keys (p .opening .sort) old cells (width ∙ sym w) key ∙ key in
+    let width : length (old .cells) ≡ p .opening .columns = ap length (sym (t .2)) ∙ eqb-true _ _ (every-getD (wideRow (p .opening .columns)) (p .rows) (h .widths) (old .number) (t .0) noRow) in
+    let key : take keys (old .cells) ≡ take keys cells = ap (take keys) (sym (t .2)) ∙ liveWithKey-key keys (take keys cells) (rowOf p (old .number)) (t .1) in
+    let row-key : take keys row ≡ take keys cells = ap (take keys) (sym m) ∙ made-keys (p .opening .rule) keys (p .opening .sort) (old .cells) cells (width ∙ sym w) key ∙ key in
     append-proper row h (killIf-thinned _ (p .rows))
-    (ap length (sym m) ∙ made-length (p .opening .rule) keys (p .opening .sort) old cells (width ∙ sym w) ∙ width)
-    (ap (λ (r : List ℕ). isDead (getD r 0 0)) (sym m) ∙ ap isDead (made-first (p .opening .rule) keys (p .opening .sort) old cells (b .keys-some) (width ∙ sym w) key) ∙ s)
+    (ap length (sym m) ∙ made-length (p .opening .rule) keys (p .opening .sort) (old .cells) cells (width ∙ sym w) ∙ width)
+    (ap (λ (r : List ℕ). isDead (getD r 0 0)) (sym m) ∙ ap isDead (made-first (p .opening .rule) keys (p .opening .sort) (old .cells) cells (b .keys-some) (width ∙ sym w) key) ∙ s)
     (rw row-key (killIf-free keys (take keys cells) (p .rows)))
     e
 
@@ -236,9 +211,9 @@ insertion-proper cells p p′ h w e = appended-proper h w (insertion-appended ce
 
 -- all the inserts, each of the right width
 pub insertAll-proper : {p : Plain} (rows : List (List ℕ)) (place : ℕ) (added : Bool) → Proper p → every (λ cells. eqb (length cells) (p .opening .columns)) rows ≡ true
-    → Proper (insertAll insertion rows place added p .table)
+    → Proper (insertAll rows place added p .table)
 insertAll-proper {p} rows place added h e =
-    insertAll-keeps insertion (λ t. (Proper t) × (t .opening ≡ p .opening)) (λ cells. eqb (length cells) (p .opening .columns))
+    insertAll-keeps (λ t. (Proper t) × (t .opening ≡ p .opening)) (λ cells. eqb (length cells) (p .opening .columns))
     (λ cells t t′ w k q.
     (insertion-proper cells t t′ (k .0) (eqb-true _ _ w ∙ ap (λ (o : Opening). o .columns) (sym (k .1))) q, insertion-alike cells t t′ q .opening ∙ k .1))
     rows e place added p (h, refl)
@@ -299,9 +274,9 @@ merged-proper {p} h =
 -- ---- stage and clear
 
 -- a record is staged that is not refused
-pub staged-proper : {p : Plain} (l : Lengths) (r : Staged) → Proper p → stageRefusal p l r ≡ 0 → Proper (stage p r)
-unfolding stage stageRefusal
-staged-proper {p} l r h e =
+pub staged-proper : {p : Plain} (outside : Bool) (pending : ℕ) (r : Staged) → Proper p → stageLadder outside (countsOf p) pending r ≡ 0 → Proper (stage p r)
+unfolding stage stageLadder countsOf
+staged-proper {p} outside pending r h e =
     let w : wrongWidth (p .opening) r ≡ false = first-no _ 2 _ (first-rest _ 0 _ e) in
     tidy-proper (stage p r) (h .numbers) (h .generation-fits) (proper-tidy h)
     (every-snoc (λ s. not (wrongWidth (p .opening) s)) (p .staged) r (h .staged-whole) (rw w))
@@ -322,12 +297,12 @@ cleared-proper {p} h f =
 -- a call that is not refused
 pub done-proper : {p : Plain} (l : Lengths) (c : Call) → Proper p → refusal p l c ≡ 0 → Proper (done p c)
 unfolding done refusal
-done-proper l (staging r) h e = staged-proper l r h e
+done-proper {p} l (staging r) h e = staged-proper (pendingShort p (l .pending)) (l .pending) r h e
 done-proper l merging h e = merged-proper h
 done-proper {p} l compacting h e =
-    compacted-proper h (below-last (p .generation) (h .generation-fits) (unfold compactRefusal in first-no _ 9 _ (first-rest _ 1 _ e)))
+    compacted-proper h (below-last (p .generation) (h .generation-fits) (unfold compactLadder countsOf in first-no _ 9 _ (first-rest _ 1 _ (first-rest _ 0 _ e))))
 done-proper {p} l clearing h e =
-    let n : (eqb (p .generation) 4294967295 && ltb 0 (length (p .rows))) ≡ false = unfold clearRefusal in first-no _ 9 _ (first-rest _ 1 _ e) in
+    let n : (eqb (p .generation) 4294967295 && ltb 0 (length (p .rows))) ≡ false = unfold clearLadder countsOf in first-no _ 9 _ (first-rest _ 1 _ (first-rest _ 0 _ e)) in
     cleared-proper h
     (λ k.
     elim (split (eqb (p .generation) 4294967295)) [

@@ -8,14 +8,14 @@ use mathlib.Core.List.{List, [], _∷_, _++_}
 use native.Mathlib.Omega.{arith}
 use lib.Dec.{leb, eqb}
 use lib.ListN.{length, take, getD, length-append}
-use borrow.Author.Tests.{leb-true, le-leb, eq-eqb, not-true}
+use borrow.Author.Tests.{ltb-false, leb-true, le-leb, eq-eqb, not-true}
 use Rattle.lists.specs.Lists.{keep, every}
 use Rattle.lists.specs.Laws.Keep.{split, and-left, and-right, every-getD, every-of}
 use Rattle.lists.specs.Laws.Every.{and-both, or-right, or-second, every-head, every-tail, every-cons, every-snoc}
 use Rattle.lists.specs.Laws.Rising.{same-refl, same-eq}
 use Rattle.cells.specs.Cells.{isDead}
 use Rattle.plain.specs.Staged.{Opening, hasKey}
-use Rattle.plain.specs.Plain.{Row, liveRow, deadRow, liveWithKey, killIf, dies, admits}
+use Rattle.plain.specs.Plain.{Row, liveRow, deadRow, liveWithKey, killIf, dies, lastValue, below}
 
 -- past the end: a dead row of no cells
 abbrev pub noRow : Row
@@ -196,14 +196,15 @@ module _ (sort : ℕ) where
       up-cons x r (rows ++ (row ∷ [])) (up-head x r rows e)
       (up-snoc (sortOf sort r) rows row (up-tail x r rows e) (leb-true _ _ (every-head (λ s. leb (sortOf sort s) (sortOf sort row)) r rows f)) (every-tail _ r rows f))
 
-  -- a value that the last row admits is not below any row's sort cell
-  pub admits-all : (value x : ℕ) (rows : List Row) → upFrom sort x rows ≡ true → admits sort value rows ≡ true → every (λ r. leb (sortOf sort r) value) rows ≡ true
-  unfolding admits
-  admits-all value x [] e a = unfold every in refl
-  admits-all value x (row ∷ []) e a = every-cons (λ r. leb (sortOf sort r) value) row [] a (unfold every in refl)
-  admits-all value x (row ∷ next ∷ rows) e a =
+  -- a value that is not below the last row's sort cell is not below any row's
+  pub last-above : (value x : ℕ) (rows : List Row) → upFrom sort x rows ≡ true → below value (lastValue sort rows) ≡ false → every (λ r. leb (sortOf sort r) value) rows ≡ true
+  unfolding lastValue below
+  last-above value x [] e a = unfold every in refl
+  last-above value x (row ∷ []) e a =
+      every-cons (λ r. leb (sortOf sort r) value) row [] (le-leb (sortOf sort row) value (ltb-false value (sortOf sort row) a)) (unfold every in refl)
+  last-above value x (row ∷ next ∷ rows) e a =
       let t = up-tail x row (next ∷ rows) e in
-      let h = admits-all value (sortOf sort row) (next ∷ rows) t a in
+      let h = last-above value (sortOf sort row) (next ∷ rows) t a in
       let k = up-head (sortOf sort row) next rows t in
       let m : sortOf sort next ≤ value = leb-true _ _ (every-head (λ r. leb (sortOf sort r) value) next rows h) in
       every-cons (λ r. leb (sortOf sort r) value) row (next ∷ rows) (le-leb (sortOf sort row) value (omega arith)) h

@@ -6,7 +6,7 @@ use borrow.Author.Needs.{needs}
 use native.Mathlib.Omega.{arith}
 use lib.ListN.{length, take, drop, length-take, length-drop}
 use Rattle.merge_rules.specs.Survivor.{survivor}
-use Rattle.merge_rules.specs.Laws.{survivor-length}
+use Rattle.merge_rules.specs.Laws.Rules.{survivor-length}
 use Rattle.probes.proofs.copy_survivor.Statement.{statement}
 use Rattle.probes.proofs.copy_survivor.Tie as tie
 

@@ -1,7 +1,7 @@
 -- `exports::mouldgrey_make` meets its contract. Assumes nothing.
 use borrow.Author.Needs.{needs}
 use native.Mathlib.Omega.{arith}
-use Rattle.probes.specs.Parts.{made-nothing, made-done}
+use Rattle.probes.specs.inner.Parts.{made-nothing, made-done}
 use Rattle.probes.proofs.mouldgrey_make.Statement.{statement}
 use Rattle.probes.proofs.mouldgrey_make.Tie as tie
 

@@ -1,7 +1,7 @@
 -- `exports::mouldgrey_surviving_row` meets its contract. Assumes nothing.
 use borrow.Author.Needs.{needs}
 use native.Mathlib.Omega.{arith}
-use Rattle.probes.specs.Parts.{survives-nothing, survives-done}
+use Rattle.probes.specs.inner.Parts.{survives-nothing, survives-done}
 use Rattle.probes.proofs.mouldgrey_surviving_row.Statement.{statement}
 use Rattle.probes.proofs.mouldgrey_surviving_row.Tie as tie
 

@@ -56,7 +56,7 @@ use Rattle.table.proofs.Header.Laws as HT′
 use Rattle.queries.specs.declared.MatchAnswer.{MatchAnswer}
 use Rattle.sweeping.specs.declared.Sweep.{Sweep}
 use Rattle.queries.specs.Queries.{matches, Matched}
-use Rattle.sweeping.specs.Sweeping.{passes, MatchOpened, Found, MatchClosed}
+use Rattle.sweeping.specs.inner.Sweeping.{passes, MatchOpened, Found, MatchClosed}
 use Rattle.queries.proofs.MatchAnswer as AT
 use Rattle.queries.proofs.MatchAnswer.Laws as AT′
 use Rattle.sweeping.proofs.MatchSteps.{match-answered}

@@ -57,7 +57,7 @@ use Rattle.table.proofs.Header.Laws as HT′
 use Rattle.queries.specs.declared.PageAnswer.{PageAnswer}
 use Rattle.sweeping.specs.declared.Sweep.{Sweep}
 use Rattle.queries.specs.Queries.{matches, PageRead}
-use Rattle.sweeping.specs.Sweeping.{passes, PageOpened, Finished, PageClosed}
+use Rattle.sweeping.specs.inner.Sweeping.{passes, PageOpened, Finished, PageClosed}
 use Rattle.walks.proofs.Again.{LentAgain, lends-again, comes-back}
 use Rattle.queries.proofs.PageAnswer as AT
 use Rattle.queries.proofs.PageAnswer.Laws as AT′

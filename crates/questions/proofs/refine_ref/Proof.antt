@@ -59,7 +59,7 @@ use Rattle.table.proofs.Header as HT
 use Rattle.table.proofs.Header.Laws as HT′
 use Rattle.sweeping.specs.declared.Sweep.{Sweep}
 use Rattle.queries.specs.Queries.{matches, RefinedList}
-use Rattle.sweeping.specs.Sweeping.{passes, RefineOpened, Finished, RefineClosed}
+use Rattle.sweeping.specs.inner.Sweeping.{passes, RefineOpened, Finished, RefineClosed}
 use Rattle.walks.proofs.Again.{LentAgain, lends-again, comes-back}
 use Rattle.sweeping.proofs.AnswerSteps.{can-close, list-answered}
 use Rattle.walks.proofs.WalkSteps.{all-known}

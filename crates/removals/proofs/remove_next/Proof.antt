@@ -1,6 +1,6 @@
 -- `merge::passes::remove_next` meets its contract. Assumes nothing.
 use mathlib.Core.Path.{sym, ap}
-use Rattle.removals.specs.Removals.{died}
+use Rattle.removals.specs.inner.Removals.{died}
 use Rattle.removals.proofs.PassRemovals.{removed-other, removed-kind}
 use borrow.Author.Needs.{needs}
 use Rattle.removals.proofs.remove_next.Statement.{statement}

@@ -3,8 +3,8 @@ use mathlib.Core.Path.{_≡_, refl}
 use mathlib.Core.List.{List, [], _∷_}
 use Rattle.plain.specs.Staged.{Staged, insert, removeKey, removeRow, keyRemovals, rowRemovals}
 use Rattle.plain.specs.Plain.{Plain, withoutKeys, withoutRows}
-use Rattle.pending.specs.Steps.{kindOf}
-use Rattle.removals.specs.Removals.{removed, removedAll}
+use Rattle.pending.specs.inner.Becoming.{kindOf}
+use Rattle.removals.specs.inner.Removals.{removed, removedAll}
 
 pub removedAll-keys : (staged : List Staged) (p : Plain) → removedAll 1 staged p ≡ withoutKeys (keyRemovals staged) p
 unfolding removedAll removed kindOf withoutKeys keyRemovals

@@ -5,7 +5,7 @@ use mathlib.Core.Path.{ap}
 use native.Mathlib.Omega.{arith}
 use lib.ListN.{length}
 use borrow.Author.Needs.{needs}
-use Rattle.plain.specs.Plain.{Lengths}
+use Rattle.plain.specs.Refusing.{Lengths}
 use Rattle.table.specs.Promises.{stores, lengths}
 use Rattle.replay.proofs.ReplaySteps.{Going, lengths-same, going-begin, going-again, going-end}
 use Rattle.replay.proofs.replay.Statement.{statement}

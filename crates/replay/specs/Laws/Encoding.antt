@@ -10,7 +10,7 @@ use Rattle.lists.specs.Laws.Parts.{part-to-end}
 use Rattle.plain.specs.Staged.{insert, removeKey, removeRow}
 use Rattle.plain.specs.Calls.{staging, merging, compacting, clearing}
 use Rattle.replay.specs.Encoding.{rowRemoval, callOf, decodedAfter, decoded}
-use Rattle.replay.specs.Replaying.{CallLength}
+use Rattle.replay.specs.inner.Replaying.{CallLength}
 
 -- ---- the call of each kind
 

@@ -3,16 +3,16 @@ use Prim.Native.Nat.{ℕ}
 use mathlib.Core.Path.{_≡_}
 use mathlib.Core.List.{List, [], _∷_, _++_, map-append}
 use Rattle.plain.specs.Staged.{Staged}
-use Rattle.plain.specs.Plain.{Lengths}
+use Rattle.plain.specs.Refusing.{Lengths}
 use Rattle.plain.specs.Calls.{Call, staging, merging, compacting, clearing}
 use Rattle.table.specs.declared.Header.{Header}
 use Rattle.table.specs.declared.TableAnswer.{TableAnswer}
 use Rattle.table.specs.declared.MergeAnswer.{MergeAnswer}
 use Rattle.table.specs.Numbers.{tableSays, mergeSays}
-use Rattle.table.specs.Promises.{Stores, stores, lengths, headerAfter, headerMerged, Staging, Merging, Compacting, Clearing}
+use Rattle.table.specs.Promises.{Stores, stores, body, compactionWords, lengths, headerAfter, headerMerged, Staging, Merging, Compacting, Clearing}
 use Rattle.history.specs.Histories.{Step, staged, merged, compacted, cleared, end, next}
 use Rattle.history.specs.Laws.Further.{steps-then}
-use Rattle.replay.specs.Replaying.{lentTo, lengthsFor, Made, MadeOnPending}
+use Rattle.replay.specs.inner.Replaying.{lentTo, lengthsFor, Made, MadeOnPending}
 
 -- no call
 pub none-made : {calls : List Call} (l : Lengths) (s : Stores) → calls ≡ [] → Made calls l s s
@@ -39,19 +39,19 @@ module _ {h : Header} {pending : List ℕ} {calls : List Call} where
       record { made = λ rows keys sorts live base. rw (e, same) (one-made (lengths rows keys sorts pending live base) (staged q answer pending′ m)) }
 
 module _ {h h′ : Header} {rows keys sorts pending rows′ keys′ sorts′ : List ℕ} (live base : List ℕ) {calls : List Call} where
-  pub merging-made : {live′ base′ : List ℕ} {answer : MergeAnswer} → calls ≡ merging ∷ [] → Merging h rows keys sorts pending live base answer rows′ keys′ sorts′ live′ base′
+  pub merging-made : {live′ base′ : List ℕ} {answer : MergeAnswer} → calls ≡ merging ∷ [] → Merging (stores h rows keys sorts pending) (compactionWords live base) answer (body rows′ keys′ sorts′) (compactionWords live′ base′)
       → h′ ≡ headerMerged h (mergeSays answer)
       → Made calls (lengths rows keys sorts pending live base) (stores h rows keys sorts pending) (stores h′ rows′ keys′ sorts′ pending)
   unfolding lengthsFor
   merging-made {live′} {base′} {answer} e m same =
-      rw (e, same) (one-made (lengths rows keys sorts pending live base) (merged live base answer rows′ keys′ sorts′ live′ base′ m))
+      rw (e, same) (one-made (lengths rows keys sorts pending live base) (merged (compactionWords live base) answer (body rows′ keys′ sorts′) (compactionWords live′ base′) m))
 
-  pub compacting-made : {live′ base′ : List ℕ} {answer : TableAnswer} → calls ≡ compacting ∷ [] → Compacting h rows keys sorts live base answer rows′ keys′ sorts′ live′ base′
+  pub compacting-made : {live′ base′ : List ℕ} {answer : TableAnswer} → calls ≡ compacting ∷ [] → Compacting h (body rows keys sorts) (compactionWords live base) answer (body rows′ keys′ sorts′) (compactionWords live′ base′)
       → h′ ≡ headerAfter h (tableSays answer)
       → Made calls (lengths rows keys sorts pending live base) (stores h rows keys sorts pending) (stores h′ rows′ keys′ sorts′ pending)
   unfolding lengthsFor
   compacting-made {live′} {base′} {answer} e m same =
-      rw (e, same) (one-made (lengths rows keys sorts pending live base) (compacted live base answer rows′ keys′ sorts′ live′ base′ m))
+      rw (e, same) (one-made (lengths rows keys sorts pending live base) (compacted (compactionWords live base) answer (body rows′ keys′ sorts′) (compactionWords live′ base′) m))
 
 pub clearing-made : {h h′ : Header} {rows keys sorts pending keys′ : List ℕ} (live base : List ℕ) {calls : List Call} {answer : TableAnswer} → calls ≡ clearing ∷ []
     → Clearing h keys answer keys′ → h′ ≡ headerAfter h (tableSays answer)

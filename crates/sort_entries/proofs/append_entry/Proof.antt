@@ -3,7 +3,7 @@ use mathlib.Core.Logic.{⊎-elim}
 use native.Mathlib.Omega.{arith}
 use lib.ListN.{length-set}
 use borrow.Author.Needs.{needs}
-use Rattle.sort_entries.specs.Append.{append-below, append-same, append-new, rises, rises-none}
+use Rattle.sort_entries.specs.inner.Append.{append-below, append-same, append-new, rises, rises-none}
 use Rattle.sort_entries.proofs.append_entry.Tie as tie
 use Rattle.sort_entries.proofs.append_entry.Statement.{statement}
 

@@ -4,7 +4,7 @@ use native.Mathlib.Omega.{arith}
 use borrow.Author.Needs.{needs}
 use borrow.Author.Count.{below-more}
 use borrow.Author.Tests.{not-true, not-false}
-use Rattle.sort_entries.specs.Checks.{Follows}
+use Rattle.sort_entries.specs.inner.Checks.{Follows}
 use Rattle.sort_entries.proofs.LawsCheck.{starts-late, breaks, holds}
 use Rattle.sort_entries.proofs.entries_sound.Tie as tie
 use Rattle.sort_entries.proofs.entries_sound.Statement.{statement}

@@ -2,7 +2,7 @@
 use Prim.Native.Nat.{_-_}
 use native.Mathlib.Omega.{arith}
 use borrow.Author.Needs.{needs}
-use Rattle.sort_entries.specs.Search.{Located}
+use Rattle.sort_entries.specs.inner.Search.{Located}
 use Rattle.sort_entries.proofs.LawsSearch.{begin, up, down, met}
 use Rattle.sort_entries.proofs.locate.Tie as tie
 use Rattle.sort_entries.proofs.locate.Statement.{statement}

@@ -1,7 +1,7 @@
 -- `sort_entries::rebuild_entry` meets its contract. Assumes nothing.
 use borrow.Author.Needs.{needs}
 use Rattle.sort_entries.specs.declared.Appended.the-variants.{Below, Same, New}
-use Rattle.sort_entries.specs.Append.{rebuild-as}
+use Rattle.sort_entries.specs.inner.Append.{rebuild-as}
 use Rattle.sort_entries.proofs.rebuild_entry.Tie as tie
 use Rattle.sort_entries.proofs.rebuild_entry.Statement.{statement}
 

@@ -12,7 +12,7 @@ use Rattle.lists.specs.Laws.Keep.{split, every-getD, every-of}
 use Rattle.lists.specs.Laws.Rising.{length-countFrom, getD-countFrom}
 use Rattle.constraints.specs.Constraints.{isLive}
 use Rattle.sort_entries.specs.Entries.{Entry, valueAt}
-use Rattle.sort_entries.specs.Checks.{cellSound, cellsSound}
+use Rattle.sort_entries.specs.inner.Checks.{cellSound, cellsSound}
 
 module _ (store : List ℕ) (columns sort row value : ℕ) where
   pub cell-live : cellSound store columns sort row value ≡ true → isLive (rowAt columns row store) ≡ true → getD (rowAt columns row store) sort 0 ≡ value

@@ -10,7 +10,8 @@ use lib.ListN.{length, length-append}
 use lib.Dec.{leb, ltb}
 use borrow.Author.Tests.{ltb-true, le-leb}
 use Rattle.lists.specs.Laws.Keep.{split}
-use Rattle.sort_entries.specs.Entries.{Entry, entry, last, admits, push, pushAll, rebuilt}
+use Rattle.sort_entries.specs.Entries.{Entry, entry, last, push, pushAll, rebuilt}
+use Rattle.sort_entries.specs.inner.Admission.{admits}
 
 pub push-new : (value row : ℕ) (es : List Entry) → last (λ v. ltb v value) es ≡ true → push value row es ≡ es ++ (entry value row ∷ [])
 unfolding push

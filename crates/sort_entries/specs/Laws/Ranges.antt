@@ -14,9 +14,9 @@ use borrow.Author.Tests.{lt-ltb, le-ltb, le-leb, lt-leb, eq-eqb, ne-eqb}
 use Rattle.lists.specs.Lists.{above, has, within}
 use Rattle.lists.specs.Laws.Keep.{split}
 use Rattle.lists.specs.Laws.Rising.{above-head, above-tail, above-cons, above-weaker, has-countFrom, within-of, within-below, within-past, within-high}
-use Rattle.offsets.specs.Subsets.{Subset, range, wellFormed, members, endOf}
+use Rattle.offsets.specs.Subsets.{Subset, range, wellFormed, members, bounds, endOf}
 use Rattle.constraints.specs.Constraints.{compares}
-use Rattle.sort_entries.specs.Entries.{Entry, entry, firstRow, Place, found, absent, place, rangeAt, fastRange, valueAt, entriesSound}
+use Rattle.sort_entries.specs.Entries.{Entry, entry, firstRow, Position, found, absent, position, rangeAt, fastRange, valueAt, entriesSound}
 use Rattle.sort_entries.specs.Laws.Sound.{valueOf, values, Climb, sound-climb, sound-first, climb-tail, climb-in, climb-above, first-le, first-next}
 
 -- ---- the value at a row
@@ -56,7 +56,7 @@ pub record Cuts (v : ℕ) (es : List Entry) (rows f b : ℕ) : Type 0 where
   pub high : (i : ℕ) → b ≤ i → i < rows → v < valueAt i es
 
 -- without an entry of the value, f and b are one
-abbrev pub Placed : ℕ → List Entry → ℕ → Place → Type 0
+abbrev pub Placed : ℕ → List Entry → ℕ → Position → Type 0
 Placed v es rows (found f b) = Cuts v es rows f b
 Placed v es rows (absent g) = Cuts v es rows g g
 
@@ -110,8 +110,8 @@ module _ (v : ℕ) (e : Entry) (es : List Entry) (rows : ℕ) (c : Climb (e ∷ 
         high = λ i p q. valueAt-above v i (e ∷ es) rows (above-cons v (e .value) (values es) h (climb-above e es rows c)) p q;
       }
 
-pub placed : (v : ℕ) (es : List Entry) (rows : ℕ) → Climb es rows → Placed v es rows (place v es rows)
-unfolding place
+pub placed : (v : ℕ) (es : List Entry) (rows : ℕ) → Climb es rows → Placed v es rows (position v es rows)
+unfolding position
 placed v [] rows c =
     unfold firstRow in
     record {
@@ -124,7 +124,7 @@ placed v [] rows c =
     }
 placed v (e ∷ es) rows c =
     elim (decLt (e .value) v) [
-      | yes p ↦ rw (lt-ltb _ _ p) (past p (place v es rows) (placed v es rows (climb-tail e es rows c)))
+      | yes p ↦ rw (lt-ltb _ _ p) (past p (position v es rows) (placed v es rows (climb-tail e es rows c)))
       | no p ↦
           let p′ : v ≤ e .value = omega arith in
           elim (ℕ-discrete (e .value) v) [
@@ -133,7 +133,7 @@ placed v (e ∷ es) rows c =
           ]
     ]
   where
-    past : e .value < v → (p : Place) → Placed v es rows p → Placed v (e ∷ es) rows p
+    past : e .value < v → (p : Position) → Placed v es rows p → Placed v (e ∷ es) rows p
     past h (found f b) s = cuts-past v e es rows c f b h s
     past h (absent g) s = cuts-past v e es rows c g g h s
 
@@ -231,7 +231,7 @@ module _ (v : ℕ) (es : List Entry) (rows : ℕ) (first : firstRow es rows ≡ 
       has-range 0 0 i (omega arith) ∙ within-past 0 0 i (omega arith)
       ∙ sym (ne-eqb (valueAt i es) v (λ e. elim (decLt i g) [ yes p ↦ let a = low g g s p in absurd (omega arith) | no p ↦ let a = s .high i (omega arith) h in absurd (omega arith) ]))
 
-  placed-range : (p : Place) → Placed v es rows p → (kind : ℕ) → 1 ≤ kind → kind ≤ 5
+  placed-range : (p : Position) → Placed v es rows p → (kind : ℕ) → 1 ≤ kind → kind ≤ 5
       → has i (members (rangeAt kind p rows)) ≡ compares kind (valueAt i es) v
   unfolding rangeAt compares
   placed-range (found f b) s =
@@ -246,7 +246,7 @@ pub fast-range : (es : List Entry) (rows kind v : ℕ) → entriesSound es rows 
     → has i (members (fastRange kind v es rows)) ≡ compares kind (valueAt i es) v
 unfolding fastRange
 fast-range es rows kind v s one five i h =
-    placed-range v es rows (sound-first es rows s) i h (place v es rows) (placed v es rows (sound-climb es rows s)) kind one five
+    placed-range v es rows (sound-first es rows s) i h (position v es rows) (placed v es rows (sound-climb es rows s)) kind one five
 
 -- ---- its form
 
@@ -288,7 +288,7 @@ module _ (v : ℕ) (es : List Entry) (rows f b : ℕ) (s : Cuts v es rows f b) w
       (cond-within (eqb kind 2) _ _ rows before-f
       (cond-within (eqb kind 3) _ _ rows from-b-on (cond-within (eqb kind 4) _ _ rows before-b from-f-on)))
 
-placed-within : (kind v : ℕ) (es : List Entry) (rows : ℕ) (p : Place) → Placed v es rows p → Within (rangeAt kind p rows) rows
+placed-within : (kind v : ℕ) (es : List Entry) (rows : ℕ) (p : Position) → Placed v es rows p → Within (rangeAt kind p rows) rows
 unfolding rangeAt
 placed-within kind v es rows (found f b) s = others v es rows f b s kind (range f b) (f-to-b v es rows f b s)
 placed-within kind v es rows (absent g) s = others v es rows g g s kind (range 0 0) (range-within 0 0 rows (omega arith) (omega arith))
@@ -299,7 +299,7 @@ module _ (s : Subset) (rows : ℕ) (w : Within s rows) where
   within-formed = rw (w .is) (le-leb _ _ (w .order))
 
   within-end : endOf s ≤ rows
-  unfolding endOf
+  unfolding endOf bounds
   within-end = rw (w .is) (w .inside)
 
   within-has : (i : ℕ) → has i (members s) ≡ true → i < rows
@@ -313,7 +313,7 @@ module _ (s : Subset) (rows : ℕ) (w : Within s rows) where
 module _ (es : List Entry) (rows kind v : ℕ) (s : entriesSound es rows ≡ true) where
   pub fast-within : Within (fastRange kind v es rows) rows
   unfolding fastRange
-  fast-within = placed-within kind v es rows (place v es rows) (placed v es rows (sound-climb es rows s))
+  fast-within = placed-within kind v es rows (position v es rows) (placed v es rows (sound-climb es rows s))
 
   pub fast-formed : wellFormed (fastRange kind v es rows) ≡ true
   fast-formed = within-formed (fastRange kind v es rows) rows fast-within
@@ -340,23 +340,23 @@ module _ (es : List Entry) (rows kind v : ℕ) (s : entriesSound es rows ≡ tru
 
 -- ---- where a value stands, from the place that a search finds
 
-place-skip : (v : ℕ) (es : List Entry) (rows r : ℕ) → r ≤ length es → ((i : ℕ) → i < r → valueOf es i < v) → place v es rows ≡ place v (drop r es) rows
+place-skip : (v : ℕ) (es : List Entry) (rows r : ℕ) → r ≤ length es → ((i : ℕ) → i < r → valueOf es i < v) → position v es rows ≡ position v (drop r es) rows
 place-skip v es rows zero h f = refl
 place-skip v [] rows (suc r) h f = absurd (omega arith)
 place-skip v (e ∷ es) rows (suc r) h f =
     let k : e .value < v = f 0 (omega arith) in
-    let here : place v (e ∷ es) rows ≡ place v es rows = unfold place in rw (lt-ltb _ _ k) in
+    let here : position v (e ∷ es) rows ≡ position v es rows = unfold position in rw (lt-ltb _ _ k) in
     here ∙ place-skip v es rows r (omega arith) (λ i p. f (suc i) (suc-le-suc p))
 
 module _ (v : ℕ) (es : List Entry) (rows r : ℕ) (h : r ≤ length es) (f : (i : ℕ) → i < r → valueOf es i < v) where
-  pub place-found : r < length es → valueOf es r ≡ v → place v es rows ≡ found (firstRow (drop r es) rows) (firstRow (drop (r + 1) es) rows)
-  unfolding place firstRow
+  pub place-found : r < length es → valueOf es r ≡ v → position v es rows ≡ found (firstRow (drop r es) rows) (firstRow (drop (r + 1) es) rows)
+  unfolding position firstRow
   place-found k e =
       let a : v ≤ valueOf es r = omega arith in
       place-skip v es rows r h f ∙ rw (add-one r, drop-cons es r (entry 0 0) k, le-ltb _ _ a, eq-eqb _ _ e)
 
-  pub place-absent : (r < length es → v < valueOf es r) → place v es rows ≡ absent (firstRow (drop r es) rows)
-  unfolding place firstRow
+  pub place-absent : (r < length es → v < valueOf es r) → position v es rows ≡ absent (firstRow (drop r es) rows)
+  unfolding position firstRow
   place-absent g =
       place-skip v es rows r h f
       ∙ elim (decLt r (length es)) [

@@ -13,7 +13,8 @@ use lib.Dec.{leb}
 use borrow.Author.Tests.{leb-true, le-leb}
 use Rattle.lists.specs.Lists.{keep, every, rising}
 use Rattle.lists.specs.Laws.Keep.{split, keep-yes, keep-no}
-use Rattle.sort_entries.specs.Entries.{Entry, last, admits, push, rebuilt, pushAll, firstRow, valueAt, entriesSound}
+use Rattle.sort_entries.specs.Entries.{Entry, last, push, rebuilt, pushAll, firstRow, valueAt, entriesSound, begins}
+use Rattle.sort_entries.specs.inner.Admission.{admits}
 use Rattle.sort_entries.specs.Laws.Push.{push-few, push-grows, rebuilt-snoc}
 use Rattle.sort_entries.specs.Laws.Grow.{last-valueAt, admits-valueAt, admits-none, push-sound, push-earlier, push-here}
 
@@ -54,7 +55,7 @@ module _ (vs : List ℕ) (falls : NeverFalls vs) (n : ℕ) (es : List Entry) (b 
 -- the first n rows
 built : (vs : List ℕ) → NeverFalls vs → (n : ℕ) → n ≤ length vs → Built vs n (rebuilt (take n vs))
 built vs falls zero h =
-    record { sound = unfold rebuilt pushAll entriesSound rising every firstRow in refl; recorded = λ i p. absurd (omega arith) }
+    record { sound = unfold rebuilt pushAll entriesSound rising every begins in refl; recorded = λ i p. absurd (omega arith) }
 built vs falls (suc n) h =
     let k : n < length vs = omega arith in
     let e : rebuilt (take (suc n) vs) ≡ push (getD vs n 0) n (rebuilt (take n vs)) =

@@ -1,6 +1,6 @@
 -- `soundness::key_place` meets its contract. Assumes nothing.
 use borrow.Author.Tests.{eq-eqb, ne-eqb}
-use Rattle.soundness.specs.Checks.{keyPlace}
+use Rattle.soundness.specs.inner.Checks.{keyPlace}
 use Rattle.soundness.proofs.key_place.Statement.{statement}
 use Rattle.soundness.proofs.key_place.Tie as tie
 

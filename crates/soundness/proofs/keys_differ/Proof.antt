@@ -4,8 +4,8 @@ use native.Mathlib.Omega.{arith}
 use borrow.Author.Count.{below-more}
 use borrow.Author.Tests.{not-true, not-false}
 use Rattle.key_index.specs.Slots.{LiveAt}
-use Rattle.sort_entries.specs.Checks.{told-yes, told-no}
-use Rattle.soundness.specs.Checks.{Own}
+use Rattle.sort_entries.specs.inner.Checks.{told-yes, told-no}
+use Rattle.soundness.specs.inner.Checks.{Own}
 use Rattle.soundness.specs.Laws.Checks.{own-differ}
 use Rattle.soundness.proofs.keys_differ.Statement.{statement}
 use Rattle.soundness.proofs.keys_differ.Tie as tie

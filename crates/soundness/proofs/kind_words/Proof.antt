@@ -1,7 +1,7 @@
 -- `soundness::kind_words` meets its contract. Assumes nothing.
 use borrow.Author.Needs.{needs}
 use borrow.Author.Tests.{eq-eqb, ne-eqb}
-use Rattle.soundness.specs.Checks.{kindWords}
+use Rattle.soundness.specs.inner.Checks.{kindWords}
 use Rattle.soundness.proofs.kind_words.Statement.{statement}
 use Rattle.soundness.proofs.kind_words.Tie as tie
 

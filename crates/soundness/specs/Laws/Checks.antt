@@ -19,18 +19,18 @@ use Rattle.constraints.specs.Constraints.{isLive}
 use Rattle.key_index.specs.declared.Keyed.{Keyed}
 use Rattle.key_index.specs.declared.Found.the-variants.{None, At}
 use Rattle.key_index.specs.Slots.{LiveAt, keyAt, KeysSound}
-use Rattle.key_index.specs.Index.{Fits, FirstHit, FoundIs}
-use Rattle.key_index.specs.Laws.{KeysDiffer, first-one}
-use Rattle.sort_entries.specs.Search.{Held}
-use Rattle.sort_entries.specs.Checks.{Cells}
+use Rattle.key_index.specs.inner.Index.{Fits, FirstHit, FoundIs, KeysDiffer}
+use Rattle.key_index.specs.Laws.Index.{first-one}
+use Rattle.sort_entries.specs.inner.Search.{Held}
+use Rattle.sort_entries.specs.inner.Checks.{Cells}
 use Rattle.plain.specs.Staged.{Opening, Staged, insert, removeKey, removeRow, wordsOf, wordsAll}
-use Rattle.plain.specs.Plain.{wrongWidth}
+use Rattle.plain.specs.Refusing.{wrongWidth}
 use Rattle.table.specs.declared.Header.{Header}
 use Rattle.table.specs.Numbers.{openingOf}
 use Rattle.table.specs.Refusing.{soundRefusal}
 use Rattle.table.specs.Stores.{recordWords}
 use Rattle.table.specs.Sound.{keyedOf, Sound}
-use Rattle.soundness.specs.Checks.{RowsSound, IndexSound, Own, OwnIs, PendingIn, kindWords, keyPlace, keyWords, Begins, HoldsFrom, Pending}
+use Rattle.soundness.specs.inner.Checks.{RowsSound, IndexSound, Own, OwnIs, PendingIn, kindWords, keyPlace, keyWords, Begins, HoldsFrom, Pending}
 use Rattle.table.specs.Laws.Refusals.{Tested, sound-tested, inside-fits}
 use Rattle.table.specs.Laws.Pending.{length-recordWords}
 

@@ -2,7 +2,7 @@
 use Prim.Native.Nat.{_+_}
 use native.Mathlib.Omega.{arith}
 use borrow.Author.Tests.{lt-ltb, le-ltb}
-use Rattle.staging.specs.Stagings.{overfull}
+use Rattle.plain.specs.Refusing.{overfull}
 use borrow.Author.Needs.{needs}
 use Rattle.staging.proofs.is_overfull.Statement.{statement}
 use Rattle.staging.proofs.is_overfull.Tie as tie

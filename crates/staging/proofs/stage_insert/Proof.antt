@@ -8,7 +8,7 @@ use lib.Seq.{length-take-le}
 use Rattle.lists.specs.Lists.{putAt}
 use Rattle.plain.specs.Staged.{insert, wordsOf}
 use Rattle.table.specs.Stores.{recordWords}
-use Rattle.staging.specs.Laws.{insert-ladder, Free, ladder-free, staging-refused, staging-written}
+use Rattle.staging.specs.Laws.Staging.{insert-ladder, Free, ladder-free, staging-refused, staging-written}
 use borrow.Author.Needs.{needs}
 use Rattle.staging.proofs.stage_insert.Statement.{statement}
 use Rattle.staging.proofs.stage_insert.Tie as tie

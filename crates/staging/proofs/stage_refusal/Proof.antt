@@ -2,7 +2,7 @@
 use mathlib.Core.Path.{sym, _∙_}
 use borrow.Author.Tests.{eq-eqb, ne-eqb}
 use Rattle.refusals.specs.Refusals.{first}
-use Rattle.staging.specs.Stagings.{ladder}
+use Rattle.staging.specs.inner.Staging.{ladder}
 use borrow.Author.Needs.{needs}
 use Rattle.staging.proofs.stage_refusal.Statement.{statement}
 use Rattle.staging.proofs.stage_refusal.Tie as tie

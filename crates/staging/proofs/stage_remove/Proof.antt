@@ -7,7 +7,7 @@ use lib.ListN.{length}
 use Rattle.lists.specs.Lists.{putAt}
 use Rattle.plain.specs.Staged.{removeKey, wordsOf}
 use Rattle.table.specs.Stores.{recordWords}
-use Rattle.staging.specs.Laws.{key-ladder, Free, ladder-free, staging-refused, staging-written}
+use Rattle.staging.specs.Laws.Staging.{key-ladder, Free, ladder-free, staging-refused, staging-written}
 use borrow.Author.Needs.{needs}
 use Rattle.staging.proofs.stage_remove.Statement.{statement}
 use Rattle.staging.proofs.stage_remove.Tie as tie

@@ -7,7 +7,7 @@ use lib.ListN.{length}
 use Rattle.lists.specs.Lists.{putAt}
 use Rattle.plain.specs.Staged.{removeRow, wordsOf}
 use Rattle.table.specs.Stores.{recordWords}
-use Rattle.staging.specs.Laws.{row-ladder, Free, ladder-free, staging-refused, staging-written}
+use Rattle.staging.specs.Laws.Staging.{row-ladder, Free, ladder-free, staging-refused, staging-written}
 use borrow.Author.Needs.{needs}
 use Rattle.staging.proofs.stage_remove_row.Statement.{statement}
 use Rattle.staging.proofs.stage_remove_row.Tie as tie

@@ -1,7 +1,7 @@
 -- `table::staging::write_row_head` meets its contract. Assumes nothing.
 use native.Mathlib.Omega.{arith}
 use lib.ListN.{length-set}
-use Rattle.staging.specs.Laws.{row-head}
+use Rattle.staging.specs.Laws.Staging.{row-head}
 use borrow.Author.Needs.{needs}
 use Rattle.staging.proofs.write_row_head.Statement.{statement}
 use Rattle.staging.proofs.write_row_head.Tie as tie

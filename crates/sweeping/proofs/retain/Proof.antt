@@ -4,7 +4,7 @@ use mathlib.Core.List.{[], _∷_}
 use native.Mathlib.Omega.{arith}
 use Rattle.offsets.specs.Answers.{subsetOf}
 use Rattle.queries.specs.Queries.{matches}
-use Rattle.sweeping.specs.Sweeping.{Swept}
+use Rattle.sweeping.specs.inner.Sweeping.{Swept}
 use Rattle.sweeping.proofs.SweepSteps.{swept-begin, next-lies, decides-one, finished}
 use Rattle.sweeping.proofs.retain.Statement.{statement}
 use Rattle.sweeping.proofs.retain.Tie as tie

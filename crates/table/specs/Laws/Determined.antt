@@ -11,13 +11,14 @@ use native.Mathlib.Omega.{arith}
 use lib.ListN.{length}
 use Rattle.lists.specs.Laws.Parts.{same-parts}
 use Rattle.refusals.specs.Refusals.{verdict}
-use Rattle.refusals.specs.Laws.{some-number}
-use Rattle.refusals.specs.Determined.{Same, SameAnswer, refused-same, answer-same}
+use Rattle.refusals.specs.Laws.Replies.{some-number}
+use Rattle.refusals.specs.Laws.Determined.{Same, SameAnswer, refused-same, answer-same}
 use Rattle.constraints.specs.declared.Constraint.{Constraint}
 use Rattle.sort_entries.specs.Entries.{entriesOf, entriesSound}
-use Rattle.key_index.specs.Laws.{empty-free}
+use Rattle.key_index.specs.Laws.Index.{empty-free}
 use Rattle.plain.specs.Staged.{Opening, Staged}
-use Rattle.plain.specs.Plain.{Plain, openRefusal, opened, merged, cleared}
+use Rattle.plain.specs.Plain.{Plain, opened, merged, cleared}
+use Rattle.plain.specs.Refusing.{openRefusal}
 use Rattle.table.specs.declared.Header.{Header}
 use Rattle.table.specs.declared.TableAnswer.{TableAnswer}
 use Rattle.table.specs.declared.MergeAnswer.{MergeAnswer}
@@ -29,7 +30,7 @@ use Rattle.table.specs.declared.SoundAnswer.{SoundAnswer}
 use Rattle.table.specs.declared.SoundAnswer.the-variants.{Refused, Sound}
 use Rattle.table.specs.Numbers.{tableSays, mergeSays, rowSays, cellSays, rangeSays, soundSays}
 use Rattle.table.specs.Refusing.{stageRefusal, mergeRefusal, compactRefusal, clearRefusal, lookupRefusal, cellRefusal, fastRefusal}
-use Rattle.table.specs.Promises.{stores, lengths, Represents, SlotsPast, WordsPast, Opened, Staging, Merging, Compacting, Clearing, LookedUp, CellRead, RangeRead, VersionRead, RowsSince, Checked}
+use Rattle.table.specs.Promises.{stores, lengths, Represents, SlotsPast, WordsPast, Opened, Staging, Merging, Compacting, Clearing, LookedUp, CellRead, RangeRead, VersionRead, RowsSince, Checked, Body, bodyOf, joined, CompactionWords, lengthsLent, Stores}
 use Rattle.table.specs.Laws.Shown.{represents-long, rows-counted}
 use Rattle.table.specs.Laws.Opening.{cleared-rows, cleared-opening}
 use Rattle.table.specs.Laws.Answers.{table-said, merge-said, row-said, cell-said, range-said, version-said}
@@ -47,17 +48,17 @@ empty-keys p h rows sorts pending keys₁ keys₂ none r s past =
     (λ i k. empty-free _ rows keys₁ (λ j live. omega (arith, live .0)) (r .keyed) i (omega arith) ∙ sym (empty-free _ rows keys₂ (λ j live. omega (arith, live .0)) (s .keyed) i (omega arith)))
     (sym past)
 
-pub opened-determined : {o : Opening} {generation : ℕ} {rows keys sorts pending keys₁ keys₂ : List ℕ} {a b : TableAnswer}
-    → Opened o generation rows keys sorts pending a keys₁ → Opened o generation rows keys sorts pending b keys₂ → Same a b keys₁ keys₂
+pub opened-determined : {o : Opening} {generation : ℕ} {s : Body} {pending keys₁ keys₂ : List ℕ} {a b : TableAnswer}
+    → Opened o generation s pending a keys₁ → Opened o generation s pending b keys₂ → Same a b keys₁ keys₂
 unfolding opened
-opened-determined {o} {generation} {rows} {keys} {sorts} {pending} {keys₁} {keys₂} {a} {b} x y =
+opened-determined {o} {generation} {s} {pending} {keys₁} {keys₂} {a} {b} x y =
     record {
       answer = table-said a b (x .answers ∙ sym (y .answers));
       cells =
           ⊎-elim
-          (λ none. empty-keys (opened o generation) _ rows sorts pending keys₁ keys₂ refl (x .represents none) (y .represents none) (y .past ∙ sym (x .past)))
+          (λ none. empty-keys (opened o generation) _ (s .rows) (s .sorts) pending keys₁ keys₂ refl (x .represents none) (y .represents none) (y .past ∙ sym (x .past)))
           (λ some. x .unchanged some ∙ sym (y .unchanged some))
-          (some-number (openRefusal o (lengths rows keys sorts pending [] [])));
+          (some-number (openRefusal o (lengths (s .rows) (s .keys) (s .sorts) pending [] [])));
     }
 
 -- ---- *Stage*
@@ -75,62 +76,47 @@ staging-determined {h} {r} {pending} {a = a} {b = b} x y =
 
 -- ---- *Merge*, *Compact*
 
--- what one of them leaves: its answer, and each list that it is lent to write to
+-- what one of them leaves: its answer, and the stores and words that it is lent to write to
 pub record Left (A : Type 0) : Type 0 where
   pub answer : A
-  pub rows : List ℕ
-  pub keys : List ℕ
-  pub sorts : List ℕ
-  pub live : List ℕ
-  pub base : List ℕ
+  pub body : Body
+  pub words : CompactionWords
 
 -- two of them, of a table: the same but for the choices
 pub record SameTable {A : Type 0} (x y : Left A) : Type 0 where
   pub answer : x .answer ≡ y .answer
-  pub rows : x .rows ≡ y .rows
-  pub sorts : x .sorts ≡ y .sorts
+  pub rows : x .body .rows ≡ y .body .rows
+  pub sorts : x .body .sorts ≡ y .body .sorts
 
 -- what is all the same
 same-table : {A : Type 0} {x y : Left A} → x ≡ y → SameTable x y
 same-table {A} e =
-    record { answer = ap (λ (z : Left A). z .answer) e; rows = ap (λ (z : Left A). z .rows) e; sorts = ap (λ (z : Left A). z .sorts) e }
+    record { answer = ap (λ (z : Left A). z .answer) e; rows = ap (λ (z : Left A). z .body .rows) e; sorts = ap (λ (z : Left A). z .body .sorts) e }
 
--- the lists that were lent are as they were
-abbrev Unchanged : {A : Type 0} → List ℕ → List ℕ → List ℕ → List ℕ → List ℕ → Left A → Type 0
-Unchanged rows keys sorts live base x = (x .rows ≡ rows) × (x .keys ≡ keys) × (x .sorts ≡ sorts) × (x .live ≡ live) × (x .base ≡ base)
+-- both left what was lent as it was
+left-same : {A : Type 0} (b : Body) (w : CompactionWords) (x y : Left A) → x .answer ≡ y .answer
+    → (x .body ≡ b) × (x .words ≡ w) → (y .body ≡ b) × (y .words ≡ w) → x ≡ y
+left-same b w x y answers u v =
+    λ i. record { answer = answers i; body = (u .0 ∙ sym (v .0)) i; words = (u .1 ∙ sym (v .1)) i }
 
-left-same : {A : Type 0} (rows keys sorts live base : List ℕ) (x y : Left A) → x .answer ≡ y .answer
-    → Unchanged rows keys sorts live base x → Unchanged rows keys sorts live base y → x ≡ y
-left-same rows keys sorts live base x y answers u v =
-    λ i. record {
-      answer = answers i;
-      rows = (u .0 ∙ sym (v .0)) i;
-      keys = (u .1 ∙ sym (v .1)) i;
-      sorts = (u .2 ∙ sym (v .2)) i;
-      live = (u .3 ∙ sym (v .3)) i;
-      base = (u .4 ∙ sym (v .4)) i;
-    }
-
-module _ (h : Header) (rows keys sorts pending live base : List ℕ) (x y : Left MergeAnswer) where
+module _ (s : Stores) (w : CompactionWords) (x y : Left MergeAnswer) where
   pub record SameMerge : Type 0 where
     -- of any stores: refused by the same number, or both accepted
     pub verdicts : verdict (mergeSays (x .answer)) ≡ verdict (mergeSays (y .answer))
-    pub refused : 0 < mergeRefusal h (lengths rows keys sorts pending live base) → x ≡ y
+    pub refused : 0 < mergeRefusal (s .header) (lengthsLent s w) → x ≡ y
     -- and what is never written
-    pub slots-past : SlotsPast (h .capacity) (x .keys) (y .keys)
-    pub words-past : WordsPast (h .capacity) (x .live) (y .live) × WordsPast (h .capacity) (x .base) (y .base)
+    pub slots-past : SlotsPast (s .header .capacity) (x .body .keys) (y .body .keys)
+    pub words-past : WordsPast (s .header .capacity) (x .words) (y .words)
     -- of a table: all but the choices
-    pub table : (p : Plain) → Represents p (stores h rows keys sorts pending) → SameTable x y
+    pub table : (p : Plain) → Represents p s → SameTable x y
     -- and the compaction words, where nothing is compacted
-    pub words : (p : Plain) → Represents p (stores h rows keys sorts pending) → merged p .table .generation ≡ p .generation
-        → (x .live ≡ y .live) × (x .base ≡ y .base)
+    pub words : (p : Plain) → Represents p s → merged p .table .generation ≡ p .generation → x .words ≡ y .words
 
-  pub merging-determined : Merging h rows keys sorts pending live base (x .answer) (x .rows) (x .keys) (x .sorts) (x .live) (x .base)
-      → Merging h rows keys sorts pending live base (y .answer) (y .rows) (y .keys) (y .sorts) (y .live) (y .base) → SameMerge
+  pub merging-determined : Merging s w (x .answer) (x .body) (x .words) → Merging s w (y .answer) (y .body) (y .words) → SameMerge
   merging-determined u v =
-      let n = some-number (mergeRefusal h (lengths rows keys sorts pending live base)) in
-      let alike : 0 < mergeRefusal h (lengths rows keys sorts pending live base) → x ≡ y =
-      λ some. left-same rows keys sorts live base x y (refused-same merge-said (u .refusal) (v .refusal) some) (u .unchanged some) (v .unchanged some) in
+      let n = some-number (mergeRefusal (s .header) (lengthsLent s w)) in
+      let alike : 0 < mergeRefusal (s .header) (lengthsLent s w) → x ≡ y =
+      λ some. left-same (bodyOf s) w x y (refused-same merge-said (u .refusal) (v .refusal) some) (u .unchanged some) (v .unchanged some) in
       record {
         verdicts = u .refusal ∙ sym (v .refusal);
         refused = alike;
@@ -145,31 +131,26 @@ module _ (h : Header) (rows keys sorts pending live base : List ℕ) (x y : Left
             (λ some. same-table (alike some))
             n;
         words = λ p t same.
-            ⊎-elim
-            (λ none.
-            let e = u .table none p t .words same in
-            let f = v .table none p t .words same in
-            (e .0 ∙ sym (f .0), e .1 ∙ sym (f .1)))
-            (λ some. (ap (λ (z : Left MergeAnswer). z .live) (alike some), ap (λ (z : Left MergeAnswer). z .base) (alike some)))
+            ⊎-elim (λ none. u .table none p t .words same ∙ sym (v .table none p t .words same))
+            (λ some. ap (λ (z : Left MergeAnswer). z .words) (alike some))
             n;
       }
 
-module _ (h : Header) (rows keys sorts live base : List ℕ) (x y : Left TableAnswer) where
+module _ (h : Header) (b : Body) (w : CompactionWords) (x y : Left TableAnswer) where
   pub record SameCompaction : Type 0 where
     -- of any stores: refused by the same number, or both accepted
     pub verdicts : verdict (tableSays (x .answer)) ≡ verdict (tableSays (y .answer))
-    pub refused : 0 < compactRefusal h (lengths rows keys sorts [] live base) → x ≡ y
+    pub refused : 0 < compactRefusal h (lengthsLent (joined h b []) w) → x ≡ y
     -- and what is never written
-    pub slots-past : SlotsPast (h .capacity) (x .keys) (y .keys)
-    pub words-past : WordsPast (h .capacity) (x .live) (y .live) × WordsPast (h .capacity) (x .base) (y .base)
+    pub slots-past : SlotsPast (h .capacity) (x .body .keys) (y .body .keys)
+    pub words-past : WordsPast (h .capacity) (x .words) (y .words)
     -- of a table: all but the choices
-    pub table : (pending : List ℕ) (p : Plain) → Represents p (stores h rows keys sorts pending) → SameTable x y
+    pub table : (pending : List ℕ) (p : Plain) → Represents p (joined h b pending) → SameTable x y
 
-  pub compacting-determined : Compacting h rows keys sorts live base (x .answer) (x .rows) (x .keys) (x .sorts) (x .live) (x .base)
-      → Compacting h rows keys sorts live base (y .answer) (y .rows) (y .keys) (y .sorts) (y .live) (y .base) → SameCompaction
+  pub compacting-determined : Compacting h b w (x .answer) (x .body) (x .words) → Compacting h b w (y .answer) (y .body) (y .words) → SameCompaction
   compacting-determined u v =
-      let alike : 0 < compactRefusal h (lengths rows keys sorts [] live base) → x ≡ y =
-      λ some. left-same rows keys sorts live base x y (refused-same table-said (u .refusal) (v .refusal) some) (u .unchanged some) (v .unchanged some) in
+      let alike : 0 < compactRefusal h (lengthsLent (joined h b []) w) → x ≡ y =
+      λ some. left-same b w x y (refused-same table-said (u .refusal) (v .refusal) some) (u .unchanged some) (v .unchanged some) in
       record {
         verdicts = u .refusal ∙ sym (v .refusal);
         refused = alike;
@@ -182,7 +163,7 @@ module _ (h : Header) (rows keys sorts live base : List ℕ) (x y : Left TableAn
             let f = v .table none pending p t in
             record { answer = table-said _ _ (e .answers ∙ sym (f .answers)); rows = e .rows-after ∙ sym (f .rows-after); sorts = e .sorts-after ∙ sym (f .sorts-after) })
             (λ some. same-table (alike some))
-            (some-number (compactRefusal h (lengths rows keys sorts [] live base)));
+            (some-number (compactRefusal h (lengthsLent (joined h b []) w)));
       }
 
 -- ---- *Clear*

@@ -1,31 +1,31 @@
 -- The ladders over a header and those of the plain table that it shows turn away the same. Assumes nothing.
 use mathlib.Core.Path.{_≡_}
 use lib.ListN.{length}
-use Rattle.refusals.specs.Refusals.{first}
 use Rattle.plain.specs.Staged.{Staged}
-use Rattle.plain.specs.Plain.{Plain, Lengths, pendingShort, usedAfter}
-use Rattle.plain.specs.Plain.{stageRefusal as plainStage, mergeRefusal as plainMerge, compactRefusal as plainCompact, clearRefusal as plainClear}
-use Rattle.table.specs.Refusing.{pendingOutside, pairsShort, stageRefusal, mergeRefusal, compactRefusal, clearRefusal}
+use Rattle.plain.specs.Refusing.{Lengths}
+use Rattle.plain.specs.Plain.{Plain}
+use Rattle.plain.specs.Calls.{staging, merging, compacting, clearing, countsOf, pendingShort, refusal}
+use Rattle.table.specs.Refusing.{pendingOutside, stageRefusal, mergeRefusal, compactRefusal, clearRefusal}
 use Rattle.table.specs.Promises.{Stores, Represents}
 use Rattle.table.specs.Laws.Shown.{header-inside}
 
 module _ {p : Plain} {s : Stores} (r : Represents p s) (l : Lengths) where
   -- *Stage*, of a pending store of the length that the plain table is told
-  pub stage-ladders : l .pending ≡ length (s .pending) → (q : Staged) → stageRefusal (s .header) (length (s .pending)) q ≡ plainStage p l q
-  unfolding stageRefusal plainStage pendingOutside pendingShort usedAfter
+  pub stage-ladders : l .pending ≡ length (s .pending) → (q : Staged) → stageRefusal (s .header) (length (s .pending)) q ≡ refusal p l (staging q)
+  unfolding stageRefusal refusal pendingOutside pendingShort countsOf
   stage-ladders e q = rw (r .shown .header, header-inside (r .proper), e)
 
   -- *Merge*
-  pub merge-ladders : mergeRefusal (s .header) l ≡ plainMerge p l
-  unfolding mergeRefusal plainMerge pendingOutside pendingShort
+  pub merge-ladders : mergeRefusal (s .header) l ≡ refusal p l merging
+  unfolding mergeRefusal refusal pendingOutside pendingShort countsOf
   merge-ladders = rw (r .shown .header, header-inside (r .proper))
 
   -- *Compact*
-  pub compact-ladders : compactRefusal (s .header) l ≡ plainCompact p l
-  unfolding compactRefusal plainCompact first
+  pub compact-ladders : compactRefusal (s .header) l ≡ refusal p l compacting
+  unfolding compactRefusal refusal countsOf
   compact-ladders = rw (r .shown .header, header-inside (r .proper))
 
   -- *Clear*
-  pub clear-ladders : clearRefusal (s .header) (l .keys) ≡ plainClear p l
-  unfolding clearRefusal plainClear first pairsShort
+  pub clear-ladders : clearRefusal (s .header) (l .keys) ≡ refusal p l clearing
+  unfolding clearRefusal refusal countsOf
   clear-ladders = rw (r .shown .header, header-inside (r .proper))

@@ -11,12 +11,13 @@ use borrow.Author.Tests.{lt-ltb, le-ltb, not-false}
 use Rattle.lists.specs.Lists.{every, count, rowsOf, flat}
 use Rattle.lists.specs.Laws.Parts.{length-putAt}
 use Rattle.refusals.specs.Refusals.{reply, verdict, ruling, accepted}
-use Rattle.refusals.specs.Laws.{some-number}
+use Rattle.refusals.specs.Laws.Replies.{some-number}
 use Rattle.sort_entries.specs.Entries.{entriesOf, rebuilt, pushAll}
-use Rattle.key_index.specs.Index.{zeros, EmptyIs}
-use Rattle.key_index.specs.Laws.{emptied, empty-sound}
+use Rattle.key_index.specs.inner.Index.{zeros, EmptyIs}
+use Rattle.key_index.specs.Laws.Index.{emptied, empty-sound}
 use Rattle.plain.specs.Staged.{Opening, openable, wordsAll}
-use Rattle.plain.specs.Plain.{Plain, dead, storesShort, openRefusal, opened, unstaged, cleared}
+use Rattle.plain.specs.Plain.{Plain, dead, opened, unstaged, cleared}
+use Rattle.plain.specs.Refusing.{storesShort, openRefusal}
 use Rattle.plain.specs.Laws.Calls.{first-no, first-rest}
 use Rattle.plain.specs.Laws.Proper.{opened-proper, unstaged-proper}
 use Rattle.table.specs.declared.Header.{Header}
@@ -24,7 +25,7 @@ use Rattle.table.specs.declared.TableAnswer.the-variants.{Refused, Table
 use Rattle.table.specs.Numbers.{openingOf, tableSays}
 use Rattle.table.specs.Refusing.{clearRefusal}
 use Rattle.table.specs.Stores.{entries, headerOf, stored}
-use Rattle.table.specs.Promises.{Stores, stores, lengths, Represents, Opened, withPending, Clearing}
+use Rattle.table.specs.Promises.{Stores, stores, lengths, Represents, Opened, withPending, Clearing, body}
 use Rattle.table.specs.Laws.Shown.{stores-long, long-stores, rows-counted}
 use Rattle.table.specs.Laws.Refusals.{clear-accepted}
 
@@ -67,7 +68,7 @@ module _ (o : Opening) (generation : ℕ) (rows keys keys′ sorts pending : Lis
       record {
         proper = opened-proper o generation bounds fits;
         long-enough = long-stores o (lengths rows keys′ sorts pending [] []) (record { rows-long = l .rows-long; keys-long = omega (arith, l .keys-long); sorts-long = l .sorts-long });
-        shown = record { header = refl; rows-shown = refl; entries-shown = refl; pending-held = record { whole = refl; in-order = refl } };
+        shown = record { header = refl; rows-shown = λ i k. absurd (omega arith); entries-shown = refl; pending-held = record { whole = refl; in-order = refl } };
         keyed = empty-sound _ rows keys′ (λ i live. absurd (omega (arith, live .0))) (emptied (o .capacity) keys keys′ (l .keys-long) e);
       }
 
@@ -76,7 +77,7 @@ module _ (o : Opening) (generation : ℕ) (rows keys keys′ sorts pending : Lis
 module _ (o : Opening) (generation : ℕ) (rows keys sorts pending : List ℕ) where
   -- one that is turned away
   pub opened-refused : (n : ℕ) → n ≡ openRefusal o (lengths rows keys sorts pending [] []) → (n ≡ 0 → ⊥)
-      → Opened o generation rows keys sorts pending (Refused n) keys
+      → Opened o generation (body rows keys sorts) pending (Refused n) keys
   unfolding tableSays reply
   opened-refused zero e ne = absurd (ne refl)
   opened-refused (suc n) e ne =
@@ -89,7 +90,7 @@ module _ (o : Opening) (generation : ℕ) (rows keys sorts pending : List ℕ) w
 
   -- one that is not
   pub opened-done : (keys′ : List ℕ) → openRefusal o (lengths rows keys sorts pending [] []) ≡ 0 → generation ≤ 4294967295 → EmptyIs (o .capacity) keys keys′
-      → Opened o generation rows keys sorts pending (Table (emptyHeader o generation)) keys′
+      → Opened o generation (body rows keys sorts) pending (Table (emptyHeader o generation)) keys′
   unfolding tableSays reply openRefusal
   opened-done keys′ e fits free =
       record {

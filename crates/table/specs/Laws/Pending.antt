@@ -4,14 +4,14 @@ use mathlib.Core.Path.{_≡_, refl, sym, ap, ap₂, _∙_}
 use mathlib.Core.Bool.{false, not}
 use mathlib.Core.List.{List, [], _∷_, _++_, map, map-append, append-nil}
 use native.Mathlib.Omega.{arith}
-use lib.ListN.{length, take, length-append, length-take}
+use lib.ListN.{length, length-append, length-take}
 use borrow.Author.Tests.{eqb-true, not-true, not-false}
 use Rattle.lists.specs.Lists.{putAt, flat}
 use Rattle.lists.specs.Laws.Parts.{front-putAt}
 use Rattle.lists.specs.Laws.Every.{every-head, every-tail, every-snoc}
 use Rattle.lists.specs.Laws.Rows.{flat-append}
 use Rattle.plain.specs.Staged.{Opening, Staged, insert, removeKey, removeRow, wordsOf, wordsAll}
-use Rattle.plain.specs.Plain.{wrongWidth}
+use Rattle.plain.specs.Refusing.{wrongWidth}
 use Rattle.plain.specs.Laws.Proper.{Whole}
 use Rattle.table.specs.Stores.{recordWords, Holds}
 

@@ -12,14 +12,14 @@ use Rattle.lists.specs.Laws.Keep.{and-left, and-right}
 use Rattle.lists.specs.Laws.Every.{or-no-left, or-no-right}
 use Rattle.constraints.specs.declared.Constraint.{Constraint}
 use Rattle.constraints.specs.Constraints.{known}
-use Rattle.key_index.specs.Index.{Fits}
+use Rattle.key_index.specs.inner.Index.{Fits}
 use Rattle.plain.specs.Staged.{Opening, openable}
-use Rattle.plain.specs.Plain.{Lengths, storesShort, wordsShort, openRefusal}
+use Rattle.plain.specs.Refusing.{Lengths, storesShort, wordsShort, openRefusal, compactLadder, mergeLadder, clearLadder}
 use Rattle.plain.specs.Laws.Calls.{first-no, first-rest}
 use Rattle.plain.specs.Laws.Proper.{Bounds, openable-bounds}
 use Rattle.table.specs.declared.Header.{Header}
 use Rattle.table.specs.Numbers.{openingOf}
-use Rattle.table.specs.Refusing.{outside, pendingOutside, rowsShort, pairsShort, mergeRefusal, compactRefusal, clearRefusal, lookupRefusal, cellRefusal, fastRefusal, versionRefusal, sinceRefusal, soundRefusal}
+use Rattle.table.specs.Refusing.{outside, pendingOutside, rowsShort, pairsShort, mergeRefusal, compactRefusal, clearRefusal, lookupRefusal, cellRefusal, fastRefusal, versionRefusal, sinceRefusal, soundRefusal, lookupTests}
 use Rattle.table.specs.Sound.{keyedOf}
 use Rattle.table.specs.Laws.Shown.{LongEnough, stores-long}
 
@@ -116,7 +116,7 @@ pub record Mergeable (h : Header) (l : Lengths) : Type 0 where
   pub words : WordsLong (openingOf h) (l .liveWords) (l .baseWords)
 
 pub merge-accepted : (h : Header) (l : Lengths) → mergeRefusal h l ≡ 0 → Mergeable h l
-unfolding mergeRefusal
+unfolding mergeRefusal mergeLadder
 merge-accepted h l e =
     let a = pending-inside h (l .pending) (first-no _ 0 _ e) in
     let b = first-no (storesShort (openingOf h) l || wordsShort (openingOf h) l) 1 _ (first-rest _ 0 _ e) in
@@ -136,7 +136,7 @@ pub record Compactable (h : Header) (l : Lengths) : Type 0 where
   pub not-last : h .generation ≡ 4294967295 → ⊥
 
 pub compact-accepted : (h : Header) (l : Lengths) → compactRefusal h l ≡ 0 → Compactable h l
-unfolding compactRefusal
+unfolding compactRefusal compactLadder
 compact-accepted h l e =
     let rest = first-rest _ 0 _ e in
     let b = first-no (storesShort (openingOf h) l || wordsShort (openingOf h) l) 1 _ rest in
@@ -155,7 +155,7 @@ pub record Clearable (h : Header) (keys : ℕ) : Type 0 where
   pub last-empty : h .generation ≡ 4294967295 → h .rows ≡ 0
 
 pub clear-accepted : (h : Header) (keys : ℕ) → clearRefusal h keys ≡ 0 → Clearable h keys
-unfolding clearRefusal
+unfolding clearRefusal clearLadder pairsShort
 clear-accepted h keys e =
     let rest = first-rest _ 0 _ e in
     record {
@@ -176,7 +176,7 @@ pub record Lookable (h : Header) (rows keys cells : ℕ) : Type 0 where
   pub key-width : cells ≡ h .keys
 
 pub lookup-accepted : (h : Header) (rows keys cells : ℕ) → lookupRefusal h rows keys cells ≡ 0 → Lookable h rows keys cells
-unfolding lookupRefusal
+unfolding lookupRefusal lookupTests
 lookup-accepted h rows keys cells e =
     let rest = first-rest _ 0 _ e in
     let b = first-no (rowsShort h rows || pairsShort h keys) 1 _ rest in
@@ -192,7 +192,7 @@ pub record Readable (h : Header) (rows keys cells column : ℕ) : Type 0 where
   pub column-there : column < h .columns
 
 pub cell-accepted : (h : Header) (rows keys cells column : ℕ) → cellRefusal h rows keys cells column ≡ 0 → Readable h rows keys cells column
-unfolding cellRefusal
+unfolding cellRefusal lookupTests
 cell-accepted h rows keys cells column e =
     let rest = first-rest _ 0 _ e in
     let b = first-no (rowsShort h rows || pairsShort h keys) 1 _ rest in

@@ -2,7 +2,7 @@
 -- nothing.
 use Prim.Native.Nat.{ℕ, _*_, _≤_, _<_}
 use mathlib.Core.Path.{_≡_, sym, ap, _∙_}
-use mathlib.Core.Bool.{true, false, not, _||_}
+use mathlib.Core.Bool.{true, false, _||_}
 use mathlib.Core.List.{List, [], map}
 use native.Mathlib.Nat.{mul-le-mul-right}
 use native.Mathlib.Omega.{arith}
@@ -15,17 +15,18 @@ use Rattle.lists.specs.Laws.Every.{every-weaker, or-no-left, or-no-right}
 use Rattle.key_index.specs.Slots.{LiveAt}
 use Rattle.sort_entries.specs.Laws.Rebuilt.{rebuilt-few}
 use Rattle.plain.specs.Staged.{Opening}
-use Rattle.plain.specs.Plain.{Plain, Lengths, storesShort}
+use Rattle.plain.specs.Plain.{Plain}
+use Rattle.plain.specs.Refusing.{Lengths, storesShort}
 use Rattle.plain.specs.Proper.{Proper, rowOf}
 use Rattle.plain.specs.Laws.Rows.{live-below}
 use Rattle.plain.specs.Laws.Proper.{openable-bounds}
 use Rattle.plain.specs.Laws.Live.{dead-le}
 use Rattle.table.specs.declared.Header.{Header}
 use Rattle.table.specs.Refusing.{outside}
-use Rattle.table.specs.Stores.{entries, headerOf, stored, Shows}
+use Rattle.table.specs.Stores.{entries, headerOf, stored, RowShown}
 use Rattle.table.specs.Sound.{keyedOf}
 use Rattle.table.specs.Promises.{Stores, lengths, Represents}
-use Rattle.table.specs.Laws.Stored.{RowShown, stored-shown, shown-stored}
+use Rattle.table.specs.Laws.Stored.{stored-shown, shown-stored}
 
 -- ---- the lengths of the stores
 
@@ -84,17 +85,11 @@ shown-own {p} rows proper long e i k =
     rw (getD-rowsOf w (length (p .rows)) rows i k) at
     (stored-shown (p .rows) (rowsOf w (length (p .rows)) rows) (length-rowsOf w (length (p .rows)) rows) (proper .live-first) cells-in e i k)
 
--- a row is live exactly if its stored first cell is not the mark, and then its cells are the stored ones
-pub shown-row : {p : Plain} (h : Header) (rows sorts pending : List ℕ) → Proper p → p .opening .capacity * p .opening .columns ≤ length rows
-    → Shows p h rows sorts pending → (i : ℕ) → i < length (p .rows) → RowShown (rowOf p i) (rowAt (h .columns) i rows)
-shown-row {p} h rows sorts pending proper long shows i k = rw (shows .header) (shown-own rows proper long (rw (shows .header) at (shows .rows-shown)) i k)
-
--- conversely
-pub rows-shown-of : (p : Plain) (h : Header) (rows : List ℕ) → h .rows ≡ length (p .rows) → ((i : ℕ) → i < length (p .rows) → RowShown (rowOf p i) (rowAt (h .columns) i rows))
+-- rows stored over themselves unchanged show the plain ones
+pub stored-rows : {p : Plain} (h : Header) (rows : List ℕ) → Proper p → p .opening .capacity * p .opening .columns ≤ length rows → h ≡ headerOf p
     → stored (p .rows) (rowsOf (h .columns) (h .rows) rows) ≡ rowsOf (h .columns) (h .rows) rows
-rows-shown-of p h rows n f =
-    shown-stored (p .rows) (rowsOf (h .columns) (h .rows) rows) (length-rowsOf (h .columns) (h .rows) rows ∙ n)
-    (λ i k. rw (getD-rowsOf (h .columns) (h .rows) rows i (omega arith)) (f i k))
+    → (i : ℕ) → i < h .rows → RowShown (rowOf p i) (rowAt (h .columns) i rows)
+stored-rows {p} h rows proper long e q i k = rw e (shown-own rows proper long (rw e at q) i (rw e at k))
 
 module _ {p : Plain} {s : Stores} (r : Represents p s) where
   -- the stores are long enough
@@ -107,11 +102,17 @@ module _ {p : Plain} {s : Stores} (r : Represents p s) where
 
   -- row by row
   pub row-shown : (i : ℕ) → i < length (p .rows) → RowShown (rowOf p i) (rowAt (s .header .columns) i (s .rows))
-  row-shown i h = shown-row (s .header) (s .rows) (s .sorts) (s .pending) (r .proper) (represents-long .rows-long) (r .shown) i h
+  row-shown i h = r .shown .rows-shown i (rw (ap (λ (h : Header). h .rows) (r .shown .header)) h)
 
   -- the header counts the rows
   pub rows-counted : s .header .rows ≡ length (p .rows)
   rows-counted = ap (λ (h : Header). h .rows) (r .shown .header)
+
+  -- stored over themselves the rows do not change
+  pub rows-stored : stored (p .rows) (rowsOf (s .header .columns) (s .header .rows) (s .rows)) ≡ rowsOf (s .header .columns) (s .header .rows) (s .rows)
+  rows-stored =
+      shown-stored (p .rows) (rowsOf (s .header .columns) (s .header .rows) (s .rows)) (length-rowsOf (s .header .columns) (s .header .rows) (s .rows) ∙ rows-counted)
+      (λ i k. let b : i < s .header .rows = rw rows-counted k in rw (getD-rowsOf (s .header .columns) (s .header .rows) (s .rows) i b) (r .shown .rows-shown i b))
 
   -- a live row of the plain table is a live row of the stores
   pub live-in : (i : ℕ) → rowOf p i .live ≡ true → LiveAt (keyedOf (s .header)) (s .rows) i

@@ -29,11 +29,10 @@ use Rattle.plain.specs.Laws.Proper.{bounds-openable}
 use Rattle.table.specs.declared.Header.{Header}
 use Rattle.table.specs.Numbers.{openingOf}
 use Rattle.table.specs.Refusing.{pendingOutside, rowsShort, pairsShort, soundRefusal}
-use Rattle.table.specs.Stores.{entries, headerOf}
+use Rattle.table.specs.Stores.{entries, headerOf, RowShown}
 use Rattle.table.specs.Sound.{keyedOf, Sound}
 use Rattle.table.specs.Promises.{Stores, stores, lengths, Represents}
-use Rattle.table.specs.Laws.Stored.{RowShown}
-use Rattle.table.specs.Laws.Shown.{long-stores, rows-shown-of, header-inside, represents-long, row-shown, rows-counted, in-live, live-cells}
+use Rattle.table.specs.Laws.Shown.{long-stores, header-inside, represents-long, row-shown, rows-counted, in-live, live-cells}
 use Rattle.table.specs.Laws.Refusals.{Tested, sound-tested}
 use Rattle.table.specs.Laws.Pending.{holds-fits}
 
@@ -298,7 +297,7 @@ module _ {h : Header} {rows keys sorts pending : List ℕ} {staged : List Staged
         shown =
             record {
               header = plainOf-header;
-              rows-shown = rows-shown-of (plainOf h rows sorts staged) h rows (sym plainOf-length) (λ i k. plainOf-shown i (omega (arith, plainOf-length)));
+              rows-shown = λ i k. plainOf-shown i k;
               entries-shown = plainOf-entries;
               pending-held = s .pending-whole;
             };

@@ -9,9 +9,11 @@ use borrow.Author.Tests.{ltb-false}
 use Rattle.lists.specs.Lists.{putAt}
 use Rattle.lists.specs.Laws.Every.{or-no-left}
 use Rattle.plain.specs.Staged.{Staged, wordsOf, wordsAll}
-use Rattle.plain.specs.Plain.{Plain, dead, wrongWidth, noSuchRow, stage, storesShort}
+use Rattle.plain.specs.Calls.{staging, refusal, done}
+use Rattle.plain.specs.Plain.{Plain, dead, stage}
+use Rattle.plain.specs.Refusing.{Lengths, wrongWidth, noSuchRow, storesShort, stageLadder, overfull}
 use Rattle.plain.specs.Laws.Calls.{first-no, first-rest}
-use Rattle.plain.specs.Laws.Proper.{staged-proper}
+use Rattle.plain.specs.Laws.Proper.{done-proper}
 use Rattle.table.specs.declared.Header.{Header}
 use Rattle.table.specs.Numbers.{openingOf}
 use Rattle.table.specs.Refusing.{pendingOutside, stageRefusal}
@@ -29,7 +31,7 @@ pub record Stageable (h : Header) (pending : ℕ) (r : Staged) : Type 0 where
 
 -- a record that is not turned away passed the tests
 pub stage-accepted : (h : Header) (pending : ℕ) (r : Staged) → stageRefusal h pending r ≡ 0 → Stageable h pending r
-unfolding stageRefusal
+unfolding stageRefusal stageLadder overfull
 stage-accepted h pending r e =
     let b = first-rest _ 0 _ e in
     let c = first-rest _ 2 _ b in
@@ -50,14 +52,15 @@ header-staged p r = ap (withPending (headerOf p)) (sym (wordsAll-snoc (p .openin
 pub staging-represents : {p : Plain} {s : Stores} (r : Staged) (pending′ : List ℕ) → Represents p s → stageRefusal (s .header) (length (s .pending)) r ≡ 0
     → pending′ ≡ putAt (s .pending) (s .header .pending) (recordWords (s .header .keys) r)
     → Represents (stage p r) (stores (withPending (s .header) (s .header .pending + wordsOf (openingOf (s .header)) r)) (s .rows) (s .keys) (s .sorts) pending′)
-unfolding stage storesShort
+unfolding stage storesShort done
 staging-represents {p} {s} r pending′ t e w =
     let a = stage-accepted (s .header) (length (s .pending)) r e in
     let width : wrongWidth (p .opening) r ≡ false = rw (t .shown .header) at (a .right-width) in
     let free : wordsAll (p .opening) (p .staged) + wordsOf (p .opening) r ≤ length (s .pending) = rw (t .shown .header) at (a .free) in
-    let l = lengths (s .rows) (s .keys) (s .sorts) (s .pending) [] [] in
+    let l : Lengths = lengths (s .rows) (s .keys) (s .sorts) (s .pending) [] [] in
+    let z : refusal p l (staging r) ≡ 0 = sym (stage-ladders t l refl r) ∙ e in
     record {
-      proper = staged-proper l r (t .proper) (sym (stage-ladders t l refl r) ∙ e);
+      proper = done-proper l (staging r) (t .proper) z;
       long-enough = t .long-enough;
       shown =
           record {

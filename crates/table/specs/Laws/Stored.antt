@@ -15,7 +15,7 @@ use Rattle.cells.specs.Cells.{isDead}
 use Rattle.constraints.specs.Constraints.{isLive}
 use Rattle.plain.specs.Plain.{Row}
 use Rattle.plain.specs.Laws.Rows.{noRow, wideRow, firstFits}
-use Rattle.table.specs.Stores.{marked, stored}
+use Rattle.table.specs.Stores.{marked, stored, RowShown}
 
 -- ---- the dead mark
 
@@ -32,11 +32,6 @@ dead-marked cells e =
     ap (set cells 0) (sym q) ∙ set-getD cells 0 0
 
 -- ---- one row
-
--- a row of a plain table, and the cells that are stored for it
-pub record RowShown (row : Row) (cells : List ℕ) : Type 0 where
-  pub live : row .live ≡ isLive cells
-  pub same : row .live ≡ true → row .cells ≡ cells
 
 -- stored over itself nothing changes
 pub shown-one : (row : Row) (cells : List ℕ) → RowShown row cells → cond (row .live) (row .cells) (marked cells) ≡ cells

@@ -54,7 +54,7 @@ use Rattle.constraints.proofs.Constraint.Laws as CT′
 use Rattle.table.specs.declared.Header.{Header}
 use Rattle.table.proofs.Header as HT
 use Rattle.table.proofs.Header.Laws as HT′
-use Rattle.sweeping.specs.Sweeping.{RowNeeded, passes}
+use Rattle.sweeping.specs.inner.Sweeping.{RowNeeded, passes}
 use Rattle.walks.proofs.WalkSteps.{none, upto-none, upto, Up, up-wf}
 use Rattle.sweeping.proofs.passes_too as too
 use Rattle.sweeping.proofs.passes_too.Symbol as too-def

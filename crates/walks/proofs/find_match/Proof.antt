@@ -57,7 +57,7 @@ use Rattle.table.proofs.Header as HT
 use Rattle.table.proofs.Header.Laws as HT′
 use Rattle.sweeping.specs.declared.Sweep.{Sweep}
 use Rattle.queries.specs.Queries.{matches}
-use Rattle.sweeping.specs.Sweeping.{passes, RowLies, Lookable, Looking, CanLook, Looks}
+use Rattle.sweeping.specs.inner.Sweeping.{passes, RowLies, Lookable, Looking, CanLook, Looks}
 use Rattle.sweeping.proofs.MatchSteps.{looking-begin, look-lies, found-all}
 use Rattle.walks.proofs.WalkSteps.{Fewer, fewer-wf, all-decide}
 use Rattle.sweeping.proofs.Sweep as ST

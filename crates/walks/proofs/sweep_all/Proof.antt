@@ -59,7 +59,7 @@ use Rattle.table.proofs.Header as HT
 use Rattle.table.proofs.Header.Laws as HT′
 use Rattle.sweeping.specs.declared.Sweep.{Sweep}
 use Rattle.queries.specs.Queries.{matches}
-use Rattle.sweeping.specs.Sweeping.{passes, RowLies, Sweepable, Swept, Steps}
+use Rattle.sweeping.specs.inner.Sweeping.{passes, RowLies, Sweepable, Swept, Steps}
 use Rattle.walks.proofs.Again.{LentAgain, lends-again, comes-back}
 use Rattle.sweeping.proofs.SweepSteps.{next-lies, finished, swept-begin}
 use Rattle.walks.proofs.WalkSteps.{Fewer, fewer-wf, all-decide}

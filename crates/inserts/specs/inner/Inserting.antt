@@ -1,0 +1,26 @@
+-- What one insert of a merge promises. Assumes nothing.
+use Prim.Native.Nat.{ℕ, _<_}
+use mathlib.Core.Path.{_≡_}
+use mathlib.Core.List.{List}
+use Rattle.plain.specs.Staged.{insert}
+use Rattle.plain.specs.Plain.{unchanged, appended, stopped, Plain, insertion}
+use Rattle.table.specs.declared.Header.{Header}
+use Rattle.inserts.specs.declared.Insertion.{Insertion}
+use Rattle.inserts.specs.declared.Insertion.the-variants.{Kept, Appended, Stopped}
+use Rattle.table.specs.Promises.{Stores, stores, Represents, SlotsPast}
+use Rattle.pending.specs.inner.Becoming.{Steps, Recounted, hashOf}
+
+-- what an insert's answer says of the plain table's insert
+abbrev pub Comes : Plain → List ℕ → Stores → List ℕ → List ℕ → List ℕ → Insertion → Type 0
+Comes p cells s rows′ keys′ sorts′ Kept = insertion cells p ≡ unchanged
+Comes p cells s rows′ keys′ sorts′ (Appended h′) =
+    (p′ : Plain) × (insertion cells p ≡ appended p′) × Steps p p′ s (stores h′ rows′ keys′ sorts′ (s .pending))
+Comes p cells s rows′ keys′ sorts′ (Stopped n) = (insertion cells p ≡ stopped n) × (0 < n)
+
+-- one insert, with its key's hash
+pub record Inserting (h : Header) (rows keys sorts cells : List ℕ) (hash : ℕ) (r : Insertion) (rows′ keys′ sorts′ : List ℕ) : Type 0 where
+  pub past : SlotsPast (h .capacity) keys keys′
+  pub header : (h′ : Header) → r ≡ Appended h′ → Recounted h h′
+  pub unchanged : ((h′ : Header) → r ≡ Appended h′ → ⊥) → (rows′ ≡ rows) × (keys′ ≡ keys) × (sorts′ ≡ sorts)
+  pub table : hash ≡ hashOf (h .keys) (insert cells) → (pending : List ℕ) (p : Plain) → Represents p (stores h rows keys sorts pending)
+      → Comes p cells (stores h rows keys sorts pending) rows′ keys′ sorts′ r

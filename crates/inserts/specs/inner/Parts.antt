@@ -1,0 +1,138 @@
+-- What the parts of an insert promise: a row enters the sort entries or stops the merge, is appended for a new key, replaces the
+-- old one of a known key, and what the rule makes of the two. Of any stores, sound or not. Assumes nothing.
+use Prim.Native.Nat.{ℕ, _+_, _*_, _≤_, _<_}
+use mathlib.Core.Path.{_≡_}
+use mathlib.Core.Bool.{Bool, true, false, cond, not}
+use mathlib.Core.List.{List, [], _∷_}
+use lib.Dec.{leb}
+use lib.ListN.{length, take, drop, getD, set}
+use Rattle.lists.specs.Lists.{putAt, rowAt}
+use Rattle.refusals.specs.Refusals.{rung, first}
+use Rattle.merge_rules.specs.Rules.{changesFrom, madeFrom}
+use Rattle.merge_rules.specs.Survivor.{survivor}
+use Rattle.sort_entries.specs.Entries.{entriesOf, words, push}
+use Rattle.sort_entries.specs.inner.Admission.{admits}
+use Rattle.key_index.specs.Slots.{tagged}
+use Rattle.key_index.specs.inner.Index.{Fits, PutIs}
+use Rattle.table.specs.declared.Header.{Header}
+use Rattle.inserts.specs.declared.Insertion.{Insertion}
+use Rattle.inserts.specs.declared.Insertion.the-variants.{Kept, Appended, Stopped}
+use Rattle.inserts.specs.declared.Admission.{Admission}
+use Rattle.inserts.specs.declared.Admission.the-variants.{Stop, Entries}
+use Rattle.table.specs.Sound.{keyedOf}
+use Rattle.pending.specs.inner.Becoming.{withCounts}
+
+-- ---- a row enters the sort entries
+
+-- "8, row count equals capacity, tested before 9, sort value below the last entry's"; 0 if neither
+unfoldable pub stopAt : Header → List ℕ → ℕ → ℕ
+stopAt h sorts value =
+    first (rung (leb (h .capacity) (h .rows)) 8 ∷ rung (not (admits value (entriesOf (h .entries) sorts))) 9 ∷ [])
+
+-- there is place for an entry where there is place for a row
+pub record Enterable (h : Header) (sorts : List ℕ) : Type 0 where
+  pub most : h .capacity ≤ 65536
+  pub entries-fit : h .entries ≤ h .rows
+  pub sorts-long : 2 * h .capacity ≤ length sorts
+
+-- the merge stops with this number
+pub record Stops (h : Header) (sorts : List ℕ) (value n : ℕ) : Type 0 where
+  pub number : stopAt h sorts value ≡ n
+  pub some : 0 < n
+
+-- the store holds the entries with the next row's, as many as said
+pub record Entered (h : Header) (sorts : List ℕ) (value n : ℕ) (sorts′ : List ℕ) : Type 0 where
+  pub free : stopAt h sorts value ≡ 0
+  pub room : h .rows < h .capacity
+  pub few : n ≤ h .entries + 1
+  pub entries : entriesOf n sorts′ ≡ push value (h .rows) (entriesOf (h .entries) sorts)
+  pub cells : sorts′ ≡ putAt sorts 0 (words (push value (h .rows) (entriesOf (h .entries) sorts)))
+  pub same : length sorts′ ≡ length sorts
+
+-- a stop writes nothing
+abbrev pub AdmissionIs : Header → List ℕ → ℕ → List ℕ → Admission → Type 0
+AdmissionIs h sorts value sorts′ (Stop n) = Stops h sorts value n × (sorts′ ≡ sorts)
+AdmissionIs h sorts value sorts′ (Entries n) = Entered h sorts value n sorts′
+
+-- ---- a row is appended
+
+-- stores long enough for a row more, and the row's cells
+pub record Growable (h : Header) (rows keys sorts cells : List ℕ) : Type 0 where
+  pub fits : Fits (keyedOf h) rows keys
+  pub sort-column : h .sort < h .columns
+  pub entries-fit : h .entries ≤ h .rows
+  pub dead-fits : h .dead + h .capacity ≤ 4294967295 + h .rows
+  pub sorts-long : 2 * h .capacity ≤ length sorts
+  pub width : length cells ≡ h .columns
+
+-- a stop leaves the stores as they were
+pub record Stayed (h : Header) (rows keys sorts cells : List ℕ) (n : ℕ) (rows′ keys′ sorts′ : List ℕ) : Type 0 where
+  pub stops : Stops h sorts (getD cells (h .sort) 0) n
+  pub same-rows : rows′ ≡ rows
+  pub same-keys : keys′ ≡ keys
+  pub same-sorts : sorts′ ≡ sorts
+
+-- the row stands after the others, its number in the key store
+pub record Grew (h : Header) (rows keys sorts cells : List ℕ) (hash : ℕ) (h′ : Header) (rows′ keys′ sorts′ : List ℕ) : Type 0 where
+  pub entered : Entered h sorts (getD cells (h .sort) 0) (h′ .entries) sorts′
+  pub header : h′ ≡ withCounts h (h .rows + 1) (h .dead) (h′ .entries)
+  pub rows-after : rows′ ≡ putAt rows (h .rows * h .columns) cells
+  pub keys-after : (r : Bool) × PutIs (2 * h .capacity) keys hash (h .rows) r keys′
+
+-- "A new key is appended"
+abbrev pub NewIs : Header → List ℕ → List ℕ → List ℕ → List ℕ → ℕ → List ℕ → List ℕ → List ℕ → Insertion → Type 0
+NewIs h rows keys sorts cells hash rows′ keys′ sorts′ Kept = ⊥
+NewIs h rows keys sorts cells hash rows′ keys′ sorts′ (Appended h′) = Grew h rows keys sorts cells hash h′ rows′ keys′ sorts′
+NewIs h rows keys sorts cells hash rows′ keys′ sorts′ (Stopped n) = Stayed h rows keys sorts cells n rows′ keys′ sorts′
+
+-- the row stands after the others, its number in the old row's slot, and the old row has the dead mark
+pub record Replaced (h : Header) (rows keys sorts cells : List ℕ) (hash old slot : ℕ) (h′ : Header) (rows′ keys′ sorts′ : List ℕ) : Type 0 where
+  pub entered : Entered h sorts (getD cells (h .sort) 0) (h′ .entries) sorts′
+  pub header : h′ ≡ withCounts h (h .rows + 1) (h .dead + 1) (h′ .entries)
+  pub rows-after : rows′ ≡ putAt (set rows (old * h .columns) 4294967295) (h .rows * h .columns) cells
+  pub keys-after : keys′ ≡ set keys slot (tagged hash (h .rows))
+
+-- "a row so made is appended and the old row dies"
+abbrev pub ReplaceIs : Header → List ℕ → List ℕ → List ℕ → List ℕ → ℕ → ℕ → ℕ → List ℕ → List ℕ → List ℕ → Insertion → Type 0
+ReplaceIs h rows keys sorts cells hash old slot rows′ keys′ sorts′ Kept = ⊥
+ReplaceIs h rows keys sorts cells hash old slot rows′ keys′ sorts′ (Appended h′) = Replaced h rows keys sorts cells hash old slot h′ rows′ keys′ sorts′
+ReplaceIs h rows keys sorts cells hash old slot rows′ keys′ sorts′ (Stopped n) = Stayed h rows keys sorts cells n rows′ keys′ sorts′
+
+-- ---- the rule
+
+-- a cell outside keys and sort column changes
+abbrev pub Changes : Header → List ℕ → List ℕ → Bool
+Changes h old new = changesFrom (h .rule) (h .keys) (h .sort) 0 old new
+
+-- the row to be appended: "For rules 0 and 1 the surviving row"
+unfoldable pub rowMade : Header → List ℕ → List ℕ → List ℕ
+rowMade h old new =
+    cond (leb (h .rule) 1) (survivor (h .rule) (h .keys) (h .sort) old new) (madeFrom (h .rule) (h .keys) (h .sort) 0 old new)
+
+-- both rows lie in their stores, and the row made has a place
+pub record Makeable (h : Header) (rows pending out : List ℕ) (old from : ℕ) : Type 0 where
+  pub few-columns : h .columns ≤ 8
+  pub old-small : old * h .columns ≤ 524288
+  pub old-in : old * h .columns + h .columns ≤ length rows
+  pub new-in : from + h .columns ≤ length pending
+  pub out-long : length out ≡ 8
+
+-- the answer whether a row is made, and the row
+pub record MadeIs (h : Header) (rows pending out : List ℕ) (old from : ℕ) (r : Bool) (out′ : List ℕ) : Type 0 where
+  pub answer : r ≡ Changes h (rowAt (h .columns) old rows) (take (h .columns) (drop from pending))
+  pub row : r ≡ true → out′ ≡ putAt out 0 (rowMade h (rowAt (h .columns) old rows) (take (h .columns) (drop from pending)))
+
+-- no row is made, and the stores are as they were
+pub record KeptOld (h : Header) (rows keys sorts cells : List ℕ) (old : ℕ) (rows′ keys′ sorts′ : List ℕ) : Type 0 where
+  pub unchanged : Changes h (rowAt (h .columns) old rows) cells ≡ false
+  pub same-rows : rows′ ≡ rows
+  pub same-keys : keys′ ≡ keys
+  pub same-sorts : sorts′ ≡ sorts
+
+-- "A known key goes through the rule; a row so made is appended and the old row dies"
+abbrev pub KnownIs : Header → List ℕ → List ℕ → List ℕ → List ℕ → ℕ → ℕ → ℕ → List ℕ → List ℕ → List ℕ → Insertion → Type 0
+KnownIs h rows keys sorts cells hash old slot rows′ keys′ sorts′ Kept = KeptOld h rows keys sorts cells old rows′ keys′ sorts′
+KnownIs h rows keys sorts cells hash old slot rows′ keys′ sorts′ (Appended h′) =
+    (Changes h (rowAt (h .columns) old rows) cells ≡ true) × Replaced h rows keys sorts (rowMade h (rowAt (h .columns) old rows) cells) hash old slot h′ rows′ keys′ sorts′
+KnownIs h rows keys sorts cells hash old slot rows′ keys′ sorts′ (Stopped n) =
+    (Changes h (rowAt (h .columns) old rows) cells ≡ true) × Stayed h rows keys sorts (rowMade h (rowAt (h .columns) old rows) cells) n rows′ keys′ sorts′

@@ -1,0 +1,70 @@
+-- The check of a key store: what its parts ask and promise, and why it is enough. The ring is unrolled at a free slot, and
+-- each taken place of the line is found to hold a live row that stands right. No two hold the same one, so that where taken
+-- places and live rows are equally many no live row is missed. Assumes nothing.
+use Prim.Native.Nat.{ℕ, zero, suc, _-_, _*_, _%_, _^_, _≤_, _<_}
+use mathlib.Core.Path.{_≡_}
+use mathlib.Core.Bool.{Bool, true, false, cond}
+use mathlib.Core.List.{List}
+use lib.ListN.{length, getD}
+use Rattle.lists.specs.Lists.{rowAt}
+use Rattle.constraints.specs.Constraints.{isLive}
+use Rattle.key_index.specs.declared.Keyed.{Keyed}
+use Rattle.key_index.specs.Slots.{LiveAt, keyAt, slots, word, home, KeysSound}
+use Rattle.key_index.specs.Laws.Unrolled.{away}
+use Rattle.key_index.specs.inner.Index.{Fits}
+
+-- ---- what the parts ask and promise
+
+-- a table's rows lie in their store
+pub record RowsLie (t : Keyed) (rows : List ℕ) : Type 0 where
+  pub most-columns : t .columns ≤ 8
+  pub most-keys : t .keys ≤ t .columns
+  pub some : 1 ≤ t .capacity
+  pub most : t .capacity ≤ 65536
+  pub count : t .rows ≤ t .capacity
+  pub cells : t .capacity * t .columns ≤ length rows
+
+unfoldable pub liveRow : Keyed → List ℕ → ℕ → Bool
+liveRow t rows i = isLive (rowAt (t .columns) i rows)
+
+-- how many of the numbers below n pass a test
+unfoldable pub tally : (ℕ → Bool) → ℕ → ℕ
+tally test zero = 0
+tally test (suc n) = cond (test n) (suc (tally test n)) (tally test n)
+
+abbrev pub liveRows : Keyed → List ℕ → ℕ
+liveRows t rows = tally (liveRow t rows) (t .rows)
+
+-- a slot is free, or n for none
+pub record FreeIs (n : ℕ) (store : List ℕ) (r : ℕ) : Type 0 where
+  pub free : r < n → getD store r 0 ≡ 0
+  pub none : n ≤ r → (slot : ℕ) → slot < n → getD store slot 0 ≡ 0 → ⊥
+
+-- the row whose number a word has
+abbrev pub named : ℕ → ℕ
+named w = w % 2 ^ 17 - 1
+
+-- a word in a slot is that of a live row, whose home lies less than `run` slots before
+pub record Stands (t : Keyed) (rows : List ℕ) (w at run : ℕ) : Type 0 where
+  pub number : 0 < w % 2 ^ 17
+  pub live : LiveAt t rows (named w)
+  pub word-is : w ≡ word (keyAt t rows (named w)) (named w)
+  pub near : away (slots t) (home (slots t) (keyAt t rows (named w))) at < run
+
+pub record StandsIs (t : Keyed) (rows : List ℕ) (w at run : ℕ) (r : Bool) : Type 0 where
+  pub yes : r ≡ true → Stands t rows w at run
+  pub no : r ≡ false → Stands t rows w at run → ⊥
+
+-- the round starts at a free slot, knows how many rows are live, and has seen none of them
+pub record RoundFits (t : Keyed) (rows store : List ℕ) (z live : ℕ) (seen : List ℕ) : Type 0 where
+  pub fits : Fits t rows store
+  pub slot : z < slots t
+  pub free : getD store z 0 ≡ 0
+  pub count : live ≡ liveRows t rows
+  pub marks : t .rows ≤ length seen
+  pub clear : (i : ℕ) → i < t .rows → getD seen i 0 ≡ 0
+
+-- the answer is yes exactly if the store is sound
+pub record KeysChecked (t : Keyed) (rows store : List ℕ) (r : Bool) : Type 0 where
+  pub yes : r ≡ true → KeysSound t rows store
+  pub no : r ≡ false → KeysSound t rows store → ⊥

@@ -1,0 +1,143 @@
+-- The ring of slots and the words in it. Assumes nothing.
+use Prim.Native.Nat.{ℕ, _+_, _-_, _*_, _/_, _%_, _^_, _≤_, _<_}
+use mathlib.Core.Path.{_≡_, refl, sym, ap, _∙_}
+use mathlib.Core.Bool.{true, false}
+use mathlib.Core.List.{List}
+use native.Mathlib.Nat.{add-assoc, add-zero, mod-self, mod-lt, mod-eq-of-lt, mod-add-mod, add-mod-mod, add-mod-right, mul-lt-mul-of-pos-right}
+use native.Mathlib.Omega.{arith}
+use lib.Dec.{ltb}
+use borrow.Author.Tests.{lt-ltb, ltb-true, le-leb, leb-true}
+use Rattle.lists.specs.Laws.Keep.{and-left, and-right}
+use Rattle.cells.specs.Cells.{compact, keyHash}
+use Rattle.cells.specs.Laws.Cells.{key-hash-fits}
+use Rattle.key_index.specs.declared.Keyed.{Keyed}
+use Rattle.key_index.specs.Slots.{tagged, spread, word, home, slotFrom}
+use Rattle.key_index.specs.inner.Ring.{rowNamed, namesRow, away}
+
+pub word-tagged : (hash row : ℕ) (key : List ℕ) → hash ≡ compact (keyHash key) → tagged hash row ≡ word key row
+unfolding word
+word-tagged hash row key e = ap (λ (h : ℕ). tagged h row) e
+
+-- a word is never that of a free slot
+pub word-some : (key : List ℕ) (row : ℕ) → 0 < word key row
+unfolding word tagged
+word-some key row = omega arith
+
+-- a word's row and its 15 bits are read back
+pub tagged-row : (hash row : ℕ) → row < 2 ^ 17 - 1 → tagged hash row % 2 ^ 17 ≡ row + 1
+unfolding tagged
+tagged-row hash row h = omega arith
+
+pub tagged-bits : (hash row : ℕ) → row < 2 ^ 17 - 1 → tagged hash row / 2 ^ 17 ≡ hash % 2 ^ 15
+unfolding tagged
+tagged-bits hash row h = omega arith
+
+pub tagged-of : (hash w : ℕ) → w / 2 ^ 17 ≡ hash % 2 ^ 15 → 0 < w % 2 ^ 17 → w ≡ tagged hash (w % 2 ^ 17 - 1)
+unfolding tagged
+tagged-of hash w h k = omega arith
+
+pub word-row : (key : List ℕ) (row : ℕ) → row < 2 ^ 17 - 1 → rowNamed (word key row) ≡ row
+unfolding word tagged rowNamed
+word-row key row h = omega arith
+
+-- words of two rows differ
+pub word-same : (k l : List ℕ) (i j : ℕ) → i < 2 ^ 17 - 1 → j < 2 ^ 17 - 1 → word k i ≡ word l j → i ≡ j
+word-same k l i j p q e = sym (word-row k i p) ∙ ap rowNamed e ∙ word-row l j q
+
+-- a word names a row by its number, from 1 on
+module _ (t : Keyed) (w : ℕ) where
+  pub names-yes : 0 < w % 2 ^ 17 → w % 2 ^ 17 ≤ t .rows → namesRow t w ≡ true
+  unfolding namesRow
+  names-yes p q = rw (lt-ltb 0 (w % 2 ^ 17) p, le-leb (w % 2 ^ 17) (t .rows) q)
+
+  pub names-none : w % 2 ^ 17 ≡ 0 → namesRow t w ≡ false
+  unfolding namesRow
+  names-none e = rw e
+
+  pub names-number : namesRow t w ≡ true → (0 < w % 2 ^ 17) × (w % 2 ^ 17 ≤ t .rows)
+  unfolding namesRow
+  names-number e = (ltb-true 0 (w % 2 ^ 17) (and-left _ _ e), leb-true (w % 2 ^ 17) (t .rows) (and-right (ltb 0 (w % 2 ^ 17)) _ e))
+
+pub names-word : (t : Keyed) (key : List ℕ) (row : ℕ) → row < t .rows → row < 2 ^ 17 - 1 → namesRow t (word key row) ≡ true
+names-word t key row h k =
+    let e : word key row % 2 ^ 17 ≡ row + 1 = rw (← word-tagged _ row key refl) (tagged-row (compact (keyHash key)) row k) in
+    names-yes t (word key row) (omega arith) (omega arith)
+
+-- ---- homes
+
+pub home-spread : (n hash : ℕ) (key : List ℕ) → hash ≡ compact (keyHash key) → spread n hash ≡ home n key
+unfolding home
+home-spread n hash key e = ap (spread n) e
+
+pub spread-below : (n hash : ℕ) → 0 < n → hash < 2 ^ 32 → spread n hash < n
+unfolding spread
+spread-below n hash h k = let m : hash * n < 2 ^ 32 * n = mul-lt-mul-of-pos-right k h in omega arith
+
+pub home-below : (n : ℕ) (key : List ℕ) → 0 < n → home n key < n
+home-below n key h = rw (← home-spread n (compact (keyHash key)) key refl) (spread-below n _ h (key-hash-fits key))
+
+-- ---- going round
+
+pub slot-below : (n s d : ℕ) → 0 < n → slotFrom n s d < n
+unfolding slotFrom
+slot-below n s d h = mod-lt (s + d) h
+
+-- a slot that is reached before the end of the store
+pub slot-low : (n s d : ℕ) → s + d < n → slotFrom n s d ≡ s + d
+unfolding slotFrom
+slot-low n s d h = mod-eq-of-lt h
+
+pub slot-zero : (n s : ℕ) → s < n → slotFrom n s 0 ≡ s
+slot-zero n s h = slot-low n s 0 (omega arith) ∙ add-zero s
+
+-- the slot after the last is the first
+pub slot-wraps : (n s : ℕ) → s < n → n ≤ s + 1 → slotFrom n s 1 ≡ 0
+unfolding slotFrom
+slot-wraps n s h k = let e : s + 1 ≡ n = omega arith in rw (e, mod-self n)
+
+-- going on from a slot that was reached
+pub slot-then : (n s d e : ℕ) → slotFrom n (slotFrom n s d) e ≡ slotFrom n s (d + e)
+unfolding slotFrom
+slot-then n s d e = mod-add-mod (s + d) n e ∙ ap (λ (k : ℕ). k % n) (add-assoc s d e)
+
+round : (n d : ℕ) → d < n → (d + n) % n ≡ d
+round n d h = add-mod-right d n ∙ mod-eq-of-lt h
+
+pub slot-round : (n s : ℕ) → s < n → slotFrom n s n ≡ s
+unfolding slotFrom
+slot-round n s h = round n s h
+
+pub away-below : (n a b : ℕ) → 0 < n → away n a b < n
+unfolding away
+away-below n a b h = mod-lt (b + (n - a)) h
+
+-- the slot that lies that far is the one
+pub away-slot : (n a b : ℕ) → a < n → b < n → slotFrom n a (away n a b) ≡ b
+unfolding slotFrom away
+away-slot n a b h k =
+    let e : a + (b + (n - a)) ≡ b + n = omega arith in
+    add-mod-mod a (b + (n - a)) n ∙ ap (λ (x : ℕ). x % n) e ∙ round n b k
+
+pub away-of : (n a d : ℕ) → a < n → d < n → away n a (slotFrom n a d) ≡ d
+unfolding slotFrom away
+away-of n a d h k =
+    let e : a + d + (n - a) ≡ d + n = omega arith in
+    mod-add-mod (a + d) n (n - a) ∙ ap (λ (x : ℕ). x % n) e ∙ round n d k
+
+-- a full round meets each slot once: two that lie equally far are one
+pub slot-one : (n s p q : ℕ) → s < n → p < n → q < n → slotFrom n s p ≡ slotFrom n s q → p ≡ q
+slot-one n s p q h k m e = sym (away-of n s p h k) ∙ ap (away n s) e ∙ away-of n s q h m
+
+-- and each is met, wherever the round begins
+pub slot-met : (n : ℕ) → 0 < n → (start slot : ℕ) → slot < n → (d : ℕ) × (d < n) × (slotFrom n start d ≡ slot)
+unfolding slotFrom
+slot-met n some start slot h =
+    let d = away n (start % n) slot in
+    (d, away-below n (start % n) slot some, sym (mod-add-mod start n d) ∙ away-slot n (start % n) slot (mod-lt start some) h)
+
+-- how far one slot lies after another, both met on a round from z
+pub away-line : (n z p q : ℕ) → z < n → p ≤ q → q < n → away n (slotFrom n z p) (slotFrom n z q) ≡ q - p
+away-line n z p q h k m =
+    let e : p + (q - p) ≡ q = omega arith in
+    let f : slotFrom n z q ≡ slotFrom n (slotFrom n z p) (q - p) = sym (slot-then n z p (q - p) ∙ ap (slotFrom n z) e) in
+    ap (away n (slotFrom n z p)) f ∙ away-of n (slotFrom n z p) (q - p) (slot-below n z p (omega arith)) (omega arith)

@@ -1,0 +1,106 @@
+-- What the functions of the key index ask and promise: a lookup, a row put, all slots made free (document 01, "Key
+-- index"). Assumes nothing.
+use Prim.Native.Nat.{ℕ, _*_, _≤_, _<_}
+use mathlib.Core.Path.{_≡_}
+use mathlib.Core.Bool.{Bool, true, false}
+use mathlib.Core.List.{List}
+use lib.ListN.{length, getD, set, drop, replicate}
+use Rattle.lists.specs.Lists.{putAt}
+use Rattle.cells.specs.Cells.{compact, keyHash}
+use Rattle.key_index.specs.declared.Keyed.{Keyed}
+use Rattle.key_index.specs.declared.Found.{Found}
+use Rattle.key_index.specs.declared.Found.the-variants.{None, At}
+use Rattle.key_index.specs.Slots.{LiveAt, keyAt, slots, word, home, slotFrom, KeysSound, spread, tagged}
+use Rattle.key_index.specs.inner.Ring.{rowNamed}
+
+-- a key store is long enough for a capacity
+pub record Room (capacity : ℕ) (store : List ℕ) : Type 0 where
+  pub some : 1 ≤ capacity
+  pub most : capacity ≤ 65536
+  pub long : 2 * capacity ≤ length store
+
+-- a table's rows lie in their store
+pub record RowsIn (t : Keyed) (rows : List ℕ) : Type 0 where
+  pub most-columns : t .columns ≤ 8
+  pub most-keys : t .keys ≤ t .columns
+  pub most : t .capacity ≤ 65536
+  pub count : t .rows ≤ t .capacity
+  pub cells : t .capacity * t .columns ≤ length rows
+
+-- a table's numbers are within their bounds, and its stores long enough
+pub record Fits (t : Keyed) (rows store : List ℕ) : Type 0 where
+  pub some-columns : 1 ≤ t .columns
+  pub most-columns : t .columns ≤ 8
+  pub some-keys : 1 ≤ t .keys
+  pub most-keys : t .keys ≤ t .columns
+  pub some : 1 ≤ t .capacity
+  pub most : t .capacity ≤ 65536
+  pub count : t .rows ≤ t .capacity
+  pub cells : t .capacity * t .columns ≤ length rows
+  pub long : 2 * t .capacity ≤ length store
+
+-- live rows have different keys
+abbrev pub KeysDiffer : Keyed → List ℕ → Type 0
+KeysDiffer t rows = (i j : ℕ) → LiveAt t rows i → LiveAt t rows j → keyAt t rows i ≡ keyAt t rows j → i ≡ j
+
+-- ---- lookup
+
+-- a slot's word leads to a row below the count that has this key, and has the bits of this hash
+pub record Leads (t : Keyed) (rows key : List ℕ) (hash w row : ℕ) : Type 0 where
+  pub tag : w ≡ tagged hash row
+  pub below : row < t .rows
+  pub cells : keyAt t rows row ≡ key
+
+-- the answer whether it does: the word says which row
+pub record HitIs (t : Keyed) (rows key : List ℕ) (hash w row : ℕ) (r : Bool) : Type 0 where
+  pub yes : r ≡ true → Leads t rows key hash w row
+  pub no : r ≡ false → (i : ℕ) → Leads t rows key hash w i → ⊥
+
+-- the live row that has a key, and its slot
+pub record FoundAt (t : Keyed) (rows store key : List ℕ) (row slot : ℕ) : Type 0 where
+  pub live : LiveAt t rows row
+  pub key-is : keyAt t rows row ≡ key
+  pub slot-in : slot < slots t
+  pub word-is : getD store slot 0 ≡ word key row
+
+-- the d-th slot from the hash's home is the first that leads to a row with the key: so no other row can be found
+pub record FirstHit (t : Keyed) (rows store key : List ℕ) (hash row d : ℕ) : Type 0 where
+  pub leads : Leads t rows key hash (getD store (slotFrom (slots t) (spread (slots t) hash) d) 0) row
+  pub way : (e : ℕ) → e < d → (i : ℕ) → Leads t rows key hash (getD store (slotFrom (slots t) (spread (slots t) hash) e) 0) i → ⊥
+
+-- What a lookup finds. On any store it answers with a row and a slot that there are, and with the same row again; the rest
+-- is promised of a sound store and the key's own hash.
+pub record FoundIs (t : Keyed) (rows store key : List ℕ) (hash : ℕ) (r : Found) : Type 0 where
+  pub row-in : (row slot : ℕ) → r ≡ At row slot → row < t .rows
+  pub slot-in : (row slot : ℕ) → r ≡ At row slot → slot < slots t
+  pub first : (row slot : ℕ) → r ≡ At row slot → (d : ℕ) × FirstHit t rows store key hash row d
+  pub none : hash ≡ compact (keyHash key) → KeysSound t rows store → r ≡ None → (i : ℕ) → LiveAt t rows i → keyAt t rows i ≡ key → ⊥
+  pub at : hash ≡ compact (keyHash key) → KeysSound t rows store → (row slot : ℕ) → r ≡ At row slot → FoundAt t rows store key row slot
+
+-- ---- a row put, and all slots made free
+
+-- the d-th slot from a slot is the first free one
+pub record FirstFree (n : ℕ) (store : List ℕ) (start d : ℕ) : Type 0 where
+  pub below : d < n
+  pub free : getD store (slotFrom n start d) 0 ≡ 0
+  pub way : (e : ℕ) → e < d → getD store (slotFrom n start e) 0 ≡ 0 → ⊥
+
+-- a word is put into the first free slot from the hash's home on, if there is one
+pub record PutIs (n : ℕ) (store : List ℕ) (hash row : ℕ) (r : Bool) (store′ : List ℕ) : Type 0 where
+  pub yes : r ≡ true → (d : ℕ) × FirstFree n store (spread n hash) d × (store′ ≡ set store (slotFrom n (spread n hash) d) (tagged hash row))
+  pub full : r ≡ false → (slot : ℕ) → slot < n → getD store slot 0 ≡ 0 → ⊥
+  pub kept : r ≡ false → store′ ≡ store
+  pub tail : drop n store′ ≡ drop n store
+
+-- n free slots
+abbrev pub zeros : ℕ → List ℕ
+zeros n = replicate n 0
+
+-- all slots are free, and what stands past them is as it was
+pub record EmptyIs (capacity : ℕ) (store store′ : List ℕ) : Type 0 where
+  pub free : store′ ≡ putAt store 0 (zeros (2 * capacity))
+  pub tail : drop (2 * capacity) store′ ≡ drop (2 * capacity) store
+
+-- the home of the key of the row that a word names
+unfoldable pub homeOf : Keyed → List ℕ → ℕ → ℕ
+homeOf t rows w = home (slots t) (keyAt t rows (rowNamed w))

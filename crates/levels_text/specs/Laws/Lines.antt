@@ -1,0 +1,268 @@
+-- Laws of fields and decimals in the form in which a reader meets them: byte by byte up to a comma or the end, and field by
+-- field. Assumes nothing.
+use Prim.Native.Nat.{ℕ, zero, suc, _+_, _-_, _*_, _≤_, _<_}
+use mathlib.Core.Path.{_≡_, refl, sym, ap, _∙_}
+use mathlib.Core.Logic.{inl, inr}
+use mathlib.Core.Bool.{Bool, true, false, not, _&&_, _||_, and-true, and-false, false≢true}
+use mathlib.Core.List.{List, [], _∷_}
+use native.Mathlib.Numerals.{add-one}
+use native.Mathlib.Omega.{arith}
+use lib.Dec.{leb, ltb, eqb}
+use lib.ListN.{length, drop, getD, length-drop, drop-of-length-le}
+use lib.Seq.{drop-cons, drop-drop}
+use borrow.Author.Tests.{eq-eqb, ne-eqb, le-leb, lt-leb, lt-ltb, eqb-true, eqb-false, leb-true, leb-false}
+use Rattle.lists.specs.Lists.{every}
+use Rattle.lists.specs.Laws.Keep.{split, and-left, and-right}
+use Rattle.levels_text.specs.Lines.{fields, valueFrom, isDecimal, isLine, letter, numbers, isBare, isForm, accepted}
+
+-- ---- the first field, and those behind it
+
+unfoldable pub first : List ℕ → List ℕ
+first bytes = getD (fields bytes) 0 []
+
+unfoldable pub others : List ℕ → List (List ℕ)
+others bytes = drop 1 (fields bytes)
+
+-- there is always a first one
+pub fields-cons : (bytes : List ℕ) → fields bytes ≡ first bytes ∷ others bytes
+unfolding fields first others
+fields-cons [] = refl
+fields-cons (byte ∷ bytes) =
+    elim (split (eqb byte 44)) [ inl e ↦ rw e | inr e ↦ rw (e, fields-cons bytes) ]
+
+pub first-comma : (bytes : List ℕ) → first (44 ∷ bytes) ≡ []
+unfolding fields first
+first-comma bytes = refl
+
+pub first-more : (byte : ℕ) (bytes : List ℕ) → (byte ≡ 44 → ⊥) → first (byte ∷ bytes) ≡ byte ∷ first bytes
+unfolding fields first
+first-more byte bytes ne = rw (ne-eqb _ _ ne, fields-cons bytes)
+
+pub others-comma : (bytes : List ℕ) → others (44 ∷ bytes) ≡ first bytes ∷ others bytes
+unfolding fields others
+others-comma bytes = fields-cons bytes
+
+pub others-more : (byte : ℕ) (bytes : List ℕ) → (byte ≡ 44 → ⊥) → others (byte ∷ bytes) ≡ others bytes
+unfolding fields others
+others-more byte bytes ne = rw (ne-eqb _ _ ne, fields-cons bytes)
+
+pub length-first : (bytes : List ℕ) → length (first bytes) ≤ length bytes
+length-first [] = unfold first fields in omega arith
+length-first (byte ∷ bytes) =
+    let below = length-first bytes in
+    elim (split (eqb byte 44)) [
+      | inl e ↦ rw (eqb-true byte 44 e, first-comma bytes) (omega arith)
+      | inr e ↦ rw (first-more byte bytes (eqb-false byte 44 e)) (omega arith)
+    ]
+
+-- behind the first field stands a comma or nothing
+pub first-behind : (bytes : List ℕ) → first (drop (length (first bytes)) bytes) ≡ []
+first-behind [] = unfold first fields in refl
+first-behind (byte ∷ bytes) =
+    let more = first-behind bytes in
+    elim (split (eqb byte 44)) [
+      | inl e ↦ rw (eqb-true byte 44 e, first-comma bytes) (first-comma bytes)
+      | inr e ↦ rw (first-more byte bytes (eqb-false byte 44 e)) more
+    ]
+
+-- and the other fields begin there
+pub others-behind : (bytes : List ℕ) → others (drop (length (first bytes)) bytes) ≡ others bytes
+others-behind [] = unfold first fields in refl
+others-behind (byte ∷ bytes) =
+    let more = others-behind bytes in
+    elim (split (eqb byte 44)) [
+      | inl e ↦ rw (eqb-true byte 44 e, first-comma bytes)
+      | inr e ↦ rw (first-more byte bytes (eqb-false byte 44 e), others-more byte bytes (eqb-false byte 44 e)) more
+    ]
+
+-- ---- the field at a place of a line, and those behind it
+
+module _ (line : List ℕ) (at : ℕ) where
+  pub first-end : length line ≤ at → first (drop at line) ≡ []
+  unfolding first fields
+  first-end past = rw (drop-of-length-le line past)
+
+  pub others-end : length line ≤ at → others (drop at line) ≡ []
+  unfolding others fields
+  others-end past = rw (drop-of-length-le line past)
+
+  module _ (inside : at < length line) where
+    pub first-at-comma : getD line at 0 ≡ 44 → first (drop at line) ≡ []
+    first-at-comma e = rw (drop-cons line at 0 inside, e) (first-comma _)
+
+    pub first-at-more : (getD line at 0 ≡ 44 → ⊥) → first (drop at line) ≡ getD line at 0 ∷ first (drop (at + 1) line)
+    first-at-more ne = rw (add-one, drop-cons line at 0 inside) (first-more _ _ ne)
+
+    pub others-at-more : (getD line at 0 ≡ 44 → ⊥) → others (drop at line) ≡ others (drop (at + 1) line)
+    others-at-more ne = rw (add-one, drop-cons line at 0 inside) (others-more _ _ ne)
+
+    pub others-at-comma : getD line at 0 ≡ 44 → others (drop at line) ≡ first (drop (at + 1) line) ∷ others (drop (at + 1) line)
+    others-at-comma e = rw (add-one, drop-cons line at 0 inside, e) (others-comma _)
+
+  -- behind the field
+  pub next-first : first (drop (at + length (first (drop at line))) line) ≡ []
+  next-first = rw (← drop-drop (length (first (drop at line))) at line) (first-behind (drop at line))
+
+  pub next-others : others (drop (at + length (first (drop at line))) line) ≡ others (drop at line)
+  next-others = rw (← drop-drop (length (first (drop at line))) at line) (others-behind (drop at line))
+
+  pub next-inside : at ≤ length line → at + length (first (drop at line)) ≤ length line
+  next-inside inside = omega (arith, length-first (drop at line), length-drop at line)
+
+-- ---- a decimal, digit by digit
+
+abbrev pub digit : ℕ → Bool
+digit byte = leb 48 byte && leb byte 57
+
+-- the field is a decimal if n digits with value v stand before these bytes
+unfoldable pub decimalFrom : ℕ → ℕ → List ℕ → Bool
+decimalFrom n v [] = ltb 0 n
+decimalFrom n v (byte ∷ bytes) =
+    digit byte
+    && not (ltb 0 n && eqb v 0)
+    && leb (10 * v + (byte - 48)) 4294967295
+    && decimalFrom (suc n) (10 * v + (byte - 48)) bytes
+
+-- more digits do not make less
+pub value-least : (v : ℕ) (bytes : List ℕ) → v ≤ valueFrom v bytes
+unfolding valueFrom
+value-least v [] = omega arith
+value-least v (byte ∷ bytes) = let h = value-least (10 * v + (byte - 48)) bytes in omega arith
+
+-- behind a digit other than a leading zero
+pub decimal-more : (n v : ℕ) (bytes : List ℕ) → 0 < n → 0 < v → v ≤ 4294967295
+    → decimalFrom n v bytes ≡ (every digit bytes && leb (valueFrom v bytes) 4294967295)
+unfolding decimalFrom every valueFrom
+decimal-more n v [] some big small = rw (lt-ltb _ _ some, le-leb _ _ small)
+decimal-more n v (byte ∷ bytes) some big small =
+    let v′ = 10 * v + (byte - 48) in
+    let nz : v ≡ 0 → ⊥ = λ e. omega arith in
+    elim (split (digit byte)) [
+      | inr e ↦ rw e
+      | inl e ↦ elim (split (leb v′ 4294967295)) [
+        | inl f ↦ rw (e, ne-eqb v 0 nz, lt-ltb 0 n some, f) (decimal-more (suc n) v′ bytes (omega arith) (omega arith) (leb-true v′ 4294967295 f))
+        | inr f ↦
+            let over : 4294967295 < valueFrom v′ bytes = omega (arith, leb-false v′ 4294967295 f, value-least v′ bytes) in
+            rw (e, ne-eqb v 0 nz, lt-ltb 0 n some, f, lt-leb (valueFrom v′ bytes) 4294967295 over) (sym (and-false (every digit bytes)))
+      ]
+    ]
+
+-- one digit
+decimal-one : (byte : ℕ) → isDecimal (byte ∷ []) ≡ decimalFrom 0 0 (byte ∷ [])
+unfolding isDecimal decimalFrom every valueFrom
+decimal-one byte = shorter (digit byte) (leb (10 * 0 + (byte - 48)) 4294967295)
+  where
+    shorter : (a d : Bool) → (a && true && true && true && d) ≡ (a && true && d && true)
+    shorter true d = sym (and-true d)
+    shorter false d = refl
+
+-- two digits or more
+decimal-long : (byte : ℕ) (bytes : List ℕ) → 0 < length bytes
+    → isDecimal (byte ∷ bytes)
+    ≡ (digit byte && not (eqb byte 48) && (every digit bytes && leb (valueFrom (10 * 0 + (byte - 48)) bytes) 4294967295))
+unfolding isDecimal every valueFrom
+decimal-long byte bytes some =
+    let one : length (byte ∷ bytes) ≡ 1 → ⊥ = λ e. omega arith in
+    let none : 0 < length (byte ∷ bytes) = omega arith in
+    shorter (digit byte) (every digit bytes) (ltb 0 (length (byte ∷ bytes))) (eqb (length (byte ∷ bytes)) 1) (not (eqb byte 48)) (leb (valueFrom (10 * 0 + (byte - 48)) bytes) 4294967295)
+    (lt-ltb 0 (length (byte ∷ bytes)) none) (ne-eqb (length (byte ∷ bytes)) 1 one)
+  where
+    shorter : (a b t f c d : Bool) → t ≡ true → f ≡ false → (a && b && t && (f || c) && d) ≡ (a && c && (b && d))
+    shorter true true true false c d p q = refl
+    shorter true false true false true d p q = refl
+    shorter true false true false false d p q = refl
+    shorter false b true false c d p q = refl
+    shorter a b false f c d p q = absurd (false≢true p)
+    shorter a b true true c d p q = absurd (false≢true (sym q))
+
+-- behind a leading zero
+decimal-zero : (bytes : List ℕ) → 0 < length bytes → decimalFrom 1 0 bytes ≡ false
+unfolding decimalFrom
+decimal-zero [] some = absurd (omega arith)
+decimal-zero (byte ∷ bytes) some = rw (and-false (digit byte))
+
+-- a whole field
+pub decimal-start : (field : List ℕ) → isDecimal field ≡ decimalFrom 0 0 field
+unfolding isDecimal decimalFrom every
+decimal-start [] = refl
+decimal-start (byte ∷ []) = decimal-one byte
+decimal-start (byte ∷ next ∷ bytes) =
+    let v = 10 * 0 + (byte - 48) in
+    let some : 0 < length (next ∷ bytes) = omega arith in
+    decimal-long byte (next ∷ bytes) some
+    ∙ elim (split (digit byte)) [
+      | inr e ↦ rw e
+      | inl e ↦
+          let low : 48 ≤ byte = leb-true 48 byte (and-left (leb 48 byte) (leb byte 57) e) in
+          let high : byte ≤ 57 = leb-true byte 57 (and-right (leb 48 byte) (leb byte 57) e) in
+          let fits : v ≤ 4294967295 = omega arith in
+          elim (split (eqb byte 48)) [
+            | inl f ↦
+                let zero : v ≡ 0 = omega (arith, eqb-true byte 48 f) in
+                rw (e, f, zero) (sym (decimal-zero (next ∷ bytes) some))
+            | inr f ↦
+                let big : 0 < v = omega (arith, eqb-false byte 48 f) in
+                rw (e, f, le-leb v 4294967295 fits) (sym (decimal-more 1 v (next ∷ bytes) (omega arith) big fits))
+          ]
+    ]
+
+-- a decimal has a digit
+pub decimal-some : (field : List ℕ) → isDecimal field ≡ true → 0 < length field
+decimal-some [] e = absurd (false≢true (unfold isDecimal every in e))
+decimal-some (byte ∷ bytes) e = omega arith
+
+-- ---- which lines are accepted
+
+module _ (line : List ℕ) where
+  pub too-long : 120 < length line → accepted line ≡ false
+  unfolding accepted isLine
+  too-long h = rw (lt-leb (length line) 120 h)
+
+  pub no-letter : (length (first line) ≡ 1 → ⊥) → accepted line ≡ false
+  unfolding accepted isLine first
+  no-letter ne = rw (ne-eqb (length (first line)) 1 ne, and-false (leb (length line) 120))
+
+  pub no-bytes : length line < 1 → accepted line ≡ false
+  no-bytes none = no-letter (λ e. let l = length-first line in omega arith)
+
+  pub comma-first : 1 ≤ length line → getD line 0 0 ≡ 44 → accepted line ≡ false
+  comma-first some comma =
+      let none : length (first line) ≡ 0 = ap length (first-at-comma line 0 some comma) in
+      no-letter (λ e. omega arith)
+
+  pub no-decimal : every isDecimal (others line) ≡ false → accepted line ≡ false
+  unfolding accepted isLine others
+  no-decimal e = rw (e, and-false (leb (length line) 120 && eqb (length (getD (fields line) 0 [])) 1))
+
+  pub accepted-line : length line ≤ 120 → length (first line) ≡ 1 → every isDecimal (others line) ≡ true
+      → accepted line ≡ isForm (letter line) (length (numbers line))
+  unfolding accepted isLine first others
+  accepted-line short one all = rw (le-leb (length line) 120 short, eq-eqb (length (getD (fields line) 0 [])) 1 one, all)
+
+-- the letters but the last that stand alone
+pub bare-last : (letter : ℕ) → (letter ≡ 77 → ⊥) → (letter ≡ 86 → ⊥) → (letter ≡ 76 → ⊥) → (letter ≡ 67 → ⊥) → isBare letter ≡ eqb letter 71
+unfolding isBare
+bare-last letter m v l c = rw (ne-eqb letter 77 m, ne-eqb letter 86 v, ne-eqb letter 76 l, ne-eqb letter 67 c)
+
+-- ---- how many numbers a line of a form has
+
+module _ (letter count : ℕ) where
+  pub form-open : letter ≡ 79 → isForm letter count ≡ true → count ≡ 6
+  unfolding isForm
+  form-open e form = eqb-true count 6 (rw e at form)
+
+  pub form-insert : letter ≡ 73 → isForm letter count ≡ true → 1 ≤ count
+  unfolding isForm
+  form-insert e form = leb-true 1 count (rw e at form)
+
+  pub form-by-key : letter ≡ 82 → isForm letter count ≡ true → 1 ≤ count
+  unfolding isForm
+  form-by-key e form = leb-true 1 count (rw e at form)
+
+  pub form-by-row : letter ≡ 75 → isForm letter count ≡ true → 2 ≤ count
+  unfolding isForm
+  form-by-row e form = leb-true 2 count (rw e at form)
+
+  pub form-range : letter ≡ 70 → isForm letter count ≡ true → count ≡ 3
+  unfolding isForm
+  form-range e form = eqb-true count 3 (rw e at form)

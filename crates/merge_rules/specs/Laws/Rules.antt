@@ -1,0 +1,261 @@
+-- What may be relied on of the rules: which cells the row made has, and what rules 0 and 1 come to. Assumes nothing.
+use Prim.Native.Nat.{ℕ, zero, suc, min, max, _+_, _≤_, _<_}
+use mathlib.Core.Path.{_≡_, refl, sym, ap, _∙_}
+use mathlib.Core.Logic.{_⊎_, inl, inr}
+use mathlib.Core.Bool.{Bool, true, false, cond, not, _&&_, _||_, false≢true}
+use mathlib.Core.List.{List, [], _∷_}
+use native.Mathlib.Nat.{add-zero}
+use native.Mathlib.Decide.{decLt, ℕ-discrete}
+use native.Mathlib.Omega.{arith}
+use lib.Dec.{leb, eqb}
+use lib.ListN.{length, take, getD, length-take}
+use lib.Seq.{getD-take, ext-getD}
+use borrow.Author.Tests.{eq-eqb, ne-eqb, le-leb, lt-leb, eqb-true}
+use Rattle.lists.specs.Laws.Keep.{split, and-left, and-right}
+use Rattle.merge_rules.specs.Rules.{ruledColumn, taken, madeCell, madeFrom, changesFrom, kept, made, ruled}
+use Rattle.merge_rules.specs.Survivor.{survivor}
+
+and-false : (b : Bool) → (b && false) ≡ false
+and-false true = refl
+and-false false = refl
+
+or-right : (a b : Bool) → (a || b) ≡ false → b ≡ false
+or-right true b e = absurd (false≢true (sym e))
+or-right false b e = e
+
+-- no change of a cell that the rule may choose
+no-change : (r rest : Bool) (x y : ℕ) → r ≡ true → ((r && not (eqb x y)) || rest) ≡ false → x ≡ y
+no-change r rest x y q e =
+    elim (split (eqb x y)) [ inl s ↦ eqb-true x y s | inr s ↦ absurd (false≢true (sym (rw (q, s) at e))) ]
+
+-- ---- cells
+
+pub ruled-key : (keys sort column : ℕ) → column < keys → ruledColumn keys sort column ≡ false
+unfolding ruledColumn
+ruled-key keys sort column h = rw (lt-leb _ _ h)
+
+pub ruled-sort : (keys sort column : ℕ) → column ≡ sort → ruledColumn keys sort column ≡ false
+unfolding ruledColumn
+ruled-sort keys sort column e = rw (eq-eqb _ _ e) (and-false (leb keys column))
+
+pub ruled-past : (keys sort column : ℕ) → keys ≤ column → ruledColumn keys sort column ≡ not (eqb column sort)
+unfolding ruledColumn
+ruled-past keys sort column h = rw (le-leb _ _ h)
+
+pub ruled-other : (keys sort column : ℕ) → keys ≤ column → (column ≡ sort → ⊥) → ruledColumn keys sort column ≡ true
+ruled-other keys sort column h ne = ruled-past keys sort column h ∙ rw (ne-eqb _ _ ne)
+
+-- equal cells stay
+pub taken-same : (rule cell : ℕ) → taken rule cell cell ≡ cell
+unfolding taken
+taken-same rule cell =
+    let low : min cell cell ≡ cell = omega arith in
+    let high : max cell cell ≡ cell = omega arith in
+    elim (split (eqb rule 1)) [
+      | inl e ↦ rw e
+      | inr e ↦ elim (split (eqb rule 2)) [
+        | inl f ↦ rw (e, f) low
+        | inr f ↦ elim (split (eqb rule 3)) [ inl g ↦ rw (e, f, g) high | inr g ↦ rw (e, f, g) ]
+      ]
+    ]
+
+module _ (rule keys sort column old new : ℕ) where
+  -- "Key cells stay"
+  pub made-key-cell : column < keys → old ≡ new → madeCell rule keys sort column old new ≡ old
+  unfolding madeCell
+  made-key-cell h e = elim (split (eqb column sort)) [ inl q ↦ rw (ruled-key keys sort column h, q) (sym e) | inr q ↦ rw (ruled-key keys sort column h, q) ]
+
+  -- "the sort cell is the new row's"
+  pub made-sort-cell : column ≡ sort → madeCell rule keys sort column old new ≡ new
+  unfolding madeCell
+  made-sort-cell e = rw (ruled-sort keys sort column e, eq-eqb _ _ e)
+
+  -- the others are as the rule says
+  pub made-other-cell : keys ≤ column → (column ≡ sort → ⊥) → madeCell rule keys sort column old new ≡ taken rule old new
+  unfolding madeCell
+  made-other-cell h ne = rw (ruled-other keys sort column h ne)
+
+-- ---- rows
+
+module _ (rule keys sort : ℕ) where
+  length-from : (column : ℕ) (old new : List ℕ) → length old ≡ length new → length (madeFrom rule keys sort column old new) ≡ length old
+  unfolding madeFrom
+  length-from column [] new e = refl
+  length-from column (a ∷ old) [] e = absurd (omega arith)
+  length-from column (a ∷ old) (b ∷ new) e = ap suc (length-from (suc column) old new (omega arith))
+
+  at-from : (column : ℕ) (old new : List ℕ) (i : ℕ) → i < length old → i < length new
+      → getD (madeFrom rule keys sort column old new) i 0 ≡ madeCell rule keys sort (column + i) (getD old i 0) (getD new i 0)
+  unfolding madeFrom
+  at-from column [] new i h k = absurd (omega arith)
+  at-from column (a ∷ old) [] i h k = absurd (omega arith)
+  at-from column (a ∷ old) (b ∷ new) zero h k = rw add-zero
+  at-from column (a ∷ old) (b ∷ new) (suc i) h k =
+      let e : suc column + i ≡ column + suc i = omega arith in
+      at-from (suc column) old new i (omega arith) (omega arith) ∙ ap (λ (c : ℕ). madeCell rule keys sort c (getD old i 0) (getD new i 0)) e
+
+  pub made-length : (old new : List ℕ) → length old ≡ length new → length (madeFrom rule keys sort 0 old new) ≡ length old
+  made-length old new e = length-from 0 old new e
+
+  pub made-at : (old new : List ℕ) (i : ℕ) → i < length old → i < length new
+      → getD (madeFrom rule keys sort 0 old new) i 0 ≡ madeCell rule keys sort i (getD old i 0) (getD new i 0)
+  made-at old new i h k = let z : 0 + i ≡ i = omega arith in at-from 0 old new i h k ∙ ap (λ (c : ℕ). madeCell rule keys sort c (getD old i 0) (getD new i 0)) z
+
+  -- "Key cells stay", where the keys agree
+  pub made-keys : (old new : List ℕ) → length old ≡ length new → take keys old ≡ take keys new → take keys (madeFrom rule keys sort 0 old new) ≡ take keys old
+  made-keys old new n e =
+      ext-getD 0 (take keys (madeFrom rule keys sort 0 old new)) (take keys old) (simp length-take (ap (min keys) (made-length old new n))) each
+    where
+      each : (i : ℕ) → i < length (take keys (madeFrom rule keys sort 0 old new)) → getD (take keys (madeFrom rule keys sort 0 old new)) i 0 ≡ getD (take keys old) i 0
+      each i p =
+          let q : i < min keys (length (madeFrom rule keys sort 0 old new)) = simp length-take at p in
+          let k : i < keys = omega arith in
+          let h : i < length old = omega (arith, made-length old new n) in
+          let same : getD old i 0 ≡ getD new i 0 = sym (getD-take keys old i 0 k) ∙ ap (λ (l : List ℕ). getD l i 0) e ∙ getD-take keys new i 0 k in
+          getD-take keys (madeFrom rule keys sort 0 old new) i 0 k
+          ∙ made-at old new i h (omega arith)
+          ∙ made-key-cell rule keys sort i (getD old i 0) (getD new i 0) k same
+          ∙ sym (getD-take keys old i 0 k)
+
+  -- "the sort cell is the new row's"
+  pub made-sort : (old new : List ℕ) → sort < length old → sort < length new → getD (madeFrom rule keys sort 0 old new) sort 0 ≡ getD new sort 0
+  made-sort old new h k = made-at old new sort h k ∙ made-sort-cell rule keys sort sort (getD old sort 0) (getD new sort 0) refl
+
+  -- "the old row is kept", or a row is made
+  pub kept-of : (old new : List ℕ) → changesFrom rule keys sort 0 old new ≡ false → ruled rule keys sort old new ≡ kept
+  unfolding ruled
+  kept-of old new e = rw e
+
+  pub made-of : (old new : List ℕ) → changesFrom rule keys sort 0 old new ≡ true → ruled rule keys sort old new ≡ made (madeFrom rule keys sort 0 old new)
+  unfolding ruled
+  made-of old new e = rw e
+
+  pub kept-or-changed : (old new : List ℕ)
+      → ((changesFrom rule keys sort 0 old new ≡ false) × (ruled rule keys sort old new ≡ kept))
+      ⊎ ((changesFrom rule keys sort 0 old new ≡ true) × (ruled rule keys sort old new ≡ made (madeFrom rule keys sort 0 old new)))
+  kept-or-changed old new = elim (split (changesFrom rule keys sort 0 old new)) [ inl e ↦ inr (e, made-of old new e) | inr e ↦ inl (e, kept-of old new e) ]
+
+  -- where nothing changes, the rule takes every old cell outside keys and sort column
+  same-from : (column : ℕ) (old new : List ℕ) → changesFrom rule keys sort column old new ≡ false → (i : ℕ) → i < length old → i < length new
+      → ruledColumn keys sort (column + i) ≡ true → taken rule (getD old i 0) (getD new i 0) ≡ getD old i 0
+  unfolding changesFrom
+  same-from column [] new e i h k r = absurd (omega arith)
+  same-from column (a ∷ old) [] e i h k r = absurd (omega arith)
+  same-from column (a ∷ old) (b ∷ new) e zero h k r =
+      let q : ruledColumn keys sort column ≡ true = rw add-zero at r in
+      no-change _ _ _ _ q e
+  same-from column (a ∷ old) (b ∷ new) e (suc i) h k r =
+      let z : suc column + i ≡ column + suc i = omega arith in
+      same-from (suc column) old new (or-right (ruledColumn keys sort column && not (eqb (taken rule a b) a)) _ e) i (omega arith) (omega arith) (rw z r)
+
+  pub kept-cells : (old new : List ℕ) → changesFrom rule keys sort 0 old new ≡ false → (i : ℕ) → i < length old → i < length new
+      → ruledColumn keys sort i ≡ true → taken rule (getD old i 0) (getD new i 0) ≡ getD old i 0
+  kept-cells old new e i h k r = let z : 0 + i ≡ i = omega arith in same-from 0 old new e i h k (rw z r)
+
+  -- where something changes, there is such a cell that the rule does not take
+  change-from : (column : ℕ) (old new : List ℕ) → changesFrom rule keys sort column old new ≡ true
+      → (i : ℕ) × (i < length old) × (i < length new) × (ruledColumn keys sort (column + i) ≡ true) × (taken rule (getD old i 0) (getD new i 0) ≡ getD old i 0 → ⊥)
+  unfolding changesFrom
+  change-from column [] new e = absurd (false≢true e)
+  change-from column (a ∷ old) [] e = absurd (false≢true e)
+  change-from column (a ∷ old) (b ∷ new) e =
+      elim (split (ruledColumn keys sort column && not (eqb (taken rule a b) a))) [
+        | inl q ↦ (0, omega arith, omega arith, rw add-zero (and-left _ _ q), λ s. false≢true (sym (ap not (eq-eqb _ _ s)) ∙ and-right (ruledColumn keys sort column) _ q))
+        | inr q ↦
+            let t = change-from (suc column) old new (rw q at e) in
+            let z : suc column + t .0 ≡ column + suc (t .0) = omega arith in
+            (suc (t .0), omega arith, omega arith, rw (← z) (t .3), t .4)
+      ]
+
+  pub changed-cell : (old new : List ℕ) → changesFrom rule keys sort 0 old new ≡ true
+      → (i : ℕ) × (i < length old) × (i < length new) × (ruledColumn keys sort i ≡ true) × (taken rule (getD old i 0) (getD new i 0) ≡ getD old i 0 → ⊥)
+  changed-cell old new e =
+      let t = change-from 0 old new e in
+      let z : 0 + t .0 ≡ t .0 = omega arith in
+      (t .0, t .1, t .2, rw z at (t .3), t .4)
+
+-- ---- rule 0
+
+taken-zero : (old new : ℕ) → taken 0 old new ≡ old
+unfolding taken
+taken-zero old new = refl
+
+changes-zero : (keys sort column : ℕ) (old new : List ℕ) → changesFrom 0 keys sort column old new ≡ false
+unfolding changesFrom
+changes-zero keys sort column [] new = refl
+changes-zero keys sort column (a ∷ old) [] = refl
+changes-zero keys sort column (a ∷ old) (b ∷ new) =
+    rw (taken-zero a b, eq-eqb a a refl, and-false (ruledColumn keys sort column), changes-zero keys sort (suc column) old new)
+
+-- "Rule 0 keeps the old row"
+pub rule-zero : (keys sort : ℕ) (old new : List ℕ) → ruled 0 keys sort old new ≡ kept
+rule-zero keys sort old new = kept-of 0 keys sort old new (changes-zero keys sort 0 old new)
+
+-- ---- rule 1
+
+taken-one : (old new : ℕ) → taken 1 old new ≡ new
+unfolding taken
+taken-one old new = refl
+
+module _ (keys sort : ℕ) (old new : List ℕ) (n : length old ≡ length new) (e : take keys old ≡ take keys new) where
+  one-cell : (i : ℕ) → madeCell 1 keys sort i (getD old i 0) (getD new i 0) ≡ getD new i 0
+  one-cell i =
+      elim (decLt i keys) [
+        | yes k ↦
+            let same : getD old i 0 ≡ getD new i 0 = sym (getD-take keys old i 0 k) ∙ ap (λ (l : List ℕ). getD l i 0) e ∙ getD-take keys new i 0 k in
+            made-key-cell 1 keys sort i (getD old i 0) (getD new i 0) k same ∙ same
+        | no k ↦
+            elim (ℕ-discrete i sort) [
+              | yes q ↦ made-sort-cell 1 keys sort i (getD old i 0) (getD new i 0) q
+              | no q ↦ made-other-cell 1 keys sort i (getD old i 0) (getD new i 0) (omega arith) q ∙ taken-one (getD old i 0) (getD new i 0)
+            ]
+      ]
+
+  -- the row that rule 1 makes is the new one
+  pub made-one : madeFrom 1 keys sort 0 old new ≡ new
+  made-one =
+      ext-getD 0 (madeFrom 1 keys sort 0 old new) new (made-length 1 keys sort old new n ∙ n)
+      (λ i h. made-at 1 keys sort old new i (omega (arith, made-length 1 keys sort old new n)) (omega (arith, made-length 1 keys sort old new n)) ∙ one-cell i)
+
+  -- "Rule 1 takes the new row if a cell outside keys and sort column differs, else keeps the old"
+  pub rule-one : ruled 1 keys sort old new ≡ cond (changesFrom 1 keys sort 0 old new) (made new) kept
+  unfolding ruled
+  rule-one = rw made-one
+
+  -- what survives under rules 0 and 1 is what the rule makes or keeps
+  pub survives : (rule : ℕ) → rule ≤ 1 → ruled rule keys sort old new ≡ cond (changesFrom rule keys sort 0 old new) (made (survivor rule keys sort old new)) kept
+  unfolding survivor
+  survives zero h = rule-zero keys sort old new ∙ rw (changes-zero keys sort 0 old new)
+  survives (suc zero) h = rule-one ∙ elim (split (changesFrom 1 keys sort 0 old new)) [ inl q ↦ rw q | inr q ↦ rw q ]
+  survives (suc (suc rule)) h = absurd (omega arith)
+
+-- either row may survive, and both are as long and have the key
+pub survivor-length : (rule keys sort : ℕ) (old new : List ℕ) → length old ≡ length new → length (survivor rule keys sort old new) ≡ length old
+unfolding survivor
+survivor-length rule keys sort old new n = elim (split (changesFrom rule keys sort 0 old new)) [ inl e ↦ rw e (sym n) | inr e ↦ rw e ]
+
+pub survivor-keys : (rule keys sort : ℕ) (old new : List ℕ) → take keys old ≡ take keys new → take keys (survivor rule keys sort old new) ≡ take keys old
+unfolding survivor
+survivor-keys rule keys sort old new k = elim (split (changesFrom rule keys sort 0 old new)) [ inl e ↦ rw e (sym k) | inr e ↦ rw e ]
+
+-- ---- what a row that is made is
+
+module _ (rule keys sort : ℕ) where
+  -- the first cell is a key cell
+  pub made-first : (old new : List ℕ) → 1 ≤ keys → length old ≡ length new → take keys old ≡ take keys new
+      → getD (madeFrom rule keys sort 0 old new) 0 0 ≡ getD new 0 0
+  made-first old new h n e =
+      sym (getD-take keys (madeFrom rule keys sort 0 old new) 0 0 h)
+      ∙ ap (λ (l : List ℕ). getD l 0 0) (made-keys rule keys sort old new n e ∙ e)
+      ∙ getD-take keys new 0 0 h
+
+  -- it is the rule's, and a ruled cell changes
+  pub ruled-made : (old new row : List ℕ) → ruled rule keys sort old new ≡ made row
+      → (changesFrom rule keys sort 0 old new ≡ true) × (madeFrom rule keys sort 0 old new ≡ row)
+  unfolding ruled
+  ruled-made old new row e = go (changesFrom rule keys sort 0 old new) refl e
+    where
+      go : (b : Bool) → changesFrom rule keys sort 0 old new ≡ b → cond b (made (madeFrom rule keys sort 0 old new)) kept ≡ made row
+          → (changesFrom rule keys sort 0 old new ≡ true) × (madeFrom rule keys sort 0 old new ≡ row)
+      go true q f = (q, cc)
+      go false q f = absurd (let z : _≡_ {A = ℕ} 0 1 = cc in omega arith)

@@ -1,0 +1,287 @@
+-- The set laws of subsets: what crates above this one may use of `intersect`, `retain` and `narrowed`; what an answer says
+-- whose ids are written; and that a reply determines it. Assumes nothing.
+use Prim.Native.Nat.{ℕ, zero, suc, _+_, _-_, _≤_, _<_, min, max}
+use mathlib.Core.Path.{_≡_, refl, sym, ap, _∙_}
+use mathlib.Core.Logic.{_⊎_, inl, inr}
+use mathlib.Core.Bool.{Bool, true, false}
+use mathlib.Core.List.{List, [], _∷_}
+use native.Mathlib.Decide.{decLt}
+use native.Mathlib.Omega.{arith}
+use lib.ListN.{length, getD}
+use borrow.Author.Tests.{leb-true, le-leb}
+use Rattle.lists.specs.Lists.{putAt, keep, every, countFrom, rising, has, within, same}
+use Rattle.lists.specs.Laws.Parts.{putAt-nil}
+use Rattle.lists.specs.Laws.Keep.{split, and-left, and-right, keep-same, keep-every, length-keep, count-le}
+use Rattle.lists.specs.Laws.Rising.{same-refl, same-eq, same-ne, length-countFrom, getD-countFrom, rising-keep, rising-countFrom, rising-at, has-countFrom, keep-has-comm, keep-within-countFrom}
+use Rattle.lists.specs.Laws.Search.{take-put}
+use Rattle.refusals.specs.Refusals.{Reply, refused, accepted}
+use Rattle.refusals.specs.Laws.Determined.{Same}
+use Rattle.offsets.specs.declared.SubsetHead.{SubsetHead}
+use Rattle.offsets.specs.declared.SubsetAnswer.{SubsetAnswer}
+use Rattle.offsets.specs.declared.SubsetAnswer.the-variants.{Refused, Range, List as Ids}
+use Rattle.offsets.specs.Subsets.{Subset, range, list, wellFormed, members, size, lastOf, bounds, endOf, listOrNothing, intersect, shaped, retain, narrowed}
+use Rattle.offsets.specs.Answers.{subsetOf, sparse, subsetSays, shape, readOff, written, Answered}
+use Rattle.offsets.specs.inner.Writing.{Wrote}
+
+-- ---- a borrowed subset, by its kind
+
+module _ (head : SubsetHead) (ids : List ℕ) where
+  pub dense-is : head .dense ≡ true → subsetOf head ids ≡ range (head .start) (head .end)
+  unfolding subsetOf
+  dense-is e = rw e
+
+  pub sparse-is : head .dense ≡ false → subsetOf head ids ≡ list ids
+  unfolding subsetOf
+  sparse-is e = rw e
+
+-- ---- well-formed subsets
+
+pub formed-order : (a b : ℕ) → wellFormed (range a b) ≡ true → a ≤ b
+unfolding wellFormed
+formed-order a b e = leb-true a b e
+
+pub formed-rising : (ids : List ℕ) → wellFormed (list ids) ≡ true → rising ids ≡ true
+unfolding wellFormed
+formed-rising ids e = and-left _ _ e
+
+pub formed-short : (ids : List ℕ) → wellFormed (list ids) ≡ true → length ids ≤ 65536
+unfolding wellFormed
+formed-short ids e = leb-true (length ids) 65536 (and-right (rising ids) _ e)
+
+pub formed-of : (ids : List ℕ) → rising ids ≡ true → length ids ≤ 65536 → wellFormed (list ids) ≡ true
+unfolding wellFormed
+formed-of ids e h = rw (e, le-leb (length ids) 65536 h)
+
+members-range : (a b : ℕ) → members (range a b) ≡ countFrom a (b - a)
+unfolding members
+members-range a b = refl
+
+members-list : (ids : List ℕ) → members (list ids) ≡ ids
+unfolding members
+members-list ids = refl
+
+pub rising-members : (a : Subset) → wellFormed a ≡ true → rising (members a) ≡ true
+unfolding members
+rising-members (range a b) e = rising-countFrom a (b - a)
+rising-members (list ids) e = formed-rising ids e
+
+pub length-members : (a : Subset) → length (members a) ≡ size a
+unfolding members size
+length-members (range a b) = length-countFrom a (b - a)
+length-members (list ids) = refl
+
+-- ---- shapes
+
+pub lastOf-getD : (x : ℕ) (xs : List ℕ) → lastOf x xs ≡ getD (x ∷ xs) (length xs) 0
+unfolding lastOf
+lastOf-getD x [] = refl
+lastOf-getD x (y ∷ ys) = lastOf-getD y ys
+
+module _ (x : ℕ) (xs : List ℕ) where
+  -- the ids are neighbours
+  pub shaped-run : (x ∷ xs) ≡ countFrom x (length (x ∷ xs)) → shaped (x ∷ xs) ≡ range x (x + length (x ∷ xs))
+  unfolding shaped
+  shaped-run e = rw (← e, same-refl (x ∷ xs))
+
+  -- they are not
+  pub shaped-list : ((x ∷ xs) ≡ countFrom x (length (x ∷ xs)) → ⊥) → shaped (x ∷ xs) ≡ list (x ∷ xs)
+  unfolding shaped
+  shaped-list e = rw (same-ne _ _ e)
+
+  -- one or the other
+  shaped-is : ((shaped (x ∷ xs) ≡ range x (x + length (x ∷ xs))) × ((x ∷ xs) ≡ countFrom x (length (x ∷ xs)))) ⊎ (shaped (x ∷ xs) ≡ list (x ∷ xs))
+  shaped-is =
+      elim (split (same (x ∷ xs) (countFrom x (length (x ∷ xs))))) [
+        | inl e ↦ inl (shaped-run (same-eq _ _ e), same-eq _ _ e)
+        | inr e ↦ inr (unfold shaped in rw e)
+      ]
+
+pub members-shaped : (l : List ℕ) → members (shaped l) ≡ l
+members-shaped [] = unfold members shaped countFrom in refl
+members-shaped (x ∷ xs) =
+    elim (shaped-is x xs) [
+      | inl q ↦
+          let n : x + length (x ∷ xs) - x ≡ length (x ∷ xs) = omega arith in
+          ap members (q .0) ∙ members-range x (x + length (x ∷ xs)) ∙ ap (countFrom x) n ∙ sym (q .1)
+      | inr q ↦ ap members q ∙ members-list (x ∷ xs)
+    ]
+
+pub wellFormed-shaped : (l : List ℕ) → rising l ≡ true → length l ≤ 65536 → wellFormed (shaped l) ≡ true
+wellFormed-shaped [] e h = unfold wellFormed shaped in refl
+wellFormed-shaped (x ∷ xs) e h =
+    elim (shaped-is x xs) [
+      | inl q ↦ rw (q .0) (unfold wellFormed in le-leb x (x + length (x ∷ xs)) (omega arith))
+      | inr q ↦ rw q (formed-of (x ∷ xs) e h)
+    ]
+
+-- a run is a range
+pub shaped-countFrom : (s n : ℕ) → 0 < n → shaped (countFrom s n) ≡ range s (s + n)
+shaped-countFrom s zero h = absurd (omega arith)
+shaped-countFrom s (suc n) h =
+    let c : countFrom s (suc n) ≡ s ∷ countFrom (suc s) n = unfold countFrom in refl in
+    let k : length (s ∷ countFrom (suc s) n) ≡ suc n = ap suc (length-countFrom (suc s) n) in
+    ap shaped c ∙ shaped-run s (countFrom (suc s) n) (rw k (sym c)) ∙ ap (λ (m : ℕ). range s (s + m)) k
+
+members-listOrNothing : (l : List ℕ) → members (listOrNothing l) ≡ l
+unfolding members listOrNothing countFrom
+members-listOrNothing [] = refl
+members-listOrNothing (x ∷ xs) = refl
+
+end-list : (x : ℕ) (xs : List ℕ) → endOf (list (x ∷ xs)) ≡ lastOf x xs + 1
+unfolding endOf bounds
+end-list x xs = refl
+
+-- each id lies below the end that test 5 looks at
+pub members-below : (a : Subset) → wellFormed a ≡ true → (i : ℕ) → i < size a → getD (members a) i 0 < endOf a
+unfolding members size
+members-below (range a b) w i h = unfold endOf bounds in let k = getD-countFrom a (b - a) i 0 h in omega arith
+members-below (list []) w i h = absurd (omega arith)
+members-below (list (x ∷ xs)) w i h =
+    let e = end-list x xs in
+    let l = lastOf-getD x xs in
+    elim (decLt i (length xs)) [
+      | yes k ↦ let r = rising-at (x ∷ xs) (formed-rising (x ∷ xs) w) i (length xs) k (omega arith) in omega arith
+      | no k ↦ let q : i ≡ length xs = omega arith in rw q (omega arith)
+    ]
+
+-- ---- intersect
+
+-- the members of a range are those within it
+has-range : (a b x : ℕ) → a ≤ b → has x (countFrom a (b - a)) ≡ within a b x
+has-range a b x h = let e : a + (b - a) ≡ b = omega arith in has-countFrom x a (b - a) ∙ ap (λ (k : ℕ). within a k x) e
+
+past-max : (m k : ℕ) → max m k - m ≡ k - m
+past-max m k = omega arith
+
+pub members-intersect : (a b : Subset) → wellFormed a ≡ true → wellFormed b ≡ true → members (intersect a b) ≡ keep (λ id. has id (members b)) (members a)
+unfolding members intersect
+members-intersect (range a b) (range c d) p q =
+    let h = formed-order a b p in
+    let k = formed-order c d q in
+    let e : b ≡ a + (b - a) = omega arith in
+    let f : max (max a c) (min b d) - max a c ≡ min (a + (b - a)) d - max a c = past-max (max a c) (min b d) ∙ ap (λ (m : ℕ). min m d - max a c) e in
+    ap (countFrom (max a c)) f
+    ∙ sym (keep-within-countFrom a (b - a) c d)
+    ∙ sym (keep-same (λ id. has id (countFrom c (d - c))) (within c d) (λ x. has-range c d x k) (countFrom a (b - a)))
+members-intersect (range a b) (list ids) p q =
+    members-listOrNothing (keep (within a b) ids)
+    ∙ sym (keep-same (λ id. has id (countFrom a (b - a))) (within a b) (λ x. has-range a b x (formed-order a b p)) ids)
+    ∙ sym (keep-has-comm (countFrom a (b - a)) ids (rising-countFrom a (b - a)) (formed-rising ids q))
+members-intersect (list ids) (range a b) p q =
+    sym (keep-same (λ id. has id (countFrom a (b - a))) (within a b) (λ x. has-range a b x (formed-order a b q)) ids)
+members-intersect (list ids) (list others) p q = refl
+
+-- what is kept of a well-formed list is one
+formed-keep : (test : ℕ → Bool) (ids : List ℕ) → wellFormed (list ids) ≡ true → wellFormed (list (keep test ids)) ≡ true
+formed-keep test ids p =
+    formed-of (keep test ids) (rising-keep test ids (formed-rising ids p))
+    (let s = formed-short ids p in let a = length-keep test ids in let b = count-le test ids in omega arith)
+
+formed-listOrNothing : (l : List ℕ) → wellFormed (list l) ≡ true → wellFormed (listOrNothing l) ≡ true
+formed-listOrNothing [] e = unfold wellFormed listOrNothing in refl
+formed-listOrNothing (x ∷ xs) e = unfold listOrNothing in e
+
+pub wellFormed-intersect : (a b : Subset) → wellFormed a ≡ true → wellFormed b ≡ true → wellFormed (intersect a b) ≡ true
+unfolding intersect
+wellFormed-intersect (range a b) (range c d) p q = unfold wellFormed in le-leb (max a c) (max (max a c) (min b d)) (omega arith)
+wellFormed-intersect (range a b) (list ids) p q = formed-listOrNothing (keep (within a b) ids) (formed-keep (within a b) ids q)
+wellFormed-intersect (list ids) (range a b) p q = formed-keep (within a b) ids p
+wellFormed-intersect (list ids) (list others) p q = formed-keep (λ id. has id others) ids p
+
+-- ---- retain and narrowed
+
+pub members-retain : (test : ℕ → Bool) (a : Subset) → members (retain test a) ≡ keep test (members a)
+unfolding retain
+members-retain test (range a b) =
+    let l = countFrom a (b - a) in
+    members-shaped (keep test l) ∙ ap (keep test) (sym (members-range a b))
+members-retain test (list ids) = members-list (keep test ids) ∙ ap (keep test) (sym (members-list ids))
+
+pub members-narrowed : (test : ℕ → Bool) (a : Subset) → members (narrowed test a) ≡ keep test (members a)
+unfolding members narrowed
+members-narrowed test (range a b) =
+    elim (split (every test (countFrom a (b - a)))) [
+      | inl e ↦ rw e (sym (keep-every test (countFrom a (b - a)) e))
+      | inr e ↦ rw e
+    ]
+members-narrowed test (list ids) = refl
+
+-- The kept ids of a range may become a list, and a list has at most 65,536 ids: so the range must have no more. A
+-- well-formed list never has.
+short-keep : (test : ℕ → Bool) (a b : ℕ) → size (range a b) ≤ 65536 → length (keep test (countFrom a (b - a))) ≤ 65536
+unfolding size
+short-keep test a b h =
+    let l = countFrom a (b - a) in
+    let p = length-keep test l in let q = count-le test l in let r = length-countFrom a (b - a) in omega arith
+
+pub wellFormed-retain : (test : ℕ → Bool) (a : Subset) → wellFormed a ≡ true → size a ≤ 65536 → wellFormed (retain test a) ≡ true
+unfolding retain
+wellFormed-retain test (range a b) p h =
+    let l = countFrom a (b - a) in
+    wellFormed-shaped (keep test l) (rising-keep test l (rising-countFrom a (b - a))) (short-keep test a b h)
+wellFormed-retain test (list ids) p h = formed-keep test ids p
+
+pub wellFormed-narrowed : (test : ℕ → Bool) (a : Subset) → wellFormed a ≡ true → size a ≤ 65536 → wellFormed (narrowed test a) ≡ true
+unfolding narrowed
+wellFormed-narrowed test (range a b) p h =
+    let l = countFrom a (b - a) in
+    elim (split (every test (countFrom a (b - a)))) [
+      | inl e ↦ rw e p
+      | inr e ↦ rw e (formed-of (keep test l) (rising-keep test l (rising-countFrom a (b - a))) (short-keep test a b h))
+    ]
+wellFormed-narrowed test (list ids) p h = formed-keep test ids p
+
+-- ---- answers
+
+-- nothing is written yet
+pub wrote-none : (output : List ℕ) → Wrote output [] 0 output
+wrote-none output = record { number = refl; cells = sym (putAt-nil output 0) }
+
+pub answered-range : (a b : ℕ) (output : List ℕ) → Answered (accepted (range a b)) output (Range a b) output
+unfolding subsetSays shape written
+answered-range a b output = record { answers = refl; writes = sym (putAt-nil output 0) }
+
+pub answered-list : (ids output : List ℕ) (n : ℕ) (output′ : List ℕ) → Wrote output ids n output′ → Answered (accepted (list ids)) output (Ids n) output′
+unfolding subsetSays shape written
+answered-list ids output n output′ w = record { answers = ap (λ (k : ℕ). accepted (sparse k)) (w .number); writes = w .cells }
+
+-- an answer is known by what it says
+pub subset-said : (a b : SubsetAnswer) → subsetSays a ≡ subsetSays b → a ≡ b
+unfolding subsetSays
+subset-said (Refused n) (Refused m) e = cc
+subset-said (Refused n) (Range start end) e = cc
+subset-said (Refused n) (Ids m) e = cc
+subset-said (Range start end) (Refused n) e = cc
+subset-said (Range start end) (Range start′ end′) e = cc
+subset-said (Range start end) (Ids n) e = cc
+subset-said (Ids n) (Refused m) e = cc
+subset-said (Ids n) (Range start end) e = cc
+subset-said (Ids n) (Ids m) e = cc
+
+-- the answer that says what is told of a reply
+unfoldable answerOf : Reply Subset → SubsetAnswer
+answerOf (refused n) = Refused n
+answerOf (accepted (range start end)) = Range start end
+answerOf (accepted (list ids)) = Ids (length ids)
+
+said-answer : (r : Reply Subset) → subsetSays (answerOf r) ≡ shape r
+unfolding subsetSays answerOf shape
+said-answer (refused n) = refl
+said-answer (accepted (range start end)) = refl
+said-answer (accepted (list ids)) = refl
+
+-- what the caller reads off an answer is the reply, where the output has room for its ids
+pub read-off : (r : Reply Subset) (output : List ℕ) (answer : SubsetAnswer) (output′ : List ℕ) → length (written r) ≤ length output
+    → Answered r output answer output′ → readOff answer output′ ≡ r
+read-off r output answer output′ h a = rw (subset-said answer (answerOf r) (a .answers ∙ sym (said-answer r)), a .writes) (read r)
+  where
+    read : (r : Reply Subset) → readOff (answerOf r) (putAt output 0 (written r)) ≡ r
+    read (refused n) = unfold readOff answerOf in refl
+    read (accepted (range start end)) = unfold readOff answerOf in refl
+    read (accepted (list ids)) = unfold readOff answerOf written in ap (λ (l : List ℕ). accepted (list l)) (take-put output ids)
+
+-- The reply determines the answer and the output: no choice is left. That is all of *Intersect*, whose reply is
+-- `intersectReply`, and of a refine.
+pub answered-determined : {r : Reply Subset} {output output₁ output₂ : List ℕ} {a b : SubsetAnswer}
+    → Answered r output a output₁ → Answered r output b output₂ → Same a b output₁ output₂
+answered-determined {a = a} {b} x y = record { answer = subset-said a b (x .answers ∙ sym (y .answers)); cells = x .writes ∙ sym (y .writes) }

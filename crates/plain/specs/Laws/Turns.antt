@@ -1,0 +1,164 @@
+-- The paper's wrong turns, and traps beside them, as merges that come out differently if one is taken: each a list of
+-- calls, the last of them a merge, and what that merge leaves. One statement says that all come out. Assumes nothing.
+use Prim.Native.Nat.{ℕ}
+use mathlib.Core.Path.{_≡_, refl}
+use mathlib.Core.Bool.{Bool, true, false, _&&_, Bool·beq}
+use mathlib.Core.List.{List, [], _∷_, _++_, map}
+use lib.ListN.{length}
+use lib.Dec.{eqb}
+use Rattle.lists.specs.Lists.{every, same, count, keep, countFrom, firstOf}
+use Rattle.refusals.specs.Refusals.{first}
+use Rattle.cells.specs.Cells.{isDead}
+use Rattle.merge_rules.specs.Rules.{ruledColumn, taken, madeCell, madeFrom, changesFrom, ruled}
+use Rattle.plain.specs.Staged.{Opening, openable, insert, removeKey, removeRow, wordsOf, wordsAll, keyRemovals, rowRemovals, inserts, hasKey, skipped, due}
+use Rattle.plain.specs.Refusing.{storesShort, wordsShort, wrongWidth, noSuchRow, overfull, stageLadder, mergeLadder}
+use Rattle.plain.specs.Plain.{Numbered, liveFrom, liveRows, lookup, dead, opened, stage, liveWithKey, killIf, withoutKey, withoutKeys, dies, withoutRow, withoutRows, lastValue, below, stop, append, put, insertion, Inserted, insertAll, applied, compacted, compactIfDue, unstaged, merged}
+use Rattle.plain.specs.Calls.{Call, staging, merging, Lent, countsOf, pendingShort, refusal, done, after, afterAll}
+
+pub record Turn : Type 0 where
+  pub opening : Opening
+  pub before : List Call
+  pub status : ℕ
+  pub place : ℕ
+  pub added : Bool
+  pub dead-after : ℕ
+  pub live-after : List Numbered
+
+abbrev row : ℕ → List ℕ → Numbered
+row number cells = record { number = number; cells = cells }
+
+-- key, level, stamp
+abbrev level : ℕ → ℕ → ℕ → List ℕ
+level key value stamp = key ∷ value ∷ stamp ∷ []
+
+abbrev levels : ℕ → Opening
+levels capacity = record { columns = 3; keys = 1; sort = 2; rule = 1; capacity = capacity }
+
+unfoldable pub turns : List Turn
+turns =
+    -- "Testing the sort order before the rule (l)": equal cells, a lower stamp
+    record {
+      opening = levels 9;
+      before = staging (insert (level 1 5 12)) ∷ merging ∷ staging (insert (level 1 5 11)) ∷ [];
+      status = 0;
+      place = 0;
+      added = false;
+      dead-after = 0;
+      live-after = row 0 (level 1 5 12) ∷ [];
+    }
+    -- "Inserting before removing, which loses a key removed and staged again in one batch"
+    ∷ record {
+      opening = levels 9;
+      before = staging (insert (level 1 5 12)) ∷ merging ∷ staging (insert (level 1 5 12)) ∷ staging (removeKey (1 ∷ [])) ∷ [];
+      status = 0;
+      place = 0;
+      added = true;
+      dead-after = 1;
+      live-after = row 1 (level 1 5 12) ∷ [];
+    }
+    -- "Reading the sort cell of a dead row when the sort column is 0": the last row is dead, its sort cell was 7
+    ∷ record {
+      opening = record { columns = 1; keys = 1; sort = 0; rule = 0; capacity = 9 };
+      before = staging (insert (7 ∷ [])) ∷ merging ∷ staging (removeKey (7 ∷ [])) ∷ staging (insert (8 ∷ [])) ∷ [];
+      status = 0;
+      place = 0;
+      added = true;
+      dead-after = 1;
+      live-after = row 1 (8 ∷ []) ∷ [];
+    }
+    -- a known key with another level: the row made is appended and the old row dies
+    ∷ record {
+      opening = levels 9;
+      before = staging (insert (level 1 5 12)) ∷ merging ∷ staging (insert (level 1 6 12)) ∷ [];
+      status = 0;
+      place = 0;
+      added = true;
+      dead-after = 1;
+      live-after = row 1 (level 1 6 12) ∷ [];
+    }
+    -- a full table and an old stamp: 8 comes before 9; the stopping row is not appended, its old row lives
+    ∷ record {
+      opening = levels 1;
+      before = staging (insert (level 1 5 12)) ∷ merging ∷ staging (insert (level 1 6 11)) ∷ [];
+      status = 8;
+      place = 0;
+      added = false;
+      dead-after = 0;
+      live-after = row 0 (level 1 5 12) ∷ [];
+    }
+    -- a full table takes a row that the rule keeps
+    ∷ record {
+      opening = levels 1;
+      before = staging (insert (level 1 5 12)) ∷ merging ∷ staging (insert (level 1 5 11)) ∷ [];
+      status = 0;
+      place = 0;
+      added = false;
+      dead-after = 0;
+      live-after = row 0 (level 1 5 12) ∷ [];
+    }
+    -- a skipped insert counts for the place; what came before the stop stands, the rest is dropped
+    ∷ record {
+      opening = levels 9;
+      before = staging (insert (level 1 5 12)) ∷ staging (insert (level 4294967295 5 12)) ∷ staging (insert (level 2 5 11)) ∷ staging (insert (level 3 5 12)) ∷ [];
+      status = 9;
+      place = 2;
+      added = true;
+      dead-after = 0;
+      live-after = row 0 (level 1 5 12) ∷ [];
+    }
+    -- a row dies once, by key and by row; another key's removal by row does nothing
+    ∷ record {
+      opening = levels 9;
+      before = staging (insert (level 1 5 12)) ∷ staging (insert (level 2 5 12)) ∷ merging ∷ staging (removeRow 0 (1 ∷ [])) ∷ staging (removeKey (1 ∷ [])) ∷ staging (removeRow 1 (1 ∷ [])) ∷ [];
+      status = 0;
+      place = 0;
+      added = false;
+      dead-after = 1;
+      live-after = row 1 (level 2 5 12) ∷ [];
+    }
+    -- a merge that stops compacts nothing, though all its 17 rows are dead
+    ∷ record {
+      opening = levels 20;
+      before =
+          map (λ key. staging (insert (level key 5 12))) (countFrom 1 17)
+          ++ (merging ∷ map (λ key. staging (removeKey (key ∷ []))) (countFrom 1 17))
+          ++ (staging (insert (level 30 5 11)) ∷ []);
+      status = 9;
+      place = 0;
+      added = false;
+      dead-after = 17;
+      live-after = [];
+    }
+    ∷ []
+
+abbrev sameRow : Numbered → Numbered → Bool
+sameRow a b = eqb (a .number) (b .number) && same (a .cells) (b .cells)
+
+unfoldable sameRows : List Numbered → List Numbered → Bool
+sameRows [] [] = true
+sameRows [] (b ∷ bs) = false
+sameRows (a ∷ rest) [] = false
+sameRows (a ∷ rest) (b ∷ bs) = sameRow a b && sameRows rest bs
+
+abbrev lent : Call → Lent
+lent call =
+    record { call = call; lengths = record { rows = 60; keys = 40; sorts = 40; pending = 100; liveWords = 1; baseWords = 1 } }
+
+-- the merge after a turn's calls
+abbrev outcome : Turn → Inserted
+outcome t =
+    merged (afterAll (opened (t .opening) 0) (map lent (t .before)))
+
+unfoldable pub comesOut : Turn → Bool
+unfolding sameRows
+comesOut t =
+    eqb (outcome t .status) (t .status)
+    && eqb (outcome t .place) (t .place)
+    && Bool·beq (outcome t .added) (t .added)
+    && eqb (dead (outcome t .table)) (t .dead-after)
+    && eqb (length (outcome t .table .staged)) 0
+    && sameRows (liveRows (outcome t .table)) (t .live-after)
+
+pub all-come-out : every comesOut turns ≡ true
+unfolding every same count keep countFrom firstOf first isDead ruledColumn taken madeCell madeFrom changesFrom ruled openable wordsOf wordsAll keyRemovals rowRemovals inserts hasKey skipped due storesShort wordsShort wrongWidth noSuchRow overfull stageLadder mergeLadder liveFrom liveRows lookup dead opened stage liveWithKey killIf withoutKey withoutKeys dies withoutRow withoutRows lastValue below stop append put insertion insertAll applied compacted compactIfDue unstaged merged countsOf pendingShort refusal done after afterAll turns sameRows comesOut
+all-come-out = refl

@@ -1,0 +1,87 @@
+-- What each call turns away (document 01, "Operations and what each turns away"), over the numbers that its tests look at. A
+-- plain table and a header have the same ladders; test 1 is handed in, since it differs. The first number that applies, 0 if
+-- none. Assumes nothing.
+use Prim.Native.Nat.{ℕ, _+_, _*_, _/_}
+use mathlib.Core.Bool.{Bool, false, not, _&&_, _||_}
+use mathlib.Core.List.{[], _∷_}
+use lib.ListN.{length}
+use lib.Dec.{leb, ltb, eqb}
+use Rattle.refusals.specs.Refusals.{rung, first}
+use Rattle.plain.specs.Staged.{Opening, openable, Staged, insert, removeKey, removeRow, wordsOf}
+
+-- the lengths of the stores that a call is lent
+pub record Lengths : Type 0 where
+  pub rows : ℕ
+  pub keys : ℕ
+  pub sorts : ℕ
+  pub pending : ℕ
+  pub liveWords : ℕ
+  pub baseWords : ℕ
+
+-- what the tests look at of a table: its opening, its generation, its row count, its pending words used
+pub record Counts : Type 0 where
+  pub opening : Opening
+  pub generation : ℕ
+  pub rows : ℕ
+  pub used : ℕ
+
+-- "rows, capacity times columns; keys, 2 times capacity; sort entries, 2 times capacity"
+unfoldable pub storesShort : Opening → Lengths → Bool
+storesShort o l =
+    ltb (l .rows) (o .capacity * o .columns) || ltb (l .keys) (2 * o .capacity) || ltb (l .sorts) (2 * o .capacity)
+
+-- "compaction words, capacity over 64 rounded up of u64 and of u32"
+unfoldable pub wordsShort : Opening → Lengths → Bool
+wordsShort o l = ltb (l .liveWords) ((o .capacity + 63) / 64) || ltb (l .baseWords) ((o .capacity + 63) / 64)
+
+-- "wrong number of cells"
+unfoldable pub wrongWidth : Opening → Staged → Bool
+wrongWidth o (insert cells) = not (eqb (length cells) (o .columns))
+wrongWidth o (removeKey key) = not (eqb (length key) (o .keys))
+wrongWidth o (removeRow row key) = not (eqb (length key) (o .keys))
+
+-- "row not below the row count"
+unfoldable pub noSuchRow : ℕ → Staged → Bool
+noSuchRow rows (insert cells) = false
+noSuchRow rows (removeKey key) = false
+noSuchRow rows (removeRow row key) = leb rows row
+
+-- "fewer free pending words than the record takes"; also where the words used would leave a u32
+unfoldable pub overfull : ℕ → ℕ → ℕ → Bool
+overfull used pending words = ltb pending (used + words) || ltb 4294967295 (used + words)
+
+-- *Open*: 1, 2
+unfoldable pub openRefusal : Opening → Lengths → ℕ
+openRefusal o l = first (rung (not (openable o)) 1 ∷ rung (storesShort o l) 2 ∷ [])
+
+-- *Stage*: 1, 3, 5, 7
+unfoldable pub stageLadder : Bool → Counts → ℕ → Staged → ℕ
+stageLadder outside c pending r =
+    first
+    (rung outside 1
+    ∷ rung (wrongWidth (c .opening) r) 3
+    ∷ rung (noSuchRow (c .rows) r) 5
+    ∷ rung (overfull (c .used) pending (wordsOf (c .opening) r)) 7
+    ∷ [])
+
+-- *Merge*: 1, 2
+unfoldable pub mergeLadder : Bool → Counts → Lengths → ℕ
+mergeLadder outside c l = first (rung outside 1 ∷ rung (storesShort (c .opening) l || wordsShort (c .opening) l) 2 ∷ [])
+
+-- *Compact*: 1, 2, 10
+unfoldable pub compactLadder : Bool → Counts → Lengths → ℕ
+compactLadder outside c l =
+    first
+    (rung outside 1
+    ∷ rung (storesShort (c .opening) l || wordsShort (c .opening) l) 2
+    ∷ rung (eqb (c .generation) 4294967295) 10
+    ∷ [])
+
+-- *Clear*: 1, 2, 10 "only if there are rows"
+unfoldable pub clearLadder : Bool → Counts → ℕ → ℕ
+clearLadder outside c keys =
+    first
+    (rung outside 1
+    ∷ rung (ltb keys (2 * c .opening .capacity)) 2
+    ∷ rung (eqb (c .generation) 4294967295 && ltb 0 (c .rows)) 10
+    ∷ [])

@@ -1,0 +1,296 @@
+-- What may be relied on of the new numbers of rows: how a word of marks grows, that the count of ones below a row's bit is
+-- the number of live rows before it in the word, and where a compaction finds each kept row; and how the functions' places
+-- in a store are the rows of that store. Assumes nothing.
+use Prim.Native.Nat.{ℕ, zero, suc, _+_, _-_, _*_, _/_, _%_, _^_, _≤_, _<_}
+use mathlib.Core.Path.{_≡_, refl, sym, ap, ap₂, _∙_}
+use mathlib.Core.Logic.{inl, inr}
+use mathlib.Core.Bool.{Bool, true, false, cond, not, false≢true}
+use mathlib.Core.List.{List, [], _∷_}
+use native.Mathlib.Nat.{zero-add, add-zero, suc-add, add-assoc, add-comm, zero-mul, one-mul, mul-assoc, mul-comm, pow-suc, mod-lt, mod-eq-of-lt, add-mul-mod-self-right}
+use native.Mathlib.Decide.{decLt}
+use native.Mathlib.Numerals.{add-one, one-add}
+use native.Mathlib.Omega.{arith}
+use lib.Pow.{pow-pos, pow-add, mod-pow-add}
+use lib.Count.{ones, ones-cat, ones-le}
+use lib.ListN.{length, take, drop, getD, set, length-take}
+use lib.Seq.{take-length, take-take}
+use Rattle.lists.specs.Lists.{keep, count, rowAt, rowsOf}
+use Rattle.lists.specs.Laws.Keep.{split, count-le}
+use Rattle.lists.specs.Laws.Rows.{length-rowsOf, getD-rowsOf, getD-rowAt, rowsOf-set}
+use Rattle.cells.specs.Cells.{isDead}
+use Rattle.row_buffer.specs.Ranks.{setBelow, marks, countTo, liveAt, liveWord, newNumber}
+
+-- ---- digits
+
+one-digit : (b : ℕ) → b < 2 → ones b ≡ b
+unfolding ones
+one-digit zero h = refl
+one-digit (suc zero) h = refl
+one-digit (suc (suc b)) h = absurd (omega arith)
+
+-- the digits set below a place are the ones of the word masked there
+pub ones-below : (word bit : ℕ) → ones (word % 2 ^ bit) ≡ setBelow word bit
+unfolding setBelow
+ones-below word zero = let z : word % 1 ≡ 0 = omega arith in ap ones z ∙ one-digit 0 (omega arith)
+ones-below word (suc bit) =
+    ap (λ (n : ℕ). ones (word % 2 ^ n)) (sym (one-add bit))
+    ∙ ap ones (mod-pow-add word 1 bit)
+    ∙ ones-cat bit (word / 2 ^ bit % 2 ^ 1) (word % 2 ^ bit) (mod-lt word (pow-pos bit))
+    ∙ ap₂ (λ (a b : ℕ). a + b) (one-digit (word / 2 ^ bit % 2 ^ 1) (omega arith)) (ones-below word bit)
+    ∙ add-comm (word / 2 ^ bit % 2) (setBelow word bit)
+
+pub setBelow-le : (word bit : ℕ) → setBelow word bit ≤ bit
+setBelow-le word bit = rw (← ones-below word bit) (ones-le bit (word % 2 ^ bit) (mod-lt word (pow-pos bit)))
+
+-- ---- a word of marks
+
+module _ (f : ℕ → Bool) where
+  -- one place more: marked, or not
+  pub marks-yes : (n : ℕ) → f n ≡ true → marks f (n + 1) ≡ marks f n + 2 ^ n
+  unfolding marks
+  marks-yes n e = rw (add-one, e)
+
+  pub marks-no : (n : ℕ) → f n ≡ false → marks f (n + 1) ≡ marks f n
+  unfolding marks
+  marks-no n e = rw (add-one, e) (add-zero (marks f n))
+
+  -- the marks below n are a number of n digits
+  pub marks-lt : (n : ℕ) → marks f n < 2 ^ n
+  unfolding marks
+  marks-lt zero = omega arith
+  marks-lt (suc n) =
+      let h = marks-lt n in
+      let e : 2 ^ suc n ≡ 2 ^ n * 2 = pow-suc 2 n in
+      elim (split (f n)) [ inl q ↦ rw q (omega arith) | inr q ↦ rw q (omega arith) ]
+
+  -- places that are not marked add nothing
+  pub marks-end : (n j : ℕ) → ((k : ℕ) → n ≤ k → f k ≡ false) → marks f (n + j) ≡ marks f n
+  marks-end n zero none = rw add-zero
+  marks-end n (suc j) none =
+      let e : n + suc j ≡ n + j + 1 = omega arith in
+      let h : n ≤ n + j = omega arith in
+      rw e (marks-no (n + j) (none (n + j) h) ∙ marks-end n j none)
+
+  -- the digit that a mark is
+  digit : ℕ → ℕ
+  digit n = cond (f n) 1 0
+
+  digit-lt : (n : ℕ) → digit n < 2
+  unfolding digit
+  digit-lt n = elim (split (f n)) [ inl e ↦ rw e (omega arith) | inr e ↦ rw e (omega arith) ]
+
+  marks-digit : (n : ℕ) → marks f (suc n) ≡ marks f n + digit n * 2 ^ n
+  unfolding marks digit
+  marks-digit n = elim (split (f n)) [ inl e ↦ rw (e, one-mul (2 ^ n)) | inr e ↦ rw (e, zero-mul (2 ^ n)) ]
+
+  countTo-digit : (n : ℕ) → countTo f (suc n) ≡ countTo f n + digit n
+  unfolding countTo digit
+  countTo-digit n = refl
+
+  -- the ones of a word of n marks
+  ones-marks : (n : ℕ) → ones (marks f n) ≡ countTo f n
+  unfolding marks countTo
+  ones-marks zero = one-digit 0 (omega arith)
+  ones-marks (suc n) =
+      ap ones (marks-digit n ∙ add-comm (marks f n) (digit n * 2 ^ n))
+      ∙ ones-cat n (digit n) (marks f n) (marks-lt n)
+      ∙ ap₂ (λ (a b : ℕ). a + b) (one-digit (digit n) (digit-lt n)) (ones-marks n)
+      ∙ add-comm (digit n) (countTo f n)
+      ∙ sym (countTo-digit n)
+
+  -- masked below n, a longer word is the word of n marks
+  pub marks-mod : (n j : ℕ) → marks f (n + j) % 2 ^ n ≡ marks f n
+  marks-mod n zero = rw add-zero (mod-eq-of-lt (marks-lt n))
+  marks-mod n (suc j) =
+      let e : n + suc j ≡ suc (n + j) = omega arith in
+      let p : digit (n + j) * 2 ^ (n + j) ≡ digit (n + j) * 2 ^ j * 2 ^ n =
+      ap (λ (x : ℕ). digit (n + j) * x) (pow-add 2 n j ∙ mul-comm (2 ^ n) (2 ^ j)) ∙ sym (mul-assoc (digit (n + j)) (2 ^ j) (2 ^ n)) in
+      rw e
+      (ap (λ (x : ℕ). x % 2 ^ n) (marks-digit (n + j) ∙ ap (λ (x : ℕ). marks f (n + j) + x) p)
+      ∙ add-mul-mod-self-right (marks f (n + j)) (digit (n + j) * 2 ^ j) (2 ^ n)
+      ∙ marks-mod n j)
+
+  -- "the count of ones below its bit" is the number of marks below it
+  pub below-marks : (bit n : ℕ) → bit ≤ n → setBelow (marks f n) bit ≡ countTo f bit
+  below-marks bit n h =
+      let e : n ≡ bit + (n - bit) = omega arith in
+      rw e (sym (ones-below (marks f (bit + (n - bit))) bit) ∙ ap ones (marks-mod bit (n - bit)) ∙ ones-marks bit)
+
+-- ---- new numbers
+
+module _ {A : Type 0} (live : A → Bool) where
+  pub liveAt-in : (rows : List A) (i : ℕ) (d : A) → i < length rows → liveAt live rows i ≡ live (getD rows i d)
+  unfolding liveAt
+  liveAt-in [] i d h = absurd (omega arith)
+  liveAt-in (row ∷ rows) zero d h = refl
+  liveAt-in (row ∷ rows) (suc i) d h = liveAt-in rows i d (omega arith)
+
+  pub liveAt-past : (rows : List A) (i : ℕ) → length rows ≤ i → liveAt live rows i ≡ false
+  unfolding liveAt
+  liveAt-past [] i h = refl
+  liveAt-past (row ∷ rows) zero h = absurd (omega arith)
+  liveAt-past (row ∷ rows) (suc i) h = liveAt-past rows i (omega arith)
+
+  pub live-in : (rows : List A) (i : ℕ) → liveAt live rows i ≡ true → i < length rows
+  unfolding liveAt
+  live-in [] i e = absurd (false≢true e)
+  live-in (row ∷ rows) zero e = omega arith
+  live-in (row ∷ rows) (suc i) e = let h = live-in rows i e in omega arith
+
+  -- the word of the rows from `start` on: none, one row more, live or not, and no row left
+  module _ (rows : List A) (start : ℕ) where
+    pub word-none : liveWord live rows start 0 ≡ 0
+    unfolding liveWord marks
+    word-none = refl
+
+    pub word-live : (n : ℕ) → liveAt live rows (start + n) ≡ true → liveWord live rows start (n + 1) ≡ liveWord live rows start n + 2 ^ n
+    unfolding liveWord
+    word-live n e = marks-yes (λ bit. liveAt live rows (start + bit)) n e
+
+    pub word-dead : (n : ℕ) → liveAt live rows (start + n) ≡ false → liveWord live rows start (n + 1) ≡ liveWord live rows start n
+    unfolding liveWord
+    word-dead n e = marks-no (λ bit. liveAt live rows (start + bit)) n e
+
+    pub word-lt : (n : ℕ) → liveWord live rows start n < 2 ^ n
+    unfolding liveWord
+    word-lt n = marks-lt (λ bit. liveAt live rows (start + bit)) n
+
+    pub word-end : (n j : ℕ) → length rows ≤ start + n → liveWord live rows start (n + j) ≡ liveWord live rows start n
+    unfolding liveWord
+    word-end n j h = marks-end (λ bit. liveAt live rows (start + bit)) n j (λ k p. liveAt-past rows (start + k) (omega arith))
+
+  number-digit : (rows : List A) (i : ℕ) → newNumber live rows (suc i) ≡ newNumber live rows i + cond (liveAt live rows i) 1 0
+  unfolding newNumber liveAt count
+  number-digit [] zero = refl
+  number-digit [] (suc i) = refl
+  number-digit (row ∷ rows) zero = sym (zero-add (cond (live row) 1 0))
+  number-digit (row ∷ rows) (suc i) =
+      let h = number-digit rows i in
+      elim (split (live row)) [ inl e ↦ rw (e, h, suc-add) | inr e ↦ rw (e, h) ]
+
+  -- numbers rise by one from live row to live row, and stay over dead ones
+  pub number-live : (rows : List A) (i : ℕ) → liveAt live rows i ≡ true → newNumber live rows (i + 1) ≡ newNumber live rows i + 1
+  number-live rows i e = rw (add-one i) (number-digit rows i ∙ rw e)
+
+  pub number-dead : (rows : List A) (i : ℕ) → liveAt live rows i ≡ false → newNumber live rows (i + 1) ≡ newNumber live rows i
+  number-dead rows i e = rw add-one (number-digit rows i ∙ rw e (add-zero (newNumber live rows i)))
+
+  pub number-zero : (rows : List A) → newNumber live rows 0 ≡ 0
+  unfolding newNumber count
+  number-zero rows = refl
+
+  pub number-le : (rows : List A) (i : ℕ) → newNumber live rows i ≤ i
+  unfolding newNumber
+  number-le rows i = omega (arith, count-le live (take i rows), length-take i rows)
+
+  pub number-all : (rows : List A) → newNumber live rows (length rows) ≡ count live rows
+  unfolding newNumber
+  number-all rows = rw take-length
+
+  number-grows : (rows : List A) (i k : ℕ) → newNumber live rows i ≤ newNumber live rows (i + k)
+  number-grows rows i zero = rw add-zero (omega arith)
+  number-grows rows i (suc k) =
+      let e : i + suc k ≡ suc (i + k) = omega arith in
+      rw e (omega (arith, number-grows rows i k, number-digit rows (i + k)))
+
+  number-stays : (rows : List A) (i k : ℕ) → ((m : ℕ) → i ≤ m → m < i + k → liveAt live rows m ≡ false) → newNumber live rows (i + k) ≡ newNumber live rows i
+  number-stays rows i zero none = rw add-zero
+  number-stays rows i (suc k) none =
+      let e : i + suc k ≡ i + k + 1 = omega arith in
+      let low : i ≤ i + k = omega arith in
+      let high : i + k < i + suc k = omega arith in
+      rw e (number-dead rows (i + k) (none (i + k) low high) ∙ number-stays rows i k (λ m p q. none m p (omega arith)))
+
+  -- "the new number of the first live one": before it no row of the word counts
+  pub number-first : (rows : List A) (start i : ℕ) → start ≤ i → ((m : ℕ) → start ≤ m → m < i → liveAt live rows m ≡ false) → newNumber live rows i ≡ newNumber live rows start
+  number-first rows start i h none =
+      let k : i ≡ start + (i - start) = omega arith in
+      rw k (number-stays rows start (i - start) (λ m p q. none m p (omega arith)))
+
+  -- different live rows have different numbers, in order
+  pub number-rises : (rows : List A) (i j : ℕ) → i < j → liveAt live rows i ≡ true → newNumber live rows i < newNumber live rows j
+  number-rises rows i j h e =
+      let k : j ≡ i + 1 + (j - (i + 1)) = omega arith in
+      let up : newNumber live rows (i + 1) ≤ newNumber live rows j = rw k (number-grows rows (i + 1) (j - (i + 1))) in
+      omega (arith, number-live rows i e)
+
+  -- from a live row to the next live one
+  pub number-next : (rows : List A) (i j : ℕ) → i < j → liveAt live rows i ≡ true → ((m : ℕ) → i < m → m < j → liveAt live rows m ≡ false)
+      → newNumber live rows j ≡ newNumber live rows i + 1
+  number-next rows i j h e none =
+      let k : j ≡ i + 1 + (j - (i + 1)) = omega arith in
+      rw k (number-stays rows (i + 1) (j - (i + 1)) (λ m p q. none m (omega arith) (omega arith)) ∙ number-live rows i e)
+
+  -- a live row's number is below the count of those kept
+  pub number-lt : (rows : List A) (i : ℕ) → liveAt live rows i ≡ true → newNumber live rows i < count live rows
+  number-lt rows i e = rw (← number-all rows) (number-rises rows i (length rows) (live-in rows i e) e)
+
+  -- each number below the count of those before row n is one of theirs
+  pub number-back : (rows : List A) (n k : ℕ) → k < newNumber live rows n → (i : ℕ) × (i < n) × (liveAt live rows i ≡ true) × (newNumber live rows i ≡ k)
+  number-back rows zero k h = absurd (omega (arith, number-zero rows))
+  number-back rows (suc n) k h = elim (decLt k (newNumber live rows n)) [
+    | yes b ↦ let g = number-back rows n k b in (g .0, omega (arith, g .1), g .2, g .3)
+    | no b ↦ elim (split (liveAt live rows n)) [
+      | inl e ↦ let d : newNumber live rows (suc n) ≡ newNumber live rows n + 1 = number-digit rows n ∙ rw e in (n, omega arith, e, omega arith)
+      | inr e ↦ let d : newNumber live rows (suc n) ≡ newNumber live rows n + 0 = number-digit rows n ∙ rw e in absurd (omega arith)
+    ]
+  ]
+
+  number-upto : (rows : List A) (start k : ℕ)
+      → newNumber live rows start + countTo (λ bit. liveAt live rows (start + bit)) k ≡ newNumber live rows (start + k)
+  unfolding countTo
+  number-upto rows start zero = add-zero (newNumber live rows start) ∙ ap (newNumber live rows) (sym (add-zero start))
+  number-upto rows start (suc k) =
+      let e : suc (start + k) ≡ start + suc k = omega arith in
+      let d : ℕ = cond (liveAt live rows (start + k)) 1 0 in
+      sym (add-assoc (newNumber live rows start) (countTo (λ bit. liveAt live rows (start + bit)) k) d)
+      ∙ ap (λ (x : ℕ). x + d) (number-upto rows start k)
+      ∙ sym (number-digit rows (start + k))
+      ∙ ap (newNumber live rows) e
+
+  -- a row's new number: how many live rows stand before its word, plus the ones below its bit
+  pub number-rank : (rows : List A) (start n bit : ℕ) → bit ≤ n
+      → newNumber live rows start + setBelow (liveWord live rows start n) bit ≡ newNumber live rows (start + bit)
+  unfolding liveWord
+  number-rank rows start n bit h =
+      ap (λ (x : ℕ). newNumber live rows start + x) (below-marks (λ b. liveAt live rows (start + b)) bit n h) ∙ number-upto rows start bit
+
+  -- the same, by the row's number: its word is i / 64, its bit i % 64
+  pub number-word : (rows : List A) (i : ℕ)
+      → newNumber live rows (i / 64 * 64) + setBelow (liveWord live rows (i / 64 * 64) 64) (i % 64) ≡ newNumber live rows i
+  number-word rows i =
+      let e : i / 64 * 64 + i % 64 ≡ i = omega arith in
+      let h : i % 64 ≤ 64 = omega arith in
+      number-rank rows (i / 64 * 64) 64 (i % 64) h ∙ ap (newNumber live rows) e
+
+  -- a kept row stands at its new number
+  pub keep-at : (rows : List A) (i : ℕ) (d : A) → liveAt live rows i ≡ true → getD (keep live rows) (newNumber live rows i) d ≡ getD rows i d
+  unfolding keep count newNumber liveAt
+  keep-at [] i d e = absurd (false≢true e)
+  keep-at (row ∷ rows) zero d e = rw e
+  keep-at (row ∷ rows) (suc i) d e =
+      let h = keep-at rows i d e in
+      elim (split (live row)) [ inl q ↦ rw q h | inr q ↦ rw q h ]
+
+-- ---- rows of a store
+
+-- a row's key, as `same_key` reads it
+pub key-row : (w i k : ℕ) (store : List ℕ) → k ≤ w → take k (rowAt w i store) ≡ take k (drop (i * w) store)
+unfolding rowAt
+key-row w i k store h = take-take k w (drop (i * w) store) h
+
+module _ (w n i : ℕ) (store : List ℕ) (some : 0 < w) (in-count : i < n) where
+  -- a row is live by its first cell, as `is_dead` reads it
+  pub live-row : (live : List ℕ → Bool) → ((row : List ℕ) → live row ≡ not (isDead (getD row 0 0)))
+      → liveAt live (rowsOf w n store) i ≡ not (isDead (getD store (i * w) 0))
+  live-row live means =
+      let h : i < length (rowsOf w n store) = simp length-rowsOf in-count in
+      liveAt-in live (rowsOf w n store) i [] h
+      ∙ means (getD (rowsOf w n store) i [])
+      ∙ ap (λ (row : List ℕ). not (isDead (getD row 0 0))) (getD-rowsOf w n store i in-count)
+      ∙ ap (λ (cell : ℕ). not (isDead cell)) (getD-rowAt w i store 0 0 some ∙ ap (λ (k : ℕ). getD store k 0) (add-zero (i * w)))
+
+  -- the rows after `set_stale`
+  pub stale-rows : rowsOf w n (set store (i * w) 4294967295) ≡ set (rowsOf w n store) i (set (rowAt w i store) 0 4294967295)
+  stale-rows =
+      ap (λ (k : ℕ). rowsOf w n (set store k 4294967295)) (sym (add-zero (i * w))) ∙ rowsOf-set w n i 0 store 4294967295 in-count some

@@ -1,0 +1,5 @@
+-- Contracts of functions that no user calls.
+pub mod Append
+pub mod Checks
+pub mod Search
+pub mod Admission
