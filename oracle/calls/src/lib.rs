@@ -15,6 +15,67 @@ pub struct Opening {
     pub generation: u32,
 }
 
+/// A header's numbers, in the paper's order.
+#[derive(Clone, Copy, Debug, Default, PartialEq, Eq)]
+pub struct Header {
+    pub columns: u32,
+    pub keys: u32,
+    pub sort: u32,
+    pub rule: u32,
+    pub capacity: u32,
+    pub rows: u32,
+    pub dead: u32,
+    pub entries: u32,
+    pub pending: u32,
+    pub generation: u32,
+}
+
+impl Header {
+    pub fn words(&self) -> [u32; 10] {
+        [
+            self.columns,
+            self.keys,
+            self.sort,
+            self.rule,
+            self.capacity,
+            self.rows,
+            self.dead,
+            self.entries,
+            self.pending,
+            self.generation,
+        ]
+    }
+
+    pub fn from_words(words: &[u32; 10]) -> Header {
+        let [columns, keys, sort, rule, capacity, ..] = *words;
+        let [.., rows, dead, entries, pending, generation] = *words;
+        Header {
+            columns,
+            keys,
+            sort,
+            rule,
+            capacity,
+            rows,
+            dead,
+            entries,
+            pending,
+            generation,
+        }
+    }
+
+    /// The numbers that its opening was given. The first generation is not among them; the present one stands for it.
+    pub fn opening(&self) -> Opening {
+        Opening {
+            columns: self.columns,
+            keys: self.keys,
+            sort: self.sort,
+            rule: self.rule,
+            capacity: self.capacity,
+            generation: self.generation,
+        }
+    }
+}
+
 /// The lengths of the stores that a call is lent, in words.
 #[derive(Clone, Copy, Debug, PartialEq, Eq)]
 pub struct Lengths {
@@ -25,6 +86,26 @@ pub struct Lengths {
     /// Compaction words: the u64 that mark live rows, and the u32 beside them.
     pub live_words: usize,
     pub base_words: usize,
+}
+
+/// A header and stores, sound or not.
+#[derive(Clone, Copy, Debug)]
+pub struct Held<'a> {
+    pub header: Header,
+    pub rows: &'a [u32],
+    pub keys: &'a [u32],
+    pub sorts: &'a [u32],
+    pub pending: &'a [u32],
+}
+
+/// What a header and stores must hold after a call: of each store the cells from its start on, as far as one was ever written.
+/// Past them all cells are as they came. The key store is not here: its cells are the program's choice.
+#[derive(Clone, Copy, Debug)]
+pub struct Expected<'a> {
+    pub header: Header,
+    pub rows: &'a [u32],
+    pub sorts: &'a [u32],
+    pub pending: &'a [u32],
 }
 
 /// A call that may change the table.
@@ -138,4 +219,9 @@ pub trait Judge {
     fn call(&mut self, lent: &Lengths, call: &Call) -> Answer;
     fn ask(&self, lent: &Lengths, question: &Question) -> Answer;
     fn contents(&self) -> Contents;
+
+    /// What is otherwise in its header and stores, if it has any. `whole`: all of them, else only what a staging may change.
+    fn unlike(&self, _expected: &Expected, _whole: bool) -> Option<String> {
+        None
+    }
 }

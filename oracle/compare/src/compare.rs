@@ -1,8 +1,8 @@
 //! Two judges on one history. The plain table is asked first; what it refuses changes nothing and is asked of the other only
 //! if that follows the paper in everything. All else must be the same: each answer, and after each call what can be seen of the
-//! whole table.
+//! whole table, and every cell of its stores, if it has any.
 
-use crate::counts::{Counts, is_held_back};
+use crate::counts::{Counts, is_held_back, live_row, question_name};
 use crate::guard::guarded;
 use crate::history::{Act, Step, UNOPENED};
 use calls::{Answer, Call, Contents, DEAD, Judge, Lengths, Opening, Question, Subset};
@@ -15,9 +15,12 @@ pub struct Rival<J> {
     pub key_hash: fn(&[u32]) -> u32,
     /// Whether it follows the paper in everything: refusals, stops, capacity, the last generation.
     pub follows_paper: bool,
-    /// Whether it has this question.
-    pub has: fn(&Question) -> bool,
+    /// Kinds of question that it does not have.
+    pub lacks: &'static [&'static str],
 }
+
+/// What the Rust says where a sort value falls. No other panic of its is a stop.
+pub const RUST_STOP: &str = "inserting row that violates sort order";
 
 /// Where two judges differ: the step's place in the history and what each says.
 #[derive(Debug)]
@@ -114,12 +117,13 @@ impl<'a, J: Judge> Pair<'a, J> {
             self.expect_panic(&step.lent, counts)?;
         }
         if self.following {
-            counts.compared += 1;
+            counts.asked(&self.opening, step, &answer);
             let heard = guarded(|| self.other.call(&step.lent, call));
             agree(&Ok(answer.clone()), &heard)?;
             if !is_staging || self.seen.rows <= FEW_ROWS {
                 agree(&Ok(self.seen.clone()), &guarded(|| self.other.contents()))?;
             }
+            self.agree_on_stores(is_staging)?;
         }
         Ok(answer)
     }
@@ -135,9 +139,22 @@ impl<'a, J: Judge> Pair<'a, J> {
         if !self.rival.follows_paper {
             return Ok(());
         }
-        counts.compared += 1;
+        counts.asked(&self.opening, step, answer);
         let heard = guarded(|| self.other.call(&step.lent, call));
-        agree(&Ok(answer.clone()), &heard)
+        agree(&Ok(answer.clone()), &heard)?;
+        self.agree_on_stores(is_staging(call))
+    }
+
+    /// The other's header and stores, if it has any, are those that the paper gives, every cell. After a staging large stores
+    /// are looked at only about the record.
+    fn agree_on_stores(&self, is_staging: bool) -> Result<(), Unlike> {
+        match self.other.unlike(&self.plain.expected(), !is_staging) {
+            None => Ok(()),
+            Some(other) => Err(Unlike {
+                plain: format!("{:?}", self.plain.header()),
+                other,
+            }),
+        }
     }
 
     /// Keeps what an accepted call means for the comparison; says whether it is a staging.
@@ -154,10 +171,7 @@ impl<'a, J: Judge> Pair<'a, J> {
             Call::RemoveRow(row, key) => self.rows_to_remove.push((*row, key.clone())),
             _ => {}
         }
-        matches!(
-            call,
-            Call::Insert(_) | Call::RemoveKey(_) | Call::RemoveRow(..)
-        )
+        is_staging(call)
     }
 
     /// Ends the comparison until the next opening where a merge does what the paper adds, or where a key merely shares
@@ -166,12 +180,12 @@ impl<'a, J: Judge> Pair<'a, J> {
         let Answer::Merged { status, .. } = answer else {
             return;
         };
-        if self.rival.follows_paper {
-            return;
-        }
         let rows = std::mem::take(&mut self.rows_to_remove);
         for (row, key) in &rows {
             counts.row_removal(&self.seen, *row, key);
+        }
+        if self.rival.follows_paper {
+            return;
         }
         let ending = if rows.iter().any(|(row, key)| self.shares_hash(*row, key)) {
             "ended: a removal by row whose key shares the hash"
@@ -191,8 +205,7 @@ impl<'a, J: Judge> Pair<'a, J> {
     /// Whether that row, live before the merge, has another key of the same hash.
     fn shares_hash(&self, row: u32, key: &[u32]) -> bool {
         let hash = self.rival.key_hash;
-        let found = self.seen.live.iter().find(|live| live.0 == row);
-        found.is_some_and(|(_, cells)| {
+        live_row(&self.seen, row).is_some_and(|cells| {
             let own = &cells[..key.len()];
             own != key && hash(own) == hash(key)
         })
@@ -205,17 +218,17 @@ impl<'a, J: Judge> Pair<'a, J> {
         self.other = (self.rival.make)();
         counts.feature("ended: stop 9, the Rust panics");
         match heard {
-            Err(_) => Ok(()),
-            Ok(answer) => Err(Unlike {
+            Err(panic) if panic.contains(RUST_STOP) => Ok(()),
+            heard => Err(Unlike {
                 plain: "stops with 9".to_string(),
-                other: format!("{answer:?}"),
+                other: said(&heard),
             }),
         }
     }
 
     /// Whether the other judge is asked this too.
     fn is_asked(&self, question: &Question, answer: &Answer) -> bool {
-        if !(self.rival.has)(question) {
+        if self.rival.lacks.contains(&question_name(question)) {
             return false;
         }
         if self.rival.follows_paper {
@@ -240,11 +253,19 @@ impl<'a, J: Judge> Pair<'a, J> {
             counts.feature("not asked: range with the greatest id");
             return Ok(answer);
         }
-        counts.compared += 1;
+        counts.asked(&self.opening, step, &answer);
         let heard = guarded(|| self.other.ask(&step.lent, asked));
         agree(&Ok(answer.clone()), &heard)?;
         Ok(answer)
     }
+}
+
+/// A call that only adds a record.
+fn is_staging(call: &Call) -> bool {
+    matches!(
+        call,
+        Call::Insert(_) | Call::RemoveKey(_) | Call::RemoveRow(..)
+    )
 }
 
 /// A known difference of the Rust: of a list behind a range the Rust takes the last id plus one, which does not fit where that id
@@ -267,12 +288,16 @@ fn agree<T: PartialEq + std::fmt::Debug>(
     if plain == other {
         return Ok(());
     }
-    let words = |said: &Result<T, String>| match said {
+    Err(Unlike {
+        plain: said(plain),
+        other: said(other),
+    })
+}
+
+/// An answer, or the words of a panic.
+fn said<T: std::fmt::Debug>(heard: &Result<T, String>) -> String {
+    match heard {
         Ok(answer) => format!("{answer:?}"),
         Err(panic) => format!("panics: {panic}"),
-    };
-    Err(Unlike {
-        plain: words(plain),
-        other: words(other),
-    })
+    }
 }

@@ -98,23 +98,51 @@ const RULES: [&str; 4] = [
     "open: rule 3",
 ];
 
-/// What the gate's run must have seen besides; the recorded list is too small for it.
-pub const GATE: [&str; 5] = [
+/// What a gate's run must have seen besides; the recorded list is too small for it.
+const GATE: [&str; 12] = [
+    "merge: compacts more than 64 rows",
+    "full size: filled",
+    "full size: stop 8",
+    "full size: half of the rows dead",
+    "full size: a merge compacts",
+    "full size: compact",
+    "full size: 65536 sort entries",
+    "full size: refine by one, 65536 ids",
+    "full size: refine by one, 65537 ids refused",
+    "full size: intersect, 65536 ids",
+    "full size: intersect, 65537 ids refused",
+    "full size: all 65536 ids kept",
+];
+
+/// What the run against the Rust must have seen besides.
+const RUST_GATE: [&str; 4] = [
     "ended: stop 8",
     "ended: stop 9, the Rust panics",
     "ended: last generation",
-    "merge: compacts more than 64 rows",
     "not asked: range with the greatest id",
 ];
+
+/// The most rows of a table, and the most ids of a list.
+const FULL: usize = 65_536;
 
 #[derive(Default)]
 pub struct Counts {
     pub histories: u64,
     pub short_histories: u64,
-    /// Answers that both judges gave.
-    pub compared: u64,
-    steps: BTreeMap<usize, [u64; 12]>,
+    pub full_histories: u64,
+    /// The plain table's outcomes, by kind.
+    steps: Outcomes,
+    /// Those of them that the other judge was asked for and agreed on.
+    asked: Outcomes,
     features: BTreeMap<&'static str, u64>,
+}
+
+/// Places for the numbers 0, accepted, to 10 and `AGAIN`.
+type Outcomes = BTreeMap<usize, [u64; 12]>;
+
+/// The name of a question's kind.
+pub fn question_name(question: &Question) -> &'static str {
+    KINDS[question_kind(question)].0
 }
 
 /// The place of a step's kind in `KINDS`.
@@ -129,18 +157,31 @@ fn kind(act: &Act) -> usize {
             Call::Compact => 5,
             Call::Clear => 6,
         },
-        Act::Ask(question) => match question {
-            Question::Lookup(_) => 7,
-            Question::Cell(..) => 8,
-            Question::FastRange(_) => 9,
-            Question::Version => 10,
-            Question::RowsSince(_) => 11,
-            Question::RefineOne { .. } => 12,
-            Question::RefineList { .. } => 13,
-            Question::AnyMatch { .. } => 14,
-            Question::Page { .. } => 15,
-            Question::Intersect { .. } => 16,
-        },
+        Act::Ask(question) => question_kind(question),
+    }
+}
+
+fn question_kind(question: &Question) -> usize {
+    match question {
+        Question::Lookup(_) => 7,
+        Question::Cell(..) => 8,
+        Question::FastRange(_) => 9,
+        Question::Version => 10,
+        Question::RowsSince(_) => 11,
+        Question::RefineOne { .. } => 12,
+        Question::RefineList { .. } => 13,
+        Question::AnyMatch { .. } => 14,
+        Question::Page { .. } => 15,
+        Question::Intersect { .. } => 16,
+    }
+}
+
+/// The place of an answer in `Outcomes`.
+fn outcome(opening: &Opening, step: &Step, answer: &Answer) -> usize {
+    match answer {
+        Answer::Refused(2) if is_about_output(opening, step) => AGAIN,
+        Answer::Refused(number) => *number as usize,
+        _ => 0,
     }
 }
 
@@ -151,14 +192,57 @@ impl Counts {
 
     /// Counts a step by its kind and its refusal, if any.
     pub fn step(&mut self, opening: &Opening, step: &Step, answer: &Answer) {
-        let outcome = match answer {
-            Answer::Refused(2) if is_about_output(opening, step) => AGAIN,
-            Answer::Refused(number) => *number as usize,
-            _ => 0,
-        };
+        let outcome = outcome(opening, step, answer);
         self.steps.entry(kind(&step.act)).or_default()[outcome] += 1;
         if let Act::Ask(question) = &step.act {
             self.answer(question, answer);
+            self.long_lists(question, answer);
+        }
+    }
+
+    /// Counts a step that the other judge was asked for too.
+    pub fn asked(&mut self, opening: &Opening, step: &Step, answer: &Answer) {
+        let outcome = outcome(opening, step, answer);
+        self.asked.entry(kind(&step.act)).or_default()[outcome] += 1;
+    }
+
+    /// Answers that both judges gave.
+    pub fn compared(&self) -> u64 {
+        self.asked.values().flatten().sum()
+    }
+
+    /// Counts questions about lists as long as a list may be, or longer by one.
+    fn long_lists(&mut self, question: &Question, answer: &Answer) {
+        let length = |subset: &Subset| match subset {
+            Subset::List(ids) => ids.len(),
+            Subset::Range(..) => 0,
+        };
+        let (names, length) = match question {
+            Question::RefineOne { subset, .. } => (
+                [
+                    "full size: refine by one, 65536 ids",
+                    "full size: refine by one, 65537 ids refused",
+                ],
+                length(subset),
+            ),
+            Question::Intersect { first, second, .. } => (
+                [
+                    "full size: intersect, 65536 ids",
+                    "full size: intersect, 65537 ids refused",
+                ],
+                length(first).max(length(second)),
+            ),
+            _ => return,
+        };
+        match answer {
+            Answer::Refused(4) if length == FULL + 1 => self.feature(names[1]),
+            Answer::Subset(kept) if length == FULL => {
+                self.feature(names[0]);
+                if matches!(kept, Subset::List(ids) if ids.len() == FULL) {
+                    self.feature("full size: all 65536 ids kept");
+                }
+            }
+            _ => {}
         }
     }
 
@@ -209,9 +293,9 @@ impl Counts {
 
     /// Counts a removal by row that a merge takes, by what was there before.
     pub fn row_removal(&mut self, before: &Contents, row: u32, key: &[u32]) {
-        let found = before.live.iter().find(|live| live.0 == row);
+        let found = live_row(before, row);
         self.feature(match found {
-            Some((_, cells)) if cells.starts_with(key) => "remove by row: live row",
+            Some(cells) if cells.starts_with(key) => "remove by row: live row",
             Some(_) => "remove by row: row of another key",
             None if row < before.rows => "remove by row: dead row",
             None => "remove by row: no such row any more",
@@ -230,6 +314,7 @@ impl Counts {
         if after.rows == o.capacity && before.rows < o.capacity {
             self.feature("table exactly full");
         }
+        self.full_size(call, answer, before, after);
         match (call, answer) {
             (
                 Call::Merge,
@@ -245,6 +330,30 @@ impl Counts {
             (Call::Compact, _) => self.feature("compact: without dead rows"),
             (Call::Clear, _) if before.rows > 0 => self.feature("clear: with rows"),
             (Call::Clear, _) => self.feature("clear: without rows"),
+            _ => {}
+        }
+    }
+
+    /// Counts the turns of a table with as many rows as there can be.
+    fn full_size(&mut self, call: &Call, answer: &Answer, before: &Contents, after: &Contents) {
+        let full = FULL as u32;
+        if after.rows == full && before.rows < full {
+            self.feature("full size: filled");
+        }
+        if after.sort_entries.len() == FULL {
+            self.feature("full size: 65536 sort entries");
+        }
+        if after.rows == full && 2 * after.dead == full {
+            self.feature("full size: half of the rows dead");
+        }
+        if before.rows != full {
+            return;
+        }
+        let compacted = after.generation != before.generation;
+        match (call, answer) {
+            (Call::Merge, Answer::Merged { status: 8, .. }) => self.feature("full size: stop 8"),
+            (Call::Merge, _) if compacted => self.feature("full size: a merge compacts"),
+            (Call::Compact, _) if before.dead > 0 => self.feature("full size: compact"),
             _ => {}
         }
     }
@@ -299,11 +408,9 @@ impl Counts {
     pub fn add(&mut self, other: &Counts) {
         self.histories += other.histories;
         self.short_histories += other.short_histories;
-        self.compared += other.compared;
-        for (&kind, outcomes) in &other.steps {
-            let sums = self.steps.entry(kind).or_default();
-            sums.iter_mut().zip(outcomes).for_each(|(a, b)| *a += b);
-        }
+        self.full_histories += other.full_histories;
+        add_outcomes(&mut self.steps, &other.steps);
+        add_outcomes(&mut self.asked, &other.asked);
         for (name, count) in &other.features {
             *self.features.entry(name).or_default() += count;
         }
@@ -330,10 +437,35 @@ impl Counts {
         missing
     }
 
+    /// What a gate's run has missed: kinds, refusals and turns never seen, and kinds that the other judge was never asked, save
+    /// those that it lacks; also their refusals, if it follows the paper.
+    pub fn missed_by_gate(&self, lacks: &[&str], follows_paper: bool) -> Vec<String> {
+        let mut missing = self.missing(&GATE, |_| true);
+        if !follows_paper {
+            let seen = |name: &&&str| self.features.contains_key(**name);
+            let unseen = RUST_GATE.iter().filter(|name| !seen(name));
+            missing.extend(unseen.map(|name| name.to_string()));
+        }
+        for (kind, (name, refusals)) in KINDS.iter().enumerate() {
+            let outcomes = self.asked.get(&kind).copied().unwrap_or_default();
+            let refusals = if follows_paper { *refusals } else { &[] };
+            for &number in [0].iter().chain(refusals) {
+                let is_lacking = lacks.contains(name);
+                if is_lacking != (outcomes[number] == 0) {
+                    missing.push(match is_lacking {
+                        true => format!("{name}: asked, though it is said to be lacking"),
+                        false => format!("{name}: never asked, {}", outcome_name(number)),
+                    });
+                }
+            }
+        }
+        missing
+    }
+
     pub fn print(&self) {
         println!(
-            "{} histories by chance, {} short ones",
-            self.histories, self.short_histories
+            "{} histories by chance, {} short ones, {} of full size",
+            self.histories, self.short_histories, self.full_histories
         );
         let total = |kinds: std::ops::Range<usize>| -> u64 {
             self.steps
@@ -342,7 +474,10 @@ impl Counts {
                 .sum()
         };
         println!("{} calls, {} questions", total(0..7), total(7..17));
-        println!("{} answers compared with the other judge's", self.compared);
+        println!(
+            "{} answers compared with the other judge's",
+            self.compared()
+        );
         for (kind, (name, _)) in KINDS.iter().enumerate() {
             let outcomes = self.steps.get(&kind).copied().unwrap_or_default();
             let refused = outcomes
@@ -359,6 +494,19 @@ impl Counts {
             println!("  {name}: {count}");
         }
     }
+}
+
+fn add_outcomes(sums: &mut Outcomes, more: &Outcomes) {
+    for (&kind, outcomes) in more {
+        let sums = sums.entry(kind).or_default();
+        sums.iter_mut().zip(outcomes).for_each(|(a, b)| *a += b);
+    }
+}
+
+/// The cells of a live row.
+pub fn live_row(of: &Contents, row: u32) -> Option<&[u32]> {
+    let place = of.live.binary_search_by_key(&row, |live| live.0);
+    place.ok().map(|place| of.live[place].1.as_slice())
 }
 
 fn outcome_name(number: usize) -> String {

@@ -3,8 +3,8 @@
 
 use crate::history::{Act, Step, UNOPENED, needed};
 use crate::questions;
-use crate::rng::Rng;
 use calls::{Answer, Call, Contents, DEAD, Judge, Lengths, Opening, Question};
+use chance::Rng;
 use plain::Plain;
 
 /// What a history may hold.

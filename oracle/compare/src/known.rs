@@ -3,9 +3,9 @@
 use crate::compare::Rival;
 use crate::guard::guarded;
 use crate::history::{Act, UNOPENED, needed, with_exact_output};
-use crate::rng::Rng;
 use crate::text::parse;
 use calls::{Answer, Judge, Lengths, Opening, Question, Subset};
+use chance::Rng;
 use plain::Plain;
 use std::collections::HashMap;
 

@@ -1,7 +1,7 @@
 //! Two subsets to intersect: all four shapes, lists of lengths about those where the Rust walks them another way.
 
-use crate::rng::Rng;
 use calls::{Question, Subset};
+use chance::Rng;
 
 const LENGTHS: [usize; 16] = [0, 1, 2, 3, 4, 5, 8, 15, 16, 17, 18, 31, 32, 33, 64, 65];
 

@@ -3,6 +3,7 @@
 
 mod compare;
 mod counts;
+mod full;
 mod generate;
 mod guard;
 mod history;
@@ -10,7 +11,6 @@ mod known;
 mod lists;
 mod questions;
 mod record;
-mod rng;
 mod run;
 mod short;
 mod shrink;
@@ -19,7 +19,7 @@ mod tests;
 mod text;
 
 use compare::Rival;
-use mouldgrey::ProvedTable;
+use proved_table::ProvedTable;
 use rust_table::RustTable;
 use std::process::ExitCode;
 
@@ -27,23 +27,29 @@ const USAGE: &str = "\
 usage: oracle                   the gate's run: all short histories, many by chance from a fixed seed, the proved library
        oracle run COUNT [SEED]  any number of histories by chance
        oracle proved COUNT SEED the same for the proved table beside the plain one
+       oracle full              histories of the largest tables, for the Rust and the proved table
+       oracle hostile N SEED    at least N calls of all C functions on stores that nobody made
        oracle record [SEED]     prints the recorded list
-       oracle replay FILE       checks a recorded list against both judges
+       oracle replay FILE       checks a recorded list against both judges and the proved table
        oracle bench             measures the proved library beside the Rust (build it with --release)";
 
 const RUST: Rival<RustTable> = Rival {
     make: RustTable::new,
     key_hash: rust_table::key_hash,
     follows_paper: false,
-    has: |_| true,
+    lacks: &[],
 };
 
 const PROVED: Rival<ProvedTable> = Rival {
     make: ProvedTable::new,
-    key_hash: mouldgrey::compact_hash,
+    key_hash: probes::compact_hash,
     follows_paper: true,
-    has: ProvedTable::has,
+    lacks: &proved_table::LACKS,
 };
+
+/// The gate's calls on hostile stores, and their seed.
+const HOSTILE_CALLS: u64 = 2_000_000;
+const HOSTILE_SEED: u64 = 1;
 
 fn main() -> ExitCode {
     guard::keep_quiet();
@@ -64,6 +70,11 @@ fn command(arguments: &[&str]) -> Result<(), String> {
         ["run", count] => run::run(&RUST, number(count)?, 0),
         ["run", count, seed] => run::run(&RUST, number(count)?, number(seed)?),
         ["proved", count, seed] => run::run(&PROVED, number(count)?, number(seed)?),
+        ["full"] => {
+            run::full(&RUST)?;
+            run::full(&PROVED)
+        }
+        ["hostile", calls, seed] => print(hostile::run(number(calls)?, number(seed)?)?),
         ["record"] => record(record::SEED),
         ["record", seed] => record(number(seed)?),
         ["replay", file] => replay(file),
@@ -80,7 +91,13 @@ fn gate() -> Result<(), String> {
     println!("the proved library and the plain table:");
     println!("  {}", run::gate_proved(&PROVED)?);
     println!("the proved library and the Rust:");
-    for line in proved::compare()? {
+    print(proved::compare()?)?;
+    println!("the proved library on hostile stores:");
+    print(hostile::gate(HOSTILE_CALLS, HOSTILE_SEED)?)
+}
+
+fn print(lines: Vec<String>) -> Result<(), String> {
+    for line in lines {
         println!("  {line}");
     }
     Ok(())
@@ -99,7 +116,14 @@ fn record(seed: u64) -> Result<(), String> {
 
 fn replay(file: &str) -> Result<(), String> {
     let text = std::fs::read_to_string(file).map_err(|why| format!("{file}: {why}"))?;
-    let answers = record::replay(&RUST, &text)?;
-    println!("{answers} recorded answers are both judges' own");
+    let rust = record::replay(&RUST, &text)?;
+    let proved = record::replay(&PROVED, &text)?;
+    println!(
+        "{} recorded answers are the plain table's, {} of them the Rust's, {} the proved table's (it lacks: {})",
+        rust.answers,
+        rust.asked,
+        proved.asked,
+        PROVED.lacks.join(", ")
+    );
     Ok(())
 }

@@ -172,13 +172,19 @@ impl<'a, J: Judge> List<'a, J> {
         }
     }
 
-    /// Exactly what the table at hand needs, or the one to be opened.
+    /// Exactly what the table at hand needs, or the one to be opened. An opening past a table's limits, which is refused for
+    /// its numbers, gets what the limits ask for.
     fn lent(&self, act: &Act) -> Lengths {
         let numbers: &Opening = match act {
             Act::Call(Call::Open(numbers)) => numbers,
             _ => &self.pair.opening,
         };
-        needed(numbers, PENDING)
+        let within_limits = Opening {
+            columns: numbers.columns.min(8),
+            capacity: numbers.capacity.min(65_536),
+            ..*numbers
+        };
+        needed(&within_limits, PENDING)
     }
 
     /// The answer's line, from both judges.
@@ -334,8 +340,14 @@ pub fn record<J: Judge>(rival: &Rival<J>, seed: u64) -> Result<Vec<String>, Stri
     }
 }
 
-/// Checks a list against both judges; gives the number of answers.
-pub fn replay<J: Judge>(rival: &Rival<J>, text: &str) -> Result<usize, String> {
+/// How many answers a list has, and for how many of them the other judge was asked too.
+pub struct Replayed {
+    pub answers: usize,
+    pub asked: u64,
+}
+
+/// Checks a list against both judges.
+pub fn replay<J: Judge>(rival: &Rival<J>, text: &str) -> Result<Replayed, String> {
     let lines: Vec<&str> = text.lines().collect();
     let mut list = List::new(rival);
     for (place, pair) in lines.chunks(2).enumerate() {
@@ -354,7 +366,10 @@ pub fn replay<J: Judge>(rival: &Rival<J>, text: &str) -> Result<usize, String> {
         }
     }
     match missing(&list.counts).as_slice() {
-        [] => Ok(lines.len() / 2),
+        [] => Ok(Replayed {
+            answers: lines.len() / 2,
+            asked: list.counts.compared(),
+        }),
         missing => Err(format!("the list does not show: {missing:?}")),
     }
 }

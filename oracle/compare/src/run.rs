@@ -1,7 +1,8 @@
 //! Runs over many histories, on as many threads as there are cores, two at most.
 
 use crate::compare::{Difference, Rival, compare};
-use crate::counts::{Counts, GATE};
+use crate::counts::Counts;
+use crate::full;
 use crate::generate::{ANY, history};
 use crate::history::Step;
 use crate::known;
@@ -22,36 +23,53 @@ struct Found {
     history: Vec<Step>,
 }
 
-/// The gate's run: all short histories and so many by chance.
+/// A gate's run: all short histories, those of full size, and so many by chance. Every case must be seen.
 fn histories<J: Judge>(rival: &Rival<J>, count: u64) -> Result<Counts, String> {
     let mut counts = Counts::default();
     in_parts(rival, &mut counts, &short_part)?;
+    in_parts(rival, &mut counts, &full_part)?;
     in_parts(rival, &mut counts, &|rival, part, counts, stop| {
         chance_part(rival, (0, count, GATE_SEED), part, counts, stop)
     })?;
-    Ok(counts)
+    match counts
+        .missed_by_gate(rival.lacks, rival.follows_paper)
+        .as_slice()
+    {
+        [] => Ok(counts),
+        missing => {
+            counts.print();
+            Err(format!("never seen: {missing:?}"))
+        }
+    }
 }
 
-/// The gate's run against the Rust, with the known differences. Every case must be seen.
+/// The gate's run against the Rust, with the known differences.
 pub fn gate<J: Judge>(rust: &Rival<J>) -> Result<(), String> {
-    let counts = histories(rust, GATE_COUNT)?;
-    counts.print();
+    histories(rust, GATE_COUNT)?.print();
     for line in known::check(rust)? {
         println!("  {line}");
     }
-    match counts.missing(&GATE, |_| true).as_slice() {
-        [] => Ok(()),
-        missing => Err(format!("never seen: {missing:?}")),
-    }
+    Ok(())
 }
 
-/// Histories against the proved table: every answer, refusals and stops too.
+/// Histories against the proved table: every answer, refusals and stops too, and every cell of its stores.
 pub fn gate_proved<J: Judge>(proved: &Rival<J>) -> Result<String, String> {
     let counts = histories(proved, PROVED_COUNT)?;
     Ok(format!(
-        "tables: {} histories by chance, {} short ones, {} answers",
-        counts.histories, counts.short_histories, counts.compared
+        "tables: {} histories by chance, {} short ones, {} of full size, {} answers",
+        counts.histories,
+        counts.short_histories,
+        counts.full_histories,
+        counts.compared()
     ))
+}
+
+/// The histories of full size alone.
+pub fn full<J: Judge>(rival: &Rival<J>) -> Result<(), String> {
+    let mut counts = Counts::default();
+    in_parts(rival, &mut counts, &full_part)?;
+    counts.print();
+    Ok(())
 }
 
 /// Any number of histories by chance from a seed.
@@ -164,8 +182,50 @@ fn short_part<J: Judge>(
     None
 }
 
+fn full_part<J: Judge>(
+    rival: &Rival<J>,
+    (part, parts): Part,
+    counts: &mut Counts,
+    stop: &AtomicBool,
+) -> Option<Found> {
+    for number in (0..full::COUNT).filter(|number| number % parts == part) {
+        counts.full_histories += 1;
+        let found = visit(rival, full::history(number), counts, stop, || {
+            format!("history {number} of full size")
+        });
+        if found.is_some() || stop.load(Ordering::Relaxed) {
+            return found;
+        }
+    }
+    None
+}
+
+/// A history with more steps than these is too long to be made smaller.
+const LONG: usize = 10_000;
+
+/// Where a long history differs.
+fn tell_long<J: Judge>(rival: &Rival<J>, found: &Found) -> String {
+    let Some(Difference { step, plain, other }) =
+        compare(rival, &found.history, &mut Counts::default())
+    else {
+        return format!("{}: a difference that comes and goes", found.name);
+    };
+    let cut = |text: &str| text.chars().take(400).collect::<String>();
+    let line = lines(&found.history[step..=step]).concat();
+    format!(
+        "the judges differ ({}, step {step})\n  {}\n  plain: {}\n  other: {}",
+        found.name,
+        cut(&line),
+        cut(&plain),
+        cut(&other)
+    )
+}
+
 /// The smallest history found, and what each judge says at its end.
 fn tell<J: Judge>(rival: &Rival<J>, found: &Found) -> String {
+    if found.history.len() > LONG {
+        return tell_long(rival, found);
+    }
     let differs = |steps: &[Step]| compare(rival, steps, &mut Counts::default());
     let small = shrink(&found.history, |steps| differs(steps).is_some());
     let Some(Difference { step, plain, other }) = differs(&small) else {

@@ -1,10 +1,10 @@
 //! The comparison itself: a planted fault is found and made small, lines are read as they were written.
 
-use crate::compare::{Rival, compare};
+use crate::compare::{RUST_STOP, Rival, compare};
 use crate::counts::Counts;
 use crate::generate::{ANY, history};
 use crate::history::Step;
-use crate::run::run;
+use crate::run::{full, run};
 use crate::shrink::{lines, shrink};
 use crate::text::{parse, step_line};
 use calls::{Answer, Call, Contents, Judge, Lengths, Question, Subset};
@@ -24,6 +24,8 @@ enum Fault {
     RangesApart,
     /// Sort values may fall.
     Never9,
+    /// Panics where sort values fall, but not as the Rust does.
+    OtherPanic,
     /// Compacts when dead rows are as many as the limit, not above it.
     Limit,
     /// A page that reaches the end of its subset says so one id too late.
@@ -36,7 +38,10 @@ impl Judge for Faulty {
             Call::RemoveKey(_) if self.fault == Fault::KeyRemoval => Answer::Done,
             _ => match self.table.call(lent, call) {
                 // The Rust panics where the plain table stops.
-                Answer::Merged { status: 9, .. } if self.fault != Fault::Never9 => panic!("9"),
+                Answer::Merged { status: 9, .. } if self.fault == Fault::OtherPanic => panic!("9"),
+                Answer::Merged { status: 9, .. } if self.fault != Fault::Never9 => {
+                    panic!("{RUST_STOP} (1 vs. 2)")
+                }
                 answer => {
                     self.compact_early(lent, &answer);
                     answer
@@ -69,10 +74,12 @@ impl Judge for Faulty {
 
 impl Faulty {
     fn compact_early(&mut self, lent: &Lengths, answer: &Answer) {
-        let seen = self.table.contents();
-        let at_limit = seen.dead == u32::max(16, seen.rows / 2);
         let is_merge = matches!(answer, Answer::Merged { status: 0, .. });
-        if self.fault == Fault::Limit && is_merge && at_limit {
+        if self.fault != Fault::Limit || !is_merge {
+            return;
+        }
+        let seen = self.table.contents();
+        if seen.dead == u32::max(16, seen.rows / 2) {
             self.table.call(lent, &Call::Compact);
         }
     }
@@ -87,7 +94,7 @@ fn rival(make: fn() -> Faulty) -> Rival<Faulty> {
         make,
         key_hash,
         follows_paper: false,
-        has: |_| true,
+        lacks: &[],
     }
 }
 
@@ -130,6 +137,14 @@ fn fault_in_order() {
     assert_eq!(lines[3], "M");
 }
 
+/// A panic is a stop only in the Rust's own words.
+#[test]
+fn fault_in_a_panic() {
+    let lines = smallest(|| faulty(Fault::OtherPanic));
+    assert_eq!(lines.len(), 4, "{lines:?}");
+    assert_eq!(lines[3], "M");
+}
+
 #[test]
 fn fault_at_the_limit() {
     let lines = smallest(|| faulty(Fault::Limit));
@@ -161,6 +176,46 @@ fn a_run_tells_the_smallest_history() {
         lines[lines.len() - 1].starts_with("  other: Page"),
         "{told}"
     );
+}
+
+/// A gate that has asked nothing says so of each operation and each refusal that the other judge has.
+#[test]
+fn a_gate_that_never_asked() {
+    let counts = Counts::default();
+    let missed = counts.missed_by_gate(&["page"], true);
+    for line in [
+        "open: never asked, accepted",
+        "merge: never asked, refused 2",
+        "refine by one: never asked, refused 2 again",
+        "intersect: never asked, refused 4",
+        "full size: stop 8",
+    ] {
+        assert!(missed.iter().any(|it| it == line), "{line}");
+    }
+    assert!(!missed.iter().any(|it| it.starts_with("page: never asked")));
+    assert!(!missed.iter().any(|it| it.starts_with("ended:")));
+    let missed = counts.missed_by_gate(&[], false);
+    assert!(missed.iter().any(|it| it == "page: never asked, accepted"));
+    assert!(
+        !missed
+            .iter()
+            .any(|it| it == "merge: never asked, refused 2")
+    );
+    assert!(missed.iter().any(|it| it == "ended: stop 8"));
+}
+
+/// A difference in a long history is told by its step.
+#[test]
+fn a_fault_at_full_size() {
+    let told = full(&rival(|| faulty(Fault::Limit))).expect_err("a difference");
+    let lines: Vec<&str> = told.lines().collect();
+    assert!(
+        lines[0].starts_with("the judges differ (history "),
+        "{told}"
+    );
+    assert!(lines[0].contains(" of full size, step "), "{told}");
+    assert_eq!(lines[1], "  M", "{told}");
+    assert_eq!(lines.len(), 4, "{told}");
 }
 
 #[test]

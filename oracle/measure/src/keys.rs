@@ -3,7 +3,7 @@
 //! A time is for one key.
 
 use crate::time::{compare_each, nanoseconds};
-use mouldgrey::Keyed;
+use probes::Keyed;
 use std::collections::HashMap;
 use std::hash::{BuildHasherDefault, Hasher};
 
@@ -73,7 +73,7 @@ impl Both {
     fn put_store(&mut self, count: u32) {
         self.store.fill(0);
         for row in 0..count {
-            mouldgrey::put(CAPACITY, &mut self.store, &key(row), row);
+            probes::put(CAPACITY, &mut self.store, &key(row), row);
         }
     }
 
@@ -86,9 +86,9 @@ impl Both {
 
     /// Takes a row's slot out and puts the row back.
     fn swap(&mut self, row: u32) {
-        if let Some((_, slot)) = mouldgrey::find(self.table, &self.rows, &self.store, &key(row)) {
-            mouldgrey::take_out(self.table, &self.rows, &mut self.store, slot);
-            mouldgrey::put(CAPACITY, &mut self.store, &key(row), row);
+        if let Some((_, slot)) = probes::find(self.table, &self.rows, &self.store, &key(row)) {
+            probes::take_out(self.table, &self.rows, &mut self.store, slot);
+            probes::put(CAPACITY, &mut self.store, &key(row), row);
         }
     }
 }
@@ -100,7 +100,7 @@ fn order(count: u32) -> Vec<Key> {
 }
 
 fn finds(both: &Both, keys: &[Key]) -> u32 {
-    let found = |key: &Key| mouldgrey::find(both.table, &both.rows, &both.store, key);
+    let found = |key: &Key| probes::find(both.table, &both.rows, &both.store, key);
     keys.iter()
         .map(|key| found(key).map_or(0, |(row, _)| row))
         .fold(0, u32::wrapping_add)

@@ -3,6 +3,7 @@
 
 use crate::time::compare;
 use calls::Subset;
+use proved_table::borrowed;
 use rust_table::RustSubset;
 
 fn every(step: u32, count: u32, from: u32) -> Subset {
@@ -14,7 +15,7 @@ fn pair(name: &str, first: &Subset, second: &Subset) {
     let (one, other) = (RustSubset::new(first), RustSubset::new(second));
     compare(
         name,
-        || mouldgrey::intersect(first, second, &mut output),
+        || mouldgrey::lent::intersect(borrowed(first), borrowed(second), &mut output),
         || one.intersect(&other),
     );
 }

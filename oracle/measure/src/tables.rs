@@ -3,7 +3,7 @@
 
 use crate::time::{compare_each, nanoseconds_anew, tell};
 use calls::{Call, Condition, Judge, Lengths, Opening, Question, Subset};
-use mouldgrey::ProvedTable;
+use proved_table::ProvedTable;
 use rust_table::RustTable;
 
 const CAPACITY: u32 = 65_536;

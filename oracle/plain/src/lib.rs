@@ -1,15 +1,23 @@
-//! The second judge: the paper's plain table and its operations, written from the paper alone. It is slow and simple on
-//! purpose, so that it can be read beside the paper; words in quotes are the paper's.
+//! The second judge: the paper's plain table and its operations, written from the paper alone, with the stores that the paper
+//! gives every cell of. It is simple on purpose, so that it can be read beside the paper; words in quotes are the paper's.
 
+mod layout;
+mod model;
 mod questions;
 mod refusals;
 mod rules;
+mod sound;
 mod subsets;
 mod table;
 #[cfg(test)]
 mod tests;
 
-use calls::{Answer, Call, Contents, Judge, Lengths, Opening, Question};
+use calls::{Answer, Call, Contents, Expected, Header, Judge, Lengths, Opening, Question};
+pub use layout::{key_hash, record};
+use model::Model;
+pub use refusals::{test_call, test_question, test_soundness};
+pub use sound::is_sound;
+use std::collections::BTreeMap;
 
 /// "State: an opening's numbers, a generation, rows live or dead, numbered from 0, staged records in order."
 #[derive(Clone, Debug)]
@@ -21,6 +29,11 @@ pub struct Plain {
     staged: Vec<Staged>,
     /// Sort entries, "pairs of value and first row".
     entries: Vec<(u32, u32)>,
+    /// What could be counted each time: dead rows, the words of staged records, the live row of each key.
+    dead: u32,
+    pending_words: usize,
+    index: BTreeMap<Vec<u32>, u32>,
+    model: Model,
 }
 
 /// "Dead rows keep their cells until compaction drops them."
@@ -32,7 +45,7 @@ struct Row {
 
 /// A staged record.
 #[derive(Clone, Debug)]
-enum Staged {
+pub enum Staged {
     Insert(Vec<u32>),
     RemoveKey(Vec<u32>),
     RemoveRow(u32, Vec<u32>),
@@ -54,15 +67,41 @@ impl Plain {
             rows: Vec::new(),
             staged: Vec::new(),
             entries: Vec::new(),
+            dead: 0,
+            pending_words: 0,
+            index: BTreeMap::new(),
+            model: Model::default(),
+        }
+    }
+
+    /// The header of a table that shows this one.
+    pub fn header(&self) -> Header {
+        Header {
+            columns: self.opening.columns,
+            keys: self.opening.keys,
+            sort: self.opening.sort,
+            rule: self.opening.rule,
+            capacity: self.opening.capacity,
+            rows: self.row_count(),
+            dead: self.dead,
+            entries: self.entries.len() as u32,
+            pending: self.pending_words as u32,
+            generation: self.generation,
+        }
+    }
+
+    /// What such a table's header and stores must hold.
+    pub fn expected(&self) -> Expected<'_> {
+        Expected {
+            header: self.header(),
+            rows: &self.model.rows,
+            sorts: &self.model.sorts,
+            pending: &self.model.pending,
         }
     }
 
     fn row_count(&self) -> u32 {
         self.rows.len() as u32
-    }
-
-    fn dead_count(&self) -> u32 {
-        self.rows.iter().filter(|row| row.dead).count() as u32
     }
 
     fn is_live(&self, id: u32) -> bool {
@@ -80,7 +119,7 @@ impl Plain {
 
     /// "Leads from a key to its one live row."
     fn find(&self, key: &[u32]) -> Option<u32> {
-        (0..self.row_count()).find(|&id| self.is_live(id) && self.key(id) == key)
+        self.index.get(key).copied()
     }
 }
 
@@ -92,50 +131,46 @@ impl Default for Plain {
 
 impl Judge for Plain {
     fn call(&mut self, lent: &Lengths, call: &Call) -> Answer {
-        let answer = match call {
-            Call::Open(opening) => self.open(lent, opening),
-            Call::Insert(cells) => self.stage_insert(lent, cells),
-            Call::RemoveKey(key) => self.stage_remove_key(lent, key),
-            Call::RemoveRow(row, key) => self.stage_remove_row(lent, *row, key),
-            Call::Merge => self.merge(lent),
-            Call::Compact => self.compact(lent),
-            Call::Clear => self.clear(lent),
-        };
-        answer.unwrap_or_else(Answer::Refused)
+        if let Err(number) = test_call(&self.header(), lent, call) {
+            return Answer::Refused(number);
+        }
+        match call {
+            Call::Open(opening) => self.open(opening),
+            Call::Insert(cells) => self.stage(Staged::Insert(cells.clone())),
+            Call::RemoveKey(key) => self.stage(Staged::RemoveKey(key.clone())),
+            Call::RemoveRow(row, key) => self.stage(Staged::RemoveRow(*row, key.clone())),
+            Call::Merge => self.merge(),
+            Call::Compact => self.compact(),
+            Call::Clear => self.clear(),
+        }
     }
 
     fn ask(&self, lent: &Lengths, question: &Question) -> Answer {
-        let answer = match question {
-            Question::Lookup(key) => self.lookup(lent, key),
-            Question::Cell(key, column) => self.one_cell(lent, key, *column),
-            Question::FastRange(condition) => self.fast_range(lent, condition),
+        if let Err(number) = test_question(&self.header(), lent, question) {
+            return Answer::Refused(number);
+        }
+        match question {
+            Question::Lookup(key) => self.lookup(key),
+            Question::Cell(key, column) => self.one_cell(key, *column),
+            Question::FastRange(condition) => self.fast_range(condition),
             Question::Version => self.version(),
             Question::RowsSince(row) => self.rows_since(*row),
             Question::RefineOne {
-                subset,
-                condition,
-                output,
-            } => self.refine_one(lent, subset, condition, *output),
+                subset, condition, ..
+            } => self.refine_one(subset, condition),
             Question::RefineList {
-                subset,
-                conditions,
-                output,
-            } => self.refine_list(lent, subset, conditions, *output),
-            Question::AnyMatch { subset, conditions } => self.any_match(lent, subset, conditions),
+                subset, conditions, ..
+            } => self.refine_list(subset, conditions),
+            Question::AnyMatch { subset, conditions } => self.any_match(subset, conditions),
             Question::Page {
                 subset,
                 start,
                 n,
                 conditions,
-                output,
-            } => self.page(lent, subset, (*start, *n), conditions, *output),
-            Question::Intersect {
-                first,
-                second,
-                output,
-            } => subsets::intersect(first, second, *output),
-        };
-        answer.unwrap_or_else(Answer::Refused)
+                ..
+            } => self.page(subset, (*start, *n), conditions),
+            Question::Intersect { first, second, .. } => subsets::intersect(first, second),
+        }
     }
 
     fn contents(&self) -> Contents {
@@ -143,7 +178,7 @@ impl Judge for Plain {
         Contents {
             generation: self.generation,
             rows: self.row_count(),
-            dead: self.dead_count(),
+            dead: self.dead,
             live: live.map(|id| (id, self.cells(id).to_vec())).collect(),
             sort_entries: self.entries.clone(),
         }

@@ -1,71 +1,36 @@
-//! The calls that change the table: opening, staging, merge, compaction, clear.
+//! The calls that change the table: opening, staging, merge, compaction, clear. Their tests have been made.
 
-use crate::refusals::{refuse, test_entries, test_keys, test_opening, test_rows, test_words};
+use crate::layout::record;
+use crate::refusals::{LAST_GENERATION, refuse};
 use crate::rules::make_row;
 use crate::{Plain, Row, Staged};
-use calls::{Answer, DEAD, Lengths, Opening};
-
-/// The generation after which there is none.
-const LAST_GENERATION: u32 = u32::MAX;
+use calls::{Answer, DEAD, Opening};
 
 impl Plain {
-    /// *Open*: 1, 2. "Empties the table." A refused opening leaves the old one.
-    pub(crate) fn open(&mut self, lent: &Lengths, opening: &Opening) -> Result<Answer, u32> {
-        test_opening(opening)?;
-        test_rows(opening, lent)?;
-        test_keys(opening, lent)?;
-        test_entries(opening, lent)?;
+    /// *Open*: "Empties the table." The cells of its stores stay as they are.
+    pub(crate) fn open(&mut self, opening: &Opening) -> Answer {
         *self = Plain {
             opening: *opening,
             generation: opening.generation,
+            model: std::mem::take(&mut self.model),
             ..Plain::new()
         };
-        Ok(Answer::Done)
+        Answer::Done
     }
 
-    /// *Stage insert*: 1, 3, 7.
-    pub(crate) fn stage_insert(&mut self, lent: &Lengths, cells: &[u32]) -> Result<Answer, u32> {
-        self.test_header_and_pending(lent)?;
-        refuse(3, cells.len() != self.opening.columns as usize)?;
-        self.stage(lent, Staged::Insert(cells.to_vec()))
+    /// "A staging adds its record."
+    pub(crate) fn stage(&mut self, staged: Staged) -> Answer {
+        let words = record(self.opening.keys, &staged);
+        self.model.put_record(self.pending_words, &words);
+        self.pending_words += words.len();
+        self.staged.push(staged);
+        Answer::Done
     }
 
-    /// *Stage removal by key*: 1, 3, 7.
-    pub(crate) fn stage_remove_key(&mut self, lent: &Lengths, key: &[u32]) -> Result<Answer, u32> {
-        self.test_header_and_pending(lent)?;
-        refuse(3, key.len() != self.opening.keys as usize)?;
-        self.stage(lent, Staged::RemoveKey(key.to_vec()))
-    }
-
-    /// *Stage removal by row*: 1, 3, 5, 7.
-    pub(crate) fn stage_remove_row(
-        &mut self,
-        lent: &Lengths,
-        row: u32,
-        key: &[u32],
-    ) -> Result<Answer, u32> {
-        self.test_header_and_pending(lent)?;
-        refuse(3, key.len() != self.opening.keys as usize)?;
-        refuse(5, row >= self.row_count())?;
-        self.stage(lent, Staged::RemoveRow(row, key.to_vec()))
-    }
-
-    /// Test 7, then "a staging adds its record".
-    fn stage(&mut self, lent: &Lengths, record: Staged) -> Result<Answer, u32> {
-        self.test_room(lent, &record)?;
-        self.staged.push(record);
-        Ok(Answer::Done)
-    }
-
-    /// *Merge*: 1, 2. "Takes removals by key, then removals by row, then inserts, each in staging order."
-    pub(crate) fn merge(&mut self, lent: &Lengths) -> Result<Answer, u32> {
-        self.test_header_and_pending(lent)?;
-        test_rows(&self.opening, lent)?;
-        test_keys(&self.opening, lent)?;
-        test_entries(&self.opening, lent)?;
-        test_words(&self.opening, lent)?;
+    /// *Merge*: "Takes removals by key, then removals by row, then inserts, each in staging order."
+    pub(crate) fn merge(&mut self) -> Answer {
         // Stopped or not, "pending is emptied".
-        let staged = std::mem::take(&mut self.staged);
+        let staged = self.take_staged();
         self.take_removals_by_key(&staged);
         self.take_removals_by_row(&staged);
         let answer = self.take_inserts(&staged);
@@ -73,7 +38,12 @@ impl Plain {
         if matches!(answer, Answer::Merged { status: 0, .. }) && self.compacts_by_itself() {
             self.drop_dead_rows();
         }
-        Ok(answer)
+        answer
+    }
+
+    fn take_staged(&mut self) -> Vec<Staged> {
+        self.pending_words = 0;
+        std::mem::take(&mut self.staged)
     }
 
     fn take_removals_by_key(&mut self, staged: &[Staged]) {
@@ -81,7 +51,7 @@ impl Plain {
             if let Staged::RemoveKey(key) = record
                 && let Some(id) = self.find(key)
             {
-                self.rows[id as usize].dead = true;
+                self.kill(id);
             }
         }
     }
@@ -93,7 +63,7 @@ impl Plain {
                 && self.is_live(*row)
                 && self.key(*row) == key
             {
-                self.rows[*row as usize].dead = true;
+                self.kill(*row);
             }
         }
     }
@@ -141,7 +111,7 @@ impl Plain {
             return Ok(false);
         };
         self.append(made)?;
-        self.rows[old as usize].dead = true;
+        self.mark_dead(old);
         Ok(true)
     }
 
@@ -150,9 +120,26 @@ impl Plain {
         let value = cells[self.opening.sort as usize];
         refuse(8, self.row_count() == self.opening.capacity)?;
         refuse(9, self.last_value().is_some_and(|last| value < last))?;
-        self.record_value(value, self.row_count());
+        let id = self.row_count();
+        self.record_value(value, id);
+        self.model.put_row(id, &cells);
+        let key = cells[..self.opening.keys as usize].to_vec();
+        self.index.insert(key, id);
         self.rows.push(Row { cells, dead: false });
         Ok(())
+    }
+
+    /// A live row dies, and its key leads nowhere.
+    fn kill(&mut self, id: u32) {
+        let key = self.key(id).to_vec();
+        self.index.remove(&key);
+        self.mark_dead(id);
+    }
+
+    fn mark_dead(&mut self, id: u32) {
+        self.rows[id as usize].dead = true;
+        self.dead += 1;
+        self.model.kill_row(id, self.opening.columns);
     }
 
     /// "The last entry's value is the last row's sort cell."
@@ -166,6 +153,7 @@ impl Plain {
     /// Sort entries are "pairs of value and first row, both strictly rising".
     fn record_value(&mut self, value: u32, row: u32) {
         if self.entries.last().is_none_or(|last| last.0 < value) {
+            self.model.put_entry(self.entries.len(), (value, row));
             self.entries.push((value, row));
         }
     }
@@ -173,45 +161,41 @@ impl Plain {
     /// "If dead rows outnumber the larger of 16 and half the row count (rounded down), the table compacts"; "a merge at
     /// that generation does not compact".
     fn compacts_by_itself(&self) -> bool {
-        let many = self.dead_count() > u32::max(16, self.row_count() / 2);
+        let many = self.dead > u32::max(16, self.row_count() / 2);
         many && self.generation != LAST_GENERATION
     }
 
-    /// *Compact*: 1, 2, 10. "Compacts, with dead rows or without, and the generation rises by one."
-    pub(crate) fn compact(&mut self, lent: &Lengths) -> Result<Answer, u32> {
-        self.test_header()?;
-        test_rows(&self.opening, lent)?;
-        test_keys(&self.opening, lent)?;
-        test_entries(&self.opening, lent)?;
-        test_words(&self.opening, lent)?;
-        refuse(10, self.generation == LAST_GENERATION)?;
+    /// *Compact*: "Compacts, with dead rows or without, and the generation rises by one."
+    pub(crate) fn compact(&mut self) -> Answer {
         self.drop_dead_rows();
-        Ok(Answer::Done)
+        Answer::Done
     }
 
     /// "Compaction drops them and the others close up in order"; "sort entries are rebuilt from live rows".
     fn drop_dead_rows(&mut self) {
         self.rows.retain(|row| !row.dead);
+        self.dead = 0;
         self.entries.clear();
-        for row in 0..self.row_count() {
-            self.record_value(self.cells(row)[self.opening.sort as usize], row);
+        self.index.clear();
+        for id in 0..self.row_count() {
+            let cells = self.cells(id).to_vec();
+            self.model.put_row(id, &cells);
+            self.record_value(cells[self.opening.sort as usize], id);
+            self.index.insert(self.key(id).to_vec(), id);
         }
         self.generation += 1;
     }
 
-    /// *Clear*: 1, 2, then "10, as above, only if there are rows. Unless refused, empties pending; with rows, the rest
-    /// too, and the generation rises by one."
-    pub(crate) fn clear(&mut self, lent: &Lengths) -> Result<Answer, u32> {
-        self.test_header()?;
-        test_keys(&self.opening, lent)?;
-        let has_rows = self.row_count() > 0;
-        refuse(10, has_rows && self.generation == LAST_GENERATION)?;
-        self.staged.clear();
-        if has_rows {
+    /// *Clear*: "Unless refused, empties pending; with rows, the rest too, and the generation rises by one."
+    pub(crate) fn clear(&mut self) -> Answer {
+        self.take_staged();
+        if self.row_count() > 0 {
             self.rows.clear();
+            self.dead = 0;
+            self.index.clear();
             self.entries.clear();
             self.generation += 1;
         }
-        Ok(Answer::Done)
+        Answer::Done
     }
 }

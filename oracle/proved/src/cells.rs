@@ -1,7 +1,7 @@
 //! Dead mark, compact hash, probe and key hash.
 
-use crate::chance::Chance;
-use mouldgrey::{compact_hash, from_full, is_stale, key_hash, probe};
+use chance::Rng;
+use probes::{compact_hash, from_full, is_stale, key_hash, probe};
 
 /// Numbers around every power of two, and their complements.
 fn edges() -> Vec<u64> {
@@ -13,7 +13,7 @@ fn edges() -> Vec<u64> {
 
 /// The edges, and as many numbers by chance.
 fn numbers(count: usize) -> Vec<u64> {
-    let mut chance = Chance::new(1);
+    let mut chance = Rng::new(1);
     let mut all = edges();
     all.extend(std::iter::repeat_with(|| chance.next()).take(count));
     all
@@ -40,14 +40,9 @@ pub fn compact_hashes() -> Result<String, String> {
     ))
 }
 
-/// The key hash as specs/Cells.antt defines it, in 128 bits.
+/// The judge's own hash, in both halves of 64 bits.
 fn defined(key: &[u32]) -> u64 {
-    let mixed = key.iter().fold(0u128, |hash, &cell| {
-        let sum = (hash + u128::from(cell) + 2_654_435_761) % (1 << 32);
-        let product = sum * (sum % (1 << 16) * (1 << 16) + sum / (1 << 16));
-        (product / (1 << 31) + product % (1 << 32)) % (1 << 32)
-    });
-    (mixed * ((1 << 32) + 1)) as u64
+    u64::from(plain::key_hash(key)) * ((1 << 32) + 1)
 }
 
 pub fn key_hashes() -> Result<String, String> {

@@ -1,8 +1,8 @@
 //! The key index: long sequences of put, replace, take out, find and renumber beside a map, up to the full capacity, with
 //! keys that meet often.
 
-use crate::chance::Chance;
-use mouldgrey::Keyed;
+use chance::Rng;
+use probes::Keyed;
 use std::collections::HashMap;
 
 const GUARD: u32 = 0xdead_beef;
@@ -60,10 +60,10 @@ impl Table {
         let row = self.append(key);
         match found {
             Some((old, slot)) => {
-                mouldgrey::replace(&mut self.store, slot, key, row);
+                probes::replace(&mut self.store, slot, key, row);
                 self.kill(old);
             }
-            None if mouldgrey::put(self.numbers.capacity, &mut self.store, key, row) => {}
+            None if probes::put(self.numbers.capacity, &mut self.store, key, row) => {}
             None => return Err(format!("no free slot for {key:?}")),
         }
         self.map.insert(key.to_vec(), row);
@@ -72,7 +72,7 @@ impl Table {
 
     fn remove(&mut self, key: &[u32]) -> Result<(), String> {
         if let Some((row, slot)) = self.check(key)? {
-            mouldgrey::take_out(self.numbers, &self.rows, &mut self.store, slot);
+            probes::take_out(self.numbers, &self.rows, &mut self.store, slot);
             self.kill(row);
             self.map.remove(key);
         }
@@ -81,7 +81,7 @@ impl Table {
 
     /// Looks a key up, which must give what the map has.
     fn check(&self, key: &[u32]) -> Result<Option<(u32, u32)>, String> {
-        let found = mouldgrey::find(self.numbers, &self.rows, &self.store, key);
+        let found = probes::find(self.numbers, &self.rows, &self.store, key);
         let expected = self.map.get(key).copied();
         if found.map(|(row, _)| row) != expected {
             return Err(format!(
@@ -129,7 +129,7 @@ impl Table {
                 .copy_within(row * width..(row + 1) * width, next * width);
             next += 1;
         }
-        mouldgrey::renumber(
+        probes::renumber(
             self.numbers.capacity,
             self.numbers.rows,
             &mut self.store,
@@ -145,27 +145,27 @@ impl Table {
 }
 
 /// Keys of this width, some of which share a home slot with many others.
-fn keys(chance: &mut Chance, capacity: u32, width: usize) -> Vec<Vec<u32>> {
+fn keys(chance: &mut Rng, capacity: u32, width: usize) -> Vec<Vec<u32>> {
     let wanted = 3 * capacity as usize / 2 + 2;
     let crowded = chance.below(3) == 0 && capacity <= 1_024;
     let mut keys = Vec::new();
     while keys.len() < wanted {
-        let mut key: Vec<u32> = (0..width).map(|_| chance.below(1 << 20) as u32).collect();
+        let mut key: Vec<u32> = (0..width).map(|_| chance.below(1 << 20)).collect();
         key[0] %= u32::MAX;
-        if !crowded || mouldgrey::compact_hash(&key) >> 30 == 3 {
+        if !crowded || probes::compact_hash(&key) >> 30 == 3 {
             keys.push(key);
         }
     }
     keys
 }
 
-fn sequence(chance: &mut Chance, capacity: u32, steps: u64) -> Result<u64, String> {
-    let columns = 1 + chance.below(8) as u32;
-    let width = 1 + chance.below(u64::from(columns)) as u32;
+fn sequence(chance: &mut Rng, capacity: u32, steps: u64) -> Result<u64, String> {
+    let columns = 1 + chance.below(8);
+    let width = 1 + chance.below(columns);
     let keys = keys(chance, capacity, width as usize);
     let mut table = Table::new(capacity, columns, width);
     for step in 0..steps {
-        let key = &keys[chance.below(keys.len() as u64) as usize];
+        let key = &keys[chance.place(keys.len())];
         match chance.below(8) {
             0..=3 => table.insert(key)?,
             4..=6 => table.remove(key)?,
@@ -185,7 +185,7 @@ fn sequence(chance: &mut Chance, capacity: u32, steps: u64) -> Result<u64, Strin
 }
 
 pub fn index() -> Result<String, String> {
-    let mut chance = Chance::new(8);
+    let mut chance = Rng::new(8);
     let mut steps = 0;
     for capacity in [1, 2, 3, 63, 64, 65, 1_024] {
         for _ in 0..30 {

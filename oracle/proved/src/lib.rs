@@ -1,7 +1,6 @@
 //! The proved library beside the Rust, function by function. Each part answers what it compared, or the first difference.
 
 mod cells;
-mod chance;
 mod keys;
 mod offsets;
 mod ranges;

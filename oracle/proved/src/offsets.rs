@@ -1,13 +1,11 @@
 //! `intersect` in all four shapes: the Rust's answer where both subsets are well-formed, the plain judge's refusal where
 //! one is not or the output is short. Guard words behind the ids written must stand.
 
-use crate::chance::Chance;
 use calls::{Answer, Judge, Lengths, Question, Subset};
-use mouldgrey::SubsetAnswer;
+use chance::Rng;
 use plain::Plain;
+use proved_table::ProvedTable;
 use rust_table::RustTable;
-
-const GUARD: u32 = 0xdead_beef;
 
 /// No table is asked, so nothing is lent.
 const NOTHING: Lengths = Lengths {
@@ -25,32 +23,32 @@ const LENGTHS: [usize; 16] = [
 ];
 
 /// A rising list of this length, with gaps up to `gap`.
-fn rising(chance: &mut Chance, length: usize, gap: u32) -> Vec<u32> {
-    let mut next = chance.below(5) as u32;
+fn rising(chance: &mut Rng, length: usize, gap: u32) -> Vec<u32> {
+    let mut next = chance.below(5);
     let mut ids = Vec::with_capacity(length);
     for _ in 0..length {
         ids.push(next);
-        next += 1 + chance.below(u64::from(gap)) as u32;
+        next += 1 + chance.below(gap);
     }
     ids
 }
 
 /// A list that is not strictly rising: two neighbours equal or exchanged.
-fn spoiled(chance: &mut Chance, mut ids: Vec<u32>) -> Vec<u32> {
+fn spoiled(chance: &mut Rng, mut ids: Vec<u32>) -> Vec<u32> {
     if ids.len() >= 2 {
-        let at = chance.below(ids.len() as u64 - 1) as usize;
-        ids[at + 1] = ids[at] - chance.below(2).min(u64::from(ids[at])) as u32;
+        let at = chance.place(ids.len() - 1);
+        ids[at + 1] = ids[at] - chance.below(2).min(ids[at]);
     }
     ids
 }
 
-fn subset(chance: &mut Chance, length: usize) -> Subset {
+fn subset(chance: &mut Rng, length: usize) -> Subset {
     let gap = [1, 2, 7, 60][chance.below(4) as usize];
     let last = length as u32 * gap;
     match chance.below(10) {
         0..=3 => {
-            let start = chance.below(u64::from(last) + 3) as u32;
-            let end = start + chance.below(u64::from(last) + 3) as u32;
+            let start = chance.below(last + 3);
+            let end = start + chance.below(last + 3);
             Subset::Range(start, end)
         }
         4 if chance.below(3) == 0 => Subset::Range(chance.number(), chance.number()),
@@ -77,34 +75,18 @@ fn rust_defines(first: &Subset, second: &Subset) -> bool {
     !matches!((first, second), (Subset::Range(..), Subset::List(ids)) if ids.last() == Some(&u32::MAX))
 }
 
-/// Compares one pair with an output of this length; says what was seen.
+/// Compares one pair with an output of this length; says whether it was refused.
 fn check(first: &Subset, second: &Subset, length: usize, rust: &RustTable) -> Result<bool, String> {
-    let mut output = vec![GUARD; length + 3];
-    let answer = mouldgrey::intersect(first, second, &mut output[..length]);
-    let written = match answer {
-        SubsetAnswer::List(count) => count as usize,
-        SubsetAnswer::Refused(_) | SubsetAnswer::Range(..) => 0,
-    };
     let question = Question::Intersect {
         first: first.clone(),
         second: second.clone(),
         output: length,
     };
+    let got = ProvedTable::default().ask(&NOTHING, &question);
     let expected = Plain::default().ask(&NOTHING, &question);
     let refused = matches!(expected, Answer::Refused(_));
-    let got = match answer {
-        SubsetAnswer::Refused(number) => Answer::Refused(number),
-        SubsetAnswer::Range(start, end) => Answer::Subset(Subset::Range(start, end)),
-        SubsetAnswer::List(_) => {
-            Answer::Subset(Subset::List(output[..written.min(length)].to_vec()))
-        }
-    };
-    let same = got == expected
-        && output[written.min(length)..]
-            .iter()
-            .all(|&word| word == GUARD);
     let like_rust = refused || !rust_defines(first, second) || rust.ask(&NOTHING, &question) == got;
-    if same && like_rust {
+    if got == expected && like_rust {
         return Ok(refused);
     }
     Err(format!(
@@ -113,7 +95,7 @@ fn check(first: &Subset, second: &Subset, length: usize, rust: &RustTable) -> Re
 }
 
 pub fn intersect() -> Result<String, String> {
-    let mut chance = Chance::new(4);
+    let mut chance = Rng::new(4);
     let rust = RustTable::default();
     let (mut compared, mut refusals) = (0u64, 0u64);
     for round in 0..12 {

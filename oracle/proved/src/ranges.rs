@@ -1,7 +1,7 @@
 //! Fast ranges on the sort entries of the Rust's own tables, against its `fast_subset`.
 
-use crate::chance::Chance;
 use calls::{Answer, Call, Condition, Judge, Lengths, Opening, Question, Subset};
+use chance::Rng;
 use rust_table::RustTable;
 
 const AMPLE: Lengths = Lengths {
@@ -14,7 +14,7 @@ const AMPLE: Lengths = Lengths {
 };
 
 /// A table with entries by chance, dead rows among its rows.
-fn table(chance: &mut Chance) -> RustTable {
+fn table(chance: &mut Rng) -> RustTable {
     let mut table = RustTable::default();
     let opening = Opening {
         columns: 2,
@@ -25,16 +25,13 @@ fn table(chance: &mut Chance) -> RustTable {
         generation: 0,
     };
     table.call(&AMPLE, &Call::Open(opening));
-    let mut stamp = chance.below(3) as u32;
-    for key in 0..chance.below(60) as u32 {
+    let mut stamp = chance.below(3);
+    for key in 0..chance.below(60) {
         stamp += [0, 0, 1, 2, 1_000][chance.below(5) as usize];
         table.call(&AMPLE, &Call::Insert(vec![key, stamp]));
         if chance.below(4) == 0 {
             table.call(&AMPLE, &Call::Merge);
-            table.call(
-                &AMPLE,
-                &Call::RemoveKey(vec![chance.below(u64::from(key) + 1) as u32]),
-            );
+            table.call(&AMPLE, &Call::RemoveKey(vec![chance.below(key + 1)]));
         }
     }
     table.call(&AMPLE, &Call::Merge);
@@ -42,7 +39,7 @@ fn table(chance: &mut Chance) -> RustTable {
 }
 
 pub fn fast_ranges() -> Result<String, String> {
-    let mut chance = Chance::new(9);
+    let mut chance = Rng::new(9);
     let mut ranges = 0u64;
     for _ in 0..4_000 {
         let table = table(&mut chance);
@@ -53,11 +50,11 @@ pub fn fast_ranges() -> Result<String, String> {
             .flat_map(|&(value, row)| [value, row])
             .collect();
         for _ in 0..60 {
-            let near = chance.below(sorts.len() as u64 + 1) as usize;
+            let near = chance.place(sorts.len() + 1);
             let value = sorts.get(near & !1).map_or(chance.number(), |value| {
-                value.wrapping_add(chance.below(3) as u32).wrapping_sub(1)
+                value.wrapping_add(chance.below(3)).wrapping_sub(1)
             });
-            let kind = 1 + chance.below(5) as u32;
+            let kind = 1 + chance.below(5);
             let expected = table.ask(
                 &AMPLE,
                 &Question::FastRange(Condition {
@@ -66,7 +63,7 @@ pub fn fast_ranges() -> Result<String, String> {
                     b: value,
                 }),
             );
-            let (start, end) = mouldgrey::fast_range(
+            let (start, end) = probes::fast_range(
                 &sorts,
                 contents.sort_entries.len() as u32,
                 contents.rows,

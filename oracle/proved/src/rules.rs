@@ -1,33 +1,33 @@
 //! Conditions and merge rules on single rows, against the Rust's evaluation and the closures of the driver.
 
-use crate::chance::Chance;
 use calls::Condition;
+use chance::Rng;
 
-fn row(chance: &mut Chance, width: usize) -> Vec<u32> {
+fn row(chance: &mut Rng, width: usize) -> Vec<u32> {
     (0..width).map(|_| chance.number()).collect()
 }
 
 /// Known conditions on live rows are the Rust's; a dead row meets none; unknown ones are told apart.
 pub fn conditions() -> Result<String, String> {
-    let mut chance = Chance::new(5);
+    let mut chance = Rng::new(5);
     let (mut asked, mut unknown) = (0u64, 0u64);
     for _ in 0..400_000 {
         let width = 1 + chance.below(8) as usize;
         let cells = row(&mut chance, width);
         let condition = Condition {
-            kind: chance.below(8) as u32,
-            a: chance.below(10) as u32,
+            kind: chance.below(8),
+            a: chance.below(10),
             b: if chance.below(2) == 0 {
-                chance.below(10) as u32
+                chance.below(10)
             } else {
-                cells[chance.below(width as u64) as usize]
+                cells[chance.place(width)]
             },
         };
         let columns = width as u32;
         let known = condition.kind <= 5
             && condition.a < columns
             && (condition.kind > 0 || condition.b < columns);
-        if mouldgrey::known(&condition, columns) != known {
+        if probes::known(&condition, columns) != known {
             return Err(format!(
                 "known {condition:?} of {columns} columns is {}",
                 !known
@@ -39,7 +39,7 @@ pub fn conditions() -> Result<String, String> {
             continue;
         }
         let expected = cells[0] != u32::MAX && rust_table::eval_condition(&condition, &cells);
-        if mouldgrey::meets(&condition, &cells) != expected {
+        if probes::meets(&condition, &cells) != expected {
             return Err(format!("{cells:?} meets {condition:?} is {}", !expected));
         }
     }
@@ -49,13 +49,13 @@ pub fn conditions() -> Result<String, String> {
 }
 
 /// Old and new row of one key, their other cells equal or near each other often enough.
-fn pair(chance: &mut Chance, width: usize, keys: usize) -> (Vec<u32>, Vec<u32>) {
+fn pair(chance: &mut Rng, width: usize, keys: usize) -> (Vec<u32>, Vec<u32>) {
     let old = row(chance, width);
     let mut new = old.clone();
     for cell in &mut new[keys..] {
         match chance.below(3) {
             0 => {}
-            1 => *cell = cell.wrapping_add(chance.below(3) as u32).wrapping_sub(1),
+            1 => *cell = cell.wrapping_add(chance.below(3)).wrapping_sub(1),
             _ => *cell = chance.number(),
         }
     }
@@ -63,23 +63,23 @@ fn pair(chance: &mut Chance, width: usize, keys: usize) -> (Vec<u32>, Vec<u32>) 
 }
 
 pub fn merge_rules() -> Result<String, String> {
-    let mut chance = Chance::new(6);
+    let mut chance = Rng::new(6);
     let (mut made, mut kept) = (0u64, 0u64);
     for _ in 0..400_000 {
         let width = 1 + chance.below(8) as usize;
-        let keys = 1 + chance.below(width as u64) as usize;
-        let sort = chance.below(width as u64) as u32;
-        let rule = chance.below(4) as u32;
+        let keys = 1 + chance.place(width);
+        let sort = chance.below(width as u32);
+        let rule = chance.below(4);
         let (old, new) = pair(&mut chance, width, keys);
         let expected = rust_table::merge_rule(rule, keys as u32, sort, &old, &new);
-        let got = mouldgrey::merge_rule(rule, keys as u32, sort, &old, &new);
+        let got = probes::merge_rule(rule, keys as u32, sort, &old, &new);
         if got != expected {
             return Err(format!(
                 "rule {rule}, {keys} keys, sort column {sort}, {old:?} and {new:?}: {got:?}, not {expected:?}"
             ));
         }
         let survivor = expected.as_ref().unwrap_or(&old);
-        if rule <= 1 && mouldgrey::surviving_row(rule, keys as u32, sort, &old, &new) != *survivor {
+        if rule <= 1 && probes::surviving_row(rule, keys as u32, sort, &old, &new) != *survivor {
             return Err(format!(
                 "rule {rule}: another row than {survivor:?} survives"
             ));
@@ -95,14 +95,14 @@ pub fn merge_rules() -> Result<String, String> {
 
 /// The new number of a live row: the live rows before it, by the word of its 64.
 pub fn ranks() -> Result<String, String> {
-    let mut chance = Chance::new(7);
+    let mut chance = Rng::new(7);
     let mut ranked = 0u64;
     for _ in 0..3_000 {
-        let base = chance.below(65_000) as u32;
+        let base = chance.below(65_000);
         let word = chance.next() & chance.next() | (1 << chance.below(64));
         let mut before = base;
         for bit in 0..64 {
-            if mouldgrey::rank(word, base, bit) != before {
+            if probes::rank(word, base, bit) != before {
                 return Err(format!("rank({word:#x}, {base}, {bit}) is not {before}"));
             }
             before += (word >> bit & 1) as u32;

@@ -1,7 +1,9 @@
-//! The paper's examples, its wrong turns and each refusal, asked of the plain table.
+//! The paper's examples, its wrong turns and each refusal, asked of the plain table; what its stores hold, and what is sound.
 
 mod examples;
 mod refusals;
+mod sound;
+mod stores;
 mod turns;
 
 use crate::Plain;

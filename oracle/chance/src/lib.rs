@@ -38,4 +38,14 @@ impl Rng {
     pub fn pick<T: Copy>(&mut self, from: &[T]) -> T {
         from[self.place(from.len())]
     }
+
+    /// A number that is small, at an edge, or any.
+    pub fn number(&mut self) -> u32 {
+        match self.below(4) {
+            0 => self.below(4),
+            1 => u32::MAX - self.below(3),
+            2 => (1u32 << self.below(32)).wrapping_sub(self.below(2)),
+            _ => self.next() as u32,
+        }
+    }
 }

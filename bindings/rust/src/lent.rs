@@ -1,0 +1,434 @@
+//! The library over stores that the caller keeps, each lent as a slice: as much of a store as is to be seen. [`Table`] keeps
+//! stores of its own and lends them whole.
+//!
+//! No call needs a test beforehand. On any header and any stores a call ends and writes nothing outside what is lent; what the
+//! answers mean is promised of sound stores ([`is_sound`]).
+//!
+//! [`Table`]: crate::Table
+
+use crate::header::HEADER_WORDS;
+use crate::{Constraint, Header, Merge, Opening, Refusal, Stop, SubsetRef, Version, Written, raw};
+
+/// The words of a header to write to.
+fn words_of(header: &mut Header) -> *mut u32 {
+    // A header is ten words in a row and nothing else.
+    (header as *mut Header).cast()
+}
+
+/// The words of a header to read.
+fn words_in(header: &Header) -> *const u32 {
+    (header as *const Header).cast()
+}
+
+/// Accepted, or refused by this number.
+fn verdict(number: u32) -> Result<(), Refusal> {
+    if number == 0 {
+        return Ok(());
+    }
+    Err(Refusal::from_number(number).expect("a refusal's number is the paper's"))
+}
+
+/// The second and third of three words, if the first says that there are any.
+fn range(words: [u32; 3]) -> Option<(u32, u32)> {
+    (words[0] == 1).then_some((words[1], words[2]))
+}
+
+/// The second of two words, if the first says that there is one.
+fn value(words: [u32; 2]) -> Option<u32> {
+    (words[0] == 1).then_some(words[1])
+}
+
+/// A subset as it is passed: kind, two ends, ids.
+fn parts(subset: SubsetRef<'_>) -> (bool, u32, u32, &[u32]) {
+    match subset {
+        SubsetRef::Range(start, end) => (true, start, end, &[]),
+        SubsetRef::List(ids) => (false, 0, 0, ids),
+    }
+}
+
+/// The subset that three words tell; the first of them is 0 where it was refused.
+fn written(words: [u32; 3]) -> Result<Written, Refusal> {
+    match words {
+        [1, start, end] => Ok(Written::Range(start, end)),
+        [2, count, 0] => Ok(Written::List(count as usize)),
+        [_, number, _] => {
+            Err(Refusal::from_number(number).expect("a refusal's number is the paper's"))
+        }
+    }
+}
+
+/// Makes an empty table of the stores. Refused by 1 and 2.
+#[inline]
+pub fn open_table(
+    opening: &Opening,
+    header: &mut Header,
+    rows: &[u32],
+    keys: &mut [u32],
+    sorts: &[u32],
+    pending: &[u32],
+) -> Result<(), Refusal> {
+    // SAFETY, here and below: each pointer goes with the length of what it points to, and a slice that is lent to be written
+    // is lent to nobody else.
+    verdict(unsafe {
+        raw::mouldgrey_open_table(
+            opening.columns,
+            opening.keys,
+            opening.sort,
+            opening.rule,
+            opening.capacity,
+            opening.generation,
+            words_of(header),
+            HEADER_WORDS,
+            rows.as_ptr(),
+            rows.len(),
+            keys.as_mut_ptr(),
+            keys.len(),
+            sorts.as_ptr(),
+            sorts.len(),
+            pending.as_ptr(),
+            pending.len(),
+        )
+    })
+}
+
+/// Stages a row for insertion. Refused by 1, 3 and 7.
+#[inline]
+pub fn stage_insert(
+    header: &mut Header,
+    pending: &mut [u32],
+    cells: &[u32],
+) -> Result<(), Refusal> {
+    verdict(unsafe {
+        raw::mouldgrey_stage_insert(
+            words_of(header),
+            HEADER_WORDS,
+            pending.as_mut_ptr(),
+            pending.len(),
+            cells.as_ptr(),
+            cells.len(),
+        )
+    })
+}
+
+/// Stages the removal of a key's row. Refused by 1, 3 and 7.
+#[inline]
+pub fn stage_remove(header: &mut Header, pending: &mut [u32], key: &[u32]) -> Result<(), Refusal> {
+    verdict(unsafe {
+        raw::mouldgrey_stage_remove(
+            words_of(header),
+            HEADER_WORDS,
+            pending.as_mut_ptr(),
+            pending.len(),
+            key.as_ptr(),
+            key.len(),
+        )
+    })
+}
+
+/// Stages the removal of a row that still has this key. Refused by 1, 3, 5 and 7.
+#[inline]
+pub fn stage_remove_row(
+    header: &mut Header,
+    pending: &mut [u32],
+    row: u32,
+    key: &[u32],
+) -> Result<(), Refusal> {
+    verdict(unsafe {
+        raw::mouldgrey_stage_remove_row(
+            words_of(header),
+            HEADER_WORDS,
+            pending.as_mut_ptr(),
+            pending.len(),
+            row,
+            key.as_ptr(),
+            key.len(),
+        )
+    })
+}
+
+/// Takes what is staged into the table. Refused by 1 and 2.
+#[inline]
+pub fn merge(
+    header: &mut Header,
+    rows: &mut [u32],
+    keys: &mut [u32],
+    sorts: &mut [u32],
+    pending: &[u32],
+    live: &mut [u64],
+    base: &mut [u32],
+) -> Result<Merge, Refusal> {
+    let mut words = [0; 3];
+    verdict(unsafe {
+        raw::mouldgrey_merge(
+            words_of(header),
+            HEADER_WORDS,
+            rows.as_mut_ptr(),
+            rows.len(),
+            keys.as_mut_ptr(),
+            keys.len(),
+            sorts.as_mut_ptr(),
+            sorts.len(),
+            pending.as_ptr(),
+            pending.len(),
+            live.as_mut_ptr(),
+            live.len(),
+            base.as_mut_ptr(),
+            base.len(),
+            words.as_mut_ptr(),
+            words.len(),
+        )
+    })?;
+    let [status, place, added] = words;
+    Ok(Merge {
+        stop: Stop::from_number(status).map(|stop| (stop, place)),
+        added: added == 1,
+    })
+}
+
+/// Drops the dead rows; the others close up. Refused by 1, 2 and 10.
+#[inline]
+pub fn compact(
+    header: &mut Header,
+    rows: &mut [u32],
+    keys: &mut [u32],
+    sorts: &mut [u32],
+    live: &mut [u64],
+    base: &mut [u32],
+) -> Result<(), Refusal> {
+    verdict(unsafe {
+        raw::mouldgrey_compact(
+            words_of(header),
+            HEADER_WORDS,
+            rows.as_mut_ptr(),
+            rows.len(),
+            keys.as_mut_ptr(),
+            keys.len(),
+            sorts.as_mut_ptr(),
+            sorts.len(),
+            live.as_mut_ptr(),
+            live.len(),
+            base.as_mut_ptr(),
+            base.len(),
+        )
+    })
+}
+
+/// Drops what is staged, and all rows. Refused by 1, 2 and, if there are rows, 10.
+#[inline]
+pub fn clear(header: &mut Header, keys: &mut [u32]) -> Result<(), Refusal> {
+    verdict(unsafe {
+        raw::mouldgrey_clear(
+            words_of(header),
+            HEADER_WORDS,
+            keys.as_mut_ptr(),
+            keys.len(),
+        )
+    })
+}
+
+/// Whether header and stores are a sound table. Refused by 1 and 2.
+#[inline]
+pub fn is_sound(
+    header: &Header,
+    rows: &[u32],
+    keys: &[u32],
+    sorts: &[u32],
+    pending: &[u32],
+) -> Result<bool, Refusal> {
+    let mut words = [0; 1];
+    verdict(unsafe {
+        raw::mouldgrey_is_sound(
+            words_in(header),
+            HEADER_WORDS,
+            rows.as_ptr(),
+            rows.len(),
+            keys.as_ptr(),
+            keys.len(),
+            sorts.as_ptr(),
+            sorts.len(),
+            pending.as_ptr(),
+            pending.len(),
+            words.as_mut_ptr(),
+            words.len(),
+        )
+    })?;
+    Ok(words[0] == 1)
+}
+
+/// The number of a key's live row. Refused by 1, 2 and 3.
+#[inline]
+pub fn get_row(
+    header: &Header,
+    rows: &[u32],
+    keys: &[u32],
+    key: &[u32],
+) -> Result<Option<u32>, Refusal> {
+    let mut words = [0; 2];
+    verdict(unsafe {
+        raw::mouldgrey_get_row(
+            words_in(header),
+            HEADER_WORDS,
+            rows.as_ptr(),
+            rows.len(),
+            keys.as_ptr(),
+            keys.len(),
+            key.as_ptr(),
+            key.len(),
+            words.as_mut_ptr(),
+            words.len(),
+        )
+    })?;
+    Ok(value(words))
+}
+
+/// One cell of a key's live row. Refused by 1, 2, 3 and 6.
+#[inline]
+pub fn get_row_column(
+    header: &Header,
+    rows: &[u32],
+    keys: &[u32],
+    key: &[u32],
+    column: u32,
+) -> Result<Option<u32>, Refusal> {
+    let mut words = [0; 2];
+    verdict(unsafe {
+        raw::mouldgrey_get_row_column(
+            words_in(header),
+            HEADER_WORDS,
+            rows.as_ptr(),
+            rows.len(),
+            keys.as_ptr(),
+            keys.len(),
+            key.as_ptr(),
+            key.len(),
+            column,
+            words.as_mut_ptr(),
+            words.len(),
+        )
+    })?;
+    Ok(value(words))
+}
+
+/// The range, start and end, in which all rows lie that meet a condition on the sort column; none for kind 0 and for any other
+/// column. It may hold dead rows. Refused by 1, 2 and 6.
+#[inline]
+pub fn fast_subset(
+    header: &Header,
+    sorts: &[u32],
+    constraint: Constraint,
+) -> Result<Option<(u32, u32)>, Refusal> {
+    let mut words = [0; 3];
+    verdict(unsafe {
+        raw::mouldgrey_fast_subset(
+            words_in(header),
+            HEADER_WORDS,
+            sorts.as_ptr(),
+            sorts.len(),
+            constraint.kind,
+            constraint.column,
+            constraint.value,
+            words.as_mut_ptr(),
+            words.len(),
+        )
+    })?;
+    Ok(range(words))
+}
+
+/// Generation and row count. Refused by 1.
+#[inline]
+pub fn version(header: &Header) -> Result<Version, Refusal> {
+    let mut words = [0; 2];
+    verdict(unsafe {
+        raw::mouldgrey_version(
+            words_in(header),
+            HEADER_WORDS,
+            words.as_mut_ptr(),
+            words.len(),
+        )
+    })?;
+    let [generation, rows] = words;
+    Ok(Version { generation, rows })
+}
+
+/// The rows from this one on, start and end. Refused by 1 and 5.
+#[inline]
+pub fn updates_since(header: &Header, row: u32) -> Result<(u32, u32), Refusal> {
+    let mut words = [0; 3];
+    verdict(unsafe {
+        raw::mouldgrey_updates_since(
+            words_in(header),
+            HEADER_WORDS,
+            row,
+            words.as_mut_ptr(),
+            words.len(),
+        )
+    })?;
+    Ok((words[1], words[2]))
+}
+
+/// The live rows of a subset that meet a condition. Refused by 1, 2, 4, 5, 6 and, if the output is shorter than the subset, 2.
+#[inline]
+pub fn refine_one(
+    header: &Header,
+    rows: &[u32],
+    subset: SubsetRef<'_>,
+    constraint: Constraint,
+    output: &mut [u32],
+) -> Result<Written, Refusal> {
+    let (dense, start, end, ids) = parts(subset);
+    let mut words = [0; 3];
+    verdict(unsafe {
+        raw::mouldgrey_refine_one(
+            words_in(header),
+            HEADER_WORDS,
+            rows.as_ptr(),
+            rows.len(),
+            dense,
+            start,
+            end,
+            ids.as_ptr(),
+            ids.len(),
+            constraint.kind,
+            constraint.column,
+            constraint.value,
+            output.as_mut_ptr(),
+            output.len(),
+            words.as_mut_ptr(),
+            words.len(),
+        )
+    })?;
+    written(words)
+}
+
+/// The ids that two subsets have in common. Refused by 4 and, if the output is shorter than the first list, or than the second
+/// where the first is a range, 2.
+#[inline]
+pub fn intersect(
+    first: SubsetRef<'_>,
+    second: SubsetRef<'_>,
+    output: &mut [u32],
+) -> Result<Written, Refusal> {
+    let (dense, start, end, ids) = parts(first);
+    let (other_dense, other_start, other_end, other_ids) = parts(second);
+    let mut words = [0; 3];
+    let done = unsafe {
+        raw::mouldgrey_intersect(
+            dense,
+            start,
+            end,
+            ids.as_ptr(),
+            ids.len(),
+            other_dense,
+            other_start,
+            other_end,
+            other_ids.as_ptr(),
+            other_ids.len(),
+            output.as_mut_ptr(),
+            output.len(),
+            words.as_mut_ptr(),
+            words.len(),
+        )
+    };
+    debug_assert!(done, "three words are enough");
+    written(words)
+}

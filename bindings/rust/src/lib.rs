@@ -1,0 +1,25 @@
+//! A table for an archive: rows of u32 cells, kept by key, in the order of a sort column. The library is written in Rattle and
+//! proved; this crate calls its C functions and depends on nothing else.
+//!
+//! - [`Table`] keeps its stores and is all that most callers need.
+//! - [`lent`] has the same calls over stores that the caller keeps, such as those of a mapped file.
+//! - [`raw`] has the C functions themselves.
+//!
+//! Calls that the library turns away answer a [`Refusal`] with the paper's number, and have changed nothing.
+//!
+//! The static libraries are looked for in target/staticlib of the repository, where `rt staticlib exports` and `rt staticlib
+//! exports_questions` leave them, or in the folder that the environment variable MOULDGREY_LIBRARIES names.
+
+mod header;
+pub mod lent;
+pub mod raw;
+mod refusal;
+mod subset;
+mod table;
+#[cfg(test)]
+mod tests;
+
+pub use header::{DEAD, Header, Lengths, Merge, Opening, Version};
+pub use refusal::{Refusal, Stop};
+pub use subset::{Constraint, Subset, SubsetRef, Written};
+pub use table::{NoTable, Row, Rows, Stores, Table, intersect};

@@ -1,0 +1,183 @@
+//! The C functions as they are declared in include/mouldgrey.h, where each is described. A slice goes as a pointer and a
+//! length. A test compares these declarations with the library's source.
+
+unsafe extern "C" {
+    pub fn mouldgrey_open_table(
+        columns: u32,
+        key_columns: u32,
+        sort: u32,
+        rule: u32,
+        capacity: u32,
+        generation: u32,
+        header: *mut u32,
+        header_len: usize,
+        rows: *const u32,
+        rows_len: usize,
+        keys: *mut u32,
+        keys_len: usize,
+        sorts: *const u32,
+        sorts_len: usize,
+        pending: *const u32,
+        pending_len: usize,
+    ) -> u32;
+    pub fn mouldgrey_stage_insert(
+        header: *mut u32,
+        header_len: usize,
+        pending: *mut u32,
+        pending_len: usize,
+        cells: *const u32,
+        cells_len: usize,
+    ) -> u32;
+    pub fn mouldgrey_stage_remove(
+        header: *mut u32,
+        header_len: usize,
+        pending: *mut u32,
+        pending_len: usize,
+        key: *const u32,
+        key_len: usize,
+    ) -> u32;
+    pub fn mouldgrey_stage_remove_row(
+        header: *mut u32,
+        header_len: usize,
+        pending: *mut u32,
+        pending_len: usize,
+        row: u32,
+        key: *const u32,
+        key_len: usize,
+    ) -> u32;
+    pub fn mouldgrey_merge(
+        header: *mut u32,
+        header_len: usize,
+        rows: *mut u32,
+        rows_len: usize,
+        keys: *mut u32,
+        keys_len: usize,
+        sorts: *mut u32,
+        sorts_len: usize,
+        pending: *const u32,
+        pending_len: usize,
+        live: *mut u64,
+        live_len: usize,
+        base: *mut u32,
+        base_len: usize,
+        words: *mut u32,
+        words_len: usize,
+    ) -> u32;
+    pub fn mouldgrey_compact(
+        header: *mut u32,
+        header_len: usize,
+        rows: *mut u32,
+        rows_len: usize,
+        keys: *mut u32,
+        keys_len: usize,
+        sorts: *mut u32,
+        sorts_len: usize,
+        live: *mut u64,
+        live_len: usize,
+        base: *mut u32,
+        base_len: usize,
+    ) -> u32;
+    pub fn mouldgrey_clear(
+        header: *mut u32,
+        header_len: usize,
+        keys: *mut u32,
+        keys_len: usize,
+    ) -> u32;
+    pub fn mouldgrey_is_sound(
+        header: *const u32,
+        header_len: usize,
+        rows: *const u32,
+        rows_len: usize,
+        keys: *const u32,
+        keys_len: usize,
+        sorts: *const u32,
+        sorts_len: usize,
+        pending: *const u32,
+        pending_len: usize,
+        words: *mut u32,
+        words_len: usize,
+    ) -> u32;
+    pub fn mouldgrey_get_row(
+        header: *const u32,
+        header_len: usize,
+        rows: *const u32,
+        rows_len: usize,
+        keys: *const u32,
+        keys_len: usize,
+        key: *const u32,
+        key_len: usize,
+        words: *mut u32,
+        words_len: usize,
+    ) -> u32;
+    pub fn mouldgrey_get_row_column(
+        header: *const u32,
+        header_len: usize,
+        rows: *const u32,
+        rows_len: usize,
+        keys: *const u32,
+        keys_len: usize,
+        key: *const u32,
+        key_len: usize,
+        column: u32,
+        words: *mut u32,
+        words_len: usize,
+    ) -> u32;
+    pub fn mouldgrey_fast_subset(
+        header: *const u32,
+        header_len: usize,
+        sorts: *const u32,
+        sorts_len: usize,
+        kind: u32,
+        column: u32,
+        value: u32,
+        words: *mut u32,
+        words_len: usize,
+    ) -> u32;
+    pub fn mouldgrey_updates_since(
+        header: *const u32,
+        header_len: usize,
+        row: u32,
+        words: *mut u32,
+        words_len: usize,
+    ) -> u32;
+    pub fn mouldgrey_version(
+        header: *const u32,
+        header_len: usize,
+        words: *mut u32,
+        words_len: usize,
+    ) -> u32;
+    pub fn mouldgrey_refine_one(
+        header: *const u32,
+        header_len: usize,
+        rows: *const u32,
+        rows_len: usize,
+        dense: bool,
+        start: u32,
+        end: u32,
+        ids: *const u32,
+        ids_len: usize,
+        kind: u32,
+        column: u32,
+        value: u32,
+        output: *mut u32,
+        output_len: usize,
+        words: *mut u32,
+        words_len: usize,
+    ) -> u32;
+    pub fn mouldgrey_intersect(
+        dense: bool,
+        start: u32,
+        end: u32,
+        ids: *const u32,
+        ids_len: usize,
+        other_dense: bool,
+        other_start: u32,
+        other_end: u32,
+        other_ids: *const u32,
+        other_ids_len: usize,
+        output: *mut u32,
+        output_len: usize,
+        words: *mut u32,
+        words_len: usize,
+    ) -> bool;
+}

@@ -1,0 +1,100 @@
+//! The numbers by which the library turns a call away, or stops a merge.
+
+use std::error::Error;
+use std::fmt;
+
+/// Why a call was refused. The numbers are the paper's; a refusal has changed nothing that was lent.
+#[derive(Clone, Copy, Debug, PartialEq, Eq, Hash)]
+pub enum Refusal {
+    /// A header's number is outside its bounds, or more pending words are in use than the pending store has.
+    OutOfBounds = 1,
+    /// A lent store, or an output, is shorter than needed.
+    TooShort = 2,
+    /// Not as many cells as the table has columns, or key columns.
+    WrongWidth = 3,
+    /// A range that starts above its end, or a list that does not rise strictly or has more than 65,536 ids.
+    MalformedSubset = 4,
+    /// A row number, a subset's end or a start place past what there is.
+    PastTheRows = 5,
+    /// A column that does not exist, or a condition of an unknown kind.
+    NoSuchColumn = 6,
+    /// The pending store has no room for the record.
+    PendingFull = 7,
+    /// The generation is 4294967295 and cannot rise.
+    LastGeneration = 10,
+}
+
+/// Why a merge stopped. What came before the stop stands; the rest of the batch is dropped.
+#[derive(Clone, Copy, Debug, PartialEq, Eq, Hash)]
+pub enum Stop {
+    /// The row must be appended, and the table has as many rows as its capacity.
+    TableFull = 8,
+    /// The row must be appended, and its sort value is below the last recorded one.
+    OldSortValue = 9,
+}
+
+impl Refusal {
+    pub const ALL: [Refusal; 8] = [
+        Refusal::OutOfBounds,
+        Refusal::TooShort,
+        Refusal::WrongWidth,
+        Refusal::MalformedSubset,
+        Refusal::PastTheRows,
+        Refusal::NoSuchColumn,
+        Refusal::PendingFull,
+        Refusal::LastGeneration,
+    ];
+
+    /// The paper's number.
+    pub fn number(self) -> u32 {
+        self as u32
+    }
+
+    pub fn from_number(number: u32) -> Option<Refusal> {
+        Refusal::ALL.into_iter().find(|it| it.number() == number)
+    }
+
+    fn words(self) -> &'static str {
+        match self {
+            Refusal::OutOfBounds => "a header's number is outside its bounds",
+            Refusal::TooShort => "a lent store or output is shorter than needed",
+            Refusal::WrongWidth => "wrong number of cells",
+            Refusal::MalformedSubset => "malformed or overlong subset",
+            Refusal::PastTheRows => "a row or place past what there is",
+            Refusal::NoSuchColumn => "no such column or kind of condition",
+            Refusal::PendingFull => "no room in the pending store",
+            Refusal::LastGeneration => "the generation cannot rise",
+        }
+    }
+}
+
+impl Stop {
+    pub const ALL: [Stop; 2] = [Stop::TableFull, Stop::OldSortValue];
+
+    /// The paper's number.
+    pub fn number(self) -> u32 {
+        self as u32
+    }
+
+    pub fn from_number(number: u32) -> Option<Stop> {
+        Stop::ALL.into_iter().find(|it| it.number() == number)
+    }
+}
+
+impl fmt::Display for Refusal {
+    fn fmt(&self, f: &mut fmt::Formatter<'_>) -> fmt::Result {
+        write!(f, "refused {}: {}", self.number(), self.words())
+    }
+}
+
+impl Error for Refusal {}
+
+impl fmt::Display for Stop {
+    fn fmt(&self, f: &mut fmt::Formatter<'_>) -> fmt::Result {
+        let words = match self {
+            Stop::TableFull => "the table is full",
+            Stop::OldSortValue => "a sort value below the last recorded one",
+        };
+        write!(f, "stopped {}: {words}", self.number())
+    }
+}

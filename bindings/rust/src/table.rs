@@ -1,0 +1,376 @@
+//! A table that keeps its stores.
+
+use crate::{
+    Constraint, DEAD, Header, Lengths, Merge, Opening, Refusal, Subset, SubsetRef, Version,
+    Written, lent,
+};
+use std::error::Error;
+use std::fmt;
+use std::slice::ChunksExact;
+
+/// A header and the four stores that go with it, as an archive keeps them. docs/FORMAT.md says what each word means.
+#[derive(Clone, Debug, Default, PartialEq, Eq)]
+pub struct Stores {
+    pub header: Header,
+    pub rows: Vec<u32>,
+    pub keys: Vec<u32>,
+    pub sorts: Vec<u32>,
+    pub pending: Vec<u32>,
+}
+
+/// Why stores were not taken for a table.
+#[derive(Clone, Copy, Debug, PartialEq, Eq)]
+pub enum NoTable {
+    /// The header's numbers are out of bounds, or a store is too short.
+    Refused(Refusal),
+    /// The soundness check says no.
+    Unsound,
+}
+
+impl fmt::Display for NoTable {
+    fn fmt(&self, f: &mut fmt::Formatter<'_>) -> fmt::Result {
+        match self {
+            NoTable::Refused(refusal) => refusal.fmt(f),
+            NoTable::Unsound => f.write_str("the stores are not sound"),
+        }
+    }
+}
+
+impl Error for NoTable {}
+
+/// A live row: its number and its cells.
+#[derive(Clone, Copy, Debug, PartialEq, Eq)]
+pub struct Row<'a> {
+    pub id: u32,
+    pub cells: &'a [u32],
+}
+
+/// A table that keeps its stores. Rows are staged for insertion and removal, and taken in by [`merge`](Table::merge); row
+/// numbers stay until a compaction, which the [`Version`] shows.
+///
+/// ```
+/// use mouldgrey::{Constraint, Opening, Refusal, Subset, Table};
+///
+/// # fn main() -> Result<(), Refusal> {
+/// // Columns: modem, side, level, stamp. The first two are the key, rows come in the order of their stamps, and a row with a
+/// // known key takes the old one's place (rule 1).
+/// let opening = Opening { columns: 4, keys: 2, sort: 3, rule: 1, capacity: 100, generation: 0 };
+/// let mut table = Table::new(&opening, 1_000)?;
+/// table.stage_insert(&[7, 1, 160, 10])?;
+/// table.stage_insert(&[7, 2, 148, 10])?;
+/// assert!(table.merge()?.added);
+///
+/// table.stage_insert(&[7, 1, 163, 12])?;
+/// table.stage_remove(&[7, 2])?;
+/// let merge = table.merge()?;
+/// assert_eq!(merge.stop, None);
+///
+/// assert_eq!(table.get_row_column(&[7, 1], 2)?, Some(163));
+/// assert_eq!(table.get_row(&[7, 2])?, None);
+/// assert_eq!(table.fast_subset(Constraint::eq(3, 10))?, Some(Subset::Range(0, 2)));
+/// assert_eq!(table.refine_one(&table.all(), Constraint::ge(2, 150))?, Subset::Range(2, 3));
+/// for row in &table {
+///     println!("{}: {:?}", row.id, row.cells);
+/// }
+/// assert_eq!(table.is_sound()?, true);
+///
+/// assert_eq!(table.stage_insert(&[7, 1]), Err(Refusal::WrongWidth));
+/// # Ok(())
+/// # }
+/// ```
+#[derive(Clone, Debug)]
+pub struct Table {
+    stores: Stores,
+    /// Compaction words: nothing is kept in them between two calls.
+    live: Vec<u64>,
+    base: Vec<u32>,
+}
+
+impl Table {
+    /// An empty table with a pending store of so many words. Refused by 1.
+    pub fn new(opening: &Opening, pending_words: usize) -> Result<Table, Refusal> {
+        let mut table = Table {
+            stores: Stores::default(),
+            live: Vec::new(),
+            base: Vec::new(),
+        };
+        table.reserve_pending(pending_words);
+        table.open(opening)?;
+        Ok(table)
+    }
+
+    /// Empties the table, with other numbers if these are others. What is staged is dropped. Refused by 1.
+    pub fn open(&mut self, opening: &Opening) -> Result<(), Refusal> {
+        // On stores of no length the library tells whether the numbers are within their bounds: only then there are such.
+        let mut header = Header::default();
+        match lent::open_table(opening, &mut header, &[], &mut [], &[], &[]) {
+            Ok(()) | Err(Refusal::TooShort) => {}
+            Err(refusal) => return Err(refusal),
+        }
+        self.make_room(&Lengths::needed(opening.columns, opening.capacity));
+        let s = &mut self.stores;
+        lent::open_table(
+            opening,
+            &mut s.header,
+            &s.rows,
+            &mut s.keys,
+            &s.sorts,
+            &s.pending,
+        )
+    }
+
+    /// A table of stores that an archive has kept, if they are sound.
+    pub fn from_stores(stores: Stores) -> Result<Table, NoTable> {
+        let s = &stores;
+        match lent::is_sound(&s.header, &s.rows, &s.keys, &s.sorts, &s.pending) {
+            Ok(true) => {}
+            Ok(false) => return Err(NoTable::Unsound),
+            Err(refusal) => return Err(NoTable::Refused(refusal)),
+        }
+        let lengths = stores.header.lengths();
+        Ok(Table {
+            stores,
+            live: vec![0; lengths.live],
+            base: vec![0; lengths.base],
+        })
+    }
+
+    /// The header and stores, to be kept.
+    pub fn stores(&self) -> &Stores {
+        &self.stores
+    }
+
+    pub fn into_stores(self) -> Stores {
+        self.stores
+    }
+
+    pub fn header(&self) -> &Header {
+        &self.stores.header
+    }
+
+    /// Makes each store as long as needed, where it is shorter.
+    fn make_room(&mut self, needed: &Lengths) {
+        fn grow<T: Copy + Default>(store: &mut Vec<T>, length: usize) {
+            if store.len() < length {
+                store.resize(length, T::default());
+            }
+        }
+        grow(&mut self.stores.rows, needed.rows);
+        grow(&mut self.stores.keys, needed.keys);
+        grow(&mut self.stores.sorts, needed.sorts);
+        grow(&mut self.live, needed.live);
+        grow(&mut self.base, needed.base);
+    }
+
+    /// Makes the pending store at least so many words long. An insert takes columns plus 2 of them, a removal by key keys plus
+    /// 2, one by row keys plus 3.
+    pub fn reserve_pending(&mut self, words: usize) {
+        if self.stores.pending.len() < words {
+            self.stores.pending.resize(words, 0);
+        }
+    }
+
+    /// Stages a row for insertion. Refused by 3, and by 7 if the pending store has no room.
+    pub fn stage_insert(&mut self, cells: &[u32]) -> Result<(), Refusal> {
+        lent::stage_insert(&mut self.stores.header, &mut self.stores.pending, cells)
+    }
+
+    /// Stages the removal of a key's row, if there will be one at the merge. Refused by 3 and 7.
+    pub fn stage_remove(&mut self, key: &[u32]) -> Result<(), Refusal> {
+        lent::stage_remove(&mut self.stores.header, &mut self.stores.pending, key)
+    }
+
+    /// Stages the removal of a row, if it still has this key at the merge. Refused by 3, 5 and 7.
+    pub fn stage_remove_row(&mut self, row: u32, key: &[u32]) -> Result<(), Refusal> {
+        lent::stage_remove_row(&mut self.stores.header, &mut self.stores.pending, row, key)
+    }
+
+    /// Takes in what is staged: removals by key, removals by row, inserts, each in their order. A stop is no refusal: it is in
+    /// the answer, and what came before it stands. Where dead rows outnumber the larger of 16 and half of all rows, the table
+    /// compacts.
+    pub fn merge(&mut self) -> Result<Merge, Refusal> {
+        let s = &mut self.stores;
+        lent::merge(
+            &mut s.header,
+            &mut s.rows,
+            &mut s.keys,
+            &mut s.sorts,
+            &s.pending,
+            &mut self.live,
+            &mut self.base,
+        )
+    }
+
+    /// Drops the dead rows; the others close up in order and get new numbers. Refused by 10.
+    pub fn compact(&mut self) -> Result<(), Refusal> {
+        let s = &mut self.stores;
+        lent::compact(
+            &mut s.header,
+            &mut s.rows,
+            &mut s.keys,
+            &mut s.sorts,
+            &mut self.live,
+            &mut self.base,
+        )
+    }
+
+    /// Drops what is staged, and all rows. Refused by 10, if there are rows.
+    pub fn clear(&mut self) -> Result<(), Refusal> {
+        lent::clear(&mut self.stores.header, &mut self.stores.keys)
+    }
+
+    /// The live row of a key. Refused by 3.
+    pub fn get_row(&self, key: &[u32]) -> Result<Option<Row<'_>>, Refusal> {
+        let s = &self.stores;
+        let id = lent::get_row(&s.header, &s.rows, &s.keys, key)?;
+        Ok(id.map(|id| self.row_at(id)))
+    }
+
+    /// One cell of the live row of a key. Refused by 3 and 6.
+    pub fn get_row_column(&self, key: &[u32], column: u32) -> Result<Option<u32>, Refusal> {
+        let s = &self.stores;
+        lent::get_row_column(&s.header, &s.rows, &s.keys, key, column)
+    }
+
+    /// The range in which all rows lie that meet a condition on the sort column; none for two columns compared and for any
+    /// other column. It may hold dead rows, which [`refine_one`](Table::refine_one) leaves out. Refused by 6.
+    pub fn fast_subset(&self, constraint: Constraint) -> Result<Option<Subset>, Refusal> {
+        let range = lent::fast_subset(&self.stores.header, &self.stores.sorts, constraint)?;
+        Ok(range.map(|(start, end)| Subset::Range(start, end)))
+    }
+
+    /// Generation and row count. While the generation stays, a row below a former row count has the cells it had or is dead.
+    pub fn version(&self) -> Version {
+        lent::version(&self.stores.header)
+            .expect("an opened table's numbers are within their bounds")
+    }
+
+    /// The rows from this number on. Refused by 5.
+    pub fn updates_since(&self, row: u32) -> Result<Subset, Refusal> {
+        let (start, end) = lent::updates_since(&self.stores.header, row)?;
+        Ok(Subset::Range(start, end))
+    }
+
+    /// All row numbers, dead rows among them.
+    pub fn all(&self) -> Subset {
+        Subset::Range(0, self.stores.header.rows)
+    }
+
+    /// The live rows of a subset that meet a condition. Refused by 4, 5 and 6.
+    pub fn refine_one<'a>(
+        &self,
+        subset: impl Into<SubsetRef<'a>>,
+        constraint: Constraint,
+    ) -> Result<Subset, Refusal> {
+        let subset = subset.into();
+        // A subset with more ids than there are rows is refused for itself.
+        let room = subset.size().min(self.stores.header.rows as usize);
+        with_output(room, |output| {
+            lent::refine_one(
+                &self.stores.header,
+                &self.stores.rows,
+                subset,
+                constraint,
+                output,
+            )
+        })
+    }
+
+    /// Whether header and stores are sound. They are, unless [`Stores`] were changed by other hands.
+    pub fn is_sound(&self) -> Result<bool, Refusal> {
+        let s = &self.stores;
+        lent::is_sound(&s.header, &s.rows, &s.keys, &s.sorts, &s.pending)
+    }
+
+    /// The live rows, rising.
+    pub fn rows(&self) -> Rows<'_> {
+        let Header { columns, rows, .. } = self.stores.header;
+        let cells = &self.stores.rows[..rows as usize * columns as usize];
+        Rows {
+            next: 0,
+            left: cells.chunks_exact(columns as usize),
+        }
+    }
+
+    /// A row that the library has named.
+    fn row_at(&self, id: u32) -> Row<'_> {
+        let columns = self.stores.header.columns as usize;
+        let from = id as usize * columns;
+        Row {
+            id,
+            cells: &self.stores.rows[from..from + columns],
+        }
+    }
+}
+
+/// The live rows of a table, rising.
+#[derive(Clone, Debug)]
+pub struct Rows<'a> {
+    next: u32,
+    left: ChunksExact<'a, u32>,
+}
+
+impl<'a> Iterator for Rows<'a> {
+    type Item = Row<'a>;
+
+    fn next(&mut self) -> Option<Row<'a>> {
+        loop {
+            let cells = self.left.next()?;
+            let id = self.next;
+            self.next += 1;
+            if cells[0] != DEAD {
+                return Some(Row { id, cells });
+            }
+        }
+    }
+
+    fn size_hint(&self) -> (usize, Option<usize>) {
+        (0, Some(self.left.len()))
+    }
+}
+
+impl<'a> IntoIterator for &'a Table {
+    type Item = Row<'a>;
+    type IntoIter = Rows<'a>;
+
+    fn into_iter(self) -> Rows<'a> {
+        self.rows()
+    }
+}
+
+/// The ids that two subsets have in common. Two ranges give a range, a range with a list gives a list or 0..0, and a list first
+/// gives a list. Refused by 4.
+///
+/// ```
+/// use mouldgrey::{Subset, intersect};
+///
+/// let list = Subset::List(vec![1, 3, 5, 8]);
+/// assert_eq!(intersect(&list, &Subset::Range(3, 8)), Ok(Subset::List(vec![3, 5])));
+/// assert_eq!(intersect(&Subset::Range(2, 6), &Subset::Range(6, 9)), Ok(Subset::Range(6, 6)));
+/// ```
+pub fn intersect<'a, 'b>(
+    first: impl Into<SubsetRef<'a>>,
+    second: impl Into<SubsetRef<'b>>,
+) -> Result<Subset, Refusal> {
+    let (first, second) = (first.into(), second.into());
+    let room = match (first, second) {
+        (SubsetRef::List(ids), _) | (SubsetRef::Range(..), SubsetRef::List(ids)) => ids.len(),
+        (SubsetRef::Range(..), SubsetRef::Range(..)) => 0,
+    };
+    with_output(room, |output| lent::intersect(first, second, output))
+}
+
+/// The subset that a question writes to an output of this length.
+fn with_output(
+    room: usize,
+    ask: impl FnOnce(&mut [u32]) -> Result<Written, Refusal>,
+) -> Result<Subset, Refusal> {
+    let mut output = vec![0; room];
+    Ok(match ask(&mut output)? {
+        Written::Range(start, end) => Subset::Range(start, end),
+        Written::List(count) => {
+            output.truncate(count);
+            Subset::List(output)
+        }
+    })
+}

@@ -1,0 +1,264 @@
+//! What the wrapping adds to the library: owned stores, names for numbers, outputs of the right length.
+
+use crate::*;
+
+const OPENING: Opening = Opening {
+    columns: 3,
+    keys: 1,
+    sort: 2,
+    rule: 1,
+    capacity: 40,
+    generation: 5,
+};
+
+/// Twenty rows, keys 0 to 19, sort values 0 to 9.
+fn twenty() -> Table {
+    let mut table = Table::new(&OPENING, 200).expect("a table");
+    for key in 0..20 {
+        table
+            .stage_insert(&[key, key % 3, key / 2])
+            .expect("room for the record");
+    }
+    let merge = table.merge().expect("stores of the right length");
+    assert_eq!((merge.added, merge.stop), (true, None));
+    table
+}
+
+fn ids(table: &Table) -> Vec<u32> {
+    table.rows().map(|row| row.id).collect()
+}
+
+#[test]
+fn openings() {
+    let wrong = |change: &dyn Fn(&mut Opening)| {
+        let mut opening = OPENING;
+        change(&mut opening);
+        Table::new(&opening, 0).err()
+    };
+    assert_eq!(wrong(&|o| o.columns = 9), Some(Refusal::OutOfBounds));
+    assert_eq!(wrong(&|o| o.capacity = 65_537), Some(Refusal::OutOfBounds));
+    assert_eq!(
+        wrong(&|o| o.capacity = u32::MAX),
+        Some(Refusal::OutOfBounds)
+    );
+    assert_eq!(wrong(&|o| o.capacity = 65_536), None);
+    assert_eq!(wrong(&|_| {}), None);
+}
+
+#[test]
+fn a_refused_opening_keeps_the_table() {
+    let mut table = twenty();
+    let before = table.stores().clone();
+    let wrong = Opening { rule: 4, ..OPENING };
+    assert_eq!(table.open(&wrong), Err(Refusal::OutOfBounds));
+    assert_eq!(*table.stores(), before);
+    let wider = Opening {
+        columns: 8,
+        capacity: 100,
+        ..OPENING
+    };
+    assert_eq!(table.open(&wider), Ok(()));
+    assert_eq!(table.version().rows, 0);
+    assert_eq!(table.stage_insert(&[1, 2, 3, 4, 5, 6, 7, 8]), Ok(()));
+    assert!(table.merge().is_ok_and(|merge| merge.added));
+    assert_eq!(table.is_sound(), Ok(true));
+}
+
+#[test]
+fn stagings_and_their_refusals() {
+    let mut table = twenty();
+    assert_eq!(table.stage_insert(&[1, 2]), Err(Refusal::WrongWidth));
+    assert_eq!(table.stage_remove(&[]), Err(Refusal::WrongWidth));
+    assert_eq!(table.stage_remove_row(20, &[1]), Err(Refusal::PastTheRows));
+    assert_eq!(table.stage_remove_row(3, &[3]), Ok(()));
+    assert_eq!(table.stage_remove(&[4]), Ok(()));
+    assert_eq!(table.header().pending, 7);
+    for _ in 0..38 {
+        assert_eq!(table.stage_insert(&[50, 1, 9]), Ok(()));
+    }
+    assert_eq!(table.stage_insert(&[50, 1, 9]), Err(Refusal::PendingFull));
+    table.reserve_pending(300);
+    assert_eq!(table.stage_insert(&[50, 1, 9]), Ok(()));
+    assert!(table.merge().is_ok_and(|merge| merge.added));
+    assert_eq!(table.get_row(&[3]), Ok(None));
+    assert_eq!(table.get_row(&[4]), Ok(None));
+    let cells: &[u32] = &[50, 1, 9];
+    assert_eq!(table.get_row(&[50]), Ok(Some(Row { id: 20, cells })));
+}
+
+#[test]
+fn stops() {
+    let mut table = twenty();
+    assert_eq!(table.stage_insert(&[60, 0, 9]), Ok(()));
+    assert_eq!(table.stage_insert(&[61, 0, 8]), Ok(()));
+    let merge = table.merge().expect("no refusal");
+    assert_eq!(merge.stop, Some((Stop::OldSortValue, 1)));
+    assert!(merge.added);
+    for key in 0..21 {
+        assert_eq!(table.stage_insert(&[100 + key, 0, 9]), Ok(()));
+    }
+    let merge = table.merge().expect("no refusal");
+    assert_eq!(merge.stop, Some((Stop::TableFull, 19)));
+    assert_eq!(table.version().rows, 40);
+}
+
+#[test]
+fn questions() {
+    let table = twenty();
+    assert_eq!(table.get_row_column(&[7], 1), Ok(Some(1)));
+    assert_eq!(table.get_row_column(&[7], 3), Err(Refusal::NoSuchColumn));
+    assert_eq!(table.get_row_column(&[77], 1), Ok(None));
+    assert_eq!(table.get_row(&[7, 7]), Err(Refusal::WrongWidth));
+    let fast = |constraint| table.fast_subset(constraint);
+    assert_eq!(fast(Constraint::eq(2, 4)), Ok(Some(Subset::Range(8, 10))));
+    assert_eq!(fast(Constraint::lt(2, 4)), Ok(Some(Subset::Range(0, 8))));
+    assert_eq!(fast(Constraint::gt(2, 4)), Ok(Some(Subset::Range(10, 20))));
+    assert_eq!(fast(Constraint::le(2, 4)), Ok(Some(Subset::Range(0, 10))));
+    assert_eq!(fast(Constraint::ge(2, 4)), Ok(Some(Subset::Range(8, 20))));
+    assert_eq!(fast(Constraint::ge(1, 4)), Ok(None));
+    assert_eq!(fast(Constraint::eq_columns(2, 2)), Ok(None));
+    assert_eq!(fast(Constraint::eq(3, 0)), Err(Refusal::NoSuchColumn));
+    assert_eq!(table.updates_since(18), Ok(Subset::Range(18, 20)));
+    assert_eq!(table.updates_since(21), Err(Refusal::PastTheRows));
+    let version = Version {
+        generation: 5,
+        rows: 20,
+    };
+    assert_eq!(table.version(), version);
+}
+
+#[test]
+fn refining() {
+    let table = twenty();
+    let list = |ids: &[u32]| Subset::List(ids.to_vec());
+    let third = Constraint::eq(1, 0);
+    assert_eq!(
+        table.refine_one(&table.all(), third),
+        Ok(list(&[0, 3, 6, 9, 12, 15, 18]))
+    );
+    assert_eq!(
+        table.refine_one(&list(&[1, 3, 6, 7]), third),
+        Ok(list(&[3, 6]))
+    );
+    assert_eq!(
+        table.refine_one(SubsetRef::Range(5, 8), Constraint::gt(0, 5)),
+        Ok(Subset::Range(6, 8))
+    );
+    // Subsets of more ids than there are rows, which no output is made for.
+    for (subset, refusal) in [
+        (Subset::Range(0, u32::MAX), Refusal::PastTheRows),
+        (Subset::Range(9, 3), Refusal::MalformedSubset),
+        (list(&[0; 30]), Refusal::MalformedSubset),
+        (
+            Subset::List((0..65_537).collect()),
+            Refusal::MalformedSubset,
+        ),
+        (Subset::List((0..30).collect()), Refusal::PastTheRows),
+    ] {
+        assert_eq!(table.refine_one(&subset, third), Err(refusal));
+    }
+}
+
+#[test]
+fn intersections() {
+    let list = |ids: &[u32]| Subset::List(ids.to_vec());
+    assert_eq!(intersect(&list(&[1, 6]), &list(&[6, 9])), Ok(list(&[6])));
+    assert_eq!(
+        intersect(&Subset::Range(4, 6), &list(&[1, 6])),
+        Ok(Subset::Range(0, 0))
+    );
+    assert_eq!(
+        intersect(&list(&[2, 1]), &Subset::Range(0, 9)),
+        Err(Refusal::MalformedSubset)
+    );
+    let long = Subset::List((0..65_536).collect());
+    assert_eq!(intersect(&long, &long).map(|both| both.size()), Ok(65_536));
+}
+
+#[test]
+fn compaction_and_clear() {
+    let mut table = twenty();
+    for key in [0, 5, 19] {
+        assert_eq!(table.stage_remove(&[key]), Ok(()));
+    }
+    assert!(table.merge().is_ok_and(|merge| !merge.added));
+    assert_eq!((table.header().rows, table.header().dead), (20, 3));
+    assert_eq!(ids(&table).len(), 17);
+    assert_eq!(ids(&table)[4..6], [6, 7]);
+    assert_eq!(table.compact(), Ok(()));
+    assert_eq!(ids(&table), (0..17).collect::<Vec<u32>>());
+    assert_eq!(table.version().generation, 6);
+    assert_eq!(table.clear(), Ok(()));
+    assert_eq!(table.rows().count(), 0);
+    assert_eq!(table.version().generation, 7);
+}
+
+#[test]
+fn the_last_generation() {
+    let last = Opening {
+        generation: u32::MAX,
+        ..OPENING
+    };
+    let mut table = Table::new(&last, 100).expect("a table");
+    assert_eq!(table.clear(), Ok(()));
+    assert_eq!(table.compact(), Err(Refusal::LastGeneration));
+}
+
+#[test]
+fn stores_that_are_kept() {
+    let table = twenty();
+    let stores = table.stores().clone();
+    let again = Table::from_stores(stores.clone()).expect("sound stores");
+    assert_eq!(ids(&again), ids(&table));
+    assert_eq!(again.into_stores(), stores);
+    let mut spoiled = stores.clone();
+    spoiled.rows[6] = DEAD;
+    assert_eq!(Table::from_stores(spoiled).err(), Some(NoTable::Unsound));
+    let mut short = stores;
+    short.keys.pop();
+    assert_eq!(
+        Table::from_stores(short).err(),
+        Some(NoTable::Refused(Refusal::TooShort))
+    );
+}
+
+/// A part of a store from its start may be lent, and no word behind it is touched.
+#[test]
+fn parts_of_stores() {
+    let needed = Lengths::needed(OPENING.columns, OPENING.capacity);
+    let mut header = Header::default();
+    let mut keys = vec![9; needed.keys + 5];
+    let rows = vec![9; needed.rows];
+    let sorts = vec![9; needed.sorts];
+    let mut open =
+        |keys: &mut [u32]| lent::open_table(&OPENING, &mut header, &rows, keys, &sorts, &[]);
+    assert_eq!(open(&mut keys[..79]), Err(Refusal::TooShort));
+    assert!(keys.iter().all(|&word| word == 9));
+    assert_eq!(open(&mut keys[..80]), Ok(()));
+    assert!(keys[..80].iter().all(|&word| word == 0));
+    assert!(keys[80..].iter().all(|&word| word == 9));
+    assert_eq!(header.words(), [3, 1, 2, 1, 40, 0, 0, 0, 0, 5]);
+}
+
+#[test]
+fn numbers_and_names() {
+    for refusal in Refusal::ALL {
+        assert_eq!(Refusal::from_number(refusal.number()), Some(refusal));
+    }
+    for stop in Stop::ALL {
+        assert_eq!(Stop::from_number(stop.number()), Some(stop));
+    }
+    for number in [0, 8, 9, 11] {
+        assert_eq!(Refusal::from_number(number), None);
+    }
+    assert_eq!(
+        Refusal::WrongWidth.to_string(),
+        "refused 3: wrong number of cells"
+    );
+    assert_eq!(Stop::TableFull.to_string(), "stopped 8: the table is full");
+    let words = [1, 2, 3, 4, 5, 6, 7, 8, 9, 10];
+    assert_eq!(Header::from_words(words).words(), words);
+    let ids: Vec<u32> = Subset::Range(3, 6).ids().collect();
+    assert_eq!(ids, [3, 4, 5]);
+    assert_eq!(Subset::List(vec![4, 7]).ids().count(), 2);
+}

@@ -1,0 +1,111 @@
+//! The worked dump of docs/FORMAT.md is what the library leaves, byte for byte, and its worked hash is the one in the dump.
+
+use mouldgrey::{Opening, Stores, Table};
+use std::collections::BTreeMap;
+use std::fs;
+
+fn page() -> String {
+    let file = concat!(env!("CARGO_MANIFEST_DIR"), "/../../docs/FORMAT.md");
+    fs::read_to_string(file).expect("docs/FORMAT.md")
+}
+
+/// The bytes of each store in the dump of this name, by their places. Bytes that are not shown are zero.
+fn dump(name: &str) -> BTreeMap<String, BTreeMap<usize, u8>> {
+    let page = page();
+    let (_, rest) = page
+        .split_once(&format!("```dump {name}\n"))
+        .expect("a dump of this name");
+    let (lines, _) = rest.split_once("```").expect("an end of the dump");
+    let mut stores = BTreeMap::new();
+    let mut store = String::new();
+    for line in lines.lines() {
+        let Some((place, bytes)) = line.split_once("  ") else {
+            store = line.to_string();
+            stores.insert(store.clone(), BTreeMap::new());
+            continue;
+        };
+        let place = usize::from_str_radix(place, 16).expect("a place");
+        let shown = stores.get_mut(&store).expect("a store's name");
+        for (step, byte) in bytes.split(' ').enumerate() {
+            let byte = u8::from_str_radix(byte, 16).expect("a byte");
+            shown.insert(place + step, byte);
+        }
+    }
+    stores
+}
+
+/// A dump's stores are these.
+fn compare(name: &str, stores: &Stores) {
+    let dump = dump(name);
+    let header = stores.header.words();
+    for (store, words) in [
+        ("header", &header[..]),
+        ("rows", &stores.rows),
+        ("keys", &stores.keys),
+        ("sorts", &stores.sorts),
+        ("pending", &stores.pending),
+    ] {
+        let shown = &dump[store];
+        let bytes: Vec<u8> = words.iter().flat_map(|word| word.to_le_bytes()).collect();
+        for (place, &byte) in bytes.iter().enumerate() {
+            let expected = shown.get(&place).copied().unwrap_or(0);
+            assert_eq!(expected, byte, "{name}, {store}, byte {place:#x}");
+        }
+        let last = shown.keys().next_back().copied().unwrap_or(0);
+        assert!(last < bytes.len(), "{name}, {store}: bytes past the store");
+    }
+}
+
+#[test]
+fn worked_dump() {
+    let opening = Opening {
+        columns: 4,
+        keys: 2,
+        sort: 3,
+        rule: 1,
+        capacity: 100,
+        generation: 0,
+    };
+    let mut table = Table::new(&opening, 64).expect("a table");
+    for cells in [[7, 1, 160, 10], [7, 2, 148, 10]] {
+        table.stage_insert(&cells).expect("room");
+    }
+    table.merge().expect("a merge");
+    table.stage_insert(&[7, 1, 163, 12]).expect("room");
+    table.stage_remove(&[7, 2]).expect("room");
+    compare("before", table.stores());
+    table.merge().expect("a merge");
+    compare("after", table.stores());
+}
+
+/// The three steps of the page, and the line of the page's table that shows them.
+fn step(hash: u64, cell: u64) -> (u64, String) {
+    let sum = (hash + cell + 2_654_435_761) % (1 << 32);
+    let exchanged = sum % (1 << 16) * (1 << 16) + sum / (1 << 16);
+    let product = sum * exchanged;
+    let next = (product / (1 << 31) + product % (1 << 32)) % (1 << 32);
+    let before = match hash {
+        0 => "0".to_string(),
+        _ => format!("{hash:#x}"),
+    };
+    let line =
+        format!("| {cell} | {before} | {sum:#x} | {exchanged:#x} | {product:#x} | {next:#x} |");
+    (next, line)
+}
+
+#[test]
+fn worked_hash() {
+    let page = page();
+    let mut hash = 0;
+    for cell in [7, 1] {
+        let (next, line) = step(hash, cell);
+        assert!(page.contains(&line), "{line}");
+        hash = next;
+    }
+    assert!(page.contains(&format!("{hash:#x} = {hash} times 200 div 2^32 = 34")));
+    assert_eq!((hash * 200) >> 32, 34);
+    assert_eq!(hash % (1 << 15), 22_827);
+    let (other, _) = step(step(0, 7).0, 2);
+    assert!(page.contains(&format!("has the hash {other:#x}, home 166")));
+    assert_eq!((other * 200) >> 32, 166);
+}

@@ -1,0 +1,255 @@
+/*
+ * Mouldgrey: a table for an archive. Rows of uint32_t cells, kept by key, in the order of a sort
+ * column, in stores that the caller lends. Link libexports_questions.a and libexports.a.
+ *
+ * A table is a header of ten words and four stores. docs/FORMAT.md says what each word means.
+ *
+ *   header    MOULDGREY_HEADER_WORDS words
+ *   rows      capacity * columns words
+ *   keys      2 * capacity words
+ *   sorts     2 * capacity words, the sort entries
+ *   pending   any number of words; an insert takes columns + 2 of them, a removal by key keys + 2,
+ *             one by row keys + 3
+ *
+ * Merge and compact also need compaction words, MOULDGREY_COMPACTION_WORDS(capacity) of uint64_t
+ * and as many of uint32_t. Nothing is kept in them between two calls.
+ *
+ * Each store goes as a pointer and a length in words, and may be longer than needed. Of sound
+ * stores, words past those needed are never written.
+ *
+ * What is promised. On any numbers at all a call ends and does nothing undefined: no test is needed
+ * beforehand, not even of a header or stores that came from elsewhere. A call that is turned away
+ * returns a number that is not 0, the first that applies of those listed with it, and has changed
+ * nothing that was lent, save the answer's words of a question (see below). What the answers mean
+ * is promised of sound stores: those that an opening and the calls after it have left, or that
+ * mouldgrey_is_sound says yes to.
+ *
+ * What the caller must see to, since no proof can:
+ *
+ *   - A pointer is not null and is aligned for its words. (With length 0 it is never followed, but
+ *     must still not be null.)
+ *   - A length is true: so many words lie there.
+ *   - Stores that are lent to one call do not overlap, where one of them may be written (no const).
+ *   - Nobody else reads or writes them while the call runs.
+ *   - A bool is 0 or 1.
+ */
+#ifndef MOULDGREY_H
+#define MOULDGREY_H
+
+#include <stdbool.h>
+#include <stddef.h>
+#include <stdint.h>
+
+#ifdef __cplusplus
+extern "C" {
+#endif
+
+/* The numbers of refusals, and of a merge's stops. 0 is none. */
+#define MOULDGREY_ACCEPTED 0
+/* A header's number is outside its bounds, or more pending words are in use than are lent. */
+#define MOULDGREY_OUT_OF_BOUNDS 1
+/* A lent store or output is shorter than needed, or the answer's words are not so many. */
+#define MOULDGREY_TOO_SHORT 2
+/* Not as many cells as columns, or as key columns. */
+#define MOULDGREY_WRONG_WIDTH 3
+/* A range that starts above its end; a list that does not rise strictly or is too long. */
+#define MOULDGREY_MALFORMED_SUBSET 4
+/* A row or a subset's end past the row count. */
+#define MOULDGREY_PAST_THE_ROWS 5
+/* No such column, or a condition's kind above 5. */
+#define MOULDGREY_NO_SUCH_COLUMN 6
+/* Fewer free pending words than the record takes. */
+#define MOULDGREY_PENDING_FULL 7
+/* A merge's stop: a row must be appended, and there are as many as the capacity. */
+#define MOULDGREY_TABLE_FULL 8
+/* A merge's stop: a row must be appended, and its sort value is below the last recorded one. */
+#define MOULDGREY_OLD_SORT_VALUE 9
+/* The generation is 4294967295 and cannot rise. */
+#define MOULDGREY_LAST_GENERATION 10
+
+/* A header's words, by their places. */
+#define MOULDGREY_HEADER_WORDS 10
+#define MOULDGREY_COLUMNS 0    /* 1 to 8 */
+#define MOULDGREY_KEYS 1       /* key columns, the first 1 to columns */
+#define MOULDGREY_SORT 2       /* the sort column */
+#define MOULDGREY_RULE 3       /* merge rule, 0 to 3 */
+#define MOULDGREY_CAPACITY 4   /* 1 to 65536 */
+#define MOULDGREY_ROWS 5       /* rows in the store, dead ones included */
+#define MOULDGREY_DEAD_ROWS 6  /* dead ones among them */
+#define MOULDGREY_ENTRIES 7    /* sort entries */
+#define MOULDGREY_PENDING 8    /* pending words in use */
+#define MOULDGREY_GENERATION 9 /* rises with each compaction, and with a clear that drops rows */
+
+/* The first cell of a dead row. */
+#define MOULDGREY_DEAD 4294967295u
+
+/* The most ids of a list, and the greatest capacity. */
+#define MOULDGREY_LONGEST_LIST 65536
+
+/* Compaction words for a capacity: so many uint64_t and so many uint32_t. */
+#define MOULDGREY_COMPACTION_WORDS(capacity) (((size_t)(capacity) + 63) / 64)
+
+/* Merge rules, for a known key: key cells stay, the sort cell is the new row's. */
+#define MOULDGREY_KEEP_OLD 0
+#define MOULDGREY_TAKE_NEW 1     /* if a cell outside keys and sort column differs */
+#define MOULDGREY_TAKE_SMALLER 2 /* of each such cell, unsigned */
+#define MOULDGREY_TAKE_LARGER 3
+
+/* Conditions: a kind, a column, and a column (kind 0) or a value, unsigned. */
+#define MOULDGREY_EQUAL_COLUMNS 0
+#define MOULDGREY_EQUAL 1
+#define MOULDGREY_LESS 2
+#define MOULDGREY_GREATER 3
+#define MOULDGREY_AT_MOST 4
+#define MOULDGREY_AT_LEAST 5
+
+/*
+ * Calls that change a table. The header is written where the call is accepted; header_len must be
+ * 10, else 1.
+ */
+
+/*
+ * Makes an empty table. Writes the header, and sets the first 2 * capacity words of keys to 0;
+ * rows, sorts and pending are only looked at for their lengths. What the header held does not
+ * count. Refuses: 1, 2.
+ */
+uint32_t mouldgrey_open_table(uint32_t columns, uint32_t key_columns, uint32_t sort, uint32_t rule,
+                              uint32_t capacity, uint32_t generation, uint32_t *header,
+                              size_t header_len, const uint32_t *rows, size_t rows_len,
+                              uint32_t *keys, size_t keys_len, const uint32_t *sorts,
+                              size_t sorts_len, const uint32_t *pending, size_t pending_len);
+
+/*
+ * Stages a row for insertion: its record goes behind the pending words in use. Refuses: 1, 3, 7.
+ */
+uint32_t mouldgrey_stage_insert(uint32_t *header, size_t header_len, uint32_t *pending,
+                                size_t pending_len, const uint32_t *cells, size_t cells_len);
+
+/*
+ * Stages the removal of a key's row, if it has one when the merge comes to it. Refuses: 1, 3, 7.
+ */
+uint32_t mouldgrey_stage_remove(uint32_t *header, size_t header_len, uint32_t *pending,
+                                size_t pending_len, const uint32_t *key, size_t key_len);
+
+/*
+ * Stages the removal of a row, if it still exists, is live and has this key when the merge comes to
+ * it. Refuses: 1, 3, 5, 7.
+ */
+uint32_t mouldgrey_stage_remove_row(uint32_t *header, size_t header_len, uint32_t *pending,
+                                    size_t pending_len, uint32_t row, const uint32_t *key,
+                                    size_t key_len);
+
+/*
+ * Takes in what is staged: removals by key, then removals by row, then inserts, each in staging
+ * order, and empties pending. An insert whose first cell is 4294967295 is skipped; a new key is
+ * appended; a known key goes through the rule. The merge stops at the first insert that must be
+ * appended and cannot be (8, then 9): what came before stands, the rest is dropped. If it did not
+ * stop and dead rows outnumber the larger of 16 and half the row count, the table compacts, save at
+ * the last generation. Writes the header, rows, keys and sorts; live and base only if it compacts.
+ *
+ * words, 3: the stop's number and its place among all staged inserts, counted from 0 (both 0 if it
+ * did not stop); 1 if a row was appended, else 0. A stop is not a refusal: the call returns 0.
+ * Refuses: 1, 2 (also words_len other than 3); words unchanged.
+ */
+uint32_t mouldgrey_merge(uint32_t *header, size_t header_len, uint32_t *rows, size_t rows_len,
+                         uint32_t *keys, size_t keys_len, uint32_t *sorts, size_t sorts_len,
+                         const uint32_t *pending, size_t pending_len, uint64_t *live,
+                         size_t live_len, uint32_t *base, size_t base_len, uint32_t *words,
+                         size_t words_len);
+
+/*
+ * Drops the dead rows; the others close up in order and get new numbers; the generation rises.
+ * Writes the header, rows, keys, sorts, live and base. Refuses: 1, 2, 10.
+ */
+uint32_t mouldgrey_compact(uint32_t *header, size_t header_len, uint32_t *rows, size_t rows_len,
+                           uint32_t *keys, size_t keys_len, uint32_t *sorts, size_t sorts_len,
+                           uint64_t *live, size_t live_len, uint32_t *base, size_t base_len);
+
+/*
+ * Drops what is staged; if there are rows, drops them too, and the generation rises. Writes the
+ * header and the first 2 * capacity words of keys. Refuses: 1, 2, 10 if there are rows.
+ */
+uint32_t mouldgrey_clear(uint32_t *header, size_t header_len, uint32_t *keys, size_t keys_len);
+
+/*
+ * Questions. The answer goes into words, whose length must be the number given, else 2; header_len
+ * must be 10, else 1; in both cases words is unchanged. What words holds after any other refusal
+ * means nothing.
+ */
+
+/*
+ * words, 1: 1 if header and stores are a sound table, else 0. Refuses: 1, 2.
+ */
+uint32_t mouldgrey_is_sound(const uint32_t *header, size_t header_len, const uint32_t *rows,
+                            size_t rows_len, const uint32_t *keys, size_t keys_len,
+                            const uint32_t *sorts, size_t sorts_len, const uint32_t *pending,
+                            size_t pending_len, uint32_t *words, size_t words_len);
+
+/*
+ * The live row of a key. words, 2: 1 and the row's number; or 0 and 0, no live row. Refuses: 1, 2,
+ * 3.
+ */
+uint32_t mouldgrey_get_row(const uint32_t *header, size_t header_len, const uint32_t *rows,
+                           size_t rows_len, const uint32_t *keys, size_t keys_len,
+                           const uint32_t *key, size_t key_len, uint32_t *words, size_t words_len);
+
+/*
+ * One cell of the live row of a key. words, 2: 1 and the cell; or 0 and 0, no live row. Refuses: 1,
+ * 2, 3, 6.
+ */
+uint32_t mouldgrey_get_row_column(const uint32_t *header, size_t header_len, const uint32_t *rows,
+                                  size_t rows_len, const uint32_t *keys, size_t keys_len,
+                                  const uint32_t *key, size_t key_len, uint32_t column,
+                                  uint32_t *words, size_t words_len);
+
+/*
+ * The range in which all rows lie that meet a condition on the sort column; it may hold dead rows.
+ * words, 3: 1, start, end (not included); or 0, 0, 0 for kind 0 and for any column but the sort
+ * column. Refuses: 1, 2, 6.
+ */
+uint32_t mouldgrey_fast_subset(const uint32_t *header, size_t header_len, const uint32_t *sorts,
+                               size_t sorts_len, uint32_t kind, uint32_t column, uint32_t value,
+                               uint32_t *words, size_t words_len);
+
+/*
+ * The rows from this one on. words, 3: 1, row, row count. Refuses: 1, 5 if row is above the row
+ * count.
+ */
+uint32_t mouldgrey_updates_since(const uint32_t *header, size_t header_len, uint32_t row,
+                                 uint32_t *words, size_t words_len);
+
+/*
+ * words, 2: generation and row count. Refuses: 1.
+ */
+uint32_t mouldgrey_version(const uint32_t *header, size_t header_len, uint32_t *words,
+                           size_t words_len);
+
+/*
+ * The live rows of a subset that meet a condition. A subset is a range (dense true; start, end; ids
+ * is not looked at) or a strictly rising list (dense false; ids; start and end are not looked at).
+ * words, 3: 1, start, end, a range, and no id is written; or 2, count, 0, a list, and the ids are
+ * the first count words of output. Output past them is unchanged. Refuses: 1, 2, 4, 5, 6, and 2
+ * again if output is shorter than the subset; output unchanged.
+ */
+uint32_t mouldgrey_refine_one(const uint32_t *header, size_t header_len, const uint32_t *rows,
+                              size_t rows_len, bool dense, uint32_t start, uint32_t end,
+                              const uint32_t *ids, size_t ids_len, uint32_t kind, uint32_t column,
+                              uint32_t value, uint32_t *output, size_t output_len, uint32_t *words,
+                              size_t words_len);
+
+/*
+ * The ids that two subsets have in common; needs no table. Returns true, or false and nothing done
+ * if words_len is not 3. words: as for mouldgrey_refine_one, or 0, number, 0, refused: 4, and 2 if
+ * output is shorter than the first list, or than the second where the first is a range; output
+ * unchanged.
+ */
+bool mouldgrey_intersect(bool dense, uint32_t start, uint32_t end, const uint32_t *ids,
+                         size_t ids_len, bool other_dense, uint32_t other_start, uint32_t other_end,
+                         const uint32_t *other_ids, size_t other_ids_len, uint32_t *output,
+                         size_t output_len, uint32_t *words, size_t words_len);
+
+#ifdef __cplusplus
+}
+#endif
+
+#endif

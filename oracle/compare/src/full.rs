@@ -1,0 +1,271 @@
+//! Histories of the largest tables: filled with 65,536 rows, with half of them dead, compacted, filled again and stopped; and
+//! on the way refined and intersected with lists of 65,536 ids, which are refused with one more.
+
+use crate::history::{Act, Step, needed, with_exact_output, with_output};
+use calls::{Call, Condition, Lengths, Opening, Question, Subset};
+use chance::Rng;
+
+/// How many such histories there are.
+pub const COUNT: u64 = 4;
+
+const ROWS: u32 = 65_536;
+
+/// A table's numbers and how its rows are made.
+struct Shape {
+    opening: Opening,
+    /// So many rows have one sort value.
+    rows_per_value: u32,
+}
+
+fn shape(number: u64) -> Shape {
+    let (columns, keys, sort, rule) = match number {
+        0 => (8, 2, 3, 1),
+        1 => (8, 8, 0, 0),
+        2 => (8, 1, 7, 3),
+        _ => (1, 1, 0, 2),
+    };
+    Shape {
+        opening: Opening {
+            columns,
+            keys,
+            sort,
+            rule,
+            capacity: ROWS,
+            generation: if number == 2 { u32::MAX - 2 } else { 0 },
+        },
+        rows_per_value: if number == 0 { 1_000 } else { 1 },
+    }
+}
+
+struct Writer {
+    shape: Shape,
+    lent: Lengths,
+    steps: Vec<Step>,
+}
+
+/// A history: number 0 to `COUNT`, not included.
+pub fn history(number: u64) -> Vec<Step> {
+    let shape = shape(number);
+    let lent = needed(
+        &shape.opening,
+        66_000 * (shape.opening.columns as usize + 3),
+    );
+    let mut writer = Writer {
+        shape,
+        lent,
+        steps: Vec::new(),
+    };
+    let w = &mut writer;
+    w.call(Call::Open(w.shape.opening));
+    // Filled at once, or in two batches.
+    match number {
+        0 => w.insert(0..ROWS),
+        _ => {
+            w.insert(0..ROWS / 2);
+            w.merge_and_ask();
+            w.insert(ROWS / 2..ROWS);
+        }
+    }
+    w.merge_and_ask();
+    w.intersect();
+    w.kill(number, ROWS / 2);
+    w.merge_and_ask();
+    if number == 1 {
+        w.call(Call::Compact);
+    } else {
+        // One more is too many.
+        w.kill(number, ROWS / 2 + 1);
+        w.call(Call::Merge);
+    }
+    w.ask();
+    // Full again, with other keys; then a row too many behind one that is kept.
+    w.insert(ROWS..ROWS + ROWS / 2 + 1);
+    w.merge_and_ask();
+    let kept = w.cells(ROWS);
+    w.call(Call::Insert(kept));
+    w.insert(3 * ROWS..3 * ROWS + 2);
+    w.merge_and_ask();
+    w.call(Call::Compact);
+    w.call(Call::Clear);
+    w.ask();
+    // A batch of one row too many; then more than half of the table dies, which the merge drops.
+    w.insert(0..ROWS + 1);
+    w.merge_and_ask();
+    w.kill(number, ROWS / 2 + 1);
+    w.merge_and_ask();
+    writer.steps
+}
+
+impl Writer {
+    fn call(&mut self, call: Call) {
+        let (lent, act) = (self.lent, Act::Call(call));
+        self.steps.push(Step { lent, act });
+    }
+
+    fn ask_one(&mut self, question: Question) {
+        let (lent, act) = (self.lent, Act::Ask(question));
+        self.steps.push(Step { lent, act });
+    }
+
+    /// The cells of row `i` of those ever made: its key is its own, its sort cell rises with it.
+    fn cells(&self, i: u32) -> Vec<u32> {
+        let o = &self.shape.opening;
+        let mut cells: Vec<u32> = (0..o.columns).map(|column| i >> (2 * column) & 3).collect();
+        // A key in an order that no store follows, unless it is the sort cell.
+        cells[0] = i.wrapping_mul(0x9e37_79b1) & 0x7fff_ffff;
+        cells[o.sort as usize] = i / self.shape.rows_per_value;
+        if o.keys == 1 && o.sort == 0 {
+            cells[0] = i;
+        }
+        cells
+    }
+
+    fn insert(&mut self, which: std::ops::Range<u32>) {
+        for i in which {
+            let cells = self.cells(i);
+            self.call(Call::Insert(cells));
+        }
+    }
+
+    /// Stages removals, by key and by row in turn, of so many of the first rows, spread by chance. Those that are dead already
+    /// are staged again, by key.
+    fn kill(&mut self, seed: u64, count: u32) {
+        let mut order: Vec<u32> = (0..ROWS).collect();
+        let mut rng = Rng::new(seed);
+        for place in (1..order.len()).rev() {
+            order.swap(place, rng.place(place + 1));
+        }
+        let keys = self.shape.opening.keys as usize;
+        for &i in &order[..count as usize] {
+            let key = self.cells(i)[..keys].to_vec();
+            self.call(match i % 2 {
+                0 => Call::RemoveKey(key),
+                _ => Call::RemoveRow(i, key),
+            });
+        }
+    }
+
+    fn merge_and_ask(&mut self) {
+        self.call(Call::Merge);
+        self.ask();
+    }
+
+    fn ask(&mut self) {
+        self.ask_about_keys();
+        self.ask_about_rows();
+    }
+
+    fn ask_about_keys(&mut self) {
+        let o = self.shape.opening;
+        for i in [0, 1, 777, ROWS / 2, ROWS - 1, ROWS, ROWS + 5, 9 * ROWS] {
+            let cells = self.cells(i);
+            let key = cells[..o.keys as usize].to_vec();
+            self.ask_one(Question::Lookup(key.clone()));
+            self.ask_one(Question::Cell(key, o.columns - 1));
+            for kind in 1..=5 {
+                let b = cells[o.sort as usize];
+                let condition = Condition { kind, a: o.sort, b };
+                self.ask_one(Question::FastRange(condition));
+            }
+        }
+        self.ask_one(Question::Version);
+        for row in [0, ROWS / 2 - 1, ROWS / 2, ROWS - 1, ROWS, ROWS + 1] {
+            self.ask_one(Question::RowsSince(row));
+        }
+    }
+
+    /// Refines, looks for matches and pages over ranges and lists up to the longest, and over one that is too long.
+    fn ask_about_rows(&mut self) {
+        let o = self.shape.opening;
+        let last = o.columns - 1;
+        let conditions = [
+            Condition {
+                kind: 5,
+                a: 0,
+                b: 0,
+            },
+            Condition {
+                kind: 2,
+                a: 0,
+                b: 1 << 30,
+            },
+            Condition {
+                kind: 1,
+                a: last,
+                b: 77,
+            },
+            Condition {
+                kind: 0,
+                a: 0,
+                b: last,
+            },
+        ];
+        for subset in [
+            Subset::Range(0, ROWS),
+            Subset::Range(0, ROWS / 2 - 1),
+            Subset::List((0..ROWS).collect()),
+            Subset::List((0..=ROWS).collect()),
+            Subset::List((0..ROWS / 2 - 1).collect()),
+            Subset::Range(0, ROWS + 1),
+        ] {
+            for condition in conditions {
+                self.ask_exactly(Question::RefineOne {
+                    subset: subset.clone(),
+                    condition,
+                    output: 0,
+                });
+                self.ask_exactly(Question::RefineList {
+                    subset: subset.clone(),
+                    conditions: vec![condition, conditions[0]],
+                    output: 0,
+                });
+                self.ask_one(Question::AnyMatch {
+                    subset: subset.clone(),
+                    conditions: vec![condition],
+                });
+            }
+            for (start, n) in [(0, ROWS), (40_000, 30_000), (ROWS, 1)] {
+                self.ask_exactly(Question::Page {
+                    subset: subset.clone(),
+                    start,
+                    n,
+                    conditions: conditions[..2].to_vec(),
+                    output: 0,
+                });
+            }
+        }
+    }
+
+    /// Asks with an output just long enough, and with one a word shorter.
+    fn ask_exactly(&mut self, question: Question) {
+        let exact = with_exact_output(question);
+        let length = crate::history::needed_output(&exact);
+        if length > 0 {
+            self.ask_one(with_output(exact.clone(), length - 1));
+        }
+        self.ask_one(exact);
+    }
+
+    fn intersect(&mut self) {
+        let every = |step: u32, count: u32, from: u32| {
+            Subset::List((0..count).map(|i| from + i * step).collect())
+        };
+        let lists = [
+            every(1, ROWS, 0),
+            every(3, ROWS, 1),
+            every(65_535, ROWS, 0),
+            every(1, ROWS + 1, 0),
+            every(7_000, 9, 0),
+            Subset::Range(100, 60_000),
+        ];
+        for first in &lists {
+            for second in &lists {
+                self.ask_exactly(Question::Intersect {
+                    first: first.clone(),
+                    second: second.clone(),
+                    output: 0,
+                });
+            }
+        }
+    }
+}

@@ -1,0 +1,252 @@
+//! Calls and questions aimed at the limits of whatever header is at hand.
+
+use crate::image::{Image, hostile_number};
+use calls::{Call, Condition, DEAD, Header, Opening, Question, Subset};
+use chance::Rng;
+
+/// One call of a C function that is shipped.
+#[derive(Clone, Debug)]
+pub enum Act {
+    Call(Call),
+    Ask(Question),
+    IsSound,
+}
+
+/// An opening whose numbers are within their bounds.
+pub fn good_opening(rng: &mut Rng) -> Opening {
+    let columns = rng.within(1, 8);
+    Opening {
+        columns,
+        keys: rng.within(1, columns),
+        sort: rng.below(columns),
+        rule: rng.below(4),
+        capacity: match rng.below(20) {
+            0 => rng.within(60, 70),
+            1 => rng.within(120, 135),
+            _ => rng.within(1, 40),
+        },
+        generation: rng.pick(&[0, 0, 7, u32::MAX - 1, u32::MAX]),
+    }
+}
+
+/// An opening's numbers, one of them anything now and then.
+fn opening(rng: &mut Rng, image: &Image) -> Opening {
+    let h = image.numbers();
+    // Of a table that the stores at hand are long enough for, mostly.
+    let mut o = match rng.percent(60) {
+        true => h.opening(),
+        false => good_opening(rng),
+    };
+    o.rule = rng.below(4);
+    if rng.percent(40) {
+        let wild = hostile_number(rng, &image.header);
+        match rng.below(6) {
+            0 => o.columns = wild,
+            1 => o.keys = wild,
+            2 => o.sort = wild,
+            3 => o.rule = wild,
+            4 => o.capacity = wild,
+            _ => o.generation = wild,
+        }
+    }
+    o
+}
+
+/// A cell: small, of a row that is there, the dead mark, anything.
+fn cell(rng: &mut Rng, image: &Image) -> u32 {
+    match rng.below(12) {
+        0 => DEAD,
+        1 => hostile_number(rng, &image.header),
+        2..=4 if !image.rows.is_empty() => image.rows[rng.place(image.rows.len())],
+        _ => rng.below(6),
+    }
+}
+
+/// So many cells, or nearly: those of a row that is there, or others.
+fn cells(rng: &mut Rng, image: &Image, wanted: u32) -> Vec<u32> {
+    let h = image.numbers();
+    let wanted = wanted.min(9) as usize;
+    let from = rng.below(h.rows.min(65_536)) as usize * h.columns.min(9) as usize;
+    let mut cells = match image.rows.get(from..from + wanted) {
+        Some(row) if rng.percent(40) => row.to_vec(),
+        _ => (0..wanted).map(|_| cell(rng, image)).collect(),
+    };
+    match rng.below(20) {
+        0 => drop(cells.pop()),
+        1 => cells.push(3),
+        2 => cells.clear(),
+        _ => {}
+    }
+    cells
+}
+
+/// Cells to insert: a sort value not below the last entry's, mostly.
+fn row_to_insert(rng: &mut Rng, image: &Image, h: &Header) -> Vec<u32> {
+    let mut row = cells(rng, image, h.columns);
+    let last = match (h.entries as usize).checked_sub(1) {
+        Some(last) => image.sorts.get(2 * last).copied().unwrap_or(0),
+        None => 0,
+    };
+    if let Some(cell) = row.get_mut(h.sort as usize)
+        && rng.percent(80)
+    {
+        *cell = last.saturating_add(rng.below(2));
+    }
+    row
+}
+
+fn row_number(rng: &mut Rng, image: &Image) -> u32 {
+    match rng.percent(60) {
+        true => rng.below(image.numbers().rows),
+        false => hostile_number(rng, &image.header),
+    }
+}
+
+fn condition(rng: &mut Rng, image: &Image) -> Condition {
+    let h = image.numbers();
+    let wild = |rng: &mut Rng, below: u32| match rng.percent(85) {
+        true => rng.below(below),
+        false => hostile_number(rng, &image.header),
+    };
+    let kind = wild(rng, 6);
+    let a = match rng.percent(40) {
+        true => h.sort,
+        false => wild(rng, h.columns),
+    };
+    let b = match kind {
+        0 => wild(rng, h.columns),
+        _ => cell(rng, image),
+    };
+    Condition { kind, a, b }
+}
+
+/// Some rising ids below a bound.
+fn ids(rng: &mut Rng, bound: u32) -> Vec<u32> {
+    let chance = rng.pick(&[5, 50, 100]);
+    (0..bound.min(200))
+        .filter(|_| rng.percent(chance))
+        .collect()
+}
+
+fn subset(rng: &mut Rng, image: &Image) -> Subset {
+    let rows = image.numbers().rows;
+    if rng.percent(50) {
+        let end = rng.below(rows.saturating_add(1));
+        let start = rng.below(end.saturating_add(1));
+        let mut wild = |number: u32| match rng.percent(85) {
+            true => number,
+            false => hostile_number(rng, &image.header),
+        };
+        return Subset::Range(wild(start), wild(end));
+    }
+    let mut list = ids(rng, rows);
+    match rng.below(400) {
+        0 => list = (0..rng.within(65_535, 65_537)).collect(),
+        1..=39 => list.push(hostile_number(rng, &image.header)),
+        40..=69 if !list.is_empty() => {
+            let place = rng.place(list.len());
+            list[place] = hostile_number(rng, &image.header);
+        }
+        _ => {}
+    }
+    Subset::List(list)
+}
+
+/// An output as long as needed, or nearly.
+fn output(rng: &mut Rng, needed: usize) -> usize {
+    match rng.below(10) {
+        0 => needed.saturating_sub(1),
+        1 => needed + rng.place(4),
+        2 => rng.place(needed + 1),
+        _ => needed,
+    }
+}
+
+fn size(subset: &Subset) -> usize {
+    match subset {
+        Subset::Range(start, end) => end.saturating_sub(*start).min(66_000) as usize,
+        Subset::List(ids) => ids.len(),
+    }
+}
+
+fn question(rng: &mut Rng, image: &Image) -> Question {
+    let h = image.numbers();
+    match rng.below(8) {
+        0 => Question::Lookup(cells(rng, image, h.keys)),
+        1 => {
+            let column = match rng.percent(80) {
+                true => rng.below(h.columns),
+                false => hostile_number(rng, &image.header),
+            };
+            Question::Cell(cells(rng, image, h.keys), column)
+        }
+        2 => Question::FastRange(condition(rng, image)),
+        3 => Question::Version,
+        4 => Question::RowsSince(row_number(rng, image)),
+        5 | 6 => {
+            let subset = subset(rng, image);
+            Question::RefineOne {
+                condition: condition(rng, image),
+                output: output(rng, size(&subset)),
+                subset,
+            }
+        }
+        _ => {
+            let (first, second) = (subset(rng, image), subset(rng, image));
+            let needed = match (&first, &second) {
+                (Subset::Range(..), Subset::Range(..)) => 0,
+                (Subset::Range(..), Subset::List(ids)) | (Subset::List(ids), _) => ids.len(),
+            };
+            Question::Intersect {
+                output: output(rng, needed),
+                first,
+                second,
+            }
+        }
+    }
+}
+
+/// Keys whose home slots lie near each other, at the end of the ring.
+pub fn crowded_keys(rng: &mut Rng, keys: u32) -> Vec<Vec<u32>> {
+    let mut crowded = Vec::new();
+    while crowded.len() < 12 {
+        let key: Vec<u32> = (0..keys).map(|_| rng.below(1 << 12)).collect();
+        if plain::key_hash(&key) >> 29 == 7 {
+            crowded.push(key);
+        }
+    }
+    crowded
+}
+
+/// A staging, with one of these keys, if there are any.
+pub fn staging(rng: &mut Rng, image: &Image, keys: &[Vec<u32>]) -> Call {
+    let h = image.numbers();
+    let mut call = match rng.below(6) {
+        0 => Call::RemoveKey(cells(rng, image, h.keys)),
+        1 => Call::RemoveRow(row_number(rng, image), cells(rng, image, h.keys)),
+        _ => Call::Insert(row_to_insert(rng, image, &h)),
+    };
+    if keys.is_empty() || rng.percent(20) {
+        return call;
+    }
+    let key = &keys[rng.place(keys.len())];
+    match &mut call {
+        // The sort cell stays, where it is no key cell.
+        Call::Insert(row) if row.len() >= key.len() => row[..key.len()].copy_from_slice(key),
+        Call::RemoveKey(own) => own.clone_from(key),
+        _ => {}
+    }
+    call
+}
+
+pub fn act(rng: &mut Rng, image: &Image) -> Act {
+    match rng.below(20) {
+        0 => Act::Call(Call::Open(opening(rng, image))),
+        1..=4 => Act::Call(staging(rng, image, &[])),
+        5..=8 => Act::Call(Call::Merge),
+        9 | 10 => Act::Call(Call::Compact),
+        11 => Act::Call(Call::Clear),
+        12 => Act::IsSound,
+        _ => Act::Ask(question(rng, image)),
+    }
+}

@@ -1,0 +1,182 @@
+//! Calls with every lent store between two shut pages, and what must hold of each of them, whatever the stores are: it ends,
+//! touches nothing outside, refuses by the paper's number, and a refusal changes nothing.
+
+use crate::acts::Act;
+use crate::image::Image;
+use crate::memory::{Area, Laid};
+use crate::report::Report;
+use crate::verdict::{self, Expected};
+use crate::watch;
+use calls::Call;
+use chance::Rng;
+use plain::Plain;
+
+/// What a call may be lent, by the place of its area.
+#[derive(Clone, Copy, Debug, PartialEq)]
+pub enum Slot {
+    Header,
+    Rows,
+    Keys,
+    Sorts,
+    Pending,
+    Live,
+    Base,
+    Words,
+    Cells,
+    Ids,
+    OtherIds,
+    Output,
+}
+
+const SLOTS: usize = 12;
+
+/// The longest store: 65,536 rows of 8 columns, and some words more.
+const LONGEST: usize = 8 * 65_536 + 1_024;
+
+/// A store as it was lent.
+struct Lent {
+    slot: Slot,
+    laid: Laid,
+    before: Vec<u32>,
+    may_write: bool,
+}
+
+pub struct Session {
+    areas: Vec<Area>,
+    lent: Vec<Lent>,
+    pub report: Report,
+}
+
+/// A pointer and a length, as the C functions take them: to be written, or to be read.
+pub type Slice = (*mut u32, usize);
+pub type Shared = (*const u32, usize);
+
+impl Session {
+    pub fn new() -> Result<Session, String> {
+        let areas: Option<Vec<Area>> = (0..SLOTS).map(|_| Area::new(LONGEST)).collect();
+        Ok(Session {
+            areas: areas.ok_or("no memory for stores between shut pages")?,
+            lent: Vec::new(),
+            report: Report::default(),
+        })
+    }
+
+    fn lay(&mut self, rng: &mut Rng, slot: Slot, words: &[u32], may_write: bool) -> Slice {
+        let laid = self.areas[slot as usize].place(words.len(), rng.percent(50));
+        laid.write(words);
+        let before = words.to_vec();
+        self.lent.push(Lent {
+            slot,
+            laid,
+            before,
+            may_write,
+        });
+        (laid.at, words.len())
+    }
+
+    /// Lends a store to be read.
+    pub fn read(&mut self, rng: &mut Rng, slot: Slot, words: &[u32]) -> Shared {
+        let (at, length) = self.lay(rng, slot, words, false);
+        (at.cast_const(), length)
+    }
+
+    /// Lends a store to be written.
+    pub fn write(&mut self, rng: &mut Rng, slot: Slot, words: &[u32]) -> Slice {
+        self.lay(rng, slot, words, true)
+    }
+
+    /// What a store that was lent to be written now holds.
+    pub fn left(&self, slot: Slot) -> Option<&[u32]> {
+        let lent = self.lent.iter().find(|lent| lent.slot == slot)?;
+        Some(lent.laid.read())
+    }
+
+    /// After a call: nothing was written outside, or where a store was lent to be read, or, by a refusal, anywhere but in the
+    /// slots named. The lent stores are given up.
+    pub fn close(&mut self, name: &'static str, number: u32, save: &[Slot]) -> Result<(), String> {
+        self.report.call(name, number);
+        for lent in &self.lent {
+            let slot = lent.slot;
+            if !lent.laid.is_kept_beside() {
+                return Err(format!("{name} has written beside {slot:?}"));
+            }
+            let must_stay = !lent.may_write || number != 0 && !save.contains(&slot);
+            if must_stay && lent.laid.read() != lent.before {
+                return Err(format!("{name} ({number}) has changed {slot:?}"));
+            }
+        }
+        self.lent.clear();
+        Ok(())
+    }
+
+    /// One call on these stores, which are left as they are; gives the stores as the call left them. `plain` is the table that
+    /// they show, if they are sound.
+    pub fn perform(
+        &mut self,
+        rng: &mut Rng,
+        image: &Image,
+        act: &Act,
+        plain: Option<&Plain>,
+    ) -> Result<Image, String> {
+        self.lent.clear();
+        let told = |why: String| format!("{why}\n  at {}\n  {act:?}", watch::place());
+        let words = verdict::words_lent(rng, act);
+        let expected = verdict::expected(act, image, &words, plain);
+        let name = verdict::name(act);
+        watch::call(name);
+        let (number, output) = self.run(rng, image, act, &words);
+        if number != expected.number {
+            return Err(told(format!(
+                "{name} gives {number}, not {}",
+                expected.number
+            )));
+        }
+        let after = self.after(image);
+        self.check_words(&expected, &output).map_err(told)?;
+        self.close(name, number, &[Slot::Words]).map_err(told)?;
+        if let Some(why) = verdict::wrong(act, image, &after, &expected) {
+            return Err(told(format!("{name}: {why}")));
+        }
+        if plain.is_some() && number == 0 {
+            self.report.compared += 1;
+            if let (Act::Call(Call::Merge), Some(words)) = (act, &expected.words) {
+                self.report.merged(words);
+            }
+        }
+        Ok(after)
+    }
+
+    /// The answer's words and the output, where they are known.
+    fn check_words(&self, expected: &Expected, output: &[u32]) -> Result<(), String> {
+        let words = self.left(Slot::Words).unwrap_or(&[]);
+        let known = expected.words.as_deref();
+        if known.is_some_and(|known| known != words) {
+            return Err(format!("words {words:?}, not {known:?}"));
+        }
+        let written = self.left(Slot::Output).unwrap_or(&[]);
+        let ids = &expected.ids;
+        if written.get(..ids.len()) != Some(ids) || written[ids.len()..] != output[ids.len()..] {
+            return Err(format!("output {written:?}, not {ids:?}"));
+        }
+        Ok(())
+    }
+
+    /// The stores as the call left them; what was not lent is as it was.
+    fn after(&self, image: &Image) -> Image {
+        let mut after = image.clone();
+        for (slot, store) in [
+            (Slot::Header, &mut after.header),
+            (Slot::Rows, &mut after.rows),
+            (Slot::Keys, &mut after.keys),
+            (Slot::Sorts, &mut after.sorts),
+            (Slot::Pending, &mut after.pending),
+            (Slot::Live, &mut after.live),
+            (Slot::Base, &mut after.base),
+        ] {
+            if let Some(left) = self.left(slot) {
+                store.copy_from_slice(left);
+            }
+        }
+        after
+    }
+}

@@ -1,0 +1,175 @@
+//! Trials: each has a seed of its own, makes a table or a heap of words, and calls the functions on it.
+
+use crate::acts::{Act, act, crowded_keys, good_opening, staging};
+use crate::image::{Image, hostile_number};
+use crate::parts;
+use crate::report::Change;
+use crate::session::Session;
+use calls::{Call, Header, Opening};
+use chance::Rng;
+use plain::Plain;
+
+/// What a table has that is about to be opened.
+fn unopened(o: &Opening) -> Header {
+    Header {
+        columns: o.columns,
+        keys: o.keys,
+        sort: o.sort,
+        rule: o.rule,
+        capacity: o.capacity,
+        ..Header::default()
+    }
+}
+
+pub fn trial(session: &mut Session, seed: u64) -> Result<(), String> {
+    let mut rng = Rng::new(seed);
+    let rng = &mut rng;
+    if rng.below(3_000) == 0 {
+        return large(session, rng);
+    }
+    match rng.below(20) {
+        0..=10 => one_word(session, rng),
+        11..=13 => many_words(session, rng),
+        14..=16 => garbage(session, rng),
+        17 => hostile_header(session, rng),
+        _ => parts::calls(session, rng),
+    }
+}
+
+/// A sound table by a short history, each call of it compared whole.
+fn sound(session: &mut Session, rng: &mut Rng) -> Result<Image, String> {
+    let opening = good_opening(rng);
+    let keys = match rng.percent(30) {
+        true => crowded_keys(rng, opening.keys),
+        false => Vec::new(),
+    };
+    let pending = rng.pick(&[0, 11, 40, 120]);
+    let filler = rng.next() as u32;
+    let mut image = Image::sized(rng, &unopened(&opening), pending, filler);
+    image = session.perform_whole(rng, &image, &Act::Call(Call::Open(opening)))?;
+    for round in 0..=rng.below(5) {
+        if round > 0 {
+            image = session.perform_whole(rng, &image, &Act::Call(Call::Merge))?;
+        }
+        for _ in 0..rng.below(12) {
+            let call = staging(rng, &image, &keys);
+            image = session.perform_whole(rng, &image, &Act::Call(call))?;
+        }
+    }
+    Ok(image)
+}
+
+impl Session {
+    /// One call, on stores that may be sound.
+    fn perform_whole(&mut self, rng: &mut Rng, image: &Image, act: &Act) -> Result<Image, String> {
+        let plain = Plain::shown(&image.held());
+        self.perform(rng, image, act, plain.as_ref())
+    }
+}
+
+/// A sound table with a single word changed, or two exchanged: the check says what the judge's own says, and other calls
+/// follow.
+fn one_word(session: &mut Session, rng: &mut Rng) -> Result<(), String> {
+    let whole = sound(session, rng)?;
+    for _ in 0..rng.within(4, 16) {
+        let mut image = whole.clone();
+        let change = match rng.percent(80) {
+            true => Change::Word(image.flip(rng)),
+            false => Change::Pair(image.exchange(rng)),
+        };
+        let verdict = plain::is_sound(&image.held());
+        let plain = Plain::shown(&image.held());
+        session.perform(rng, &image, &Act::IsSound, plain.as_ref())?;
+        session.report.change(change, verdict);
+        for _ in 0..rng.within(1, 2) {
+            let act = act(rng, &image);
+            session.perform(rng, &image, &act, plain.as_ref())?;
+        }
+    }
+    Ok(())
+}
+
+/// A few calls, each on what the last one left, with a store of another length now and then.
+fn chain(session: &mut Session, rng: &mut Rng, mut image: Image) -> Result<(), String> {
+    for _ in 0..rng.within(4, 24) {
+        let act = act(rng, &image);
+        if rng.percent(25) {
+            let mut other = image.clone();
+            other.resize(rng);
+            session.perform_whole(rng, &other, &act)?;
+        } else {
+            image = session.perform_whole(rng, &image, &act)?;
+        }
+    }
+    Ok(())
+}
+
+/// A sound table, several of its words changed or exchanged.
+fn many_words(session: &mut Session, rng: &mut Rng) -> Result<(), String> {
+    let mut image = sound(session, rng)?;
+    for _ in 0..rng.below(8) {
+        match rng.percent(50) {
+            true => image.flip(rng),
+            false => image.exchange(rng),
+        };
+    }
+    chain(session, rng, image)
+}
+
+/// A header whose numbers fit together.
+fn plausible(rng: &mut Rng) -> Header {
+    let mut h = unopened(&good_opening(rng));
+    h.rows = rng.below(h.capacity + 1);
+    h.dead = rng.below(h.rows + 1);
+    h.entries = rng.below(h.rows + 1);
+    h.generation = rng.pick(&[0, u32::MAX - 1, u32::MAX]);
+    h
+}
+
+/// A header that passes the tests, over words of no meaning.
+fn garbage(session: &mut Session, rng: &mut Rng) -> Result<(), String> {
+    let mut h = plausible(rng);
+    let pending = rng.pick(&[0, 12, 60, 200]);
+    h.pending = rng.below(pending as u32 + 1);
+    let mut image = Image::sized(rng, &h, pending, 0);
+    image.fill_with_garbage(rng);
+    chain(session, rng, image)
+}
+
+/// Any numbers at all in the header.
+fn hostile_header(session: &mut Session, rng: &mut Rng) -> Result<(), String> {
+    let mut h = plausible(rng);
+    h.pending = rng.below(60);
+    let mut image = Image::sized(rng, &h, 50, 0);
+    image.fill_with_garbage(rng);
+    for _ in 0..rng.within(4, 24) {
+        let mut hostile = image.clone();
+        for _ in 0..rng.within(1, 3) {
+            let place = rng.place(10);
+            hostile.header[place] = hostile_number(rng, &image.header);
+        }
+        if rng.percent(20) {
+            hostile.resize(rng);
+        }
+        let act = act(rng, &hostile);
+        session.perform_whole(rng, &hostile, &act)?;
+    }
+    Ok(())
+}
+
+/// The largest tables, full of garbage.
+fn large(session: &mut Session, rng: &mut Rng) -> Result<(), String> {
+    let mut h = plausible(rng);
+    h.capacity = rng.within(65_535, 65_537);
+    h.rows = h.capacity - rng.below(3);
+    h.pending = rng.below(40);
+    h.dead = rng.below(h.rows);
+    h.entries = rng.below(h.rows);
+    let mut image = Image::sized(rng, &h, 60, 0);
+    image.fill_with_garbage(rng);
+    for _ in 0..12 {
+        let act = act(rng, &image);
+        image = session.perform_whole(rng, &image, &act)?;
+    }
+    Ok(())
+}

@@ -1,0 +1,271 @@
+//! What must come of a call: its number, by the judge's tests, and, where the paper gives them, the answer's words, the output,
+//! the header and the stores. Of sound stores it gives all of them; of any stores those of an opening, a staging, a version and
+//! a refining.
+
+use crate::acts::Act;
+use crate::image::Image;
+use calls::{Answer, Call, Judge, Question, Subset};
+use chance::Rng;
+use plain::{Plain, Staged};
+
+/// Whether a refused question writes an answer of zeros into its words. Else they stay as they are.
+const REFUSED_WORDS_ARE_ZEROS: bool = true;
+
+pub struct Expected {
+    pub number: u32,
+    /// The answer's words, where they are known.
+    pub words: Option<Vec<u32>>,
+    /// Ids that stand at the output's start; the rest of it is as it was.
+    pub ids: Vec<u32>,
+    /// The plain table after a call on sound stores.
+    pub plain: Option<Plain>,
+}
+
+pub fn name(act: &Act) -> &'static str {
+    match act {
+        Act::Call(Call::Open(_)) => "mouldgrey_open_table",
+        Act::Call(Call::Insert(_)) => "mouldgrey_stage_insert",
+        Act::Call(Call::RemoveKey(_)) => "mouldgrey_stage_remove",
+        Act::Call(Call::RemoveRow(..)) => "mouldgrey_stage_remove_row",
+        Act::Call(Call::Merge) => "mouldgrey_merge",
+        Act::Call(Call::Compact) => "mouldgrey_compact",
+        Act::Call(Call::Clear) => "mouldgrey_clear",
+        Act::IsSound => "mouldgrey_is_sound",
+        Act::Ask(Question::Lookup(_)) => "mouldgrey_get_row",
+        Act::Ask(Question::Cell(..)) => "mouldgrey_get_row_column",
+        Act::Ask(Question::FastRange(_)) => "mouldgrey_fast_subset",
+        Act::Ask(Question::Version) => "mouldgrey_version",
+        Act::Ask(Question::RowsSince(_)) => "mouldgrey_updates_since",
+        Act::Ask(Question::RefineOne { .. }) => "mouldgrey_refine_one",
+        Act::Ask(Question::Intersect { .. }) => "mouldgrey_intersect",
+        Act::Ask(_) => "no C function",
+    }
+}
+
+/// How many words the function's answer takes.
+fn words_of(act: &Act) -> usize {
+    match act {
+        Act::Call(Call::Merge) => 3,
+        Act::Call(_) => 0,
+        Act::IsSound => 1,
+        Act::Ask(Question::Lookup(_) | Question::Cell(..) | Question::Version) => 2,
+        Act::Ask(_) => 3,
+    }
+}
+
+/// Words to lend for the answer: as many as it takes, or another number of them now and then.
+pub fn words_lent(rng: &mut Rng, act: &Act) -> Vec<u32> {
+    let count = words_of(act);
+    let count = match rng.below(40) {
+        0 if count > 0 => rng.place(5),
+        _ => count,
+    };
+    vec![rng.number(); count]
+}
+
+/// The number by the judge's own tests, on whatever header; 0 if the call is accepted.
+fn number(act: &Act, image: &Image, words: usize) -> u32 {
+    let is_intersect = matches!(act, Act::Ask(Question::Intersect { .. }));
+    if image.header.len() != 10 && !is_intersect {
+        return 1;
+    }
+    if words != words_of(act) {
+        return 2;
+    }
+    let (h, lent) = (image.numbers(), image.lengths());
+    let test = match act {
+        Act::Call(call) => plain::test_call(&h, &lent, call),
+        Act::Ask(question) => plain::test_question(&h, &lent, question),
+        Act::IsSound => plain::test_soundness(&h, &lent),
+    };
+    test.err().unwrap_or(0)
+}
+
+/// What must come of a call that is lent these words for its answer.
+pub fn expected(act: &Act, image: &Image, words: &[u32], plain: Option<&Plain>) -> Expected {
+    let number = number(act, image, words.len());
+    let mut expected = Expected {
+        number,
+        words: None,
+        ids: Vec::new(),
+        plain: None,
+    };
+    if number != 0 {
+        expected.words = Some(refused_words(act, number, image, words));
+        return expected;
+    }
+    match act {
+        Act::IsSound => {
+            let sound = plain::is_sound(&image.held()) == Ok(true);
+            expected.words = Some(vec![u32::from(sound)]);
+        }
+        Act::Call(call) => {
+            let mut table = plain.cloned();
+            let answer = table
+                .as_mut()
+                .map(|table| table.call(&image.lengths(), call));
+            if let Some(Answer::Merged {
+                status,
+                place,
+                added,
+            }) = answer
+            {
+                expected.words = Some(vec![status, place, u32::from(added)]);
+            }
+            expected.plain = table;
+        }
+        Act::Ask(question) => {
+            let Some(answer) = answer(question, image, plain) else {
+                return expected;
+            };
+            expected.words = Some(answer_words(act, &answer));
+            if let Answer::Subset(Subset::List(ids)) = answer {
+                expected.ids = ids;
+            }
+        }
+    }
+    expected
+}
+
+/// The answer to a question that is not refused, where the paper gives one: on sound stores, or by header and rows alone.
+fn answer(question: &Question, image: &Image, plain: Option<&Plain>) -> Option<Answer> {
+    let lent = image.lengths();
+    let h = image.numbers();
+    match (question, plain) {
+        (Question::Intersect { .. }, _) => Some(Plain::new().ask(&lent, question)),
+        (_, Some(table)) => Some(table.ask(&lent, question)),
+        (Question::Version, _) => Some(Answer::Version {
+            generation: h.generation,
+            rows: h.rows,
+        }),
+        (Question::RowsSince(row), _) => Some(Answer::Subset(Subset::Range(*row, h.rows))),
+        (Question::RefineOne { .. }, _) => {
+            Some(Plain::with_rows_of(&image.held()).ask(&lent, question))
+        }
+        _ => None,
+    }
+}
+
+/// The words of a refused call. They stay as they are where they, or the header, are of a wrong length, and after a merge.
+fn refused_words(act: &Act, number: u32, image: &Image, words: &[u32]) -> Vec<u32> {
+    let is_told = image.header.len() == 10 && words.len() == words_of(act);
+    match act {
+        // The refusal's number is in the words.
+        Act::Ask(Question::Intersect { .. }) if words.len() == 3 => vec![0, number, 0],
+        Act::Ask(Question::RefineOne { .. }) if REFUSED_WORDS_ARE_ZEROS && is_told => {
+            vec![0, number, 0]
+        }
+        Act::Ask(_) | Act::IsSound if REFUSED_WORDS_ARE_ZEROS && is_told => vec![0; words.len()],
+        _ => words.to_vec(),
+    }
+}
+
+fn answer_words(act: &Act, answer: &Answer) -> Vec<u32> {
+    match answer {
+        Answer::Row(row, _) => vec![1, *row],
+        Answer::Cell(cell) => vec![1, *cell],
+        Answer::Version { generation, rows } => vec![*generation, *rows],
+        Answer::Subset(Subset::Range(start, end)) => vec![1, *start, *end],
+        Answer::Subset(Subset::List(ids)) => vec![2, ids.len() as u32, 0],
+        _ => vec![0; words_of(act)],
+    }
+}
+
+/// What of header and stores is otherwise than it must be after an accepted call.
+pub fn wrong(act: &Act, before: &Image, after: &Image, expected: &Expected) -> Option<String> {
+    let Act::Call(call) = act else {
+        return None;
+    };
+    if expected.number != 0 {
+        return None;
+    }
+    if let Some(why) = written_past(call, before, after) {
+        return Some(why);
+    }
+    match &expected.plain {
+        Some(plain) => wrong_of_sound(call, before, after, plain),
+        None => wrong_of_any(call, before, after),
+    }
+}
+
+/// Slots past the key store's and compaction words past those needed are never written.
+fn written_past(call: &Call, before: &Image, after: &Image) -> Option<String> {
+    let capacity = match call {
+        Call::Open(o) => o.capacity as usize,
+        _ => before.numbers().capacity as usize,
+    };
+    let words = capacity.div_ceil(64);
+    for (name, was, is, from) in [
+        ("slots", &before.keys, &after.keys, 2 * capacity),
+        ("live words", &before.live, &after.live, 2 * words),
+        ("base words", &before.base, &after.base, words),
+    ] {
+        if was.get(from..) != is.get(from..) {
+            return Some(format!("{name} past those needed are written"));
+        }
+    }
+    None
+}
+
+/// Sound stores stay sound, and every cell is as the plain table says.
+fn wrong_of_sound(call: &Call, before: &Image, after: &Image, plain: &Plain) -> Option<String> {
+    let expected = plain.expected();
+    if after.header != expected.header.words() {
+        return Some(format!(
+            "header {:?}, not {:?}",
+            after.header, expected.header
+        ));
+    }
+    for (name, is, cells) in [
+        ("rows", &after.rows, expected.rows),
+        ("sort entries", &after.sorts, expected.sorts),
+        ("pending words", &after.pending, expected.pending),
+    ] {
+        if let Some(place) = (0..is.len()).find(|&at| cells.get(at) != Some(&is[at])) {
+            return Some(format!("{name} have {} at {place}", is[place]));
+        }
+    }
+    let compacted = after.header[9] != before.header[9] && *call != Call::Clear;
+    if !compacted && (after.live != before.live || after.base != before.base) {
+        return Some("compaction words are written where nothing is compacted".to_string());
+    }
+    let sound = plain::is_sound(&after.held());
+    (sound != Ok(true)).then(|| format!("the stores are left unsound: {sound:?}"))
+}
+
+fn staged(call: &Call) -> Staged {
+    match call {
+        Call::RemoveKey(key) => Staged::RemoveKey(key.clone()),
+        Call::RemoveRow(row, key) => Staged::RemoveRow(*row, key.clone()),
+        Call::Insert(cells) => Staged::Insert(cells.clone()),
+        _ => panic!("not a staging: {call:?}"),
+    }
+}
+
+/// Of any stores: what an opening and a staging leave.
+fn wrong_of_any(call: &Call, before: &Image, after: &Image) -> Option<String> {
+    let mut header = before.numbers();
+    match call {
+        Call::Open(o) => {
+            let slots = 2 * o.capacity as usize;
+            let mut opened = Plain::new();
+            opened.call(&before.lengths(), call);
+            header = opened.header();
+            if after.keys[..slots].iter().any(|&word| word != 0) {
+                return Some("a slot is not free".to_string());
+            }
+        }
+        Call::Insert(_) | Call::RemoveKey(_) | Call::RemoveRow(..) => {
+            let record = plain::record(header.keys, &staged(call));
+            let from = header.pending as usize;
+            let mut pending = before.pending.clone();
+            pending[from..from + record.len()].copy_from_slice(&record);
+            if after.pending != pending {
+                return Some("another record is staged".to_string());
+            }
+            header.pending += record.len() as u32;
+        }
+        Call::Merge | Call::Compact | Call::Clear => return None,
+    }
+    (after.header != header.words()).then(|| format!("header {:?}, not {header:?}", after.header))
+}

@@ -1,0 +1,289 @@
+//! The proved library as a judge: a table over stores that it keeps, lent at the lengths that a call says.
+
+mod stores;
+#[cfg(test)]
+mod tests;
+
+use calls::{Answer, Call, Condition, Contents, DEAD, Expected, Judge, Lengths, Question, Subset};
+use mouldgrey::{Constraint, Header, Merge, Opening, Refusal, SubsetRef, Written, lent};
+use stores::Stores;
+
+/// What stands behind a lent store, and in one that was never written.
+const UNWRITTEN: u32 = 0x5bad_cafe;
+
+/// A table's header and stores. A store is made longer where a call is lent a longer one.
+#[derive(Clone, Default)]
+pub struct ProvedTable {
+    now: Stores,
+    /// The same as the last call left them, to see what a call has written.
+    then: Stores,
+    stagings: u32,
+}
+
+/// How often large stores are looked at as a whole while records are staged.
+const STAGINGS: u32 = 4_096;
+
+impl ProvedTable {
+    pub fn new() -> ProvedTable {
+        ProvedTable::default()
+    }
+
+    /// Makes the stores long enough for these lengths.
+    pub fn lend(&mut self, lent: &Lengths) {
+        self.now.lend(lent);
+        self.then.lend(lent);
+    }
+
+    /// A call on stores that are long enough for what is lent.
+    pub fn play(&mut self, lent: &Lengths, call: &Call) -> Answer {
+        let s = &mut self.now;
+        let done = match call {
+            Call::Open(o) => lent::open_table(
+                &opening(o),
+                &mut s.header,
+                &s.rows[..lent.rows],
+                &mut s.keys[..lent.keys],
+                &s.sorts[..lent.sort_entries],
+                &s.pending[..lent.pending],
+            ),
+            Call::Insert(cells) => {
+                lent::stage_insert(&mut s.header, &mut s.pending[..lent.pending], cells)
+            }
+            Call::RemoveKey(key) => {
+                lent::stage_remove(&mut s.header, &mut s.pending[..lent.pending], key)
+            }
+            Call::RemoveRow(row, key) => {
+                lent::stage_remove_row(&mut s.header, &mut s.pending[..lent.pending], *row, key)
+            }
+            Call::Merge => {
+                let merged = lent::merge(
+                    &mut s.header,
+                    &mut s.rows[..lent.rows],
+                    &mut s.keys[..lent.keys],
+                    &mut s.sorts[..lent.sort_entries],
+                    &s.pending[..lent.pending],
+                    &mut s.live[..lent.live_words],
+                    &mut s.base[..lent.base_words],
+                );
+                return answer(merged, merge_answer);
+            }
+            Call::Compact => lent::compact(
+                &mut s.header,
+                &mut s.rows[..lent.rows],
+                &mut s.keys[..lent.keys],
+                &mut s.sorts[..lent.sort_entries],
+                &mut s.live[..lent.live_words],
+                &mut s.base[..lent.base_words],
+            ),
+            Call::Clear => lent::clear(&mut s.header, &mut s.keys[..lent.keys]),
+        };
+        answer(done, |()| Answer::Done)
+    }
+
+    /// Whether the stores are sound, all lent in full.
+    pub fn is_sound(&self) -> Result<bool, Refusal> {
+        let s = &self.now;
+        lent::is_sound(&s.header, &s.rows, &s.keys, &s.sorts, &s.pending)
+    }
+
+    /// Whether this is the time to look at all of the stores.
+    fn is_time_to_look(&mut self, call: &Call) -> bool {
+        if !is_staging(call) {
+            self.stagings = 0;
+            return true;
+        }
+        self.stagings += 1;
+        self.now.are_small() || self.stagings.is_multiple_of(STAGINGS)
+    }
+
+    /// The cells of a row.
+    fn cells(&self, row: u32) -> &[u32] {
+        let width = self.now.header.columns as usize;
+        let from = row as usize * width;
+        &self.now.rows[from..from + width]
+    }
+
+    /// A question to stores that are long enough for what is lent.
+    pub fn ask_lent(&self, lent: &Lengths, question: &Question) -> Answer {
+        let s = &self.now;
+        let h = &s.header;
+        match question {
+            Question::Lookup(key) => answer(
+                lent::get_row(h, &s.rows[..lent.rows], &s.keys[..lent.keys], key),
+                |row| found(row, |row| Answer::Row(row, self.cells(row).to_vec())),
+            ),
+            Question::Cell(key, column) => answer(
+                lent::get_row_column(h, &s.rows[..lent.rows], &s.keys[..lent.keys], key, *column),
+                |cell| found(cell, Answer::Cell),
+            ),
+            Question::FastRange(condition) => answer(
+                lent::fast_subset(h, &s.sorts[..lent.sort_entries], constraint(condition)),
+                |range| found(range, range_answer),
+            ),
+            Question::Version => answer(lent::version(h), |version| Answer::Version {
+                generation: version.generation,
+                rows: version.rows,
+            }),
+            Question::RowsSince(row) => answer(lent::updates_since(h, *row), range_answer),
+            Question::RefineOne {
+                subset,
+                condition,
+                output,
+            } => over_output(*output, |output| {
+                lent::refine_one(
+                    h,
+                    &s.rows[..lent.rows],
+                    borrowed(subset),
+                    constraint(condition),
+                    output,
+                )
+            }),
+            Question::Intersect {
+                first,
+                second,
+                output,
+            } => over_output(*output, |output| {
+                lent::intersect(borrowed(first), borrowed(second), output)
+            }),
+            Question::RefineList { .. } | Question::AnyMatch { .. } | Question::Page { .. } => {
+                panic!("the library does not have this question under a C name")
+            }
+        }
+    }
+}
+
+impl Judge for ProvedTable {
+    /// Beside the answer: nothing is written where it may not be, and an opened table's stores stay sound.
+    fn call(&mut self, lent: &Lengths, call: &Call) -> Answer {
+        self.lend(lent);
+        let answer = self.play(lent, call);
+        let look = self.is_time_to_look(call);
+        let refused = matches!(answer, Answer::Refused(_));
+        if let Some(why) = self.now.wrongly_written(&self.then, call, refused, look) {
+            panic!("{why}");
+        }
+        self.then.follow(&self.now, call, look);
+        if self.now.header.columns != 0 && look {
+            assert_eq!(self.is_sound(), Ok(true), "unsound");
+        }
+        answer
+    }
+
+    /// Stores shorter than what is lent are lent longer ones of no meaning, which a refusal does not look at and an answer
+    /// cannot need.
+    fn ask(&self, lent: &Lengths, question: &Question) -> Answer {
+        if self.now.is_long_enough(lent) {
+            return self.ask_lent(lent, question);
+        }
+        let mut own = self.clone();
+        own.lend(lent);
+        own.ask_lent(lent, question)
+    }
+
+    fn contents(&self) -> Contents {
+        let h = &self.now.header;
+        Contents {
+            generation: h.generation,
+            rows: h.rows,
+            dead: h.dead,
+            live: (0..h.rows)
+                .map(|row| (row, self.cells(row).to_vec()))
+                .filter(|(_, cells)| cells[0] != DEAD)
+                .collect(),
+            sort_entries: self.now.sorts[..2 * h.entries as usize]
+                .chunks(2)
+                .map(|pair| (pair[0], pair[1]))
+                .collect(),
+        }
+    }
+
+    fn unlike(&self, expected: &Expected, whole: bool) -> Option<String> {
+        self.now.unlike(expected, whole || self.now.are_small())
+    }
+}
+
+/// A call that only adds a record.
+fn is_staging(call: &Call) -> bool {
+    matches!(
+        call,
+        Call::Insert(_) | Call::RemoveKey(_) | Call::RemoveRow(..)
+    )
+}
+
+fn opening(o: &calls::Opening) -> Opening {
+    Opening {
+        columns: o.columns,
+        keys: o.keys,
+        sort: o.sort,
+        rule: o.rule,
+        capacity: o.capacity,
+        generation: o.generation,
+    }
+}
+
+pub fn constraint(condition: &Condition) -> Constraint {
+    Constraint {
+        kind: condition.kind,
+        column: condition.a,
+        value: condition.b,
+    }
+}
+
+pub fn borrowed(subset: &Subset) -> SubsetRef<'_> {
+    match subset {
+        Subset::Range(start, end) => SubsetRef::Range(*start, *end),
+        Subset::List(ids) => SubsetRef::List(ids),
+    }
+}
+
+/// What an accepted call answers, or its refusal's number.
+fn answer<T>(heard: Result<T, Refusal>, accepted: impl FnOnce(T) -> Answer) -> Answer {
+    match heard {
+        Ok(value) => accepted(value),
+        Err(refusal) => Answer::Refused(refusal.number()),
+    }
+}
+
+fn merge_answer(merge: Merge) -> Answer {
+    let (status, place) = merge.stop.map_or((0, 0), |(stop, at)| (stop.number(), at));
+    Answer::Merged {
+        status,
+        place,
+        added: merge.added,
+    }
+}
+
+/// The answer to a question that may have none.
+fn found<T>(value: Option<T>, some: impl FnOnce(T) -> Answer) -> Answer {
+    value.map_or(Answer::None, some)
+}
+
+fn range_answer((start, end): (u32, u32)) -> Answer {
+    Answer::Subset(Subset::Range(start, end))
+}
+
+/// A question with an output of this length. A subset that is not refused has at most 65,536 ids, so that a longer output
+/// makes no difference. Nothing but the ids may be written.
+fn over_output(length: usize, ask: impl FnOnce(&mut [u32]) -> Result<Written, Refusal>) -> Answer {
+    let length = length.min(70_000);
+    let mut output = vec![UNWRITTEN; length + 1];
+    let heard = ask(&mut output[..length]);
+    let written = match heard {
+        Ok(Written::List(count)) => count,
+        Ok(Written::Range(..)) | Err(_) => 0,
+    };
+    assert!(
+        output[written..].iter().all(|&word| word == UNWRITTEN),
+        "written past the ids"
+    );
+    answer(heard, |heard| match heard {
+        Written::Range(start, end) => Answer::Subset(Subset::Range(start, end)),
+        Written::List(_) => {
+            output.truncate(written);
+            Answer::Subset(Subset::List(output))
+        }
+    })
+}
+
+/// The questions that the library does not have under a C name, as the comparison calls them.
+pub const LACKS: [&str; 3] = ["refine by a list", "any match", "page"];
