@@ -1,12 +1,12 @@
--- Steps of an insert in the code's form: places in the row store, what an admission says once its answer is known, and the
--- answers of the parts put together. Assumes nothing.
+-- Steps of an insert in the code's form: the row that the rule makes, and the answers of the parts put together. Assumes
+-- nothing.
 use Prim.Native.Nat.{ℕ, _+_, _-_, _*_, _≤_, _<_}
 use mathlib.Core.Path.{_≡_, refl, sym, ap, ap₂, _∙_}
 use mathlib.Core.Bool.{Bool, true, false, false≢true}
 use mathlib.Core.List.{List}
-use native.Mathlib.Nat.{add-zero, mul-le-mul}
+use native.Mathlib.Nat.{add-zero}
 use native.Mathlib.Omega.{arith}
-use lib.ListN.{length, take, drop, getD, set, length-take, length-drop}
+use lib.ListN.{length, take, drop, getD, length-take, length-drop}
 use lib.Seq.{take-take, getD-take, getD-drop}
 use borrow.Author.Tests.{le-leb, lt-leb}
 use Rattle.lists.specs.Lists.{putAt, rowAt}
@@ -19,78 +19,17 @@ use Rattle.merge_rules.specs.Laws.Rules.{survivor-length}
 use Rattle.key_index.specs.declared.Keyed.{Keyed}
 use Rattle.key_index.specs.declared.Found.{Found}
 use Rattle.key_index.specs.declared.Found.the-variants.{None, At}
-use Rattle.key_index.specs.Slots.{tagged}
-use Rattle.key_index.specs.inner.Index.{Fits, FoundIs, PutIs}
+use Rattle.key_index.specs.inner.Index.{Fits, FoundIs}
 use Rattle.table.specs.declared.Header.{Header}
-use Rattle.inserts.specs.declared.Insertion.{Insertion}
-use Rattle.inserts.specs.declared.Insertion.the-variants.{Kept, Appended, Stopped}
-use Rattle.inserts.specs.declared.Admission.{Admission}
-use Rattle.inserts.specs.declared.Admission.the-variants.{Stop, Entries}
+use Rattle.appending.specs.declared.Insertion.{Insertion}
+use Rattle.appending.specs.declared.Insertion.the-variants.{Kept, Appended, Stopped}
 use Rattle.table.specs.Sound.{keyedOf}
-use Rattle.pending.specs.inner.Becoming.{withCounts, Ready}
+use Rattle.pending.specs.inner.Becoming.{Ready}
 use Rattle.inserts.specs.inner.Inserting.{Inserting}
-use Rattle.inserts.specs.inner.Parts.{Stops, Entered, AdmissionIs, Growable, Stayed, Grew, NewIs, Replaced, ReplaceIs, Changes, rowMade, Makeable, MadeIs, KeptOld, KnownIs}
+use Rattle.appending.specs.Laws.Places.{placed}
+use Rattle.appending.specs.inner.Appending.{Growable, NewIs, ReplaceIs}
+use Rattle.inserts.specs.inner.Ruling.{Changes, rowMade, Makeable, MadeIs, KeptOld, KnownIs}
 use Rattle.inserts.specs.Laws.Inserts.{length-made, skip-inserts, new-inserts, known-inserts}
-
--- ---- places in the row store
-
--- a row's place is a number that fits, and its cells lie in the store
-pub record Placed (h : Header) (rows : List ℕ) (i : ℕ) : Type 0 where
-  pub few : i ≤ 65536
-  pub small : i * h .columns ≤ 524288
-  pub inside : i * h .columns + h .columns ≤ length rows
-
-pub placed : (h : Header) (rows keys : List ℕ) → Fits (keyedOf h) rows keys → (i : ℕ) → i < h .capacity → Placed h rows i
-placed h rows keys f i k =
-    let few : i ≤ 65536 = omega (arith, f .most) in
-    record {
-      few = few;
-      small = mul-le-mul few (f .most-columns);
-      inside = omega (arith, row-in i (h .capacity) (h .columns) k, f .cells);
-    }
-
--- ---- admissions
-
-module _ (h : Header) (sorts : List ℕ) (value : ℕ) (sorts′ : List ℕ) (r : Admission) (a : AdmissionIs h sorts value sorts′ r) where
-  pub stop-of : (n : ℕ) → r ≡ Stop n → Stops h sorts value n × (sorts′ ≡ sorts)
-  stop-of n e = rw e at a
-
-  pub entered-of : (n : ℕ) → r ≡ Entries n → Entered h sorts value n sorts′
-  entered-of n e = rw e at a
-
--- ---- the answers
-
-module _ (h : Header) (rows keys sorts cells : List ℕ) where
-  -- a stop
-  pub stayed-of : (sorts′ : List ℕ) (n : ℕ) → Stops h sorts (getD cells (h .sort) 0) n × (sorts′ ≡ sorts) → Stayed h rows keys sorts cells n rows keys sorts′
-  stayed-of sorts′ n s = record { stops = s .0; same-rows = refl; same-keys = refl; same-sorts = s .1 }
-
-  module _ (hash n : ℕ) (sorts′ : List ℕ) (entered : Entered h sorts (getD cells (h .sort) 0) n sorts′) (h′ : Header) (rows′ keys′ : List ℕ) where
-    -- a new key's row appended
-    pub grew-of : rows′ ≡ putAt rows (h .rows * h .columns) cells → (t : Keyed) → t ≡ keyedOf h → (r : Bool) → PutIs (2 * t .capacity) keys hash (h .rows) r keys′
-        → h′ ≡ withCounts h (h .rows + 1) (h .dead + 0) n → Grew h rows keys sorts cells hash h′ rows′ keys′ sorts′
-    grew-of rows-is t keyed-is r put-is e =
-        let m : n ≡ h′ .entries = sym (ap (λ (x : Header). x .entries) e) in
-        let z : h .dead + 0 ≡ h .dead = add-zero (h .dead) in
-        record {
-          entered = rw m at entered;
-          header = e ∙ λ k. withCounts h (h .rows + 1) (z k) (m k);
-          rows-after = rows-is;
-          keys-after = (r, rw keyed-is at put-is);
-        }
-
-    -- a known key's
-    pub replaced-of : (old slot : ℕ) → rows′ ≡ putAt (set rows (old * h .columns) 4294967295) (h .rows * h .columns) cells
-        → keys′ ≡ set keys slot (tagged hash (h .rows)) → h′ ≡ withCounts h (h .rows + 1) (h .dead + 1) n
-        → Replaced h rows keys sorts cells hash old slot h′ rows′ keys′ sorts′
-    replaced-of old slot rows-is keys-is e =
-        let m : n ≡ h′ .entries = sym (ap (λ (x : Header). x .entries) e) in
-        record {
-          entered = rw m at entered;
-          header = e ∙ λ k. withCounts h (h .rows + 1) (h .dead + 1) (m k);
-          rows-after = rows-is;
-          keys-after = keys-is;
-        }
 
 -- ---- the row made
 

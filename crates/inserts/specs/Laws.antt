@@ -1,4 +1,2 @@
 -- What follows from the definitions.
-pub mod Admission
-pub mod Growth
 pub mod Inserts

@@ -1,3 +1,3 @@
 -- Contracts of functions that no user calls.
 pub mod Inserting
-pub mod Parts
+pub mod Ruling

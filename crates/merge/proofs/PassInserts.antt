@@ -11,8 +11,8 @@ use Rattle.plain.specs.Staged.{Staged, insert, removeKey, removeRow, wordsOf, i
 use Rattle.plain.specs.Plain.{unchanged, appended, stopped, Inserted, inserted, insertAll, Plain, insertion}
 use Rattle.table.specs.declared.Header.{Header}
 use Rattle.table.specs.declared.Merge.{Merge}
-use Rattle.inserts.specs.declared.Insertion.{Insertion}
-use Rattle.inserts.specs.declared.Insertion.the-variants.{Kept, Appended, Stopped}
+use Rattle.appending.specs.declared.Insertion.{Insertion}
+use Rattle.appending.specs.declared.Insertion.the-variants.{Kept, Appended, Stopped}
 use Rattle.table.specs.Numbers.{openingOf}
 use Rattle.table.specs.Promises.{Stores, stores, Represents, SlotsPast}
 use Rattle.pending.specs.inner.Becoming.{Steps, Recounted, Ready, Waiting, kindOf, RecordLength}

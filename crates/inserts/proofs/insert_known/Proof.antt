@@ -1,4 +1,4 @@
--- `merge::inserts::insert_known` meets its contract. Assumes nothing.
+-- `insert_known` meets its contract. Assumes nothing.
 use mathlib.Core.Path.{refl}
 use borrow.Author.Needs.{needs}
 use borrow.Author.Tests.{not-true, not-false}

@@ -1,4 +1,4 @@
--- `merge::inserts::insert_row` meets its contract. Assumes nothing.
+-- `insert_row` meets its contract. Assumes nothing.
 use borrow.Author.Needs.{needs}
 use Rattle.inserts.proofs.InsertSteps.{inserts-skipped, findable, growable, found-row, found-slot, inserts-new, inserts-known}
 use Rattle.inserts.proofs.insert_row.Statement.{statement}

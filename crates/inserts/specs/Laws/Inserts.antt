@@ -33,20 +33,21 @@ use Rattle.plain.specs.Proper.{rowOf}
 use Rattle.plain.specs.Laws.Rows.{noRow, liveWithKey-live, apart-of}
 use Rattle.plain.specs.Laws.Proper.{insertion-proper}
 use Rattle.table.specs.declared.Header.{Header}
-use Rattle.inserts.specs.declared.Insertion.{Insertion}
-use Rattle.inserts.specs.declared.Insertion.the-variants.{Kept, Appended, Stopped}
+use Rattle.appending.specs.declared.Insertion.{Insertion}
+use Rattle.appending.specs.declared.Insertion.the-variants.{Kept, Appended, Stopped}
 use Rattle.table.specs.Sound.{keyedOf}
 use Rattle.table.specs.Promises.{Stores, stores, Represents}
 use Rattle.pending.specs.inner.Becoming.{Recounted, withCounts, hashOf}
 use Rattle.inserts.specs.inner.Inserting.{Comes, Inserting}
-use Rattle.inserts.specs.inner.Parts.{Grew, NewIs, Replaced, Changes, rowMade, KnownIs}
+use Rattle.appending.specs.inner.Appending.{Grew, NewIs, Replaced}
+use Rattle.inserts.specs.inner.Ruling.{Changes, rowMade, KnownIs}
 use Rattle.table.specs.Laws.Stored.{marked-dead}
 use Rattle.table.specs.Laws.Shown.{in-live, live-cells}
 use Rattle.table.specs.Laws.Sound.{represents-sound}
 use Rattle.table.specs.Laws.Lookup.{live-passes, row-lookup, none-found}
 use Rattle.pending.specs.Laws.Dying.{killAt, killIf-one, dead-killAt}
-use Rattle.inserts.specs.Laws.Admission.{stop-same}
-use Rattle.inserts.specs.Laws.Growth.{prepared-same, prepared-dead, grownBy, grown-steps}
+use Rattle.appending.specs.Laws.Admission.{stop-same}
+use Rattle.appending.specs.Laws.Growth.{prepared-same, prepared-dead, grownBy, grown-steps}
 
 keys-same : {p : Plain} {s : Stores} → Represents p s → s .header .keys ≡ p .opening .keys
 keys-same r = ap (λ (h : Header). h .keys) (r .shown .header)

@@ -5,8 +5,8 @@ use mathlib.Core.List.{List}
 use Rattle.plain.specs.Staged.{insert}
 use Rattle.plain.specs.Plain.{unchanged, appended, stopped, Plain, insertion}
 use Rattle.table.specs.declared.Header.{Header}
-use Rattle.inserts.specs.declared.Insertion.{Insertion}
-use Rattle.inserts.specs.declared.Insertion.the-variants.{Kept, Appended, Stopped}
+use Rattle.appending.specs.declared.Insertion.{Insertion}
+use Rattle.appending.specs.declared.Insertion.the-variants.{Kept, Appended, Stopped}
 use Rattle.table.specs.Promises.{Stores, stores, Represents, SlotsPast}
 use Rattle.pending.specs.inner.Becoming.{Steps, Recounted, hashOf}
 

@@ -1,12 +1,12 @@
--- `merge::inserts::admit` meets its contract: a stop, or the entries with the next row's. Assumes nothing.
+-- `admit` meets its contract: a stop, or the entries with the next row's. Assumes nothing.
 use borrow.Author.Needs.{needs}
 use native.Mathlib.Omega.{arith}
 use Prim.Native.Nat.{ℕ}
 use mathlib.Core.Path.{_≡_, refl}
 use Rattle.sort_entries.specs.declared.Appended.the-variants.{Same, New}
-use Rattle.inserts.specs.Laws.Admission.{stops-full, admit-below, admit-entered}
-use Rattle.inserts.proofs.admit.Statement.{statement}
-use Rattle.inserts.proofs.admit.Tie as tie
+use Rattle.appending.specs.Laws.Admission.{stops-full, admit-below, admit-entered}
+use Rattle.appending.proofs.admit.Statement.{statement}
+use Rattle.appending.proofs.admit.Tie as tie
 
 returns : tie.Need-returns
 returns c = (stops-full _ _ _ (omega arith), refl)

@@ -1,12 +1,13 @@
--- `merge::inserts::insert_new` meets its contract. Assumes nothing.
+-- `insert_new` meets its contract. Assumes nothing.
 use Prim.Native.Nat.{_<_}
 use native.Mathlib.Omega.{arith}
 use mathlib.Core.Path.{ap}
 use Rattle.key_index.specs.declared.Keyed.{Keyed}
 use borrow.Author.Needs.{needs}
-use Rattle.inserts.proofs.InsertSteps.{Placed, placed, stop-of, entered-of, stayed-of, grew-of}
-use Rattle.inserts.proofs.insert_new.Statement.{statement}
-use Rattle.inserts.proofs.insert_new.Tie as tie
+use Rattle.appending.specs.Laws.Places.{Placed, placed}
+use Rattle.appending.proofs.AppendSteps.{stop-of, entered-of, stayed-of, grew-of}
+use Rattle.appending.proofs.insert_new.Statement.{statement}
+use Rattle.appending.proofs.insert_new.Tie as tie
 
 -- there is room for the row
 room : (c : tie.After-entries) → let h = c .before .before .before .before .before .before .before .before .before .before .before .before .args .h in h .rows < h .capacity

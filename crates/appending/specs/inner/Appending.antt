@@ -1,24 +1,22 @@
--- What the parts of an insert promise: a row enters the sort entries or stops the merge, is appended for a new key, replaces the
--- old one of a known key, and what the rule makes of the two. Of any stores, sound or not. Assumes nothing.
+-- What the parts of an append promise: a row enters the sort entries or stops the merge, is appended for a new key, or replaces
+-- the old one of a known key. Of any stores, sound or not. Assumes nothing.
 use Prim.Native.Nat.{ℕ, _+_, _*_, _≤_, _<_}
 use mathlib.Core.Path.{_≡_}
-use mathlib.Core.Bool.{Bool, true, false, cond, not}
+use mathlib.Core.Bool.{Bool, not}
 use mathlib.Core.List.{List, [], _∷_}
 use lib.Dec.{leb}
-use lib.ListN.{length, take, drop, getD, set}
-use Rattle.lists.specs.Lists.{putAt, rowAt}
+use lib.ListN.{length, getD, set}
+use Rattle.lists.specs.Lists.{putAt}
 use Rattle.refusals.specs.Refusals.{rung, first}
-use Rattle.merge_rules.specs.Rules.{changesFrom, madeFrom}
-use Rattle.merge_rules.specs.Survivor.{survivor}
 use Rattle.sort_entries.specs.Entries.{entriesOf, words, push}
 use Rattle.sort_entries.specs.inner.Admission.{admits}
 use Rattle.key_index.specs.Slots.{tagged}
 use Rattle.key_index.specs.inner.Index.{Fits, PutIs}
 use Rattle.table.specs.declared.Header.{Header}
-use Rattle.inserts.specs.declared.Insertion.{Insertion}
-use Rattle.inserts.specs.declared.Insertion.the-variants.{Kept, Appended, Stopped}
-use Rattle.inserts.specs.declared.Admission.{Admission}
-use Rattle.inserts.specs.declared.Admission.the-variants.{Stop, Entries}
+use Rattle.appending.specs.declared.Insertion.{Insertion}
+use Rattle.appending.specs.declared.Insertion.the-variants.{Kept, Appended, Stopped}
+use Rattle.appending.specs.declared.Admission.{Admission}
+use Rattle.appending.specs.declared.Admission.the-variants.{Stop, Entries}
 use Rattle.table.specs.Sound.{keyedOf}
 use Rattle.pending.specs.inner.Becoming.{withCounts}
 
@@ -97,42 +95,3 @@ abbrev pub ReplaceIs : Header → List ℕ → List ℕ → List ℕ → List �
 ReplaceIs h rows keys sorts cells hash old slot rows′ keys′ sorts′ Kept = ⊥
 ReplaceIs h rows keys sorts cells hash old slot rows′ keys′ sorts′ (Appended h′) = Replaced h rows keys sorts cells hash old slot h′ rows′ keys′ sorts′
 ReplaceIs h rows keys sorts cells hash old slot rows′ keys′ sorts′ (Stopped n) = Stayed h rows keys sorts cells n rows′ keys′ sorts′
-
--- ---- the rule
-
--- a cell outside keys and sort column changes
-abbrev pub Changes : Header → List ℕ → List ℕ → Bool
-Changes h old new = changesFrom (h .rule) (h .keys) (h .sort) 0 old new
-
--- the row to be appended: "For rules 0 and 1 the surviving row"
-unfoldable pub rowMade : Header → List ℕ → List ℕ → List ℕ
-rowMade h old new =
-    cond (leb (h .rule) 1) (survivor (h .rule) (h .keys) (h .sort) old new) (madeFrom (h .rule) (h .keys) (h .sort) 0 old new)
-
--- both rows lie in their stores, and the row made has a place
-pub record Makeable (h : Header) (rows pending out : List ℕ) (old from : ℕ) : Type 0 where
-  pub few-columns : h .columns ≤ 8
-  pub old-small : old * h .columns ≤ 524288
-  pub old-in : old * h .columns + h .columns ≤ length rows
-  pub new-in : from + h .columns ≤ length pending
-  pub out-long : length out ≡ 8
-
--- the answer whether a row is made, and the row
-pub record MadeIs (h : Header) (rows pending out : List ℕ) (old from : ℕ) (r : Bool) (out′ : List ℕ) : Type 0 where
-  pub answer : r ≡ Changes h (rowAt (h .columns) old rows) (take (h .columns) (drop from pending))
-  pub row : r ≡ true → out′ ≡ putAt out 0 (rowMade h (rowAt (h .columns) old rows) (take (h .columns) (drop from pending)))
-
--- no row is made, and the stores are as they were
-pub record KeptOld (h : Header) (rows keys sorts cells : List ℕ) (old : ℕ) (rows′ keys′ sorts′ : List ℕ) : Type 0 where
-  pub unchanged : Changes h (rowAt (h .columns) old rows) cells ≡ false
-  pub same-rows : rows′ ≡ rows
-  pub same-keys : keys′ ≡ keys
-  pub same-sorts : sorts′ ≡ sorts
-
--- "A known key goes through the rule; a row so made is appended and the old row dies"
-abbrev pub KnownIs : Header → List ℕ → List ℕ → List ℕ → List ℕ → ℕ → ℕ → ℕ → List ℕ → List ℕ → List ℕ → Insertion → Type 0
-KnownIs h rows keys sorts cells hash old slot rows′ keys′ sorts′ Kept = KeptOld h rows keys sorts cells old rows′ keys′ sorts′
-KnownIs h rows keys sorts cells hash old slot rows′ keys′ sorts′ (Appended h′) =
-    (Changes h (rowAt (h .columns) old rows) cells ≡ true) × Replaced h rows keys sorts (rowMade h (rowAt (h .columns) old rows) cells) hash old slot h′ rows′ keys′ sorts′
-KnownIs h rows keys sorts cells hash old slot rows′ keys′ sorts′ (Stopped n) =
-    (Changes h (rowAt (h .columns) old rows) cells ≡ true) × Stayed h rows keys sorts (rowMade h (rowAt (h .columns) old rows) cells) n rows′ keys′ sorts′

@@ -25,7 +25,7 @@ use Rattle.plain.specs.Laws.Rows.{noRow, sortOf}
 use Rattle.table.specs.declared.Header.{Header}
 use Rattle.table.specs.Stores.{entries}
 use Rattle.table.specs.Promises.{Stores, Represents}
-use Rattle.inserts.specs.inner.Parts.{stopAt, Enterable, Stops, Entered}
+use Rattle.appending.specs.inner.Appending.{stopAt, Enterable, Stops, Entered}
 use Rattle.table.specs.Laws.Shown.{rows-counted}
 use Rattle.table.specs.Laws.Sound.{sortCells, length-sortCells, getD-sortCells, sortCells-climb}
 

@@ -27,7 +27,7 @@ use Rattle.table.specs.Stores.{entries, headerOf, marked, stored, rowStore, sor
 use Rattle.table.specs.Sound.{keyedOf}
 use Rattle.table.specs.Promises.{Stores, stores, lengths, Represents}
 use Rattle.pending.specs.inner.Becoming.{Later, Steps, withCounts}
-use Rattle.inserts.specs.inner.Parts.{Entered}
+use Rattle.appending.specs.inner.Appending.{Entered}
 use Rattle.table.specs.Laws.Stored.{stored-again}
 use Rattle.table.specs.Laws.Shown.{long-stores, stored-rows, represents-long, rows-stored, rows-counted}
 use Rattle.pending.specs.Laws.Dying.{killAt, length-killAt, killAt-cells, killAt-live, entries-killAt, stored-killAt}

@@ -1,4 +1,4 @@
--- `merge::inserts::replace_row` meets its contract. Assumes nothing.
+-- `replace_row` meets its contract. Assumes nothing.
 use Prim.Native.Nat.{ℕ, _*_, _<_}
 use mathlib.Core.Path.{ap, _∙_}
 use mathlib.Core.List.{List}
@@ -6,9 +6,10 @@ use native.Mathlib.Omega.{arith}
 use lib.ListN.{length, length-set}
 use borrow.Author.Needs.{needs}
 use Rattle.lists.specs.Lists.{putAt}
-use Rattle.inserts.proofs.InsertSteps.{Placed, placed, stop-of, entered-of, stayed-of, replaced-of}
-use Rattle.inserts.proofs.replace_row.Statement.{statement}
-use Rattle.inserts.proofs.replace_row.Tie as tie
+use Rattle.appending.specs.Laws.Places.{Placed, placed}
+use Rattle.appending.proofs.AppendSteps.{stop-of, entered-of, stayed-of, replaced-of}
+use Rattle.appending.proofs.replace_row.Statement.{statement}
+use Rattle.appending.proofs.replace_row.Tie as tie
 
 -- there is room for the row
 room : (c : tie.After-entries) → let h = c .before .before .before .before .before .before .before .before .before .before .before .before .args .h in h .rows < h .capacity

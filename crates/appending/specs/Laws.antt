@@ -1,0 +1,4 @@
+-- What follows from the definitions.
+pub mod Admission
+pub mod Growth
+pub mod Places

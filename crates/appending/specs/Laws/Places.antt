@@ -1,0 +1,25 @@
+-- Places in the row store. Assumes nothing.
+use Prim.Native.Nat.{ℕ, _+_, _*_, _≤_, _<_}
+use mathlib.Core.List.{List}
+use native.Mathlib.Nat.{mul-le-mul}
+use native.Mathlib.Omega.{arith}
+use lib.ListN.{length}
+use Rattle.lists.specs.Laws.Rows.{row-in}
+use Rattle.key_index.specs.inner.Index.{Fits}
+use Rattle.table.specs.declared.Header.{Header}
+use Rattle.table.specs.Sound.{keyedOf}
+
+-- a row's place is a number that fits, and its cells lie in the store
+pub record Placed (h : Header) (rows : List ℕ) (i : ℕ) : Type 0 where
+  pub few : i ≤ 65536
+  pub small : i * h .columns ≤ 524288
+  pub inside : i * h .columns + h .columns ≤ length rows
+
+pub placed : (h : Header) (rows keys : List ℕ) → Fits (keyedOf h) rows keys → (i : ℕ) → i < h .capacity → Placed h rows i
+placed h rows keys f i k =
+    let few : i ≤ 65536 = omega (arith, f .most) in
+    record {
+      few = few;
+      small = mul-le-mul few (f .most-columns);
+      inside = omega (arith, row-in i (h .capacity) (h .columns) k, f .cells);
+    }

@@ -1,0 +1,96 @@
+// One row appended to a table: it enters the sort entries or stops the merge, stands after the other rows, and the key store leads
+// to it. Stops are tested before anything is written.
+ghost use mathlib.Core.Path.{_≡_};
+ghost use Prim.Native.Nat.{_≤_, _+_, _*_, _<_};
+ghost use Rattle.pending.specs.inner.Becoming.{withCounts};
+ghost use Rattle.appending.specs.inner.Appending.{Enterable, AdmissionIs, Growable, NewIs, ReplaceIs};
+use sort_entries::Appended;
+use table::Header;
+use table::keyed;
+
+// What an insert of a merge does: nothing, a row is appended, or the merge stops with a number.
+pub enum Insertion {
+    Kept,
+    Appended(Header),
+    Stopped(u32),
+}
+
+// Whether a row can be appended: a stop's number, or the number of sort entries with it.
+enum Admission {
+    Stop(u32),
+    Entries(u32),
+}
+
+// A row of this sort value enters the sort entries, unless it stops the merge: 8 is tested before 9.
+fn admit(h: Header, sorts: &mut [u32], value: u32) -> Admission
+    requires { ⌜ Enterable h (now sorts) ⌝ }
+    ensures { λ r. ⌜ AdmissionIs h (now (sorts .entry)) value (now (sorts .exit)) r ⌝ }
+{
+    if h.capacity <= h.rows {
+        return Admission::Stop(8);
+    }
+    match sort_entries::append_entry(sorts, h.entries, value, h.rows) {
+        Appended::Below => Admission::Stop(9),
+        Appended::Same => Admission::Entries(h.entries),
+        Appended::New => Admission::Entries(h.entries + 1),
+    }
+}
+
+// The header with one row more.
+fn grown(h: Header, died: u32, entries: u32) -> Header
+    requires { ⌜ (h .rows < 65536) × (h .dead + died ≤ 4294967295) ⌝ }
+    ensures { λ r. ⌜ r ≡ withCounts h (h .rows + 1) (h .dead + died) entries ⌝ }
+{
+    let mut n = h;
+    n.rows = h.rows + 1;
+    n.dead = h.dead + died;
+    n.entries = entries;
+    n
+}
+
+// A new key's row is appended. Where the key store is sound a slot is free.
+pub fn insert_new(
+    h: Header,
+    rows: &mut [u32],
+    keys: &mut [u32],
+    sorts: &mut [u32],
+    cells: &[u32],
+    hash: u32,
+) -> Insertion
+    requires { ⌜ Growable h (now rows) (now keys) (now sorts) (now cells) ⌝ }
+    ensures { λ r. ⌜ NewIs h (now (rows .entry)) (now (keys .entry)) (now (sorts .entry)) (now (cells .entry)) hash (now (rows .exit)) (now (keys .exit)) (now (sorts .exit)) r ⌝ }
+{
+    match admit(h, sorts, cells[h.sort as usize]) {
+        Admission::Stop(number) => Insertion::Stopped(number),
+        Admission::Entries(entries) => {
+            row_buffer::write_row(rows, (h.rows * h.columns) as usize, cells);
+            key_index::put(keyed(h), keys, hash, h.rows);
+            Insertion::Appended(grown(h, 0, entries))
+        }
+    }
+}
+
+// A row of a known key is appended, takes over the key's slot, and the old row dies.
+pub fn replace_row(
+    h: Header,
+    rows: &mut [u32],
+    keys: &mut [u32],
+    sorts: &mut [u32],
+    cells: &[u32],
+    hash: u32,
+    old: u32,
+    slot: u32,
+) -> Insertion
+    requires { ⌜ Growable h (now rows) (now keys) (now sorts) (now cells) × (old < h .rows) × (slot < 2 * h .capacity) ⌝ }
+    ensures { λ r. ⌜ ReplaceIs h (now (rows .entry)) (now (keys .entry)) (now (sorts .entry)) (now (cells .entry)) hash old slot (now (rows .exit)) (now (keys .exit)) (now (sorts .exit)) r ⌝ }
+{
+    match admit(h, sorts, cells[h.sort as usize]) {
+        Admission::Stop(number) => Insertion::Stopped(number),
+        Admission::Entries(entries) => {
+            row_buffer::set_stale(rows, (old * h.columns) as usize);
+            row_buffer::write_row(rows, (h.rows * h.columns) as usize, cells);
+            key_index::replace(keys, slot, hash, h.rows);
+            Insertion::Appended(grown(h, 1, entries))
+        }
+    }
+}
