@@ -31,7 +31,8 @@ usage: oracle                   the gate's run: all short histories, many by cha
        oracle hostile N SEED    at least N calls of all C functions on stores that nobody made
        oracle record [SEED]     prints the recorded list
        oracle replay FILE       checks a recorded list against both judges and the proved table
-       oracle bench             measures the proved library beside the Rust (build it with --release)";
+       oracle bench             measures the proved library beside the Rust (build it with --release)
+       oracle seal              the same for the monthly seal; fails above its limit (build it with --release)";
 
 const RUST: Rival<RustTable> = Rival {
     make: RustTable::new,
@@ -82,6 +83,7 @@ fn command(arguments: &[&str]) -> Result<(), String> {
             measure::bench();
             Ok(())
         }
+        ["seal"] => measure::seal(),
         _ => Err(USAGE.to_string()),
     }
 }

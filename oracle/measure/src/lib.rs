@@ -2,8 +2,11 @@
 
 mod keys;
 mod offsets;
+mod seal;
 mod tables;
 mod time;
+
+pub use seal::seal;
 
 /// A line for each thing measured.
 pub fn bench() {
