@@ -6,3 +6,4 @@ pub mod Further
 pub mod Narrowing
 pub mod Questions
 pub mod Theorem
+pub mod Batches

@@ -1,4 +1,5 @@
 pub mod Histories
 pub mod Runs
 pub mod Claim
+pub mod Batches
 pub mod Laws

@@ -5,4 +5,5 @@ pub mod Calls
 pub mod Counts
 pub mod Proper
 pub mod Live
+pub mod Batches
 pub mod Turns

@@ -1,6 +1,7 @@
 //! The comparison of the two judges, the plain table, written from the paper, and the carried-over Rust; of the proved table
 //! with the plain one; and of the proved library's functions with the Rust's.
 
+mod batches;
 mod compare;
 mod counts;
 mod full;
@@ -28,6 +29,7 @@ usage: oracle                   the gate's run: all short histories, many by cha
        oracle run COUNT [SEED]  any number of histories by chance
        oracle proved COUNT SEED the same for the proved table beside the plain one
        oracle full              histories of the largest tables, for the Rust and the proved table
+       oracle batches N SEED    so many batches of inserts, each cut at every place
        oracle hostile N SEED    at least N calls of all C functions on stores that nobody made
        oracle record [SEED]     prints the recorded list
        oracle replay FILE       checks a recorded list against both judges and the proved table
@@ -47,6 +49,10 @@ const PROVED: Rival<ProvedTable> = Rival {
     follows_paper: true,
     lacks: &proved_table::LACKS,
 };
+
+/// The gate's batches cut anywhere, and their seed.
+const BATCHES: u64 = 3_000;
+const BATCH_SEED: u64 = 12;
 
 /// The gate's calls on hostile stores, and their seed.
 const HOSTILE_CALLS: u64 = 2_000_000;
@@ -75,6 +81,7 @@ fn command(arguments: &[&str]) -> Result<(), String> {
             run::full(&RUST)?;
             run::full(&PROVED)
         }
+        ["batches", count, seed] => print(vec![batches::gate(number(count)?, number(seed)?)?]),
         ["hostile", calls, seed] => print(hostile::run(number(calls)?, number(seed)?)?),
         ["record"] => record(record::SEED),
         ["record", seed] => record(number(seed)?),
@@ -92,6 +99,8 @@ fn gate() -> Result<(), String> {
     run::gate(&RUST)?;
     println!("the proved library and the plain table:");
     println!("  {}", run::gate_proved(&PROVED)?);
+    println!("batches of inserts cut anywhere:");
+    println!("  {}", batches::gate(BATCHES, BATCH_SEED)?);
     println!("the proved library and the Rust:");
     print(proved::compare()?)?;
     println!("the proved library on hostile stores:");

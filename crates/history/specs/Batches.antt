@@ -1,0 +1,56 @@
+-- Cut the batch anywhere (document 02, change 12): "For batches of inserts alone, merging one batch and then another shall
+-- leave the same live rows in the same order as merging both as one, from the same sound table with nothing else pending,
+-- provided no call is refused and none of the three merges stops. Row numbers and generation may differ, since compaction falls
+-- at other moments. An empty batch on either side is included". As in a history, what is known of a call is what its entry
+-- point promises, and nothing else. Assumes nothing.
+use Prim.Native.Nat.{ℕ, _≤_}
+use mathlib.Core.Path.{_≡_}
+use mathlib.Core.List.{List, [], _∷_, _++_, map}
+use Rattle.refusals.specs.Refusals.{Reply, refused, accepted, Verdict, accepts, verdict}
+use Rattle.plain.specs.Staged.{insert}
+use Rattle.plain.specs.Refusing.{Lengths}
+use Rattle.plain.specs.Calls.{staging, merging, Lent}
+use Rattle.table.specs.declared.Merge.{Merge}
+use Rattle.table.specs.Numbers.{tableSays, mergeSays}
+use Rattle.table.specs.Sound.{Sound}
+use Rattle.table.specs.Promises.{Stores}
+use Rattle.history.specs.Histories.{Step, staged, merged, compacted, cleared}
+use Rattle.history.specs.Claim.{liveIn}
+
+-- whether a call was refused, by its answer
+unfoldable pub verdictOf : {s t : Stores} {c : Lent} → Step s c t → Verdict
+verdictOf (staged r answer pending′ promise) = verdict (tableSays answer)
+verdictOf (merged w answer b′ w′ promise) = verdict (mergeSays answer)
+verdictOf (compacted w answer b′ w′ promise) = verdict (tableSays answer)
+verdictOf (cleared answer keys′ promise) = verdict (tableSays answer)
+
+-- the number that a merge answered it had stopped with, 0 if it had not
+unfoldable pub statusIn : Reply Merge → ℕ
+statusIn (refused n) = 0
+statusIn (accepted m) = m .status
+
+unfoldable pub statusOf : {s t : Stores} {c : Lent} → Step s c t → ℕ
+statusOf (staged r answer pending′ promise) = 0
+statusOf (merged w answer b′ w′ promise) = statusIn (mergeSays answer)
+statusOf (compacted w answer b′ w′ promise) = 0
+statusOf (cleared answer keys′ promise) = 0
+
+-- a batch of inserts alone: its rows staged in turn, then a merge; "no call is refused and none of the .. merges stops"
+pub data Batch : Stores → List (List ℕ) → Stores → Type 0 where
+  merge : {s t : Stores} {l : Lengths} (step : Step s (record { call = merging; lengths = l }) t)
+      → verdictOf step ≡ accepts → statusOf step ≡ 0 → Batch s [] t
+  stage : {s t u : Stores} {l : Lengths} {row : List ℕ} {rows : List (List ℕ)}
+      (step : Step s (record { call = staging (insert row); lengths = l }) t)
+      → verdictOf step ≡ accepts → Batch t rows u → Batch s (row ∷ rows) u
+
+-- the cells of the live rows, in order
+unfoldable pub cellsIn : Stores → List (List ℕ)
+cellsIn s = map (λ row. row .cells) (liveIn s)
+
+-- "from the same sound table with nothing else pending"; its generation is a u32
+abbrev pub CutAnywhere : Type 0
+CutAnywhere =
+    (s one two both : Stores) (a b : List (List ℕ))
+    → Sound (s .header) (s .rows) (s .keys) (s .sorts) (s .pending) [] → s .header .generation ≤ 4294967295
+    → Batch s a one → Batch one b two → Batch s (a ++ b) both
+    → cellsIn two ≡ cellsIn both

@@ -1,0 +1,71 @@
+-- A batch of inserts may be cut anywhere. Assumes nothing but the promises that batches are made of.
+use Prim.Native.Nat.{ℕ, zero, suc}
+use mathlib.Core.Path.{_≡_, refl, sym, ap, _∙_}
+use mathlib.Core.List.{List, map}
+use native.Mathlib.Omega.{arith}
+use Rattle.refusals.specs.Refusals.{reply, accepts, verdict, ruling}
+use Rattle.plain.specs.Staged.{insert}
+use Rattle.plain.specs.Refusing.{Lengths}
+use Rattle.plain.specs.Plain.{Plain, Numbered, merged as mergedPlain, stage as stagePlain}
+use Rattle.plain.specs.Calls.{staging, merging, done}
+use Rattle.plain.specs.Laws.Calls.{accepted-done}
+use Rattle.plain.specs.Laws.Batches.{batch, liveCells, cut-anywhere}
+use Rattle.table.specs.Promises.{Stores, Represents}
+use Rattle.table.specs.Laws.Ladders.{stage-ladders, merge-ladders}
+use Rattle.table.specs.Laws.Sound.{sound-represents}
+use Rattle.history.specs.Histories.{Step, staged, merged}
+use Rattle.history.specs.Batches.{verdictOf, statusIn, statusOf, Batch, merge, stage, cellsIn, CutAnywhere}
+use Rattle.history.specs.Laws.Live.{live-shown}
+use Rattle.history.specs.Laws.Calls.{step-represents}
+
+-- a ladder whose answer is no refusal turned nothing away
+ruled-accepts : (n : ℕ) → ruling n ≡ accepts → n ≡ 0
+unfolding ruling
+ruled-accepts zero e = refl
+ruled-accepts (suc n) e = absurd (let z : _≡_ {A = ℕ} 0 1 = cc in omega arith)
+
+replied-accepts : {A : Type 0} (n : ℕ) (a : A) → verdict (reply n a) ≡ accepts → n ≡ 0
+unfolding reply verdict
+replied-accepts zero a e = refl
+replied-accepts (suc n) a e = absurd (let z : _≡_ {A = ℕ} 0 1 = cc in omega arith)
+
+-- ---- the calls of a batch, on a plain table
+
+module _ {p : Plain} {s : Stores} (r : Represents p s) where
+  -- an accepted staging
+  stage-represents : {row : List ℕ} {l : Lengths} {t : Stores} (step : Step s (record { call = staging (insert row); lengths = l }) t)
+      → verdictOf step ≡ accepts → Represents (stagePlain p (insert row)) t
+  unfolding verdictOf done
+  stage-represents {row} {l} (staged q answer pending′ m) v =
+      let n = replied-accepts _ _ (rw (m .answers) at v) in
+      rw (accepted-done p l (staging q) (sym (stage-ladders r l refl q) ∙ n)) at (step-represents r (staged q answer pending′ m))
+
+  -- an accepted merge, and its stop
+  merge-represents : {l : Lengths} {t : Stores} (step : Step s (record { call = merging; lengths = l }) t)
+      → verdictOf step ≡ accepts → Represents (mergedPlain p .table) t × (statusOf step ≡ mergedPlain p .status)
+  unfolding verdictOf statusOf statusIn done
+  merge-represents {l} (merged w answer b′ w′ m) v =
+      let n = ruled-accepts _ (sym (m .refusal) ∙ v) in
+      (rw (accepted-done p l merging (sym (merge-ladders r l) ∙ n)) at (step-represents r (merged w answer b′ w′ m)), ap statusIn (m .table n p r .answers))
+
+-- a batch stages its rows and merges them, without a stop
+batch-represents : {p : Plain} {s t : Stores} {rows : List (List ℕ)} → Represents p s → Batch s rows t
+    → Represents (mergedPlain (batch rows p) .table) t × (mergedPlain (batch rows p) .status ≡ 0)
+unfolding batch
+batch-represents r (merge step v e) = let m = merge-represents r step v in (m .0, sym (m .1) ∙ e)
+batch-represents r (stage step v more) = batch-represents (stage-represents r step v) more
+
+-- ---- the theorem
+
+cells-shown : {p : Plain} {s : Stores} → Represents p s → cellsIn s ≡ liveCells p
+unfolding cellsIn liveCells
+cells-shown r = ap (map (λ (row : Numbered). row .cells)) (live-shown r)
+
+pub batch-cut : CutAnywhere
+batch-cut s one two both a b sound generation first second whole =
+    let start = sound-represents sound generation in
+    let p = start .0 in
+    let f = batch-represents (start .1) first in
+    let g = batch-represents (f .0) second in
+    let w = batch-represents (start .1) whole in
+    cells-shown (g .0) ∙ cut-anywhere p a b (start .2) (f .1) (g .1) (w .1) ∙ sym (cells-shown (w .0))
