@@ -14,26 +14,32 @@ use Rattle.table.specs.declared.Merge.{Merge}
 use Rattle.table.specs.Numbers.{tableSays, mergeSays}
 use Rattle.table.specs.Sound.{Sound}
 use Rattle.table.specs.Promises.{Stores}
-use Rattle.history.specs.Histories.{Step, staged, merged, compacted, cleared}
+use Rattle.history.specs.Histories.{Called, staged, merged, compacted, cleared, Step, called}
 use Rattle.history.specs.Claim.{liveIn}
 
 -- whether a call was refused, by its answer
+unfoldable pub verdictIn : {s t : Stores} {c : Lent} → Called s c t → Verdict
+verdictIn (staged r answer pending′ promise) = verdict (tableSays answer)
+verdictIn (merged w answer b′ w′ promise) = verdict (mergeSays answer)
+verdictIn (compacted w answer b′ w′ promise) = verdict (tableSays answer)
+verdictIn (cleared answer keys′ promise) = verdict (tableSays answer)
+
 unfoldable pub verdictOf : {s t : Stores} {c : Lent} → Step s c t → Verdict
-verdictOf (staged r answer pending′ promise) = verdict (tableSays answer)
-verdictOf (merged w answer b′ w′ promise) = verdict (mergeSays answer)
-verdictOf (compacted w answer b′ w′ promise) = verdict (tableSays answer)
-verdictOf (cleared answer keys′ promise) = verdict (tableSays answer)
+verdictOf (called rest pending call) = verdictIn call
 
 -- the number that a merge answered it had stopped with, 0 if it had not
-unfoldable pub statusIn : Reply Merge → ℕ
-statusIn (refused n) = 0
-statusIn (accepted m) = m .status
+unfoldable pub statusTold : Reply Merge → ℕ
+statusTold (refused n) = 0
+statusTold (accepted m) = m .status
+
+unfoldable pub statusIn : {s t : Stores} {c : Lent} → Called s c t → ℕ
+statusIn (staged r answer pending′ promise) = 0
+statusIn (merged w answer b′ w′ promise) = statusTold (mergeSays answer)
+statusIn (compacted w answer b′ w′ promise) = 0
+statusIn (cleared answer keys′ promise) = 0
 
 unfoldable pub statusOf : {s t : Stores} {c : Lent} → Step s c t → ℕ
-statusOf (staged r answer pending′ promise) = 0
-statusOf (merged w answer b′ w′ promise) = statusIn (mergeSays answer)
-statusOf (compacted w answer b′ w′ promise) = 0
-statusOf (cleared answer keys′ promise) = 0
+statusOf (called rest pending call) = statusIn call
 
 -- a batch of inserts alone: its rows staged in turn, then a merge; "no call is refused and none of the .. merges stops"
 pub data Batch : Stores → List (List ℕ) → Stores → Type 0 where

@@ -7,3 +7,4 @@ pub mod Narrowing
 pub mod Questions
 pub mod Theorem
 pub mod Batches
+pub mod Lent

@@ -8,5 +8,6 @@ pub mod Sound
 pub mod Lookup
 pub mod Refusals
 pub mod Opening
+pub mod Fronts
 pub mod Answers
 pub mod Determined

@@ -12,9 +12,11 @@ use Rattle.plain.specs.Laws.Calls.{accepted-done}
 use Rattle.plain.specs.Laws.Batches.{batch, liveCells, cut-anywhere}
 use Rattle.table.specs.Promises.{Stores, Represents}
 use Rattle.table.specs.Laws.Ladders.{stage-ladders, merge-ladders}
+use Rattle.table.specs.Laws.Refusals.{merge-accepted}
+use Rattle.table.specs.Laws.Fronts.{pending-part, body-part}
 use Rattle.table.specs.Laws.Sound.{sound-represents}
-use Rattle.history.specs.Histories.{Step, staged, merged}
-use Rattle.history.specs.Batches.{verdictOf, statusIn, statusOf, Batch, merge, stage, cellsIn, CutAnywhere}
+use Rattle.history.specs.Histories.{staged, merged, Step, called}
+use Rattle.history.specs.Batches.{verdictIn, verdictOf, statusTold, statusIn, statusOf, Batch, merge, stage, cellsIn, CutAnywhere}
 use Rattle.history.specs.Laws.Live.{live-shown}
 use Rattle.history.specs.Laws.Calls.{step-represents}
 
@@ -31,22 +33,25 @@ replied-accepts (suc n) a e = absurd (let z : _≡_ {A = ℕ} 0 1 = cc in omega 
 
 -- ---- the calls of a batch, on a plain table
 
-module _ {p : Plain} {s : Stores} (r : Represents p s) where
-  -- an accepted staging
-  stage-represents : {row : List ℕ} {l : Lengths} {t : Stores} (step : Step s (record { call = staging (insert row); lengths = l }) t)
-      → verdictOf step ≡ accepts → Represents (stagePlain p (insert row)) t
-  unfolding verdictOf done
-  stage-represents {row} {l} (staged q answer pending′ m) v =
-      let n = replied-accepts _ _ (rw (m .answers) at v) in
-      rw (accepted-done p l (staging q) (sym (stage-ladders r l refl q) ∙ n)) at (step-represents r (staged q answer pending′ m))
+-- an accepted staging
+stage-represents : {p : Plain} {s t : Stores} → Represents p s → {row : List ℕ} {l : Lengths} (step : Step s (record { call = staging (insert row); lengths = l }) t)
+    → verdictOf step ≡ accepts → Represents (stagePlain p (insert row)) t
+unfolding verdictOf verdictIn done
+stage-represents {p} r {row} {l} (called {s} rest more (staged q answer pending′ m)) v =
+    let n = replied-accepts _ _ (rw (m .answers) at v) in
+    rw (accepted-done p l (staging q) (sym (stage-ladders r l q) ∙ n)) at (step-represents r (called {s = s} rest more (staged q answer pending′ m)))
 
-  -- an accepted merge, and its stop
-  merge-represents : {l : Lengths} {t : Stores} (step : Step s (record { call = merging; lengths = l }) t)
-      → verdictOf step ≡ accepts → Represents (mergedPlain p .table) t × (statusOf step ≡ mergedPlain p .status)
-  unfolding verdictOf statusOf statusIn done
-  merge-represents {l} (merged w answer b′ w′ m) v =
-      let n = ruled-accepts _ (sym (m .refusal) ∙ v) in
-      (rw (accepted-done p l merging (sym (merge-ladders r l) ∙ n)) at (step-represents r (merged w answer b′ w′ m)), ap statusIn (m .table n p r .answers))
+-- an accepted merge, and its stop
+merge-represents : {p : Plain} {s t : Stores} → Represents p s → {l : Lengths} (step : Step s (record { call = merging; lengths = l }) t)
+    → verdictOf step ≡ accepts → Represents (mergedPlain p .table) t × (statusOf step ≡ mergedPlain p .status)
+unfolding verdictOf verdictIn statusOf statusIn statusTold done
+merge-represents {p} r {l} (called {s} rest more (merged w answer b′ w′ m)) v =
+    let n = ruled-accepts _ (sym (m .refusal) ∙ v) in
+    let k = merge-accepted (s .header) l n in
+    let lent = body-part rest (pending-part more r (k .pending-fits)) (k .long) in (
+      rw (accepted-done p l merging (sym (merge-ladders r l) ∙ n)) at (step-represents r (called {s = s} rest more (merged w answer b′ w′ m))),
+      ap statusTold (m .table n p lent .answers),
+    )
 
 -- a batch stages its rows and merges them, without a stop
 batch-represents : {p : Plain} {s t : Stores} {rows : List (List ℕ)} → Represents p s → Batch s rows t

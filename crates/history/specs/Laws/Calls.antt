@@ -3,7 +3,8 @@
 use Prim.Native.Nat.{ℕ, _<_}
 use mathlib.Core.Path.{_≡_, refl, sym, _∙_}
 use mathlib.Core.Logic.{inl, inr}
-use mathlib.Core.List.{List, []}
+use mathlib.Core.List.{List, [], _++_}
+use native.Mathlib.Omega.{arith}
 use lib.ListN.{length}
 use Rattle.refusals.specs.Refusals.{Reply, refused, accepted}
 use Rattle.refusals.specs.Laws.Replies.{some-number, ruled-refused}
@@ -19,11 +20,13 @@ use Rattle.table.specs.declared.MergeAnswer.{MergeAnswer}
 use Rattle.table.specs.Numbers.{tableSays, mergeSays}
 use Rattle.table.specs.Refusing.{stageRefusal, mergeRefusal, compactRefusal, clearRefusal}
 use Rattle.table.specs.Stores.{headerOf}
-use Rattle.table.specs.Promises.{Stores, stores, lengths, Represents, headerAfter, headerMerged, Staging, Merging, Compacting, Clearing, Body, bodyOf, joined, CompactionWords, lengthsLent}
+use Rattle.table.specs.Promises.{Stores, Represents, headerAfter, headerMerged, Staging, Merging, Compacting, Clearing, Body, body, bodyOf, joined, CompactionWords, lengthsLent}
 use Rattle.table.specs.Laws.Ladders.{stage-ladders, merge-ladders, compact-ladders, clear-ladders}
-use Rattle.table.specs.Laws.Staging.{staging-represents}
+use Rattle.table.specs.Laws.Staging.{stage-accepted, staging-represents}
+use Rattle.table.specs.Laws.Refusals.{merge-accepted, compact-accepted, clear-accepted}
+use Rattle.table.specs.Laws.Fronts.{pending-part, pending-more, keys-part, keys-more, body-part, body-more}
 use Rattle.history.specs.Laws.Replies.{reply-refused, reply-accepted, accepted-number, accepted-same}
-use Rattle.history.specs.Histories.{Step, staged, merged, compacted, cleared, Steps, end, next, History}
+use Rattle.history.specs.Histories.{noWords, Called, staged, merged, compacted, cleared, behind, Step, called, Steps, end, next, History}
 
 -- ---- the header after a refused call, and after an accepted one
 
@@ -45,50 +48,54 @@ merged-accepted h r m e = rw e
 
 -- ---- the four calls
 
-module _ {p : Plain} {s : Stores} (r : Represents p s) where
-  -- a call that the plain table turns away leaves both as they were
-  stays : (l : Lengths) (c : Call) (t : Stores) → 0 < refusal p l c → t ≡ s → Represents (after p l c) t
+-- one that the plain table does not turn away is done
+goes : (p : Plain) {t : Stores} (l : Lengths) (c : Call) → refusal p l c ≡ 0 → Represents (done p c) t → Represents (after p l c) t
+goes p l c e d = rw (accepted-done p l c e) d
+
+-- what is lent, and what stands behind it
+module _ {p : Plain} (s : Stores) (rest : Body) (more : List ℕ) (r : Represents p (behind s rest more)) where
+  -- a call that it turns away leaves both as they were
+  stays : (l : Lengths) (c : Call) (t : Stores) → 0 < refusal p l c → t ≡ s → Represents (after p l c) (behind t rest more)
   stays l c t h e = rw (refused-nothing p l c h, e) r
 
-  -- one that it does not is done
-  goes : (l : Lengths) (c : Call) (t : Stores) → refusal p l c ≡ 0 → Represents (done p c) t → Represents (after p l c) t
-  goes l c t e d = rw (accepted-done p l c e) d
-
   staged-represents : (q : Staged) (answer : TableAnswer) (pending′ : List ℕ) → Staging (s .header) (s .pending) q answer pending′
-      → Represents (after p (lengths (s .rows) (s .keys) (s .sorts) (s .pending) [] []) (staging q))
-      (stores (headerAfter (s .header) (tableSays answer)) (s .rows) (s .keys) (s .sorts) pending′)
+      → Represents (after p (lengthsLent s noWords) (staging q)) (behind (joined (headerAfter (s .header) (tableSays answer)) (bodyOf s) pending′) rest more)
   unfolding done
   staged-represents q answer pending′ m =
-      let l = lengths (s .rows) (s .keys) (s .sorts) (s .pending) [] [] in
+      let l = lengthsLent s noWords in
       let n : ℕ = stageRefusal (s .header) (length (s .pending)) q in
-      let same = stage-ladders r l refl q in
+      let same : n ≡ refusal p l (staging q) = stage-ladders r l q in
       elim (some-number n) [
         | inl e ↦
-            goes l (staging q) _ (sym same ∙ e)
-            (rw (after-accepted (s .header) (tableSays answer) _ (m .answers ∙ reply-accepted n _ e)) (staging-represents q pending′ r e (m .written e)))
+            let k = stage-accepted (s .header) (length (s .pending)) q e .free in
+            let t = staging-represents q pending′ (pending-part more r (omega arith)) e (m .written e) in
+            goes p l (staging q) (sym same ∙ e)
+            (rw (after-accepted (s .header) (tableSays answer) _ (m .answers ∙ reply-accepted n _ e)) (pending-more more t))
         | inr h ↦
-            stays l (staging q) _ (rw same at h)
+            stays l (staging q) (joined (headerAfter (s .header) (tableSays answer)) (bodyOf s) pending′) (rw same at h)
             (rw (after-refused (s .header) (tableSays answer) n (m .answers ∙ reply-refused n _ h), m .unchanged h))
       ]
 
   merged-represents : (w : CompactionWords) (answer : MergeAnswer) (b′ : Body) (w′ : CompactionWords) → Merging s w answer b′ w′
-      → Represents (after p (lengthsLent s w) merging) (joined (headerMerged (s .header) (mergeSays answer)) b′ (s .pending))
+      → Represents (after p (lengthsLent s w) merging) (behind (joined (headerMerged (s .header) (mergeSays answer)) b′ (s .pending)) rest more)
   unfolding done
   merged-represents w answer b′ w′ m =
       let l = lengthsLent s w in
       let n : ℕ = mergeRefusal (s .header) l in
-      let same = merge-ladders r l in
+      let same : n ≡ refusal p l merging = merge-ladders r l in
       elim (some-number n) [
         | inl e ↦
-            goes l merging _ (sym same ∙ e)
-            (rw (merged-accepted (s .header) (mergeSays answer) _ (m .table e p r .answers)) (m .table e p r .represents))
+            let k = merge-accepted (s .header) l e in
+            let t = m .table e p (body-part rest (pending-part more r (k .pending-fits)) (k .long)) in
+            goes p l merging (sym same ∙ e)
+            (rw (merged-accepted (s .header) (mergeSays answer) _ (t .answers)) (pending-more more (body-more rest (t .represents))))
         | inr h ↦
-            stays l merging _ (rw same at h)
+            stays l merging (joined (headerMerged (s .header) (mergeSays answer)) b′ (s .pending)) (rw same at h)
             (rw (merged-refused (s .header) (mergeSays answer) n (ruled-refused (mergeSays answer) n (m .refusal) h), m .unchanged h .0))
       ]
 
   compacted-represents : (w : CompactionWords) (answer : TableAnswer) (b′ : Body) (w′ : CompactionWords) → Compacting (s .header) (bodyOf s) w answer b′ w′
-      → Represents (after p (lengthsLent s w) compacting) (joined (headerAfter (s .header) (tableSays answer)) b′ (s .pending))
+      → Represents (after p (lengthsLent s w) compacting) (behind (joined (headerAfter (s .header) (tableSays answer)) b′ (s .pending)) rest more)
   unfolding done
   compacted-represents w answer b′ w′ m =
       let l = lengthsLent s w in
@@ -98,38 +105,42 @@ module _ {p : Plain} {s : Stores} (r : Represents p s) where
       let same : n ≡ refusal p l compacting = compact-ladders r k ∙ (unfold refusal compactLadder storesShort wordsShort in refl) in
       elim (some-number n) [
         | inl e ↦
-            goes l compacting _ (sym same ∙ e)
-            (rw (after-accepted (s .header) (tableSays answer) _ (m .table e (s .pending) p r .answers)) (m .table e (s .pending) p r .represents))
+            let t = m .table e (s .pending ++ more) p (body-part rest r (compact-accepted (s .header) k e .long)) in
+            goes p l compacting (sym same ∙ e)
+            (rw (after-accepted (s .header) (tableSays answer) _ (t .answers)) (body-more rest (t .represents)))
         | inr h ↦
-            stays l compacting _ (rw same at h)
+            stays l compacting (joined (headerAfter (s .header) (tableSays answer)) b′ (s .pending)) (rw same at h)
             (rw (after-refused (s .header) (tableSays answer) n (ruled-refused (tableSays answer) n (m .refusal) h), m .unchanged h .0))
       ]
 
   cleared-represents : (answer : TableAnswer) (keys′ : List ℕ) → Clearing (s .header) (s .keys) answer keys′
-      → Represents (after p (lengths (s .rows) (s .keys) (s .sorts) (s .pending) [] []) clearing)
-      (stores (headerAfter (s .header) (tableSays answer)) (s .rows) keys′ (s .sorts) (s .pending))
+      → Represents (after p (lengthsLent s noWords) clearing) (behind (joined (headerAfter (s .header) (tableSays answer)) (body (s .rows) keys′ (s .sorts)) (s .pending)) rest more)
   unfolding done
   cleared-represents answer keys′ m =
-      let l = lengths (s .rows) (s .keys) (s .sorts) (s .pending) [] [] in
+      let l = lengthsLent s noWords in
       let n : ℕ = clearRefusal (s .header) (length (s .keys)) in
-      let same = clear-ladders r l in
+      let same : n ≡ refusal p l clearing = clear-ladders r l in
       elim (some-number n) [
         | inl e ↦
-            let d = m .table e (s .rows) (s .sorts) (s .pending) p r in
-            goes l clearing _ (sym same ∙ e) (rw (after-accepted (s .header) (tableSays answer) _ (d .answers)) (d .represents))
+            let k = clear-accepted (s .header) (length (s .keys)) e .keys-long in
+            let t = m .table e (s .rows ++ rest .rows) (s .sorts ++ rest .sorts) (s .pending ++ more) p (keys-part (rest .keys) r k) in
+            goes p l clearing (sym same ∙ e) (rw (after-accepted (s .header) (tableSays answer) _ (t .answers)) (keys-more (rest .keys) (t .represents)))
         | inr h ↦
-            stays l clearing _ (rw same at h)
+            stays l clearing (joined (headerAfter (s .header) (tableSays answer)) (body (s .rows) keys′ (s .sorts)) (s .pending)) (rw same at h)
             (rw (after-refused (s .header) (tableSays answer) n (ruled-refused (tableSays answer) n (m .refusal) h), m .unchanged h))
       ]
+
+  called-represents : {c : Lent} {t : Stores} → Called s c t → Represents (after p (c .lengths) (c .call)) (behind t rest more)
+  called-represents (staged q answer pending′ m) = staged-represents q answer pending′ m
+  called-represents (merged w answer b′ w′ m) = merged-represents w answer b′ w′ m
+  called-represents (compacted w answer b′ w′ m) = compacted-represents w answer b′ w′ m
+  called-represents (cleared answer keys′ m) = cleared-represents answer keys′ m
 
 -- ---- histories
 
 -- one call
 pub step-represents : {p : Plain} {s t : Stores} {c : Lent} → Represents p s → Step s c t → Represents (after p (c .lengths) (c .call)) t
-step-represents r (staged q answer pending′ m) = staged-represents r q answer pending′ m
-step-represents r (merged w answer b′ w′ m) = merged-represents r w answer b′ w′ m
-step-represents r (compacted w answer b′ w′ m) = compacted-represents r w answer b′ w′ m
-step-represents r (cleared answer keys′ m) = cleared-represents r answer keys′ m
+step-represents r (called {s} rest more call) = called-represents s rest more r call
 
 -- one after another
 pub steps-represents : {p : Plain} {s t : Stores} {cs : List Lent} → Represents p s → Steps s cs t → Represents (afterAll p cs) t
@@ -138,11 +149,13 @@ steps-represents r (end s) = r
 steps-represents r (next step steps) = steps-represents (step-represents r step) steps
 
 -- an accepted opening
-pub opened-represents : {o : Opening} {generation : ℕ} {calls : List Lent} {s : Stores} (h : History o generation calls s) → Represents (opened o generation) (h .start)
+pub opened-represents : {o : Opening} {generation : ℕ} {calls : List Lent} {s : Stores} (h : History o generation calls s) → Represents (opened o generation) (behind (h .start) (h .rest) (h .pending))
 unfolding tableSays
 opened-represents {o} {generation} h =
-    rw (← accepted-same _ (h .start .header) (headerOf (opened o generation)) (h .opened .answers)) at
-    (h .opened .represents (accepted-number _ (h .start .header) (headerOf (opened o generation)) (h .opened .answers)))
+    pending-more (h .pending)
+    (body-more (h .rest)
+    (rw (← accepted-same _ (h .start .header) (headerOf (opened o generation)) (h .opened .answers)) at
+    (h .opened .represents (accepted-number _ (h .start .header) (headerOf (opened o generation)) (h .opened .answers)))))
 
 -- "each on the header and the .. stores as the last left them": the stores show the plain table after the same calls
 pub history-represents : {o : Opening} {generation : ℕ} {calls : List Lent} {s : Stores} → History o generation calls s → Represents (afterAll (opened o generation) calls) s

@@ -1,10 +1,23 @@
--- Histories go on: calls one behind the other, and calls behind a history. Assumes nothing.
+-- Calls that are lent the stores whole, and histories that go on: calls one behind the other, and calls behind a history.
+-- Assumes nothing.
 use Prim.Native.Nat.{ℕ}
-use mathlib.Core.List.{List, _++_}
+use mathlib.Core.Path.{_≡_}
+use mathlib.Core.List.{List, [], _++_, append-nil}
 use Rattle.plain.specs.Staged.{Opening}
 use Rattle.plain.specs.Calls.{Lent}
-use Rattle.table.specs.Promises.{Stores}
-use Rattle.history.specs.Histories.{Steps, end, next, History}
+use Rattle.table.specs.Promises.{Stores, stores, body}
+use Rattle.history.specs.Histories.{Called, behind, Step, called, Steps, end, next, History}
+
+-- nothing stands behind what is lent
+pub behind-nothing : (s : Stores) → behind s (body [] [] []) [] ≡ s
+behind-nothing s =
+    λ i. stores (s .header) (append-nil (s .rows) i) (append-nil (s .keys) i) (append-nil (s .sorts) i) (append-nil (s .pending) i)
+
+pub whole-step : {s t : Stores} {c : Lent} → Called s c t → Step s c t
+whole-step {s} {t} {c} call = go (behind-nothing s) (behind-nothing t)
+  where
+    go : {a b : Stores} → behind s (body [] [] []) [] ≡ a → behind t (body [] [] []) [] ≡ b → Step a c b
+    go e f = rw (← e, ← f) (called (body [] [] []) [] call)
 
 pub steps-then : {s t u : Stores} {cs ds : List Lent} → Steps s cs t → Steps t ds u → Steps s (cs ++ ds) u
 steps-then (end s) more = more
@@ -12,4 +25,4 @@ steps-then (next step steps) more = next step (steps-then steps more)
 
 pub history-then : {o : Opening} {generation : ℕ} {calls more : List Lent} {s t : Stores} → History o generation calls s → Steps s more t → History o generation (calls ++ more) t
 history-then h steps =
-    record { start = h .start; keys-before = h .keys-before; opened = h .opened; steps = steps-then (h .steps) steps }
+    record { start = h .start; keys-before = h .keys-before; opened = h .opened; rest = h .rest; pending = h .pending; steps = steps-then (h .steps) steps }

@@ -10,8 +10,8 @@ use Rattle.table.specs.declared.TableAnswer.{TableAnswer}
 use Rattle.table.specs.declared.MergeAnswer.{MergeAnswer}
 use Rattle.table.specs.Numbers.{tableSays, mergeSays}
 use Rattle.table.specs.Promises.{Stores, stores, body, compactionWords, lengths, headerAfter, headerMerged, Staging, Merging, Compacting, Clearing}
-use Rattle.history.specs.Histories.{Step, staged, merged, compacted, cleared, end, next}
-use Rattle.history.specs.Laws.Further.{steps-then}
+use Rattle.history.specs.Histories.{Called, staged, merged, compacted, cleared, end, next}
+use Rattle.history.specs.Laws.Further.{whole-step, steps-then}
 use Rattle.replay.specs.inner.Replaying.{lentTo, lengthsFor, Made, MadeOnPending}
 
 -- no call
@@ -19,8 +19,8 @@ pub none-made : {calls : List Call} (l : Lengths) (s : Stores) → calls ≡ [] 
 none-made l s e = rw e (record { steps = end s })
 
 -- one call
-one-made : {s t : Stores} {c : Call} (l : Lengths) → Step s (lentTo l c) t → Made (c ∷ []) l s t
-one-made l step = record { steps = next step (end _) }
+one-made : {s t : Stores} {c : Call} (l : Lengths) → Called s (lentTo l c) t → Made (c ∷ []) l s t
+one-made l call = record { steps = next (whole-step call) (end _) }
 
 -- one behind the other
 pub made-then : {calls more : List Call} {l : Lengths} {s t u : Stores} → Made calls l s t → Made more l t u → Made (calls ++ more) l s u

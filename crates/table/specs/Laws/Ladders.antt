@@ -1,6 +1,5 @@
 -- The ladders over a header and those of the plain table that it shows turn away the same. Assumes nothing.
 use mathlib.Core.Path.{_≡_}
-use lib.ListN.{length}
 use Rattle.plain.specs.Staged.{Staged}
 use Rattle.plain.specs.Refusing.{Lengths}
 use Rattle.plain.specs.Plain.{Plain}
@@ -10,10 +9,10 @@ use Rattle.table.specs.Promises.{Stores, Represents}
 use Rattle.table.specs.Laws.Shown.{header-inside}
 
 module _ {p : Plain} {s : Stores} (r : Represents p s) (l : Lengths) where
-  -- *Stage*, of a pending store of the length that the plain table is told
-  pub stage-ladders : l .pending ≡ length (s .pending) → (q : Staged) → stageRefusal (s .header) (length (s .pending)) q ≡ refusal p l (staging q)
+  -- *Stage*
+  pub stage-ladders : (q : Staged) → stageRefusal (s .header) (l .pending) q ≡ refusal p l (staging q)
   unfolding stageRefusal refusal pendingOutside pendingShort countsOf
-  stage-ladders e q = rw (r .shown .header, header-inside (r .proper), e)
+  stage-ladders q = rw (r .shown .header, header-inside (r .proper))
 
   -- *Merge*
   pub merge-ladders : mergeRefusal (s .header) l ≡ refusal p l merging

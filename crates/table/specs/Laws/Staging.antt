@@ -58,7 +58,7 @@ staging-represents {p} {s} r pending′ t e w =
     let width : wrongWidth (p .opening) r ≡ false = rw (t .shown .header) at (a .right-width) in
     let free : wordsAll (p .opening) (p .staged) + wordsOf (p .opening) r ≤ length (s .pending) = rw (t .shown .header) at (a .free) in
     let l : Lengths = lengths (s .rows) (s .keys) (s .sorts) (s .pending) [] [] in
-    let z : refusal p l (staging r) ≡ 0 = sym (stage-ladders t l refl r) ∙ e in
+    let z : refusal p l (staging r) ≡ 0 = sym (stage-ladders t l r) ∙ e in
     record {
       proper = done-proper l (staging r) (t .proper) z;
       long-enough = t .long-enough;

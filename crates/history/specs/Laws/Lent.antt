@@ -1,0 +1,122 @@
+-- An example: store lengths differ from call to call. A table of 3 columns and capacity 4 is opened, a compaction is lent 11
+-- of its 12 row cells and refused for that, and a merge that is lent all of them goes through. Assumes nothing.
+use Prim.Native.Nat.{ℕ}
+use mathlib.Core.Path.{_≡_, refl, sym, ap}
+use mathlib.Core.Bool.{false}
+use mathlib.Core.List.{List, [], _∷_}
+use native.Mathlib.Omega.{arith}
+use lib.ListN.{length}
+use Rattle.lists.specs.Lists.{putAt, count, rowsOf, flat}
+use Rattle.refusals.specs.Refusals.{first, verdict, ruling}
+use Rattle.sort_entries.specs.Entries.{words, rebuilt, pushAll}
+use Rattle.plain.specs.Staged.{Opening, openable, Staged, insert, removeKey, removeRow, wordsOf, wordsAll, keyRemovals, rowRemovals, inserts, due}
+use Rattle.plain.specs.Refusing.{Lengths, storesShort, wordsShort, openRefusal, compactLadder, mergeLadder}
+use Rattle.plain.specs.Plain.{Plain, Row, dead, opened, withoutKeys, withoutRows, insertAll, applied, compactIfDue, unstaged, merged}
+use Rattle.plain.specs.Calls.{merging, compacting}
+use Rattle.table.specs.declared.Header.{Header}
+use Rattle.table.specs.declared.TableAnswer.the-variants.{Refused as TableRefused, Table}
+use Rattle.table.specs.declared.Merge.{Merge}
+use Rattle.table.specs.declared.MergeAnswer.the-variants.{Merged}
+use Rattle.table.specs.Numbers.{openingOf, tableSays, mergeSays}
+use Rattle.table.specs.Refusing.{outside, pendingOutside, mergeRefusal, compactRefusal}
+use Rattle.table.specs.Stores.{entries, stored, rowStore, sortStore}
+use Rattle.table.specs.Promises.{Stores, stores, Represents, body, CompactionWords, compactionWords, headerAfter, headerMerged, mergeOf, mergedRows, mergedSorts, Opened, Merging, MergedTable, Compacting}
+use Rattle.table.specs.Laws.Opening.{emptyHeader, empty-represents, opened-done}
+use Rattle.history.specs.Histories.{merged as merge-called, compacted as compact-called, called, end, next, History}
+
+-- ---- a table that was just opened
+
+nothing-staged : (o : Opening) (staged : List Staged) → wordsAll o staged ≡ 0 → staged ≡ []
+unfolding wordsAll wordsOf
+nothing-staged o [] e = refl
+nothing-staged o (insert cells ∷ rs) e = absurd (omega arith)
+nothing-staged o (removeKey key ∷ rs) e = absurd (omega arith)
+nothing-staged o (removeRow row key ∷ rs) e = absurd (omega arith)
+
+no-rows : (rows : List Row) → length rows ≡ 0 → rows ≡ []
+no-rows [] e = refl
+no-rows (row ∷ rows) e = absurd (omega arith)
+
+-- shows that plain table and no other
+only-opened : {p : Plain} {o : Opening} {generation : ℕ} {rows keys sorts pending : List ℕ} → Represents p (stores (emptyHeader o generation) rows keys sorts pending) → p ≡ opened o generation
+unfolding opened
+only-opened {p} r =
+    let h = r .shown .header in
+    let a = ap openingOf h in
+    let g = ap (λ (x : Header). x .generation) h in
+    let n = no-rows (p .rows) (sym (ap (λ (x : Header). x .rows) h)) in
+    let s = nothing-staged (p .opening) (p .staged) (sym (ap (λ (x : Header). x .pending) h)) in
+    λ i. record { opening = sym a i; generation = sym g i; rows = n i; staged = s i }
+
+-- ---- the example
+
+abbrev pub example : Opening
+example = record { columns = 3; keys = 1; sort = 1; rule = 0; capacity = 4 }
+
+abbrev eight : List ℕ
+eight = 0 ∷ 0 ∷ 0 ∷ 0 ∷ 0 ∷ 0 ∷ 0 ∷ 0 ∷ []
+
+abbrev eleven : List ℕ
+eleven = 0 ∷ 0 ∷ 0 ∷ eight
+
+abbrev pub exampleStores : Stores
+exampleStores = stores (emptyHeader example 0) (0 ∷ eleven) eight eight []
+
+abbrev oneWord : CompactionWords
+oneWord = compactionWords (0 ∷ []) (0 ∷ [])
+
+abbrev pub lentRows : ℕ → Lengths
+lentRows rows = record { rows = rows; keys = 8; sorts = 8; pending = 0; liveWords = 1; baseWords = 1 }
+
+example-opened : Opened example 0 (body (0 ∷ eleven) eight eight) [] (Table (emptyHeader example 0)) eight
+unfolding openRefusal openable storesShort first putAt
+example-opened = opened-done example 0 (0 ∷ eleven) eight eight [] eight refl (omega arith) (record { free = refl; tail = refl })
+
+-- refused with 2
+example-compacted : Compacting (emptyHeader example 0) (body eleven eight eight) oneWord (TableRefused 2) (body eleven eight eight) oneWord
+unfolding tableSays verdict ruling compactRefusal compactLadder outside openable storesShort wordsShort first
+example-compacted =
+    record { refusal = refl; unchanged = λ some. (refl, refl); past = refl; words-past = (refl, refl); table = λ none. absurd (omega arith) }
+
+abbrev unmoved : Merge
+unmoved = mergeOf (opened example 0)
+
+-- accepted: nothing to do
+example-stays : MergedTable exampleStores oneWord (Merged unmoved) (body (0 ∷ eleven) eight eight) oneWord (opened example 0)
+unfolding mergeSays mergedRows mergedSorts opened merged applied keyRemovals rowRemovals inserts withoutKeys withoutRows insertAll compactIfDue unstaged due dead count entries rebuilt pushAll stored rowStore sortStore rowsOf flat words putAt wordsAll openable storesShort
+example-stays =
+    record {
+      answers = refl;
+      rows-after = refl;
+      sorts-after = refl;
+      represents = empty-represents example 0 (0 ∷ eleven) eight eight eight [] refl (omega arith) refl (record { free = refl; tail = refl });
+      words = λ same. refl;
+    }
+
+example-merged : Merging exampleStores oneWord (Merged unmoved) (body (0 ∷ eleven) eight eight) oneWord
+unfolding mergeSays verdict ruling mergeRefusal mergeLadder pendingOutside outside openable storesShort wordsShort first
+example-merged =
+    record {
+      refusal = refl;
+      unchanged = λ some. absurd (omega arith);
+      past = refl;
+      words-past = (refl, refl);
+      table = λ none p r. rw (only-opened r) example-stays;
+    }
+
+pub lengths-differ : History example 0
+    (record { call = compacting; lengths = lentRows 11 } ∷ record { call = merging; lengths = lentRows 12 } ∷ [])
+    exampleStores
+unfolding headerAfter headerMerged tableSays mergeSays opened merged applied keyRemovals rowRemovals inserts withoutKeys withoutRows insertAll compactIfDue unstaged due dead count entries rebuilt pushAll wordsAll
+lengths-differ =
+    record {
+      start = exampleStores;
+      keys-before = eight;
+      opened = example-opened;
+      rest = body [] [] [];
+      pending = [];
+      steps =
+          next (called {s = stores (emptyHeader example 0) eleven eight eight []} (body (0 ∷ []) [] []) [] (compact-called oneWord (TableRefused 2) (body eleven eight eight) oneWord example-compacted))
+          (next (called (body [] [] []) [] (merge-called oneWord (Merged unmoved) (body (0 ∷ eleven) eight eight) oneWord example-merged))
+          (end exampleStores));
+    }
