@@ -92,7 +92,7 @@ extern "C" {
 /* Merge rules, for a known key: key cells stay, the sort cell is the new row's. */
 #define MOULDGREY_KEEP_OLD 0
 #define MOULDGREY_TAKE_NEW 1     /* if a cell outside keys and sort column differs */
-#define MOULDGREY_TAKE_SMALLER 2 /* of each such cell, unsigned */
+#define MOULDGREY_TAKE_SMALLER 2 /* of each such cell, as an int32_t: 4294967295 is minus one */
 #define MOULDGREY_TAKE_LARGER 3
 
 /* Conditions: a kind, a column, and a column (kind 0) or a value, unsigned. */

@@ -13,7 +13,7 @@ pub struct Opening {
     /// The column by whose values rows are recorded in order.
     pub sort: u32,
     /// What becomes of a known key's row: 0 keeps the old row, 1 takes the new one, 2 and 3 take the smaller and the larger
-    /// of each cell.
+    /// of each cell, read as an `i32`: 4294967295 is minus one.
     pub rule: u32,
     /// The most rows, dead ones included: 1 to 65,536.
     pub capacity: u32,

@@ -1,11 +1,13 @@
--- The ways through a cell's functions, the turns of `changes` and `make`, and the row that is handed back. Assumes nothing.
-use Prim.Native.Nat.{ℕ, suc, _+_, _-_, _≤_, _<_}
-use mathlib.Core.Path.{_≡_, refl, sym, ap₂, _∙_}
+-- The top bit turned over, the ways through a cell's functions, the turns of `changes` and `make`, and the row that is handed back. Assumes nothing.
+use Prim.Native.Nat.{ℕ, suc, _+_, _-_, _*_, _%_, _^_, _≤_, _<_}
+use mathlib.Core.Path.{_≡_, refl, sym, ap, ap₂, _∙_}
 use mathlib.Core.Bool.{Bool, true, false, not, _&&_, _||_}
 use mathlib.Core.List.{List, [], _∷_, _++_}
 use native.Mathlib.Nat.{zero-add}
+use native.Mathlib.Decide.{decLt}
 use native.Mathlib.Numerals.{add-one}
 use native.Mathlib.Omega.{arith}
+use lib.Bits.{bitXor, xor-block, xor-comm, xor-shifted, xor-zero-r}
 use lib.Dec.{eqb}
 use lib.ListN.{length, take, drop, getD, set, drop-of-length-le}
 use lib.Seq.{drop-cons, take-length}
@@ -15,6 +17,23 @@ use Rattle.lists.specs.Laws.Parts.{copy-step}
 use Rattle.merge_rules.specs.Rules.{ruledColumn, taken, madeCell, madeFrom, changesFrom}
 use Rattle.merge_rules.specs.Survivor.{survivor}
 use Rattle.merge_rules.specs.Laws.Rules.{made-length, made-at}
+
+-- the top bit turned over
+pub top-turned : (cell : ℕ) → cell < 2 ^ 32 → bitXor cell (2 ^ 31) ≡ (cell + 2 ^ 31) % 2 ^ 32
+top-turned cell h =
+    elim (decLt cell (2 ^ 31)) [
+      | yes k ↦
+          let e : 1 * 2 ^ 31 + cell ≡ (cell + 2 ^ 31) % 2 ^ 32 = omega arith in
+          xor-comm cell (2 ^ 31) ∙ xor-shifted 1 31 cell k ∙ e
+      | no k ↦
+          let r : cell - 2 ^ 31 < 2 ^ 31 = omega arith in
+          let e : cell ≡ 1 * 2 ^ 31 + (cell - 2 ^ 31) = omega arith in
+          let f : 0 * 2 ^ 31 + (cell - 2 ^ 31) ≡ (cell + 2 ^ 31) % 2 ^ 32 = omega arith in
+          ap (λ (x : ℕ). bitXor x (2 ^ 31)) e
+          ∙ xor-block 31 1 1 (cell - 2 ^ 31) 0 r (omega arith)
+          ∙ ap (λ (x : ℕ). 0 * 2 ^ 31 + x) (xor-zero-r (cell - 2 ^ 31))
+          ∙ f
+    ]
 
 module _ (rule keys sort column old new : ℕ) where
   pub cell-ruled : ruledColumn keys sort column ≡ true → madeCell rule keys sort column old new ≡ taken rule old new

@@ -1,17 +1,36 @@
--- Merge rules (document 01, "Merge rules"): what a rule makes of an old and a new row of the same key. Assumes nothing.
-use Prim.Native.Nat.{ℕ, suc, min, max}
+-- Merge rules (document 01, "Merge rules", and document 02, change 4): what a rule makes of an old and a new row of the same
+-- key. Assumes nothing.
+use Prim.Native.Nat.{ℕ, suc, _-_}
 use mathlib.Core.Bool.{Bool, false, cond, not, _&&_, _||_}
 use mathlib.Core.List.{List, [], _∷_}
-use lib.Dec.{leb, eqb}
+use lib.Dec.{leb, ltb, eqb}
+use lib.IntN.{ℤ, pos, negsuc}
+use lib.Signed.{ltZ}
 
 -- "a cell outside keys and sort column"
 unfoldable pub ruledColumn : ℕ → ℕ → ℕ → Bool
 ruledColumn keys sort column = leb keys column && not (eqb column sort)
 
+-- "recorded in two's complement, so that 4294967295 means minus one": the number, from minus 2147483648 to 2147483647, that a
+-- cell means. `pos n` is n, and `negsuc n` is minus (n + 1)
+unfoldable pub signed : ℕ → ℤ
+signed cell = cond (ltb cell 2147483648) (pos cell) (negsuc (4294967295 - cell))
+
+-- "compare cells as signed numbers": the first means less than the second
+unfoldable pub signedLess : ℕ → ℕ → Bool
+signedLess a b = ltZ (signed a) (signed b)
+
+-- "the smaller and the larger" of two cells
+unfoldable pub smaller : ℕ → ℕ → ℕ
+smaller a b = cond (signedLess b a) b a
+
+unfoldable pub larger : ℕ → ℕ → ℕ
+larger a b = cond (signedLess a b) b a
+
 -- what the rule takes for such a cell: 0 the old, 1 the new, 2 the smaller, 3 the larger
 unfoldable pub taken : ℕ → ℕ → ℕ → ℕ
 taken rule old new =
-    cond (eqb rule 1) new (cond (eqb rule 2) (min old new) (cond (eqb rule 3) (max old new) old))
+    cond (eqb rule 1) new (cond (eqb rule 2) (smaller old new) (cond (eqb rule 3) (larger old new) old))
 
 -- "Key cells stay; the sort cell is the new row's"
 unfoldable pub madeCell : ℕ → ℕ → ℕ → ℕ → ℕ → ℕ → ℕ

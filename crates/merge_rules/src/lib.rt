@@ -1,7 +1,7 @@
 // The four merge rules: what becomes of a known key's row when a new row is inserted. The Rust takes a `MergeFn`; here a rule
 // number chooses. Each contract cites its definition in specs/.
 ghost use mathlib.Core.Path.{_≡_};
-ghost use Prim.Native.Nat.{min, max, _+_, _≤_};
+ghost use Prim.Native.Nat.{_+_, _%_, _≤_};
 ghost use mathlib.Core.Bool.{not, _&&_};
 ghost use lib.ListN.{length, take, drop};
 ghost use lib.Dec.{eqb};
@@ -19,19 +19,32 @@ fn ruled_column(keys: u32, sort: u32, column: usize) -> bool
     column != sort as usize
 }
 
-fn smaller(a: u32, b: u32) -> u32
-    ensures { λ r. ⌜ r ≡ min a b ⌝ }
+// A cell's signed number plus 2147483648: the top bit turned over makes the order of signed numbers that of unsigned ones.
+fn lifted(cell: u32) -> u32
+    ensures { λ r. ⌜ r ≡ (cell + 2147483648) % 4294967296 ⌝ }
 {
-    if b < a {
+    cell ^ 0x8000_0000
+}
+
+fn signed_less(a: u32, b: u32) -> bool
+    ensures { λ r. ⌜ r ≡ rules.signedLess a b ⌝ }
+{
+    lifted(a) < lifted(b)
+}
+
+fn smaller(a: u32, b: u32) -> u32
+    ensures { λ r. ⌜ r ≡ rules.smaller a b ⌝ }
+{
+    if signed_less(b, a) {
         return b;
     }
     a
 }
 
 fn larger(a: u32, b: u32) -> u32
-    ensures { λ r. ⌜ r ≡ max a b ⌝ }
+    ensures { λ r. ⌜ r ≡ rules.larger a b ⌝ }
 {
-    if a < b {
+    if signed_less(a, b) {
         return b;
     }
     a

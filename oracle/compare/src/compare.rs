@@ -4,7 +4,7 @@
 
 use crate::counts::{Counts, is_held_back, live_row, question_name};
 use crate::guard::guarded;
-use crate::history::{Act, Step, UNOPENED};
+use crate::history::{Act, Step, UNOPENED, needed};
 use calls::{Answer, Call, Contents, DEAD, Judge, Lengths, Opening, Question, Subset};
 use plain::Plain;
 
@@ -72,6 +72,8 @@ pub struct Pair<'a, J> {
     seen: Contents,
     /// Removals by row that wait for a merge.
     rows_to_remove: Vec<(u32, Vec<u32>)>,
+    /// Inserts that wait for a merge and bring a live row's key a cell of another sign.
+    other_signs: u64,
     /// Whether the other judge's table is still the same: not after a stop, until the next opening.
     following: bool,
 }
@@ -86,6 +88,7 @@ impl<'a, J: Judge> Pair<'a, J> {
             other: (rival.make)(),
             opening: UNOPENED,
             rows_to_remove: Vec::new(),
+            other_signs: 0,
             following: false,
         }
     }
@@ -165,13 +168,28 @@ impl<'a, J: Judge> Pair<'a, J> {
                 self.opening = *opening;
                 self.following = true;
                 self.rows_to_remove.clear();
+                self.other_signs = 0;
             }
-            Call::Clear => self.rows_to_remove.clear(),
+            Call::Clear => {
+                self.rows_to_remove.clear();
+                self.other_signs = 0;
+            }
             Call::Insert(cells) if cells[0] == DEAD => counts.feature("insert: dead first cell"),
+            Call::Insert(cells) => self.other_signs += u64::from(self.has_other_sign(cells)),
             Call::RemoveRow(row, key) => self.rows_to_remove.push((*row, key.clone())),
             _ => {}
         }
         is_staging(call)
+    }
+
+    /// Whether the live row of this key has a cell of another sign that rules 2 and 3 choose.
+    fn has_other_sign(&self, new: &[u32]) -> bool {
+        let (keys, sort) = (self.opening.keys as usize, self.opening.sort as usize);
+        let lookup = Question::Lookup(new[..keys].to_vec());
+        let Answer::Row(_, old) = self.plain.ask(&needed(&self.opening, 0), &lookup) else {
+            return false;
+        };
+        (keys..new.len()).any(|column| column != sort && (old[column] ^ new[column]) >> 31 == 1)
     }
 
     /// Ends the comparison until the next opening where a merge does what the paper adds, or where a key merely shares
@@ -184,6 +202,7 @@ impl<'a, J: Judge> Pair<'a, J> {
         for (row, key) in &rows {
             counts.row_removal(&self.seen, *row, key);
         }
+        counts.signs(self.opening.rule, std::mem::take(&mut self.other_signs));
         if self.rival.follows_paper {
             return;
         }

@@ -30,7 +30,7 @@ const KINDS: [Kind; 17] = [
 ];
 
 /// Answers and turns that every full run must have seen.
-const FEATURES: [&str; 47] = [
+const FEATURES: [&str; 49] = [
     "open: sort column 0",
     "open: sort column a key column",
     "open: sort column not a key column",
@@ -41,6 +41,8 @@ const FEATURES: [&str; 47] = [
     "remove by row: no such row any more",
     "merge: row added",
     "merge: nothing added",
+    "merge: rule 2, another sign",
+    "merge: rule 3, another sign",
     "merge: stop 8",
     "merge: stop 9",
     "merge: stop after a row was added",
@@ -300,6 +302,19 @@ impl Counts {
             None if row < before.rows => "remove by row: dead row",
             None => "remove by row: no such row any more",
         });
+    }
+
+    /// Counts the inserts of a merge that brought a live row's key a cell of another sign. Rules 2 and 3 choose otherwise there
+    /// if they compare unsigned.
+    pub fn signs(&mut self, rule: u32, inserts: u64) {
+        let name = match rule {
+            2 => "merge: rule 2, another sign",
+            3 => "merge: rule 3, another sign",
+            _ => return,
+        };
+        if inserts > 0 {
+            *self.features.entry(name).or_default() += inserts;
+        }
     }
 
     /// Counts the turns of an accepted call by what it left.

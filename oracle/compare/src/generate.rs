@@ -31,6 +31,8 @@ struct Flavour {
     /// Keys that come again and again.
     keys: Vec<Vec<u32>>,
     other_values: u32,
+    /// Chance in a hundred of another cell being where signed numbers turn.
+    turning: u32,
     pending: usize,
     /// Chances: of a falling stamp in a thousand, of a staging being an insert in a hundred.
     falling: u32,
@@ -74,6 +76,9 @@ pub const EDGES: [u32; 8] = [
     u32::MAX,
 ];
 
+/// Zero, the greatest and the least signed number, and minus one.
+const TURNS: [u32; 4] = [0, 0x7fff_ffff, 0x8000_0000, u32::MAX];
+
 /// A history of this seed.
 pub fn history(seed: u64, manner: Manner) -> Vec<Step> {
     let mut writer = Writer::new(seed, manner);
@@ -101,6 +106,7 @@ fn flavour(rng: &mut Rng, manner: &Manner) -> Flavour {
     Flavour {
         keys: Vec::new(),
         other_values: rng.pick(&[1, 2, 3, 10]),
+        turning: rng.pick(&[0, 0, 20, 60]),
         pending: manner.pending.unwrap_or(pending),
         falling: rng.pick(&[0, 0, 1, 5, 50, 300]),
         inserting: rng.pick(&[20, 40, 70, 90]),
@@ -415,6 +421,9 @@ impl Writer {
     pub fn other_cell(&mut self) -> u32 {
         if self.rng.percent(5) {
             self.rng.pick(&EDGES)
+        } else if self.rng.percent(self.flavour.turning) {
+            let turn = self.rng.pick(&TURNS);
+            turn.wrapping_add(self.rng.within(0, 2)).wrapping_sub(1)
         } else {
             self.rng.below(self.flavour.other_values)
         }

@@ -66,11 +66,19 @@ pub fn families() -> Vec<Family> {
     families
 }
 
-/// Three columns, one key, room for three rows.
+/// Three columns, one key, room for three rows. 4294967295 is the least of the three levels, minus one.
 fn small_table(rule: u32) -> Family {
     let open = format!("O,3,1,2,{rule},3,0");
     let letters = [
-        "I,0,5,1", "I,0,6,2", "I,0,4,2", "I,1,5,2", "R,0", "K,0,0", "M", "G", "C",
+        "I,0,5,1",
+        "I,0,6,2",
+        "I,0,4294967295,2",
+        "I,1,5,2",
+        "R,0",
+        "K,0,0",
+        "M",
+        "G",
+        "C",
     ];
     let end = ["M", "A,0,0,0,0", "L,0", "F,1,2,2", "F,2,2,2", "F,3,2,1"];
     Family::new(&[&open], &letters, 6, &end)

@@ -1,6 +1,7 @@
 //! Merge rules: what becomes of a known key's row when a new row with that key comes in.
 
 use calls::Opening;
+use std::cmp::{max_by_key, min_by_key};
 
 /// The row that the rule makes of the old and the new one, or nothing if the old row is kept.
 pub fn make_row(o: &Opening, old: &[u32], new: &[u32]) -> Option<Vec<u32>> {
@@ -9,9 +10,17 @@ pub fn make_row(o: &Opening, old: &[u32], new: &[u32]) -> Option<Vec<u32>> {
         0 => None,
         // "Rule 1 takes the new row if a cell outside keys and sort column differs, else keeps the old."
         1 => differs_outside(o, old, new).then(|| new.to_vec()),
-        // "Rules 2 and 3 take the smaller and the larger of each such cell, unsigned."
-        2 => changed(o, old, mix(o, old, new, u32::min)),
-        _ => changed(o, old, mix(o, old, new, u32::max)),
+        // "Rules 2 and 3 take the smaller and the larger of each such cell"; they "compare cells as signed numbers".
+        2 => changed(o, old, mix(o, old, new, |a, b| min_by_key(a, b, signed))),
+        _ => changed(o, old, mix(o, old, new, |a, b| max_by_key(a, b, signed))),
+    }
+}
+
+/// "Recorded in two's complement, so that 4294967295 means minus one."
+fn signed(cell: &u32) -> i64 {
+    match i64::from(*cell) {
+        number if number <= 2_147_483_647 => number,
+        number => number - 4_294_967_296,
     }
 }
 

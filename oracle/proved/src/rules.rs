@@ -64,7 +64,7 @@ fn pair(chance: &mut Rng, width: usize, keys: usize) -> (Vec<u32>, Vec<u32>) {
 
 pub fn merge_rules() -> Result<String, String> {
     let mut chance = Rng::new(6);
-    let (mut made, mut kept) = (0u64, 0u64);
+    let (mut made, mut kept, mut signs) = (0u64, 0u64, 0u64);
     for _ in 0..400_000 {
         let width = 1 + chance.below(8) as usize;
         let keys = 1 + chance.place(width);
@@ -89,8 +89,15 @@ pub fn merge_rules() -> Result<String, String> {
         } else {
             kept += 1
         }
+        let other_sign = |c: usize| c != sort as usize && (old[c] ^ new[c]) >> 31 == 1;
+        signs += u64::from(rule >= 2 && (keys..width).any(other_sign));
     }
-    Ok(format!("merge rules: {made} rows made, {kept} kept"))
+    if signs == 0 {
+        return Err("no cells of two signs under rule 2 or 3".to_string());
+    }
+    Ok(format!(
+        "merge rules: {made} rows made, {kept} kept; {signs} with cells of two signs under rule 2 or 3"
+    ))
 }
 
 /// The new number of a live row: the live rows before it, by the word of its 64.

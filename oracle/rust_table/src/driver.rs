@@ -12,6 +12,7 @@ use crate::{
 };
 use calls::{Answer, Call, Condition, Contents, Judge, Lengths, Opening, Question, Subset};
 use std::cell::RefCell;
+use std::cmp::{max_by_key, min_by_key};
 
 /// A staging buffer of the table, removals by row included. What is staged reaches the table when it is dropped.
 pub(crate) trait Staging: MutationBuffer {
@@ -281,10 +282,15 @@ fn rule_closure(rule: u32, keys: usize, sort: usize) -> Box<MergeFn> {
     match rule {
         0 => Box::new(|_, _, _, _| false),
         1 => cell_by_cell(keys, sort, |_, new| new),
-        2 => cell_by_cell(keys, sort, Value::min),
-        3 => cell_by_cell(keys, sort, Value::max),
+        2 => cell_by_cell(keys, sort, |old, new| min_by_key(old, new, signed)),
+        3 => cell_by_cell(keys, sort, |old, new| max_by_key(old, new, signed)),
         _ => panic!("no such rule: {rule}"),
     }
+}
+
+/// A cell in two's complement, as rules 2 and 3 compare it.
+fn signed(cell: &Value) -> i32 {
+    cell.rep() as i32
 }
 
 /// Chooses each cell outside keys and sort column by `choose`. The other cells are the new row's; of the keys both rows

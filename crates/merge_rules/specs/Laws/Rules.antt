@@ -1,5 +1,5 @@
 -- What may be relied on of the rules: which cells the row made has, and what rules 0 and 1 come to. Assumes nothing.
-use Prim.Native.Nat.{ℕ, zero, suc, min, max, _+_, _≤_, _<_}
+use Prim.Native.Nat.{ℕ, zero, suc, min, _+_, _≤_, _<_}
 use mathlib.Core.Path.{_≡_, refl, sym, ap, _∙_}
 use mathlib.Core.Logic.{_⊎_, inl, inr}
 use mathlib.Core.Bool.{Bool, true, false, cond, not, _&&_, _||_, false≢true}
@@ -12,8 +12,9 @@ use lib.ListN.{length, take, getD, length-take}
 use lib.Seq.{getD-take, ext-getD}
 use borrow.Author.Tests.{eq-eqb, ne-eqb, le-leb, lt-leb, eqb-true}
 use Rattle.lists.specs.Laws.Keep.{split, and-left, and-right}
-use Rattle.merge_rules.specs.Rules.{ruledColumn, taken, madeCell, madeFrom, changesFrom, kept, made, ruled}
+use Rattle.merge_rules.specs.Rules.{ruledColumn, smaller, larger, taken, madeCell, madeFrom, changesFrom, kept, made, ruled}
 use Rattle.merge_rules.specs.Survivor.{survivor}
+use Rattle.merge_rules.specs.Laws.Signed.{smaller-same, larger-same}
 
 and-false : (b : Bool) → (b && false) ≡ false
 and-false true = refl
@@ -49,8 +50,8 @@ ruled-other keys sort column h ne = ruled-past keys sort column h ∙ rw (ne-eqb
 pub taken-same : (rule cell : ℕ) → taken rule cell cell ≡ cell
 unfolding taken
 taken-same rule cell =
-    let low : min cell cell ≡ cell = omega arith in
-    let high : max cell cell ≡ cell = omega arith in
+    let low : smaller cell cell ≡ cell = smaller-same cell in
+    let high : larger cell cell ≡ cell = larger-same cell in
     elim (split (eqb rule 1)) [
       | inl e ↦ rw e
       | inr e ↦ elim (split (eqb rule 2)) [

@@ -9,7 +9,7 @@ use lib.Dec.{eqb}
 use Rattle.lists.specs.Lists.{every, same, count, keep, countFrom, firstOf}
 use Rattle.refusals.specs.Refusals.{first}
 use Rattle.cells.specs.Cells.{isDead}
-use Rattle.merge_rules.specs.Rules.{ruledColumn, taken, madeCell, madeFrom, changesFrom, ruled}
+use Rattle.merge_rules.specs.Rules.{ruledColumn, signed, signedLess, smaller, larger, taken, madeCell, madeFrom, changesFrom, ruled}
 use Rattle.plain.specs.Staged.{Opening, openable, insert, removeKey, removeRow, wordsOf, wordsAll, keyRemovals, rowRemovals, inserts, hasKey, skipped, due}
 use Rattle.plain.specs.Refusing.{storesShort, wordsShort, wrongWidth, noSuchRow, overfull, stageLadder, mergeLadder}
 use Rattle.plain.specs.Plain.{Numbered, liveFrom, liveRows, lookup, dead, opened, stage, liveWithKey, killIf, withoutKey, withoutKeys, dies, withoutRow, withoutRows, lastValue, below, stop, append, put, insertion, Inserted, insertAll, applied, compacted, compactIfDue, unstaged, merged}
@@ -129,6 +129,26 @@ turns =
       dead-after = 17;
       live-after = [];
     }
+    -- "4294967295 means minus one": rule 2 takes it for 5
+    ∷ record {
+      opening = record { columns = 3; keys = 1; sort = 2; rule = 2; capacity = 9 };
+      before = staging (insert (level 1 5 12)) ∷ merging ∷ staging (insert (level 1 4294967295 12)) ∷ [];
+      status = 0;
+      place = 0;
+      added = true;
+      dead-after = 1;
+      live-after = row 1 (level 1 4294967295 12) ∷ [];
+    }
+    -- 2147483648 means the least number: rule 3 keeps minus one
+    ∷ record {
+      opening = record { columns = 3; keys = 1; sort = 2; rule = 3; capacity = 9 };
+      before = staging (insert (level 1 4294967295 12)) ∷ merging ∷ staging (insert (level 1 2147483648 12)) ∷ [];
+      status = 0;
+      place = 0;
+      added = false;
+      dead-after = 0;
+      live-after = row 0 (level 1 4294967295 12) ∷ [];
+    }
     ∷ []
 
 abbrev sameRow : Numbered → Numbered → Bool
@@ -160,5 +180,5 @@ comesOut t =
     && sameRows (liveRows (outcome t .table)) (t .live-after)
 
 pub all-come-out : every comesOut turns ≡ true
-unfolding every same count keep countFrom firstOf first isDead ruledColumn taken madeCell madeFrom changesFrom ruled openable wordsOf wordsAll keyRemovals rowRemovals inserts hasKey skipped due storesShort wordsShort wrongWidth noSuchRow overfull stageLadder mergeLadder liveFrom liveRows lookup dead opened stage liveWithKey killIf withoutKey withoutKeys dies withoutRow withoutRows lastValue below stop append put insertion insertAll applied compacted compactIfDue unstaged merged countsOf pendingShort refusal done after afterAll turns sameRows comesOut
+unfolding every same count keep countFrom firstOf first isDead ruledColumn signed signedLess smaller larger taken madeCell madeFrom changesFrom ruled openable wordsOf wordsAll keyRemovals rowRemovals inserts hasKey skipped due storesShort wordsShort wrongWidth noSuchRow overfull stageLadder mergeLadder liveFrom liveRows lookup dead opened stage liveWithKey killIf withoutKey withoutKeys dies withoutRow withoutRows lastValue below stop append put insertion insertAll applied compacted compactIfDue unstaged merged countsOf pendingShort refusal done after afterAll turns sameRows comesOut
 all-come-out = refl

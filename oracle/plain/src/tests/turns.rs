@@ -112,6 +112,22 @@ fn rules() {
     assert_eq!(after_rule(3), [(1, vec![1, 5, 6, 2])]);
 }
 
+/// One known key, old level 5, new level minus one; then the least level.
+fn after_negative_levels(rule: u32) -> Vec<(u32, Vec<u32>)> {
+    let mut table = opened([3, 1, 2, rule, 16, 0]);
+    for level in [5, u32::MAX, 0x8000_0000] {
+        insert(&mut table, &[1, level, 1]);
+    }
+    merge(&mut table);
+    live(&table)
+}
+
+#[test]
+fn levels_below_zero() {
+    assert_eq!(after_negative_levels(2), [(2, vec![1, 0x8000_0000, 1])]);
+    assert_eq!(after_negative_levels(3), [(0, vec![1, 5, 1])]);
+}
+
 #[test]
 fn last_generation() {
     let mut table = opened([2, 1, 1, 0, 32, u32::MAX]);

@@ -1,0 +1,20 @@
+-- `merge_rules::larger` meets its contract. Assumes nothing.
+use borrow.Author.Needs.{needs}
+use mathlib.Core.Path.{sym, _∙_}
+use Rattle.merge_rules.specs.Rules.{larger}
+use Rattle.merge_rules.proofs.larger.Statement.{statement}
+use Rattle.merge_rules.proofs.larger.Tie as tie
+
+signed-less-requires : tie.Need-signed-less-requires
+signed-less-requires c κs = search needs
+
+returns : tie.Need-returns
+unfolding larger
+returns c = simp (sym (c .before .signed-less .ensures) ∙ c .if1 .taken)
+
+returns-2 : tie.Need-returns-2
+unfolding larger
+returns-2 c = simp (sym (c .before .signed-less .ensures) ∙ c .if1 .left)
+
+pub larger-spec : {M : Type 1} → statement M
+larger-spec = tie.close (tie.spec signed-less-requires returns returns-2)
