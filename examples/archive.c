@@ -117,14 +117,30 @@ static void print_common(void) {
     const uint32_t none[1] = {0};
     uint32_t output[4];
     uint32_t words[3];
-    if (mouldgrey_intersect(false, 0, 0, first, LENGTH(first), true, 3, 8, none, 0, output,
-                            LENGTH(output), words, LENGTH(words)) &&
-        words[0] == 2) {
-        printf("{1, 3, 5, 8} with 3..8:");
-        for (uint32_t place = 0; place < words[1]; place++) {
-            printf(" %u", (unsigned)output[place]);
-        }
-        printf("\n");
+    accepted("intersect",
+             mouldgrey_intersect(false, 0, 0, first, LENGTH(first), true, 3, 8, none, 0, output,
+                                 LENGTH(output), words, LENGTH(words)));
+    printf("{1, 3, 5, 8} with 3..8:");
+    for (uint32_t place = 0; place < words[1]; place++) {
+        printf(" %u", (unsigned)output[place]);
+    }
+    printf("\n");
+}
+
+/* The live rows of a level and a stamp, a page of two places at a time. */
+static void print_pages(uint32_t level, uint32_t stamp) {
+    const struct mouldgrey_constraint conditions[2] = {{MOULDGREY_AT_LEAST, LEVEL, level},
+                                                       {MOULDGREY_AT_LEAST, SORT, stamp}};
+    const uint32_t none[1] = {0};
+    uint32_t output[2];
+    uint32_t words[3] = {0, 1, 0};
+    while (words[1] == 1) {
+        const uint32_t place = words[2];
+        accepted("page", mouldgrey_read_page(header, LENGTH(header), rows, LENGTH(rows), true, 0,
+                                             header[MOULDGREY_ROWS], none, 0, place, 2, conditions,
+                                             LENGTH(conditions), output, LENGTH(output), words,
+                                             LENGTH(words)));
+        printf("page from %u: %u of two\n", (unsigned)place, (unsigned)words[0]);
     }
 }
 
@@ -145,6 +161,7 @@ int main(void) {
     print_stamped(10);
     print_stamped(12);
     print_common();
+    print_pages(150, 11);
     print_soundness();
 
     /* An old stamp stops a merge; the table stays as it was. */

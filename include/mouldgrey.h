@@ -1,6 +1,7 @@
 /*
  * Mouldgrey: a table for an archive. Rows of uint32_t cells, kept by key, in the order of a sort
- * column, in stores that the caller lends. Link libexports_questions.a and libexports.a.
+ * column, in stores that the caller lends. Link libexports_lists.a, libexports_questions.a and
+ * libexports.a.
  *
  * A table is a header of ten words and four stores. docs/FORMAT.md says what each word means.
  *
@@ -20,9 +21,9 @@
  * What is promised. On any numbers at all a call ends and does nothing undefined: no test is needed
  * beforehand, not even of a header or stores that came from elsewhere. A call that is turned away
  * returns a number that is not 0, the first that applies of those listed with it, and has changed
- * nothing that was lent, save the answer's words of a question (see below). What the answers mean
- * is promised of sound stores: those that an opening and the calls after it have left, or that
- * mouldgrey_is_sound says yes to.
+ * nothing that was lent: no header, no store, no output and no words of the answer. What the
+ * answers mean is promised of sound stores: those that an opening and the calls after it have left,
+ * or that mouldgrey_is_sound says yes to.
  *
  * What the caller must see to, since no proof can:
  *
@@ -95,7 +96,17 @@ extern "C" {
 #define MOULDGREY_TAKE_SMALLER 2 /* of each such cell, as an int32_t: 4294967295 is minus one */
 #define MOULDGREY_TAKE_LARGER 3
 
-/* Conditions: a kind, a column, and a column (kind 0) or a value, unsigned. */
+/*
+ * A condition: a kind, a column, and a column (kind 0) or a value, unsigned. Three words; a list of
+ * conditions goes as a pointer to the first and their number.
+ */
+struct mouldgrey_constraint {
+    uint32_t kind;
+    uint32_t column;
+    uint32_t value;
+};
+
+/* The kinds. */
 #define MOULDGREY_EQUAL_COLUMNS 0
 #define MOULDGREY_EQUAL 1
 #define MOULDGREY_LESS 2
@@ -173,8 +184,7 @@ uint32_t mouldgrey_clear(uint32_t *header, size_t header_len, uint32_t *keys, si
 
 /*
  * Questions. The answer goes into words, whose length must be the number given, else 2; header_len
- * must be 10, else 1; in both cases words is unchanged. What words holds after any other refusal
- * means nothing.
+ * must be 10, else 1. After a refusal words is as it was.
  */
 
 /*
@@ -238,15 +248,52 @@ uint32_t mouldgrey_refine_one(const uint32_t *header, size_t header_len, const u
                               size_t words_len);
 
 /*
- * The ids that two subsets have in common; needs no table. Returns true, or false and nothing done
- * if words_len is not 3. words: as for mouldgrey_refine_one, or 0, number, 0, refused: 4, and 2 if
- * output is shorter than the first list, or than the second where the first is a range; output
- * unchanged.
+ * The live rows of a subset that meet all conditions of a list; an empty list is met by every live
+ * row. Subset, output and words, 3, as for mouldgrey_refine_one, but a range stays a range only if
+ * all of it is kept. Refuses: 1, 2, 4, 5, 6, and 2 again if output is shorter than the subset;
+ * output unchanged.
  */
-bool mouldgrey_intersect(bool dense, uint32_t start, uint32_t end, const uint32_t *ids,
-                         size_t ids_len, bool other_dense, uint32_t other_start, uint32_t other_end,
-                         const uint32_t *other_ids, size_t other_ids_len, uint32_t *output,
-                         size_t output_len, uint32_t *words, size_t words_len);
+uint32_t mouldgrey_refine_ref(const uint32_t *header, size_t header_len, const uint32_t *rows,
+                              size_t rows_len, bool dense, uint32_t start, uint32_t end,
+                              const uint32_t *ids, size_t ids_len,
+                              const struct mouldgrey_constraint *conditions, size_t conditions_len,
+                              uint32_t *output, size_t output_len, uint32_t *words,
+                              size_t words_len);
+
+/*
+ * Whether a live row of a subset meets all conditions. words, 1: 1 if one does, else 0. Refuses: 1,
+ * 2, 4, 5, 6.
+ */
+uint32_t mouldgrey_contains_match(const uint32_t *header, size_t header_len, const uint32_t *rows,
+                                  size_t rows_len, bool dense, uint32_t start, uint32_t end,
+                                  const uint32_t *ids, size_t ids_len,
+                                  const struct mouldgrey_constraint *conditions,
+                                  size_t conditions_len, uint32_t *words, size_t words_len);
+
+/*
+ * A page: visits n ids of a subset, from the place that is counted from 0 on, and writes those of
+ * the live rows that meet all conditions to output. words, 3: how many were written; then 1 and the
+ * next place, or 0 and 0 if nothing remains. Output past the ids written is unchanged. Refuses: 1,
+ * 2, 4, 5 (also if place is above the subset's size), 6, and 2 again if output is shorter than the
+ * smaller of n and what remains; output unchanged.
+ */
+uint32_t mouldgrey_read_page(const uint32_t *header, size_t header_len, const uint32_t *rows,
+                             size_t rows_len, bool dense, uint32_t start, uint32_t end,
+                             const uint32_t *ids, size_t ids_len, uint32_t place, size_t n,
+                             const struct mouldgrey_constraint *conditions, size_t conditions_len,
+                             uint32_t *output, size_t output_len, uint32_t *words,
+                             size_t words_len);
+
+/*
+ * The ids that two subsets have in common; needs no table. Output and words, 3, as for
+ * mouldgrey_refine_one. Refuses: 2 if words_len is not 3, 4, and 2 again if output is shorter than
+ * the first list, or than the second where the first is a range; output unchanged.
+ */
+uint32_t mouldgrey_intersect(bool dense, uint32_t start, uint32_t end, const uint32_t *ids,
+                             size_t ids_len, bool other_dense, uint32_t other_start,
+                             uint32_t other_end, const uint32_t *other_ids, size_t other_ids_len,
+                             uint32_t *output, size_t output_len, uint32_t *words,
+                             size_t words_len);
 
 #ifdef __cplusplus
 }

@@ -7,7 +7,9 @@
 //! [`Table`]: crate::Table
 
 use crate::header::HEADER_WORDS;
-use crate::{Constraint, Header, Merge, Opening, Refusal, Stop, SubsetRef, Version, Written, raw};
+use crate::{
+    Constraint, Header, Merge, Opening, Page, Refusal, Stop, SubsetRef, Version, Written, raw,
+};
 
 /// The words of a header to write to.
 fn words_of(header: &mut Header) -> *mut u32 {
@@ -46,14 +48,11 @@ fn parts(subset: SubsetRef<'_>) -> (bool, u32, u32, &[u32]) {
     }
 }
 
-/// The subset that three words tell; the first of them is 0 where it was refused.
-fn written(words: [u32; 3]) -> Result<Written, Refusal> {
+/// The subset that three words tell.
+fn written(words: [u32; 3]) -> Written {
     match words {
-        [1, start, end] => Ok(Written::Range(start, end)),
-        [2, count, 0] => Ok(Written::List(count as usize)),
-        [_, number, _] => {
-            Err(Refusal::from_number(number).expect("a refusal's number is the paper's"))
-        }
+        [1, start, end] => Written::Range(start, end),
+        [_, count, _] => Written::List(count as usize),
     }
 }
 
@@ -397,7 +396,114 @@ pub fn refine_one(
             words.len(),
         )
     })?;
-    written(words)
+    Ok(written(words))
+}
+
+/// The live rows of a subset that meet all conditions. A range stays one only if all of it is kept. Refused by 1, 2, 4, 5, 6
+/// and, if the output is shorter than the subset, 2.
+#[inline]
+pub fn refine_ref(
+    header: &Header,
+    rows: &[u32],
+    subset: SubsetRef<'_>,
+    constraints: &[Constraint],
+    output: &mut [u32],
+) -> Result<Written, Refusal> {
+    let (dense, start, end, ids) = parts(subset);
+    let mut words = [0; 3];
+    verdict(unsafe {
+        raw::mouldgrey_refine_ref(
+            words_in(header),
+            HEADER_WORDS,
+            rows.as_ptr(),
+            rows.len(),
+            dense,
+            start,
+            end,
+            ids.as_ptr(),
+            ids.len(),
+            constraints.as_ptr(),
+            constraints.len(),
+            output.as_mut_ptr(),
+            output.len(),
+            words.as_mut_ptr(),
+            words.len(),
+        )
+    })?;
+    Ok(written(words))
+}
+
+/// Whether a live row of a subset meets all conditions. Refused by 1, 2, 4, 5 and 6.
+#[inline]
+pub fn contains_match(
+    header: &Header,
+    rows: &[u32],
+    subset: SubsetRef<'_>,
+    constraints: &[Constraint],
+) -> Result<bool, Refusal> {
+    let (dense, start, end, ids) = parts(subset);
+    let mut words = [0; 1];
+    verdict(unsafe {
+        raw::mouldgrey_contains_match(
+            words_in(header),
+            HEADER_WORDS,
+            rows.as_ptr(),
+            rows.len(),
+            dense,
+            start,
+            end,
+            ids.as_ptr(),
+            ids.len(),
+            constraints.as_ptr(),
+            constraints.len(),
+            words.as_mut_ptr(),
+            words.len(),
+        )
+    })?;
+    Ok(words[0] == 1)
+}
+
+/// Visits n ids of a subset from a place on, counted from 0, and writes those of the live rows that meet all conditions.
+/// Refused by 1, 2, 4, 5 (also if the place is above the subset's size), 6 and, if the output is shorter than the smaller of n
+/// and what remains, 2.
+#[inline]
+pub fn read_page(
+    header: &Header,
+    rows: &[u32],
+    subset: SubsetRef<'_>,
+    place: u32,
+    n: usize,
+    constraints: &[Constraint],
+    output: &mut [u32],
+) -> Result<Page, Refusal> {
+    let (dense, start, end, ids) = parts(subset);
+    let mut words = [0; 3];
+    verdict(unsafe {
+        raw::mouldgrey_read_page(
+            words_in(header),
+            HEADER_WORDS,
+            rows.as_ptr(),
+            rows.len(),
+            dense,
+            start,
+            end,
+            ids.as_ptr(),
+            ids.len(),
+            place,
+            n,
+            constraints.as_ptr(),
+            constraints.len(),
+            output.as_mut_ptr(),
+            output.len(),
+            words.as_mut_ptr(),
+            words.len(),
+        )
+    })?;
+    let [written, more, next] = words;
+    Ok(Page {
+        written: written as usize,
+        next: (more == 1).then_some(next),
+    })
 }
 
 /// The ids that two subsets have in common. Refused by 4 and, if the output is shorter than the first list, or than the second
@@ -411,7 +517,7 @@ pub fn intersect(
     let (dense, start, end, ids) = parts(first);
     let (other_dense, other_start, other_end, other_ids) = parts(second);
     let mut words = [0; 3];
-    let done = unsafe {
+    verdict(unsafe {
         raw::mouldgrey_intersect(
             dense,
             start,
@@ -428,7 +534,6 @@ pub fn intersect(
             words.as_mut_ptr(),
             words.len(),
         )
-    };
-    debug_assert!(done, "three words are enough");
-    written(words)
+    })?;
+    Ok(written(words))
 }

@@ -7,8 +7,9 @@
 //!
 //! Calls that the library turns away answer a [`Refusal`] with the paper's number, and have changed nothing.
 //!
-//! The static libraries are looked for in target/staticlib of the repository, where `rt staticlib exports` and `rt staticlib
-//! exports_questions` leave them, or in the folder that the environment variable MOULDGREY_LIBRARIES names.
+//! The static libraries are looked for in target/staticlib of the repository, where `rt staticlib exports`, `rt staticlib
+//! exports_questions` and `rt staticlib exports_lists` leave them, or in the folder that the environment variable
+//! MOULDGREY_LIBRARIES names.
 
 mod header;
 pub mod lent;
@@ -21,5 +22,5 @@ mod tests;
 
 pub use header::{DEAD, Header, Lengths, Merge, Opening, Version};
 pub use refusal::{Refusal, Stop};
-pub use subset::{Constraint, Subset, SubsetRef, Written};
+pub use subset::{Constraint, Page, Subset, SubsetRef, Written};
 pub use table::{NoTable, Row, Rows, Stores, Table, intersect};

@@ -1,6 +1,8 @@
 //! The C functions as they are declared in include/mouldgrey.h, where each is described. A slice goes as a pointer and a
 //! length. A test compares these declarations with the library's source.
 
+use crate::Constraint;
+
 unsafe extern "C" {
     pub fn mouldgrey_open_table(
         columns: u32,
@@ -164,6 +166,57 @@ unsafe extern "C" {
         words: *mut u32,
         words_len: usize,
     ) -> u32;
+    pub fn mouldgrey_refine_ref(
+        header: *const u32,
+        header_len: usize,
+        rows: *const u32,
+        rows_len: usize,
+        dense: bool,
+        start: u32,
+        end: u32,
+        ids: *const u32,
+        ids_len: usize,
+        conditions: *const Constraint,
+        conditions_len: usize,
+        output: *mut u32,
+        output_len: usize,
+        words: *mut u32,
+        words_len: usize,
+    ) -> u32;
+    pub fn mouldgrey_contains_match(
+        header: *const u32,
+        header_len: usize,
+        rows: *const u32,
+        rows_len: usize,
+        dense: bool,
+        start: u32,
+        end: u32,
+        ids: *const u32,
+        ids_len: usize,
+        conditions: *const Constraint,
+        conditions_len: usize,
+        words: *mut u32,
+        words_len: usize,
+    ) -> u32;
+    pub fn mouldgrey_read_page(
+        header: *const u32,
+        header_len: usize,
+        rows: *const u32,
+        rows_len: usize,
+        dense: bool,
+        start: u32,
+        end: u32,
+        ids: *const u32,
+        ids_len: usize,
+        place: u32,
+        n: usize,
+        conditions: *const Constraint,
+        conditions_len: usize,
+        output: *mut u32,
+        output_len: usize,
+        words: *mut u32,
+        words_len: usize,
+    ) -> u32;
     pub fn mouldgrey_intersect(
         dense: bool,
         start: u32,
@@ -179,5 +232,5 @@ unsafe extern "C" {
         output_len: usize,
         words: *mut u32,
         words_len: usize,
-    ) -> bool;
+    ) -> u32;
 }

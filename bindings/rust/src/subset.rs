@@ -59,8 +59,16 @@ pub enum Written {
     List(usize),
 }
 
-/// A condition on a row: a kind, a column, and a column or a value. A dead row meets none.
+/// A page over a lent output: how many ids stand at its start, and the next place, if anything remains.
 #[derive(Clone, Copy, Debug, PartialEq, Eq)]
+pub struct Page {
+    pub written: usize,
+    pub next: Option<u32>,
+}
+
+/// A condition on a row: a kind, a column, and a column or a value. A dead row meets none. It is three words, as in C.
+#[derive(Clone, Copy, Debug, PartialEq, Eq)]
+#[repr(C)]
 pub struct Constraint {
     pub kind: u32,
     pub column: u32,

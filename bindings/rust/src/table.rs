@@ -276,6 +276,79 @@ impl Table {
         })
     }
 
+    /// The live rows of a subset that meet all conditions: the range if all of it is kept, else a list. Refused by 4, 5 and 6.
+    pub fn refine_ref<'a>(
+        &self,
+        subset: impl Into<SubsetRef<'a>>,
+        constraints: &[Constraint],
+    ) -> Result<Subset, Refusal> {
+        let subset = subset.into();
+        let room = subset.size().min(self.stores.header.rows as usize);
+        with_output(room, |output| {
+            lent::refine_ref(
+                &self.stores.header,
+                &self.stores.rows,
+                subset,
+                constraints,
+                output,
+            )
+        })
+    }
+
+    /// Whether a live row of a subset meets all conditions. Refused by 4, 5 and 6.
+    pub fn contains_match<'a>(
+        &self,
+        subset: impl Into<SubsetRef<'a>>,
+        constraints: &[Constraint],
+    ) -> Result<bool, Refusal> {
+        let s = &self.stores;
+        lent::contains_match(&s.header, &s.rows, subset.into(), constraints)
+    }
+
+    /// A page: of n ids of a subset from a place on, counted from 0, those of the live rows that meet all conditions; and the
+    /// next place, if anything remains. Refused by 4, 5 (also if the place is above the subset's size) and 6.
+    ///
+    /// ```
+    /// # use mouldgrey::{Constraint, Opening, Refusal, Table};
+    /// # fn main() -> Result<(), Refusal> {
+    /// # let opening = Opening { columns: 2, keys: 1, sort: 1, rule: 0, capacity: 10, generation: 0 };
+    /// # let mut table = Table::new(&opening, 100)?;
+    /// # for key in 0..5 {
+    /// #     table.stage_insert(&[key, key])?;
+    /// # }
+    /// # table.merge()?;
+    /// let mut place = Some(0);
+    /// while let Some(from) = place {
+    ///     let (ids, next) = table.read_page(&table.all(), from, 2, &[Constraint::gt(0, 1)])?;
+    ///     println!("{ids:?}");
+    ///     place = next;
+    /// }
+    /// # Ok(())
+    /// # }
+    /// ```
+    pub fn read_page<'a>(
+        &self,
+        subset: impl Into<SubsetRef<'a>>,
+        place: u32,
+        n: usize,
+        constraints: &[Constraint],
+    ) -> Result<(Vec<u32>, Option<u32>), Refusal> {
+        let s = &self.stores;
+        let subset = subset.into();
+        let mut output = vec![0; n.min(subset.size()).min(s.header.rows as usize)];
+        let page = lent::read_page(
+            &s.header,
+            &s.rows,
+            subset,
+            place,
+            n,
+            constraints,
+            &mut output,
+        )?;
+        output.truncate(page.written);
+        Ok((output, page.next))
+    }
+
     /// Whether header and stores are sound. They are, unless [`Stores`] were changed by other hands.
     pub fn is_sound(&self) -> Result<bool, Refusal> {
         let s = &self.stores;

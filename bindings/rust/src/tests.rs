@@ -160,6 +160,92 @@ fn refining() {
 }
 
 #[test]
+fn lists_of_conditions() {
+    let table = twenty();
+    let list = |ids: &[u32]| Subset::List(ids.to_vec());
+    let third = Constraint::eq(1, 0);
+    let early = Constraint::lt(2, 5);
+    let refined = |subset: &Subset, by: &[Constraint]| table.refine_ref(subset, by);
+    assert_eq!(refined(&table.all(), &[]), Ok(table.all()));
+    assert_eq!(
+        refined(&table.all(), &[third, early]),
+        Ok(list(&[0, 3, 6, 9]))
+    );
+    assert_eq!(
+        refined(&Subset::Range(5, 8), &[Constraint::gt(0, 5)]),
+        Ok(list(&[6, 7]))
+    );
+    assert_eq!(refined(&list(&[1, 3, 6, 7]), &[third]), Ok(list(&[3, 6])));
+    assert_eq!(
+        refined(&table.all(), &[third, Constraint::eq(3, 0)]),
+        Err(Refusal::NoSuchColumn)
+    );
+    let matches = |subset: &Subset, by: &[Constraint]| table.contains_match(subset, by);
+    assert_eq!(matches(&Subset::Range(4, 6), &[third]), Ok(false));
+    assert_eq!(matches(&Subset::Range(4, 7), &[third]), Ok(true));
+    assert_eq!(matches(&list(&[]), &[]), Ok(false));
+    assert_eq!(
+        matches(&Subset::Range(4, 21), &[third]),
+        Err(Refusal::PastTheRows)
+    );
+}
+
+#[test]
+fn pages() {
+    let table = twenty();
+    let third = [Constraint::eq(1, 0)];
+    let page = |place, n| table.read_page(&table.all(), place, n, &third);
+    assert_eq!(page(0, 7), Ok((vec![0, 3, 6], Some(7))));
+    assert_eq!(page(14, 6), Ok((vec![15, 18], None)));
+    assert_eq!(page(5, 0), Ok((vec![], Some(5))));
+    assert_eq!(page(20, 0), Ok((vec![], None)));
+    assert_eq!(page(18, usize::MAX), Ok((vec![18], None)));
+    assert_eq!(page(21, 0), Err(Refusal::PastTheRows));
+    let three = Subset::List(vec![2, 3, 18]);
+    assert_eq!(
+        table.read_page(&three, 1, 2, &third),
+        Ok((vec![3, 18], None))
+    );
+    // An output that is shorter than n but not than what remains, and one that is shorter than both.
+    let s = table.stores();
+    let mut output = [9; 2];
+    let ask = |output: &mut [u32]| {
+        lent::read_page(
+            &s.header,
+            &s.rows,
+            SubsetRef::Range(0, 20),
+            18,
+            5,
+            &[],
+            output,
+        )
+    };
+    assert_eq!(ask(&mut output[..1]), Err(Refusal::TooShort));
+    assert_eq!(output, [9, 9]);
+    let whole = Page {
+        written: 2,
+        next: None,
+    };
+    assert_eq!(ask(&mut output), Ok(whole));
+    assert_eq!(output, [18, 19]);
+}
+
+/// A refused question leaves the words of its answer as they were, and so does one that is lent words of another number.
+#[test]
+fn refused_words() {
+    let table = twenty();
+    let s = table.stores();
+    let header = s.header.words();
+    let mut words = [7, 8, 9, 10];
+    let mut since = |row, count: usize| unsafe {
+        raw::mouldgrey_updates_since(header.as_ptr(), 10, row, words.as_mut_ptr(), count)
+    };
+    assert_eq!(since(21, 3), 5);
+    assert_eq!(since(20, 4), 2);
+    assert_eq!(words, [7, 8, 9, 10]);
+}
+
+#[test]
 fn intersections() {
     let list = |ids: &[u32]| Subset::List(ids.to_vec());
     assert_eq!(intersect(&list(&[1, 6]), &list(&[6, 9])), Ok(list(&[6])));

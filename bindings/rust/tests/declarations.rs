@@ -63,6 +63,7 @@ fn in_c(kind: &str) -> &'static str {
         "u64" => "uint64_t",
         "usize" => "size_t",
         "bool" => "bool",
+        "Constraint" => "struct mouldgrey_constraint",
         _ => panic!("no C type for {kind}"),
     }
 }
@@ -140,6 +141,7 @@ fn sorted(mut lines: Vec<String>) -> Vec<String> {
 fn shipped() -> Vec<Exported> {
     let mut functions = exported("crates/exports/src/lib.rt");
     functions.extend(exported("crates/exports_questions/src/lib.rt"));
+    functions.extend(exported("crates/exports_lists/src/lib.rt"));
     functions
 }
 
@@ -150,13 +152,7 @@ fn header_for_c() {
         .lines()
         .filter(|line| !line.starts_with('#'))
         .collect();
-    let mut declared = Vec::new();
-    for answer in ["uint32_t", "bool"] {
-        declared.extend(declarations(
-            &code.join("\n"),
-            &format!("{answer} mouldgrey_"),
-        ));
-    }
+    let declared = declarations(&code.join("\n"), "uint32_t mouldgrey_");
     let expected = shipped().iter().map(Exported::declared_in_c).collect();
     assert_eq!(sorted(declared), sorted(expected));
 }

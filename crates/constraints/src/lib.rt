@@ -6,7 +6,8 @@ ghost use lib.ListN.{getD};
 ghost use Rattle.constraints.specs.Constraints as rules;
 
 // Kind 0: two columns are equal, `column` and `value`. Kinds 1 to 5: the cell of `column` is equal to, less than, greater
-// than, at most or at least `value`, unsigned.
+// than, at most or at least `value`, unsigned. Lent lists of them come from C too.
+#[repr(C)]
 pub struct Constraint {
     pub kind: u32,
     pub column: u32,

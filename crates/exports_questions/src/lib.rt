@@ -9,11 +9,10 @@ ghost use Rattle.exports_questions.specs.Intersecting.{Intersected};
 use constraints::Constraint;
 use offsets::SubsetHead;
 use words::header_of;
-use words::subset_number;
-use words::write_answer;
 use words::write_cell;
 use words::write_range;
 use words::write_row;
+use words::write_subset;
 use words::write_version;
 
 #[no_mangle]
@@ -143,11 +142,10 @@ pub extern "C" fn mouldgrey_refine_one(
         value,
     };
     let answer = questions::refine_one(header_of(header), rows, head, ids, c, output);
-    write_answer(answer, words);
-    subset_number(answer)
+    write_subset(answer, words)
 }
 
-// The common ids of two subsets. The answer goes into three words; false, and nothing done, where those are not three.
+// The common ids of two subsets. The answer goes into three words; 2, and nothing done, where those are not three.
 #[no_mangle]
 pub extern "C" fn mouldgrey_intersect(
     dense: bool,
@@ -160,11 +158,11 @@ pub extern "C" fn mouldgrey_intersect(
     other_ids: &[u32],
     output: &mut [u32],
     words: &mut [u32],
-) -> bool
+) -> u32
     ensures { λ r. ⌜ Intersected (subsetOf (record { dense = dense; start = start; end = end }) (now (ids .entry))) (subsetOf (record { dense = «other_dense»; start = «other_start»; end = «other_end» }) (now («other_ids» .entry))) (now (output .entry)) (now (words .entry)) r (now (output .exit)) (now (words .exit)) ⌝ }
 {
     if words.len() != 3 {
-        return false;
+        return 2;
     }
     let first = SubsetHead { dense, start, end };
     let second = SubsetHead {
@@ -173,6 +171,5 @@ pub extern "C" fn mouldgrey_intersect(
         end: other_end,
     };
     let answer = intersection::intersect(first, ids, second, other_ids, output);
-    write_answer(answer, words);
-    true
+    write_subset(answer, words)
 }

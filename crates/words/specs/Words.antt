@@ -6,7 +6,7 @@ use mathlib.Core.Bool.{Bool, cond}
 use mathlib.Core.List.{List, [], _∷_}
 use lib.ListN.{length, getD}
 use Rattle.offsets.specs.declared.SubsetAnswer.{SubsetAnswer}
-use Rattle.offsets.specs.declared.SubsetAnswer.the-variants.{Refused as SubsetRefused, Range as SubsetRange, List as SubsetList, Refused, Range, List as Ids}
+use Rattle.offsets.specs.declared.SubsetAnswer.the-variants.{Refused as SubsetRefused, Range as SubsetRange, List as SubsetList}
 use Rattle.table.specs.declared.Header.{Header}
 use Rattle.table.specs.declared.TableAnswer.{TableAnswer}
 use Rattle.table.specs.declared.TableAnswer.the-variants.{Refused as TableRefused, Table}
@@ -53,8 +53,8 @@ headerWords h =
     ∷ h .generation
     ∷ []
 
--- ---- what is told of an answer: the refusal's number, 0 if there is none; the header's words, as they were if refused; and
--- the answer's own words
+-- ---- what is told of an answer: the refusal's number, 0 if there is none; the header's words and the answer's own words, both as
+-- they were if refused
 
 unfoldable pub tableNumber : TableAnswer → ℕ
 tableNumber (TableRefused n) = n
@@ -87,57 +87,57 @@ rowNumber (RowRefused n) = n
 rowNumber NoRow = 0
 rowNumber (Row row) = 0
 
-unfoldable pub rowWords : RowAnswer → List ℕ
-rowWords (RowRefused n) = 0 ∷ 0 ∷ []
-rowWords NoRow = 0 ∷ 0 ∷ []
-rowWords (Row row) = 1 ∷ row ∷ []
+unfoldable pub rowWords : List ℕ → RowAnswer → List ℕ
+rowWords words (RowRefused n) = words
+rowWords words NoRow = 0 ∷ 0 ∷ []
+rowWords words (Row row) = 1 ∷ row ∷ []
 
 unfoldable pub cellNumber : CellAnswer → ℕ
 cellNumber (CellRefused n) = n
 cellNumber NoCell = 0
 cellNumber (Cell cell) = 0
 
-unfoldable pub cellWords : CellAnswer → List ℕ
-cellWords (CellRefused n) = 0 ∷ 0 ∷ []
-cellWords NoCell = 0 ∷ 0 ∷ []
-cellWords (Cell cell) = 1 ∷ cell ∷ []
+unfoldable pub cellWords : List ℕ → CellAnswer → List ℕ
+cellWords words (CellRefused n) = words
+cellWords words NoCell = 0 ∷ 0 ∷ []
+cellWords words (Cell cell) = 1 ∷ cell ∷ []
 
 unfoldable pub rangeNumber : RangeAnswer → ℕ
 rangeNumber (RangeRefused n) = n
 rangeNumber NoRange = 0
 rangeNumber (Range start end) = 0
 
-unfoldable pub rangeWords : RangeAnswer → List ℕ
-rangeWords (RangeRefused n) = 0 ∷ 0 ∷ 0 ∷ []
-rangeWords NoRange = 0 ∷ 0 ∷ 0 ∷ []
-rangeWords (Range start end) = 1 ∷ start ∷ end ∷ []
+unfoldable pub rangeWords : List ℕ → RangeAnswer → List ℕ
+rangeWords words (RangeRefused n) = words
+rangeWords words NoRange = 0 ∷ 0 ∷ 0 ∷ []
+rangeWords words (Range start end) = 1 ∷ start ∷ end ∷ []
 
 unfoldable pub versionNumber : VersionAnswer → ℕ
 versionNumber (VersionRefused n) = n
 versionNumber (Versioned v) = 0
 
-unfoldable pub versionWords : VersionAnswer → List ℕ
-versionWords (VersionRefused n) = 0 ∷ 0 ∷ []
-versionWords (Versioned v) = v .generation ∷ v .rows ∷ []
+unfoldable pub versionWords : List ℕ → VersionAnswer → List ℕ
+versionWords words (VersionRefused n) = words
+versionWords words (Versioned v) = v .generation ∷ v .rows ∷ []
 
 unfoldable pub soundNumber : SoundAnswer → ℕ
 soundNumber (SoundRefused n) = n
 soundNumber (Sound answer) = 0
 
-unfoldable pub soundWords : SoundAnswer → List ℕ
-soundWords (SoundRefused n) = 0 ∷ []
-soundWords (Sound answer) = bit answer ∷ []
+unfoldable pub soundWords : List ℕ → SoundAnswer → List ℕ
+soundWords words (SoundRefused n) = words
+soundWords words (Sound answer) = bit answer ∷ []
 
--- of a subset as an answer: 0 and the refusal's number; 1 and a range's two ends; 2 and how many ids were written
-unfoldable pub subsetWords : SubsetAnswer → List ℕ
-subsetWords (Refused n) = 0 ∷ n ∷ 0 ∷ []
-subsetWords (Range start end) = 1 ∷ start ∷ end ∷ []
-subsetWords (Ids n) = 2 ∷ n ∷ 0 ∷ []
-
+-- of a subset as an answer: 1 and a range's two ends; 2 and how many ids were written
 unfoldable pub subsetNumber : SubsetAnswer → ℕ
 subsetNumber (SubsetRefused n) = n
 subsetNumber (SubsetRange start end) = 0
 subsetNumber (SubsetList count) = 0
+
+unfoldable pub subsetWords : List ℕ → SubsetAnswer → List ℕ
+subsetWords words (SubsetRefused n) = words
+subsetWords words (SubsetRange start end) = 1 ∷ start ∷ end ∷ []
+subsetWords words (SubsetList count) = 2 ∷ count ∷ 0 ∷ []
 
 -- ---- promises
 
@@ -167,7 +167,7 @@ pub record MergeCalled (promise : MergeAnswer → Type 0) (unchanged : Type 0) (
   pub unworded : length header ≡ 10 → (length words ≡ 3 → ⊥) → unchanged × (r ≡ 2) × (header′ ≡ header) × (words′ ≡ words)
 
 -- A question, whose answer goes into so many words; 1 and 2 as for a merge.
-pub record Asked {A : Type 0} (promise : A → Type 0) (number : A → ℕ) (told : A → List ℕ) (count : ℕ) (header words : List ℕ) (r : ℕ) (words′ : List ℕ) : Type 0 where
-  pub done : length header ≡ 10 → length words ≡ count → (answer : A) × promise answer × (r ≡ number answer) × (words′ ≡ told answer)
+pub record Asked {A : Type 0} (promise : A → Type 0) (number : A → ℕ) (told : List ℕ → A → List ℕ) (count : ℕ) (header words : List ℕ) (r : ℕ) (words′ : List ℕ) : Type 0 where
+  pub done : length header ≡ 10 → length words ≡ count → (answer : A) × promise answer × (r ≡ number answer) × (words′ ≡ told words answer)
   pub unheaded : (length header ≡ 10 → ⊥) → (r ≡ 1) × (words′ ≡ words)
   pub unworded : length header ≡ 10 → (length words ≡ count → ⊥) → (r ≡ 2) × (words′ ≡ words)

@@ -3,7 +3,7 @@
 ghost use mathlib.Core.Path.{_≡_};
 ghost use mathlib.Core.List.{[], _∷_};
 ghost use lib.ListN.{length};
-ghost use Rattle.words.specs.Words.{bit, headerIn, headerWords, tableNumber, tableHeader, rowNumber, rowWords, cellNumber, cellWords, rangeNumber, rangeWords, versionNumber, versionWords, soundNumber, soundWords, Told, MergeTold, subsetWords, subsetNumber};
+ghost use Rattle.words.specs.Words.{bit, headerIn, headerWords, tableNumber, tableHeader, rowNumber, rowWords, cellNumber, cellWords, rangeNumber, rangeWords, versionNumber, versionWords, soundNumber, soundWords, Told, MergeTold, subsetNumber, subsetWords};
 use offsets::SubsetAnswer;
 use table::CellAnswer;
 use table::Header;
@@ -56,7 +56,7 @@ fn write_two(words: &mut [u32], first: u32, second: u32)
     words[1] = second;
 }
 
-fn write_three(words: &mut [u32], first: u32, second: u32, third: u32)
+pub fn write_three(words: &mut [u32], first: u32, second: u32, third: u32)
     requires { ⌜ length (now words) ≡ 3 ⌝ }
     ensures { λ _. ⌜ now (words .exit) ≡ first ∷ second ∷ third ∷ [] ⌝ }
 {
@@ -66,7 +66,7 @@ fn write_three(words: &mut [u32], first: u32, second: u32, third: u32)
 }
 
 // 1 for yes.
-fn bit_of(answer: bool) -> u32
+pub fn bit_of(answer: bool) -> u32
     ensures { λ r. ⌜ r ≡ bit answer ⌝ }
 {
     if answer {
@@ -104,13 +104,10 @@ pub fn write_merge(answer: MergeAnswer, header: &mut [u32], words: &mut [u32]) -
 
 pub fn write_row(answer: RowAnswer, words: &mut [u32]) -> u32
     requires { ⌜ length (now words) ≡ 2 ⌝ }
-    ensures { λ r. ⌜ Told rowNumber rowWords answer r (now (words .exit)) ⌝ }
+    ensures { λ r. ⌜ Told rowNumber (rowWords (now (words .entry))) answer r (now (words .exit)) ⌝ }
 {
     match answer {
-        RowAnswer::Refused(number) => {
-            write_two(words, 0, 0);
-            number
-        }
+        RowAnswer::Refused(number) => number,
         RowAnswer::None => {
             write_two(words, 0, 0);
             0
@@ -124,13 +121,10 @@ pub fn write_row(answer: RowAnswer, words: &mut [u32]) -> u32
 
 pub fn write_cell(answer: CellAnswer, words: &mut [u32]) -> u32
     requires { ⌜ length (now words) ≡ 2 ⌝ }
-    ensures { λ r. ⌜ Told cellNumber cellWords answer r (now (words .exit)) ⌝ }
+    ensures { λ r. ⌜ Told cellNumber (cellWords (now (words .entry))) answer r (now (words .exit)) ⌝ }
 {
     match answer {
-        CellAnswer::Refused(number) => {
-            write_two(words, 0, 0);
-            number
-        }
+        CellAnswer::Refused(number) => number,
         CellAnswer::None => {
             write_two(words, 0, 0);
             0
@@ -144,13 +138,10 @@ pub fn write_cell(answer: CellAnswer, words: &mut [u32]) -> u32
 
 pub fn write_range(answer: RangeAnswer, words: &mut [u32]) -> u32
     requires { ⌜ length (now words) ≡ 3 ⌝ }
-    ensures { λ r. ⌜ Told rangeNumber rangeWords answer r (now (words .exit)) ⌝ }
+    ensures { λ r. ⌜ Told rangeNumber (rangeWords (now (words .entry))) answer r (now (words .exit)) ⌝ }
 {
     match answer {
-        RangeAnswer::Refused(number) => {
-            write_three(words, 0, 0, 0);
-            number
-        }
+        RangeAnswer::Refused(number) => number,
         RangeAnswer::None => {
             write_three(words, 0, 0, 0);
             0
@@ -164,13 +155,10 @@ pub fn write_range(answer: RangeAnswer, words: &mut [u32]) -> u32
 
 pub fn write_version(answer: VersionAnswer, words: &mut [u32]) -> u32
     requires { ⌜ length (now words) ≡ 2 ⌝ }
-    ensures { λ r. ⌜ Told versionNumber versionWords answer r (now (words .exit)) ⌝ }
+    ensures { λ r. ⌜ Told versionNumber (versionWords (now (words .entry))) answer r (now (words .exit)) ⌝ }
 {
     match answer {
-        VersionAnswer::Refused(number) => {
-            write_two(words, 0, 0);
-            number
-        }
+        VersionAnswer::Refused(number) => number,
         VersionAnswer::Version(v) => {
             write_two(words, v.generation, v.rows);
             0
@@ -180,13 +168,10 @@ pub fn write_version(answer: VersionAnswer, words: &mut [u32]) -> u32
 
 pub fn write_sound(answer: SoundAnswer, words: &mut [u32]) -> u32
     requires { ⌜ length (now words) ≡ 1 ⌝ }
-    ensures { λ r. ⌜ Told soundNumber soundWords answer r (now (words .exit)) ⌝ }
+    ensures { λ r. ⌜ Told soundNumber (soundWords (now (words .entry))) answer r (now (words .exit)) ⌝ }
 {
     match answer {
-        SoundAnswer::Refused(number) => {
-            words[0] = 0;
-            number
-        }
+        SoundAnswer::Refused(number) => number,
         SoundAnswer::Sound(sound) => {
             words[0] = bit_of(sound);
             0
@@ -194,36 +179,19 @@ pub fn write_sound(answer: SoundAnswer, words: &mut [u32]) -> u32
     }
 }
 
-// The answer's three words.
-pub fn write_answer(answer: SubsetAnswer, words: &mut [u32])
+pub fn write_subset(answer: SubsetAnswer, words: &mut [u32]) -> u32
     requires { ⌜ length (now words) ≡ 3 ⌝ }
-    ensures { λ _. ⌜ now (words .exit) ≡ subsetWords answer ⌝ }
-{
-    match answer {
-        SubsetAnswer::Refused(number) => {
-            words[0] = 0;
-            words[1] = number;
-            words[2] = 0;
-        }
-        SubsetAnswer::Range(start, end) => {
-            words[0] = 1;
-            words[1] = start;
-            words[2] = end;
-        }
-        SubsetAnswer::List(count) => {
-            words[0] = 2;
-            words[1] = count;
-            words[2] = 0;
-        }
-    }
-}
-
-pub fn subset_number(answer: SubsetAnswer) -> u32
-    ensures { λ r. ⌜ r ≡ subsetNumber answer ⌝ }
+    ensures { λ r. ⌜ Told subsetNumber (subsetWords (now (words .entry))) answer r (now (words .exit)) ⌝ }
 {
     match answer {
         SubsetAnswer::Refused(number) => number,
-        SubsetAnswer::Range(start, end) => 0,
-        SubsetAnswer::List(count) => 0,
+        SubsetAnswer::Range(start, end) => {
+            write_three(words, 1, start, end);
+            0
+        }
+        SubsetAnswer::List(count) => {
+            write_three(words, 2, count, 0);
+            0
+        }
     }
 }

@@ -17,11 +17,8 @@ header-of-requires c κs = search needs
 refine-one-requires : tie.Need-refine-one-requires
 refine-one-requires c κs = search needs
 
-write-answer-requires : tie.Need-write-answer-requires
-write-answer-requires c κs = search needs
-
-subset-number-requires : tie.Need-subset-number-requires
-subset-number-requires c κs = search needs
+write-subset-requires : tie.Need-write-subset-requires
+write-subset-requires c κs = search needs
 
 same-length : tie.Need-same-length
 same-length c = search needs
@@ -31,13 +28,12 @@ same-length-2 c = search needs
 
 returns-3 : tie.Need-returns-3
 returns-3 c =
-    let w = c .before .before .before in
+    let w = c .before .before in
     let q = w .before .before .before .before in
     let h = q .before .before in
     let t = h .before in (
       rw (sym (h .header-of .ensures))
-          (asked-done (t .before .if1 .left) (t .if2 .left) (q .refine-one .ensures)
-          (record { numbered = c .subset-number .ensures; worded = w .write-answer .ensures })),
+          (asked-done (t .before .if1 .left) (t .if2 .left) (q .refine-one .ensures) (w .write-subset .ensures)),
       λ n. absurd (n (t .before .if1 .left, t .if2 .left)),
     )
 
@@ -49,8 +45,7 @@ mouldgrey-refine-one-spec =
     returns-2
     header-of-requires
     refine-one-requires
-    write-answer-requires
-    subset-number-requires
+    write-subset-requires
     same-length
     same-length-2
     returns-3)

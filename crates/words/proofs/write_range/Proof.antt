@@ -1,4 +1,4 @@
--- `exports::tables::write_range` meets its contract. Assumes nothing.
+-- `words::write_range` meets its contract. Assumes nothing.
 use mathlib.Core.Path.{refl}
 use Rattle.words.specs.Words.{rangeNumber, rangeWords}
 use borrow.Author.Needs.{needs}
@@ -8,55 +8,47 @@ use Rattle.words.proofs.write_range.Tie as tie
 enum-known-answer : tie.Need-enum-known-answer
 enum-known-answer c = search needs
 
-write-three-requires : tie.Need-write-three-requires
-write-three-requires c κs = search needs
-
 enum-told : tie.Need-enum-told
 enum-told c = search needs
 
-write-three-requires-2 : tie.Need-write-three-requires-2
-write-three-requires-2 c κs = search needs
+write-three-requires : tie.Need-write-three-requires
+write-three-requires c κs = search needs
 
 enum-known-answer-2 : tie.Need-enum-known-answer-2
 enum-known-answer-2 c = search needs
 
-write-three-requires-3 : tie.Need-write-three-requires-3
-write-three-requires-3 c κs = search needs
+write-three-requires-2 : tie.Need-write-three-requires-2
+write-three-requires-2 c κs = search needs
+
+returns : tie.Need-returns
+unfolding rangeNumber rangeWords
+returns c = rw (c .before .answer .given .1) record { numbered = refl; worded = refl }
 
 same-length : tie.Need-same-length
 same-length c = search needs
 
-returns : tie.Need-returns
+returns-2 : tie.Need-returns-2
 unfolding rangeNumber rangeWords
-returns c = rw (c .before .before .before .before .before .answer .given .1) record { numbered = refl; worded = c .before .before .write-three .ensures }
+returns-2 c = rw (c .before .before .before .before .enum-told .given .1) record { numbered = refl; worded = c .before .before .write-three .ensures }
 
 same-length-2 : tie.Need-same-length-2
 same-length-2 c = search needs
 
-returns-2 : tie.Need-returns-2
-unfolding rangeNumber rangeWords
-returns-2 c = rw (c .before .before .before .before .enum-told .given .1) record { numbered = refl; worded = c .before .before .write-three2 .ensures }
-
-same-length-3 : tie.Need-same-length-3
-same-length-3 c = search needs
-
 returns-3 : tie.Need-returns-3
 unfolding rangeNumber rangeWords
-returns-3 c = rw (c .before .before .before .before .before .answer2 .given .1) record { numbered = refl; worded = c .before .before .write-three3 .ensures }
+returns-3 c = rw (c .before .before .before .before .before .answer2 .given .1) record { numbered = refl; worded = c .before .before .write-three2 .ensures }
 
 pub write-range-spec : {M : Type 1} → statement M
 write-range-spec =
     tie.close
     (tie.spec
     enum-known-answer
-    write-three-requires
     enum-told
-    write-three-requires-2
+    write-three-requires
     enum-known-answer-2
-    write-three-requires-3
-    same-length
+    write-three-requires-2
     returns
-    same-length-2
+    same-length
     returns-2
-    same-length-3
+    same-length-2
     returns-3)

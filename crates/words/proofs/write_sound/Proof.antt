@@ -1,4 +1,4 @@
--- `exports::tables::write_sound` meets its contract. Assumes nothing.
+-- `words::write_sound` meets its contract. Assumes nothing.
 use mathlib.Core.Path.{refl, ap, _∙_}
 use mathlib.Core.List.{[], _∷_}
 use Rattle.words.proofs.Written.{alone}
@@ -10,27 +10,21 @@ use Rattle.words.proofs.write_sound.Tie as tie
 enum-known-answer : tie.Need-enum-known-answer
 enum-known-answer c = search needs
 
-slice-write-words : tie.Need-slice-write-words
-slice-write-words c = search needs
-
 enum-known-answer-2 : tie.Need-enum-known-answer-2
 enum-known-answer-2 c = search needs
 
 bit-of-requires : tie.Need-bit-of-requires
 bit-of-requires c κs = search needs
 
-slice-write-words-2 : tie.Need-slice-write-words-2
-slice-write-words-2 c = search needs
-
-same-length : tie.Need-same-length
-same-length c = search needs
+slice-write-words : tie.Need-slice-write-words
+slice-write-words c = search needs
 
 returns : tie.Need-returns
 unfolding soundNumber soundWords
-returns c = rw (c .before .answer .given .1) record { numbered = refl; worded = alone (c .before .before .before .before .args .words .now) _ (c .before .before .before .before .pre) }
+returns c = rw (c .before .answer .given .1) record { numbered = refl; worded = refl }
 
-same-length-2 : tie.Need-same-length-2
-same-length-2 c = search needs
+same-length : tie.Need-same-length
+same-length c = search needs
 
 returns-2 : tie.Need-returns-2
 unfolding soundNumber soundWords
@@ -43,11 +37,9 @@ write-sound-spec =
     tie.close
     (tie.spec
     enum-known-answer
-    slice-write-words
     enum-known-answer-2
     bit-of-requires
-    slice-write-words-2
-    same-length
+    slice-write-words
     returns
-    same-length-2
+    same-length
     returns-2)

@@ -1,4 +1,4 @@
--- `exports::tables::write_version` meets its contract. Assumes nothing.
+-- `words::write_version` meets its contract. Assumes nothing.
 use mathlib.Core.Path.{refl}
 use Rattle.words.specs.Words.{versionNumber, versionWords}
 use borrow.Author.Needs.{needs}
@@ -8,38 +8,30 @@ use Rattle.words.proofs.write_version.Tie as tie
 enum-known-answer : tie.Need-enum-known-answer
 enum-known-answer c = search needs
 
-write-two-requires : tie.Need-write-two-requires
-write-two-requires c κs = search needs
-
 enum-known-answer-2 : tie.Need-enum-known-answer-2
 enum-known-answer-2 c = search needs
 
-write-two-requires-2 : tie.Need-write-two-requires-2
-write-two-requires-2 c κs = search needs
+write-two-requires : tie.Need-write-two-requires
+write-two-requires c κs = search needs
+
+returns : tie.Need-returns
+unfolding versionNumber versionWords
+returns c = rw (c .before .answer .given .1) record { numbered = refl; worded = refl }
 
 same-length : tie.Need-same-length
 same-length c = search needs
 
-returns : tie.Need-returns
-unfolding versionNumber versionWords
-returns c = rw (c .before .before .before .before .before .answer .given .1) record { numbered = refl; worded = c .before .before .write-two .ensures }
-
-same-length-2 : tie.Need-same-length-2
-same-length-2 c = search needs
-
 returns-2 : tie.Need-returns-2
 unfolding versionNumber versionWords
-returns-2 c = rw (c .before .before .before .before .before .answer2 .given .1) record { numbered = refl; worded = c .before .before .write-two2 .ensures }
+returns-2 c = rw (c .before .before .before .before .before .answer2 .given .1) record { numbered = refl; worded = c .before .before .write-two .ensures }
 
 pub write-version-spec : {M : Type 1} → statement M
 write-version-spec =
     tie.close
     (tie.spec
     enum-known-answer
-    write-two-requires
     enum-known-answer-2
-    write-two-requires-2
-    same-length
+    write-two-requires
     returns
-    same-length-2
+    same-length
     returns-2)

@@ -36,7 +36,7 @@ module _ {promise : MergeAnswer → Type 0} {unchanged : Type 0} {header words :
         unworded = λ e n. absurd (n k);
       }
 
-module _ {A : Type 0} {promise : A → Type 0} {number : A → ℕ} {told : A → List ℕ} {count : ℕ} {header words : List ℕ} where
+module _ {A : Type 0} {promise : A → Type 0} {number : A → ℕ} {told : List ℕ → A → List ℕ} {count : ℕ} {header words : List ℕ} where
   pub asked-unheaded : (length header ≡ 10 → ⊥) → Asked promise number told count header words 1 words
   asked-unheaded n =
       record { done = λ e d. absurd (n e); unheaded = λ m. (refl, refl); unworded = λ e m. absurd (n e) }
@@ -46,7 +46,7 @@ module _ {A : Type 0} {promise : A → Type 0} {number : A → ℕ} {told : A �
       record { done = λ e d. absurd (n d); unheaded = λ m. absurd (m l); unworded = λ e m. (refl, refl) }
 
   pub asked-done : {answer : A} {r : ℕ} {words′ : List ℕ} → length header ≡ 10 → length words ≡ count → promise answer
-      → Told number told answer r words′ → Asked promise number told count header words r words′
+      → Told number (told words) answer r words′ → Asked promise number told count header words r words′
   asked-done {answer} l k p t =
       record {
         done = λ e d. (answer, p, t .numbered, t .worded);

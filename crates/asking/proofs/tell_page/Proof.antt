@@ -1,0 +1,26 @@
+-- `asking::tell_page` meets its contract. Assumes nothing.
+use Rattle.asking.specs.Laws.Asking.{tells-unheaded, tells-unworded, tells-done}
+use borrow.Author.Needs.{needs}
+use Rattle.asking.proofs.tell_page.Statement.{statement}
+use Rattle.asking.proofs.tell_page.Tie as tie
+
+returns : tie.Need-returns
+returns c = tells-unheaded (c .if1 .taken)
+
+returns-2 : tie.Need-returns-2
+returns-2 c = tells-unworded (c .before .if1 .left) (c .if2 .taken)
+
+write-page-requires : tie.Need-write-page-requires
+write-page-requires c κs = search needs
+
+same-length : tie.Need-same-length
+same-length c = search needs
+
+returns-3 : tie.Need-returns-3
+returns-3 c =
+    let w = c .before .before in
+    let t = w .before .before in
+    tells-done (t .before .if1 .left) (t .if2 .left) (w .write-page .ensures)
+
+pub tell-page-spec : {M : Type 1} → statement M
+tell-page-spec = tie.close (tie.spec returns returns-2 write-page-requires same-length returns-3)

@@ -1,0 +1,78 @@
+// The questions with a list of conditions under C names: refine by a list, any match, page. A condition is a struct of three
+// words, so the list is lent as it is, and each function is proved by hand: it reads, asks and tells.
+ghost use mathlib.Core.Path.{_≡_};
+ghost use lib.ListN.{length};
+ghost use Rattle.offsets.specs.Answers.{subsetOf};
+ghost use Rattle.queries.specs.Queries.{RefinedList, Matched, PageRead};
+ghost use Rattle.words.specs.Words.{headerIn, Asked, subsetNumber, subsetWords};
+ghost use Rattle.asking.specs.Asking.{matchNumber, matchWords, pageNumber, pageWords};
+use asking::header_asked;
+use asking::tell_match;
+use asking::tell_page;
+use asking::tell_subset;
+use constraints::Constraint;
+use offsets::SubsetHead;
+
+// The answer goes into three words, as that of `mouldgrey_refine_one`.
+#[no_mangle]
+pub extern "C" fn mouldgrey_refine_ref(
+    header: &[u32],
+    rows: &[u32],
+    dense: bool,
+    start: u32,
+    end: u32,
+    ids: &[u32],
+    conditions: &[Constraint],
+    output: &mut [u32],
+    words: &mut [u32],
+) -> u32
+    ensures { λ r. ⌜ Asked (λ answer. RefinedList (headerIn (now (header .entry))) (now (rows .entry)) (subsetOf (record { dense = dense; start = start; end = end }) (now (ids .entry))) (now (conditions .entry)) (now (output .entry)) answer (now (output .exit))) subsetNumber subsetWords 3 (now (header .entry)) (now (words .entry)) r (now (words .exit)) × (((length (now (header .entry)) ≡ 10) × (length (now (words .entry)) ≡ 3) → ⊥) → now (output .exit) ≡ now (output .entry)) ⌝ }
+{
+    let h = header_asked(header, words.len(), 3);
+    let head = SubsetHead { dense, start, end };
+    let answer = questions::refine_ref(h, rows, head, ids, conditions, output);
+    tell_subset(header.len(), answer, words)
+}
+
+// The answer goes into one word: 1 for a match.
+#[no_mangle]
+pub extern "C" fn mouldgrey_contains_match(
+    header: &[u32],
+    rows: &[u32],
+    dense: bool,
+    start: u32,
+    end: u32,
+    ids: &[u32],
+    conditions: &[Constraint],
+    words: &mut [u32],
+) -> u32
+    ensures { λ r. ⌜ Asked (Matched (headerIn (now (header .entry))) (now (rows .entry)) (subsetOf (record { dense = dense; start = start; end = end }) (now (ids .entry))) (now (conditions .entry))) matchNumber matchWords 1 (now (header .entry)) (now (words .entry)) r (now (words .exit)) ⌝ }
+{
+    let h = header_asked(header, words.len(), 1);
+    let head = SubsetHead { dense, start, end };
+    let answer = questions::contains_match(h, rows, head, ids, conditions);
+    tell_match(header.len(), answer, words)
+}
+
+// The answer goes into three words: how many ids were written, then 1 and the next place, or 0 and 0.
+#[no_mangle]
+pub extern "C" fn mouldgrey_read_page(
+    header: &[u32],
+    rows: &[u32],
+    dense: bool,
+    start: u32,
+    end: u32,
+    ids: &[u32],
+    place: u32,
+    n: usize,
+    conditions: &[Constraint],
+    output: &mut [u32],
+    words: &mut [u32],
+) -> u32
+    ensures { λ r. ⌜ Asked (λ answer. PageRead (headerIn (now (header .entry))) (now (rows .entry)) (subsetOf (record { dense = dense; start = start; end = end }) (now (ids .entry))) place n (now (conditions .entry)) (now (output .entry)) answer (now (output .exit))) pageNumber pageWords 3 (now (header .entry)) (now (words .entry)) r (now (words .exit)) × (((length (now (header .entry)) ≡ 10) × (length (now (words .entry)) ≡ 3) → ⊥) → now (output .exit) ≡ now (output .entry)) ⌝ }
+{
+    let h = header_asked(header, words.len(), 3);
+    let head = SubsetHead { dense, start, end };
+    let answer = questions::read_page(h, rows, head, ids, place, n, conditions, output);
+    tell_page(header.len(), answer, words)
+}
