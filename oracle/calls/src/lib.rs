@@ -160,7 +160,7 @@ pub enum Question {
     Page {
         subset: Subset,
         start: u32,
-        n: u32,
+        n: u64,
         conditions: Vec<Condition>,
         output: usize,
     },

@@ -2,7 +2,7 @@
 //! if that follows the paper in everything. All else must be the same: each answer, and after each call what can be seen of the
 //! whole table, and every cell of its stores, if it has any.
 
-use crate::counts::{Counts, is_held_back, live_row, question_name};
+use crate::counts::{Counts, is_held_back, live_row};
 use crate::guard::guarded;
 use crate::history::{Act, Step, UNOPENED, needed};
 use calls::{Answer, Call, Contents, DEAD, Judge, Lengths, Opening, Question, Subset};
@@ -15,8 +15,6 @@ pub struct Rival<J> {
     pub key_hash: fn(&[u32]) -> u32,
     /// Whether it follows the paper in everything: refusals, stops, capacity, the last generation.
     pub follows_paper: bool,
-    /// Kinds of question that it does not have.
-    pub lacks: &'static [&'static str],
 }
 
 /// What the Rust says where a sort value falls. No other panic of its is a stop.
@@ -247,9 +245,6 @@ impl<'a, J: Judge> Pair<'a, J> {
 
     /// Whether the other judge is asked this too.
     fn is_asked(&self, question: &Question, answer: &Answer) -> bool {
-        if self.rival.lacks.contains(&question_name(question)) {
-            return false;
-        }
         if self.rival.follows_paper {
             return true;
         }
@@ -268,9 +263,15 @@ impl<'a, J: Judge> Pair<'a, J> {
         if !self.is_asked(asked, &answer) {
             return Ok(answer);
         }
-        if intersects_greatest_id(asked) && !self.rival.follows_paper {
-            counts.feature("not asked: range with the greatest id");
-            return Ok(answer);
+        if !self.rival.follows_paper {
+            if intersects_greatest_id(asked) {
+                counts.feature("not asked: range with the greatest id");
+                return Ok(answer);
+            }
+            if ends_past_all_places(asked) {
+                counts.feature("not asked: page that ends past the greatest number");
+                return Ok(answer);
+            }
         }
         counts.asked(&self.opening, step, &answer);
         let heard = guarded(|| self.other.ask(&step.lent, asked));
@@ -296,6 +297,14 @@ fn intersects_greatest_id(question: &Question) -> bool {
             second: Subset::List(ids),
             ..
         } => ids.last() == Some(&u32::MAX),
+        _ => false,
+    }
+}
+
+/// A known difference of the Rust: it adds n to a page's start place, which does not fit where n is about the greatest number.
+fn ends_past_all_places(question: &Question) -> bool {
+    match question {
+        Question::Page { start, n, .. } => u64::from(*start).checked_add(*n).is_none(),
         _ => false,
     }
 }

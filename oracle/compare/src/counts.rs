@@ -1,6 +1,6 @@
 //! What a run has seen, so that a generator which misses a case is found out.
 
-use crate::history::{Act, Step, needed};
+use crate::history::{Act, Step, needed, size};
 use calls::{Answer, Call, Contents, Opening, Question, Subset};
 use std::collections::BTreeMap;
 
@@ -30,7 +30,7 @@ const KINDS: [Kind; 17] = [
 ];
 
 /// Answers and turns that every full run must have seen.
-const FEATURES: [&str; 49] = [
+const FEATURES: [&str; 54] = [
     "open: sort column 0",
     "open: sort column a key column",
     "open: sort column not a key column",
@@ -72,11 +72,16 @@ const FEATURES: [&str; 49] = [
     "refine by one: 0..0",
     "refine by a list: range",
     "refine by a list: list",
+    "a list of no conditions",
+    "a list of several conditions",
     "any match: yes",
     "any match: no",
     "page: next",
     "page: no next",
     "page: n = 0",
+    "page: from the subset's size",
+    "page: from above the subset's size",
+    "page: output shorter than n",
     "intersect: range",
     "intersect: list",
     "intersect: empty list",
@@ -101,7 +106,7 @@ const RULES: [&str; 4] = [
 ];
 
 /// What a gate's run must have seen besides; the recorded list is too small for it.
-const GATE: [&str; 12] = [
+const GATE: [&str; 20] = [
     "merge: compacts more than 64 rows",
     "full size: filled",
     "full size: stop 8",
@@ -111,17 +116,26 @@ const GATE: [&str; 12] = [
     "full size: 65536 sort entries",
     "full size: refine by one, 65536 ids",
     "full size: refine by one, 65537 ids refused",
+    "full size: refine by a list, 65536 ids",
+    "full size: refine by a list, 65537 ids refused",
+    "full size: any match, 65536 ids",
+    "full size: any match, 65537 ids refused",
+    "full size: page, 65536 ids",
+    "full size: page, 65537 ids refused",
+    "full size: page of 65536 ids, all written",
     "full size: intersect, 65536 ids",
     "full size: intersect, 65537 ids refused",
     "full size: all 65536 ids kept",
+    "page: n above 2^32",
 ];
 
 /// What the run against the Rust must have seen besides.
-const RUST_GATE: [&str; 4] = [
+const RUST_GATE: [&str; 5] = [
     "ended: stop 8",
     "ended: stop 9, the Rust panics",
     "ended: last generation",
     "not asked: range with the greatest id",
+    "not asked: page that ends past the greatest number",
 ];
 
 /// The most rows of a table, and the most ids of a list.
@@ -141,11 +155,6 @@ pub struct Counts {
 
 /// Places for the numbers 0, accepted, to 10 and `AGAIN`.
 type Outcomes = BTreeMap<usize, [u64; 12]>;
-
-/// The name of a question's kind.
-pub fn question_name(question: &Question) -> &'static str {
-    KINDS[question_kind(question)].0
-}
 
 /// The place of a step's kind in `KINDS`.
 fn kind(act: &Act) -> usize {
@@ -198,6 +207,8 @@ impl Counts {
         self.steps.entry(kind(&step.act)).or_default()[outcome] += 1;
         if let Act::Ask(question) = &step.act {
             self.answer(question, answer);
+            self.conditions(question);
+            self.pages(question, answer);
             self.long_lists(question, answer);
         }
     }
@@ -227,6 +238,27 @@ impl Counts {
                 ],
                 length(subset),
             ),
+            Question::RefineList { subset, .. } => (
+                [
+                    "full size: refine by a list, 65536 ids",
+                    "full size: refine by a list, 65537 ids refused",
+                ],
+                length(subset),
+            ),
+            Question::AnyMatch { subset, .. } => (
+                [
+                    "full size: any match, 65536 ids",
+                    "full size: any match, 65537 ids refused",
+                ],
+                length(subset),
+            ),
+            Question::Page { subset, .. } => (
+                [
+                    "full size: page, 65536 ids",
+                    "full size: page, 65537 ids refused",
+                ],
+                length(subset),
+            ),
             Question::Intersect { first, second, .. } => (
                 [
                     "full size: intersect, 65536 ids",
@@ -238,10 +270,63 @@ impl Counts {
         };
         match answer {
             Answer::Refused(4) if length == FULL + 1 => self.feature(names[1]),
-            Answer::Subset(kept) if length == FULL => {
+            Answer::Refused(_) => {}
+            _ if length != FULL => {}
+            answer => {
                 self.feature(names[0]);
-                if matches!(kept, Subset::List(ids) if ids.len() == FULL) {
-                    self.feature("full size: all 65536 ids kept");
+                match answer {
+                    Answer::Subset(Subset::List(ids)) if ids.len() == FULL => {
+                        self.feature("full size: all 65536 ids kept");
+                    }
+                    Answer::Page { ids, .. } if ids.len() == FULL => {
+                        self.feature("full size: page of 65536 ids, all written");
+                    }
+                    _ => {}
+                }
+            }
+        }
+    }
+
+    /// Counts lists of conditions.
+    fn conditions(&mut self, question: &Question) {
+        if let Question::RefineList { conditions, .. }
+        | Question::AnyMatch { conditions, .. }
+        | Question::Page { conditions, .. } = question
+        {
+            match conditions.len() {
+                0 => self.feature("a list of no conditions"),
+                1 => {}
+                _ => self.feature("a list of several conditions"),
+            }
+        }
+    }
+
+    /// Counts pages by their start place, n and output.
+    fn pages(&mut self, question: &Question, answer: &Answer) {
+        let Question::Page {
+            subset,
+            start,
+            n,
+            output,
+            ..
+        } = question
+        else {
+            return;
+        };
+        let (start, size) = (*start as usize, size(subset));
+        match answer {
+            Answer::Refused(5) if start > size => {
+                self.feature("page: from above the subset's size");
+            }
+            Answer::Page { .. } => {
+                if start == size {
+                    self.feature("page: from the subset's size");
+                }
+                if (*output as u64) < *n {
+                    self.feature("page: output shorter than n");
+                }
+                if *n > 1 << 32 {
+                    self.feature("page: n above 2^32");
                 }
             }
             _ => {}
@@ -452,9 +537,9 @@ impl Counts {
         missing
     }
 
-    /// What a gate's run has missed: kinds, refusals and turns never seen, and kinds that the other judge was never asked, save
-    /// those that it lacks; also their refusals, if it follows the paper.
-    pub fn missed_by_gate(&self, lacks: &[&str], follows_paper: bool) -> Vec<String> {
+    /// What a gate's run has missed: kinds, refusals and turns never seen, and kinds that the other judge was never asked; also
+    /// their refusals, if it follows the paper.
+    pub fn missed_by_gate(&self, follows_paper: bool) -> Vec<String> {
         let mut missing = self.missing(&GATE, |_| true);
         if !follows_paper {
             let seen = |name: &&&str| self.features.contains_key(**name);
@@ -465,12 +550,8 @@ impl Counts {
             let outcomes = self.asked.get(&kind).copied().unwrap_or_default();
             let refusals = if follows_paper { *refusals } else { &[] };
             for &number in [0].iter().chain(refusals) {
-                let is_lacking = lacks.contains(name);
-                if is_lacking != (outcomes[number] == 0) {
-                    missing.push(match is_lacking {
-                        true => format!("{name}: asked, though it is said to be lacking"),
-                        false => format!("{name}: never asked, {}", outcome_name(number)),
-                    });
+                if outcomes[number] == 0 {
+                    missing.push(format!("{name}: never asked, {}", outcome_name(number)));
                 }
             }
         }

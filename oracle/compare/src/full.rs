@@ -1,5 +1,5 @@
 //! Histories of the largest tables: filled with 65,536 rows, with half of them dead, compacted, filled again and stopped; and
-//! on the way refined and intersected with lists of 65,536 ids, which are refused with one more.
+//! on the way refined, paged and intersected with lists of 65,536 ids, which are refused with one more.
 
 use crate::history::{Act, Step, needed, with_exact_output, with_output};
 use calls::{Call, Condition, Lengths, Opening, Question, Subset};
@@ -224,14 +224,17 @@ impl Writer {
                     conditions: vec![condition],
                 });
             }
-            for (start, n) in [(0, ROWS), (40_000, 30_000), (ROWS, 1)] {
-                self.ask_exactly(Question::Page {
-                    subset: subset.clone(),
-                    start,
-                    n,
-                    conditions: conditions[..2].to_vec(),
-                    output: 0,
-                });
+            let all = u64::from(ROWS);
+            for (start, n) in [(0, all), (40_000, 30_000), (40_000, 1 << 40), (ROWS, 1)] {
+                for conditions in [&conditions[..2], &conditions[..1]] {
+                    self.ask_exactly(Question::Page {
+                        subset: subset.clone(),
+                        start,
+                        n,
+                        conditions: conditions.to_vec(),
+                        output: 0,
+                    });
+                }
             }
         }
     }

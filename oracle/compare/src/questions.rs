@@ -210,6 +210,13 @@ fn page(w: &mut Writer) -> Question {
         5 => u32::MAX,
         _ => w.rng.below(remains.saturating_add(1)),
     };
+    // No word of 32 bits has room for it.
+    let n = match u64::from(n) {
+        n if n == u64::from(u32::MAX) && w.manner.loose => {
+            w.rng.pick(&[n, 1 << 32, (1 << 32) + 1, u64::MAX])
+        }
+        n => n,
+    };
     let conditions = conditions(w);
     Question::Page {
         subset,

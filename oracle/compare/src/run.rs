@@ -31,10 +31,7 @@ fn histories<J: Judge>(rival: &Rival<J>, count: u64) -> Result<Counts, String> {
     in_parts(rival, &mut counts, &|rival, part, counts, stop| {
         chance_part(rival, (0, count, GATE_SEED), part, counts, stop)
     })?;
-    match counts
-        .missed_by_gate(rival.lacks, rival.follows_paper)
-        .as_slice()
-    {
+    match counts.missed_by_gate(rival.follows_paper).as_slice() {
         [] => Ok(counts),
         missing => {
             counts.print();

@@ -94,7 +94,6 @@ fn rival(make: fn() -> Faulty) -> Rival<Faulty> {
         make,
         key_hash,
         follows_paper: false,
-        lacks: &[],
     }
 }
 
@@ -178,23 +177,26 @@ fn a_run_tells_the_smallest_history() {
     );
 }
 
-/// A gate that has asked nothing says so of each operation and each refusal that the other judge has.
+/// A gate that has asked nothing says so of each operation, and of each refusal if the other judge follows the paper.
 #[test]
 fn a_gate_that_never_asked() {
     let counts = Counts::default();
-    let missed = counts.missed_by_gate(&["page"], true);
+    let missed = counts.missed_by_gate(true);
     for line in [
         "open: never asked, accepted",
         "merge: never asked, refused 2",
         "refine by one: never asked, refused 2 again",
+        "refine by a list: never asked, refused 6",
+        "any match: never asked, refused 5",
+        "page: never asked, refused 2 again",
+        "page: n above 2^32",
         "intersect: never asked, refused 4",
         "full size: stop 8",
     ] {
         assert!(missed.iter().any(|it| it == line), "{line}");
     }
-    assert!(!missed.iter().any(|it| it.starts_with("page: never asked")));
     assert!(!missed.iter().any(|it| it.starts_with("ended:")));
-    let missed = counts.missed_by_gate(&[], false);
+    let missed = counts.missed_by_gate(false);
     assert!(missed.iter().any(|it| it == "page: never asked, accepted"));
     assert!(
         !missed

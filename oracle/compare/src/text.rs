@@ -65,9 +65,8 @@ fn question_line(question: &Question) -> String {
             conditions,
             ..
         } => {
-            let place = vec![*start, *n];
-            let numbers = [subset_numbers(subset), place, list_numbers(conditions)];
-            line("P", &numbers.concat())
+            let place = line("P", &[subset_numbers(subset), vec![*start]].concat());
+            line(&format!("{place},{n}"), &list_numbers(conditions))
         }
         Question::Intersect { first, second, .. } => line(
             "T",
@@ -116,21 +115,25 @@ pub fn answer_line(answer: &Answer) -> String {
 }
 
 /// Numbers taken from the front of a line.
-struct Numbers<'a>(&'a [u32]);
+struct Numbers<'a>(&'a [u64]);
 
 impl Numbers<'_> {
-    fn one(&mut self) -> Option<u32> {
+    fn long(&mut self) -> Option<u64> {
         let (first, rest) = self.0.split_first()?;
         self.0 = rest;
         Some(*first)
+    }
+
+    fn one(&mut self) -> Option<u32> {
+        self.long()?.try_into().ok()
     }
 
     fn some(&mut self, count: u32) -> Option<Vec<u32>> {
         (0..count).map(|_| self.one()).collect()
     }
 
-    fn rest(&mut self) -> Vec<u32> {
-        std::mem::take(&mut self.0).to_vec()
+    fn rest(&mut self) -> Option<Vec<u32>> {
+        self.some(self.0.len() as u32)
     }
 
     fn subset(&mut self) -> Option<Subset> {
@@ -159,7 +162,7 @@ impl Numbers<'_> {
 pub fn parse(line: &str) -> Option<Act> {
     let mut fields = line.split(',');
     let letter = fields.next()?;
-    let numbers: Option<Vec<u32>> = fields.map(|field| field.parse().ok()).collect();
+    let numbers: Option<Vec<u64>> = fields.map(|field| field.parse().ok()).collect();
     let numbers = numbers?;
     let mut numbers = Numbers(&numbers);
     let act = match call(letter, &mut numbers) {
@@ -179,9 +182,9 @@ fn call(letter: &str, numbers: &mut Numbers) -> Option<Call> {
             capacity: numbers.one()?,
             generation: numbers.one()?,
         })),
-        "I" => Some(Call::Insert(numbers.rest())),
-        "R" => Some(Call::RemoveKey(numbers.rest())),
-        "K" => Some(Call::RemoveRow(numbers.one()?, numbers.rest())),
+        "I" => Some(Call::Insert(numbers.rest()?)),
+        "R" => Some(Call::RemoveKey(numbers.rest()?)),
+        "K" => Some(Call::RemoveRow(numbers.one()?, numbers.rest()?)),
         "M" => Some(Call::Merge),
         "C" => Some(Call::Clear),
         "G" => Some(Call::Compact),
@@ -192,10 +195,10 @@ fn call(letter: &str, numbers: &mut Numbers) -> Option<Call> {
 fn question(letter: &str, numbers: &mut Numbers) -> Option<Question> {
     let output = 0;
     match letter {
-        "L" => Some(Question::Lookup(numbers.rest())),
+        "L" => Some(Question::Lookup(numbers.rest()?)),
         "E" => {
             let column = numbers.one()?;
-            Some(Question::Cell(numbers.rest(), column))
+            Some(Question::Cell(numbers.rest()?, column))
         }
         "F" => Some(Question::FastRange(numbers.condition()?)),
         "V" => Some(Question::Version),
@@ -217,7 +220,7 @@ fn question(letter: &str, numbers: &mut Numbers) -> Option<Question> {
         "P" => Some(Question::Page {
             subset: numbers.subset()?,
             start: numbers.one()?,
-            n: numbers.one()?,
+            n: numbers.long()?,
             conditions: numbers.conditions()?,
             output,
         }),

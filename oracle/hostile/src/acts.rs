@@ -169,9 +169,43 @@ fn size(subset: &Subset) -> usize {
     }
 }
 
+/// A list of conditions: short, or none.
+fn conditions(rng: &mut Rng, image: &Image) -> Vec<Condition> {
+    let count = rng.pick(&[0, 1, 1, 2, 3, 9]);
+    (0..count).map(|_| condition(rng, image)).collect()
+}
+
+fn page(rng: &mut Rng, image: &Image) -> Question {
+    let subset = subset(rng, image);
+    let size = size(&subset);
+    let start = match rng.below(10) {
+        0 => size as u32,
+        1 => size as u32 + 1,
+        2 => hostile_number(rng, &image.header),
+        _ => rng.below(size as u32 + 1),
+    };
+    let remains = size.saturating_sub(start as usize);
+    let n = match rng.below(10) {
+        0 => 0,
+        1 => remains as u64,
+        2 => remains as u64 + 1,
+        3 => u64::MAX - rng.next() % 3,
+        4 => (1 << 32) + rng.next() % 3,
+        _ => rng.below(remains as u32 + 1).into(),
+    };
+    let needed = remains.min(n as usize);
+    Question::Page {
+        conditions: conditions(rng, image),
+        output: output(rng, needed),
+        subset,
+        start,
+        n,
+    }
+}
+
 fn question(rng: &mut Rng, image: &Image) -> Question {
     let h = image.numbers();
-    match rng.below(8) {
+    match rng.below(13) {
         0 => Question::Lookup(cells(rng, image, h.keys)),
         1 => {
             let column = match rng.percent(80) {
@@ -191,6 +225,19 @@ fn question(rng: &mut Rng, image: &Image) -> Question {
                 subset,
             }
         }
+        7 | 8 => {
+            let subset = subset(rng, image);
+            Question::RefineList {
+                conditions: conditions(rng, image),
+                output: output(rng, size(&subset)),
+                subset,
+            }
+        }
+        9 => Question::AnyMatch {
+            subset: subset(rng, image),
+            conditions: conditions(rng, image),
+        },
+        10 | 11 => page(rng, image),
         _ => {
             let (first, second) = (subset(rng, image), subset(rng, image));
             let needed = match (&first, &second) {

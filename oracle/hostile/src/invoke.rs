@@ -5,10 +5,13 @@ use crate::image::Image;
 use crate::session::{Session, Shared, Slice, Slot};
 use calls::{Call, Condition, Opening, Question, Subset};
 use chance::Rng;
-use mouldgrey::raw;
+use mouldgrey::{Constraint, raw};
 
 /// A subset as it is passed: kind, two ends, ids.
 type Passed = (bool, u32, u32, Shared);
+
+/// Conditions as they are passed: a pointer and their number.
+type Constraints = (*const Constraint, usize);
 
 /// A call's number, and the output as it was lent.
 type Ran = (u32, Vec<u32>);
@@ -198,7 +201,21 @@ impl Session {
                 let asked = (subset, condition, *output);
                 return self.refine(rng, image, (h, h_len), asked, (w, w_len));
             }
-            _ => panic!("the library does not have this question under a C name"),
+            Question::RefineList {
+                subset,
+                conditions,
+                output,
+            } => {
+                let asked = (subset, conditions.as_slice(), *output);
+                return self.refine_by_list(rng, image, (h, h_len), asked, (w, w_len));
+            }
+            Question::AnyMatch { subset, conditions } => {
+                self.any_match(rng, image, (h, h_len), (subset, conditions), (w, w_len))
+            }
+            Question::Page { .. } => {
+                return self.page(rng, image, (h, h_len), question, (w, w_len));
+            }
+            Question::Intersect { .. } => panic!("asked above, without a header"),
         };
         (number, Vec::new())
     }
@@ -264,7 +281,101 @@ impl Session {
         (number, before)
     }
 
-    /// The number of a refused intersection is in its words; false stands for 2, words of a wrong length.
+    /// Conditions as they are passed, three words each, between shut pages.
+    fn conditions(&mut self, rng: &mut Rng, conditions: &[Condition]) -> Constraints {
+        let words: Vec<u32> = conditions.iter().flat_map(|c| [c.kind, c.a, c.b]).collect();
+        let (at, _) = self.read(rng, Slot::Conditions, &words);
+        (at.cast(), conditions.len())
+    }
+
+    fn refine_by_list(
+        &mut self,
+        rng: &mut Rng,
+        image: &Image,
+        h: Shared,
+        (subset, conditions, length): (&Subset, &[Condition], usize),
+        words: Slice,
+    ) -> Ran {
+        let rows = self.read(rng, Slot::Rows, &image.rows);
+        let (dense, start, end, ids) = self.pass(rng, Slot::Ids, subset);
+        let c = self.conditions(rng, conditions);
+        let before = vec![rng.number(); length];
+        let output = self.write(rng, Slot::Output, &before);
+        let number = unsafe {
+            raw::mouldgrey_refine_ref(
+                h.0, h.1, rows.0, rows.1, dense, start, end, ids.0, ids.1, c.0, c.1, output.0,
+                output.1, words.0, words.1,
+            )
+        };
+        (number, before)
+    }
+
+    fn any_match(
+        &mut self,
+        rng: &mut Rng,
+        image: &Image,
+        h: Shared,
+        (subset, conditions): (&Subset, &[Condition]),
+        words: Slice,
+    ) -> u32 {
+        let rows = self.read(rng, Slot::Rows, &image.rows);
+        let (dense, start, end, ids) = self.pass(rng, Slot::Ids, subset);
+        let c = self.conditions(rng, conditions);
+        unsafe {
+            raw::mouldgrey_contains_match(
+                h.0, h.1, rows.0, rows.1, dense, start, end, ids.0, ids.1, c.0, c.1, words.0,
+                words.1,
+            )
+        }
+    }
+
+    fn page(
+        &mut self,
+        rng: &mut Rng,
+        image: &Image,
+        h: Shared,
+        question: &Question,
+        words: Slice,
+    ) -> Ran {
+        let Question::Page {
+            subset,
+            start: place,
+            n,
+            conditions,
+            output: length,
+        } = question
+        else {
+            panic!("not a page: {question:?}");
+        };
+        let rows = self.read(rng, Slot::Rows, &image.rows);
+        let (dense, start, end, ids) = self.pass(rng, Slot::Ids, subset);
+        let c = self.conditions(rng, conditions);
+        let before = vec![rng.number(); *length];
+        let output = self.write(rng, Slot::Output, &before);
+        let number = unsafe {
+            raw::mouldgrey_read_page(
+                h.0,
+                h.1,
+                rows.0,
+                rows.1,
+                dense,
+                start,
+                end,
+                ids.0,
+                ids.1,
+                *place,
+                *n as usize,
+                c.0,
+                c.1,
+                output.0,
+                output.1,
+                words.0,
+                words.1,
+            )
+        };
+        (number, before)
+    }
+
     fn intersect(
         &mut self,
         rng: &mut Rng,
@@ -277,7 +388,7 @@ impl Session {
         let (other_dense, other_start, other_end, others) = self.pass(rng, Slot::OtherIds, second);
         let before = vec![rng.number(); length];
         let output = self.write(rng, Slot::Output, &before);
-        let done = unsafe {
+        let number = unsafe {
             raw::mouldgrey_intersect(
                 dense,
                 start,
@@ -294,11 +405,6 @@ impl Session {
                 words.0,
                 words.1,
             )
-        };
-        let number = match (done, self.left(Slot::Words)) {
-            (true, Some([0, number, _])) => *number,
-            (true, _) => 0,
-            (false, _) => 2,
         };
         (number, before)
     }

@@ -129,7 +129,7 @@ fn hashes(session: &mut Session, rng: &mut Rng, image: &Image, h: &Header) -> Re
             "mouldgrey_compact_hash"
         }
     };
-    session.close(name, 0, &[])
+    session.close(name, 0)
 }
 
 fn conditions(
@@ -149,7 +149,7 @@ fn conditions(
         let known = unsafe { raw::mouldgrey_known(kind, column, value, columns) };
         let must = kind <= 5 && column < columns && (kind > 0 || value < columns);
         agree("mouldgrey_known", known, must)?;
-        return session.close("mouldgrey_known", 0, &[]);
+        return session.close("mouldgrey_known", 0);
     }
     let row = part(rng, &image.rows, 9);
     let lent = session.read(rng, Slot::Cells, &row);
@@ -157,7 +157,7 @@ fn conditions(
     let meets = unsafe { raw::mouldgrey_meets(kind, column, value, lent.0, lent.1) };
     let is_dead = row.first() == Some(&DEAD);
     agree("mouldgrey_meets of a dead row", meets && is_dead, false)?;
-    session.close("mouldgrey_meets", 0, &[])
+    session.close("mouldgrey_meets", 0)
 }
 
 fn rules(session: &mut Session, rng: &mut Rng, image: &Image, h: &Header) -> Result<(), String> {
@@ -183,7 +183,7 @@ fn rules(session: &mut Session, rng: &mut Rng, image: &Image, h: &Header) -> Res
             unsafe {
                 raw::mouldgrey_changes(rule, keys, sort, one.0, one.1, other.0, other.1);
             }
-            session.close("mouldgrey_changes", 0, &[])
+            session.close("mouldgrey_changes", 0)
         }
         1 => {
             let lent = session.write(rng, Slot::Output, &out);
@@ -195,7 +195,7 @@ fn rules(session: &mut Session, rng: &mut Rng, image: &Image, h: &Header) -> Res
             };
             let fits = old.len() == new.len() && old.len() <= out.len();
             agree("mouldgrey_make", made, fits)?;
-            session.close("mouldgrey_make", u32::from(!made), &[])
+            session.close("mouldgrey_make", u32::from(!made))
         }
         _ => {
             let width = match rng.percent(80) {
@@ -218,7 +218,7 @@ fn rules(session: &mut Session, rng: &mut Rng, image: &Image, h: &Header) -> Res
                 && lies(new_from, new.len())
                 && width <= out.len();
             agree("mouldgrey_surviving_row", copied, fits)?;
-            session.close("mouldgrey_surviving_row", u32::from(!copied), &[])
+            session.close("mouldgrey_surviving_row", u32::from(!copied))
         }
     }
 }
@@ -240,7 +240,7 @@ fn rank(session: &mut Session, rng: &mut Rng) -> Result<(), String> {
         false => 0,
     };
     agree("mouldgrey_rank", rank, must)?;
-    session.close("mouldgrey_rank", 0, &[])
+    session.close("mouldgrey_rank", 0)
 }
 
 /// Whether a table's numbers fit stores of these lengths.
@@ -299,7 +299,7 @@ fn slots(session: &mut Session, rng: &mut Rng, image: &Image, h: &Header) -> Res
         _ => renumber(session, rng, of, image),
     };
     agree(name, answer != UNFIT, fit)?;
-    session.close(name, u32::from(!fit), &[])
+    session.close(name, u32::from(!fit))
 }
 
 /// A part's name, its answer, and whether what it was given fits.
@@ -400,5 +400,5 @@ fn fast_range(
     if !fit {
         agree("mouldgrey_fast_range", range, UNFIT)?;
     }
-    session.close("mouldgrey_fast_range", u32::from(!fit), &[])
+    session.close("mouldgrey_fast_range", u32::from(!fit))
 }

@@ -7,7 +7,7 @@ use std::collections::BTreeMap;
 /// not fit".
 type Kind = (&'static str, &'static [usize]);
 
-pub const SHIPPED: [Kind; 15] = [
+pub const SHIPPED: [Kind; 18] = [
     ("mouldgrey_open_table", &[1, 2]),
     ("mouldgrey_stage_insert", &[1, 3, 7]),
     ("mouldgrey_stage_remove", &[1, 3, 7]),
@@ -22,6 +22,9 @@ pub const SHIPPED: [Kind; 15] = [
     ("mouldgrey_updates_since", &[1, 2, 5]),
     ("mouldgrey_version", &[1, 2]),
     ("mouldgrey_refine_one", &[1, 2, 4, 5, 6]),
+    ("mouldgrey_refine_ref", &[1, 2, 4, 5, 6]),
+    ("mouldgrey_contains_match", &[1, 2, 4, 5, 6]),
+    ("mouldgrey_read_page", &[1, 2, 4, 5, 6]),
     ("mouldgrey_intersect", &[2, 4]),
 ];
 

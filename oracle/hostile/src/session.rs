@@ -25,10 +25,11 @@ pub enum Slot {
     Cells,
     Ids,
     OtherIds,
+    Conditions,
     Output,
 }
 
-const SLOTS: usize = 12;
+const SLOTS: usize = 13;
 
 /// The longest store: 65,536 rows of 8 columns, and some words more.
 const LONGEST: usize = 8 * 65_536 + 1_024;
@@ -91,16 +92,16 @@ impl Session {
         Some(lent.laid.read())
     }
 
-    /// After a call: nothing was written outside, or where a store was lent to be read, or, by a refusal, anywhere but in the
-    /// slots named. The lent stores are given up.
-    pub fn close(&mut self, name: &'static str, number: u32, save: &[Slot]) -> Result<(), String> {
+    /// After a call: nothing was written outside, or where a store was lent to be read, or, by a refusal, anywhere. The lent
+    /// stores are given up.
+    pub fn close(&mut self, name: &'static str, number: u32) -> Result<(), String> {
         self.report.call(name, number);
         for lent in &self.lent {
             let slot = lent.slot;
             if !lent.laid.is_kept_beside() {
                 return Err(format!("{name} has written beside {slot:?}"));
             }
-            let must_stay = !lent.may_write || number != 0 && !save.contains(&slot);
+            let must_stay = !lent.may_write || number != 0;
             if must_stay && lent.laid.read() != lent.before {
                 return Err(format!("{name} ({number}) has changed {slot:?}"));
             }
@@ -133,7 +134,7 @@ impl Session {
         }
         let after = self.after(image);
         self.check_words(&expected, &output).map_err(told)?;
-        self.close(name, number, &[Slot::Words]).map_err(told)?;
+        self.close(name, number).map_err(told)?;
         if let Some(why) = verdict::wrong(act, image, &after, &expected) {
             return Err(told(format!("{name}: {why}")));
         }

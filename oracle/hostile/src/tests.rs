@@ -90,7 +90,7 @@ fn words_beside_are_looked_at() {
                 false => at.add(length).write(5),
             }
         }
-        let told = session.close("mouldgrey_merge", 0, &[]);
+        let told = session.close("mouldgrey_merge", 0);
         assert_eq!(
             told,
             Err("mouldgrey_merge has written beside Rows".to_string())
@@ -108,7 +108,7 @@ fn what_is_lent_to_be_read_stays() {
             false => session.read(&mut rng, Slot::Keys, &[1, 2, 3]).0.cast_mut(),
         };
         unsafe { at.write(9) };
-        let told = session.close("mouldgrey_merge", number, &[]);
+        let told = session.close("mouldgrey_merge", number);
         assert_eq!(told.is_ok(), is_fine, "{told:?}");
     }
 }

@@ -1,15 +1,12 @@
 //! What must come of a call: its number, by the judge's tests, and, where the paper gives them, the answer's words, the output,
 //! the header and the stores. Of sound stores it gives all of them; of any stores those of an opening, a staging, a version and
-//! a refining.
+//! a question on rows. A refusal leaves all as it was.
 
 use crate::acts::Act;
 use crate::image::Image;
 use calls::{Answer, Call, Judge, Question, Subset};
 use chance::Rng;
 use plain::{Plain, Staged};
-
-/// Whether a refused question writes an answer of zeros into its words. Else they stay as they are.
-const REFUSED_WORDS_ARE_ZEROS: bool = true;
 
 pub struct Expected {
     pub number: u32,
@@ -37,8 +34,10 @@ pub fn name(act: &Act) -> &'static str {
         Act::Ask(Question::Version) => "mouldgrey_version",
         Act::Ask(Question::RowsSince(_)) => "mouldgrey_updates_since",
         Act::Ask(Question::RefineOne { .. }) => "mouldgrey_refine_one",
+        Act::Ask(Question::RefineList { .. }) => "mouldgrey_refine_ref",
+        Act::Ask(Question::AnyMatch { .. }) => "mouldgrey_contains_match",
+        Act::Ask(Question::Page { .. }) => "mouldgrey_read_page",
         Act::Ask(Question::Intersect { .. }) => "mouldgrey_intersect",
-        Act::Ask(_) => "no C function",
     }
 }
 
@@ -47,20 +46,20 @@ fn words_of(act: &Act) -> usize {
     match act {
         Act::Call(Call::Merge) => 3,
         Act::Call(_) => 0,
-        Act::IsSound => 1,
+        Act::IsSound | Act::Ask(Question::AnyMatch { .. }) => 1,
         Act::Ask(Question::Lookup(_) | Question::Cell(..) | Question::Version) => 2,
         Act::Ask(_) => 3,
     }
 }
 
-/// Words to lend for the answer: as many as it takes, or another number of them now and then.
+/// Words to lend for the answer, by chance: as many as it takes, or another number of them now and then.
 pub fn words_lent(rng: &mut Rng, act: &Act) -> Vec<u32> {
     let count = words_of(act);
     let count = match rng.below(40) {
         0 if count > 0 => rng.place(5),
         _ => count,
     };
-    vec![rng.number(); count]
+    (0..count).map(|_| rng.number()).collect()
 }
 
 /// The number by the judge's own tests, on whatever header; 0 if the call is accepted.
@@ -91,7 +90,7 @@ pub fn expected(act: &Act, image: &Image, words: &[u32], plain: Option<&Plain>) 
         plain: None,
     };
     if number != 0 {
-        expected.words = Some(refused_words(act, number, image, words));
+        expected.words = Some(words.to_vec());
         return expected;
     }
     match act {
@@ -119,7 +118,7 @@ pub fn expected(act: &Act, image: &Image, words: &[u32], plain: Option<&Plain>) 
                 return expected;
             };
             expected.words = Some(answer_words(act, &answer));
-            if let Answer::Subset(Subset::List(ids)) = answer {
+            if let Answer::Subset(Subset::List(ids)) | Answer::Page { ids, .. } = answer {
                 expected.ids = ids;
             }
         }
@@ -139,24 +138,14 @@ fn answer(question: &Question, image: &Image, plain: Option<&Plain>) -> Option<A
             rows: h.rows,
         }),
         (Question::RowsSince(row), _) => Some(Answer::Subset(Subset::Range(*row, h.rows))),
-        (Question::RefineOne { .. }, _) => {
-            Some(Plain::with_rows_of(&image.held()).ask(&lent, question))
-        }
+        (
+            Question::RefineOne { .. }
+            | Question::RefineList { .. }
+            | Question::AnyMatch { .. }
+            | Question::Page { .. },
+            _,
+        ) => Some(Plain::with_rows_of(&image.held()).ask(&lent, question)),
         _ => None,
-    }
-}
-
-/// The words of a refused call. They stay as they are where they, or the header, are of a wrong length, and after a merge.
-fn refused_words(act: &Act, number: u32, image: &Image, words: &[u32]) -> Vec<u32> {
-    let is_told = image.header.len() == 10 && words.len() == words_of(act);
-    match act {
-        // The refusal's number is in the words.
-        Act::Ask(Question::Intersect { .. }) if words.len() == 3 => vec![0, number, 0],
-        Act::Ask(Question::RefineOne { .. }) if REFUSED_WORDS_ARE_ZEROS && is_told => {
-            vec![0, number, 0]
-        }
-        Act::Ask(_) | Act::IsSound if REFUSED_WORDS_ARE_ZEROS && is_told => vec![0; words.len()],
-        _ => words.to_vec(),
     }
 }
 
@@ -167,6 +156,11 @@ fn answer_words(act: &Act, answer: &Answer) -> Vec<u32> {
         Answer::Version { generation, rows } => vec![*generation, *rows],
         Answer::Subset(Subset::Range(start, end)) => vec![1, *start, *end],
         Answer::Subset(Subset::List(ids)) => vec![2, ids.len() as u32, 0],
+        Answer::Match(yes) => vec![u32::from(*yes)],
+        Answer::Page { ids, next } => {
+            let (more, place) = next.map_or((0, 0), |place| (1, place));
+            vec![ids.len() as u32, more, place]
+        }
         _ => vec![0; words_of(act)],
     }
 }

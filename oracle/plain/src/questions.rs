@@ -87,11 +87,11 @@ impl Plain {
     pub(crate) fn page(
         &self,
         subset: &Subset,
-        (start, n): (u32, u32),
+        (start, n): (u32, u64),
         conditions: &[Condition],
     ) -> Answer {
         let start = start as usize;
-        let end = usize::min(start + n as usize, size(subset));
+        let end = usize::min(start.saturating_add(n as usize), size(subset));
         let visited = &ids(subset)[start..end];
         // "Next place or *none*": none if nothing remains.
         let next = (end < size(subset)).then_some(end as u32);

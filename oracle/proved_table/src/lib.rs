@@ -5,7 +5,7 @@ mod stores;
 mod tests;
 
 use calls::{Answer, Call, Condition, Contents, DEAD, Expected, Judge, Lengths, Question, Subset};
-use mouldgrey::{Constraint, Header, Merge, Opening, Refusal, SubsetRef, Written, lent};
+use mouldgrey::{Constraint, Header, Merge, Opening, Page, Refusal, SubsetRef, Written, lent};
 use stores::Stores;
 
 /// What stands behind a lent store, and in one that was never written.
@@ -145,9 +145,45 @@ impl ProvedTable {
             } => over_output(*output, |output| {
                 lent::intersect(borrowed(first), borrowed(second), output)
             }),
-            Question::RefineList { .. } | Question::AnyMatch { .. } | Question::Page { .. } => {
-                panic!("the library does not have this question under a C name")
-            }
+            Question::RefineList {
+                subset,
+                conditions,
+                output,
+            } => over_output(*output, |output| {
+                lent::refine_ref(
+                    h,
+                    &s.rows[..lent.rows],
+                    borrowed(subset),
+                    &constraints(conditions),
+                    output,
+                )
+            }),
+            Question::AnyMatch { subset, conditions } => answer(
+                lent::contains_match(
+                    h,
+                    &s.rows[..lent.rows],
+                    borrowed(subset),
+                    &constraints(conditions),
+                ),
+                Answer::Match,
+            ),
+            Question::Page {
+                subset,
+                start,
+                n,
+                conditions,
+                output,
+            } => page_over_output(*output, |output| {
+                lent::read_page(
+                    h,
+                    &s.rows[..lent.rows],
+                    borrowed(subset),
+                    *start,
+                    *n as usize,
+                    &constraints(conditions),
+                    output,
+                )
+            }),
         }
     }
 }
@@ -229,6 +265,10 @@ pub fn constraint(condition: &Condition) -> Constraint {
     }
 }
 
+fn constraints(conditions: &[Condition]) -> Vec<Constraint> {
+    conditions.iter().map(constraint).collect()
+}
+
 pub fn borrowed(subset: &Subset) -> SubsetRef<'_> {
     match subset {
         Subset::Range(start, end) => SubsetRef::Range(*start, *end),
@@ -262,28 +302,45 @@ fn range_answer((start, end): (u32, u32)) -> Answer {
     Answer::Subset(Subset::Range(start, end))
 }
 
-/// A question with an output of this length. A subset that is not refused has at most 65,536 ids, so that a longer output
-/// makes no difference. Nothing but the ids may be written.
-fn over_output(length: usize, ask: impl FnOnce(&mut [u32]) -> Result<Written, Refusal>) -> Answer {
+/// What is heard of a question with an output of this length, and the ids at the output's start; `written` says how many. A
+/// subset that is not refused has at most 65,536 ids, so that a longer output makes no difference. Nothing but the ids may be
+/// written.
+fn heard_over_output<T>(
+    length: usize,
+    ask: impl FnOnce(&mut [u32]) -> Result<T, Refusal>,
+    written: impl FnOnce(&T) -> usize,
+) -> (Result<T, Refusal>, Vec<u32>) {
     let length = length.min(70_000);
     let mut output = vec![UNWRITTEN; length + 1];
     let heard = ask(&mut output[..length]);
-    let written = match heard {
-        Ok(Written::List(count)) => count,
-        Ok(Written::Range(..)) | Err(_) => 0,
-    };
+    let written = heard.as_ref().map_or(0, written);
     assert!(
         output[written..].iter().all(|&word| word == UNWRITTEN),
         "written past the ids"
     );
+    output.truncate(written);
+    (heard, output)
+}
+
+/// A question that answers a subset.
+fn over_output(length: usize, ask: impl FnOnce(&mut [u32]) -> Result<Written, Refusal>) -> Answer {
+    let (heard, ids) = heard_over_output(length, ask, |written| match written {
+        Written::List(count) => *count,
+        Written::Range(..) => 0,
+    });
     answer(heard, |heard| match heard {
         Written::Range(start, end) => Answer::Subset(Subset::Range(start, end)),
-        Written::List(_) => {
-            output.truncate(written);
-            Answer::Subset(Subset::List(output))
-        }
+        Written::List(_) => Answer::Subset(Subset::List(ids)),
     })
 }
 
-/// The questions that the library does not have under a C name, as the comparison calls them.
-pub const LACKS: [&str; 3] = ["refine by a list", "any match", "page"];
+fn page_over_output(
+    length: usize,
+    ask: impl FnOnce(&mut [u32]) -> Result<Page, Refusal>,
+) -> Answer {
+    let (heard, ids) = heard_over_output(length, ask, |page| page.written);
+    answer(heard, |page| Answer::Page {
+        ids,
+        next: page.next,
+    })
+}

@@ -91,7 +91,7 @@ fn e_empty_and_scattered() {
     assert_eq!(table.ask(&LENT, &same), range(3, 3));
 }
 
-fn next_place(table: &Plain, subset: Subset, start: u32, n: u32) -> Option<u32> {
+fn next_place(table: &Plain, subset: Subset, start: u32, n: u64) -> Option<u32> {
     let page = Question::Page {
         subset,
         start,

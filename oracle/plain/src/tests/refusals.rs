@@ -114,7 +114,7 @@ fn questions() -> Vec<(Question, Vec<usize>)> {
     ]
 }
 
-fn page(subset: Subset, (start, n): (u32, u32), of: &[Condition], output: usize) -> Question {
+fn page(subset: Subset, (start, n): (u32, u64), of: &[Condition], output: usize) -> Question {
     Question::Page {
         subset,
         start,
@@ -244,13 +244,13 @@ fn pages() {
     };
     assert_eq!(ask((4, 0), &bad, 0), refused(5));
     assert_eq!(ask((3, 1), &bad, 0), refused(6));
-    assert_eq!(ask((1, u32::MAX), &[], 1), refused(2));
+    assert_eq!(ask((1, u64::MAX), &[], 1), refused(2));
     assert_eq!(ask((0, 2), &[], 1), refused(2));
     let last = Answer::Page {
         ids: vec![1, 2],
         next: None,
     };
-    assert_eq!(ask((1, u32::MAX), &[], 2), last);
+    assert_eq!(ask((1, u64::MAX), &[], 2), last);
 }
 
 #[test]

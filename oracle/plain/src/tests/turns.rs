@@ -170,7 +170,7 @@ fn dead_mark_in_questions() {
     let all = Question::Page {
         subset: Subset::Range(0, 4),
         start: 0,
-        n: u32::MAX,
+        n: u64::MAX,
         conditions: vec![],
         output: 4,
     };
