@@ -2,25 +2,22 @@
 use Prim.Native.Nat.{ℕ}
 use mathlib.Core.Path.{_≡_}
 use mathlib.Core.Bool.{Bool, true, _&&_}
-use mathlib.Core.List.{List, map}
+use mathlib.Core.List.{List}
 use lib.Dec.{ltb}
-use Rattle.lists.specs.Lists.{keep, every, rising, has, rowAt, rowsOf}
+use Rattle.lists.specs.Lists.{keep, every, rising, has, rowAt}
 use Rattle.offsets.specs.Subsets.{Subset, members}
 use Rattle.constraints.specs.Constraints.{isLive, met}
 use Rattle.plain.specs.Staged.{Opening}
-use Rattle.plain.specs.Plain.{Row, Numbered, liveFrom, liveRows, opened}
+use Rattle.plain.specs.Plain.{Numbered, liveFrom, liveRows, opened}
 use Rattle.plain.specs.Calls.{Lent, afterAll}
+use Rattle.table.specs.Stores.{rowsIn}
 use Rattle.table.specs.Promises.{Stores}
 use Rattle.history.specs.Histories.{History}
 use Rattle.history.specs.Runs.{Question, Gathered, Run}
 
--- the rows of a table, as its header and row store have them
-unfoldable pub rowsIn : Stores → List Row
-rowsIn s = map (λ cells. record { live = isLive cells; cells = cells }) (rowsOf (s .header .columns) (s .header .rows) (s .rows))
-
--- those that are live, numbers and cells
+-- the live rows of a table as its header and row store have them, numbers and cells
 unfoldable pub liveIn : Stores → List Numbered
-liveIn s = liveFrom 0 (rowsIn s)
+liveIn s = liveFrom 0 (rowsIn (s .header) (s .rows))
 
 -- a live row that lies "in every accepted subset" and meets "every accepted condition, those of ranges too"
 unfoldable pub wanted : Stores → Gathered → ℕ → Bool

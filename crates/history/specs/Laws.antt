@@ -1,6 +1,4 @@
 -- What follows from the definitions.
-pub mod Live
-pub mod Replies
 pub mod Calls
 pub mod Further
 pub mod Narrowing

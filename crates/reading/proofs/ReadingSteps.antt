@@ -18,8 +18,9 @@ use Rattle.lists.specs.Lists.{rowAt}
 use Rattle.key_index.specs.declared.Keyed.{Keyed}
 use Rattle.key_index.specs.declared.Found.{Found}
 use Rattle.key_index.specs.declared.Found.the-variants.{None, At}
+use Rattle.key_index.specs.Slots.{KeysSound}
 use Rattle.key_index.specs.inner.Index.{Fits, FoundIs}
-use Rattle.plain.specs.Plain.{Plain, lookup}
+use Rattle.plain.specs.Plain.{lookup}
 use Rattle.table.specs.declared.Header.{Header}
 use Rattle.table.specs.declared.RowAnswer.the-variants.{Refused as RowRefused, None as NoRow, Row}
 use Rattle.table.specs.declared.CellAnswer.the-variants.{Refused as CellRefused, None as NoCell, Cell}
@@ -27,9 +28,9 @@ use Rattle.table.specs.declared.RangeAnswer.the-variants.{Refused as RangeRefus
 use Rattle.table.specs.declared.VersionAnswer.the-variants.{Refused as VersionRefused, Version as Versioned}
 use Rattle.table.specs.Numbers.{rowSays, cellSays, rangeSays, versionSays}
 use Rattle.table.specs.Refusing.{lookupRefusal, cellRefusal, fastRefusal, versionRefusal, sinceRefusal}
-use Rattle.table.specs.Sound.{keyedOf}
-use Rattle.table.specs.Promises.{stores, Represents, LookedUp, CellRead, fastSubset, RangeRead, VersionRead, RowsSince}
-use Rattle.table.specs.Laws.Lookup.{row-lookup, none-found as nothing-found}
+use Rattle.table.specs.Sound.{keyedOf, KeysDiffer}
+use Rattle.table.specs.Promises.{ofRows, LookedUp, CellRead, fastSubset, RangeRead, VersionRead, RowsSince}
+use Rattle.table.specs.Laws.Lookup.{row-read, none-read}
 use Rattle.table.specs.Laws.Refusals.{Lookable, lookup-accepted, Readable, cell-accepted, fast-accepted, inside-fits}
 
 -- ---- *Key lookup*, *one cell*
@@ -65,21 +66,21 @@ module _ (h : Header) (rows keys key : List ℕ) where
     found-is : FoundIs (keyedOf h) rows keys key hash found
     found-is = rw e at f
 
-    module _ {p : Plain} (sorts pending : List ℕ) (r : Represents p (stores h rows keys sorts pending)) where
-      none-found : found ≡ None → lookup p key ≡ none
-      none-found q = nothing-found r key (found-is .none hashed (r .keyed) q)
+    module _ (sound : KeysSound (keyedOf h) rows keys) (differ : KeysDiffer h rows) where
+      none-found : found ≡ None → lookup (ofRows h rows) key ≡ none
+      none-found q = none-read h rows key (found-is .none hashed sound q)
 
-      row-found : (row slot : ℕ) → found ≡ At row slot → lookup p key ≡ one (record { number = row; cells = rowAt (h .columns) row rows })
+      row-found : (row slot : ℕ) → found ≡ At row slot → lookup (ofRows h rows) key ≡ one (record { number = row; cells = rowAt (h .columns) row rows })
       row-found row slot q =
-          let a = found-is .at hashed (r .keyed) row slot q in
-          row-lookup r key row (a .live) (a .key-is)
+          let a = found-is .at hashed sound row slot q in
+          row-read h rows key differ row (a .live) (a .key-is)
 
     pub row-none : (n : ℕ) → n ≡ lookupRefusal h (length rows) (length keys) (length key) → n ≡ 0 → found ≡ None → LookedUp h rows keys key NoRow
     unfolding rowSays
     row-none n number zero-is q =
         record {
           refusal = verdict-accepted _ _ none refl (sym number ∙ zero-is);
-          table = λ accepts sorts pending p r. rw (none-found sorts pending r q);
+          table = λ accepts sound differ. rw (none-found sound differ q);
         }
 
     pub row-some : (n row slot : ℕ) → n ≡ lookupRefusal h (length rows) (length keys) (length key) → n ≡ 0 → found ≡ At row slot → LookedUp h rows keys key (Row row)
@@ -87,7 +88,7 @@ module _ (h : Header) (rows keys key : List ℕ) where
     row-some n row slot number zero-is q =
         record {
           refusal = verdict-accepted _ _ (one row) refl (sym number ∙ zero-is);
-          table = λ accepts sorts pending p r. rw (row-found sorts pending r row slot q);
+          table = λ accepts sound differ. rw (row-found sound differ row slot q);
         }
 
     module _ (n column : ℕ) (number : n ≡ cellRefusal h (length rows) (length keys) (length key) column) (zero-is : n ≡ 0) where
@@ -99,7 +100,7 @@ module _ (h : Header) (rows keys key : List ℕ) where
       cell-none q =
           record {
             refusal = verdict-accepted _ _ none refl (sym number ∙ zero-is);
-            table = λ accepts sorts pending p r. rw (none-found sorts pending r q);
+            table = λ accepts sound differ. rw (none-found sound differ q);
           }
 
       pub cell-in : (row slot : ℕ) → found ≡ At row slot → CellIn h rows row column
@@ -120,7 +121,7 @@ module _ (h : Header) (rows keys key : List ℕ) where
       cell-found row slot q =
           record {
             refusal = verdict-accepted _ _ (one _) refl (sym number ∙ zero-is);
-            table = λ accepts sorts pending p r. rw (row-found sorts pending r row slot q, getD-rowAt (h .columns) row rows column 0 (readable .column-there));
+            table = λ accepts sound differ. rw (row-found sound differ row slot q, getD-rowAt (h .columns) row rows column 0 (readable .column-there));
           }
 
 -- ---- *Fast range*

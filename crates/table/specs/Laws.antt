@@ -5,9 +5,12 @@ pub mod Pending
 pub mod Ladders
 pub mod Staging
 pub mod Sound
+pub mod Live
 pub mod Lookup
 pub mod Refusals
 pub mod Opening
 pub mod Fronts
+pub mod Replies
+pub mod Keeps
 pub mod Answers
 pub mod Determined

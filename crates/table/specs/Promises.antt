@@ -28,8 +28,8 @@ use Rattle.table.specs.declared.VersionAnswer.{VersionAnswer}
 use Rattle.table.specs.declared.SoundAnswer.{SoundAnswer}
 use Rattle.table.specs.Numbers.{openingOf, header, tableSays, mergeSays, rowSays, cellSays, rangeSays, versionSays, soundSays}
 use Rattle.table.specs.Refusing.{stageRefusal, mergeRefusal, compactRefusal, clearRefusal, lookupRefusal, cellRefusal, fastRefusal, versionRefusal, sinceRefusal, soundRefusal}
-use Rattle.table.specs.Stores.{headerOf, stored, rowStore, sortStore, recordWords, Shows}
-use Rattle.table.specs.Sound.{keyedOf, Sound}
+use Rattle.table.specs.Stores.{headerOf, stored, rowStore, sortStore, recordWords, rowsIn, Shows}
+use Rattle.table.specs.Sound.{keyedOf, KeysDiffer, Sound}
 
 -- a table's header and stores
 pub record Stores : Type 0 where
@@ -195,18 +195,20 @@ module _ (h : Header) (keys : List ℕ) (answer : TableAnswer) (keys′ : List �
     pub table : clearRefusal h (length keys) ≡ 0
         → (rows sorts pending : List ℕ) (p : Plain) → Represents p (stores h rows keys sorts pending) → ClearedTable rows sorts pending p
 
--- *Key lookup, one cell*: lent rows and keys, of a table whose other stores may be any. "No live row is *none*"
+-- *Key lookup, one cell*: lent rows and keys, and looked up in those alone, as a plain table of these rows: the key store must
+-- be sound, and live keys differ. "No live row is *none*"
+abbrev pub ofRows : Header → List ℕ → Plain
+ofRows h rows = record { opening = openingOf h; generation = h .generation; rows = rowsIn h rows; staged = [] }
+
 pub record LookedUp (h : Header) (rows keys key : List ℕ) (answer : RowAnswer) : Type 0 where
   pub refusal : verdict (rowSays answer) ≡ ruling (lookupRefusal h (length rows) (length keys) (length key))
-  pub table : lookupRefusal h (length rows) (length keys) (length key) ≡ 0
-      → (sorts pending : List ℕ) (p : Plain) → Represents p (stores h rows keys sorts pending)
-      → rowSays answer ≡ accepted (Option·map (λ row. row .number) (lookup p key))
+  pub table : lookupRefusal h (length rows) (length keys) (length key) ≡ 0 → KeysSound (keyedOf h) rows keys → KeysDiffer h rows
+      → rowSays answer ≡ accepted (Option·map (λ row. row .number) (lookup (ofRows h rows) key))
 
 pub record CellRead (h : Header) (rows keys key : List ℕ) (column : ℕ) (answer : CellAnswer) : Type 0 where
   pub refusal : verdict (cellSays answer) ≡ ruling (cellRefusal h (length rows) (length keys) (length key) column)
-  pub table : cellRefusal h (length rows) (length keys) (length key) column ≡ 0
-      → (sorts pending : List ℕ) (p : Plain) → Represents p (stores h rows keys sorts pending)
-      → cellSays answer ≡ accepted (Option·map (λ row. getD (row .cells) column 0) (lookup p key))
+  pub table : cellRefusal h (length rows) (length keys) (length key) column ≡ 0 → KeysSound (keyedOf h) rows keys → KeysDiffer h rows
+      → cellSays answer ≡ accepted (Option·map (λ row. getD (row .cells) column 0) (lookup (ofRows h rows) key))
 
 -- *Fast range*: lent sort entries. "answers *none* for kind 0 and for any column but the sort column"
 unfoldable pub fastSubset : Header → List ℕ → Constraint → Option Subset

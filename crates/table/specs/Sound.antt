@@ -19,15 +19,18 @@ use Rattle.table.specs.Stores.{Holds}
 abbrev pub keyedOf : Header → Keyed
 keyedOf h = record { columns = h .columns; keys = h .keys; capacity = h .capacity; rows = h .rows }
 
+-- "live keys differ"
+abbrev pub KeysDiffer : Header → List ℕ → Type 0
+KeysDiffer h rows = (i j : ℕ) → LiveAt (keyedOf h) rows i → LiveAt (keyedOf h) rows j
+    → keyAt (keyedOf h) rows i ≡ keyAt (keyedOf h) rows j → i ≡ j
+
 -- "A table is *sound* if:"
 pub record Sound (h : Header) (rows keys sorts pending : List ℕ) (staged : List Staged) : Type 0 where
   -- its header and stores pass tests 1 and 2
   pub tested : soundRefusal h (length rows) (length keys) (length sorts) (length pending) ≡ 0
   -- "its dead count is the number of dead rows"
   pub dead-counted : h .dead ≡ count (λ row. not (isLive row)) (rowsOf (h .columns) (h .rows) rows)
-  -- "live keys differ"
-  pub keys-differ : (i j : ℕ) → LiveAt (keyedOf h) rows i → LiveAt (keyedOf h) rows j
-      → keyAt (keyedOf h) rows i ≡ keyAt (keyedOf h) rows j → i ≡ j
+  pub keys-differ : KeysDiffer h rows
   -- "sort entries rise strictly, lie below the row count and begin at row 0 where there is a row"
   pub entries-rise : entriesSound (entriesOf (h .entries) sorts) (h .rows) ≡ true
   -- "each live sort cell is the value of the last entry at or below its row"

@@ -5,7 +5,7 @@ use mathlib.Core.Path.{_≡_}
 use mathlib.Core.Bool.{true, cond, not}
 use mathlib.Core.List.{List, [], _∷_, map}
 use lib.ListN.{length, take, getD, set}
-use Rattle.lists.specs.Lists.{putAt, every, rowAt, flat}
+use Rattle.lists.specs.Lists.{putAt, every, rowAt, rowsOf, flat}
 use Rattle.cells.specs.Cells.{compact, keyHash}
 use Rattle.constraints.specs.Constraints.{isLive}
 use Rattle.sort_entries.specs.Entries.{Entry, entriesOf, words, rebuilt}
@@ -57,6 +57,10 @@ recordWords keys (removeRow row key) = 2 ∷ compact (keyHash key) ∷ row ∷ k
 pub record Holds (o : Opening) (pending : List ℕ) (staged : List Staged) : Type 0 where
   pub whole : every (λ r. not (wrongWidth o r)) staged ≡ true
   pub in-order : take (wordsAll o staged) pending ≡ flat (map (recordWords (o .keys)) staged)
+
+-- the rows that a header and a row store have
+unfoldable pub rowsIn : Header → List ℕ → List Row
+rowsIn h store = map (λ cells. record { live = isLive cells; cells = cells }) (rowsOf (h .columns) (h .rows) store)
 
 -- a stored row shows a plain one: it is live exactly where that is, and then has its cells
 pub record RowShown (row : Row) (cells : List ℕ) : Type 0 where

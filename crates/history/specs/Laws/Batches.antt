@@ -16,8 +16,9 @@ use Rattle.table.specs.Laws.Refusals.{merge-accepted}
 use Rattle.table.specs.Laws.Fronts.{pending-part, body-part}
 use Rattle.table.specs.Laws.Sound.{sound-represents}
 use Rattle.history.specs.Histories.{staged, merged, Step, called}
+use Rattle.history.specs.Claim.{liveIn}
 use Rattle.history.specs.Batches.{verdictIn, verdictOf, statusTold, statusIn, statusOf, Batch, merge, stage, cellsIn, CutAnywhere}
-use Rattle.history.specs.Laws.Live.{live-shown}
+use Rattle.table.specs.Laws.Live.{live-shown}
 use Rattle.history.specs.Laws.Calls.{step-represents}
 
 -- a ladder whose answer is no refusal turned nothing away
@@ -63,7 +64,7 @@ batch-represents r (stage step v more) = batch-represents (stage-represents r st
 -- ---- the theorem
 
 cells-shown : {p : Plain} {s : Stores} → Represents p s → cellsIn s ≡ liveCells p
-unfolding cellsIn liveCells
+unfolding cellsIn liveIn liveCells
 cells-shown r = ap (map (λ (row : Numbered). row .cells)) (live-shown r)
 
 pub batch-cut : CutAnywhere

@@ -6,45 +6,23 @@ use mathlib.Core.Logic.{inl, inr}
 use mathlib.Core.List.{List, [], _++_}
 use native.Mathlib.Omega.{arith}
 use lib.ListN.{length}
-use Rattle.refusals.specs.Refusals.{Reply, refused, accepted}
-use Rattle.refusals.specs.Laws.Replies.{some-number, ruled-refused}
+use Rattle.refusals.specs.Laws.Replies.{some-number}
 use Rattle.plain.specs.Staged.{Opening, Staged}
 use Rattle.plain.specs.Plain.{Plain, opened}
 use Rattle.plain.specs.Refusing.{Lengths, storesShort, wordsShort, compactLadder}
 use Rattle.plain.specs.Calls.{Call, staging, merging, compacting, clearing, refusal, done, after, Lent, afterAll}
 use Rattle.plain.specs.Laws.Calls.{refused-nothing, accepted-done}
-use Rattle.table.specs.declared.Header.{Header}
-use Rattle.table.specs.declared.Merge.{Merge}
 use Rattle.table.specs.declared.TableAnswer.{TableAnswer}
 use Rattle.table.specs.declared.MergeAnswer.{MergeAnswer}
 use Rattle.table.specs.Numbers.{tableSays, mergeSays}
 use Rattle.table.specs.Refusing.{stageRefusal, mergeRefusal, compactRefusal, clearRefusal}
-use Rattle.table.specs.Stores.{headerOf}
 use Rattle.table.specs.Promises.{Stores, Represents, headerAfter, headerMerged, Staging, Merging, Compacting, Clearing, Body, body, bodyOf, joined, CompactionWords, lengthsLent}
 use Rattle.table.specs.Laws.Ladders.{stage-ladders, merge-ladders, compact-ladders, clear-ladders}
-use Rattle.table.specs.Laws.Staging.{stage-accepted, staging-represents}
+use Rattle.table.specs.Laws.Staging.{stage-accepted}
 use Rattle.table.specs.Laws.Refusals.{merge-accepted, compact-accepted, clear-accepted}
+use Rattle.table.specs.Laws.Keeps.{opening-done, staging-done, staging-refused, merging-done, merging-refused, compacting-done, compacting-refused, clearing-done, clearing-refused}
 use Rattle.table.specs.Laws.Fronts.{pending-part, pending-more, keys-part, keys-more, body-part, body-more}
-use Rattle.history.specs.Laws.Replies.{reply-refused, reply-accepted, accepted-number, accepted-same}
 use Rattle.history.specs.Histories.{noWords, Called, staged, merged, compacted, cleared, behind, Step, called, Steps, end, next, History}
-
--- ---- the header after a refused call, and after an accepted one
-
-after-refused : (h : Header) (r : Reply Header) (n : ℕ) → r ≡ refused n → headerAfter h r ≡ h
-unfolding headerAfter
-after-refused h r n e = rw e
-
-after-accepted : (h : Header) (r : Reply Header) (h′ : Header) → r ≡ accepted h′ → headerAfter h r ≡ h′
-unfolding headerAfter
-after-accepted h r h′ e = rw e
-
-merged-refused : (h : Header) (r : Reply Merge) (n : ℕ) → r ≡ refused n → headerMerged h r ≡ h
-unfolding headerMerged
-merged-refused h r n e = rw e
-
-merged-accepted : (h : Header) (r : Reply Merge) (m : Merge) → r ≡ accepted m → headerMerged h r ≡ m .header
-unfolding headerMerged
-merged-accepted h r m e = rw e
 
 -- ---- the four calls
 
@@ -68,12 +46,8 @@ module _ {p : Plain} (s : Stores) (rest : Body) (more : List ℕ) (r : Represent
       elim (some-number n) [
         | inl e ↦
             let k = stage-accepted (s .header) (length (s .pending)) q e .free in
-            let t = staging-represents q pending′ (pending-part more r (omega arith)) e (m .written e) in
-            goes p l (staging q) (sym same ∙ e)
-            (rw (after-accepted (s .header) (tableSays answer) _ (m .answers ∙ reply-accepted n _ e)) (pending-more more t))
-        | inr h ↦
-            stays l (staging q) (joined (headerAfter (s .header) (tableSays answer)) (bodyOf s) pending′) (rw same at h)
-            (rw (after-refused (s .header) (tableSays answer) n (m .answers ∙ reply-refused n _ h), m .unchanged h))
+            goes p l (staging q) (sym same ∙ e) (pending-more more (staging-done m e (pending-part more r (omega arith))))
+        | inr h ↦ stays l (staging q) _ (rw same at h) (staging-refused m h)
       ]
 
   merged-represents : (w : CompactionWords) (answer : MergeAnswer) (b′ : Body) (w′ : CompactionWords) → Merging s w answer b′ w′
@@ -86,12 +60,9 @@ module _ {p : Plain} (s : Stores) (rest : Body) (more : List ℕ) (r : Represent
       elim (some-number n) [
         | inl e ↦
             let k = merge-accepted (s .header) l e in
-            let t = m .table e p (body-part rest (pending-part more r (k .pending-fits)) (k .long)) in
-            goes p l merging (sym same ∙ e)
-            (rw (merged-accepted (s .header) (mergeSays answer) _ (t .answers)) (pending-more more (body-more rest (t .represents))))
-        | inr h ↦
-            stays l merging (joined (headerMerged (s .header) (mergeSays answer)) b′ (s .pending)) (rw same at h)
-            (rw (merged-refused (s .header) (mergeSays answer) n (ruled-refused (mergeSays answer) n (m .refusal) h), m .unchanged h .0))
+            let t = merging-done m e (body-part rest (pending-part more r (k .pending-fits)) (k .long)) in
+            goes p l merging (sym same ∙ e) (pending-more more (body-more rest t))
+        | inr h ↦ stays l merging _ (rw same at h) (merging-refused m h)
       ]
 
   compacted-represents : (w : CompactionWords) (answer : TableAnswer) (b′ : Body) (w′ : CompactionWords) → Compacting (s .header) (bodyOf s) w answer b′ w′
@@ -105,12 +76,8 @@ module _ {p : Plain} (s : Stores) (rest : Body) (more : List ℕ) (r : Represent
       let same : n ≡ refusal p l compacting = compact-ladders r k ∙ (unfold refusal compactLadder storesShort wordsShort in refl) in
       elim (some-number n) [
         | inl e ↦
-            let t = m .table e (s .pending ++ more) p (body-part rest r (compact-accepted (s .header) k e .long)) in
-            goes p l compacting (sym same ∙ e)
-            (rw (after-accepted (s .header) (tableSays answer) _ (t .answers)) (body-more rest (t .represents)))
-        | inr h ↦
-            stays l compacting (joined (headerAfter (s .header) (tableSays answer)) b′ (s .pending)) (rw same at h)
-            (rw (after-refused (s .header) (tableSays answer) n (ruled-refused (tableSays answer) n (m .refusal) h), m .unchanged h .0))
+            goes p l compacting (sym same ∙ e) (body-more rest (compacting-done m e (body-part rest r (compact-accepted (s .header) k e .long))))
+        | inr h ↦ stays l compacting _ (rw same at h) (compacting-refused m h)
       ]
 
   cleared-represents : (answer : TableAnswer) (keys′ : List ℕ) → Clearing (s .header) (s .keys) answer keys′
@@ -123,11 +90,8 @@ module _ {p : Plain} (s : Stores) (rest : Body) (more : List ℕ) (r : Represent
       elim (some-number n) [
         | inl e ↦
             let k = clear-accepted (s .header) (length (s .keys)) e .keys-long in
-            let t = m .table e (s .rows ++ rest .rows) (s .sorts ++ rest .sorts) (s .pending ++ more) p (keys-part (rest .keys) r k) in
-            goes p l clearing (sym same ∙ e) (rw (after-accepted (s .header) (tableSays answer) _ (t .answers)) (keys-more (rest .keys) (t .represents)))
-        | inr h ↦
-            stays l clearing (joined (headerAfter (s .header) (tableSays answer)) (body (s .rows) keys′ (s .sorts)) (s .pending)) (rw same at h)
-            (rw (after-refused (s .header) (tableSays answer) n (ruled-refused (tableSays answer) n (m .refusal) h), m .unchanged h))
+            goes p l clearing (sym same ∙ e) (keys-more (rest .keys) (clearing-done m e (keys-part (rest .keys) r k)))
+        | inr h ↦ stays l clearing _ (rw same at h) (clearing-refused m h)
       ]
 
   called-represents : {c : Lent} {t : Stores} → Called s c t → Represents (after p (c .lengths) (c .call)) (behind t rest more)
@@ -151,11 +115,7 @@ steps-represents r (next step steps) = steps-represents (step-represents r step)
 -- an accepted opening
 pub opened-represents : {o : Opening} {generation : ℕ} {calls : List Lent} {s : Stores} (h : History o generation calls s) → Represents (opened o generation) (behind (h .start) (h .rest) (h .pending))
 unfolding tableSays
-opened-represents {o} {generation} h =
-    pending-more (h .pending)
-    (body-more (h .rest)
-    (rw (← accepted-same _ (h .start .header) (headerOf (opened o generation)) (h .opened .answers)) at
-    (h .opened .represents (accepted-number _ (h .start .header) (headerOf (opened o generation)) (h .opened .answers)))))
+opened-represents h = pending-more (h .pending) (body-more (h .rest) (opening-done (h .opened) (h .start .header) refl))
 
 -- "each on the header and the .. stores as the last left them": the stores show the plain table after the same calls
 pub history-represents : {o : Opening} {generation : ℕ} {calls : List Lent} {s : Stores} → History o generation calls s → Represents (afterAll (opened o generation) calls) s

@@ -30,9 +30,9 @@ use Rattle.table.specs.Numbers.{rangeSays}
 use Rattle.table.specs.Refusing.{fastRefusal}
 use Rattle.table.specs.Promises.{Stores, Represents, fastSubset, RangeRead}
 use Rattle.table.specs.Laws.Sound.{represents-sound}
+use Rattle.table.specs.Laws.Replies.{ruled-accepted}
 use Rattle.queries.specs.Queries.{matches, pastRows, tests, refineRefusal, refineOneReply, refineListReply}
 use Rattle.history.specs.Runs.{Question, Gathered, byRefining, left, gathered, Intersected, Asked, one-refined, list-refined, intersected, range-intersected, range-nothing}
-use Rattle.history.specs.Laws.Replies.{ruled-accepted}
 use Rattle.history.specs.Laws.Narrowing.{alive, fits, alive-of, alive-below, alive-live, Narrows, narrows-not, narrows-keep}
 
 -- ---- an answer, read off its output

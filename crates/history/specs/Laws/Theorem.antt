@@ -4,9 +4,9 @@ use mathlib.Core.List.{List}
 use Rattle.offsets.specs.Subsets.{Subset, members}
 use Rattle.plain.specs.Plain.{Plain}
 use Rattle.table.specs.Promises.{Stores, Represents}
+use Rattle.table.specs.Laws.Live.{live-shown}
 use Rattle.history.specs.Runs.{Question, Gathered, Run, end, next}
-use Rattle.history.specs.Claim.{Claim}
-use Rattle.history.specs.Laws.Live.{live-shown}
+use Rattle.history.specs.Claim.{liveIn, Claim}
 use Rattle.history.specs.Laws.Calls.{history-represents}
 use Rattle.history.specs.Laws.Narrowing.{Narrows, narrows-not, narrows-then, narrowed-wanted, narrowed-rising}
 use Rattle.history.specs.Laws.Questions.{asked-narrows}
@@ -20,7 +20,7 @@ pub term-three : Claim
 term-three o generation calls s history =
     let shown = history-represents history in
     record {
-      live-rows = live-shown shown;
+      live-rows = unfold liveIn in live-shown shown;
       ids-left = λ start questions end g run refined.
           let left = run-narrows shown run in
           (narrowed-wanted left refined, narrowed-rising left refined);

@@ -15,6 +15,7 @@ use Rattle.refusals.specs.Laws.Replies.{some-number}
 use Rattle.refusals.specs.Laws.Determined.{Same, SameAnswer, refused-same, answer-same}
 use Rattle.constraints.specs.declared.Constraint.{Constraint}
 use Rattle.sort_entries.specs.Entries.{entriesOf, entriesSound}
+use Rattle.key_index.specs.Slots.{KeysSound}
 use Rattle.key_index.specs.Laws.Index.{empty-free}
 use Rattle.plain.specs.Staged.{Opening, Staged}
 use Rattle.plain.specs.Plain.{Plain, opened, merged, cleared}
@@ -30,6 +31,7 @@ use Rattle.table.specs.declared.SoundAnswer.{SoundAnswer}
 use Rattle.table.specs.declared.SoundAnswer.the-variants.{Refused, Sound}
 use Rattle.table.specs.Numbers.{tableSays, mergeSays, rowSays, cellSays, rangeSays, soundSays}
 use Rattle.table.specs.Refusing.{stageRefusal, mergeRefusal, compactRefusal, clearRefusal, lookupRefusal, cellRefusal, fastRefusal}
+use Rattle.table.specs.Sound.{keyedOf, KeysDiffer}
 use Rattle.table.specs.Promises.{stores, lengths, Represents, SlotsPast, WordsPast, Opened, Staging, Merging, Compacting, Clearing, LookedUp, CellRead, RangeRead, VersionRead, RowsSince, Checked, Body, bodyOf, joined, CompactionWords, lengthsLent, Stores}
 use Rattle.table.specs.Laws.Shown.{represents-long, rows-counted}
 use Rattle.table.specs.Laws.Opening.{cleared-rows, cleared-opening}
@@ -203,19 +205,19 @@ module _ (h : Header) (keys : List ℕ) (a : TableAnswer) (keys₁ : List ℕ) (
 
 -- ---- *Key lookup*, *one cell*, *Fast range*
 
--- the header, rows and keys are those of some table
-abbrev pub OfTable : Header → List ℕ → List ℕ → Type 0
-OfTable h rows keys = (sorts pending : List ℕ) × (p : Plain) × Represents p (stores h rows keys sorts pending)
+-- the key store leads to the live rows, whose keys differ
+abbrev pub Keyed : Header → List ℕ → List ℕ → Type 0
+Keyed h rows keys = KeysSound (keyedOf h) rows keys × KeysDiffer h rows
 
 pub looked-up-determined : {h : Header} {rows keys key : List ℕ} {a b : RowAnswer} → LookedUp h rows keys key a → LookedUp h rows keys key b
-    → SameAnswer rowSays (lookupRefusal h (length rows) (length keys) (length key)) (OfTable h rows keys) a b
+    → SameAnswer rowSays (lookupRefusal h (length rows) (length keys) (length key)) (Keyed h rows keys) a b
 looked-up-determined u v =
-    answer-same row-said (u .refusal) (v .refusal) (λ none t. u .table none (t .0) (t .1) (t .2) (t .3) ∙ sym (v .table none (t .0) (t .1) (t .2) (t .3)))
+    answer-same row-said (u .refusal) (v .refusal) (λ none k. u .table none (k .0) (k .1) ∙ sym (v .table none (k .0) (k .1)))
 
 pub cell-read-determined : {h : Header} {rows keys key : List ℕ} {column : ℕ} {a b : CellAnswer} → CellRead h rows keys key column a → CellRead h rows keys key column b
-    → SameAnswer cellSays (cellRefusal h (length rows) (length keys) (length key) column) (OfTable h rows keys) a b
+    → SameAnswer cellSays (cellRefusal h (length rows) (length keys) (length key) column) (Keyed h rows keys) a b
 cell-read-determined u v =
-    answer-same cell-said (u .refusal) (v .refusal) (λ none t. u .table none (t .0) (t .1) (t .2) (t .3) ∙ sym (v .table none (t .0) (t .1) (t .2) (t .3)))
+    answer-same cell-said (u .refusal) (v .refusal) (λ none k. u .table none (k .0) (k .1) ∙ sym (v .table none (k .0) (k .1)))
 
 pub range-read-determined : {h : Header} {sorts : List ℕ} {c : Constraint} {a b : RangeAnswer} → RangeRead h sorts c a → RangeRead h sorts c b
     → SameAnswer rangeSays (fastRefusal h (length sorts) c) (entriesSound (entriesOf (h .entries) sorts) (h .rows) ≡ true) a b

@@ -1,20 +1,31 @@
--- Key lookup: a key leads to row i exactly if row i is live in the stores and has that key. Assumes nothing.
-use Prim.Native.Nat.{ℕ}
-use mathlib.Core.Path.{_≡_, sym, ap, _∙_}
+-- Key lookup: a key leads to row i exactly if row i is live in the stores and has that key, by the header and the row store
+-- alone as in the plain table that the stores show. Assumes nothing.
+use Prim.Native.Nat.{ℕ, _<_}
+use mathlib.Core.Path.{_≡_, sym, ap, ap₂, _∙_}
 use mathlib.Core.Bool.{true}
-use mathlib.Core.Option.{none, some}
+use mathlib.Core.Option.{none, some, Option·map}
 use mathlib.Core.List.{List}
-use Rattle.lists.specs.Lists.{rowAt}
+use native.Mathlib.Omega.{arith}
+use lib.ListN.{length, getD}
+use Rattle.lists.specs.Lists.{firstOf, rowAt}
+use Rattle.refusals.specs.Refusals.{accepted}
 use Rattle.key_index.specs.Slots.{LiveAt, keyAt}
-use Rattle.plain.specs.Plain.{Plain, lookup, liveWithKey}
+use Rattle.plain.specs.Staged.{hasKey}
+use Rattle.plain.specs.Plain.{Row, Plain, Numbered, liveFrom, liveRows, lookup, liveWithKey}
 use Rattle.plain.specs.Laws.Lookup.{none-lookup, one-lookup}
 use Rattle.plain.specs.Proper.{rowOf}
-use Rattle.plain.specs.Laws.Rows.{liveWithKey-of, liveWithKey-live, liveWithKey-key}
+use Rattle.plain.specs.Laws.Rows.{liveWithKey-of, liveWithKey-live, liveWithKey-key, live-below}
 use Rattle.table.specs.declared.Header.{Header}
-use Rattle.table.specs.Sound.{keyedOf}
-use Rattle.table.specs.Promises.{Stores, Represents}
+use Rattle.table.specs.declared.RowAnswer.{RowAnswer}
+use Rattle.table.specs.declared.CellAnswer.{CellAnswer}
+use Rattle.table.specs.Numbers.{rowSays, cellSays}
+use Rattle.table.specs.Refusing.{lookupRefusal, cellRefusal}
+use Rattle.table.specs.Stores.{rowsIn}
+use Rattle.table.specs.Sound.{keyedOf, KeysDiffer}
+use Rattle.table.specs.Promises.{Stores, stores, Represents, ofRows, LookedUp, CellRead}
 use Rattle.table.specs.Laws.Shown.{live-in, in-live, live-cells}
 use Rattle.table.specs.Laws.Sound.{represents-sound}
+use Rattle.table.specs.Laws.Live.{told, length-rowsIn, getD-rowsIn, live-shown}
 
 module _ {p : Plain} {s : Stores} (r : Represents p s) (key : List ℕ) where
   keys-same : s .header .keys ≡ p .opening .keys
@@ -42,3 +53,52 @@ module _ {p : Plain} {s : Stores} (r : Represents p s) (key : List ℕ) where
   -- where no live row has the key, nothing is found
   pub none-found : ((i : ℕ) → LiveAt (keyedOf (s .header)) (s .rows) i → keyAt (keyedOf (s .header)) (s .rows) i ≡ key → ⊥) → lookup p key ≡ none
   none-found f = none-lookup p key (λ i e. let g = passes-live i e in f i (g .0) (g .1))
+
+-- ---- in a header and a row store alone
+
+module _ (h : Header) (rows key : List ℕ) where
+  row-told : (i : ℕ) → i < h .rows → rowOf (ofRows h rows) i ≡ told (rowAt (h .columns) i rows)
+  row-told i k = getD-rowsIn h rows i k
+
+  row-below : (i : ℕ) → rowOf (ofRows h rows) i .live ≡ true → i < h .rows
+  row-below i e = omega (arith, live-below (rowsIn h rows) i e, length-rowsIn h rows)
+
+  -- a row of the key is live and has it
+  row-passes : (i : ℕ) → liveWithKey (h .keys) key (rowOf (ofRows h rows) i) ≡ true → LiveAt (keyedOf h) rows i × (keyAt (keyedOf h) rows i ≡ key)
+  row-passes i t =
+      let k = row-below i (liveWithKey-live (h .keys) key (rowOf (ofRows h rows) i) t) in
+      let u : liveWithKey (h .keys) key (told (rowAt (h .columns) i rows)) ≡ true = rw (row-told i k) at t in
+      ((k, liveWithKey-live (h .keys) key (told (rowAt (h .columns) i rows)) u), liveWithKey-key (h .keys) key (told (rowAt (h .columns) i rows)) u)
+
+  -- conversely
+  passes-row : (i : ℕ) → LiveAt (keyedOf h) rows i → keyAt (keyedOf h) rows i ≡ key → liveWithKey (h .keys) key (rowOf (ofRows h rows) i) ≡ true
+  passes-row i l e = rw (row-told i (l .0)) (liveWithKey-of (h .keys) key (told (rowAt (h .columns) i rows)) (l .1) e)
+
+  -- a live row that has the key is found, where live keys differ
+  pub row-read : KeysDiffer h rows → (i : ℕ) → LiveAt (keyedOf h) rows i → keyAt (keyedOf h) rows i ≡ key
+      → lookup (ofRows h rows) key ≡ some (record { number = i; cells = rowAt (h .columns) i rows })
+  row-read differ i l e =
+      one-lookup (ofRows h rows) key i (passes-row i l e) (λ j f. let g = row-passes j f in differ j i (g .0) l (g .1 ∙ sym e))
+      ∙ ap (λ (row : Row). some (record { number = i; cells = row .cells })) (row-told i (l .0))
+
+  -- where no live row has the key, nothing is found
+  pub none-read : ((i : ℕ) → LiveAt (keyedOf h) rows i → keyAt (keyedOf h) rows i ≡ key → ⊥) → lookup (ofRows h rows) key ≡ none
+  none-read f = none-lookup (ofRows h rows) key (λ i e. let g = row-passes i e in f i (g .0) (g .1))
+
+-- ---- on every sound table, and as in the plain table that it shows
+
+module _ {p : Plain} {h : Header} {rows keys sorts pending : List ℕ} (key : List ℕ) (r : Represents p (stores h rows keys sorts pending)) where
+  rows-lookup : lookup (ofRows h rows) key ≡ lookup p key
+  unfolding lookup liveRows
+  rows-lookup =
+      let n : h .keys ≡ p .opening .keys = ap (λ (x : Header). x .keys) (r .shown .header) in
+      let l : liveFrom 0 (rowsIn h rows) ≡ liveFrom 0 (p .rows) = live-shown r in
+      ap₂ (λ (k : ℕ) (rows : List Numbered). firstOf (λ row. hasKey k key (row .cells)) rows) n l
+
+  pub looked-up-plain : {answer : RowAnswer} → LookedUp h rows keys key answer → lookupRefusal h (length rows) (length keys) (length key) ≡ 0
+      → rowSays answer ≡ accepted (Option·map (λ row. row .number) (lookup p key))
+  looked-up-plain m passed = rw (← rows-lookup) (m .table passed (r .keyed) (represents-sound r .keys-differ))
+
+  pub cell-read-plain : {column : ℕ} {answer : CellAnswer} → CellRead h rows keys key column answer → cellRefusal h (length rows) (length keys) (length key) column ≡ 0
+      → cellSays answer ≡ accepted (Option·map (λ row. getD (row .cells) column 0) (lookup p key))
+  cell-read-plain m passed = rw (← rows-lookup) (m .table passed (r .keyed) (represents-sound r .keys-differ))

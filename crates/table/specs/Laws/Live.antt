@@ -1,26 +1,37 @@
--- The live rows read off the stores are the plain table's. Assumes nothing.
+-- The live rows read off the header and the row store are the plain table's. Assumes nothing.
 use Prim.Native.Nat.{ℕ, suc, _<_, suc-le-suc}
 use mathlib.Core.Path.{_≡_, refl, _∙_}
 use mathlib.Core.Bool.{Bool, true, false, cond}
 use mathlib.Core.List.{List, [], _∷_, map}
 use native.Mathlib.Omega.{arith}
-use lib.ListN.{length, getD}
-use Rattle.lists.specs.Lists.{rowsOf}
+use lib.ListN.{length, getD, length-map}
+use Rattle.lists.specs.Lists.{rowAt, rowsOf}
+use Rattle.lists.specs.Laws.Every.{getD-map-below}
 use Rattle.lists.specs.Laws.Rows.{length-rowsOf, getD-rowsOf}
 use Rattle.constraints.specs.Constraints.{isLive}
 use Rattle.plain.specs.Plain.{Row, Plain, liveFrom, liveRows}
 use Rattle.plain.specs.Laws.Rows.{noRow}
+use Rattle.table.specs.declared.Header.{Header}
+use Rattle.table.specs.Stores.{rowsIn, RowShown}
 use Rattle.table.specs.Promises.{Stores, Represents}
-use Rattle.table.specs.Stores.{RowShown}
 use Rattle.table.specs.Laws.Shown.{row-shown, rows-counted}
-use Rattle.history.specs.Claim.{rowsIn, liveIn}
 
 -- a row as its cells tell
-abbrev told : List ℕ → Row
+abbrev pub told : List ℕ → Row
 told cells = record { live = isLive cells; cells = cells }
 
+pub length-rowsIn : (h : Header) (rows : List ℕ) → length (rowsIn h rows) ≡ h .rows
+unfolding rowsIn
+length-rowsIn h rows = length-map (rowsOf (h .columns) (h .rows) rows) told ∙ length-rowsOf (h .columns) (h .rows) rows
+
+pub getD-rowsIn : (h : Header) (rows : List ℕ) (i : ℕ) → i < h .rows → getD (rowsIn h rows) i noRow ≡ told (rowAt (h .columns) i rows)
+unfolding rowsIn
+getD-rowsIn h rows i k =
+    getD-map-below told (rowsOf (h .columns) (h .rows) rows) i [] noRow (omega (arith, length-rowsOf (h .columns) (h .rows) rows))
+    ∙ rw (getD-rowsOf (h .columns) (h .rows) rows i k)
+
 -- rows that are shown place by place
-pub live-from : (n : ℕ) (rows : List Row) (cells : List (List ℕ)) → length cells ≡ length rows
+live-from : (n : ℕ) (rows : List Row) (cells : List (List ℕ)) → length cells ≡ length rows
     → ((i : ℕ) → i < length rows → RowShown (getD rows i noRow) (getD cells i [])) → liveFrom n (map told cells) ≡ liveFrom n rows
 unfolding liveFrom
 live-from n [] [] e f = refl
@@ -35,8 +46,8 @@ live-from n (row ∷ rows) (c ∷ cells) e f = go (live-from (suc n) rows cells 
     go ih s false q = rw (← s .live, q, ih)
 
 -- "the live rows, numbers and cells, are those of document 01's plain table"
-pub live-shown : {p : Plain} {s : Stores} → Represents p s → liveIn s ≡ liveRows p
-unfolding liveIn rowsIn liveRows
+pub live-shown : {p : Plain} {s : Stores} → Represents p s → liveFrom 0 (rowsIn (s .header) (s .rows)) ≡ liveRows p
+unfolding rowsIn liveRows
 live-shown {p} {s} r =
     live-from 0 (p .rows) (rowsOf (s .header .columns) (s .header .rows) (s .rows))
     (length-rowsOf (s .header .columns) (s .header .rows) (s .rows) ∙ rows-counted r)
