@@ -1,7 +1,7 @@
 /*
  * Mouldgrey: a table for an archive. Rows of uint32_t cells, kept by key, in the order of a sort
  * column, in stores that the caller lends. Link libexports_lists.a, libexports_questions.a and
- * libexports.a.
+ * libexports.a; for column order, which needs no table, libexports_vault.a.
  *
  * A table is a header of ten words and four stores. docs/FORMAT.md says what each word means.
  *
@@ -47,7 +47,7 @@ extern "C" {
 
 /* The numbers of refusals, and of a merge's stops. 0 is none. */
 #define MOULDGREY_ACCEPTED 0
-/* A header's number is outside its bounds, or more pending words are in use than are lent. */
+/* A header's number or a width is outside its bounds, or more pending words are in use than are lent. */
 #define MOULDGREY_OUT_OF_BOUNDS 1
 /* A lent store or output is shorter than needed, or the answer's words are not so many. */
 #define MOULDGREY_TOO_SHORT 2
@@ -67,6 +67,8 @@ extern "C" {
 #define MOULDGREY_OLD_SORT_VALUE 9
 /* The generation is 4294967295 and cannot rise. */
 #define MOULDGREY_LAST_GENERATION 10
+/* A number of cells that is not a multiple of the width. */
+#define MOULDGREY_BROKEN_ROW 13
 
 /* A header's words, by their places. */
 #define MOULDGREY_HEADER_WORDS 10
@@ -294,6 +296,23 @@ uint32_t mouldgrey_intersect(bool dense, uint32_t start, uint32_t end, const uin
                              uint32_t other_end, const uint32_t *other_ids, size_t other_ids_len,
                              uint32_t *output, size_t output_len, uint32_t *words,
                              size_t words_len);
+
+/*
+ * Column order for the vault; needs no table. cells are rows of this width, one after another; any
+ * number of them, also none. In output stand all cells of the first column, then the second, and so
+ * on, each cell but a column's first as its difference from the cell above, modulo 2^32. Output past
+ * cells_len is unchanged. Refuses: 1, a width outside 1 to 8; 13; 2, output shorter than cells;
+ * output unchanged.
+ */
+uint32_t mouldgrey_to_columns(uint32_t width, const uint32_t *cells, size_t cells_len,
+                              uint32_t *output, size_t output_len);
+
+/*
+ * The way back from column order to rows. Either after the other restores the cells. Refuses: as
+ * mouldgrey_to_columns.
+ */
+uint32_t mouldgrey_from_columns(uint32_t width, const uint32_t *cells, size_t cells_len,
+                                uint32_t *output, size_t output_len);
 
 #ifdef __cplusplus
 }

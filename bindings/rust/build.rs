@@ -1,10 +1,15 @@
-//! Links the three static libraries that hold the C functions. They are looked for where `rt staticlib` leaves them, or in the
+//! Links the static libraries that hold the C functions. They are looked for where `rt staticlib` leaves them, or in the
 //! folder that MOULDGREY_LIBRARIES names.
 
 use std::env;
 use std::path::{Path, PathBuf};
 
-const LIBRARIES: [&str; 3] = ["exports", "exports_questions", "exports_lists"];
+const LIBRARIES: [&str; 4] = [
+    "exports",
+    "exports_questions",
+    "exports_lists",
+    "exports_vault",
+];
 
 fn folder() -> PathBuf {
     match env::var_os("MOULDGREY_LIBRARIES") {

@@ -537,3 +537,32 @@ pub fn intersect(
     })?;
     Ok(written(words))
 }
+
+/// Writes rows of this width to the output in column order, each cell but a column's first as its difference from the cell above,
+/// modulo 2^32. Output past them is unchanged. Refused by 1, 13 and 2.
+#[inline]
+pub fn to_columns(width: u32, cells: &[u32], output: &mut [u32]) -> Result<(), Refusal> {
+    verdict(unsafe {
+        raw::mouldgrey_to_columns(
+            width,
+            cells.as_ptr(),
+            cells.len(),
+            output.as_mut_ptr(),
+            output.len(),
+        )
+    })
+}
+
+/// Writes the rows back from what [`to_columns`] wrote. Refused by 1, 13 and 2.
+#[inline]
+pub fn from_columns(width: u32, cells: &[u32], output: &mut [u32]) -> Result<(), Refusal> {
+    verdict(unsafe {
+        raw::mouldgrey_from_columns(
+            width,
+            cells.as_ptr(),
+            cells.len(),
+            output.as_mut_ptr(),
+            output.len(),
+        )
+    })
+}

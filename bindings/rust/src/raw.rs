@@ -233,4 +233,18 @@ unsafe extern "C" {
         words: *mut u32,
         words_len: usize,
     ) -> u32;
+    pub fn mouldgrey_to_columns(
+        width: u32,
+        cells: *const u32,
+        cells_len: usize,
+        output: *mut u32,
+        output_len: usize,
+    ) -> u32;
+    pub fn mouldgrey_from_columns(
+        width: u32,
+        cells: *const u32,
+        cells_len: usize,
+        output: *mut u32,
+        output_len: usize,
+    ) -> u32;
 }

@@ -6,7 +6,7 @@ use std::fmt;
 /// Why a call was refused. The numbers are the paper's; a refusal has changed nothing that was lent.
 #[derive(Clone, Copy, Debug, PartialEq, Eq, Hash)]
 pub enum Refusal {
-    /// A header's number is outside its bounds, or more pending words are in use than the pending store has.
+    /// A header's number or a width is outside its bounds, or more pending words are in use than the pending store has.
     OutOfBounds = 1,
     /// A lent store, or an output, is shorter than needed.
     TooShort = 2,
@@ -22,6 +22,8 @@ pub enum Refusal {
     PendingFull = 7,
     /// The generation is 4294967295 and cannot rise.
     LastGeneration = 10,
+    /// A number of cells that is not a multiple of the width.
+    BrokenRow = 13,
 }
 
 /// Why a merge stopped. What came before the stop stands; the rest of the batch is dropped.
@@ -34,7 +36,7 @@ pub enum Stop {
 }
 
 impl Refusal {
-    pub const ALL: [Refusal; 8] = [
+    pub const ALL: [Refusal; 9] = [
         Refusal::OutOfBounds,
         Refusal::TooShort,
         Refusal::WrongWidth,
@@ -43,6 +45,7 @@ impl Refusal {
         Refusal::NoSuchColumn,
         Refusal::PendingFull,
         Refusal::LastGeneration,
+        Refusal::BrokenRow,
     ];
 
     /// The paper's number.
@@ -56,7 +59,7 @@ impl Refusal {
 
     fn words(self) -> &'static str {
         match self {
-            Refusal::OutOfBounds => "a header's number is outside its bounds",
+            Refusal::OutOfBounds => "a header's number or a width is outside its bounds",
             Refusal::TooShort => "a lent store or output is shorter than needed",
             Refusal::WrongWidth => "wrong number of cells",
             Refusal::MalformedSubset => "malformed or overlong subset",
@@ -64,6 +67,7 @@ impl Refusal {
             Refusal::NoSuchColumn => "no such column or kind of condition",
             Refusal::PendingFull => "no room in the pending store",
             Refusal::LastGeneration => "the generation cannot rise",
+            Refusal::BrokenRow => "not a multiple of the width",
         }
     }
 }

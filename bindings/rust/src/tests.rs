@@ -348,3 +348,24 @@ fn numbers_and_names() {
     assert_eq!(ids, [3, 4, 5]);
     assert_eq!(Subset::List(vec![4, 7]).ids().count(), 2);
 }
+
+#[test]
+fn column_order_and_back() {
+    let rows = [7, 160, 7, 163, 6, 170];
+    let columns = vec![7, 0, u32::MAX, 160, 3, 7];
+    assert_eq!(to_columns(2, &rows), Ok(columns.clone()));
+    assert_eq!(from_columns(2, &columns), Ok(rows.to_vec()));
+    assert_eq!(to_columns(8, &[]), Ok(vec![]));
+    assert_eq!(to_columns(0, &rows), Err(Refusal::OutOfBounds));
+    assert_eq!(from_columns(9, &rows), Err(Refusal::OutOfBounds));
+    assert_eq!(to_columns(4, &rows), Err(Refusal::BrokenRow));
+    let mut output = [1; 5];
+    assert_eq!(
+        lent::to_columns(2, &rows, &mut output),
+        Err(Refusal::TooShort)
+    );
+    assert_eq!(output, [1; 5]);
+    let mut output = [1; 8];
+    assert_eq!(lent::to_columns(2, &rows, &mut output), Ok(()));
+    assert_eq!((&output[..6], &output[6..]), (&columns[..], &[1, 1][..]));
+}

@@ -1,6 +1,6 @@
-//! The worked dump of docs/FORMAT.md is what the library leaves, byte for byte, and its worked hash is the one in the dump.
+//! The worked dumps of docs/FORMAT.md are what the library leaves, byte for byte, and its worked hash is the one in the dump.
 
-use mouldgrey::{Opening, Stores, Table};
+use mouldgrey::{Opening, Stores, Table, to_columns};
 use std::collections::BTreeMap;
 use std::fs;
 
@@ -76,6 +76,14 @@ fn worked_dump() {
     compare("before", table.stores());
     table.merge().expect("a merge");
     compare("after", table.stores());
+}
+
+#[test]
+fn worked_columns() {
+    let columns = to_columns(2, &[1, 10, 6, 10, 5, 12]).expect("whole rows");
+    let bytes: Vec<u8> = columns.iter().flat_map(|word| word.to_le_bytes()).collect();
+    let shown: Vec<u8> = dump("columns")["cells"].values().copied().collect();
+    assert_eq!(shown, bytes);
 }
 
 /// The three steps of the page, and the line of the page's table that shows them.

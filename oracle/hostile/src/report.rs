@@ -7,7 +7,7 @@ use std::collections::BTreeMap;
 /// not fit".
 type Kind = (&'static str, &'static [usize]);
 
-pub const SHIPPED: [Kind; 18] = [
+pub const SHIPPED: [Kind; 20] = [
     ("mouldgrey_open_table", &[1, 2]),
     ("mouldgrey_stage_insert", &[1, 3, 7]),
     ("mouldgrey_stage_remove", &[1, 3, 7]),
@@ -26,6 +26,8 @@ pub const SHIPPED: [Kind; 18] = [
     ("mouldgrey_contains_match", &[1, 2, 4, 5, 6]),
     ("mouldgrey_read_page", &[1, 2, 4, 5, 6]),
     ("mouldgrey_intersect", &[2, 4]),
+    ("mouldgrey_to_columns", &[1, 2, 13]),
+    ("mouldgrey_from_columns", &[1, 2, 13]),
 ];
 
 pub const PROBES: [Kind; 17] = [
@@ -57,8 +59,8 @@ pub enum Change {
 /// How often a changed table was found sound, unsound, refused.
 type Verdicts = [u64; 3];
 
-/// Places for the numbers 0, accepted, to 10.
-type Outcomes = [u64; 11];
+/// Places for the numbers 0, accepted, to 13.
+type Outcomes = [u64; 14];
 
 #[derive(Default)]
 pub struct Report {

@@ -1,6 +1,7 @@
 //! Trials: each has a seed of its own, makes a table or a heap of words, and calls the functions on it.
 
 use crate::acts::{Act, act, crowded_keys, good_opening, staging};
+use crate::columns;
 use crate::image::{Image, hostile_number};
 use crate::parts;
 use crate::report::Change;
@@ -27,11 +28,12 @@ pub fn trial(session: &mut Session, seed: u64) -> Result<(), String> {
     if rng.below(3_000) == 0 {
         return large(session, rng);
     }
-    match rng.below(20) {
+    match rng.below(21) {
         0..=10 => one_word(session, rng),
         11..=13 => many_words(session, rng),
         14..=16 => garbage(session, rng),
         17 => hostile_header(session, rng),
+        18 => columns::calls(session, rng),
         _ => parts::calls(session, rng),
     }
 }

@@ -1,5 +1,6 @@
 //! The proved library's times as ratios to the Rust's, in one run on one machine. Below 1 the proved library is faster.
 
+mod columns;
 mod keys;
 mod offsets;
 mod seal;
@@ -14,4 +15,5 @@ pub fn bench() {
     offsets::intersect();
     keys::index();
     tables::operations();
+    columns::orders();
 }

@@ -1,6 +1,7 @@
 //! The second judge: the paper's plain table and its operations, written from the paper alone, with the stores that the paper
 //! gives every cell of. It is simple on purpose, so that it can be read beside the paper; words in quotes are the paper's.
 
+mod columns;
 mod layout;
 mod model;
 mod questions;
@@ -13,6 +14,7 @@ mod table;
 mod tests;
 
 use calls::{Answer, Call, Contents, Expected, Header, Judge, Lengths, Opening, Question};
+pub use columns::{from_columns, test_columns, to_columns};
 pub use layout::{key_hash, record};
 use model::Model;
 pub use refusals::{test_call, test_question, test_soundness};

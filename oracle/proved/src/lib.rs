@@ -1,6 +1,8 @@
-//! The proved library beside the Rust, function by function. Each part answers what it compared, or the first difference.
+//! The proved library beside the Rust, function by function, and beside the judge where the Rust has no such function. Each
+//! part answers what it compared, or the first difference.
 
 mod cells;
+mod columns;
 mod keys;
 mod offsets;
 mod ranges;
@@ -18,5 +20,6 @@ pub fn compare() -> Result<Vec<String>, String> {
         rules::ranks()?,
         keys::index()?,
         ranges::fast_ranges()?,
+        columns::compare()?,
     ])
 }

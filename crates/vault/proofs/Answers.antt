@@ -1,0 +1,77 @@
+-- The ways out of the entry points: refused, or all written. Assumes nothing.
+use Prim.Native.Nat.{ℕ, zero, suc, _+_, _*_, _/_, _%_, _<_}
+use mathlib.Core.Path.{_≡_, refl, sym, _∙_}
+use mathlib.Core.Bool.{Bool, true, false}
+use mathlib.Core.List.{List}
+use native.Mathlib.Nat.{mul-comm, mul-zero, div-add-mod', mod-lt, div-lt-iff-lt-mul}
+use native.Mathlib.Omega.{arith}
+use lib.ListN.{length}
+use Rattle.lists.specs.Lists.{putAt}
+use Rattle.refusals.specs.Refusals.{refuses, ruling}
+use Rattle.vault.specs.declared.ColumnsAnswer.the-variants.{Refused, Written}
+use Rattle.vault.specs.Columns.{columnsRefusal, columnsSays, Rearranged}
+use Rattle.vault.specs.inner.Filling.{Shaped, Filled, ordered, placed}
+use Rattle.vault.specs.Laws.Inverse.{multiple, toColumns-length, fromColumns-length}
+use Rattle.vault.specs.Laws.Refusals.{Accepted, accepted}
+use Rattle.vault.proofs.Filling.{filled-all}
+
+-- a place among n lists of m cells: which list, and where in it
+located : (n m at : ℕ) → at < n * m → (at / m < n) × (at % m < m) × (at ≡ at / m * m + at % m)
+located n zero at h = absurd (omega (arith, mul-zero n))
+located n (suc m) at h =
+    let k : 0 < suc m = omega arith in (div-lt-iff-lt-mul {k = suc m} {x = at} {y = n} k .1 h, mod-lt at k, sym (div-add-mod' at (suc m)))
+
+module _ (order : ℕ → List ℕ → List ℕ) (width : ℕ) (cells output : List ℕ) where
+  pub rearranged-refused : (number : ℕ) → number ≡ columnsRefusal width (length cells) (length output) → (number ≡ 0 → ⊥)
+      → Rearranged order width cells output (Refused number) output
+  unfolding columnsSays
+  rearranged-refused number e some =
+      record {
+        answers = ruled number e some;
+        written = λ none. absurd (some (e ∙ none));
+        unchanged = λ h. refl;
+      }
+    where
+      ruled : (m : ℕ) {n : ℕ} → m ≡ n → (m ≡ 0 → ⊥) → refuses m ≡ ruling n
+      ruled zero e none = absurd (none refl)
+      ruled (suc m) e none = rw (sym e) (unfold ruling in refl)
+
+  -- accepted, and all places written
+  rearranged-written : (output′ : List ℕ) → columnsRefusal width (length cells) (length output) ≡ 0 → output′ ≡ putAt output 0 (order width cells)
+      → Rearranged order width cells output Written output′
+  unfolding columnsSays
+  rearranged-written output′ none e =
+      record {
+        answers = rw none (unfold ruling in refl);
+        written = λ h. e;
+        unchanged = λ h. absurd (omega arith);
+      }
+
+module _ (width : ℕ) (cells output : List ℕ) (none : columnsRefusal width (length cells) (length output) ≡ 0) where
+  a : Accepted width (length cells) (length output)
+  a = accepted width (length cells) (length output) none
+
+  whole : length cells ≡ length cells / width * width
+  whole = multiple width (length cells) (a .multiple)
+
+  pub shaped : Shaped width (length cells / width) cells output
+  shaped = record { some = a .narrow; whole = whole; room = a .room }
+
+  -- each direction has as many cells, and each place is that of a row and column
+  long : (back : Bool) → length (ordered back width cells) ≡ length cells
+  long true = fromColumns-length width cells (a .narrow) (a .multiple)
+  long false = toColumns-length width cells (a .narrow) (a .multiple)
+
+  where-is : (back : Bool) (at : ℕ) → at < length (ordered back width cells)
+      → (row : ℕ) × (column : ℕ) × (row < length cells / width) × (column < width) × (at ≡ placed back width (length cells / width) row column)
+  where-is true at h =
+      let w = located (length cells / width) width at (omega (arith, whole, long true)) in (at / width, at % width, w .0, w .1, w .2)
+  where-is false at h =
+      let n = length cells / width in
+      let w = located width n at (omega (arith, whole, long false, mul-comm n width)) in (at % n, at / n, w .1, w .0, w .2)
+
+  pub all-written : (back : Bool) (output′ : List ℕ) → Filled (ordered back width cells) (placed back width (length cells / width)) 0 (length cells / width) 0 width output output′
+      → Rearranged (ordered back) width cells output Written output′
+  all-written back output′ x =
+      rearranged-written (ordered back) width cells output output′ none
+      (filled-all (length cells / width) width output output′ (omega (arith, a .room, long back)) (where-is back) x)

@@ -1,0 +1,73 @@
+-- Column order for the vault (document 02, change 5): a list of rows, column after column, each cell but a column's first
+-- replaced by its difference from the cell above; and the way back. Over lists of cells, for every width at once. Assumes
+-- nothing.
+use Prim.Native.Nat.{ℕ, _+_, _-_, _/_, _%_, _^_, _<_}
+use mathlib.Core.Path.{_≡_}
+use mathlib.Core.Bool.{not, _||_}
+use mathlib.Core.List.{List, [], _∷_, map}
+use lib.ListN.{length, getD}
+use lib.Dec.{ltb, eqb}
+use Rattle.lists.specs.Lists.{putAt, rowsOf, flat, countFrom}
+use Rattle.refusals.specs.Refusals.{rung, first, Verdict, refuses, accepts, ruling}
+use Rattle.vault.specs.declared.ColumnsAnswer.{ColumnsAnswer}
+use Rattle.vault.specs.declared.ColumnsAnswer.the-variants.{Refused, Written}
+
+-- "its difference from the cell above, modulo 2^32"
+unfoldable pub minus : ℕ → ℕ → ℕ
+minus cell above = (cell + (2 ^ 32 - above)) % 2 ^ 32
+
+-- the cells below one, each replaced by its difference from the cell above
+unfoldable pub differencesBelow : ℕ → List ℕ → List ℕ
+differencesBelow above [] = []
+differencesBelow above (cell ∷ cells) = minus cell above ∷ differencesBelow cell cells
+
+-- "each cell but a column's first replaced"
+unfoldable pub differences : List ℕ → List ℕ
+differences [] = []
+differences (cell ∷ cells) = cell ∷ differencesBelow cell cells
+
+-- the way back: each difference replaced by its sum with the cell above, modulo 2^32
+unfoldable pub plus : ℕ → ℕ → ℕ
+plus difference above = (difference + above) % 2 ^ 32
+
+unfoldable pub sumsBelow : ℕ → List ℕ → List ℕ
+sumsBelow above [] = []
+sumsBelow above (d ∷ ds) = plus d above ∷ sumsBelow (plus d above) ds
+
+unfoldable pub sums : List ℕ → List ℕ
+sums [] = []
+sums (cell ∷ ds) = cell ∷ sumsBelow cell ds
+
+-- the cells of column j
+unfoldable pub column : ℕ → List (List ℕ) → List ℕ
+column j rows = map (λ row. getD row j 0) rows
+
+-- the first n columns of rows; of columns, the rows
+unfoldable pub transposed : ℕ → List (List ℕ) → List (List ℕ)
+transposed n rows = map (λ j. column j rows) (countFrom 0 n)
+
+-- "a rearrangement of a list of rows: all cells of the first column, then the second, and so on"
+unfoldable pub toColumns : ℕ → List ℕ → List ℕ
+toColumns width cells = flat (map differences (transposed width (rowsOf width (length cells / width) cells)))
+
+-- "the inverse"
+unfoldable pub fromColumns : ℕ → List ℕ → List ℕ
+fromColumns width cells = flat (transposed (length cells / width) (map sums (rowsOf (length cells / width) width cells)))
+
+-- "1, a width outside 1 to 8, then 13, a length that is not a multiple of the width, then 2, an output shorter than the
+-- input"
+unfoldable pub columnsRefusal : ℕ → ℕ → ℕ → ℕ
+columnsRefusal width cells output =
+    first (rung (ltb width 1 || ltb 8 width) 1 ∷ rung (not (eqb (cells % width) 0)) 13 ∷ rung (ltb output cells) 2 ∷ [])
+
+-- what an answer says
+unfoldable pub columnsSays : ColumnsAnswer → Verdict
+columnsSays (Refused n) = refuses n
+columnsSays Written = accepts
+
+-- What either direction promises: the cells in the other order at the start of the output, and nothing changed past them; on
+-- refusal nothing changed at all.
+pub record Rearranged (order : ℕ → List ℕ → List ℕ) (width : ℕ) (cells output : List ℕ) (answer : ColumnsAnswer) (output′ : List ℕ) : Type 0 where
+  pub answers : columnsSays answer ≡ ruling (columnsRefusal width (length cells) (length output))
+  pub written : columnsRefusal width (length cells) (length output) ≡ 0 → output′ ≡ putAt output 0 (order width cells)
+  pub unchanged : 0 < columnsRefusal width (length cells) (length output) → output′ ≡ output

@@ -1,0 +1,110 @@
+-- One column: differences and sums undo each other; what stands at each place. Assumes nothing.
+use Prim.Native.Nat.{ℕ, zero, suc, _^_, _<_}
+use mathlib.Core.Path.{_≡_, refl, ap, ap₂}
+use mathlib.Core.List.{List, [], _∷_}
+use native.Mathlib.Omega.{arith}
+use lib.ListN.{length, getD}
+use Rattle.vault.specs.Columns.{minus, differencesBelow, differences, plus, sumsBelow, sums}
+
+-- each cell is a u32
+abbrev pub Cells : List ℕ → Type 0
+Cells cells = (i : ℕ) → getD cells i 0 < 2 ^ 32
+
+plus-minus : (cell above : ℕ) → cell < 2 ^ 32 → above < 2 ^ 32 → plus (minus cell above) above ≡ cell
+unfolding plus minus
+plus-minus cell above h k = omega arith
+
+minus-plus : (d above : ℕ) → d < 2 ^ 32 → above < 2 ^ 32 → minus (plus d above) above ≡ d
+unfolding plus minus
+minus-plus d above h k = omega arith
+
+plus-below : (d above : ℕ) → plus d above < 2 ^ 32
+unfolding plus
+plus-below d above = omega arith
+
+-- ---- either after the other
+
+sumsBelow-differencesBelow : (above : ℕ) (cells : List ℕ) → above < 2 ^ 32 → Cells cells → sumsBelow above (differencesBelow above cells) ≡ cells
+unfolding sumsBelow differencesBelow
+sumsBelow-differencesBelow above [] h f = refl
+sumsBelow-differencesBelow above (cell ∷ cells) h f =
+    rw (plus-minus cell above (f 0) h) (ap (λ (r : List ℕ). cell ∷ r) (sumsBelow-differencesBelow cell cells (f 0) (λ i. f (suc i))))
+
+differencesBelow-sumsBelow : (above : ℕ) (ds : List ℕ) → above < 2 ^ 32 → Cells ds → differencesBelow above (sumsBelow above ds) ≡ ds
+unfolding sumsBelow differencesBelow
+differencesBelow-sumsBelow above [] h f = refl
+differencesBelow-sumsBelow above (d ∷ ds) h f =
+    ap₂ (λ (x : ℕ) (r : List ℕ). x ∷ r) (minus-plus d above (f 0) h) (differencesBelow-sumsBelow (plus d above) ds (plus-below d above) (λ i. f (suc i)))
+
+pub sums-differences : (cells : List ℕ) → Cells cells → sums (differences cells) ≡ cells
+unfolding sums differences
+sums-differences [] f = refl
+sums-differences (cell ∷ cells) f = ap (λ (r : List ℕ). cell ∷ r) (sumsBelow-differencesBelow cell cells (f 0) (λ i. f (suc i)))
+
+pub differences-sums : (ds : List ℕ) → Cells ds → differences (sums ds) ≡ ds
+unfolding sums differences
+differences-sums [] f = refl
+differences-sums (d ∷ ds) f = ap (λ (r : List ℕ). d ∷ r) (differencesBelow-sumsBelow d ds (f 0) (λ i. f (suc i)))
+
+-- ---- lengths
+
+length-differencesBelow : (above : ℕ) (cells : List ℕ) → length (differencesBelow above cells) ≡ length cells
+unfolding differencesBelow
+length-differencesBelow above [] = refl
+length-differencesBelow above (cell ∷ cells) = ap suc (length-differencesBelow cell cells)
+
+pub length-differences : (cells : List ℕ) → length (differences cells) ≡ length cells
+unfolding differences
+length-differences [] = refl
+length-differences (cell ∷ cells) = ap suc (length-differencesBelow cell cells)
+
+length-sumsBelow : (above : ℕ) (ds : List ℕ) → length (sumsBelow above ds) ≡ length ds
+unfolding sumsBelow
+length-sumsBelow above [] = refl
+length-sumsBelow above (d ∷ ds) = ap suc (length-sumsBelow (plus d above) ds)
+
+pub length-sums : (ds : List ℕ) → length (sums ds) ≡ length ds
+unfolding sums
+length-sums [] = refl
+length-sums (d ∷ ds) = ap suc (length-sumsBelow d ds)
+
+-- ---- place by place
+
+-- the cell above one; nothing stands above the first, and its difference from 0 is itself
+unfoldable pub above : List ℕ → ℕ → ℕ
+above cells zero = 0
+above cells (suc i) = getD cells i 0
+
+differencesBelow-at : (a : ℕ) (cells : List ℕ) (i : ℕ) → i < length cells
+    → getD (differencesBelow a cells) i 0 ≡ minus (getD cells i 0) (above (a ∷ cells) (suc i))
+unfolding differencesBelow above
+differencesBelow-at a [] i h = absurd (omega arith)
+differencesBelow-at a (cell ∷ cells) zero h = refl
+differencesBelow-at a (cell ∷ cells) (suc i) h = differencesBelow-at cell cells i (omega arith)
+
+minus-zero : (cell : ℕ) → cell < 2 ^ 32 → cell ≡ minus cell 0
+unfolding minus
+minus-zero cell h = omega arith
+
+pub differences-at : (cells : List ℕ) → Cells cells → (i : ℕ) → i < length cells → getD (differences cells) i 0 ≡ minus (getD cells i 0) (above cells i)
+unfolding differences above
+differences-at [] f i h = absurd (omega arith)
+differences-at (cell ∷ cells) f zero h = minus-zero cell (f 0)
+differences-at (cell ∷ cells) f (suc i) h = differencesBelow-at cell cells i (omega arith)
+
+sumsBelow-at : (a : ℕ) (ds : List ℕ) (i : ℕ) → i < length ds
+    → getD (sumsBelow a ds) i 0 ≡ plus (getD ds i 0) (above (a ∷ sumsBelow a ds) (suc i))
+unfolding sumsBelow above
+sumsBelow-at a [] i h = absurd (omega arith)
+sumsBelow-at a (d ∷ ds) zero h = refl
+sumsBelow-at a (d ∷ ds) (suc i) h = sumsBelow-at (plus d a) ds i (omega arith)
+
+plus-zero : (d : ℕ) → d < 2 ^ 32 → d ≡ plus d 0
+unfolding plus
+plus-zero d h = omega arith
+
+pub sums-at : (ds : List ℕ) → Cells ds → (i : ℕ) → i < length ds → getD (sums ds) i 0 ≡ plus (getD ds i 0) (above (sums ds) i)
+unfolding sums above
+sums-at [] f i h = absurd (omega arith)
+sums-at (d ∷ ds) f zero h = plus-zero d (f 0)
+sums-at (d ∷ ds) f (suc i) h = sumsBelow-at d ds i (omega arith)
