@@ -3,7 +3,7 @@
  * column, in stores that the caller lends. Link libexports_lists.a, libexports_questions.a and
  * libexports.a; for column order, which needs no table, libexports_vault.a.
  *
- * A table is a header of ten words and four stores. docs/FORMAT.md says what each word means.
+ * A table is a header of twelve words and four stores. docs/FORMAT.md says what each word means.
  *
  *   header    MOULDGREY_HEADER_WORDS words
  *   rows      capacity * columns words
@@ -63,7 +63,7 @@ extern "C" {
 #define MOULDGREY_PENDING_FULL 7
 /* A merge's stop: a row must be appended, and there are as many as the capacity. */
 #define MOULDGREY_TABLE_FULL 8
-/* A merge's stop: a row must be appended, and its sort value is below the last recorded one. */
+/* A merge's stop: a row must be appended, and its sort value is below the largest one appended. */
 #define MOULDGREY_OLD_SORT_VALUE 9
 /* The generation is 4294967295 and cannot rise. */
 #define MOULDGREY_LAST_GENERATION 10
@@ -71,7 +71,7 @@ extern "C" {
 #define MOULDGREY_BROKEN_ROW 13
 
 /* A header's words, by their places. */
-#define MOULDGREY_HEADER_WORDS 10
+#define MOULDGREY_HEADER_WORDS 12
 #define MOULDGREY_COLUMNS 0    /* 1 to 8 */
 #define MOULDGREY_KEYS 1       /* key columns, the first 1 to columns */
 #define MOULDGREY_SORT 2       /* the sort column */
@@ -82,6 +82,10 @@ extern "C" {
 #define MOULDGREY_ENTRIES 7    /* sort entries */
 #define MOULDGREY_PENDING 8    /* pending words in use */
 #define MOULDGREY_GENERATION 9 /* rises with each compaction, and with a clear that drops rows */
+/* The largest sort value appended since opening or the last clear that drops rows: whether there is
+ * one, 0 or 1, and the value, which is 0 and not looked at if there is none. */
+#define MOULDGREY_HAS_LARGEST 10
+#define MOULDGREY_LARGEST 11
 
 /* The first cell of a dead row. */
 #define MOULDGREY_DEAD 4294967295u
@@ -118,7 +122,7 @@ struct mouldgrey_constraint {
 
 /*
  * Calls that change a table. The header is written where the call is accepted; header_len must be
- * 10, else 1.
+ * 12, else 1.
  */
 
 /*
@@ -186,7 +190,7 @@ uint32_t mouldgrey_clear(uint32_t *header, size_t header_len, uint32_t *keys, si
 
 /*
  * Questions. The answer goes into words, whose length must be the number given, else 2; header_len
- * must be 10, else 1. After a refusal words is as it was.
+ * must be 12, else 1. After a refusal words is as it was.
  */
 
 /*

@@ -21,7 +21,7 @@ pub struct Opening {
     pub generation: u32,
 }
 
-/// A header: ten words, in this order, as the C functions read and write them.
+/// A header: twelve words, in this order, as the C functions read and write them.
 #[repr(C)]
 #[derive(Clone, Copy, Debug, Default, PartialEq, Eq)]
 pub struct Header {
@@ -39,10 +39,14 @@ pub struct Header {
     /// Words in use in the pending store.
     pub pending: u32,
     pub generation: u32,
+    /// 1 if there is a largest sort value, else 0: [`largest`](Header::largest) has both words in one.
+    pub has_largest: u32,
+    /// The value; 0 and not looked at if there is none.
+    pub largest_value: u32,
 }
 
 /// How many words a header has.
-pub const HEADER_WORDS: usize = 10;
+pub const HEADER_WORDS: usize = 12;
 
 impl Header {
     pub fn words(&self) -> [u32; HEADER_WORDS] {
@@ -57,6 +61,8 @@ impl Header {
             self.entries,
             self.pending,
             self.generation,
+            self.has_largest,
+            self.largest_value,
         ]
     }
 
@@ -72,6 +78,8 @@ impl Header {
             entries,
             pending,
             generation,
+            has_largest,
+            largest_value,
         ] = words;
         Header {
             columns,
@@ -84,7 +92,15 @@ impl Header {
             entries,
             pending,
             generation,
+            has_largest,
+            largest_value,
         }
+    }
+
+    /// The largest sort value appended since opening or the last clear that emptied rows: no row of a smaller one is
+    /// appended.
+    pub fn largest(&self) -> Option<u32> {
+        (self.has_largest == 1).then_some(self.largest_value)
     }
 
     /// How long the stores of a table with these numbers must be.

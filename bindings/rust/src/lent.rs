@@ -13,7 +13,7 @@ use crate::{
 
 /// The words of a header to write to.
 fn words_of(header: &mut Header) -> *mut u32 {
-    // A header is ten words in a row and nothing else.
+    // A header is twelve words in a row and nothing else.
     (header as *mut Header).cast()
 }
 

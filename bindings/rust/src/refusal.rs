@@ -31,7 +31,7 @@ pub enum Refusal {
 pub enum Stop {
     /// The row must be appended, and the table has as many rows as its capacity.
     TableFull = 8,
-    /// The row must be appended, and its sort value is below the last recorded one.
+    /// The row must be appended, and its sort value is below the largest one appended.
     OldSortValue = 9,
 }
 
@@ -97,7 +97,7 @@ impl fmt::Display for Stop {
     fn fmt(&self, f: &mut fmt::Formatter<'_>) -> fmt::Result {
         let words = match self {
             Stop::TableFull => "the table is full",
-            Stop::OldSortValue => "a sort value below the last recorded one",
+            Stop::OldSortValue => "a sort value below the largest one appended",
         };
         write!(f, "stopped {}: {words}", self.number())
     }

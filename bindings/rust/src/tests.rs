@@ -103,6 +103,25 @@ fn stops() {
 }
 
 #[test]
+fn old_stamps_stay_out() {
+    let mut table = twenty();
+    assert_eq!(table.header().largest(), Some(9));
+    for key in 18..20 {
+        assert_eq!(table.stage_remove(&[key]), Ok(()));
+    }
+    assert!(table.merge().is_ok());
+    assert_eq!(table.compact(), Ok(()));
+    assert_eq!(table.stage_insert(&[30, 0, 8]), Ok(()));
+    let merge = table.merge().expect("no refusal");
+    assert_eq!(merge.stop, Some((Stop::OldSortValue, 0)));
+    assert_eq!(table.clear(), Ok(()));
+    assert_eq!(table.header().largest(), None);
+    assert_eq!(table.stage_insert(&[30, 0, 8]), Ok(()));
+    assert!(table.merge().is_ok_and(|merge| merge.added));
+    assert_eq!(table.header().largest(), Some(8));
+}
+
+#[test]
 fn questions() {
     let table = twenty();
     assert_eq!(table.get_row_column(&[7], 1), Ok(Some(1)));
@@ -323,7 +342,7 @@ fn parts_of_stores() {
     assert_eq!(open(&mut keys[..80]), Ok(()));
     assert!(keys[..80].iter().all(|&word| word == 0));
     assert!(keys[80..].iter().all(|&word| word == 9));
-    assert_eq!(header.words(), [3, 1, 2, 1, 40, 0, 0, 0, 0, 5]);
+    assert_eq!(header.words(), [3, 1, 2, 1, 40, 0, 0, 0, 0, 5, 0, 0]);
 }
 
 #[test]
@@ -342,7 +361,7 @@ fn numbers_and_names() {
         "refused 3: wrong number of cells"
     );
     assert_eq!(Stop::TableFull.to_string(), "stopped 8: the table is full");
-    let words = [1, 2, 3, 4, 5, 6, 7, 8, 9, 10];
+    let words = [1, 2, 3, 4, 5, 6, 7, 8, 9, 10, 11, 12];
     assert_eq!(Header::from_words(words).words(), words);
     let ids: Vec<u32> = Subset::Range(3, 6).ids().collect();
     assert_eq!(ids, [3, 4, 5]);

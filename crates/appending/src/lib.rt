@@ -2,10 +2,11 @@
 // to it. Stops are tested before anything is written.
 ghost use mathlib.Core.Path.{_≡_};
 ghost use Prim.Native.Nat.{_≤_, _+_, _*_, _<_};
-ghost use Rattle.pending.specs.inner.Becoming.{withCounts};
-ghost use Rattle.appending.specs.inner.Appending.{Enterable, AdmissionIs, Growable, NewIs, ReplaceIs};
-use sort_entries::Appended;
+ghost use Rattle.plain.specs.Plain.{below};
+ghost use Rattle.table.specs.Numbers.{largestSays};
+ghost use Rattle.appending.specs.inner.Appending.{Enterable, AdmissionIs, grownTo, Growable, NewIs, ReplaceIs};
 use table::Header;
+use table::Largest;
 use table::keyed;
 
 // What an insert of a merge does: nothing, a row is appended, or the merge stops with a number.
@@ -21,6 +22,17 @@ enum Admission {
     Entries(u32),
 }
 
+// Whether a sort value is below the largest one appended.
+fn is_old(h: Header, value: u32) -> bool
+    ensures { λ r. ⌜ r ≡ below value (largestSays (h .largest)) ⌝ }
+{
+    let largest = h.largest;
+    match largest {
+        Largest::None => false,
+        Largest::Value(last) => value < last,
+    }
+}
+
 // A row of this sort value enters the sort entries, unless it stops the merge: 8 is tested before 9.
 fn admit(h: Header, sorts: &mut [u32], value: u32) -> Admission
     requires { ⌜ Enterable h (now sorts) ⌝ }
@@ -29,23 +41,25 @@ fn admit(h: Header, sorts: &mut [u32], value: u32) -> Admission
     if h.capacity <= h.rows {
         return Admission::Stop(8);
     }
-    match sort_entries::append_entry(sorts, h.entries, value, h.rows) {
-        Appended::Below => Admission::Stop(9),
-        Appended::Same => Admission::Entries(h.entries),
-        Appended::New => Admission::Entries(h.entries + 1),
+    if is_old(h, value) {
+        return Admission::Stop(9);
     }
+    Admission::Entries(sort_entries::append_entry(sorts, h.entries, value, h.rows))
 }
 
-// The header with one row more.
-fn grown(h: Header, died: u32, entries: u32) -> Header
+// The header with one row more, whose sort value is the largest from now on.
+fn grown(h: Header, died: u32, entries: u32, value: u32) -> Header
     requires { ⌜ (h .rows < 65536) × (h .dead + died ≤ 4294967295) ⌝ }
-    ensures { λ r. ⌜ r ≡ withCounts h (h .rows + 1) (h .dead + died) entries ⌝ }
+    ensures { λ r. ⌜ r ≡ grownTo h (h .dead + died) entries value ⌝ }
 {
     let mut n = h;
     n.rows = h.rows + 1;
     n.dead = h.dead + died;
     n.entries = entries;
-    n
+    Header {
+        largest: Largest::Value(value),
+        ..n
+    }
 }
 
 // A new key's row is appended. Where the key store is sound a slot is free.
@@ -60,12 +74,13 @@ pub fn insert_new(
     requires { ⌜ Growable h (now rows) (now keys) (now sorts) (now cells) ⌝ }
     ensures { λ r. ⌜ NewIs h (now (rows .entry)) (now (keys .entry)) (now (sorts .entry)) (now (cells .entry)) hash (now (rows .exit)) (now (keys .exit)) (now (sorts .exit)) r ⌝ }
 {
-    match admit(h, sorts, cells[h.sort as usize]) {
+    let value = cells[h.sort as usize];
+    match admit(h, sorts, value) {
         Admission::Stop(number) => Insertion::Stopped(number),
         Admission::Entries(entries) => {
             row_buffer::write_row(rows, (h.rows * h.columns) as usize, cells);
             key_index::put(keyed(h), keys, hash, h.rows);
-            Insertion::Appended(grown(h, 0, entries))
+            Insertion::Appended(grown(h, 0, entries, value))
         }
     }
 }
@@ -84,13 +99,14 @@ pub fn replace_row(
     requires { ⌜ Growable h (now rows) (now keys) (now sorts) (now cells) × (old < h .rows) × (slot < 2 * h .capacity) ⌝ }
     ensures { λ r. ⌜ ReplaceIs h (now (rows .entry)) (now (keys .entry)) (now (sorts .entry)) (now (cells .entry)) hash old slot (now (rows .exit)) (now (keys .exit)) (now (sorts .exit)) r ⌝ }
 {
-    match admit(h, sorts, cells[h.sort as usize]) {
+    let value = cells[h.sort as usize];
+    match admit(h, sorts, value) {
         Admission::Stop(number) => Insertion::Stopped(number),
         Admission::Entries(entries) => {
             row_buffer::set_stale(rows, (old * h.columns) as usize);
             row_buffer::write_row(rows, (h.rows * h.columns) as usize, cells);
             key_index::replace(keys, slot, hash, h.rows);
-            Insertion::Appended(grown(h, 1, entries))
+            Insertion::Appended(grown(h, 1, entries, value))
         }
     }
 }

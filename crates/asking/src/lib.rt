@@ -10,6 +10,7 @@ use queries::MatchAnswer;
 use queries::NextPlace;
 use queries::PageAnswer;
 use table::Header;
+use table::Largest;
 use words::bit_of;
 use words::header_of;
 use words::write_subset;
@@ -20,7 +21,7 @@ use words::write_three;
 pub fn header_asked(header: &[u32], words: usize, needed: usize) -> Header
     ensures { λ r. ⌜ HeaderAsked (now (header .entry)) words needed r ⌝ }
 {
-    if header.len() == 10 {
+    if header.len() == 12 {
         if words == needed {
             return header_of(header);
         }
@@ -36,6 +37,7 @@ pub fn header_asked(header: &[u32], words: usize, needed: usize) -> Header
         entries: 0,
         pending: 0,
         generation: 0,
+        largest: Largest::None,
     }
 }
 
@@ -43,7 +45,7 @@ pub fn header_asked(header: &[u32], words: usize, needed: usize) -> Header
 pub fn tell_subset(headed: usize, answer: SubsetAnswer, words: &mut [u32]) -> u32
     ensures { λ r. ⌜ Tells subsetNumber subsetWords 3 headed answer (now (words .entry)) r (now (words .exit)) ⌝ }
 {
-    if headed != 10 {
+    if headed != 12 {
         return 1;
     }
     if words.len() != 3 {
@@ -68,7 +70,7 @@ fn write_match(answer: MatchAnswer, words: &mut [u32]) -> u32
 pub fn tell_match(headed: usize, answer: MatchAnswer, words: &mut [u32]) -> u32
     ensures { λ r. ⌜ Tells matchNumber matchWords 1 headed answer (now (words .entry)) r (now (words .exit)) ⌝ }
 {
-    if headed != 10 {
+    if headed != 12 {
         return 1;
     }
     if words.len() != 1 {
@@ -102,7 +104,7 @@ fn write_page(answer: PageAnswer, words: &mut [u32]) -> u32
 pub fn tell_page(headed: usize, answer: PageAnswer, words: &mut [u32]) -> u32
     ensures { λ r. ⌜ Tells pageNumber pageWords 3 headed answer (now (words .entry)) r (now (words .exit)) ⌝ }
 {
-    if headed != 10 {
+    if headed != 12 {
         return 1;
     }
     if words.len() != 3 {

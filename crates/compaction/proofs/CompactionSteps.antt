@@ -17,7 +17,7 @@ use Rattle.lists.specs.Laws.Rows.{row-in}
 use Rattle.cells.specs.Cells.{isDead}
 use Rattle.constraints.specs.Constraints.{isLive}
 use Rattle.sort_entries.specs.Entries.{Entry, words, push, pushAll, rebuilt}
-use Rattle.sort_entries.specs.inner.Append.{Rebuild}
+use Rattle.sort_entries.specs.inner.Append.{Append}
 use Rattle.sort_entries.specs.Laws.Push.{push-few}
 use Rattle.row_buffer.specs.Ranks.{liveAt, newNumber}
 use Rattle.key_index.specs.declared.Keyed.{Keyed}
@@ -83,7 +83,7 @@ module _ {h : Header} {rows sorts live : List ℕ} {row : ℕ} {kept : Kept} (k 
 
   pub row-kept : (mark r : ℕ) (rows′ sorts′ : List ℕ) → mark ≡ getD live (row / 64) 0 + 2 ^ (row % 64)
       → rows′ ≡ putAt rows (kept .rows * h .columns) (take (h .columns) (drop (row * h .columns) rows))
-      → Rebuild sorts (kept .entries) (getD rows′ (kept .rows * h .columns + h .sort) 0) (kept .rows) r sorts′
+      → Append sorts (kept .entries) (getD rows′ (kept .rows * h .columns + h .sort) 0) (kept .rows) r sorts′
       → RowKept h rows sorts live row kept r rows′ sorts′ (set live (row / 64) mark)
   unfolding rowAt
   row-kept mark r rows′ sorts′ e m b =

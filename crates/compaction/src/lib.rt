@@ -49,7 +49,7 @@ fn keep_row(
     let width = h.columns as usize;
     row_buffer::move_down(rows, to, from, width);
     let cell = to + h.sort as usize;
-    sort_entries::rebuild_entry(sorts, kept.entries, rows[cell], kept.rows)
+    sort_entries::append_entry(sorts, kept.entries, rows[cell], kept.rows)
 }
 
 // The live rows close up in order.

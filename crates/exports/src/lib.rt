@@ -24,7 +24,7 @@ pub extern "C" fn mouldgrey_open_table(
 ) -> u32
     ensures { λ r. ⌜ Called (λ answer. Opened (opening columns «key_columns» sort rule capacity) generation (body (now (rows .entry)) (now (keys .entry)) (now (sorts .entry))) (now (pending .entry)) answer (now (keys .exit))) (now (keys .exit) ≡ now (keys .entry)) (now (header .entry)) r (now (header .exit)) ⌝ }
 {
-    if header.len() != 10 {
+    if header.len() != 12 {
         return 1;
     }
     let answer = opening::open_table(
@@ -50,7 +50,7 @@ pub extern "C" fn mouldgrey_stage_insert(
 ) -> u32
     ensures { λ r. ⌜ Called (λ answer. Staging (headerIn (now (header .entry))) (now (pending .entry)) (insert (now (cells .entry))) answer (now (pending .exit))) (now (pending .exit) ≡ now (pending .entry)) (now (header .entry)) r (now (header .exit)) ⌝ }
 {
-    if header.len() != 10 {
+    if header.len() != 12 {
         return 1;
     }
     let answer = staging::stage_insert(header_of(header), pending, cells);
@@ -65,7 +65,7 @@ pub extern "C" fn mouldgrey_stage_remove(
 ) -> u32
     ensures { λ r. ⌜ Called (λ answer. Staging (headerIn (now (header .entry))) (now (pending .entry)) (removeKey (now (key .entry))) answer (now (pending .exit))) (now (pending .exit) ≡ now (pending .entry)) (now (header .entry)) r (now (header .exit)) ⌝ }
 {
-    if header.len() != 10 {
+    if header.len() != 12 {
         return 1;
     }
     let answer = staging::stage_remove(header_of(header), pending, key);
@@ -81,7 +81,7 @@ pub extern "C" fn mouldgrey_stage_remove_row(
 ) -> u32
     ensures { λ r. ⌜ Called (λ answer. Staging (headerIn (now (header .entry))) (now (pending .entry)) (removeRow row (now (key .entry))) answer (now (pending .exit))) (now (pending .exit) ≡ now (pending .entry)) (now (header .entry)) r (now (header .exit)) ⌝ }
 {
-    if header.len() != 10 {
+    if header.len() != 12 {
         return 1;
     }
     let answer = staging::stage_remove_row(header_of(header), pending, row, key);
@@ -102,7 +102,7 @@ pub extern "C" fn mouldgrey_merge(
 ) -> u32
     ensures { λ r. ⌜ MergeCalled (λ answer. Merging (stores (headerIn (now (header .entry))) (now (rows .entry)) (now (keys .entry)) (now (sorts .entry)) (now (pending .entry))) (compactionWords (now (live .entry)) (now (base .entry))) answer (body (now (rows .exit)) (now (keys .exit)) (now (sorts .exit))) (compactionWords (now (live .exit)) (now (base .exit)))) ((now (rows .exit) ≡ now (rows .entry)) × (now (keys .exit) ≡ now (keys .entry)) × (now (sorts .exit) ≡ now (sorts .entry)) × (now (live .exit) ≡ now (live .entry)) × (now (base .exit) ≡ now (base .entry))) (now (header .entry)) (now (words .entry)) r (now (header .exit)) (now (words .exit)) ⌝ }
 {
-    if header.len() != 10 {
+    if header.len() != 12 {
         return 1;
     }
     if words.len() != 3 {
@@ -123,7 +123,7 @@ pub extern "C" fn mouldgrey_compact(
 ) -> u32
     ensures { λ r. ⌜ Called (λ answer. Compacting (headerIn (now (header .entry))) (body (now (rows .entry)) (now (keys .entry)) (now (sorts .entry))) (compactionWords (now (live .entry)) (now (base .entry))) answer (body (now (rows .exit)) (now (keys .exit)) (now (sorts .exit))) (compactionWords (now (live .exit)) (now (base .exit)))) ((now (rows .exit) ≡ now (rows .entry)) × (now (keys .exit) ≡ now (keys .entry)) × (now (sorts .exit) ≡ now (sorts .entry)) × (now (live .exit) ≡ now (live .entry)) × (now (base .exit) ≡ now (base .entry))) (now (header .entry)) r (now (header .exit)) ⌝ }
 {
-    if header.len() != 10 {
+    if header.len() != 12 {
         return 1;
     }
     let answer = compaction::compact(header_of(header), rows, keys, sorts, live, base);
@@ -134,7 +134,7 @@ pub extern "C" fn mouldgrey_compact(
 pub extern "C" fn mouldgrey_clear(header: &mut [u32], keys: &mut [u32]) -> u32
     ensures { λ r. ⌜ Called (λ answer. Clearing (headerIn (now (header .entry))) (now (keys .entry)) answer (now (keys .exit))) (now (keys .exit) ≡ now (keys .entry)) (now (header .entry)) r (now (header .exit)) ⌝ }
 {
-    if header.len() != 10 {
+    if header.len() != 12 {
         return 1;
     }
     let answer = opening::clear(header_of(header), keys);
@@ -153,7 +153,7 @@ pub extern "C" fn mouldgrey_is_sound(
 ) -> u32
     ensures { λ r. ⌜ Asked (λ answer. Checked (headerIn (now (header .entry))) (now (rows .entry)) (now (keys .entry)) (now (sorts .entry)) (now (pending .entry)) answer) soundNumber soundWords 1 (now (header .entry)) (now (words .entry)) r (now (words .exit)) ⌝ }
 {
-    if header.len() != 10 {
+    if header.len() != 12 {
         return 1;
     }
     if words.len() != 1 {

@@ -25,7 +25,7 @@ pub extern "C" fn mouldgrey_get_row(
 ) -> u32
     ensures { λ r. ⌜ Asked (λ answer. LookedUp (headerIn (now (header .entry))) (now (rows .entry)) (now (keys .entry)) (now (key .entry)) answer) rowNumber rowWords 2 (now (header .entry)) (now (words .entry)) r (now (words .exit)) ⌝ }
 {
-    if header.len() != 10 {
+    if header.len() != 12 {
         return 1;
     }
     if words.len() != 2 {
@@ -46,7 +46,7 @@ pub extern "C" fn mouldgrey_get_row_column(
 ) -> u32
     ensures { λ r. ⌜ Asked (λ answer. CellRead (headerIn (now (header .entry))) (now (rows .entry)) (now (keys .entry)) (now (key .entry)) column answer) cellNumber cellWords 2 (now (header .entry)) (now (words .entry)) r (now (words .exit)) ⌝ }
 {
-    if header.len() != 10 {
+    if header.len() != 12 {
         return 1;
     }
     if words.len() != 2 {
@@ -67,7 +67,7 @@ pub extern "C" fn mouldgrey_fast_subset(
 ) -> u32
     ensures { λ r. ⌜ Asked (λ answer. RangeRead (headerIn (now (header .entry))) (now (sorts .entry)) (record { kind = kind; column = column; value = value }) answer) rangeNumber rangeWords 3 (now (header .entry)) (now (words .entry)) r (now (words .exit)) ⌝ }
 {
-    if header.len() != 10 {
+    if header.len() != 12 {
         return 1;
     }
     if words.len() != 3 {
@@ -86,7 +86,7 @@ pub extern "C" fn mouldgrey_fast_subset(
 pub extern "C" fn mouldgrey_updates_since(header: &[u32], row: u32, words: &mut [u32]) -> u32
     ensures { λ r. ⌜ Asked (λ answer. RowsSince (headerIn (now (header .entry))) row answer) rangeNumber rangeWords 3 (now (header .entry)) (now (words .entry)) r (now (words .exit)) ⌝ }
 {
-    if header.len() != 10 {
+    if header.len() != 12 {
         return 1;
     }
     if words.len() != 3 {
@@ -101,7 +101,7 @@ pub extern "C" fn mouldgrey_updates_since(header: &[u32], row: u32, words: &mut 
 pub extern "C" fn mouldgrey_version(header: &[u32], words: &mut [u32]) -> u32
     ensures { λ r. ⌜ Asked (λ answer. VersionRead (headerIn (now (header .entry))) answer) versionNumber versionWords 2 (now (header .entry)) (now (words .entry)) r (now (words .exit)) ⌝ }
 {
-    if header.len() != 10 {
+    if header.len() != 12 {
         return 1;
     }
     if words.len() != 2 {
@@ -112,7 +112,7 @@ pub extern "C" fn mouldgrey_version(header: &[u32], words: &mut [u32]) -> u32
 }
 
 // The answer goes into three words, as that of `mouldgrey_intersect`. Nothing is written to the output where the header is not
-// ten words or the answer's words not three.
+// twelve words or the answer's words not three.
 #[no_mangle]
 pub extern "C" fn mouldgrey_refine_one(
     header: &[u32],
@@ -127,9 +127,9 @@ pub extern "C" fn mouldgrey_refine_one(
     output: &mut [u32],
     words: &mut [u32],
 ) -> u32
-    ensures { λ r. ⌜ Asked (λ answer. RefinedOne (headerIn (now (header .entry))) (now (rows .entry)) (subsetOf (record { dense = dense; start = start; end = end }) (now (ids .entry))) (record { kind = kind; column = column; value = value }) (now (output .entry)) answer (now (output .exit))) subsetNumber subsetWords 3 (now (header .entry)) (now (words .entry)) r (now (words .exit)) × (((length (now (header .entry)) ≡ 10) × (length (now (words .entry)) ≡ 3) → ⊥) → now (output .exit) ≡ now (output .entry)) ⌝ }
+    ensures { λ r. ⌜ Asked (λ answer. RefinedOne (headerIn (now (header .entry))) (now (rows .entry)) (subsetOf (record { dense = dense; start = start; end = end }) (now (ids .entry))) (record { kind = kind; column = column; value = value }) (now (output .entry)) answer (now (output .exit))) subsetNumber subsetWords 3 (now (header .entry)) (now (words .entry)) r (now (words .exit)) × (((length (now (header .entry)) ≡ 12) × (length (now (words .entry)) ≡ 3) → ⊥) → now (output .exit) ≡ now (output .entry)) ⌝ }
 {
-    if header.len() != 10 {
+    if header.len() != 12 {
         return 1;
     }
     if words.len() != 3 {

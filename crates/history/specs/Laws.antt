@@ -6,3 +6,4 @@ pub mod Questions
 pub mod Theorem
 pub mod Batches
 pub mod Lent
+pub mod Stamps

@@ -2,4 +2,5 @@ pub mod Histories
 pub mod Runs
 pub mod Claim
 pub mod Batches
+pub mod Stamps
 pub mod Laws

@@ -15,6 +15,7 @@ use levels_lines::refuse;
 use levels_text::MOST_NUMBERS;
 use levels_text::Parsed;
 use table::Header;
+use table::Largest;
 
 // The bytes of a line that are kept: one more than a line may have, so that a longer one is seen to be.
 const KEPT: usize = 121;
@@ -32,6 +33,7 @@ fn no_table() -> Header {
         entries: 0,
         pending: 0,
         generation: 0,
+        largest: Largest::None,
     }
 }
 

@@ -104,7 +104,7 @@ module _ (h : Header) (rows keys sorts pending : List ℕ) (ready : Ready h rows
         let k : h₂ .capacity ≡ h .capacity = ap (λ (x : Header). x .capacity) without in
         record {
           past = (rw k at (i .past)) ∙ (rw n at (by-row .past)) ∙ by-key .past;
-          counts = i .header .counts ∙ ap (λ (x : Header). withCounts x (m .header .rows) (m .header .dead) (m .header .entries)) without;
+          counts = i .header .counts ∙ ap (λ (x : Header). withCounts x (m .header .rows) (m .header .dead) (m .header .entries) (m .header .largest)) without;
           rows-fit = omega (arith, i .header .rows-fit);
           table = λ p r.
               let a = by-key .table sorts p r in

@@ -1,6 +1,7 @@
 // Open and clear.
 ghost use Rattle.table.specs.Promises.{body, Opened, Clearing, opening};
 use table::Header;
+use table::Largest;
 use table::Lent;
 use table::TableAnswer;
 use table::refusing::clear_refusal;
@@ -33,6 +34,7 @@ pub fn open_table(
         entries: 0,
         pending: 0,
         generation: generation,
+        largest: Largest::None,
     };
     let l = Lent {
         rows: rows.len(),
@@ -68,5 +70,8 @@ pub fn clear(h: Header, keys: &mut [u32]) -> TableAnswer
     n.dead = 0;
     n.entries = 0;
     n.generation = h.generation + 1;
-    TableAnswer::Table(n)
+    TableAnswer::Table(Header {
+        largest: Largest::None,
+        ..n
+    })
 }

@@ -7,3 +7,4 @@ pub mod Proper
 pub mod Live
 pub mod Batches
 pub mod Turns
+pub mod Stamps

@@ -4,3 +4,4 @@ pub mod Plain
 pub mod Calls
 pub mod Proper
 pub mod Laws
+pub mod Appending

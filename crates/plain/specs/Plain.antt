@@ -1,6 +1,6 @@
 -- The plain table (document 01, "Plain table"): what a table is, with no header, no store and no key index. Assumes
 -- nothing.
-use Prim.Native.Nat.{ℕ, zero, suc, _+_}
+use Prim.Native.Nat.{ℕ, zero, suc, _+_, max}
 use mathlib.Core.Bool.{Bool, true, false, cond, not, _&&_}
 use mathlib.Core.List.{List, [], _∷_, _++_, map}
 use mathlib.Core.Option.{Option, none, some}
@@ -22,17 +22,19 @@ liveRow cells = record { live = true; cells = cells }
 abbrev pub deadRow : Row → Row
 deadRow row = record { live = false; cells = row .cells }
 
--- "an opening's numbers, a generation, rows live or dead, numbered from 0, staged records in order"
+-- "an opening's numbers, a generation, rows live or dead, numbered from 0, staged records in order", and (change 7) "the
+-- largest sort value appended since opening or the last clear that emptied rows, and whether there is one"
 pub record Plain : Type 0 where
   pub opening : Opening
   pub generation : ℕ
   pub rows : List Row
   pub staged : List Staged
+  pub largest : Option ℕ
 
--- the same opening, with other parts
+-- the same opening and largest value, with other parts
 abbrev pub with : Plain → ℕ → List Row → List Staged → Plain
 with p generation rows staged =
-    record { opening = p .opening; generation = generation; rows = rows; staged = staged }
+    record { opening = p .opening; generation = generation; rows = rows; staged = staged; largest = p .largest }
 
 abbrev pub withRows : Plain → List Row → Plain
 withRows p rows = with p (p .generation) rows (p .staged)
@@ -59,7 +61,7 @@ dead p = count (λ row. not (row .live)) (p .rows)
 
 -- Open: "Empties the table"
 unfoldable pub opened : Opening → ℕ → Plain
-opened o generation = record { opening = o; generation = generation; rows = []; staged = [] }
+opened o generation = record { opening = o; generation = generation; rows = []; staged = []; largest = none }
 
 -- Stage insert, removal by key, removal by row
 unfoldable pub stage : Plain → Staged → Plain
@@ -96,23 +98,17 @@ unfoldable pub withoutRows : List RowRemoval → Plain → Plain
 withoutRows [] p = p
 withoutRows (r ∷ rs) p = withoutRows rs (withoutRow r p)
 
--- "the last entry's value is the last row's sort cell"; without a row there is none
-unfoldable pub lastValue : ℕ → List Row → Option ℕ
-lastValue sort [] = none
-lastValue sort (row ∷ []) = some (getD (row .cells) sort 0)
-lastValue sort (row ∷ (next ∷ rows)) = lastValue sort (next ∷ rows)
-
--- "sort value below the last entry's"
+-- "a sort value below that kept value", if there is one
 unfoldable pub below : ℕ → Option ℕ → Bool
 below value none = false
-below value (some last) = ltb value last
+below value (some largest) = ltb value largest
 
--- "8, row count equals capacity, tested before 9, sort value below the last entry's"
+-- "8, row count equals capacity, tested before 9", which (change 7) "is now given for a sort value below that kept value"
 unfoldable pub stop : List ℕ → Plain → ℕ
 stop cells p =
     first
     (rung (leb (p .opening .capacity) (length (p .rows))) 8
-    ∷ rung (below (getD cells (p .opening .sort) 0) (lastValue (p .opening .sort) (p .rows))) 9
+    ∷ rung (below (getD cells (p .opening .sort) 0) (p .largest)) 9
     ∷ [])
 
 -- what an insert does: nothing, a row appended, or a stop with its number
@@ -121,10 +117,26 @@ pub data Insertion : Type 0 where
   appended : Plain → Insertion
   stopped : ℕ → Insertion
 
+-- the largest value, once this one is appended too
+unfoldable pub raised : ℕ → Option ℕ → ℕ
+raised value none = value
+raised value (some largest) = max value largest
+
+-- the table with this row after these
+abbrev pub withRow : Plain → List Row → List ℕ → Plain
+withRow p rows cells =
+    record {
+      opening = p .opening;
+      generation = p .generation;
+      rows = rows ++ (liveRow cells ∷ []);
+      staged = p .staged;
+      largest = some (raised (getD cells (p .opening .sort) 0) (p .largest));
+    }
+
 -- a row that must be appended, and the rows that it is appended to
 unfoldable pub append : List ℕ → Plain → List Row → Insertion
 append cells p rows =
-    cond (eqb (stop cells p) 0) (appended (withRows p (rows ++ (liveRow cells ∷ [])))) (stopped (stop cells p))
+    cond (eqb (stop cells p) 0) (appended (withRow p rows cells)) (stopped (stop cells p))
 
 -- "A new key is appended. A known key goes through the rule; a row so made is appended and the old row dies"
 unfoldable pub put : List ℕ → Option Numbered → Plain → Insertion
@@ -161,10 +173,11 @@ insertAll [] place added p = inserted p 0 0 added
 insertAll (cells ∷ rest) place added p = goOn (insertion cells p) place added p (insertAll rest (suc place))
 
 -- "takes removals by key, then removals by row, then inserts"
+abbrev pub removed : Plain → Plain
+removed p = withoutRows (rowRemovals (p .staged)) (withoutKeys (keyRemovals (p .staged)) p)
+
 unfoldable pub applied : Plain → Inserted
-applied p =
-    insertAll (inserts (p .staged)) 0 false
-    (withoutRows (rowRemovals (p .staged)) (withoutKeys (keyRemovals (p .staged)) p))
+applied p = insertAll (inserts (p .staged)) 0 false (removed p)
 
 -- Compaction: "drops them and the others close up in order", "the generation rises by one"
 unfoldable pub compacted : Plain → Plain
@@ -182,6 +195,7 @@ merged p =
     let m = applied p in
     inserted (cond (eqb (m .status) 0) (compactIfDue (unstaged (m .table))) (unstaged (m .table))) (m .status) (m .place) (m .added)
 
--- Clear: "Unless refused, empties pending; with rows, the rest too, and the generation rises by one"
+-- Clear: "Unless refused, empties pending; with rows, the rest too, and the generation rises by one". With rows nothing is
+-- left but the opening's numbers; without, the largest value stays
 unfoldable pub cleared : Plain → Plain
-cleared p = cond (ltb 0 (length (p .rows))) (with p (p .generation + 1) [] []) (unstaged p)
+cleared p = cond (ltb 0 (length (p .rows))) (opened (p .opening) (p .generation + 1)) (unstaged p)

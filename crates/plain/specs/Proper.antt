@@ -1,10 +1,11 @@
 -- What is true of every plain table that calls lead to from an opening. Assumes nothing.
 use Prim.Native.Nat.{ℕ, _≤_, _<_}
 use mathlib.Core.Path.{_≡_}
-use mathlib.Core.Bool.{Bool, true, not, _||_}
+use mathlib.Core.Bool.{Bool, true, false, not, _||_}
 use mathlib.Core.List.{[]}
+use mathlib.Core.Option.{Option, none, some}
 use lib.ListN.{length, take, getD}
-use lib.Dec.{eqb}
+use lib.Dec.{leb, eqb}
 use Rattle.lists.specs.Lists.{every}
 use Rattle.cells.specs.Cells.{isDead}
 use Rattle.plain.specs.Staged.{openable}
@@ -13,10 +14,15 @@ use Rattle.plain.specs.Plain.{Row, Plain}
 
 -- row i, a dead one of no cells past the end
 abbrev pub rowOf : Plain → ℕ → Row
-rowOf p i = getD (p .rows) i (record { live = Bool.false; cells = [] })
+rowOf p i = getD (p .rows) i (record { live = false; cells = [] })
 
 abbrev pub sortCell : Plain → Row → ℕ
 sortCell p row = getD (row .cells) (p .opening .sort) 0
+
+-- there is a largest value, and this one does not exceed it
+unfoldable pub atMost : ℕ → Option ℕ → Bool
+atMost value none = false
+atMost value (some largest) = leb value largest
 
 pub record Proper (p : Plain) : Type 0 where
   pub numbers : openable (p .opening) ≡ true
@@ -30,4 +36,6 @@ pub record Proper (p : Plain) : Type 0 where
       → take (p .opening .keys) (rowOf p i .cells) ≡ take (p .opening .keys) (rowOf p j .cells) → i ≡ j
   -- sort cells never fall, those of dead rows included
   pub sorted : (i j : ℕ) → i ≤ j → j < length (p .rows) → sortCell p (rowOf p i) ≤ sortCell p (rowOf p j)
+  -- no sort cell exceeds the largest value appended, and there is one wherever there are rows
+  pub largest-kept : every (λ row. atMost (sortCell p row) (p .largest)) (p .rows) ≡ true
   pub staged-whole : every (λ r. not (wrongWidth (p .opening) r)) (p .staged) ≡ true

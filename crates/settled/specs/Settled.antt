@@ -19,6 +19,7 @@ use Rattle.plain.specs.Plain.{Inserted, Row, Plain, Numbered, liveRows, opened,
 use Rattle.plain.specs.Refusing.{Lengths}
 use Rattle.plain.specs.Calls.{staging, merging, Lent, afterAll}
 use Rattle.table.specs.declared.Header.{Header}
+use Rattle.table.specs.declared.Largest.the-variants.{None as NoLargest}
 use Rattle.queries.specs.Queries.{refineOneReply, refineListReply, PageReply, pageReply}
 
 pub data Example : Type 0 where
@@ -108,7 +109,7 @@ areRows n (row ∷ rows) (cells ∷ rest) = eqb (row .number) n && same (row .ce
 -- a table of one column and so many rows
 abbrev pub oneColumn : ℕ → Header
 oneColumn rows =
-    record { columns = 1; keys = 1; sort = 0; rule = 0; capacity = 100; rows = rows; dead = 0; entries = 0; pending = 0; generation = 0 }
+    record { columns = 1; keys = 1; sort = 0; rule = 0; capacity = 100; rows = rows; dead = 0; entries = 0; pending = 0; generation = 0; largest = NoLargest }
 
 -- a row store that begins with these cells, and has room for 100 more
 abbrev pub padded : List ℕ → List ℕ
@@ -145,7 +146,7 @@ abbrev pub cellsAt : Plain → ℕ → List ℕ
 cellsAt p i = getD (p .rows) i (record { live = false; cells = [] }) .cells
 
 abbrev pub tableOf : List Row → Plain
-tableOf rows = record { opening = oneCell; generation = 0; rows = rows; staged = [] }
+tableOf rows = record { opening = oneCell; generation = 0; rows = rows; staged = []; largest = some (length rows) }
 
 abbrev pub mergeAfter : List (List ℕ) → List (List ℕ) → Inserted
 mergeAfter before now =

@@ -7,3 +7,4 @@ pub mod Grow
 pub mod Rebuilt
 pub mod Cells
 pub mod Values
+pub mod Tests

@@ -2,4 +2,3 @@
 pub mod Append
 pub mod Checks
 pub mod Search
-pub mod Admission

@@ -3,50 +3,25 @@ ghost use mathlib.Core.Path.{_≡_};
 ghost use Prim.Native.Nat.{_≤_, _<_};
 ghost use lib.ListN.{drop};
 ghost use Rattle.sort_entries.specs.Entries.{entriesOf, firstRow, rangeAt, entriesSound};
-ghost use Rattle.sort_entries.specs.inner.Append.{Room, Append, Rebuild};
+ghost use Rattle.sort_entries.specs.inner.Append.{Room, Append};
 ghost use Rattle.sort_entries.specs.inner.Search.{Held, Located, Stands, Ranged, standsAt, rangeOf};
 ghost use Rattle.sort_entries.specs.inner.Checks.{Told, Follows, Advanced, headValue, Cells, cellSound, cellsSound};
 
-// What appending a row does to the entries: it is refused, its value is that of the last entry, or it has a new entry.
-pub enum Appended {
-    Below,
-    Same,
-    New,
-}
-
-// A row that is appended: its entry, if its value rises. Nothing is written if the value is below the last entry's.
-pub fn append_entry(sorts: &mut [u32], entries: u32, value: u32, row: u32) -> Appended
+// A row that is appended, or kept by a compaction: its entry, if its value rises. Gives the new number of entries.
+pub fn append_entry(sorts: &mut [u32], entries: u32, value: u32, row: u32) -> u32
     requires { ⌜ Room (now sorts) entries ⌝ }
     ensures { λ r. ⌜ Append (now (sorts .entry)) entries value row r (now (sorts .exit)) ⌝ }
 {
     let at = (2 * entries) as usize;
     if 0 < entries {
         let before = at - 2;
-        let last = sorts[before];
-        if value < last {
-            return Appended::Below;
-        }
-        if value == last {
-            return Appended::Same;
+        if value <= sorts[before] {
+            return entries;
         }
     }
     sorts[at] = value;
     sorts[at + 1] = row;
-    Appended::New
-}
-
-// A row that is kept by a compaction: as above, but a value below the last entry's is no refusal, and has no entry.
-// Gives the new number of entries.
-pub fn rebuild_entry(sorts: &mut [u32], entries: u32, value: u32, row: u32) -> u32
-    requires { ⌜ Room (now sorts) entries ⌝ }
-    ensures { λ r. ⌜ Rebuild (now (sorts .entry)) entries value row r (now (sorts .exit)) ⌝ }
-{
-    let done = append_entry(sorts, entries, value, row);
-    match done {
-        Appended::New => entries + 1,
-        Appended::Below => entries,
-        Appended::Same => entries,
-    }
+    entries + 1
 }
 
 // Where a value stands: an entry has it, whose row is the first and the next entry's the second, or none has, and the

@@ -4,15 +4,16 @@ use Prim.Native.Nat.{ℕ, zero, suc, _+_, _-_, _*_, _≤_, _<_}
 use mathlib.Core.Path.{_≡_, refl, sym, ap, _∙_}
 use mathlib.Core.Bool.{Bool, true, false, not, false≢true}
 use mathlib.Core.List.{List, [], _∷_}
+use mathlib.Core.Option.{Option, none as no-value, some as a-value}
 use native.Mathlib.Nat.{add-zero, mul-le-mul}
 use native.Mathlib.Decide.{ℕ-discrete}
 use native.Mathlib.Omega.{arith}
-use lib.Dec.{eqb}
+use lib.Dec.{leb, eqb}
 use lib.ListN.{length, take, drop, getD, length-drop}
 use lib.Seq.{getD-drop, drop-drop}
-use borrow.Author.Tests.{ne-eqb}
+use borrow.Author.Tests.{ne-eqb, le-leb, leb-true}
 use Rattle.refusals.specs.Refusals.{verdict, ruling, refuses}
-use Rattle.lists.specs.Lists.{count, rowAt, rowsOf}
+use Rattle.lists.specs.Lists.{every, count, rowAt, rowsOf}
 use Rattle.lists.specs.Laws.Keep.{count-append, count-le}
 use Rattle.lists.specs.Laws.Rows.{row-in, length-rowsOf, rowsOf-snoc, getD-rowAt}
 use Rattle.cells.specs.Cells.{isDead, compact, keyHash}
@@ -26,14 +27,19 @@ use Rattle.key_index.specs.inner.Index.{Fits, FoundIs, KeysDiffer}
 use Rattle.sort_entries.specs.Entries.{entriesOf, entriesSound}
 use Rattle.sort_entries.specs.inner.Checks.{Told, told-yes, told-no, cellsSound}
 use Rattle.sort_entries.specs.Laws.Cells.{cells-live, cells-of}
+use Rattle.sort_entries.specs.Laws.Stores.{last-entriesOf, last-none}
+use Rattle.sort_entries.specs.Laws.Sound.{sound-climb}
+use Rattle.sort_entries.specs.Laws.Tests.{last-every}
+use Rattle.plain.specs.Proper.{atMost}
 use Rattle.plain.specs.Staged.{Opening, Staged, insert, removeKey, removeRow, wordsOf}
 use Rattle.table.specs.declared.Header.{Header}
+use Rattle.table.specs.declared.Largest.the-variants.{None as NoLargest, Value}
 use Rattle.table.specs.declared.SoundAnswer.the-variants.{Refused, Sound as IsSound}
-use Rattle.table.specs.Numbers.{openingOf, soundSays}
+use Rattle.table.specs.Numbers.{openingOf, largestSays, soundSays}
 use Rattle.table.specs.Refusing.{soundRefusal}
 use Rattle.table.specs.Sound.{keyedOf}
 use Rattle.table.specs.Promises.{Checked}
-use Rattle.soundness.specs.inner.Checks.{deadRows, RowsSound, IndexSound, OwnIs, kindWords, keyPlace, keyWords, Begins, RecordRead, HoldsFrom, PendingWhole, SoundStores}
+use Rattle.soundness.specs.inner.Checks.{deadRows, lastKept, RowsSound, IndexSound, OwnIs, kindWords, keyPlace, keyWords, Begins, RecordRead, HoldsFrom, PendingWhole, SoundStores}
 use Rattle.soundness.specs.Laws.Checks.{parts-sound, sound-rows, sound-index, sound-whole, own-dead, own-none, own-at, begins-words, begins-hash, words-begin, holds-cons, holds-head, holds-tail, holds-none, holds-some, holds-pending, pending-holds}
 
 -- ---- rows
@@ -76,6 +82,38 @@ row-inside rows w n i few narrow long h =
 pub row-inside-fits : (t : Keyed) (rows keys : List ℕ) (i : ℕ) → Fits t rows keys → i < t .rows → RowInside rows (t .columns) i
 row-inside-fits t rows keys i f h = row-inside rows (t .columns) (t .capacity) i (f .most) (f .most-columns) (f .cells) (omega (arith, f .count))
 
+-- where entries rise, the last one's value decides whether one exceeds the largest
+
+lower-kept : (largest : Option ℕ) (a b : ℕ) → a ≤ b → atMost b largest ≡ true → atMost a largest ≡ true
+unfolding atMost
+lower-kept no-value a b h e = absurd (false≢true e)
+lower-kept (a-value n) a b h e = le-leb a n (omega (arith, leb-true b n e))
+
+kept-last : (h : Header) (sorts : List ℕ) → true ≡ entriesSound (entriesOf (h .entries) sorts) (h .rows)
+    → lastKept h sorts ≡ every (λ e. atMost (e .value) (largestSays (h .largest))) (entriesOf (h .entries) sorts)
+kept-last h sorts e =
+    last-every (λ v. atMost v (largestSays (h .largest))) (lower-kept (largestSays (h .largest))) (entriesOf (h .entries) sorts) (h .rows)
+    (sound-climb (entriesOf (h .entries) sorts) (h .rows) (sym e))
+
+-- the answers of `largest_sound`
+module _ (h : Header) (sorts : List ℕ) where
+  pub largest-empty : h .entries ≡ 0 → true ≡ lastKept h sorts
+  largest-empty e = sym (last-none (λ v. atMost v (largestSays (h .largest))) (h .entries) sorts e)
+
+  last-here : (h .entries ≡ 0 → ⊥) → lastKept h sorts ≡ atMost (getD sorts (2 * h .entries - 2) 0) (largestSays (h .largest))
+  last-here ne =
+      let e : 2 * h .entries - 2 ≡ 2 * (h .entries - 1) = omega arith in
+      rw e (last-entriesOf (λ v. atMost v (largestSays (h .largest))) (h .entries) sorts (omega arith))
+
+  pub largest-missing : (h .entries ≡ 0 → ⊥) → h .largest ≡ NoLargest → false ≡ lastKept h sorts
+  unfolding atMost largestSays
+  largest-missing ne e = sym (last-here ne ∙ rw e)
+
+  pub largest-compared : (h .entries ≡ 0 → ⊥) → (v : ℕ) → h .largest ≡ Value v
+      → leb (getD sorts (2 * h .entries - 2) 0) v ≡ lastKept h sorts
+  unfolding atMost largestSays
+  largest-compared ne v e = sym (last-here ne ∙ rw e)
+
 -- the answers of `rows_sound`
 module _ (h : Header) (rows sorts : List ℕ) where
   pub rows-miscounted : (h .dead ≡ deadRows h rows → ⊥) → Told (RowsSound h rows sorts) false
@@ -84,15 +122,21 @@ module _ (h : Header) (rows sorts : List ℕ) where
   pub rows-unsorted : false ≡ entriesSound (entriesOf (h .entries) sorts) (h .rows) → Told (RowsSound h rows sorts) false
   rows-unsorted e = told-no (λ s. false≢true (e ∙ s .entries-rise))
 
+  pub rows-exceeding : true ≡ entriesSound (entriesOf (h .entries) sorts) (h .rows)
+      → false ≡ lastKept h sorts → Told (RowsSound h rows sorts) false
+  rows-exceeding e f = told-no (λ s. false≢true (f ∙ kept-last h sorts e ∙ s .largest-kept))
+
   pub rows-told : h .dead ≡ deadRows h rows → true ≡ entriesSound (entriesOf (h .entries) sorts) (h .rows)
+      → true ≡ lastKept h sorts
       → (r : Bool) → r ≡ cellsSound rows (h .columns) (h .sort) (h .rows) (entriesOf (h .entries) sorts) → Told (RowsSound h rows sorts) r
-  rows-told d e r f =
+  rows-told d e m r f =
       record {
         yes = λ q.
             record {
               dead-counted = d;
               entries-rise = sym e;
               sorted = λ i l. cells-live rows (h .columns) (h .sort) (h .rows) (entriesOf (h .entries) sorts) (sym f ∙ q) i (l .0) (l .1);
+              largest-kept = sym (m ∙ kept-last h sorts e);
             };
         no = λ q s.
             false≢true (sym q ∙ f ∙ cells-of rows (h .columns) (h .sort) (h .rows) (entriesOf (h .entries) sorts) (λ i k l. s .sorted i (k, l)));

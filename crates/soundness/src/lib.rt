@@ -11,11 +11,12 @@ ghost use Rattle.sort_entries.specs.inner.Checks.{Told, Cells};
 ghost use Rattle.table.specs.Numbers.{openingOf};
 ghost use Rattle.table.specs.Refusing.{soundRefusal};
 ghost use Rattle.table.specs.Promises.{Checked};
-ghost use Rattle.soundness.specs.inner.Checks.{deadRows, RowsSound, IndexSound, OwnIs, PendingIn, kindWords, keyPlace, RecordRead, PendingWhole, SoundStores};
+ghost use Rattle.soundness.specs.inner.Checks.{deadRows, lastKept, RowsSound, IndexSound, OwnIs, PendingIn, kindWords, keyPlace, RecordRead, PendingWhole, SoundStores};
 use key_index::Found;
 use key_index::Keyed;
 use table::Header;
 use table::INSERT;
+use table::Largest;
 use table::Lent;
 use table::REMOVE_KEY;
 use table::REMOVE_ROW;
@@ -40,7 +41,25 @@ fn dead_rows(h: Header, rows: &[u32]) -> u32
     dead
 }
 
-// Whether the dead count is right, and the sort entries and the live sort cells are.
+// Whether the last sort entry's value does not exceed the largest value appended: where entries rise, then no entry's does.
+fn largest_sound(h: Header, sorts: &[u32]) -> bool
+    requires { ⌜ Held (now sorts) (h .entries) ⌝ }
+    ensures { λ r. ⌜ r ≡ lastKept h (now (sorts .entry)) ⌝ }
+{
+    if h.entries == 0 {
+        return true;
+    }
+    let largest = h.largest;
+    match largest {
+        Largest::None => false,
+        Largest::Value(value) => {
+            let at = (2 * h.entries - 2) as usize;
+            sorts[at] <= value
+        }
+    }
+}
+
+// Whether the dead count is right, and the sort entries, the largest value and the live sort cells are.
 fn rows_sound(h: Header, rows: &[u32], sorts: &[u32]) -> bool
     requires { ⌜ Cells (now rows) (h .columns) (h .sort) (h .rows) ⌝ }
     requires { ⌜ Held (now sorts) (h .entries) ⌝ }
@@ -50,6 +69,9 @@ fn rows_sound(h: Header, rows: &[u32], sorts: &[u32]) -> bool
         return false;
     }
     if !sort_entries::entries_sound(sorts, h.entries, h.rows) {
+        return false;
+    }
+    if !largest_sound(h, sorts) {
         return false;
     }
     sort_entries::sort_cells_sound(rows, h.columns, h.sort, h.rows, sorts, h.entries)

@@ -5,6 +5,8 @@ use mathlib.Core.Option.{Option, none, some}
 use Rattle.refusals.specs.Refusals.{Reply, refused, accepted}
 use Rattle.offsets.specs.Subsets.{Subset, range}
 use Rattle.plain.specs.Staged.{Opening}
+use Rattle.table.specs.declared.Largest.{Largest}
+use Rattle.table.specs.declared.Largest.the-variants.{None as NoLargest, Value}
 use Rattle.table.specs.declared.Header.{Header}
 use Rattle.table.specs.declared.TableAnswer.{TableAnswer}
 use Rattle.table.specs.declared.TableAnswer.the-variants.{Refused as TableRefused, Table}
@@ -28,9 +30,18 @@ abbrev pub openingOf : Header → Opening
 openingOf h =
     record { columns = h .columns; keys = h .keys; sort = h .sort; rule = h .rule; capacity = h .capacity }
 
--- a header of an opening's numbers and these counts
-abbrev pub header : Opening → ℕ → ℕ → ℕ → ℕ → ℕ → Header
-header o rows dead entries pending generation =
+-- the largest sort value appended, "and whether there is one", in a header and in a plain table
+unfoldable pub largestSays : Largest → Option ℕ
+largestSays NoLargest = none
+largestSays (Value v) = some v
+
+unfoldable pub largestOf : Option ℕ → Largest
+largestOf none = NoLargest
+largestOf (some v) = Value v
+
+-- a header of an opening's numbers, these counts and this largest value
+abbrev pub header : Opening → ℕ → ℕ → ℕ → ℕ → ℕ → Largest → Header
+header o rows dead entries pending generation largest =
     record {
       columns = o .columns;
       keys = o .keys;
@@ -42,6 +53,7 @@ header o rows dead entries pending generation =
       entries = entries;
       pending = pending;
       generation = generation;
+      largest = largest;
     }
 
 unfoldable pub tableSays : TableAnswer → Reply Header

@@ -26,7 +26,7 @@ use Rattle.table.specs.declared.CellAnswer.{CellAnswer}
 use Rattle.table.specs.declared.RangeAnswer.{RangeAnswer}
 use Rattle.table.specs.declared.VersionAnswer.{VersionAnswer}
 use Rattle.table.specs.declared.SoundAnswer.{SoundAnswer}
-use Rattle.table.specs.Numbers.{openingOf, header, tableSays, mergeSays, rowSays, cellSays, rangeSays, versionSays, soundSays}
+use Rattle.table.specs.Numbers.{openingOf, largestSays, header, tableSays, mergeSays, rowSays, cellSays, rangeSays, versionSays, soundSays}
 use Rattle.table.specs.Refusing.{stageRefusal, mergeRefusal, compactRefusal, clearRefusal, lookupRefusal, cellRefusal, fastRefusal, versionRefusal, sinceRefusal, soundRefusal}
 use Rattle.table.specs.Stores.{headerOf, stored, rowStore, sortStore, recordWords, rowsIn, Shows}
 use Rattle.table.specs.Sound.{keyedOf, KeysDiffer, Sound}
@@ -122,7 +122,7 @@ module _ (o : Opening) (generation : ℕ) (b : Body) (pending : List ℕ) (answe
 
 -- *Stage*: lent pending. Of any table, since nothing but the header and the pending store is looked at
 abbrev pub withPending : Header → ℕ → Header
-withPending h pending = header (openingOf h) (h .rows) (h .dead) (h .entries) pending (h .generation)
+withPending h pending = header (openingOf h) (h .rows) (h .dead) (h .entries) pending (h .generation) (h .largest)
 
 pub record Staging (h : Header) (pending : List ℕ) (r : Staged) (answer : TableAnswer) (pending′ : List ℕ) : Type 0 where
   pub answers : tableSays answer ≡ reply (stageRefusal h (length pending) r) (withPending h (h .pending + wordsOf (openingOf h) r))
@@ -198,7 +198,7 @@ module _ (h : Header) (keys : List ℕ) (answer : TableAnswer) (keys′ : List �
 -- *Key lookup, one cell*: lent rows and keys, and looked up in those alone, as a plain table of these rows: the key store must
 -- be sound, and live keys differ. "No live row is *none*"
 abbrev pub ofRows : Header → List ℕ → Plain
-ofRows h rows = record { opening = openingOf h; generation = h .generation; rows = rowsIn h rows; staged = [] }
+ofRows h rows = record { opening = openingOf h; generation = h .generation; rows = rowsIn h rows; staged = []; largest = largestSays (h .largest) }
 
 pub record LookedUp (h : Header) (rows keys key : List ℕ) (answer : RowAnswer) : Type 0 where
   pub refusal : verdict (rowSays answer) ≡ ruling (lookupRefusal h (length rows) (length keys) (length key))

@@ -5,14 +5,15 @@ use mathlib.Core.Path.{_≡_}
 use mathlib.Core.Bool.{true, not}
 use mathlib.Core.List.{List}
 use lib.ListN.{length, getD}
-use Rattle.lists.specs.Lists.{count, rowAt, rowsOf}
+use Rattle.lists.specs.Lists.{every, count, rowAt, rowsOf}
 use Rattle.constraints.specs.Constraints.{isLive}
 use Rattle.key_index.specs.declared.Keyed.{Keyed}
 use Rattle.key_index.specs.Slots.{LiveAt, keyAt, KeysSound}
 use Rattle.sort_entries.specs.Entries.{entriesOf, entriesSound, valueAt}
 use Rattle.plain.specs.Staged.{Staged, wordsAll}
+use Rattle.plain.specs.Proper.{atMost}
 use Rattle.table.specs.declared.Header.{Header}
-use Rattle.table.specs.Numbers.{openingOf}
+use Rattle.table.specs.Numbers.{openingOf, largestSays}
 use Rattle.table.specs.Refusing.{soundRefusal}
 use Rattle.table.specs.Stores.{Holds}
 
@@ -36,6 +37,8 @@ pub record Sound (h : Header) (rows keys sorts pending : List ℕ) (staged : Lis
   -- "each live sort cell is the value of the last entry at or below its row"
   pub sorted : (i : ℕ) → LiveAt (keyedOf h) rows i
       → getD (rowAt (h .columns) i rows) (h .sort) 0 ≡ valueAt i (entriesOf (h .entries) sorts)
+  -- change 7: "no sort entry exceeds it, and .. there is one wherever there are sort entries"
+  pub largest-kept : every (λ e. atMost (e .value) (largestSays (h .largest))) (entriesOf (h .entries) sorts) ≡ true
   -- "the key store leads to exactly the live rows"
   pub keyed : KeysSound (keyedOf h) rows keys
   -- "pending records are whole"

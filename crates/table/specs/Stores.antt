@@ -14,7 +14,7 @@ use Rattle.plain.specs.Refusing.{wrongWidth}
 use Rattle.plain.specs.Plain.{Row, Plain, dead}
 use Rattle.plain.specs.Proper.{rowOf}
 use Rattle.table.specs.declared.Header.{Header}
-use Rattle.table.specs.Numbers.{header}
+use Rattle.table.specs.Numbers.{largestOf, header}
 
 -- the sort entries of a plain table: each row's sort cell, dead rows' too, appended in turn
 unfoldable pub entries : Plain → List Entry
@@ -23,7 +23,7 @@ entries p = rebuilt (map (λ row. getD (row .cells) (p .opening .sort) 0) (p .ro
 -- its header
 abbrev pub headerOf : Plain → Header
 headerOf p =
-    header (p .opening) (length (p .rows)) (dead p) (length (entries p)) (wordsAll (p .opening) (p .staged)) (p .generation)
+    header (p .opening) (length (p .rows)) (dead p) (length (entries p)) (wordsAll (p .opening) (p .staged)) (p .generation) (largestOf (p .largest))
 
 -- a row that dies keeps its other cells
 abbrev pub marked : List ℕ → List ℕ

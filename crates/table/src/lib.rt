@@ -6,6 +6,12 @@ use key_index::Keyed;
 
 pub mod refusing; // refusing.rt: what each operation turns away
 
+// The largest sort value appended since opening or the last clear that emptied rows, if there is one: no older stamp enters.
+pub enum Largest {
+    None,
+    Value(u32),
+}
+
 // A table's numbers. The stores that go with it are lent at each call.
 pub struct Header {
     pub columns: u32,
@@ -18,6 +24,7 @@ pub struct Header {
     pub entries: u32,
     pub pending: u32,
     pub generation: u32,
+    pub largest: Largest,
 }
 
 // A pending record's first word says its kind.

@@ -23,18 +23,20 @@ three (x ∷ (y ∷ [])) a b d e = absurd (omega arith)
 three (x ∷ (y ∷ (z ∷ []))) a b d e = refl
 three (x ∷ (y ∷ (z ∷ (w ∷ l)))) a b d e = absurd (omega arith)
 
-pub ten : (l : List ℕ) (a b d e f g h i j k : ℕ) → length l ≡ 10
-    → set (set (set (set (set (set (set (set (set (set l 0 a) 1 b) 2 d) 3 e) 4 f) 5 g) 6 h) 7 i) 8 j) 9 k
-    ≡ a ∷ b ∷ d ∷ e ∷ f ∷ g ∷ h ∷ i ∷ j ∷ k ∷ []
-ten [] a b d e f g h i j k q = absurd (omega arith)
-ten (x0 ∷ []) a b d e f g h i j k q = absurd (omega arith)
-ten (x0 ∷ (x1 ∷ [])) a b d e f g h i j k q = absurd (omega arith)
-ten (x0 ∷ (x1 ∷ (x2 ∷ []))) a b d e f g h i j k q = absurd (omega arith)
-ten (x0 ∷ (x1 ∷ (x2 ∷ (x3 ∷ [])))) a b d e f g h i j k q = absurd (omega arith)
-ten (x0 ∷ (x1 ∷ (x2 ∷ (x3 ∷ (x4 ∷ []))))) a b d e f g h i j k q = absurd (omega arith)
-ten (x0 ∷ (x1 ∷ (x2 ∷ (x3 ∷ (x4 ∷ (x5 ∷ [])))))) a b d e f g h i j k q = absurd (omega arith)
-ten (x0 ∷ (x1 ∷ (x2 ∷ (x3 ∷ (x4 ∷ (x5 ∷ (x6 ∷ []))))))) a b d e f g h i j k q = absurd (omega arith)
-ten (x0 ∷ (x1 ∷ (x2 ∷ (x3 ∷ (x4 ∷ (x5 ∷ (x6 ∷ (x7 ∷ [])))))))) a b d e f g h i j k q = absurd (omega arith)
-ten (x0 ∷ (x1 ∷ (x2 ∷ (x3 ∷ (x4 ∷ (x5 ∷ (x6 ∷ (x7 ∷ (x8 ∷ []))))))))) a b d e f g h i j k q = absurd (omega arith)
-ten (x0 ∷ (x1 ∷ (x2 ∷ (x3 ∷ (x4 ∷ (x5 ∷ (x6 ∷ (x7 ∷ (x8 ∷ (x9 ∷ [])))))))))) a b d e f g h i j k q = refl
-ten (x0 ∷ (x1 ∷ (x2 ∷ (x3 ∷ (x4 ∷ (x5 ∷ (x6 ∷ (x7 ∷ (x8 ∷ (x9 ∷ (x10 ∷ l))))))))))) a b d e f g h i j k q = absurd (omega arith)
+pub twelve : (l : List ℕ) (a b d e f g h i j k m n : ℕ) → length l ≡ 12
+    → set (set (set (set (set (set (set (set (set (set (set (set l 0 a) 1 b) 2 d) 3 e) 4 f) 5 g) 6 h) 7 i) 8 j) 9 k) 10 m) 11 n
+    ≡ a ∷ b ∷ d ∷ e ∷ f ∷ g ∷ h ∷ i ∷ j ∷ k ∷ m ∷ n ∷ []
+twelve [] a b d e f g h i j k m n q = absurd (omega arith)
+twelve (x0 ∷ []) a b d e f g h i j k m n q = absurd (omega arith)
+twelve (x0 ∷ (x1 ∷ [])) a b d e f g h i j k m n q = absurd (omega arith)
+twelve (x0 ∷ (x1 ∷ (x2 ∷ []))) a b d e f g h i j k m n q = absurd (omega arith)
+twelve (x0 ∷ (x1 ∷ (x2 ∷ (x3 ∷ [])))) a b d e f g h i j k m n q = absurd (omega arith)
+twelve (x0 ∷ (x1 ∷ (x2 ∷ (x3 ∷ (x4 ∷ []))))) a b d e f g h i j k m n q = absurd (omega arith)
+twelve (x0 ∷ (x1 ∷ (x2 ∷ (x3 ∷ (x4 ∷ (x5 ∷ [])))))) a b d e f g h i j k m n q = absurd (omega arith)
+twelve (x0 ∷ (x1 ∷ (x2 ∷ (x3 ∷ (x4 ∷ (x5 ∷ (x6 ∷ []))))))) a b d e f g h i j k m n q = absurd (omega arith)
+twelve (x0 ∷ (x1 ∷ (x2 ∷ (x3 ∷ (x4 ∷ (x5 ∷ (x6 ∷ (x7 ∷ [])))))))) a b d e f g h i j k m n q = absurd (omega arith)
+twelve (x0 ∷ (x1 ∷ (x2 ∷ (x3 ∷ (x4 ∷ (x5 ∷ (x6 ∷ (x7 ∷ (x8 ∷ []))))))))) a b d e f g h i j k m n q = absurd (omega arith)
+twelve (x0 ∷ (x1 ∷ (x2 ∷ (x3 ∷ (x4 ∷ (x5 ∷ (x6 ∷ (x7 ∷ (x8 ∷ (x9 ∷ [])))))))))) a b d e f g h i j k m n q = absurd (omega arith)
+twelve (x0 ∷ (x1 ∷ (x2 ∷ (x3 ∷ (x4 ∷ (x5 ∷ (x6 ∷ (x7 ∷ (x8 ∷ (x9 ∷ (x10 ∷ []))))))))))) a b d e f g h i j k m n q = absurd (omega arith)
+twelve (x0 ∷ (x1 ∷ (x2 ∷ (x3 ∷ (x4 ∷ (x5 ∷ (x6 ∷ (x7 ∷ (x8 ∷ (x9 ∷ (x10 ∷ (x11 ∷ [])))))))))))) a b d e f g h i j k m n q = refl
+twelve (x0 ∷ (x1 ∷ (x2 ∷ (x3 ∷ (x4 ∷ (x5 ∷ (x6 ∷ (x7 ∷ (x8 ∷ (x9 ∷ (x10 ∷ (x11 ∷ (x12 ∷ l))))))))))))) a b d e f g h i j k m n q = absurd (omega arith)

@@ -5,8 +5,11 @@ use mathlib.Core.Path.{_≡_}
 use mathlib.Core.Bool.{Bool, cond}
 use mathlib.Core.List.{List, [], _∷_}
 use lib.ListN.{length, getD}
+use lib.Dec.{leb, eqb}
 use Rattle.offsets.specs.declared.SubsetAnswer.{SubsetAnswer}
 use Rattle.offsets.specs.declared.SubsetAnswer.the-variants.{Refused as SubsetRefused, Range as SubsetRange, List as SubsetList}
+use Rattle.table.specs.declared.Largest.{Largest}
+use Rattle.table.specs.declared.Largest.the-variants.{None as NoLargest, Value}
 use Rattle.table.specs.declared.Header.{Header}
 use Rattle.table.specs.declared.TableAnswer.{TableAnswer}
 use Rattle.table.specs.declared.TableAnswer.the-variants.{Refused as TableRefused, Table}
@@ -23,11 +26,29 @@ use Rattle.table.specs.declared.VersionAnswer.the-variants.{Refused as VersionR
 use Rattle.table.specs.declared.SoundAnswer.{SoundAnswer}
 use Rattle.table.specs.declared.SoundAnswer.the-variants.{Refused as SoundRefused, Sound}
 
--- a header's ten words, in the order of its fields
+-- The largest sort value in two words: 0 and 0 if there is none, else 1 and the value. Read, the second is not looked at
+-- beside a 0.
+unfoldable pub largestIn : ℕ → ℕ → Largest
+largestIn flag value = cond (eqb flag 1) (Value value) NoLargest
+
+unfoldable pub largestFlag : Largest → ℕ
+largestFlag NoLargest = 0
+largestFlag (Value v) = 1
+
+unfoldable pub largestWord : Largest → ℕ
+largestWord NoLargest = 0
+largestWord (Value v) = v
+
+-- "whether there is one": a word that is neither 0 nor 1 is outside its bounds. It is read as a header without columns, which
+-- test 1 turns away
+unfoldable pub columnsIn : ℕ → ℕ → ℕ
+columnsIn columns flag = cond (leb flag 1) columns 0
+
+-- a header's twelve words: ten numbers in the order of its fields, and the largest sort value
 unfoldable pub headerIn : List ℕ → Header
 headerIn words =
     record {
-      columns = getD words 0 0;
+      columns = columnsIn (getD words 0 0) (getD words 10 0);
       keys = getD words 1 0;
       sort = getD words 2 0;
       rule = getD words 3 0;
@@ -37,6 +58,7 @@ headerIn words =
       entries = getD words 7 0;
       pending = getD words 8 0;
       generation = getD words 9 0;
+      largest = largestIn (getD words 10 0) (getD words 11 0);
     }
 
 unfoldable pub headerWords : Header → List ℕ
@@ -51,6 +73,8 @@ headerWords h =
     ∷ h .entries
     ∷ h .pending
     ∷ h .generation
+    ∷ largestFlag (h .largest)
+    ∷ largestWord (h .largest)
     ∷ []
 
 -- ---- what is told of an answer: the refusal's number, 0 if there is none; the header's words and the answer's own words, both as
@@ -152,22 +176,22 @@ pub record MergeTold (answer : MergeAnswer) (header words : List ℕ) (r : ℕ) 
   pub headed : header′ ≡ mergeHeader header answer
   pub worded : words′ ≡ mergeWords words answer
 
--- A call that leaves a header. Where the header is ten words, the library's promise holds of an answer that the number and the
+-- A call that leaves a header. Where the header is twelve words, the library's promise holds of an answer that the number and the
 -- header's words tell; else the number is 1 and nothing has changed.
 pub record Called (promise : TableAnswer → Type 0) (unchanged : Type 0) (header : List ℕ) (r : ℕ) (header′ : List ℕ) : Type 0 where
-  pub done : length header ≡ 10 → (answer : TableAnswer) × promise answer × (r ≡ tableNumber answer) × (header′ ≡ tableHeader header answer)
-  pub unheaded : (length header ≡ 10 → ⊥) → unchanged × (r ≡ 1) × (header′ ≡ header)
+  pub done : length header ≡ 12 → (answer : TableAnswer) × promise answer × (r ≡ tableNumber answer) × (header′ ≡ tableHeader header answer)
+  pub unheaded : (length header ≡ 12 → ⊥) → unchanged × (r ≡ 1) × (header′ ≡ header)
 
--- A merge, whose answer goes into three words. Where the header is not ten words, the number is 1; where it is, but these are
+-- A merge, whose answer goes into three words. Where the header is not twelve words, the number is 1; where it is, but these are
 -- not three, it is 2; and nothing has changed.
 pub record MergeCalled (promise : MergeAnswer → Type 0) (unchanged : Type 0) (header words : List ℕ) (r : ℕ) (header′ words′ : List ℕ) : Type 0 where
-  pub done : length header ≡ 10 → length words ≡ 3
+  pub done : length header ≡ 12 → length words ≡ 3
       → (answer : MergeAnswer) × promise answer × (r ≡ mergeNumber answer) × (header′ ≡ mergeHeader header answer) × (words′ ≡ mergeWords words answer)
-  pub unheaded : (length header ≡ 10 → ⊥) → unchanged × (r ≡ 1) × (header′ ≡ header) × (words′ ≡ words)
-  pub unworded : length header ≡ 10 → (length words ≡ 3 → ⊥) → unchanged × (r ≡ 2) × (header′ ≡ header) × (words′ ≡ words)
+  pub unheaded : (length header ≡ 12 → ⊥) → unchanged × (r ≡ 1) × (header′ ≡ header) × (words′ ≡ words)
+  pub unworded : length header ≡ 12 → (length words ≡ 3 → ⊥) → unchanged × (r ≡ 2) × (header′ ≡ header) × (words′ ≡ words)
 
 -- A question, whose answer goes into so many words; 1 and 2 as for a merge.
 pub record Asked {A : Type 0} (promise : A → Type 0) (number : A → ℕ) (told : List ℕ → A → List ℕ) (count : ℕ) (header words : List ℕ) (r : ℕ) (words′ : List ℕ) : Type 0 where
-  pub done : length header ≡ 10 → length words ≡ count → (answer : A) × promise answer × (r ≡ number answer) × (words′ ≡ told words answer)
-  pub unheaded : (length header ≡ 10 → ⊥) → (r ≡ 1) × (words′ ≡ words)
-  pub unworded : length header ≡ 10 → (length words ≡ count → ⊥) → (r ≡ 2) × (words′ ≡ words)
+  pub done : length header ≡ 12 → length words ≡ count → (answer : A) × promise answer × (r ≡ number answer) × (words′ ≡ told words answer)
+  pub unheaded : (length header ≡ 12 → ⊥) → (r ≡ 1) × (words′ ≡ words)
+  pub unworded : length header ≡ 12 → (length words ≡ count → ⊥) → (r ≡ 2) × (words′ ≡ words)

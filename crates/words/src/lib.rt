@@ -3,10 +3,11 @@
 ghost use mathlib.Core.Path.{_≡_};
 ghost use mathlib.Core.List.{[], _∷_};
 ghost use lib.ListN.{length};
-ghost use Rattle.words.specs.Words.{bit, headerIn, headerWords, tableNumber, tableHeader, rowNumber, rowWords, cellNumber, cellWords, rangeNumber, rangeWords, versionNumber, versionWords, soundNumber, soundWords, Told, MergeTold, subsetNumber, subsetWords};
+ghost use Rattle.words.specs.Words.{bit, largestIn, columnsIn, largestFlag, largestWord, headerIn, headerWords, tableNumber, tableHeader, rowNumber, rowWords, cellNumber, cellWords, rangeNumber, rangeWords, versionNumber, versionWords, soundNumber, soundWords, Told, MergeTold, subsetNumber, subsetWords};
 use offsets::SubsetAnswer;
 use table::CellAnswer;
 use table::Header;
+use table::Largest;
 use table::MergeAnswer;
 use table::RangeAnswer;
 use table::RowAnswer;
@@ -14,12 +15,32 @@ use table::SoundAnswer;
 use table::TableAnswer;
 use table::VersionAnswer;
 
+// The largest sort value, from its two words.
+fn largest_of(flag: u32, value: u32) -> Largest
+    ensures { λ r. ⌜ r ≡ largestIn flag value ⌝ }
+{
+    if flag == 1 {
+        return Largest::Value(value);
+    }
+    Largest::None
+}
+
+// The columns, or 0 where the word that says whether there is a largest value is neither 0 nor 1.
+fn columns_of(columns: u32, flag: u32) -> u32
+    ensures { λ r. ⌜ r ≡ columnsIn columns flag ⌝ }
+{
+    if flag <= 1 {
+        return columns;
+    }
+    0
+}
+
 pub fn header_of(words: &[u32]) -> Header
-    requires { ⌜ length (now words) ≡ 10 ⌝ }
+    requires { ⌜ length (now words) ≡ 12 ⌝ }
     ensures { λ r. ⌜ r ≡ headerIn (now (words .entry)) ⌝ }
 {
     Header {
-        columns: words[0],
+        columns: columns_of(words[0], words[10]),
         keys: words[1],
         sort: words[2],
         rule: words[3],
@@ -29,11 +50,32 @@ pub fn header_of(words: &[u32]) -> Header
         entries: words[7],
         pending: words[8],
         generation: words[9],
+        largest: largest_of(words[10], words[11]),
+    }
+}
+
+// 1 if there is a largest sort value.
+fn largest_flag(largest: Largest) -> u32
+    ensures { λ r. ⌜ r ≡ largestFlag largest ⌝ }
+{
+    match largest {
+        Largest::None => 0,
+        Largest::Value(value) => 1,
+    }
+}
+
+// The largest sort value, 0 if there is none.
+fn largest_word(largest: Largest) -> u32
+    ensures { λ r. ⌜ r ≡ largestWord largest ⌝ }
+{
+    match largest {
+        Largest::None => 0,
+        Largest::Value(value) => value,
     }
 }
 
 fn write_header(h: Header, words: &mut [u32])
-    requires { ⌜ length (now words) ≡ 10 ⌝ }
+    requires { ⌜ length (now words) ≡ 12 ⌝ }
     ensures { λ _. ⌜ now (words .exit) ≡ headerWords h ⌝ }
 {
     words[0] = h.columns;
@@ -46,6 +88,9 @@ fn write_header(h: Header, words: &mut [u32])
     words[7] = h.entries;
     words[8] = h.pending;
     words[9] = h.generation;
+    let largest = h.largest;
+    words[10] = largest_flag(largest);
+    words[11] = largest_word(largest);
 }
 
 fn write_two(words: &mut [u32], first: u32, second: u32)
@@ -76,7 +121,7 @@ pub fn bit_of(answer: bool) -> u32
 }
 
 pub fn write_table(answer: TableAnswer, words: &mut [u32]) -> u32
-    requires { ⌜ length (now words) ≡ 10 ⌝ }
+    requires { ⌜ length (now words) ≡ 12 ⌝ }
     ensures { λ r. ⌜ Told tableNumber (tableHeader (now (words .entry))) answer r (now (words .exit)) ⌝ }
 {
     match answer {
@@ -89,7 +134,7 @@ pub fn write_table(answer: TableAnswer, words: &mut [u32]) -> u32
 }
 
 pub fn write_merge(answer: MergeAnswer, header: &mut [u32], words: &mut [u32]) -> u32
-    requires { ⌜ (length (now header) ≡ 10) × (length (now words) ≡ 3) ⌝ }
+    requires { ⌜ (length (now header) ≡ 12) × (length (now words) ≡ 3) ⌝ }
     ensures { λ r. ⌜ MergeTold answer (now (header .entry)) (now (words .entry)) r (now (header .exit)) (now (words .exit)) ⌝ }
 {
     match answer {

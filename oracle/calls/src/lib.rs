@@ -15,7 +15,8 @@ pub struct Opening {
     pub generation: u32,
 }
 
-/// A header's numbers, in the paper's order.
+/// A header's numbers, in the paper's order, and the largest sort value appended since opening or the last clear that emptied
+/// rows, if there is one.
 #[derive(Clone, Copy, Debug, Default, PartialEq, Eq)]
 pub struct Header {
     pub columns: u32,
@@ -28,10 +29,14 @@ pub struct Header {
     pub entries: u32,
     pub pending: u32,
     pub generation: u32,
+    pub largest: Option<u32>,
 }
 
+/// How many words a header has.
+pub const HEADER_WORDS: usize = 12;
+
 impl Header {
-    pub fn words(&self) -> [u32; 10] {
+    pub fn words(&self) -> [u32; HEADER_WORDS] {
         [
             self.columns,
             self.keys,
@@ -43,14 +48,17 @@ impl Header {
             self.entries,
             self.pending,
             self.generation,
+            u32::from(self.largest.is_some()),
+            self.largest.unwrap_or(0),
         ]
     }
 
-    pub fn from_words(words: &[u32; 10]) -> Header {
+    /// A word for whether there is a largest value that is neither 0 nor 1 fails test 1: here it stands for no columns.
+    pub fn from_words(words: &[u32; HEADER_WORDS]) -> Header {
         let [columns, keys, sort, rule, capacity, ..] = *words;
-        let [.., rows, dead, entries, pending, generation] = *words;
+        let [.., rows, dead, entries, pending, generation, flag, largest] = *words;
         Header {
-            columns,
+            columns: if flag <= 1 { columns } else { 0 },
             keys,
             sort,
             rule,
@@ -60,6 +68,7 @@ impl Header {
             entries,
             pending,
             generation,
+            largest: (flag == 1).then_some(largest),
         }
     }
 

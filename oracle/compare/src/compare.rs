@@ -72,6 +72,8 @@ pub struct Pair<'a, J> {
     rows_to_remove: Vec<(u32, Vec<u32>)>,
     /// Inserts that wait for a merge and bring a live row's key a cell of another sign.
     other_signs: u64,
+    /// The sort values of inserts that wait for a merge.
+    stamps: Vec<u32>,
     /// Whether the other judge's table is still the same: not after a stop, until the next opening.
     following: bool,
 }
@@ -87,6 +89,7 @@ impl<'a, J: Judge> Pair<'a, J> {
             opening: UNOPENED,
             rows_to_remove: Vec::new(),
             other_signs: 0,
+            stamps: Vec::new(),
             following: false,
         }
     }
@@ -113,9 +116,14 @@ impl<'a, J: Judge> Pair<'a, J> {
             self.watch(&answer, &after, counts);
             self.seen = after;
         }
-        let is_stopped = matches!(answer, Answer::Merged { status: 9, .. });
-        if is_stopped && self.following && !self.rival.follows_paper {
-            self.expect_panic(&step.lent, counts)?;
+        if let Answer::Merged { status, place, .. } = answer {
+            let stamps = std::mem::take(&mut self.stamps);
+            if status == 9 {
+                self.stop_as_old(&step.lent, stamps[place as usize], counts)?;
+            }
+        }
+        if *call == Call::Clear && self.plain.header().largest.is_some() {
+            counts.feature("clear: without rows, a value is kept");
         }
         if self.following {
             counts.asked(&self.opening, step, &answer);
@@ -165,15 +173,17 @@ impl<'a, J: Judge> Pair<'a, J> {
                 counts.opening(opening);
                 self.opening = *opening;
                 self.following = true;
-                self.rows_to_remove.clear();
-                self.other_signs = 0;
+                self.forget_staged();
             }
-            Call::Clear => {
-                self.rows_to_remove.clear();
-                self.other_signs = 0;
+            Call::Clear => self.forget_staged(),
+            Call::Insert(cells) => {
+                self.stamps.push(cells[self.opening.sort as usize]);
+                if cells[0] == DEAD {
+                    counts.feature("insert: dead first cell");
+                } else {
+                    self.other_signs += u64::from(self.has_other_sign(cells));
+                }
             }
-            Call::Insert(cells) if cells[0] == DEAD => counts.feature("insert: dead first cell"),
-            Call::Insert(cells) => self.other_signs += u64::from(self.has_other_sign(cells)),
             Call::RemoveRow(row, key) => self.rows_to_remove.push((*row, key.clone())),
             _ => {}
         }
@@ -188,6 +198,12 @@ impl<'a, J: Judge> Pair<'a, J> {
             return false;
         };
         (keys..new.len()).any(|column| column != sort && (old[column] ^ new[column]) >> 31 == 1)
+    }
+
+    fn forget_staged(&mut self) {
+        self.rows_to_remove.clear();
+        self.stamps.clear();
+        self.other_signs = 0;
     }
 
     /// Ends the comparison until the next opening where a merge does what the paper adds, or where a key merely shares
@@ -228,19 +244,40 @@ impl<'a, J: Judge> Pair<'a, J> {
         })
     }
 
-    /// Where the plain table stops with 9 the Rust must panic, and its table is of no use after.
-    fn expect_panic(&mut self, lent: &Lengths, counts: &mut Counts) -> Result<(), Unlike> {
+    /// The plain table stops with 9 at this sort value. The Rust must panic if the value is below the last entry's. Else it takes
+    /// the row, a known difference: the row of a larger value was dropped by a compaction. It may panic at a later row of the
+    /// batch. Either way its table is of no use after.
+    fn stop_as_old(
+        &mut self,
+        lent: &Lengths,
+        stamp: u32,
+        counts: &mut Counts,
+    ) -> Result<(), Unlike> {
+        let last = self.seen.sort_entries.last();
+        let is_below_last = last.is_some_and(|last| stamp < last.0);
+        if !is_below_last {
+            counts.feature("merge: stop 9 by a value that no entry has any more");
+        }
+        if !self.following || self.rival.follows_paper {
+            return Ok(());
+        }
         self.following = false;
         let heard = guarded(|| self.other.call(lent, &Call::Merge));
         self.other = (self.rival.make)();
-        counts.feature("ended: stop 9, the Rust panics");
-        match heard {
-            Err(panic) if panic.contains(RUST_STOP) => Ok(()),
-            heard => Err(Unlike {
-                plain: "stops with 9".to_string(),
-                other: said(&heard),
-            }),
-        }
+        counts.feature(match (&heard, is_below_last) {
+            (Err(panic), true) if panic.contains(RUST_STOP) => "ended: stop 9, the Rust panics",
+            (Ok(_), false) => "ended: stop 9, the Rust takes an older stamp",
+            (Err(panic), false) if panic.contains(RUST_STOP) => {
+                "ended: stop 9, the Rust takes an older stamp and panics at a later row"
+            }
+            _ => {
+                return Err(Unlike {
+                    plain: "stops with 9".to_string(),
+                    other: said(&heard),
+                });
+            }
+        });
+        Ok(())
     }
 
     /// Whether the other judge is asked this too.

@@ -30,7 +30,7 @@ const KINDS: [Kind; 17] = [
 ];
 
 /// Answers and turns that every full run must have seen.
-const FEATURES: [&str; 54] = [
+const FEATURES: [&str; 56] = [
     "open: sort column 0",
     "open: sort column a key column",
     "open: sort column not a key column",
@@ -45,6 +45,7 @@ const FEATURES: [&str; 54] = [
     "merge: rule 3, another sign",
     "merge: stop 8",
     "merge: stop 9",
+    "merge: stop 9 by a value that no entry has any more",
     "merge: stop after a row was added",
     "merge: stop at a place above 0",
     "merge: compacts by itself",
@@ -57,6 +58,7 @@ const FEATURES: [&str; 54] = [
     "compact: without dead rows",
     "clear: with rows",
     "clear: without rows",
+    "clear: without rows, a value is kept",
     "table exactly full",
     "lookup: none",
     "lookup: row",
@@ -130,9 +132,10 @@ const GATE: [&str; 20] = [
 ];
 
 /// What the run against the Rust must have seen besides.
-const RUST_GATE: [&str; 5] = [
+const RUST_GATE: [&str; 6] = [
     "ended: stop 8",
     "ended: stop 9, the Rust panics",
+    "ended: stop 9, the Rust takes an older stamp",
     "ended: last generation",
     "not asked: range with the greatest id",
     "not asked: page that ends past the greatest number",

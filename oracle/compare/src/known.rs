@@ -9,9 +9,13 @@ use chance::Rng;
 use plain::Plain;
 use std::collections::HashMap;
 
-/// Checks both; the words tell what was found.
+/// Checks them; the words tell what was found.
 pub fn check<J: Judge>(rival: &Rival<J>) -> Result<Vec<String>, String> {
-    Ok(vec![shared_hash(rival)?, greatest_id(rival)?])
+    Ok(vec![
+        shared_hash(rival)?,
+        greatest_id(rival)?,
+        older_stamp(rival)?,
+    ])
 }
 
 /// Two keys of one cell that share their hash: a removal by row with the one removes the other's row in the Rust.
@@ -52,6 +56,22 @@ fn play<J: Judge>(mut judge: J, lines: &[String]) -> J {
         }
     }
     judge
+}
+
+/// A removal and a compaction drop the row of stamp 1; the Rust then takes one of stamp 0.
+fn older_stamp<J: Judge>(rival: &Rival<J>) -> Result<String, String> {
+    let lines = "O,1,1,0,0,1,0 I,1 M R,1 M G I,0 M";
+    let lines: Vec<String> = lines.split(' ').map(str::to_string).collect();
+    let (ours, theirs) = (play(Plain::new(), &lines), play((rival.make)(), &lines));
+    match (ours.contents().live.len(), theirs.contents().live.len()) {
+        (0, 1) => Ok(
+            "stamp 0 after stamp 1, a removal and a compaction: stopped here, taken by the Rust"
+                .to_string(),
+        ),
+        other => Err(format!(
+            "an older stamp after a compaction leaves {other:?}"
+        )),
+    }
 }
 
 fn stores() -> Lengths {

@@ -36,6 +36,7 @@ fn stores(rng: &mut Rng) -> Image {
         entries: rng.below(rows + 1),
         pending: 0,
         generation: 0,
+        largest: None,
     };
     let mut image = Image::sized(rng, &h, 40, 0);
     image.fill_with_garbage(rng);
@@ -49,7 +50,7 @@ fn numbers(rng: &mut Rng, image: &Image) -> Header {
         let place = rng.place(words.len());
         words[place] = hostile_number(rng, &image.header);
     }
-    let words: [u32; 10] = words.try_into().expect("ten words");
+    let words = words.try_into().expect("a header's words");
     Header::from_words(&words)
 }
 

@@ -4,7 +4,7 @@
 
 use crate::acts::Act;
 use crate::image::Image;
-use calls::{Answer, Call, Judge, Question, Subset};
+use calls::{Answer, Call, HEADER_WORDS, Judge, Question, Subset};
 use chance::Rng;
 use plain::{Plain, Staged};
 
@@ -65,7 +65,7 @@ pub fn words_lent(rng: &mut Rng, act: &Act) -> Vec<u32> {
 /// The number by the judge's own tests, on whatever header; 0 if the call is accepted.
 fn number(act: &Act, image: &Image, words: usize) -> u32 {
     let is_intersect = matches!(act, Act::Ask(Question::Intersect { .. }));
-    if image.header.len() != 10 && !is_intersect {
+    if image.header.len() != HEADER_WORDS && !is_intersect {
         return 1;
     }
     if words != words_of(act) {

@@ -29,6 +29,8 @@ pub struct Plain {
     generation: u32,
     rows: Vec<Row>,
     staged: Vec<Staged>,
+    /// "The largest sort value appended since opening or the last clear that emptied rows, and whether there is one."
+    largest: Option<u32>,
     /// Sort entries, "pairs of value and first row".
     entries: Vec<(u32, u32)>,
     /// What could be counted each time: dead rows, the words of staged records, the live row of each key.
@@ -68,6 +70,7 @@ impl Plain {
             generation: 0,
             rows: Vec::new(),
             staged: Vec::new(),
+            largest: None,
             entries: Vec::new(),
             dead: 0,
             pending_words: 0,
@@ -89,6 +92,7 @@ impl Plain {
             entries: self.entries.len() as u32,
             pending: self.pending_words as u32,
             generation: self.generation,
+            largest: self.largest,
         }
     }
 

@@ -16,6 +16,7 @@ pub fn is_sound(held: &Held) -> Result<bool, u32> {
         && held.keys_differ()
         && held.entries_rise()
         && held.sort_cells_are_recorded()
+        && held.no_entry_exceeds_the_largest()
         && held.keys_lead_to_live_rows()
         && held.records_are_whole())
 }
@@ -104,6 +105,13 @@ impl<'a> Rows<'a> {
         self.live().all(|row| Some(cell(row)) == self.recorded(row))
     }
 
+    /// "No sort entry exceeds it, and .. there is one wherever there are sort entries."
+    fn no_entry_exceeds_the_largest(&self) -> bool {
+        let largest = self.header.largest;
+        let mut entries = self.entries.iter();
+        entries.all(|entry| largest.is_some_and(|largest| entry.0 <= largest))
+    }
+
     /// "The key store leads to exactly the live rows": each slot that is not free holds a live row, of its own, and each live
     /// row stands in some slot from its key's home on, going round, with no free slot on the way.
     fn keys_lead_to_live_rows(&self) -> bool {
@@ -160,6 +168,7 @@ impl Plain {
             rows: (0..h.rows).map(row).collect(),
             dead: h.dead,
             index: index.collect(),
+            largest: h.largest,
             entries: rows.entries.clone(),
             staged: records(&h, rows.pending)?,
             pending_words: h.pending as usize,

@@ -115,11 +115,12 @@ impl Plain {
         Ok(true)
     }
 
-    /// "8, row count equals capacity, tested before 9, sort value below the last entry's."
+    /// "8, row count equals capacity, tested before 9", which "is now given for a sort value below that kept value".
     fn append(&mut self, cells: Vec<u32>) -> Result<(), u32> {
         let value = cells[self.opening.sort as usize];
         refuse(8, self.row_count() == self.opening.capacity)?;
-        refuse(9, self.last_value().is_some_and(|last| value < last))?;
+        refuse(9, self.largest.is_some_and(|largest| value < largest))?;
+        self.largest = Some(value);
         let id = self.row_count();
         self.record_value(value, id);
         self.model.put_row(id, &cells);
@@ -140,14 +141,6 @@ impl Plain {
         self.rows[id as usize].dead = true;
         self.dead += 1;
         self.model.kill_row(id, self.opening.columns);
-    }
-
-    /// "The last entry's value is the last row's sort cell."
-    fn last_value(&self) -> Option<u32> {
-        let sort = self.opening.sort as usize;
-        let last = self.rows.last().map(|row| row.cells[sort]);
-        debug_assert_eq!(last, self.entries.last().map(|entry| entry.0));
-        last
     }
 
     /// Sort entries are "pairs of value and first row, both strictly rising".
@@ -194,6 +187,7 @@ impl Plain {
             self.dead = 0;
             self.index.clear();
             self.entries.clear();
+            self.largest = None;
             self.generation += 1;
         }
         Answer::Done

@@ -2,6 +2,7 @@
 
 use crate::ProvedTable;
 use calls::{Answer, Call, Judge, Lengths, Opening};
+use mouldgrey::Refusal;
 use plain::Plain;
 
 const OPENING: Opening = Opening {
@@ -63,6 +64,34 @@ fn every_cell_is_looked_at() {
     let mut proved = whole.clone();
     proved.now.header.generation = 3;
     assert!(proved.now.unlike(&plain.expected(), false).is_some());
+}
+
+/// The proved soundness check on one word of the header changed: the largest sort value, which is 4 here, is below an entry,
+/// above all, not there, or neither there nor not.
+#[test]
+fn largest_value_is_looked_at() {
+    let (whole, _) = both();
+    assert_eq!(whole.now.header.largest(), Some(4));
+    let checked = |has: u32, value: u32| {
+        let mut proved = whole.clone();
+        proved.now.header.has_largest = has;
+        proved.now.header.largest_value = value;
+        proved.is_sound()
+    };
+    assert_eq!(checked(1, 4), Ok(true));
+    assert_eq!(checked(1, 5), Ok(true));
+    assert_eq!(checked(1, u32::MAX), Ok(true));
+    assert_eq!(checked(1, 3), Ok(false));
+    assert_eq!(checked(0, 4), Ok(false));
+    assert_eq!(checked(2, 4), Err(Refusal::OutOfBounds));
+    // Without an entry there may be one or not, and a number beside no value means nothing.
+    let mut empty = ProvedTable::new();
+    assert_eq!(empty.call(&LENT, &Call::Open(OPENING)), Answer::Done);
+    for (has, value) in [(0, 0), (0, 9), (1, 9)] {
+        empty.now.header.has_largest = has;
+        empty.now.header.largest_value = value;
+        assert_eq!(empty.is_sound(), Ok(true));
+    }
 }
 
 /// What is told of one word changed beside a call.

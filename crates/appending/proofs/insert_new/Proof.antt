@@ -17,14 +17,14 @@ room c = entered-of _ _ _ _ _ (c .before .before .before .before .admit .ensures
 place : (c : tie.After-entries) → let a = c .before .before .before .before .before .before .before .before .before .before .before .before .args in Placed (a .h) (a .rows .now) (a .h .rows)
 place c = placed _ _ _ (c .before .before .before .before .before .before .before .before .before .before .before .before .pre .fits) _ (room c)
 
-cast-admit : tie.Need-cast-admit
-cast-admit c = search needs
+cast-value : tie.Need-cast-value
+cast-value c = search needs
 
-mul-admit : tie.Need-mul-admit
-mul-admit c = search needs
+mul-value : tie.Need-mul-value
+mul-value c = search needs
 
-shared-slice-read-admit : tie.Need-shared-slice-read-admit
-shared-slice-read-admit c = search needs
+shared-slice-read-value : tie.Need-shared-slice-read-value
+shared-slice-read-value c = search needs
 
 admit-requires : tie.Need-admit-requires
 admit-requires c κs = search needs
@@ -75,9 +75,9 @@ pub insert-new-spec : {M : Type 1} → statement M
 insert-new-spec =
     tie.close
     (tie.spec
-    cast-admit
-    mul-admit
-    shared-slice-read-admit
+    cast-value
+    mul-value
+    shared-slice-read-value
     admit-requires
     enum-known-number
     enum-known-entries

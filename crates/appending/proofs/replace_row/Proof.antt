@@ -23,14 +23,14 @@ place c = placed _ _ _ (c .before .before .before .before .before .before .befor
 old-place : (c : tie.After-entries) → let a = c .before .before .before .before .before .before .before .before .before .before .before .before .args in Placed (a .h) (a .rows .now) (a .old)
 old-place c = let s = c .before .before .before .before .before .before .before .before .before .before .before .before in placed _ _ _ (s .pre .0 .fits) _ (omega (arith, s .pre .1, room c))
 
-cast-admit : tie.Need-cast-admit
-cast-admit c = search needs
+cast-value : tie.Need-cast-value
+cast-value c = search needs
 
-mul-admit : tie.Need-mul-admit
-mul-admit c = search needs
+mul-value : tie.Need-mul-value
+mul-value c = search needs
 
-shared-slice-read-admit : tie.Need-shared-slice-read-admit
-shared-slice-read-admit c = search needs
+shared-slice-read-value : tie.Need-shared-slice-read-value
+shared-slice-read-value c = search needs
 
 admit-requires : tie.Need-admit-requires
 admit-requires c κs = search needs
@@ -93,9 +93,9 @@ pub replace-row-spec : {M : Type 1} → statement M
 replace-row-spec =
     tie.close
     (tie.spec
-    cast-admit
-    mul-admit
-    shared-slice-read-admit
+    cast-value
+    mul-value
+    shared-slice-read-value
     admit-requires
     enum-known-number
     enum-known-entries

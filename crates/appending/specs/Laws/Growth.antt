@@ -18,16 +18,21 @@ use Rattle.row_buffer.specs.Laws.Rows.{stale-rows}
 use Rattle.sort_entries.specs.Entries.{Entry, entriesOf, words, push, rebuilt}
 use Rattle.sort_entries.specs.Laws.Push.{rebuilt-snoc}
 use Rattle.sort_entries.specs.Laws.Stores.{length-entriesOf}
-use Rattle.plain.specs.Plain.{Row, Plain, liveRow, withRows, dead}
+use Rattle.plain.specs.Plain.{Row, Plain, liveRow, withRows, withRow, dead, raised}
 use Rattle.plain.specs.Proper.{Proper, rowOf}
-use Rattle.plain.specs.Laws.Rows.{noRow, live-below}
+use Rattle.plain.specs.Laws.Rows.{noRow, live-below, raised-same}
 use Rattle.plain.specs.Laws.Proper.{openable-bounds}
 use Rattle.table.specs.declared.Header.{Header}
+use Rattle.table.specs.declared.Largest.{Largest}
+use Rattle.table.specs.declared.Largest.the-variants.{Value}
+use Rattle.table.specs.Numbers.{largestOf}
 use Rattle.table.specs.Stores.{entries, headerOf, marked, stored, rowStore, sortStore}
 use Rattle.table.specs.Sound.{keyedOf}
 use Rattle.table.specs.Promises.{Stores, stores, lengths, Represents}
 use Rattle.pending.specs.inner.Becoming.{Later, Steps, withCounts}
-use Rattle.appending.specs.inner.Appending.{Entered}
+use Rattle.appending.specs.inner.Appending.{Entered, grownTo}
+use Rattle.appending.specs.Laws.Admission.{free-above}
+use Rattle.table.specs.Laws.Sound.{says-of}
 use Rattle.table.specs.Laws.Stored.{stored-again}
 use Rattle.table.specs.Laws.Shown.{long-stores, stored-rows, represents-long, rows-stored, rows-counted}
 use Rattle.pending.specs.Laws.Dying.{killAt, length-killAt, killAt-cells, killAt-live, entries-killAt, stored-killAt}
@@ -46,7 +51,7 @@ stored-snoc (row ∷ rows) cells (old ∷ before) n =
 
 -- its sort entry
 pub entries-snoc : (p : Plain) (rows : List Row) (cells : List ℕ)
-    → entries (withRows p (rows ++ (liveRow cells ∷ []))) ≡ push (getD cells (p .opening .sort) 0) (length rows) (entries (withRows p rows))
+    → entries (withRow p rows cells) ≡ push (getD cells (p .opening .sort) 0) (length rows) (entries (withRows p rows))
 unfolding entries
 entries-snoc p rows cells =
     let sorts : Row → ℕ = λ row. getD (row .cells) (p .opening .sort) 0 in
@@ -55,7 +60,7 @@ entries-snoc p rows cells =
     ∙ ap (λ (n : ℕ). push (getD cells (p .opening .sort) 0) n (rebuilt (map sorts rows))) (length-map rows sorts)
 
 -- no dead row more
-pub dead-snoc : (p : Plain) (rows : List Row) (cells : List ℕ) → dead (withRows p (rows ++ (liveRow cells ∷ []))) ≡ dead (withRows p rows)
+pub dead-snoc : (p : Plain) (rows : List Row) (cells : List ℕ) → dead (withRow p rows cells) ≡ dead (withRows p rows)
 unfolding dead
 dead-snoc p rows cells =
     count-append (λ (row : Row). not (row .live)) rows (liveRow cells ∷ [])
@@ -124,10 +129,6 @@ module _ {p : Plain} {s : Stores} (r : Represents p s) where
 
 -- ---- the stores with it
 
--- the table with the row
-abbrev pub grownBy : Plain → List Row → List ℕ → Plain
-grownBy p kept cells = withRows p (kept ++ (liveRow cells ∷ []))
-
 module _ {p : Plain} {s : Stores} (r : Represents p s) {kept : List Row} {base : List ℕ} (q : Prepared p s kept base) (cells : List ℕ)
     (width : length cells ≡ s .header .columns) (room : s .header .rows < s .header .capacity) where
   stored-grown : stored (kept ++ (liveRow cells ∷ [])) (rowsOf (s .header .columns) (s .header .rows) (s .rows))
@@ -148,7 +149,7 @@ module _ {p : Plain} {s : Stores} (r : Represents p s) {kept : List Row} {base :
       ∙ drop-drop (length cells) (s .header .rows * s .header .columns) base
 
   -- of the row store the row's cells change
-  pub grown-store : rowStore (grownBy p kept cells) (rowsOf (s .header .columns) (s .header .rows) (s .rows)) (s .rows)
+  pub grown-store : rowStore (withRow p kept cells) (rowsOf (s .header .columns) (s .header .rows) (s .rows)) (s .rows)
       ≡ putAt base (s .header .rows * s .header .columns) cells
   unfolding rowStore
   grown-store =
@@ -168,13 +169,13 @@ module _ {p : Plain} {s : Stores} (r : Represents p s) {kept : List Row} {base :
   grown-shown = rw rows-grown (stored-again (kept ++ (liveRow cells ∷ [])) (rowsOf (s .header .columns) (s .header .rows) (s .rows)))
 
   -- the sort entries have the row's
-  grown-entries : entries (grownBy p kept cells) ≡ push (getD cells (s .header .sort) 0) (s .header .rows) (entriesOf (s .header .entries) (s .sorts))
+  grown-entries : entries (withRow p kept cells) ≡ push (getD cells (s .header .sort) 0) (s .header .rows) (entriesOf (s .header .entries) (s .sorts))
   grown-entries =
       let sort-same : p .opening .sort ≡ s .header .sort = sym (ap (λ (h : Header). h .sort) (r .shown .header)) in
       entries-snoc p kept cells
       ∙ rw (q .entries-same, q .count-same, ← rows-counted r, r .shown .entries-shown, sort-same)
 
-  grown-later : Later p (grownBy p kept cells)
+  grown-later : Later p (withRow p kept cells)
   grown-later =
       let n = q .count-same in
       record {
@@ -187,22 +188,31 @@ module _ {p : Plain} {s : Stores} (r : Represents p s) {kept : List Row} {base :
       }
 
   module _ (n : ℕ) (sorts′ : List ℕ) (entered : Entered (s .header) (s .sorts) (getD cells (s .header .sort) 0) n sorts′) where
-    entries-grown : entriesOf n sorts′ ≡ entries (grownBy p kept cells)
+    entries-grown : entriesOf n sorts′ ≡ entries (withRow p kept cells)
     entries-grown = entered .entries ∙ sym grown-entries
 
-    grown-header : withCounts (s .header) (s .header .rows + 1) (dead (withRows p kept)) n ≡ headerOf (grownBy p kept cells)
+    -- its sort value is the largest
+    grown-largest : Value (getD cells (s .header .sort) 0) ≡ headerOf (withRow p kept cells) .largest
+    unfolding largestOf
+    grown-largest =
+        let value : ℕ = getD cells (p .opening .sort) 0 in
+        let above = rw (r .shown .header, says-of (p .largest)) at (free-above (s .header) (getD cells (s .header .sort) 0) (entered .free)) in
+        rw (r .shown .header) (ap Value (sym (raised-same value (p .largest) above)))
+
+    grown-header : grownTo (s .header) (dead (withRows p kept)) n (getD cells (s .header .sort) 0) ≡ headerOf (withRow p kept cells)
     grown-header =
         let a : s .header .rows + 1 ≡ length (kept ++ (liveRow cells ∷ [])) = simp length-append (omega (arith, rows-counted r, q .count-same)) in
         let b = sym (dead-snoc p kept cells) in
         let c = sym (length-entriesOf n sorts′) ∙ ap length entries-grown in
         let e = r .shown .header in
-        λ k. withCounts (e k) (a k) (b k) (c k)
+        let l = grown-largest in
+        λ k. withCounts (e k) (a k) (b k) (c k) (l k)
 
     -- the stores of p have become those of the table with the row
-    pub grown-steps : Proper (grownBy p kept cells) → (d : ℕ) → d ≡ dead (withRows p kept) → (rows′ : List ℕ)
+    pub grown-steps : Proper (withRow p kept cells) → (d : ℕ) → d ≡ dead (withRows p kept) → (rows′ : List ℕ)
         → rows′ ≡ putAt base (s .header .rows * s .header .columns) cells
-        → (keys′ : List ℕ) → length keys′ ≡ length (s .keys) → KeysSound (keyedOf (withCounts (s .header) (s .header .rows + 1) d n)) rows′ keys′
-        → Steps p (grownBy p kept cells) s (stores (withCounts (s .header) (s .header .rows + 1) d n) rows′ keys′ sorts′ (s .pending))
+        → (keys′ : List ℕ) → length keys′ ≡ length (s .keys) → KeysSound (keyedOf (grownTo (s .header) d n (getD cells (s .header .sort) 0))) rows′ keys′
+        → Steps p (withRow p kept cells) s (stores (grownTo (s .header) d n (getD cells (s .header .sort) 0)) rows′ keys′ sorts′ (s .pending))
     unfolding sortStore
     grown-steps proper d dead-is rows′ rows-is keys′ keys-same sound =
         let long = represents-long r in
@@ -225,7 +235,7 @@ module _ {p : Plain} {s : Stores} (r : Represents p s) {kept : List Row} {base :
                 shown =
                     record {
                       header = rw dead-is grown-header;
-                      rows-shown = stored-rows (withCounts (s .header) (s .header .rows + 1) d n) rows′ proper (rw rows-same (long .rows-long)) (rw dead-is grown-header) (rw rows-is grown-shown);
+                      rows-shown = stored-rows (grownTo (s .header) d n (getD cells (s .header .sort) 0)) rows′ proper (rw rows-same (long .rows-long)) (rw dead-is grown-header) (rw rows-is grown-shown);
                       entries-shown = entries-grown;
                       pending-held = r .shown .pending-held;
                     };

@@ -2,17 +2,19 @@
 -- the old one of a known key. Of any stores, sound or not. Assumes nothing.
 use Prim.Native.Nat.{ℕ, _+_, _*_, _≤_, _<_}
 use mathlib.Core.Path.{_≡_}
-use mathlib.Core.Bool.{Bool, not}
+use mathlib.Core.Bool.{Bool}
 use mathlib.Core.List.{List, [], _∷_}
 use lib.Dec.{leb}
 use lib.ListN.{length, getD, set}
 use Rattle.lists.specs.Lists.{putAt}
 use Rattle.refusals.specs.Refusals.{rung, first}
 use Rattle.sort_entries.specs.Entries.{entriesOf, words, push}
-use Rattle.sort_entries.specs.inner.Admission.{admits}
 use Rattle.key_index.specs.Slots.{tagged}
 use Rattle.key_index.specs.inner.Index.{Fits, PutIs}
+use Rattle.plain.specs.Plain.{below}
 use Rattle.table.specs.declared.Header.{Header}
+use Rattle.table.specs.declared.Largest.the-variants.{Value}
+use Rattle.table.specs.Numbers.{largestSays}
 use Rattle.appending.specs.declared.Insertion.{Insertion}
 use Rattle.appending.specs.declared.Insertion.the-variants.{Kept, Appended, Stopped}
 use Rattle.appending.specs.declared.Admission.{Admission}
@@ -22,10 +24,10 @@ use Rattle.pending.specs.inner.Becoming.{withCounts}
 
 -- ---- a row enters the sort entries
 
--- "8, row count equals capacity, tested before 9, sort value below the last entry's"; 0 if neither
-unfoldable pub stopAt : Header → List ℕ → ℕ → ℕ
-stopAt h sorts value =
-    first (rung (leb (h .capacity) (h .rows)) 8 ∷ rung (not (admits value (entriesOf (h .entries) sorts))) 9 ∷ [])
+-- "8, row count equals capacity, tested before 9", "a sort value below that kept value"; 0 if neither
+unfoldable pub stopAt : Header → ℕ → ℕ
+stopAt h value =
+    first (rung (leb (h .capacity) (h .rows)) 8 ∷ rung (below value (largestSays (h .largest))) 9 ∷ [])
 
 -- there is place for an entry where there is place for a row
 pub record Enterable (h : Header) (sorts : List ℕ) : Type 0 where
@@ -34,13 +36,13 @@ pub record Enterable (h : Header) (sorts : List ℕ) : Type 0 where
   pub sorts-long : 2 * h .capacity ≤ length sorts
 
 -- the merge stops with this number
-pub record Stops (h : Header) (sorts : List ℕ) (value n : ℕ) : Type 0 where
-  pub number : stopAt h sorts value ≡ n
+pub record Stops (h : Header) (value n : ℕ) : Type 0 where
+  pub number : stopAt h value ≡ n
   pub some : 0 < n
 
 -- the store holds the entries with the next row's, as many as said
 pub record Entered (h : Header) (sorts : List ℕ) (value n : ℕ) (sorts′ : List ℕ) : Type 0 where
-  pub free : stopAt h sorts value ≡ 0
+  pub free : stopAt h value ≡ 0
   pub room : h .rows < h .capacity
   pub few : n ≤ h .entries + 1
   pub entries : entriesOf n sorts′ ≡ push value (h .rows) (entriesOf (h .entries) sorts)
@@ -49,10 +51,14 @@ pub record Entered (h : Header) (sorts : List ℕ) (value n : ℕ) (sorts′ : L
 
 -- a stop writes nothing
 abbrev pub AdmissionIs : Header → List ℕ → ℕ → List ℕ → Admission → Type 0
-AdmissionIs h sorts value sorts′ (Stop n) = Stops h sorts value n × (sorts′ ≡ sorts)
+AdmissionIs h sorts value sorts′ (Stop n) = Stops h value n × (sorts′ ≡ sorts)
 AdmissionIs h sorts value sorts′ (Entries n) = Entered h sorts value n sorts′
 
 -- ---- a row is appended
+
+-- the header with a row more: so many rows are dead, there are so many sort entries, and its sort value is the largest
+abbrev pub grownTo : Header → ℕ → ℕ → ℕ → Header
+grownTo h dead entries value = withCounts h (h .rows + 1) dead entries (Value value)
 
 -- stores long enough for a row more, and the row's cells
 pub record Growable (h : Header) (rows keys sorts cells : List ℕ) : Type 0 where
@@ -65,7 +71,7 @@ pub record Growable (h : Header) (rows keys sorts cells : List ℕ) : Type 0 whe
 
 -- a stop leaves the stores as they were
 pub record Stayed (h : Header) (rows keys sorts cells : List ℕ) (n : ℕ) (rows′ keys′ sorts′ : List ℕ) : Type 0 where
-  pub stops : Stops h sorts (getD cells (h .sort) 0) n
+  pub stops : Stops h (getD cells (h .sort) 0) n
   pub same-rows : rows′ ≡ rows
   pub same-keys : keys′ ≡ keys
   pub same-sorts : sorts′ ≡ sorts
@@ -73,7 +79,7 @@ pub record Stayed (h : Header) (rows keys sorts cells : List ℕ) (n : ℕ) (row
 -- the row stands after the others, its number in the key store
 pub record Grew (h : Header) (rows keys sorts cells : List ℕ) (hash : ℕ) (h′ : Header) (rows′ keys′ sorts′ : List ℕ) : Type 0 where
   pub entered : Entered h sorts (getD cells (h .sort) 0) (h′ .entries) sorts′
-  pub header : h′ ≡ withCounts h (h .rows + 1) (h .dead) (h′ .entries)
+  pub header : h′ ≡ grownTo h (h .dead) (h′ .entries) (getD cells (h .sort) 0)
   pub rows-after : rows′ ≡ putAt rows (h .rows * h .columns) cells
   pub keys-after : (r : Bool) × PutIs (2 * h .capacity) keys hash (h .rows) r keys′
 
@@ -86,7 +92,7 @@ NewIs h rows keys sorts cells hash rows′ keys′ sorts′ (Stopped n) = Stayed
 -- the row stands after the others, its number in the old row's slot, and the old row has the dead mark
 pub record Replaced (h : Header) (rows keys sorts cells : List ℕ) (hash old slot : ℕ) (h′ : Header) (rows′ keys′ sorts′ : List ℕ) : Type 0 where
   pub entered : Entered h sorts (getD cells (h .sort) 0) (h′ .entries) sorts′
-  pub header : h′ ≡ withCounts h (h .rows + 1) (h .dead + 1) (h′ .entries)
+  pub header : h′ ≡ grownTo h (h .dead + 1) (h′ .entries) (getD cells (h .sort) 0)
   pub rows-after : rows′ ≡ putAt (set rows (old * h .columns) 4294967295) (h .rows * h .columns) cells
   pub keys-after : keys′ ≡ set keys slot (tagged hash (h .rows))
 

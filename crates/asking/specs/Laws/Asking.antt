@@ -20,15 +20,15 @@ use Rattle.asking.specs.inner.Steps.{HeaderAsked, Tells}
 
 module _ {A : Type 0} {number : A → ℕ} {told : List ℕ → A → List ℕ} {count : ℕ} where
   module _ {headed : ℕ} {answer : A} {words : List ℕ} where
-    pub tells-unheaded : (headed ≡ 10 → ⊥) → Tells number told count headed answer words 1 words
+    pub tells-unheaded : (headed ≡ 12 → ⊥) → Tells number told count headed answer words 1 words
     tells-unheaded n =
         record { done = λ e d. absurd (n e); unheaded = λ m. (refl, refl); unworded = λ e m. absurd (n e) }
 
-    pub tells-unworded : headed ≡ 10 → (length words ≡ count → ⊥) → Tells number told count headed answer words 2 words
+    pub tells-unworded : headed ≡ 12 → (length words ≡ count → ⊥) → Tells number told count headed answer words 2 words
     tells-unworded l n =
         record { done = λ e d. absurd (n d); unheaded = λ m. absurd (m l); unworded = λ e m. (refl, refl) }
 
-    pub tells-done : {r : ℕ} {words′ : List ℕ} → headed ≡ 10 → length words ≡ count → Told number (told words) answer r words′
+    pub tells-done : {r : ℕ} {words′ : List ℕ} → headed ≡ 12 → length words ≡ count → Told number (told words) answer r words′
         → Tells number told count headed answer words r words′
     tells-done l k t = record { done = λ e d. t; unheaded = λ n. absurd (n l); unworded = λ e n. absurd (n k) }
 

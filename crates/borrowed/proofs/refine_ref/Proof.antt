@@ -87,7 +87,7 @@ module _ {M : Type 1} (𝓤 : URA M) (H : Heap 𝓤) (A : Atoms 𝓤) (W : Given
 
   -- the machine values
   abbrev hv : Val
-  hv = HT′.lowered h
+  hv = LL.val HT.the-type HT′.the-laws h
 
   abbrev sx : Val
   sx = sliceVal (x .ptr) (length (x .now))

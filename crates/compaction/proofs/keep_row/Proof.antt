@@ -47,14 +47,14 @@ cast-cell c = search needs
 add-cell : tie.Need-add-cell
 add-cell c = omega (arith, from-place (c .before .before .before .before .before .before .before .before .before .before .before .before .before .before .pre), to-place (c .before .before .before .before .before .before .before .before .before .before .before .before .before .before .pre))
 
-mul-rebuild-entry : tie.Need-mul-rebuild-entry
-mul-rebuild-entry c = omega (arith, from-place (c .before .before .before .before .before .before .before .before .before .before .before .before .before .before .before .pre), to-place (c .before .before .before .before .before .before .before .before .before .before .before .before .before .before .before .pre))
+mul-append-entry : tie.Need-mul-append-entry
+mul-append-entry c = omega (arith, from-place (c .before .before .before .before .before .before .before .before .before .before .before .before .before .before .before .pre), to-place (c .before .before .before .before .before .before .before .before .before .before .before .before .before .before .before .pre))
 
-slice-read-rebuild-entry : tie.Need-slice-read-rebuild-entry
-slice-read-rebuild-entry c = omega (arith, from-place (c .before .before .before .before .before .before .before .before .before .before .before .before .before .before .before .before .pre), to-place (c .before .before .before .before .before .before .before .before .before .before .before .before .before .before .before .before .pre), c .before .before .before .before .before .before .before .before .before .before .before .before .before .before .before .before .pre .sort-column)
+slice-read-append-entry : tie.Need-slice-read-append-entry
+slice-read-append-entry c = omega (arith, from-place (c .before .before .before .before .before .before .before .before .before .before .before .before .before .before .before .before .pre), to-place (c .before .before .before .before .before .before .before .before .before .before .before .before .before .before .before .before .pre), c .before .before .before .before .before .before .before .before .before .before .before .before .before .before .before .before .pre .sort-column)
 
-rebuild-entry-requires : tie.Need-rebuild-entry-requires
-rebuild-entry-requires c κs = search needs
+append-entry-requires : tie.Need-append-entry-requires
+append-entry-requires c κs = search needs
 
 same-length : tie.Need-same-length
 same-length c = search needs
@@ -67,7 +67,7 @@ same-length-3 c = search needs
 
 returns : tie.Need-returns
 returns c =
-    row-kept (c .before .before .before .before .before .before .before .before .before .before .before .before .before .before .before .before .before .before .before .pre) _ _ _ _ (c .before .before .before .before .before .before .before .before .before .before .before .before .before .before .add-mark .ensures) (c .before .before .before .before .before .before .before .before .move-down .ensures) (c .before .before .rebuild-entry .ensures)
+    row-kept (c .before .before .before .before .before .before .before .before .before .before .before .before .before .before .before .before .before .before .before .pre) _ _ _ _ (c .before .before .before .before .before .before .before .before .before .before .before .before .before .before .add-mark .ensures) (c .before .before .before .before .before .before .before .before .move-down .ensures) (c .before .before .append-entry .ensures)
 
 pub keep-row-spec : {M : Type 1} → statement M
 keep-row-spec =
@@ -87,9 +87,9 @@ keep-row-spec =
     move-down-requires
     cast-cell
     add-cell
-    mul-rebuild-entry
-    slice-read-rebuild-entry
-    rebuild-entry-requires
+    mul-append-entry
+    slice-read-append-entry
+    append-entry-requires
     same-length
     same-length-2
     same-length-3

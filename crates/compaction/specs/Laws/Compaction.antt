@@ -21,7 +21,7 @@ use Rattle.lists.specs.Laws.Rows.{widths, length-rowsOf, length-rowAt, rowsOf-s
 use Rattle.cells.specs.Cells.{isDead}
 use Rattle.constraints.specs.Constraints.{isLive}
 use Rattle.sort_entries.specs.Entries.{Entry, entry, entriesOf, words, last, push, rebuilt}
-use Rattle.sort_entries.specs.inner.Append.{Rebuild}
+use Rattle.sort_entries.specs.inner.Append.{Append}
 use Rattle.sort_entries.specs.Laws.Push.{push-new, push-same, rebuilt-snoc}
 use Rattle.sort_entries.specs.Laws.Rebuilt.{rebuilt-few}
 use Rattle.sort_entries.specs.Laws.Stores.{length-words, words-snoc, entriesOf-put}
@@ -132,7 +132,7 @@ module _ (sorts : List ℕ) (es : List Entry) (fits : 2 * length es + 2 ≤ leng
       (putAt-then sorts (words es) (value ∷ row ∷ []) 0 (omega (arith, length-words es)))
   rebuilt-words false e = rw (push-same value row es e)
 
-  pub rebuild-one : (n r : ℕ) (after : List ℕ) → n ≡ length es → Rebuild (putAt sorts 0 (words es)) n value row r after
+  pub rebuild-one : (n r : ℕ) (after : List ℕ) → n ≡ length es → Append (putAt sorts 0 (words es)) n value row r after
       → (r ≡ length (push value row es)) × (after ≡ putAt sorts 0 (words (push value row es)))
   rebuild-one n r after e b =
       let held : entriesOf n (putAt sorts 0 (words es)) ≡ es = entriesOf-put es sorts n e in

@@ -9,7 +9,7 @@ use lib.Dec.{eqb}
 use Rattle.lists.specs.Lists.{putAt, keep, rowAt, rowsOf, flat}
 use Rattle.constraints.specs.Constraints.{isLive}
 use Rattle.sort_entries.specs.Entries.{Entry, words, rebuilt}
-use Rattle.sort_entries.specs.inner.Append.{Room, Rebuild}
+use Rattle.sort_entries.specs.inner.Append.{Room, Append}
 use Rattle.key_index.specs.Slots.{LiveAt}
 use Rattle.key_index.specs.inner.Index.{RowsIn}
 use Rattle.key_gaps.specs.inner.Gaps.{newRow}
@@ -38,7 +38,7 @@ pub record Keepable (h : Header) (rows sorts live : List ℕ) (row : ℕ) (kept 
 pub record RowKept (h : Header) (rows sorts live : List ℕ) (row : ℕ) (kept : Kept) (r : ℕ) (rows′ sorts′ live′ : List ℕ) : Type 0 where
   pub moved : rows′ ≡ putAt rows (kept .rows * h .columns) (rowAt (h .columns) row rows)
   pub marked : live′ ≡ set live (row / 64) (getD live (row / 64) 0 + 2 ^ (row % 64))
-  pub recorded : Rebuild sorts (kept .entries) (getD (rowAt (h .columns) row rows) (h .sort) 0) (kept .rows) r sorts′
+  pub recorded : Append sorts (kept .entries) (getD (rowAt (h .columns) row rows) (h .sort) 0) (kept .rows) r sorts′
 
 -- numbers within their bounds, and stores and compaction words long enough
 pub record Closable (h : Header) (rows sorts live base : List ℕ) : Type 0 where
@@ -83,4 +83,5 @@ closedHeader h kept =
       entries = kept .entries;
       pending = h .pending;
       generation = h .generation + 1;
+      largest = h .largest;
     }

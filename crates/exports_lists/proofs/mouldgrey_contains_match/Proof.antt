@@ -175,7 +175,7 @@ module _ {M : Type 1} (𝓤 : URA M) (H : Heap 𝓤) (A : Atoms 𝓤) (W : Given
 
   -- what the callees' triples bind outside
   abbrev to-ask : Header → Ask 𝓤 H A mem run .Ghost
-  to-ask h = (((κ₁, (κ₂, (κ₃, tt))), (q₁, (q₂, (q₃, tt))), tt, (h, (x, (d, (ids, (y, tt))))), (HT′.lowered h ∷ [], (sx ∷ [], (vd ∷ [], (si ∷ [], (sy ∷ [], tt)))))), tt)
+  to-ask h = (((κ₁, (κ₂, (κ₃, tt))), (q₁, (q₂, (q₃, tt))), tt, (h, (x, (d, (ids, (y, tt))))), (LL.val HT.the-type HT′.the-laws h ∷ [], (sx ∷ [], (vd ∷ [], (si ∷ [], (sy ∷ [], tt)))))), tt)
 
   abbrev to-tell : MatchAnswer → Val → Tel 𝓤 H A mem run .Ghost
   to-tell r v = (((κ₄, tt), (q₄, tt), tt, (length (e .now), (r, (z, tt))), (vint w64 (length (e .now)) ∷ [], (v ∷ [], (sz ∷ [], tt)))), tt)
@@ -184,7 +184,7 @@ module _ {M : Type 1} (𝓤 : URA M) (H : Heap 𝓤) (A : Atoms 𝓤) (W : Given
     abbrev is-d : Is DT.the-row d (vd ∷ [])
     is-d = head-is dense start end is-start is-end
 
-    asks-question : (h : Header) → Is HT.the-row h (HT′.lowered h ∷ []) → ent 𝓤 (⋆ 𝓤 H A (‵ (flft κ₁ q₁) ∷ ‵ (flft κ₂ q₂) ∷ ‵ (flft κ₃ q₃) ∷ ‵ OwnX ∷ ‵ OwnI ∷ ‵ OwnY ∷ [])) (Ask 𝓤 H A mem run .pre (to-ask h))
+    asks-question : (h : Header) → Is HT.the-row h (LL.val HT.the-type HT′.the-laws h ∷ []) → ent 𝓤 (⋆ 𝓤 H A (‵ (flft κ₁ q₁) ∷ ‵ (flft κ₂ q₂) ∷ ‵ (flft κ₃ q₃) ∷ ‵ OwnX ∷ ‵ OwnI ∷ ‵ OwnY ∷ [])) (Ask 𝓤 H A mem run .pre (to-ask h))
     asks-question h is-h =
         qed W (‵ (flft κ₁ q₁) ∷ ‵ (flft κ₂ q₂) ∷ ‵ (flft κ₃ q₃) ∷ ‵ OwnX ∷ ‵ OwnI ∷ ‵ OwnY ∷ []) ∵ nothing ! $ move ! (6 ∷ 0 ∷ []) $ fjoin ! $ move ! (5 ∷ 0 ∷ []) $ fjoin ! $ owned ! DT.the-row (Is DT.the-row) (LL.makes DT.the-type DT′.the-plain 𝓤 H A) d _ is-d $ fjoin ! $ move ! (4 ∷ 0 ∷ []) $ fjoin ! $ owned ! HT.the-row (Is HT.the-row) (LL.makes HT.the-type HT′.the-plain 𝓤 H A) h _ is-h $ fjoin ! $ nothing ! $ move ! (4 ∷ 0 ∷ []) $ join ! $ move ! (3 ∷ 0 ∷ []) $ join ! $ move ! (2 ∷ 0 ∷ []) $ join ! $ join ! $ frame ! $ done !
 
@@ -212,7 +212,7 @@ module _ {M : Type 1} (𝓤 : URA M) (H : Heap 𝓤) (A : Atoms 𝓤) (W : Given
 
       -- the question is answered: the answer is told, to which words is given up
       tells-answer : (h : Header) (r : MatchAnswer) (v : Val) → Is AT.the-row r (v ∷ []) → HeaderAsked (now e) (length (now z)) 1 h → Asks h r
-          → Sq W (Locals (‵ (fat fullShare HT′.mir l₉ 0 (HT′.lowered h))) (‵ (fat fullShare DT′.mir l₁₀ 0 vd)) (‵ (fat fullShare AT′.mir l₁₁ 0 v)) (‵ (flft κ₀ q₀) ∷ ‵ (flft κ₁ q₁) ∷ ‵ (flft κ₂ q₂) ∷ ‵ (flft κ₃ q₃) ∷ ‵ (flft κ₄ q₄) ∷ ‵ OwnE ∷ ‵ OwnX ∷ ‵ OwnI ∷ ‵ OwnY ∷ ‵ OwnZ ∷ [])) (runs C Λ E mir.t-5 (atRet E Post))
+          → Sq W (Locals (‵ (fat fullShare HT′.mir l₉ 0 (LL.val HT.the-type HT′.the-laws h))) (‵ (fat fullShare DT′.mir l₁₀ 0 vd)) (‵ (fat fullShare AT′.mir l₁₁ 0 v)) (‵ (flft κ₀ q₀) ∷ ‵ (flft κ₁ q₁) ∷ ‵ (flft κ₂ q₂) ∷ ‵ (flft κ₃ q₃) ∷ ‵ (flft κ₄ q₄) ∷ ‵ OwnE ∷ ‵ OwnX ∷ ‵ OwnI ∷ ‵ OwnY ∷ ‵ OwnZ ∷ [])) (runs C Λ E mir.t-5 (atRet E Post))
       tells-answer h r v is-r header asked =
           assigns ! (of-opd ! (load ! (from ! (fld ! refl (stop !))) (look-in ! 26 (sub ! 1 refl (whole !))))) (from ! (stop !)) (init ! 4 refl (tt, record { fits = roomE .0 })) $
           assigns ! (addr ! (from ! (fld ! refl (hop ! (look-in ! 12 (sub ! 0 refl (whole !))) (stop !))))) (from ! (stop !)) (init ! 2 refl (tt, tt)) $
@@ -230,8 +230,8 @@ module _ {M : Type 1} (𝓤 : URA M) (H : Heap 𝓤) (A : Atoms 𝓤) (W : Given
           keep ! (4 ∷ 5 ∷ 6 ∷ 7 ∷ 1 ∷ 8 ∷ 9 ∷ 10 ∷ 11 ∷ 2 ∷ 0 ∷ []) $ by ! (exits t w (zs .1 .1 .0) (asked-told Asks header asked told) lz)))))))
 
       -- the header is read: the question
-      asks-it : (h : Header) → Is HT.the-row h (HT′.lowered h ∷ []) → HeaderAsked (now e) (length (now z)) 1 h
-          → Sq W (Locals (‵ (fat fullShare HT′.mir l₉ 0 (HT′.lowered h))) (‵ (froom DT′.mir l₁₀ 0)) (‵ (froom AT′.mir l₁₁ 0)) (‵ (flft κ₀ q₀) ∷ ‵ (flft κ₁ q₁) ∷ ‵ (flft κ₂ q₂) ∷ ‵ (flft κ₃ q₃) ∷ ‵ (flft κ₄ q₄) ∷ ‵ OwnE ∷ ‵ OwnX ∷ ‵ OwnI ∷ ‵ OwnY ∷ ‵ OwnZ ∷ [])) (runs C Λ E mir.t-3 (atRet E Post))
+      asks-it : (h : Header) → Is HT.the-row h (LL.val HT.the-type HT′.the-laws h ∷ []) → HeaderAsked (now e) (length (now z)) 1 h
+          → Sq W (Locals (‵ (fat fullShare HT′.mir l₉ 0 (LL.val HT.the-type HT′.the-laws h))) (‵ (froom DT′.mir l₁₀ 0)) (‵ (froom AT′.mir l₁₁ 0)) (‵ (flft κ₀ q₀) ∷ ‵ (flft κ₁ q₁) ∷ ‵ (flft κ₂ q₂) ∷ ‵ (flft κ₃ q₃) ∷ ‵ (flft κ₄ q₄) ∷ ‵ OwnE ∷ ‵ OwnX ∷ ‵ OwnI ∷ ‵ OwnY ∷ ‵ OwnZ ∷ [])) (runs C Λ E mir.t-3 (atRet E Post))
       asks-it h is-h header =
           assigns ! (agg ! (and-then ! (load ! (from ! (stop !)) (look ! 22 refl)) (and-then ! (load ! (from ! (stop !)) (look ! 20 refl)) (and-then ! (load ! (from ! (stop !)) (look ! 18 refl)) (no-more !))))) (from ! (stop !)) (init ! 8 refl (LL.lawful DT.the-type DT′.the-laws 𝓤 H A W .typed d _ is-d .0)) $
           move ! (36 ∷ []) $ use1 W (‵ OwnX ⊛ ‵ OwnX) (shr-slice-copy 𝓤 H A W (named 1) κ₁ u32 .twice x (sx ∷ [])) $ split ! $

@@ -184,7 +184,7 @@ module _ {M : Type 1} (𝓤 : URA M) (H : Heap 𝓤) (A : Atoms 𝓤) (W : Given
 
   -- what the callees' triples bind outside
   abbrev to-ask : Header → Ask 𝓤 H A mem run .Ghost
-  to-ask h = (((κ₁, (κ₂, (κ₃, (κ₄, tt)))), (q₁, (q₂, (q₃, (q₄, tt)))), tt, (h, (x, (d, (ids, (place, (n, (y, (o, tt)))))))), (HT′.lowered h ∷ [], (sx ∷ [], (vd ∷ [], (si ∷ [], (vint w32 place ∷ [], (vint w64 n ∷ [], (sy ∷ [], (so ∷ [], tt))))))))), tt)
+  to-ask h = (((κ₁, (κ₂, (κ₃, (κ₄, tt)))), (q₁, (q₂, (q₃, (q₄, tt)))), tt, (h, (x, (d, (ids, (place, (n, (y, (o, tt)))))))), (LL.val HT.the-type HT′.the-laws h ∷ [], (sx ∷ [], (vd ∷ [], (si ∷ [], (vint w32 place ∷ [], (vint w64 n ∷ [], (sy ∷ [], (so ∷ [], tt))))))))), tt)
 
   abbrev to-tell : PageAnswer → Val → Tel 𝓤 H A mem run .Ghost
   to-tell r v = (((κ₅, tt), (q₅, tt), tt, (length (e .now), (r, (z, tt))), (vint w64 (length (e .now)) ∷ [], (v ∷ [], (sz ∷ [], tt)))), tt)
@@ -193,7 +193,7 @@ module _ {M : Type 1} (𝓤 : URA M) (H : Heap 𝓤) (A : Atoms 𝓤) (W : Given
     abbrev is-d : Is DT.the-row d (vd ∷ [])
     is-d = head-is dense start end is-start is-end
 
-    asks-question : (h : Header) → Is HT.the-row h (HT′.lowered h ∷ []) → ent 𝓤 (⋆ 𝓤 H A (‵ (flft κ₁ q₁) ∷ ‵ (flft κ₂ q₂) ∷ ‵ (flft κ₃ q₃) ∷ ‵ (flft κ₄ q₄) ∷ ‵ OwnX ∷ ‵ OwnI ∷ ‵ OwnY ∷ ‵ OwnO ∷ [])) (Ask 𝓤 H A mem run .pre (to-ask h))
+    asks-question : (h : Header) → Is HT.the-row h (LL.val HT.the-type HT′.the-laws h ∷ []) → ent 𝓤 (⋆ 𝓤 H A (‵ (flft κ₁ q₁) ∷ ‵ (flft κ₂ q₂) ∷ ‵ (flft κ₃ q₃) ∷ ‵ (flft κ₄ q₄) ∷ ‵ OwnX ∷ ‵ OwnI ∷ ‵ OwnY ∷ ‵ OwnO ∷ [])) (Ask 𝓤 H A mem run .pre (to-ask h))
     asks-question h is-h =
         qed W (‵ (flft κ₁ q₁) ∷ ‵ (flft κ₂ q₂) ∷ ‵ (flft κ₃ q₃) ∷ ‵ (flft κ₄ q₄) ∷ ‵ OwnX ∷ ‵ OwnI ∷ ‵ OwnY ∷ ‵ OwnO ∷ []) ∵ nothing ! $ move ! (8 ∷ 0 ∷ []) $ fjoin ! $ move ! (7 ∷ 0 ∷ []) $ fjoin ! $ owned ! usize (Is usize) (uint-makes 𝓤 H A W w64) n _ is-n $ fjoin ! $ owned ! u32 (Is u32) (uint-makes 𝓤 H A W w32) place _ is-place $ fjoin ! $ move ! (6 ∷ 0 ∷ []) $ fjoin ! $ owned ! DT.the-row (Is DT.the-row) (LL.makes DT.the-type DT′.the-plain 𝓤 H A) d _ is-d $ fjoin ! $ move ! (5 ∷ 0 ∷ []) $ fjoin ! $ owned ! HT.the-row (Is HT.the-row) (LL.makes HT.the-type HT′.the-plain 𝓤 H A) h _ is-h $ fjoin ! $ nothing ! $ move ! (5 ∷ 0 ∷ []) $ join ! $ move ! (4 ∷ 0 ∷ []) $ join ! $ move ! (3 ∷ 0 ∷ []) $ join ! $ move ! (2 ∷ 0 ∷ []) $ join ! $ join ! $ frame ! $ done !
 
@@ -201,7 +201,7 @@ module _ {M : Type 1} (𝓤 : URA M) (H : Heap 𝓤) (A : Atoms 𝓤) (W : Given
     asks-tell r v is-r =
         qed W (‵ (flft κ₅ q₅) ∷ ‵ OwnZ ∷ []) ∵ nothing ! $ move ! (2 ∷ 0 ∷ []) $ fjoin ! $ owned ! AT.the-row (Is AT.the-row) (EL.makes AT.the-type AT′.the-plain 𝓤 H A) r _ is-r $ fjoin ! $ owned ! usize (Is usize) (uint-makes 𝓤 H A W w64) (length (e .now)) _ (refl, roomE .0) $ fjoin ! $ nothing ! $ move ! (2 ∷ 0 ∷ []) $ join ! $ join ! $ frame ! $ done !
 
-    exits : (t : ℕ) (w : Val) (os : List ℕ) (zs : List ℕ) → Asked ((λ (r : PageAnswer). Asks (headerIn (now e)) r os)) pageNumber pageWords 3 (now e) (now z) t zs × (((length (now e) ≡ 10) × (length (now z) ≡ 3) → ⊥) → os ≡ now o) → length os ≡ length (o .now) → length zs ≡ length (z .now)
+    exits : (t : ℕ) (w : Val) (os : List ℕ) (zs : List ℕ) → Asked ((λ (r : PageAnswer). Asks (headerIn (now e)) r os)) pageNumber pageWords 3 (now e) (now z) t zs × (((length (now e) ≡ 12) × (length (now z) ≡ 3) → ⊥) → os ≡ now o) → length os ≡ length (o .now) → length zs ≡ length (z .now)
         → ent 𝓤 (⋆ 𝓤 H A (‵ (flft κ₀ q₀) ∷ ‵ (flft κ₁ q₁) ∷ ‵ (flft κ₂ q₂) ∷ ‵ (flft κ₃ q₃) ∷ ‵ (flft κ₄ q₄) ∷ (‵ (flft κ₅ q₅) ⊛ ‵ ftrue) ∷ ‵ OwnE ∷ ‵ OwnX ∷ ‵ OwnI ∷ ‵ OwnY ∷ ‵ (finally u32 (o .name) os) ∷ ‵ (finally u32 (z .name) zs) ∷ ‵ (u32 .own t (w ∷ [])) ∷ [])) (Post w)
     exits t w os zs said lo lz =
         qed W (‵ (flft κ₀ q₀) ∷ ‵ (flft κ₁ q₁) ∷ ‵ (flft κ₂ q₂) ∷ ‵ (flft κ₃ q₃) ∷ ‵ (flft κ₄ q₄) ∷ (‵ (flft κ₅ q₅) ⊛ ‵ ftrue) ∷ ‵ OwnE ∷ ‵ OwnX ∷ ‵ OwnI ∷ ‵ OwnY ∷ ‵ (finally u32 (o .name) os) ∷ ‵ (finally u32 (z .name) zs) ∷ ‵ (u32 .own t (w ∷ [])) ∷ []) ∵
@@ -218,7 +218,7 @@ module _ {M : Type 1} (𝓤 : URA M) (H : Heap 𝓤) (A : Atoms 𝓤) (W : Given
 
       -- the question is answered: the answer is told, to which words is given up
       tells-answer : (h : Header) (r : PageAnswer) (v : Val) (os : List ℕ) → Is AT.the-row r (v ∷ []) → HeaderAsked (now e) (length (now z)) 3 h → Asks h r os → length os ≡ length (o .now)
-          → Sq W (Locals (‵ (fat fullShare HT′.mir l₁₂ 0 (HT′.lowered h))) (‵ (fat fullShare DT′.mir l₁₃ 0 vd)) (‵ (fat fullShare AT′.mir l₁₄ 0 v)) (‵ (flft κ₀ q₀) ∷ ‵ (flft κ₁ q₁) ∷ ‵ (flft κ₂ q₂) ∷ ‵ (flft κ₃ q₃) ∷ ‵ (flft κ₄ q₄) ∷ ‵ (flft κ₅ q₅) ∷ ‵ OwnE ∷ ‵ OwnX ∷ ‵ OwnI ∷ ‵ OwnY ∷ ‵ (finally u32 (o .name) os) ∷ ‵ OwnZ ∷ [])) (runs C Λ E mir.t-7 (atRet E Post))
+          → Sq W (Locals (‵ (fat fullShare HT′.mir l₁₂ 0 (LL.val HT.the-type HT′.the-laws h))) (‵ (fat fullShare DT′.mir l₁₃ 0 vd)) (‵ (fat fullShare AT′.mir l₁₄ 0 v)) (‵ (flft κ₀ q₀) ∷ ‵ (flft κ₁ q₁) ∷ ‵ (flft κ₂ q₂) ∷ ‵ (flft κ₃ q₃) ∷ ‵ (flft κ₄ q₄) ∷ ‵ (flft κ₅ q₅) ∷ ‵ OwnE ∷ ‵ OwnX ∷ ‵ OwnI ∷ ‵ OwnY ∷ ‵ (finally u32 (o .name) os) ∷ ‵ OwnZ ∷ [])) (runs C Λ E mir.t-7 (atRet E Post))
       tells-answer h r v os is-r header asked lo =
           assigns ! (of-opd ! (load ! (from ! (fld ! refl (stop !))) (look-in ! 36 (sub ! 1 refl (whole !))))) (from ! (stop !)) (init ! 8 refl (tt, record { fits = roomE .0 })) $
           assigns ! (addr ! (from ! (fld ! refl (hop ! (look-in ! 16 (sub ! 0 refl (whole !))) (stop !))))) (from ! (stop !)) (init ! 2 refl (tt, tt)) $
@@ -236,8 +236,8 @@ module _ {M : Type 1} (𝓤 : URA M) (H : Heap 𝓤) (A : Atoms 𝓤) (W : Given
           keep ! (4 ∷ 5 ∷ 6 ∷ 7 ∷ 8 ∷ 1 ∷ 9 ∷ 10 ∷ 11 ∷ 12 ∷ 13 ∷ 2 ∷ 0 ∷ []) $ by ! (exits t w os (zs .1 .1 .0) ((asked-told (λ h r. Asks h r os) header asked told, λ wrong. page-kept (header .turned-away wrong) asked)) lo lz)))))))
 
       -- the header is read: the question
-      asks-it : (h : Header) → Is HT.the-row h (HT′.lowered h ∷ []) → HeaderAsked (now e) (length (now z)) 3 h
-          → Sq W (Locals (‵ (fat fullShare HT′.mir l₁₂ 0 (HT′.lowered h))) (‵ (froom DT′.mir l₁₃ 0)) (‵ (froom AT′.mir l₁₄ 0)) (‵ (flft κ₀ q₀) ∷ ‵ (flft κ₁ q₁) ∷ ‵ (flft κ₂ q₂) ∷ ‵ (flft κ₃ q₃) ∷ ‵ (flft κ₄ q₄) ∷ ‵ (flft κ₅ q₅) ∷ ‵ OwnE ∷ ‵ OwnX ∷ ‵ OwnI ∷ ‵ OwnY ∷ ‵ OwnO ∷ ‵ OwnZ ∷ [])) (runs C Λ E mir.t-3 (atRet E Post))
+      asks-it : (h : Header) → Is HT.the-row h (LL.val HT.the-type HT′.the-laws h ∷ []) → HeaderAsked (now e) (length (now z)) 3 h
+          → Sq W (Locals (‵ (fat fullShare HT′.mir l₁₂ 0 (LL.val HT.the-type HT′.the-laws h))) (‵ (froom DT′.mir l₁₃ 0)) (‵ (froom AT′.mir l₁₄ 0)) (‵ (flft κ₀ q₀) ∷ ‵ (flft κ₁ q₁) ∷ ‵ (flft κ₂ q₂) ∷ ‵ (flft κ₃ q₃) ∷ ‵ (flft κ₄ q₄) ∷ ‵ (flft κ₅ q₅) ∷ ‵ OwnE ∷ ‵ OwnX ∷ ‵ OwnI ∷ ‵ OwnY ∷ ‵ OwnO ∷ ‵ OwnZ ∷ [])) (runs C Λ E mir.t-3 (atRet E Post))
       asks-it h is-h header =
           assigns ! (agg ! (and-then ! (load ! (from ! (stop !)) (look ! 32 refl)) (and-then ! (load ! (from ! (stop !)) (look ! 30 refl)) (and-then ! (load ! (from ! (stop !)) (look ! 28 refl)) (no-more !))))) (from ! (stop !)) (init ! 12 refl (LL.lawful DT.the-type DT′.the-laws 𝓤 H A W .typed d _ is-d .0)) $
           assigns ! (addr ! (from ! (fld ! refl (hop ! (look-in ! 18 (sub ! 0 refl (whole !))) (stop !))))) (from ! (stop !)) (init ! 6 refl (tt, tt)) $

@@ -183,7 +183,7 @@ module _ {M : Type 1} (𝓤 : URA M) (H : Heap 𝓤) (A : Atoms 𝓤) (W : Given
 
   -- what the callees' triples bind outside
   abbrev to-ask : Header → Ask 𝓤 H A mem run .Ghost
-  to-ask h = (((κ₁, (κ₂, (κ₃, (κ₄, tt)))), (q₁, (q₂, (q₃, (q₄, tt)))), tt, (h, (x, (d, (ids, (y, (o, tt)))))), (HT′.lowered h ∷ [], (sx ∷ [], (vd ∷ [], (si ∷ [], (sy ∷ [], (so ∷ [], tt))))))), tt)
+  to-ask h = (((κ₁, (κ₂, (κ₃, (κ₄, tt)))), (q₁, (q₂, (q₃, (q₄, tt)))), tt, (h, (x, (d, (ids, (y, (o, tt)))))), (LL.val HT.the-type HT′.the-laws h ∷ [], (sx ∷ [], (vd ∷ [], (si ∷ [], (sy ∷ [], (so ∷ [], tt))))))), tt)
 
   abbrev to-tell : SubsetAnswer → Val → Tel 𝓤 H A mem run .Ghost
   to-tell r v = (((κ₅, tt), (q₅, tt), tt, (length (e .now), (r, (z, tt))), (vint w64 (length (e .now)) ∷ [], (v ∷ [], (sz ∷ [], tt)))), tt)
@@ -192,7 +192,7 @@ module _ {M : Type 1} (𝓤 : URA M) (H : Heap 𝓤) (A : Atoms 𝓤) (W : Given
     abbrev is-d : Is DT.the-row d (vd ∷ [])
     is-d = head-is dense start end is-start is-end
 
-    asks-question : (h : Header) → Is HT.the-row h (HT′.lowered h ∷ []) → ent 𝓤 (⋆ 𝓤 H A (‵ (flft κ₁ q₁) ∷ ‵ (flft κ₂ q₂) ∷ ‵ (flft κ₃ q₃) ∷ ‵ (flft κ₄ q₄) ∷ ‵ OwnX ∷ ‵ OwnI ∷ ‵ OwnY ∷ ‵ OwnO ∷ [])) (Ask 𝓤 H A mem run .pre (to-ask h))
+    asks-question : (h : Header) → Is HT.the-row h (LL.val HT.the-type HT′.the-laws h ∷ []) → ent 𝓤 (⋆ 𝓤 H A (‵ (flft κ₁ q₁) ∷ ‵ (flft κ₂ q₂) ∷ ‵ (flft κ₃ q₃) ∷ ‵ (flft κ₄ q₄) ∷ ‵ OwnX ∷ ‵ OwnI ∷ ‵ OwnY ∷ ‵ OwnO ∷ [])) (Ask 𝓤 H A mem run .pre (to-ask h))
     asks-question h is-h =
         qed W (‵ (flft κ₁ q₁) ∷ ‵ (flft κ₂ q₂) ∷ ‵ (flft κ₃ q₃) ∷ ‵ (flft κ₄ q₄) ∷ ‵ OwnX ∷ ‵ OwnI ∷ ‵ OwnY ∷ ‵ OwnO ∷ []) ∵ nothing ! $ move ! (8 ∷ 0 ∷ []) $ fjoin ! $ move ! (7 ∷ 0 ∷ []) $ fjoin ! $ move ! (6 ∷ 0 ∷ []) $ fjoin ! $ owned ! DT.the-row (Is DT.the-row) (LL.makes DT.the-type DT′.the-plain 𝓤 H A) d _ is-d $ fjoin ! $ move ! (5 ∷ 0 ∷ []) $ fjoin ! $ owned ! HT.the-row (Is HT.the-row) (LL.makes HT.the-type HT′.the-plain 𝓤 H A) h _ is-h $ fjoin ! $ nothing ! $ move ! (5 ∷ 0 ∷ []) $ join ! $ move ! (4 ∷ 0 ∷ []) $ join ! $ move ! (3 ∷ 0 ∷ []) $ join ! $ move ! (2 ∷ 0 ∷ []) $ join ! $ join ! $ frame ! $ done !
 
@@ -200,7 +200,7 @@ module _ {M : Type 1} (𝓤 : URA M) (H : Heap 𝓤) (A : Atoms 𝓤) (W : Given
     asks-tell r v is-r =
         qed W (‵ (flft κ₅ q₅) ∷ ‵ OwnZ ∷ []) ∵ nothing ! $ move ! (2 ∷ 0 ∷ []) $ fjoin ! $ owned ! AT.the-row (Is AT.the-row) (EL.makes AT.the-type AT′.the-plain 𝓤 H A) r _ is-r $ fjoin ! $ owned ! usize (Is usize) (uint-makes 𝓤 H A W w64) (length (e .now)) _ (refl, roomE .0) $ fjoin ! $ nothing ! $ move ! (2 ∷ 0 ∷ []) $ join ! $ join ! $ frame ! $ done !
 
-    exits : (t : ℕ) (w : Val) (os : List ℕ) (zs : List ℕ) → Asked ((λ (r : SubsetAnswer). Asks (headerIn (now e)) r os)) subsetNumber subsetWords 3 (now e) (now z) t zs × (((length (now e) ≡ 10) × (length (now z) ≡ 3) → ⊥) → os ≡ now o) → length os ≡ length (o .now) → length zs ≡ length (z .now)
+    exits : (t : ℕ) (w : Val) (os : List ℕ) (zs : List ℕ) → Asked ((λ (r : SubsetAnswer). Asks (headerIn (now e)) r os)) subsetNumber subsetWords 3 (now e) (now z) t zs × (((length (now e) ≡ 12) × (length (now z) ≡ 3) → ⊥) → os ≡ now o) → length os ≡ length (o .now) → length zs ≡ length (z .now)
         → ent 𝓤 (⋆ 𝓤 H A (‵ (flft κ₀ q₀) ∷ ‵ (flft κ₁ q₁) ∷ ‵ (flft κ₂ q₂) ∷ ‵ (flft κ₃ q₃) ∷ ‵ (flft κ₄ q₄) ∷ (‵ (flft κ₅ q₅) ⊛ ‵ ftrue) ∷ ‵ OwnE ∷ ‵ OwnX ∷ ‵ OwnI ∷ ‵ OwnY ∷ ‵ (finally u32 (o .name) os) ∷ ‵ (finally u32 (z .name) zs) ∷ ‵ (u32 .own t (w ∷ [])) ∷ [])) (Post w)
     exits t w os zs said lo lz =
         qed W (‵ (flft κ₀ q₀) ∷ ‵ (flft κ₁ q₁) ∷ ‵ (flft κ₂ q₂) ∷ ‵ (flft κ₃ q₃) ∷ ‵ (flft κ₄ q₄) ∷ (‵ (flft κ₅ q₅) ⊛ ‵ ftrue) ∷ ‵ OwnE ∷ ‵ OwnX ∷ ‵ OwnI ∷ ‵ OwnY ∷ ‵ (finally u32 (o .name) os) ∷ ‵ (finally u32 (z .name) zs) ∷ ‵ (u32 .own t (w ∷ [])) ∷ []) ∵
@@ -217,7 +217,7 @@ module _ {M : Type 1} (𝓤 : URA M) (H : Heap 𝓤) (A : Atoms 𝓤) (W : Given
 
       -- the question is answered: the answer is told, to which words is given up
       tells-answer : (h : Header) (r : SubsetAnswer) (v : Val) (os : List ℕ) → Is AT.the-row r (v ∷ []) → HeaderAsked (now e) (length (now z)) 3 h → Asks h r os → length os ≡ length (o .now)
-          → Sq W (Locals (‵ (fat fullShare HT′.mir l₁₀ 0 (HT′.lowered h))) (‵ (fat fullShare DT′.mir l₁₁ 0 vd)) (‵ (fat fullShare AT′.mir l₁₂ 0 v)) (‵ (flft κ₀ q₀) ∷ ‵ (flft κ₁ q₁) ∷ ‵ (flft κ₂ q₂) ∷ ‵ (flft κ₃ q₃) ∷ ‵ (flft κ₄ q₄) ∷ ‵ (flft κ₅ q₅) ∷ ‵ OwnE ∷ ‵ OwnX ∷ ‵ OwnI ∷ ‵ OwnY ∷ ‵ (finally u32 (o .name) os) ∷ ‵ OwnZ ∷ [])) (runs C Λ E mir.t-7 (atRet E Post))
+          → Sq W (Locals (‵ (fat fullShare HT′.mir l₁₀ 0 (LL.val HT.the-type HT′.the-laws h))) (‵ (fat fullShare DT′.mir l₁₁ 0 vd)) (‵ (fat fullShare AT′.mir l₁₂ 0 v)) (‵ (flft κ₀ q₀) ∷ ‵ (flft κ₁ q₁) ∷ ‵ (flft κ₂ q₂) ∷ ‵ (flft κ₃ q₃) ∷ ‵ (flft κ₄ q₄) ∷ ‵ (flft κ₅ q₅) ∷ ‵ OwnE ∷ ‵ OwnX ∷ ‵ OwnI ∷ ‵ OwnY ∷ ‵ (finally u32 (o .name) os) ∷ ‵ OwnZ ∷ [])) (runs C Λ E mir.t-7 (atRet E Post))
       tells-answer h r v os is-r header asked lo =
           assigns ! (of-opd ! (load ! (from ! (fld ! refl (stop !))) (look-in ! 32 (sub ! 1 refl (whole !))))) (from ! (stop !)) (init ! 8 refl (tt, record { fits = roomE .0 })) $
           assigns ! (addr ! (from ! (fld ! refl (hop ! (look-in ! 16 (sub ! 0 refl (whole !))) (stop !))))) (from ! (stop !)) (init ! 2 refl (tt, tt)) $
@@ -235,8 +235,8 @@ module _ {M : Type 1} (𝓤 : URA M) (H : Heap 𝓤) (A : Atoms 𝓤) (W : Given
           keep ! (4 ∷ 5 ∷ 6 ∷ 7 ∷ 8 ∷ 1 ∷ 9 ∷ 10 ∷ 11 ∷ 12 ∷ 13 ∷ 2 ∷ 0 ∷ []) $ by ! (exits t w os (zs .1 .1 .0) ((asked-told (λ h r. Asks h r os) header asked told, λ wrong. list-kept (header .turned-away wrong) asked)) lo lz)))))))
 
       -- the header is read: the question
-      asks-it : (h : Header) → Is HT.the-row h (HT′.lowered h ∷ []) → HeaderAsked (now e) (length (now z)) 3 h
-          → Sq W (Locals (‵ (fat fullShare HT′.mir l₁₀ 0 (HT′.lowered h))) (‵ (froom DT′.mir l₁₁ 0)) (‵ (froom AT′.mir l₁₂ 0)) (‵ (flft κ₀ q₀) ∷ ‵ (flft κ₁ q₁) ∷ ‵ (flft κ₂ q₂) ∷ ‵ (flft κ₃ q₃) ∷ ‵ (flft κ₄ q₄) ∷ ‵ (flft κ₅ q₅) ∷ ‵ OwnE ∷ ‵ OwnX ∷ ‵ OwnI ∷ ‵ OwnY ∷ ‵ OwnO ∷ ‵ OwnZ ∷ [])) (runs C Λ E mir.t-3 (atRet E Post))
+      asks-it : (h : Header) → Is HT.the-row h (LL.val HT.the-type HT′.the-laws h ∷ []) → HeaderAsked (now e) (length (now z)) 3 h
+          → Sq W (Locals (‵ (fat fullShare HT′.mir l₁₀ 0 (LL.val HT.the-type HT′.the-laws h))) (‵ (froom DT′.mir l₁₁ 0)) (‵ (froom AT′.mir l₁₂ 0)) (‵ (flft κ₀ q₀) ∷ ‵ (flft κ₁ q₁) ∷ ‵ (flft κ₂ q₂) ∷ ‵ (flft κ₃ q₃) ∷ ‵ (flft κ₄ q₄) ∷ ‵ (flft κ₅ q₅) ∷ ‵ OwnE ∷ ‵ OwnX ∷ ‵ OwnI ∷ ‵ OwnY ∷ ‵ OwnO ∷ ‵ OwnZ ∷ [])) (runs C Λ E mir.t-3 (atRet E Post))
       asks-it h is-h header =
           assigns ! (agg ! (and-then ! (load ! (from ! (stop !)) (look ! 28 refl)) (and-then ! (load ! (from ! (stop !)) (look ! 26 refl)) (and-then ! (load ! (from ! (stop !)) (look ! 24 refl)) (no-more !))))) (from ! (stop !)) (init ! 12 refl (LL.lawful DT.the-type DT′.the-laws 𝓤 H A W .typed d _ is-d .0)) $
           assigns ! (addr ! (from ! (fld ! refl (hop ! (look-in ! 18 (sub ! 0 refl (whole !))) (stop !))))) (from ! (stop !)) (init ! 6 refl (tt, tt)) $

@@ -4,6 +4,7 @@ use Prim.Native.Nat.{ℕ}
 use mathlib.Core.Path.{_≡_, refl, sym, ap}
 use mathlib.Core.Bool.{false}
 use mathlib.Core.List.{List, [], _∷_}
+use mathlib.Core.Option.{Option, none, some}
 use native.Mathlib.Omega.{arith}
 use lib.ListN.{length}
 use Rattle.lists.specs.Lists.{putAt, count, rowsOf, flat}
@@ -13,11 +14,12 @@ use Rattle.plain.specs.Staged.{Opening, openable, Staged, insert, removeKey, re
 use Rattle.plain.specs.Refusing.{Lengths, storesShort, wordsShort, openRefusal, compactLadder, mergeLadder}
 use Rattle.plain.specs.Plain.{Plain, Row, dead, opened, withoutKeys, withoutRows, insertAll, applied, compactIfDue, unstaged, merged}
 use Rattle.plain.specs.Calls.{merging, compacting}
+use Rattle.table.specs.declared.Largest.the-variants.{None as NoLargest}
 use Rattle.table.specs.declared.Header.{Header}
 use Rattle.table.specs.declared.TableAnswer.the-variants.{Refused as TableRefused, Table}
 use Rattle.table.specs.declared.Merge.{Merge}
 use Rattle.table.specs.declared.MergeAnswer.the-variants.{Merged}
-use Rattle.table.specs.Numbers.{openingOf, tableSays, mergeSays}
+use Rattle.table.specs.Numbers.{openingOf, largestOf, tableSays, mergeSays}
 use Rattle.table.specs.Refusing.{outside, pendingOutside, mergeRefusal, compactRefusal}
 use Rattle.table.specs.Stores.{entries, stored, rowStore, sortStore}
 use Rattle.table.specs.Promises.{Stores, stores, Represents, body, CompactionWords, compactionWords, headerAfter, headerMerged, mergeOf, mergedRows, mergedSorts, Opened, Merging, MergedTable, Compacting}
@@ -37,6 +39,11 @@ no-rows : (rows : List Row) → length rows ≡ 0 → rows ≡ []
 no-rows [] e = refl
 no-rows (row ∷ rows) e = absurd (omega arith)
 
+none-largest : (l : Option ℕ) → largestOf l ≡ NoLargest → l ≡ none
+unfolding largestOf
+none-largest none e = refl
+none-largest (some v) e = absurd (let z : _≡_ {A = ℕ} 0 1 = cc in omega arith)
+
 -- shows that plain table and no other
 only-opened : {p : Plain} {o : Opening} {generation : ℕ} {rows keys sorts pending : List ℕ} → Represents p (stores (emptyHeader o generation) rows keys sorts pending) → p ≡ opened o generation
 unfolding opened
@@ -46,7 +53,8 @@ only-opened {p} r =
     let g = ap (λ (x : Header). x .generation) h in
     let n = no-rows (p .rows) (sym (ap (λ (x : Header). x .rows) h)) in
     let s = nothing-staged (p .opening) (p .staged) (sym (ap (λ (x : Header). x .pending) h)) in
-    λ i. record { opening = sym a i; generation = sym g i; rows = n i; staged = s i }
+    let l = none-largest (p .largest) (sym (ap (λ (x : Header). x .largest) h)) in
+    λ i. record { opening = sym a i; generation = sym g i; rows = n i; staged = s i; largest = l i }
 
 -- ---- the example
 
@@ -107,7 +115,7 @@ example-merged =
 pub lengths-differ : History example 0
     (record { call = compacting; lengths = lentRows 11 } ∷ record { call = merging; lengths = lentRows 12 } ∷ [])
     exampleStores
-unfolding headerAfter headerMerged tableSays mergeSays opened merged applied keyRemovals rowRemovals inserts withoutKeys withoutRows insertAll compactIfDue unstaged due dead count entries rebuilt pushAll wordsAll
+unfolding headerAfter headerMerged tableSays mergeSays opened merged applied keyRemovals rowRemovals inserts withoutKeys withoutRows insertAll compactIfDue unstaged due dead count entries rebuilt pushAll wordsAll largestOf
 lengths-differ =
     record {
       start = exampleStores;

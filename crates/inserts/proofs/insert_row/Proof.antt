@@ -1,4 +1,5 @@
 -- `insert_row` meets its contract. Assumes nothing.
+use native.Mathlib.Omega.{arith}
 use borrow.Author.Needs.{needs}
 use Rattle.inserts.proofs.InsertSteps.{inserts-skipped, findable, growable, found-row, found-slot, inserts-new, inserts-known}
 use Rattle.inserts.proofs.insert_row.Statement.{statement}
@@ -61,7 +62,7 @@ part-insert-new-start : tie.Need-part-insert-new-start
 part-insert-new-start c = search needs
 
 part-insert-new-end : tie.Need-part-insert-new-end
-part-insert-new-end c = search needs
+part-insert-new-end c = let p = c .before .before .before .before .before .before .before .before .before .before .before .before .before .before .before .before .before .before .before .pre in omega (arith, p .0 .pending-fits, p .1)
 
 insert-new-requires : tie.Need-insert-new-requires
 insert-new-requires c κs =

@@ -5,7 +5,7 @@ use mathlib.Core.Path.{_≡_, refl, sym, ap, ap₂, _∙_}
 use mathlib.Core.Logic.{inl, inr}
 use mathlib.Core.Bool.{Bool, true, false, false≢true}
 use mathlib.Core.Option.{none, some}
-use mathlib.Core.List.{List, [], _∷_, _++_}
+use mathlib.Core.List.{List}
 use native.Mathlib.Nat.{add-zero, suc-mul}
 use native.Mathlib.Numerals.{add-one}
 use native.Mathlib.Omega.{arith}
@@ -28,7 +28,7 @@ use Rattle.key_index.specs.inner.Index.{Fits, FoundAt, FoundIs, PutIs}
 use Rattle.key_index.specs.Laws.Index.{put-sound, replace-sound, replace-tail}
 use Rattle.key_index.specs.Laws.Rows.{WithRows, grown-rows, swapped-rows}
 use Rattle.plain.specs.Staged.{insert, skipped}
-use Rattle.plain.specs.Plain.{unchanged, appended, stopped, Row, Plain, liveRow, withRows, lookup, dead, liveWithKey, killIf, stop, append, put, insertion}
+use Rattle.plain.specs.Plain.{unchanged, appended, stopped, Row, Plain, withRows, withRow, lookup, dead, liveWithKey, killIf, stop, append, put, insertion}
 use Rattle.plain.specs.Proper.{rowOf}
 use Rattle.plain.specs.Laws.Rows.{noRow, liveWithKey-live, apart-of}
 use Rattle.plain.specs.Laws.Proper.{insertion-proper}
@@ -37,9 +37,9 @@ use Rattle.appending.specs.declared.Insertion.{Insertion}
 use Rattle.appending.specs.declared.Insertion.the-variants.{Kept, Appended, Stopped}
 use Rattle.table.specs.Sound.{keyedOf}
 use Rattle.table.specs.Promises.{Stores, stores, Represents}
-use Rattle.pending.specs.inner.Becoming.{Recounted, withCounts, hashOf}
+use Rattle.pending.specs.inner.Becoming.{Recounted, hashOf}
 use Rattle.inserts.specs.inner.Inserting.{Comes, Inserting}
-use Rattle.appending.specs.inner.Appending.{Grew, NewIs, Replaced}
+use Rattle.appending.specs.inner.Appending.{grownTo, Grew, NewIs, Replaced}
 use Rattle.inserts.specs.inner.Ruling.{Changes, rowMade, KnownIs}
 use Rattle.table.specs.Laws.Stored.{marked-dead}
 use Rattle.table.specs.Laws.Shown.{in-live, live-cells}
@@ -47,7 +47,7 @@ use Rattle.table.specs.Laws.Sound.{represents-sound}
 use Rattle.table.specs.Laws.Lookup.{live-passes, row-lookup, none-found}
 use Rattle.pending.specs.Laws.Dying.{killAt, killIf-one, dead-killAt}
 use Rattle.appending.specs.Laws.Admission.{stop-same}
-use Rattle.appending.specs.Laws.Growth.{prepared-same, prepared-dead, grownBy, grown-steps}
+use Rattle.appending.specs.Laws.Growth.{prepared-same, prepared-dead, grown-steps}
 
 keys-same : {p : Plain} {s : Stores} → Represents p s → s .header .keys ≡ p .opening .keys
 keys-same r = ap (λ (h : Header). h .keys) (r .shown .header)
@@ -92,7 +92,7 @@ module _ (cells : List ℕ) (p : Plain) (rows : List Row) where
   unfolding append
   append-stops n e h = rw (e, ne-eqb n 0 (λ q. omega arith))
 
-  append-goes : stop cells p ≡ 0 → append cells p rows ≡ appended (withRows p (rows ++ (liveRow cells ∷ [])))
+  append-goes : stop cells p ≡ 0 → append cells p rows ≡ appended (withRow p rows cells)
   unfolding append
   append-goes e = rw e
 
@@ -143,8 +143,8 @@ module _ (w old : ℕ) (rows : List ℕ) (some : 0 < w) where
       ap (λ (k : ℕ). rowAt w i (set rows k 4294967295)) (sym (add-zero (old * w)))
       ∙ rowAt-set-other w old i 0 rows 4294967295 (λ q. ne (sym q)) some
 
-one-more : (h : Header) (d e : ℕ) → WithRows (keyedOf h) (keyedOf (withCounts h (h .rows + 1) d e)) (h .rows + 1)
-one-more h d e = record { columns = refl; keys = refl; capacity = refl; count = refl }
+one-more : (h : Header) (d e v : ℕ) → WithRows (keyedOf h) (keyedOf (grownTo h d e v)) (h .rows + 1)
+one-more h d e v = record { columns = refl; keys = refl; capacity = refl; count = refl }
 
 -- a live first cell
 first-live : (cells : List ℕ) → isDead (getD cells 0 0) ≡ false → isLive cells ≡ true
@@ -152,18 +152,18 @@ unfolding isLive
 first-live cells e = rw e
 
 module _ (h : Header) (rows keys cells : List ℕ) (hash : ℕ) (fits : Fits (keyedOf h) rows keys) (room : h .rows < h .capacity) (width : length cells ≡ h .columns)
-    (sound : KeysSound (keyedOf h) rows keys) (live : isDead (getD cells 0 0) ≡ false) (d e : ℕ) where
+    (sound : KeysSound (keyedOf h) rows keys) (live : isDead (getD cells 0 0) ≡ false) (d e v : ℕ) where
   cells-in : h .rows * h .columns + length cells ≤ length rows
   cells-in = omega (arith, row-in (h .rows) (h .capacity) (h .columns) room, fits .cells, width)
 
   -- a new key's row
   new-keys : hash ≡ compact (keyHash (take (h .keys) cells)) → (r : Bool) (keys′ : List ℕ) → PutIs (2 * h .capacity) keys hash (h .rows) r keys′
-      → KeysSound (keyedOf (withCounts h (h .rows + 1) d e)) (putAt rows (h .rows * h .columns) cells) keys′
+      → KeysSound (keyedOf (grownTo h d e v)) (putAt rows (h .rows * h .columns) cells) keys′
   new-keys hash-is r keys′ put-is =
       let rows′ : List ℕ = putAt rows (h .rows * h .columns) cells in
       let new = rowAt-new (h .columns) (h .rows) rows cells width cells-in in
-      put-sound (keyedOf h) (keyedOf (withCounts h (h .rows + 1) d e)) rows rows′ keys keys′ hash r fits sound
-      (grown-rows (keyedOf h) (keyedOf (withCounts h (h .rows + 1) d e)) rows rows′ (one-more h d e) room
+      put-sound (keyedOf h) (keyedOf (grownTo h d e v)) rows rows′ keys keys′ hash r fits sound
+      (grown-rows (keyedOf h) (keyedOf (grownTo h d e v)) rows rows′ (one-more h d e v) room
       (rowAt-before (h .columns) (h .rows) rows cells width cells-in)
       (ap isLive new ∙ first-live cells live))
       (hash-is ∙ ap (λ (l : List ℕ). compact (keyHash (take (h .keys) l))) (sym new))
@@ -172,7 +172,7 @@ module _ (h : Header) (rows keys cells : List ℕ) (hash : ℕ) (fits : Fits (ke
   -- a known key's
   known-keys : (key : List ℕ) → hash ≡ compact (keyHash key) → take (h .keys) cells ≡ key → (old slot : ℕ) → FoundAt (keyedOf h) rows keys key old slot
       → (keys′ : List ℕ) → keys′ ≡ set keys slot (tagged hash (h .rows))
-      → KeysSound (keyedOf (withCounts h (h .rows + 1) d e)) (putAt (set rows (old * h .columns) 4294967295) (h .rows * h .columns) cells) keys′
+      → KeysSound (keyedOf (grownTo h d e v)) (putAt (set rows (old * h .columns) 4294967295) (h .rows * h .columns) cells) keys′
   known-keys key hash-is key-is old slot found keys′ keys-is =
       let base : List ℕ = set rows (old * h .columns) 4294967295 in
       let rows′ : List ℕ = putAt base (h .rows * h .columns) cells in
@@ -182,8 +182,8 @@ module _ (h : Header) (rows keys cells : List ℕ) (hash : ℕ) (fits : Fits (ke
       let below : old < h .rows = found .live .0 in
       let old-wide : 1 ≤ length (rowAt (h .columns) old rows) =
       omega (arith, length-rowAt (h .columns) old rows (rw (add-one old, suc-mul) (omega (arith, row-in old (h .rows) (h .columns) below, row-in (h .rows) (h .capacity) (h .columns) room, fits .cells))), fits .some-columns) in
-      replace-sound (keyedOf h) (keyedOf (withCounts h (h .rows + 1) d e)) rows rows′ keys keys′ key hash old slot fits sound
-      (swapped-rows (keyedOf h) (keyedOf (withCounts h (h .rows + 1) d e)) rows rows′ old (one-more h d e) room
+      replace-sound (keyedOf h) (keyedOf (grownTo h d e v)) rows rows′ keys keys′ key hash old slot fits sound
+      (swapped-rows (keyedOf h) (keyedOf (grownTo h d e v)) rows rows′ old (one-more h d e v) room
       (λ i k ne. before i k ∙ rowAt-others (h .columns) old rows (fits .some-columns) i ne)
       (ap isLive (before old below ∙ rowAt-marked (h .columns) old rows (fits .some-columns)) ∙ marked-dead (rowAt (h .columns) old rows) old-wide)
       (ap isLive new ∙ first-live cells live)
@@ -208,9 +208,9 @@ stopped-no : (n : ℕ) (h : Header) → _≡_ {A = Insertion} (Stopped n) (Appen
 stopped-no n h e = let z : _≡_ {A = ℕ} 0 1 = cc in omega arith
 
 -- the counts with a row more still fit
-recounted : (h : Header) (d e : ℕ) → h .rows < h .capacity → h .entries ≤ h .rows → e ≤ h .entries + 1 → d ≤ h .dead + 1
-    → Recounted h (withCounts h (h .rows + 1) d e)
-recounted h d e room few k l =
+recounted : (h : Header) (d e v : ℕ) → h .rows < h .capacity → h .entries ≤ h .rows → e ≤ h .entries + 1 → d ≤ h .dead + 1
+    → Recounted h (grownTo h d e v)
+recounted h d e v room few k l =
     record { counts = refl; rows-fit = omega arith; rows-grow = omega arith; entries-fit = omega arith; dead-fit = omega arith }
 
 put-length : (n : ℕ) (keys : List ℕ) (hash row : ℕ) (r : Bool) (keys′ : List ℕ) → PutIs n keys hash row r keys′ → length keys′ ≡ length keys
@@ -307,33 +307,33 @@ module _ (h : Header) (rows keys sorts cells : List ℕ) (hash : ℕ) where
               → Comes p cells (stores h rows keys sorts pending) rows′ keys′ sorts′ (Appended h′)
           replaced-steps h′ rows′ keys′ sorts′ g =
               let row : List ℕ = rowMade h (rowAt (h .columns) old rows) cells in
-              let goes : insertion cells p ≡ appended (grownBy p (killAt old (p .rows)) row) =
+              let goes : insertion cells p ≡ appended (withRow p (killAt old (p .rows)) row) =
               make-way ∙ append-goes row p (killAt old (p .rows)) (stop-same r row ∙ g .entered .free) in
               let died : h .dead + 1 ≡ dead (withRows p (killAt old (p .rows))) = ap (λ (n : ℕ). n + 1) dead-same ∙ sym (dead-killAt p old old-live) in (
-                grownBy p (killAt old (p .rows)) row,
+                withRow p (killAt old (p .rows)) row,
                 goes,
                 rw (g .header)
                     (grown-steps r (prepared-dead r old old-live) row made-wide (g .entered .room) (h′ .entries) sorts′ (g .entered)
                     (insertion-proper cells p _ (r .proper) wide goes) (h .dead + 1) died rows′ (g .rows-after) keys′
                     (ap length (g .keys-after) ∙ length-set keys slot (tagged hash (h .rows)))
                     (rw (g .rows-after)
-                    (known-keys h rows keys row hash fits (g .entered .room) made-wide (r .keyed) made-live (h .dead + 1) (h′ .entries) (take (h .keys) cells) hash-is made-key old slot there keys′ (g .keys-after)))),
+                    (known-keys h rows keys row hash fits (g .entered .room) made-wide (r .keyed) made-live (h .dead + 1) (h′ .entries) (getD row (h .sort) 0) (take (h .keys) cells) hash-is made-key old slot there keys′ (g .keys-after)))),
               )
 
       -- the stores once a new key's row is appended
       grew-steps : f ≡ None → (h′ : Header) (rows′ keys′ sorts′ : List ℕ) → Grew h rows keys sorts cells hash h′ rows′ keys′ sorts′
           → Comes p cells (stores h rows keys sorts pending) rows′ keys′ sorts′ (Appended h′)
       grew-steps e h′ rows′ keys′ sorts′ g =
-          let goes : insertion cells p ≡ appended (grownBy p (p .rows) cells) =
+          let goes : insertion cells p ≡ appended (withRow p (p .rows) cells) =
           new-way e ∙ append-goes cells p (p .rows) (stop-same r cells ∙ g .entered .free) in (
-            grownBy p (p .rows) cells,
+            withRow p (p .rows) cells,
             goes,
             rw (g .header)
                 (grown-steps r (prepared-same r) cells width (g .entered .room) (h′ .entries) sorts′ (g .entered)
                 (insertion-proper cells p _ (r .proper) wide goes) (h .dead) dead-same rows′ (g .rows-after) keys′
                 (put-length _ _ _ _ (g .keys-after .0) keys′ (g .keys-after .1))
                 (rw (g .rows-after)
-                (new-keys h rows keys cells hash fits (g .entered .room) width (r .keyed) live (h .dead) (h′ .entries) hash-is (g .keys-after .0) keys′ (g .keys-after .1)))),
+                (new-keys h rows keys cells hash fits (g .entered .room) width (r .keyed) live (h .dead) (h′ .entries) (getD cells (h .sort) 0) hash-is (g .keys-after .0) keys′ (g .keys-after .1)))),
           )
 
     -- "A new key is appended"
@@ -346,7 +346,7 @@ module _ (h : Header) (rows keys sorts cells : List ℕ) (hash : ℕ) where
           past = g .keys-after .1 .tail;
           header = λ h″ q.
               rw (← same-header h′ h″ q, g .header)
-              (recounted h (h .dead) (h′ .entries) (g .entered .room) entries-fit (g .entered .few) (omega arith));
+              (recounted h (h .dead) (h′ .entries) _ (g .entered .room) entries-fit (g .entered .few) (omega arith));
           unchanged = λ no. absurd (no h′ refl);
           table = λ hash-is pending p r. grew-steps hash-is r e h′ rows′ keys′ sorts′ g;
         }
@@ -374,7 +374,7 @@ module _ (h : Header) (rows keys sorts cells : List ℕ) (hash : ℕ) where
           past = replace-tail (2 * h .capacity) slot _ keys keys′ (found .slot-in old slot e) (g .1 .keys-after);
           header = λ h″ q.
               rw (← same-header h′ h″ q, g .1 .header)
-              (recounted h (h .dead + 1) (h′ .entries) (g .1 .entered .room) entries-fit (g .1 .entered .few) (omega arith));
+              (recounted h (h .dead + 1) (h′ .entries) _ (g .1 .entered .room) entries-fit (g .1 .entered .few) (omega arith));
           unchanged = λ no. absurd (no h′ refl);
           table = λ hash-is pending p r. replaced-steps hash-is r old slot e (g .0) h′ rows′ keys′ sorts′ (g .1);
         }

@@ -24,7 +24,7 @@ pub record AppliedTable (p : Plain) (s s′ : Stores) (m : Merge) : Type 0 where
 
 pub record Applying (h : Header) (rows keys sorts pending : List ℕ) (m : Merge) (rows′ keys′ sorts′ : List ℕ) : Type 0 where
   pub past : SlotsPast (h .capacity) keys keys′
-  pub counts : m .header ≡ withCounts h (m .header .rows) (m .header .dead) (m .header .entries)
+  pub counts : m .header ≡ withCounts h (m .header .rows) (m .header .dead) (m .header .entries) (m .header .largest)
   pub rows-fit : m .header .rows ≤ h .capacity
   pub table : (p : Plain) → Represents p (stores h rows keys sorts pending)
       → AppliedTable p (stores h rows keys sorts pending) (stores (m .header) rows′ keys′ sorts′ pending) m

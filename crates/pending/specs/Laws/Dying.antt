@@ -179,7 +179,7 @@ dying-header p i e =
     let a = length-killAt i (p .rows) in
     let b = dead-killAt p i e in
     let c = ap length (entries-killAt p i) in
-    λ k. withCounts (headerOf p) (a k) (b k) (c k)
+    λ k. withCounts (headerOf p) (a k) (b k) (c k) (headerOf p .largest)
 
 module _ {p : Plain} {s : Stores} (r : Represents p s) (i : ℕ) (live : rowOf p i .live ≡ true) where
   below : i < s .header .rows

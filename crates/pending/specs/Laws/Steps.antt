@@ -344,7 +344,7 @@ recounted-capacity r = ap (λ (x : Header). x .capacity) (r .counts)
 pub recounted-then : {h n m : Header} → Recounted h n → Recounted n m → Recounted h m
 recounted-then {h} {n} {m} a b =
     record {
-      counts = b .counts ∙ ap (λ (x : Header). withCounts x (m .rows) (m .dead) (m .entries)) (a .counts);
+      counts = b .counts ∙ ap (λ (x : Header). withCounts x (m .rows) (m .dead) (m .entries) (m .largest)) (a .counts);
       rows-fit = omega (arith, recounted-capacity a, b .rows-fit);
       rows-grow = omega (arith, a .rows-grow, b .rows-grow);
       entries-fit = b .entries-fit;

@@ -12,6 +12,7 @@ use Rattle.plain.specs.Staged.{Opening, Staged, insert, removeKey, removeRow, w
 use Rattle.plain.specs.Plain.{Plain}
 use Rattle.plain.specs.Proper.{rowOf}
 use Rattle.table.specs.declared.Header.{Header}
+use Rattle.table.specs.declared.Largest.{Largest}
 use Rattle.table.specs.Numbers.{openingOf, header}
 use Rattle.table.specs.Stores.{rowStore, sortStore, Holds}
 use Rattle.table.specs.Sound.{keyedOf}
@@ -37,15 +38,15 @@ pub record Steps (p p′ : Plain) (s s′ : Stores) : Type 0 where
 
 -- ---- headers and what is lent
 
-abbrev pub withCounts : Header → ℕ → ℕ → ℕ → Header
-withCounts h rows dead entries = header (openingOf h) rows dead entries (h .pending) (h .generation)
+abbrev pub withCounts : Header → ℕ → ℕ → ℕ → Largest → Header
+withCounts h rows dead entries largest = header (openingOf h) rows dead entries (h .pending) (h .generation) largest
 
 abbrev pub withDead : Header → ℕ → Header
-withDead h dead = withCounts h (h .rows) dead (h .entries)
+withDead h dead = withCounts h (h .rows) dead (h .entries) (h .largest)
 
 -- other counts, which still fit: for every row that has died one was appended
 pub record Recounted (h h′ : Header) : Type 0 where
-  pub counts : h′ ≡ withCounts h (h′ .rows) (h′ .dead) (h′ .entries)
+  pub counts : h′ ≡ withCounts h (h′ .rows) (h′ .dead) (h′ .entries) (h′ .largest)
   pub rows-fit : h′ .rows ≤ h .capacity
   pub rows-grow : h .rows ≤ h′ .rows
   pub entries-fit : h′ .entries ≤ h′ .rows

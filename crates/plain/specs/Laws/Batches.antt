@@ -14,7 +14,7 @@ use Rattle.lists.specs.Lists.{keep, firstOf}
 use Rattle.lists.specs.Laws.Keep.{split, keep-append}
 use Rattle.merge_rules.specs.Rules.{Ruled, kept, made, ruled}
 use Rattle.plain.specs.Staged.{Opening, Staged, insert, keyRemovals, rowRemovals, inserts, hasKey, skipped, due}
-use Rattle.plain.specs.Plain.{Row, liveRow, Plain, withRows, Numbered, liveRows, lookup, dead, stage, liveWithKey, killIf, withoutKeys, withoutRows, stop, Insertion, unchanged, appended, stopped, append, put, insertion, goOn, insertAll, applied, compacted, compactIfDue, unstaged, merged}
+use Rattle.plain.specs.Plain.{Row, liveRow, Plain, withRow, Numbered, liveRows, lookup, dead, stage, liveWithKey, killIf, withoutKeys, withoutRows, stop, Insertion, unchanged, appended, stopped, append, put, insertion, goOn, insertAll, applied, compacted, compactIfDue, unstaged, merged}
 use Rattle.plain.specs.Laws.Counts.{insertion-alike, applied-alike}
 use Rattle.plain.specs.Laws.Live.{cells-liveFrom, liveRows-compacted}
 
@@ -92,8 +92,8 @@ unfolding append
 append-leaves cells p rows = go (eqb (stop cells p) 0) refl
   where
     go : (b : Bool) → eqb (stop cells p) 0 ≡ b
-        → Leaves p (cellsOf rows ++ (cells ∷ [])) (cond b (appended (withRows p (rows ++ (liveRow cells ∷ [])))) (stopped (stop cells p)))
-    go true e = live-cells-of (withRows p (rows ++ (liveRow cells ∷ []))) ∙ cells-of-appended rows cells
+        → Leaves p (cellsOf rows ++ (cells ∷ [])) (cond b (appended (withRow p rows cells)) (stopped (stop cells p)))
+    go true e = live-cells-of (withRow p rows cells) ∙ cells-of-appended rows cells
     go false e = let n = eqb-false (stop cells p) 0 e in omega arith
 
 put-leaves : (cells : List ℕ) (found : Option Numbered) (p : Plain) → Leaves p (placed (p .opening) cells (Option·map (λ row. row .cells) found) (liveCells p)) (put cells found p)

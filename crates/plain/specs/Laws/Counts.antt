@@ -13,7 +13,7 @@ use Rattle.lists.specs.Lists.{every}
 use Rattle.lists.specs.Laws.Every.{every-head, every-tail}
 use Rattle.merge_rules.specs.Rules.{Ruled, kept, made, ruled, madeFrom, changesFrom}
 use Rattle.plain.specs.Staged.{RowRemoval, keyRemovals, rowRemovals, inserts, skipped}
-use Rattle.plain.specs.Plain.{Row, liveRow, Plain, withRows, liveWithKey, killIf, withoutKey, withoutKeys, dies, withoutRow, withoutRows, stop, append, put, insertion, applied, Numbered, lookup, Insertion, unchanged, appended, stopped, goOn, insertAll}
+use Rattle.plain.specs.Plain.{Row, Plain, withRows, withRow, liveWithKey, killIf, withoutKey, withoutKeys, dies, withoutRow, withoutRows, stop, append, put, insertion, applied, Numbered, lookup, Insertion, unchanged, appended, stopped, goOn, insertAll}
 use Rattle.merge_rules.specs.Laws.Rules.{ruled-made}
 
 -- ---- removals keep the count of rows
@@ -52,7 +52,7 @@ unfolding withoutRows
 length-withoutRows [] p = refl
 length-withoutRows (r ∷ rs) p = length-withoutRows rs (withoutRow r p) ∙ length-withoutRow r p
 
--- ---- what is left but the rows
+-- ---- what is left but the rows and the largest value
 
 -- the same opening, generation and staged records
 pub record Alike (p q : Plain) : Type 0 where
@@ -96,22 +96,22 @@ pub data Appended (cells : List ℕ) (p : Plain) : Plain → Type 0 where
   new : skipped cells ≡ false
       → lookup p (take (p .opening .keys) cells) ≡ none
       → stop cells p ≡ 0
-      → Appended cells p (withRows p (p .rows ++ (liveRow cells ∷ [])))
+      → Appended cells p (withRow p (p .rows) cells)
   again : (old : Numbered) (row : List ℕ) → skipped cells ≡ false
       → lookup p (take (p .opening .keys) cells) ≡ some old
       → changesFrom (p .opening .rule) (p .opening .keys) (p .opening .sort) 0 (old .cells) cells ≡ true
       → madeFrom (p .opening .rule) (p .opening .keys) (p .opening .sort) 0 (old .cells) cells ≡ row
       → stop row p ≡ 0
-      → Appended cells p (withRows p (killIf (liveWithKey (p .opening .keys) (take (p .opening .keys) cells)) (p .rows) ++ (liveRow row ∷ [])))
+      → Appended cells p (withRow p (killIf (liveWithKey (p .opening .keys) (take (p .opening .keys) cells)) (p .rows)) row)
 
 -- a row is appended only where there is no stop
 append-appended : (cells : List ℕ) (p p′ : Plain) (rows : List Row) → append cells p rows ≡ appended p′
-    → (stop cells p ≡ 0) × (withRows p (rows ++ (liveRow cells ∷ [])) ≡ p′)
+    → (stop cells p ≡ 0) × (withRow p rows cells ≡ p′)
 unfolding append
 append-appended cells p p′ rows e = go (eqb (stop cells p) 0) refl e
   where
-    go : (b : Bool) → eqb (stop cells p) 0 ≡ b → cond b (appended (withRows p (rows ++ (liveRow cells ∷ [])))) (stopped (stop cells p)) ≡ appended p′
-        → (stop cells p ≡ 0) × (withRows p (rows ++ (liveRow cells ∷ [])) ≡ p′)
+    go : (b : Bool) → eqb (stop cells p) 0 ≡ b → cond b (appended (withRow p rows cells)) (stopped (stop cells p)) ≡ appended p′
+        → (stop cells p ≡ 0) × (withRow p rows cells ≡ p′)
     go true q f = (eqb-true (stop cells p) 0 q, cc)
     go false q f = absurd (let z : _≡_ {A = ℕ} 0 1 = cc in omega arith)
 
@@ -146,14 +146,14 @@ appended-count {cells} {p} (new s l q) = simp length-append (omega arith)
 appended-count {cells} {p} (again old row s l c m q) = simp (length-append, length-killIf) (omega arith)
 
 appended-alike : {cells : List ℕ} {p p′ : Plain} → Appended cells p p′ → Alike p p′
-appended-alike {cells} {p} (new s l q) = alike-rows p _
-appended-alike {cells} {p} (again old row s l c m q) = alike-rows p _
+appended-alike (new s l q) = record { opening = refl; generation = refl; staged = refl }
+appended-alike (again old row s l c m q) = record { opening = refl; generation = refl; staged = refl }
 
 -- an insertion that appends adds one row; the others leave the table as it is
 pub insertion-count : (cells : List ℕ) (p p′ : Plain) → insertion cells p ≡ appended p′ → length (p′ .rows) ≡ suc (length (p .rows))
 insertion-count cells p p′ e = appended-count (insertion-appended cells p p′ e)
 
--- it changes rows only
+-- it changes rows and the largest value only
 pub insertion-alike : (cells : List ℕ) (p p′ : Plain) → insertion cells p ≡ appended p′ → Alike p p′
 insertion-alike cells p p′ e = appended-alike (insertion-appended cells p p′ e)
 
@@ -179,7 +179,7 @@ unfolding every
 every-true [] = refl
 every-true (row ∷ rows) = every-true rows
 
--- the inserts change rows only
+-- the inserts change rows and the largest value only
 pub insertAll-alike : (rows : List (List ℕ)) (place : ℕ) (added : Bool) (p : Plain) → Alike p (insertAll rows place added p .table)
 insertAll-alike rows place added p =
     insertAll-keeps (λ t. Alike p t) (λ row. true) (λ cells t t′ u h q. alike-then h (insertion-alike cells t t′ q)) rows (every-true rows) place added p (alike-same p)
@@ -190,7 +190,7 @@ insertAll-count rows place added p =
     insertAll-keeps (λ t. length (p .rows) ≤ length (t .rows)) (λ row. true) (λ cells t t′ u h q. omega (arith, insertion-count cells t t′ q)) rows (every-true rows) place added p
     (omega arith)
 
--- a merge's removals and inserts leave all but the rows
+-- a merge's removals and inserts leave all but the rows and the largest value
 pub applied-alike : (p : Plain) → Alike p (applied p .table)
 unfolding applied
 applied-alike p =

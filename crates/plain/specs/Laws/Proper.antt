@@ -3,7 +3,8 @@ use Prim.Native.Nat.{ℕ, _+_, _≤_, _<_, max, _/_}
 use mathlib.Core.Path.{_≡_, refl, sym, ap, _∙_}
 use mathlib.Core.Logic.{inl, inr}
 use mathlib.Core.Bool.{Bool, true, false, not, _&&_, false≢true}
-use mathlib.Core.List.{List, [], _∷_, _++_}
+use mathlib.Core.List.{List, [], _∷_}
+use mathlib.Core.Option.{Option, none}
 use native.Mathlib.Decide.{ℕ-discrete}
 use native.Mathlib.Omega.{arith}
 use lib.Dec.{leb, ltb, eqb}
@@ -14,13 +15,13 @@ use Rattle.lists.specs.Laws.Keep.{split, and-left, and-right, every-getD}
 use Rattle.lists.specs.Laws.Every.{and-both, every-head, every-tail, every-cons, every-snoc}
 use Rattle.cells.specs.Cells.{isDead}
 use Rattle.plain.specs.Staged.{Opening, openable, Staged, insert, removeKey, removeRow, RowRemoval, keyRemovals, rowRemovals, inserts, skipped, due}
-use Rattle.plain.specs.Plain.{Row, liveRow, Plain, with, withRows, opened, stage, liveWithKey, killIf, withoutKey, withoutKeys, dies, withoutRow, withoutRows, stop, insertion, applied, dead, compacted, compactIfDue, unstaged, merged, cleared, lastValue, below, appended, insertAll}
+use Rattle.plain.specs.Plain.{Row, Plain, withRows, opened, stage, liveWithKey, killIf, withoutKey, withoutKeys, dies, withoutRow, withoutRows, stop, insertion, applied, dead, compacted, compactIfDue, unstaged, merged, cleared, below, withRow, appended, insertAll}
 use Rattle.plain.specs.Refusing.{Lengths, wrongWidth, stageLadder, compactLadder, clearLadder}
 use Rattle.plain.specs.Calls.{Call, staging, merging, compacting, clearing, refusal, done, after, Lent, afterAll, countsOf, pendingShort}
 use Rattle.plain.specs.Proper.{rowOf, Proper}
 use Rattle.merge_rules.specs.Laws.Rules.{made-length, made-keys, made-first}
 use Rattle.plain.specs.Laws.Lookup.{lookup-none, lookup-at}
-use Rattle.plain.specs.Laws.Rows.{noRow, sortOf, wideRow, freeRow, Tidy, liveWithKey-key, free-dead, apart-of, apart-at, up-of, up-sorted, last-above, Thinned, killIf-thinned, dies-thinned, keep-thinned, thinned-same, thinned-length, thinned-every, thinned-tidy, tidy-snoc}
+use Rattle.plain.specs.Laws.Rows.{noRow, wideRow, freeRow, Tidy, liveWithKey-key, free-dead, apart-of, apart-at, up-of, up-sorted, Thinned, killIf-thinned, dies-thinned, keep-thinned, thinned-same, thinned-length, thinned-tidy, tidy-snoc}
 use Rattle.plain.specs.Laws.Calls.{refused-nothing, accepted-done, first-no, first-rest}
 use Rattle.plain.specs.Laws.Counts.{Appended, new, again, insertion-appended, insertion-alike, insertAll-keeps, alike-then, withoutKeys-alike, withoutRows-alike}
 
@@ -80,7 +81,7 @@ abbrev pub Whole : Opening → List Staged → Type 0
 Whole o staged = every (λ r. not (wrongWidth o r)) staged ≡ true
 
 -- a proper table's rows are tidy
-pub proper-tidy : {p : Plain} → Proper p → Tidy (p .opening) (p .rows)
+pub proper-tidy : {p : Plain} → Proper p → Tidy (p .opening) (p .largest) (p .rows)
 proper-tidy {p} h =
     record {
       fit = h .rows-fit;
@@ -88,10 +89,11 @@ proper-tidy {p} h =
       first = h .live-first;
       differ = apart-of (p .opening .keys) (p .rows) (h .keys-differ);
       climb = up-of (p .opening .sort) 0 (p .rows) (λ j k. omega arith) (h .sorted);
+      kept = h .largest-kept;
     }
 
 -- tidy rows, and the rest, make a proper table
-pub tidy-proper : (p : Plain) → openable (p .opening) ≡ true → p .generation ≤ 4294967295 → Tidy (p .opening) (p .rows) → Whole (p .opening) (p .staged) → Proper p
+pub tidy-proper : (p : Plain) → openable (p .opening) ≡ true → p .generation ≤ 4294967295 → Tidy (p .opening) (p .largest) (p .rows) → Whole (p .opening) (p .staged) → Proper p
 tidy-proper p bounds fits t whole =
     record {
       numbers = bounds;
@@ -101,30 +103,32 @@ tidy-proper p bounds fits t whole =
       live-first = t .first;
       keys-differ = apart-at (p .opening .keys) (p .rows) (t .differ);
       sorted = up-sorted (p .opening .sort) 0 (p .rows) (t .climb);
+      largest-kept = t .kept;
       staged-whole = whole;
     }
 
 -- no rows
-pub tidy-none : (o : Opening) → Tidy o []
+pub tidy-none : (o : Opening) (largest : Option ℕ) → Tidy o largest []
 unfolding every
-tidy-none o =
+tidy-none o largest =
     record {
       fit = omega arith;
       wide = refl;
       first = refl;
       differ = apart-of (o .keys) [] (λ i j p q k. absurd (false≢true p));
       climb = up-of (o .sort) 0 [] (λ j k. omega arith) (λ i j h k. absurd (omega arith));
+      kept = refl;
     }
 
 -- a table is opened
 pub opened-proper : (o : Opening) (generation : ℕ) → openable o ≡ true → generation ≤ 4294967295 → Proper (opened o generation)
 unfolding opened
-opened-proper o generation e h = tidy-proper (opened o generation) e h (tidy-none o) (unfold every in refl)
+opened-proper o generation e h = tidy-proper (opened o generation) e h (tidy-none o none) (unfold every in refl)
 
 -- ---- rows die, and rows go
 
--- other rows, the same opening, generation and staged records
-pub withRows-proper : {p : Plain} (rows : List Row) → Proper p → Tidy (p .opening) rows → Proper (withRows p rows)
+-- other rows, all else the same
+pub withRows-proper : {p : Plain} (rows : List Row) → Proper p → Tidy (p .opening) (p .largest) rows → Proper (withRows p rows)
 withRows-proper {p} rows h t = tidy-proper (withRows p rows) (h .numbers) (h .generation-fits) t (h .staged-whole)
 
 -- some rows dead or gone
@@ -158,8 +162,8 @@ pub stop-room : (cells : List ℕ) (p : Plain) → stop cells p ≡ 0 → length
 unfolding stop
 stop-room cells p e = leb-false _ _ (first-no _ 7 _ e)
 
--- its sort cell is not below the last row's
-pub stop-above : (cells : List ℕ) (p : Plain) → stop cells p ≡ 0 → below (getD cells (p .opening .sort) 0) (lastValue (p .opening .sort) (p .rows)) ≡ false
+-- its sort cell is not below the largest value
+pub stop-above : (cells : List ℕ) (p : Plain) → stop cells p ≡ 0 → below (getD cells (p .opening .sort) 0) (p .largest) ≡ false
 unfolding stop
 stop-above cells p e = first-no _ 8 _ (first-rest _ 7 _ e)
 
@@ -169,14 +173,12 @@ pub append-proper : {p : Plain} (cells : List ℕ) {rows : List Row} → Proper 
     → isDead (getD cells 0 0) ≡ false
     → every (freeRow (p .opening .keys) (take (p .opening .keys) cells)) rows ≡ true
     → stop cells p ≡ 0
-    → Proper (withRows p (rows ++ (liveRow cells ∷ [])))
+    → Proper (withRow p rows cells)
 append-proper {p} cells {rows} h t width head free e =
-    let g = proper-tidy h in
     let room = stop-room cells p e in
-    let last = last-above (p .opening .sort) (getD cells (p .opening .sort) 0) 0 (p .rows) (g .climb) (stop-above cells p e) in
-    withRows-proper (rows ++ (liveRow cells ∷ [])) h
-    (tidy-snoc (p .opening) rows cells (thinned-tidy (p .opening) t g) (omega (arith, thinned-length t)) width head free
-    (thinned-every (λ r. leb (sortOf (p .opening .sort) r) (getD cells (p .opening .sort) 0)) (λ row q. q) t last))
+    tidy-proper (withRow p rows cells) (h .numbers) (h .generation-fits)
+    (tidy-snoc (p .opening) (p .largest) rows cells (thinned-tidy (p .opening) t (proper-tidy h)) (omega (arith, thinned-length t)) width head free (stop-above cells p e))
+    (h .staged-whole)
 
 -- ---- inserts
 
@@ -288,7 +290,7 @@ cleared-proper {p} h f =
     elim (split (ltb 0 (length (p .rows)))) [
       | inl e ↦
           let k = f (ltb-true _ _ e) in
-          rw e (tidy-proper (with p (p .generation + 1) [] []) (h .numbers) (omega arith) (tidy-none (p .opening)) (unfold every in refl))
+          rw e (opened-proper (p .opening) (p .generation + 1) (h .numbers) (omega arith))
       | inr e ↦ rw e (unstaged-proper h)
     ]
 

@@ -5,17 +5,20 @@ use mathlib.Core.Path.{_≡_, refl, sym, ap, _∙_}
 use mathlib.Core.Logic.{inl, inr}
 use mathlib.Core.Bool.{Bool, true, false, not, _&&_, _||_, false≢true}
 use mathlib.Core.List.{List, [], _∷_, _++_}
+use mathlib.Core.Option.{Option, none, some}
+use native.Mathlib.Nat.{le-max-left, le-max-right, max-eq-left}
 use native.Mathlib.Omega.{arith}
 use lib.Dec.{leb, eqb}
 use lib.ListN.{length, take, getD, length-append}
 use borrow.Author.Tests.{ltb-false, leb-true, le-leb, eq-eqb, not-true}
 use Rattle.lists.specs.Lists.{keep, every}
 use Rattle.lists.specs.Laws.Keep.{split, and-left, and-right, every-getD, every-of}
-use Rattle.lists.specs.Laws.Every.{and-both, or-right, or-second, every-head, every-tail, every-cons, every-snoc}
+use Rattle.lists.specs.Laws.Every.{and-both, or-right, or-second, every-head, every-tail, every-cons, every-snoc, every-weaker}
 use Rattle.lists.specs.Laws.Rising.{same-refl, same-eq}
 use Rattle.cells.specs.Cells.{isDead}
 use Rattle.plain.specs.Staged.{Opening, hasKey}
-use Rattle.plain.specs.Plain.{Row, liveRow, deadRow, liveWithKey, killIf, dies, lastValue, below}
+use Rattle.plain.specs.Plain.{Row, liveRow, deadRow, liveWithKey, killIf, dies, below, raised}
+use Rattle.plain.specs.Proper.{atMost}
 
 -- past the end: a dead row of no cells
 abbrev pub noRow : Row
@@ -47,13 +50,18 @@ unfoldable pub upFrom : ℕ → ℕ → List Row → Bool
 upFrom sort x [] = true
 upFrom sort x (row ∷ rows) = leb x (sortOf sort row) && upFrom sort (sortOf sort row) rows
 
--- all that is asked of the rows of a proper table
-pub record Tidy (o : Opening) (rows : List Row) : Type 0 where
+-- the sort cell does not exceed the largest value, and there is one
+abbrev pub keptRow : ℕ → Option ℕ → Row → Bool
+keptRow sort largest row = atMost (sortOf sort row) largest
+
+-- all that is asked of the rows of a proper table, and of the largest value
+pub record Tidy (o : Opening) (largest : Option ℕ) (rows : List Row) : Type 0 where
   pub fit : length rows ≤ o .capacity
   pub wide : every (wideRow (o .columns)) rows ≡ true
   pub first : every firstFits rows ≡ true
   pub differ : apart (o .keys) rows ≡ true
   pub climb : upFrom (o .sort) 0 rows ≡ true
+  pub kept : every (keptRow (o .sort) largest) rows ≡ true
 
 -- ---- a key and its rows
 
@@ -196,18 +204,31 @@ module _ (sort : ℕ) where
       up-cons x r (rows ++ (row ∷ [])) (up-head x r rows e)
       (up-snoc (sortOf sort r) rows row (up-tail x r rows e) (leb-true _ _ (every-head (λ s. leb (sortOf sort s) (sortOf sort row)) r rows f)) (every-tail _ r rows f))
 
-  -- a value that is not below the last row's sort cell is not below any row's
-  pub last-above : (value x : ℕ) (rows : List Row) → upFrom sort x rows ≡ true → below value (lastValue sort rows) ≡ false → every (λ r. leb (sortOf sort r) value) rows ≡ true
-  unfolding lastValue below
-  last-above value x [] e a = unfold every in refl
-  last-above value x (row ∷ []) e a =
-      every-cons (λ r. leb (sortOf sort r) value) row [] (le-leb (sortOf sort row) value (ltb-false value (sortOf sort row) a)) (unfold every in refl)
-  last-above value x (row ∷ next ∷ rows) e a =
-      let t = up-tail x row (next ∷ rows) e in
-      let h = last-above value (sortOf sort row) (next ∷ rows) t a in
-      let k = up-head (sortOf sort row) next rows t in
-      let m : sortOf sort next ≤ value = leb-true _ _ (every-head (λ r. leb (sortOf sort r) value) next rows h) in
-      every-cons (λ r. leb (sortOf sort r) value) row (next ∷ rows) (le-leb (sortOf sort row) value (omega arith)) h
+-- ---- the largest value
+
+-- a value that is not below the largest exceeds none that is at most it
+atMost-above : (value cell : ℕ) (largest : Option ℕ) → below value largest ≡ false → atMost cell largest ≡ true → leb cell value ≡ true
+unfolding below atMost
+atMost-above value cell none a e = absurd (false≢true e)
+atMost-above value cell (some n) a e = le-leb cell value (omega (arith, ltb-false value n a, leb-true cell n e))
+
+-- once a value is appended, the largest does not fall
+atMost-raised : (value cell : ℕ) (largest : Option ℕ) → atMost cell largest ≡ true → atMost cell (some (raised value largest)) ≡ true
+unfolding atMost raised
+atMost-raised value cell none e = absurd (false≢true e)
+atMost-raised value cell (some n) e = le-leb cell _ (omega (arith, leb-true cell n e, le-max-right value n))
+
+-- it is not below that value
+raised-atMost : (value : ℕ) (largest : Option ℕ) → atMost value (some (raised value largest)) ≡ true
+unfolding atMost raised
+raised-atMost value none = le-leb value value (omega arith)
+raised-atMost value (some n) = le-leb value _ (le-max-left value n)
+
+-- it is that value, since one below the largest is turned away
+pub raised-same : (value : ℕ) (largest : Option ℕ) → below value largest ≡ false → raised value largest ≡ value
+unfolding below raised
+raised-same value none a = refl
+raised-same value (some n) a = max-eq-left (ltb-false value n a)
 
 -- ---- rows die, and rows go
 
@@ -282,14 +303,15 @@ thinned-up sort x (died row t) e = up-cons sort x (deadRow row) _ (up-head sort 
 thinned-up sort x (gone row t) e = thinned-up sort x t (up-rest sort x row _ e)
 
 -- tidy rows stay tidy
-pub thinned-tidy : (o : Opening) {a b : List Row} → Thinned a b → Tidy o a → Tidy o b
-thinned-tidy o t g =
+pub thinned-tidy : (o : Opening) {largest : Option ℕ} {a b : List Row} → Thinned a b → Tidy o largest a → Tidy o largest b
+thinned-tidy o {largest} t g =
     record {
       fit = omega (arith, thinned-length t);
       wide = thinned-every (wideRow (o .columns)) (λ row q. q) t (g .wide);
       first = thinned-every firstFits (λ row q. refl) t (g .first);
       differ = thinned-apart (o .keys) t (g .differ);
       climb = thinned-up (o .sort) 0 t (g .climb);
+      kept = thinned-every (keptRow (o .sort) largest) (λ row q. q) t (g .kept);
     }
 
 -- ---- a row is appended
@@ -311,18 +333,24 @@ apart-snoc keys (r ∷ rows) row e f =
         ]
 
 -- a live row that fits is appended to tidy rows
-pub tidy-snoc : (o : Opening) (rows : List Row) (cells : List ℕ) → Tidy o rows
+pub tidy-snoc : (o : Opening) (largest : Option ℕ) (rows : List Row) (cells : List ℕ) → Tidy o largest rows
     → length rows < o .capacity
     → length cells ≡ o .columns
     → isDead (getD cells 0 0) ≡ false
     → every (freeRow (o .keys) (take (o .keys) cells)) rows ≡ true
-    → every (λ r. leb (sortOf (o .sort) r) (getD cells (o .sort) 0)) rows ≡ true
-    → Tidy o (rows ++ (liveRow cells ∷ []))
-tidy-snoc o rows cells g room width head free last =
+    → below (getD cells (o .sort) 0) largest ≡ false
+    → Tidy o (some (raised (getD cells (o .sort) 0) largest)) (rows ++ (liveRow cells ∷ []))
+tidy-snoc o largest rows cells g room width head free above =
+    let value : ℕ = getD cells (o .sort) 0 in
+    let sort : ℕ = o .sort in
     record {
       fit = simp length-append (omega arith);
       wide = every-snoc (wideRow (o .columns)) rows (liveRow cells) (g .wide) (eq-eqb _ _ width);
       first = every-snoc firstFits rows (liveRow cells) (g .first) (rw head);
       differ = apart-snoc (o .keys) rows (liveRow cells) (g .differ) free;
-      climb = up-snoc (o .sort) 0 rows (liveRow cells) (g .climb) (omega arith) last;
+      climb = up-snoc sort 0 rows (liveRow cells) (g .climb) (omega arith) (every-weaker (keptRow sort largest) (λ r. leb (sortOf sort r) value) (λ r. atMost-above value (sortOf sort r) largest above) rows (g .kept));
+      kept =
+          every-snoc (keptRow sort (some (raised value largest))) rows (liveRow cells)
+          (every-weaker (keptRow sort largest) (keptRow sort (some (raised value largest))) (λ r. atMost-raised value (sortOf sort r) largest) rows (g .kept))
+          (raised-atMost value largest);
     }

@@ -11,9 +11,9 @@ use Rattle.refusals.specs.Refusals.{first}
 use Rattle.cells.specs.Cells.{isDead}
 use Rattle.merge_rules.specs.Rules.{ruledColumn, signed, signedLess, smaller, larger, taken, madeCell, madeFrom, changesFrom, ruled}
 use Rattle.plain.specs.Staged.{Opening, openable, insert, removeKey, removeRow, wordsOf, wordsAll, keyRemovals, rowRemovals, inserts, hasKey, skipped, due}
-use Rattle.plain.specs.Refusing.{storesShort, wordsShort, wrongWidth, noSuchRow, overfull, stageLadder, mergeLadder}
-use Rattle.plain.specs.Plain.{Numbered, liveFrom, liveRows, lookup, dead, opened, stage, liveWithKey, killIf, withoutKey, withoutKeys, dies, withoutRow, withoutRows, lastValue, below, stop, append, put, insertion, Inserted, insertAll, applied, compacted, compactIfDue, unstaged, merged}
-use Rattle.plain.specs.Calls.{Call, staging, merging, Lent, countsOf, pendingShort, refusal, done, after, afterAll}
+use Rattle.plain.specs.Refusing.{storesShort, wordsShort, wrongWidth, noSuchRow, overfull, stageLadder, mergeLadder, clearLadder}
+use Rattle.plain.specs.Plain.{Numbered, liveFrom, liveRows, lookup, dead, opened, stage, liveWithKey, killIf, withoutKey, withoutKeys, dies, withoutRow, withoutRows, below, stop, raised, append, put, insertion, Inserted, insertAll, applied, compacted, compactIfDue, unstaged, merged, cleared}
+use Rattle.plain.specs.Calls.{Call, staging, merging, clearing, Lent, countsOf, pendingShort, refusal, done, after, afterAll}
 
 pub record Turn : Type 0 where
   pub opening : Opening
@@ -33,6 +33,15 @@ level key value stamp = key ∷ value ∷ stamp ∷ []
 
 abbrev levels : ℕ → Opening
 levels capacity = record { columns = 3; keys = 1; sort = 2; rule = 1; capacity = capacity }
+
+-- keys 1 to 17, all of stamp 12, are merged and staged for removal; then they are merged away, and a compaction is due
+abbrev removed : List Call
+removed =
+    map (λ key. staging (insert (level key 5 12))) (countFrom 1 17)
+    ++ (merging ∷ map (λ key. staging (removeKey (key ∷ []))) (countFrom 1 17))
+
+abbrev dropped : List Call
+dropped = removed ++ (merging ∷ [])
 
 unfoldable pub turns : List Turn
 turns =
@@ -119,10 +128,7 @@ turns =
     -- a merge that stops compacts nothing, though all its 17 rows are dead
     ∷ record {
       opening = levels 20;
-      before =
-          map (λ key. staging (insert (level key 5 12))) (countFrom 1 17)
-          ++ (merging ∷ map (λ key. staging (removeKey (key ∷ []))) (countFrom 1 17))
-          ++ (staging (insert (level 30 5 11)) ∷ []);
+      before = removed ++ (staging (insert (level 30 5 11)) ∷ []);
       status = 9;
       place = 0;
       added = false;
@@ -148,6 +154,46 @@ turns =
       added = false;
       dead-after = 0;
       live-after = row 0 (level 1 4294967295 12) ∷ [];
+    }
+    -- a compaction drops every row of stamp 12, and 11 still stays out
+    ∷ record {
+      opening = levels 20;
+      before = dropped ++ (staging (insert (level 30 5 11)) ∷ []);
+      status = 9;
+      place = 0;
+      added = false;
+      dead-after = 0;
+      live-after = [];
+    }
+    -- so it does after a clear of that table, which has no rows
+    ∷ record {
+      opening = levels 20;
+      before = dropped ++ (clearing ∷ staging (insert (level 30 5 11)) ∷ []);
+      status = 9;
+      place = 0;
+      added = false;
+      dead-after = 0;
+      live-after = [];
+    }
+    -- a clear that empties rows, here a dead one alone, begins anew
+    ∷ record {
+      opening = levels 9;
+      before = staging (insert (level 1 5 12)) ∷ merging ∷ staging (removeKey (1 ∷ [])) ∷ merging ∷ clearing ∷ staging (insert (level 2 5 11)) ∷ [];
+      status = 0;
+      place = 0;
+      added = true;
+      dead-after = 0;
+      live-after = row 0 (level 2 5 11) ∷ [];
+    }
+    -- a row appended before a stop counts
+    ∷ record {
+      opening = levels 9;
+      before = staging (insert (level 1 5 12)) ∷ staging (insert (level 2 5 11)) ∷ merging ∷ staging (insert (level 3 5 11)) ∷ [];
+      status = 9;
+      place = 0;
+      added = false;
+      dead-after = 0;
+      live-after = row 0 (level 1 5 12) ∷ [];
     }
     ∷ []
 
@@ -180,5 +226,5 @@ comesOut t =
     && sameRows (liveRows (outcome t .table)) (t .live-after)
 
 pub all-come-out : every comesOut turns ≡ true
-unfolding every same count keep countFrom firstOf first isDead ruledColumn signed signedLess smaller larger taken madeCell madeFrom changesFrom ruled openable wordsOf wordsAll keyRemovals rowRemovals inserts hasKey skipped due storesShort wordsShort wrongWidth noSuchRow overfull stageLadder mergeLadder liveFrom liveRows lookup dead opened stage liveWithKey killIf withoutKey withoutKeys dies withoutRow withoutRows lastValue below stop append put insertion insertAll applied compacted compactIfDue unstaged merged countsOf pendingShort refusal done after afterAll turns sameRows comesOut
+unfolding every same count keep countFrom firstOf first isDead ruledColumn signed signedLess smaller larger taken madeCell madeFrom changesFrom ruled openable wordsOf wordsAll keyRemovals rowRemovals inserts hasKey skipped due storesShort wordsShort wrongWidth noSuchRow overfull stageLadder mergeLadder clearLadder liveFrom liveRows lookup dead opened stage liveWithKey killIf withoutKey withoutKeys dies withoutRow withoutRows below stop raised append put insertion insertAll applied compacted compactIfDue unstaged merged cleared countsOf pendingShort refusal done after afterAll turns sameRows comesOut
 all-come-out = refl

@@ -163,7 +163,7 @@ module _ {M : Type 1} (𝓤 : URA M) (H : Heap 𝓤) (A : Atoms 𝓤) (W : Given
   z δ zs = record { ptr = (b, o); name = δ; now = zs }
 
   abbrev vh : Val
-  vh = HT′.lowered h
+  vh = LL.val HT.the-type HT′.the-laws h
 
   abbrev vd : Val
   vd = DT′.lowered d

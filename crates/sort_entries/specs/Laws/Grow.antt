@@ -13,7 +13,6 @@ use Rattle.lists.specs.Laws.Keep.{split, and-left, and-right}
 use Rattle.lists.specs.Laws.Rising.{above-head, above-tail, above-cons}
 use Rattle.lists.specs.Laws.Every.{every-snoc, every-weaker}
 use Rattle.sort_entries.specs.Entries.{Entry, entry, last, push, firstRow, valueAt, entriesSound}
-use Rattle.sort_entries.specs.inner.Admission.{admits}
 use Rattle.sort_entries.specs.Laws.Push.{push-new, push-same}
 use Rattle.sort_entries.specs.Laws.Sound.{values, rowsIn, Climb, sound-climb, sound-first, sound-join}
 
@@ -92,6 +91,10 @@ climb-wider es n m c h = record { rise = c .rise; later = c .later; below = belo
 
 -- ---- a value pushed for the next row
 
+-- it is not below the last entry's
+unfoldable pub admits : ℕ → List Entry → Bool
+admits value es = last (λ v. leb v value) es
+
 -- there is an entry if there is a row
 some-entry : (es : List Entry) (n : ℕ) → firstRow es n ≡ 0 → 0 < n → 0 < length es
 unfolding firstRow
@@ -112,6 +115,9 @@ last-some : (test : ℕ → Bool) (es : List Entry) → last test es ≡ false �
 unfolding last
 last-some test [] e = absurd (true≢false e)
 last-some test (a ∷ es) e = omega arith
+
+pub sound-some : (es : List Entry) (rows : ℕ) → entriesSound es rows ≡ true → 0 < rows → 0 < length es
+sound-some es rows s h = some-entry es rows (sound-first es rows s) h
 
 module _ (es : List Entry) (rows : ℕ) (s : entriesSound es rows ≡ true) where
   climb : Climb es rows

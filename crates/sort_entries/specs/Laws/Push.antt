@@ -11,7 +11,6 @@ use lib.Dec.{leb, ltb}
 use borrow.Author.Tests.{ltb-true, le-leb}
 use Rattle.lists.specs.Laws.Keep.{split}
 use Rattle.sort_entries.specs.Entries.{Entry, entry, last, push, pushAll, rebuilt}
-use Rattle.sort_entries.specs.inner.Admission.{admits}
 
 pub push-new : (value row : ℕ) (es : List Entry) → last (λ v. ltb v value) es ≡ true → push value row es ≡ es ++ (entry value row ∷ [])
 unfolding push
@@ -47,23 +46,3 @@ pushAll-snoc row (x ∷ vs) v es =
 pub rebuilt-snoc : (vs : List ℕ) (v : ℕ) → rebuilt (vs ++ (v ∷ [])) ≡ push v (length vs) (rebuilt vs)
 unfolding rebuilt
 rebuilt-snoc vs v = pushAll-snoc 0 vs v [] ∙ ap (λ (r : ℕ). push v r (pushAll 0 vs [])) (zero-add (length vs))
-
--- a test that passes wherever another does
-last-weaker : (s t : ℕ → Bool) → ((v : ℕ) → s v ≡ true → t v ≡ true) → (es : List Entry) → last s es ≡ true → last t es ≡ true
-unfolding last
-last-weaker s t f [] e = refl
-last-weaker s t f (a ∷ []) e = f (a .value) e
-last-weaker s t f (a ∷ b ∷ es) e = last-weaker s t f (b ∷ es) e
-
--- a value that rises is admitted
-pub rises-admits : (value : ℕ) (es : List Entry) → last (λ v. ltb v value) es ≡ true → admits value es ≡ true
-unfolding admits
-rises-admits value es e = last-weaker (λ v. ltb v value) (λ v. leb v value) (λ v q. let h = ltb-true v value q in le-leb v value (omega arith)) es e
-
--- a value below the last one leaves the entries as they are
-pub push-below : (value row : ℕ) (es : List Entry) → admits value es ≡ false → push value row es ≡ es
-push-below value row es e =
-    elim (split (last (λ v. ltb v value) es)) [
-      | inl q ↦ absurd (true≢false (sym (rises-admits value es q) ∙ e))
-      | inr q ↦ push-same value row es q
-    ]

@@ -14,9 +14,8 @@ use borrow.Author.Tests.{leb-true, le-leb}
 use Rattle.lists.specs.Lists.{keep, every, rising}
 use Rattle.lists.specs.Laws.Keep.{split, keep-yes, keep-no}
 use Rattle.sort_entries.specs.Entries.{Entry, last, push, rebuilt, pushAll, firstRow, valueAt, entriesSound, begins}
-use Rattle.sort_entries.specs.inner.Admission.{admits}
 use Rattle.sort_entries.specs.Laws.Push.{push-few, push-grows, rebuilt-snoc}
-use Rattle.sort_entries.specs.Laws.Grow.{last-valueAt, admits-valueAt, admits-none, push-sound, push-earlier, push-here}
+use Rattle.sort_entries.specs.Laws.Grow.{admits, admits-valueAt, admits-none, push-sound, push-earlier, push-here}
 
 -- a value is at least each one before it
 abbrev pub NeverFalls : List ℕ → Type 0
@@ -73,24 +72,6 @@ module _ (vs : List ℕ) (falls : NeverFalls vs) where
   pub rebuilt-valueAt : (i : ℕ) → i < length vs → valueAt i (rebuilt vs) ≡ getD vs i 0
   rebuilt-valueAt = all-built .recorded
 
-  -- its last value is the last row's
-  pub rebuilt-last : (test : ℕ → Bool) → 0 < length vs → last test (rebuilt vs) ≡ test (getD vs (length vs - 1) 0)
-  rebuilt-last test h = last-valueAt (rebuilt vs) (length vs) rebuilt-sound test h ∙ ap test (rebuilt-valueAt (length vs - 1) (omega arith))
-
-  pub rebuilt-admits : (v : ℕ) → 0 < length vs → admits v (rebuilt vs) ≡ leb (getD vs (length vs - 1) 0) v
-  unfolding admits
-  rebuilt-admits v h = rebuilt-last (λ w. leb w v) h
-
--- there is no entry without a row
-pub rebuilt-none : (vs : List ℕ) → length vs ≡ 0 → rebuilt vs ≡ []
-unfolding rebuilt pushAll
-rebuilt-none [] e = refl
-rebuilt-none (v ∷ vs) e = absurd (omega arith)
-
-pub rebuilt-admits-none : (vs : List ℕ) (v : ℕ) → length vs ≡ 0 → admits v (rebuilt vs) ≡ true
-unfolding admits last
-rebuilt-admits-none vs v e = rw (rebuilt-none vs e)
-
 -- never more entries than rows, whatever the values
 pushAll-few : (row : ℕ) (vs : List ℕ) (es : List Entry) → length (pushAll row vs es) ≤ length es + length vs
 unfolding pushAll
@@ -118,39 +99,6 @@ unfolding rebuilt
 rebuilt-front n vs = pushAll-front 0 n vs []
 
 -- ---- values that never fall
-
-module _ (vs : List ℕ) (falls : NeverFalls vs) (v : ℕ) where
-  -- a value is admitted if there is no row, or the last row's is not above it
-  pub admits-of : (0 < length vs → getD vs (length vs - 1) 0 ≤ v) → admits v (rebuilt vs) ≡ true
-  admits-of f =
-      elim (decLt 0 (length vs)) [
-        | yes h ↦ rebuilt-admits vs falls v h ∙ le-leb _ _ (f h)
-        | no h ↦ rebuilt-admits-none vs v (omega arith)
-      ]
-
-  pub admits-last : admits v (rebuilt vs) ≡ true → 0 < length vs → getD vs (length vs - 1) 0 ≤ v
-  admits-last e h = leb-true _ _ (sym (rebuilt-admits vs falls v h) ∙ e)
-
-  -- with an admitted value after them they still never fall
-  pub falls-snoc : admits v (rebuilt vs) ≡ true → NeverFalls (vs ++ (v ∷ []))
-  falls-snoc e i j h k =
-      let n : length (vs ++ (v ∷ [])) ≡ length vs + 1 = length-append vs (v ∷ []) in
-      elim (decLt j (length vs)) [
-        | yes p ↦
-            let q : i < length vs = omega arith in
-            rw (List·getD-append vs (v ∷ []) 0 i q, List·getD-append vs (v ∷ []) 0 j p) (falls i j h p)
-        | no p ↦
-            let z : j ≡ length vs = omega arith in
-            let a : getD (vs ++ (v ∷ [])) j 0 ≡ v = getD-at vs v [] 0 j (sym z) in
-            elim (decLt i (length vs)) [
-              | yes q ↦
-                  let b = List·getD-append vs (v ∷ []) 0 i q in
-                  let c = falls i (length vs - 1) (omega arith) (omega arith) in
-                  let d = admits-last e (omega arith) in
-                  omega arith
-              | no q ↦ let y : i ≡ j = omega arith in rw y (omega arith)
-            ]
-      ]
 
 -- a first value not above the others
 abbrev AtMost : ℕ → List ℕ → Type 0

@@ -26,7 +26,7 @@ pub valueAt-from : (i : ℕ) (e f : Entry) (es : List Entry) → f .row ≤ i �
 unfolding valueAt
 valueAt-from i e f es h = rw (le-leb (f .row) i h)
 
-climb-rises : (e f : Entry) (es : List Entry) (n : ℕ) → Climb (e ∷ f ∷ es) n → e .value < f .value
+pub climb-rises : (e f : Entry) (es : List Entry) (n : ℕ) → Climb (e ∷ f ∷ es) n → e .value < f .value
 climb-rises e f es n c = above-head (e .value) (f .value) (values es) (climb-above e (f ∷ es) n c)
 
 -- at its own row it is an entry's own value

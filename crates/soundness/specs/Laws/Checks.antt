@@ -80,13 +80,14 @@ module _ (h : Header) (rows keys sorts pending : List ℕ) (staged : List Staged
         keys-differ = b .keys-differ;
         entries-rise = a .entries-rise;
         sorted = a .sorted;
+        largest-kept = a .largest-kept;
         keyed = b .keyed;
         pending-counted = c .pending-counted;
         pending-whole = c .pending-whole;
       }
 
   pub sound-rows : Sound h rows keys sorts pending staged → RowsSound h rows sorts
-  sound-rows s = record { dead-counted = s .dead-counted; entries-rise = s .entries-rise; sorted = s .sorted }
+  sound-rows s = record { dead-counted = s .dead-counted; entries-rise = s .entries-rise; sorted = s .sorted; largest-kept = s .largest-kept }
 
   pub sound-index : Sound h rows keys sorts pending staged → IndexSound (keyedOf h) rows keys
   sound-index s = record { keyed = s .keyed; keys-differ = s .keys-differ }

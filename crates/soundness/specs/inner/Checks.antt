@@ -12,11 +12,12 @@ use Rattle.constraints.specs.Constraints.{isLive}
 use Rattle.key_index.specs.declared.Keyed.{Keyed}
 use Rattle.key_index.specs.Slots.{LiveAt, keyAt, KeysSound}
 use Rattle.key_index.specs.inner.Index.{FirstHit, KeysDiffer}
-use Rattle.sort_entries.specs.Entries.{entriesOf, entriesSound, valueAt}
+use Rattle.sort_entries.specs.Entries.{entriesOf, last, entriesSound, valueAt}
 use Rattle.plain.specs.Staged.{Opening, Staged, wordsOf, wordsAll}
 use Rattle.plain.specs.Refusing.{wrongWidth}
+use Rattle.plain.specs.Proper.{atMost}
 use Rattle.table.specs.declared.Header.{Header}
-use Rattle.table.specs.Numbers.{openingOf}
+use Rattle.table.specs.Numbers.{openingOf, largestSays}
 use Rattle.table.specs.Stores.{recordWords, Holds}
 use Rattle.table.specs.Sound.{keyedOf, Sound}
 
@@ -25,12 +26,17 @@ use Rattle.table.specs.Sound.{keyedOf, Sound}
 abbrev pub deadRows : Header → List ℕ → ℕ
 deadRows h rows = count (λ row. not (isLive row)) (rowsOf (h .columns) (h .rows) rows)
 
+-- there is no entry, or the last one's value does not exceed the largest
+abbrev pub lastKept : Header → List ℕ → Bool
+lastKept h sorts = last (λ v. atMost v (largestSays (h .largest))) (entriesOf (h .entries) sorts)
+
 -- the part of soundness that is about the rows and the sort entries
 pub record RowsSound (h : Header) (rows sorts : List ℕ) : Type 0 where
   pub dead-counted : h .dead ≡ deadRows h rows
   pub entries-rise : entriesSound (entriesOf (h .entries) sorts) (h .rows) ≡ true
   pub sorted : (i : ℕ) → LiveAt (keyedOf h) rows i
       → getD (rowAt (h .columns) i rows) (h .sort) 0 ≡ valueAt i (entriesOf (h .entries) sorts)
+  pub largest-kept : every (λ e. atMost (e .value) (largestSays (h .largest))) (entriesOf (h .entries) sorts) ≡ true
 
 -- ---- keys
 

@@ -20,9 +20,10 @@ use Rattle.plain.specs.Plain.{Plain, dead, opened, unstaged, cleared}
 use Rattle.plain.specs.Refusing.{storesShort, openRefusal}
 use Rattle.plain.specs.Laws.Calls.{first-no, first-rest}
 use Rattle.plain.specs.Laws.Proper.{opened-proper, unstaged-proper}
+use Rattle.table.specs.declared.Largest.the-variants.{None as NoLargest}
 use Rattle.table.specs.declared.Header.{Header}
 use Rattle.table.specs.declared.TableAnswer.the-variants.{Refused, Table}
-use Rattle.table.specs.Numbers.{openingOf, tableSays}
+use Rattle.table.specs.Numbers.{openingOf, largestOf, tableSays}
 use Rattle.table.specs.Refusing.{clearRefusal}
 use Rattle.table.specs.Stores.{entries, headerOf, stored}
 use Rattle.table.specs.Promises.{Stores, stores, lengths, Represents, Opened, withPending, Clearing, body}
@@ -45,10 +46,11 @@ emptyHeader o generation =
       entries = 0;
       pending = 0;
       generation = generation;
+      largest = NoLargest;
     }
 
 pub header-opened : (o : Opening) (generation : ℕ) → emptyHeader o generation ≡ headerOf (opened o generation)
-unfolding opened dead count entries rebuilt pushAll wordsAll
+unfolding opened dead count entries rebuilt pushAll wordsAll largestOf
 header-opened o generation = refl
 
 -- freed slots are as many as before
@@ -104,7 +106,7 @@ module _ (o : Opening) (generation : ℕ) (rows keys sorts pending : List ℕ) w
 
 -- with rows, an empty table of the next generation; without, the table with nothing staged
 cleared-some : (p : Plain) → 0 < length (p .rows) → cleared p ≡ opened (p .opening) (p .generation + 1)
-unfolding cleared opened
+unfolding cleared
 cleared-some p h = rw (lt-ltb 0 (length (p .rows)) h)
 
 cleared-none : (p : Plain) → length (p .rows) ≡ 0 → cleared p ≡ unstaged p

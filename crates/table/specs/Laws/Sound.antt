@@ -4,13 +4,14 @@ use mathlib.Core.Path.{_≡_, refl, sym, ap, _∙_}
 use mathlib.Core.Logic.{inl, inr}
 use mathlib.Core.Bool.{Bool, true, false, cond, not}
 use mathlib.Core.List.{List, [], _∷_, map}
+use mathlib.Core.Option.{Option, none, some}
 use native.Mathlib.Nat.{add-zero, zero-add, mul-le-mul-right}
 use native.Mathlib.Omega.{arith}
 use lib.ListN.{length, take, getD, set, length-map, length-set}
 use lib.Seq.{getD-set-same}
 use borrow.Author.Tests.{le-ltb, eq-eqb}
 use Rattle.refusals.specs.Refusals.{first}
-use Rattle.lists.specs.Lists.{count, rowAt, rowsOf}
+use Rattle.lists.specs.Lists.{every, count, rowAt, rowsOf}
 use Rattle.lists.specs.Laws.Keep.{split, every-of}
 use Rattle.lists.specs.Laws.Rows.{length-rowsOf, getD-rowsOf, length-rowAt}
 use Rattle.lists.specs.Laws.Every.{getD-map-below, count-alike}
@@ -20,14 +21,18 @@ use Rattle.sort_entries.specs.Entries.{Entry, entriesOf, valueAt, entriesSound}
 use Rattle.sort_entries.specs.Laws.Rebuilt.{NeverFalls, rebuilt-sound, rebuilt-valueAt}
 use Rattle.sort_entries.specs.Laws.Stores.{length-entriesOf}
 use Rattle.sort_entries.specs.Laws.Sound.{sound-climb}
+use Rattle.sort_entries.specs.Laws.Grow.{sound-some}
+use Rattle.sort_entries.specs.Laws.Tests.{rebuilt-every, valueAt-every}
 use Rattle.sort_entries.specs.Laws.Values.{valueAt-climbs, rebuilt-same}
 use Rattle.plain.specs.Staged.{Staged}
 use Rattle.plain.specs.Plain.{Row, Plain, dead}
-use Rattle.plain.specs.Proper.{Proper, rowOf, sortCell}
-use Rattle.plain.specs.Laws.Rows.{noRow, wideRow, firstFits, live-below}
+use Rattle.plain.specs.Proper.{Proper, rowOf, sortCell, atMost}
+use Rattle.plain.specs.Laws.Rows.{noRow, wideRow, firstFits, keptRow, live-below}
 use Rattle.plain.specs.Laws.Proper.{bounds-openable}
+use Rattle.table.specs.declared.Largest.{Largest}
+use Rattle.table.specs.declared.Largest.the-variants.{None as NoLargest, Value}
 use Rattle.table.specs.declared.Header.{Header}
-use Rattle.table.specs.Numbers.{openingOf}
+use Rattle.table.specs.Numbers.{openingOf, largestSays, largestOf}
 use Rattle.table.specs.Refusing.{pendingOutside, rowsShort, pairsShort, soundRefusal}
 use Rattle.table.specs.Stores.{entries, headerOf, RowShown}
 use Rattle.table.specs.Sound.{keyedOf, Sound}
@@ -66,6 +71,24 @@ pub entries-valueAt : {p : Plain} → Proper p → (i : ℕ) → i < length (p .
 unfolding entries
 entries-valueAt {p} proper i h =
     rebuilt-valueAt (sortCells p) (sortCells-climb proper) i (omega (arith, length-sortCells p)) ∙ getD-sortCells p i h
+
+-- none exceeds the largest value
+pub entries-kept : {p : Plain} → Proper p → every (λ e. atMost (e .value) (p .largest)) (entries p) ≡ true
+unfolding entries
+entries-kept {p} proper =
+    rebuilt-every (λ v. atMost v (p .largest)) (λ (row : Row). getD (row .cells) (p .opening .sort) 0) (p .rows) (proper .largest-kept)
+
+-- ---- the largest value, in a header and in a plain table
+
+pub says-of : (o : Option ℕ) → largestSays (largestOf o) ≡ o
+unfolding largestSays largestOf
+says-of none = refl
+says-of (some v) = refl
+
+pub of-says : (l : Largest) → largestOf (largestSays l) ≡ l
+unfolding largestSays largestOf
+of-says NoLargest = refl
+of-says (Value v) = refl
 
 -- ---- a table that shows a plain table is sound
 
@@ -110,6 +133,7 @@ module _ {p : Plain} {s : Stores} (r : Represents p s) where
         keys-differ = differ;
         entries-rise = rise;
         sorted = recorded;
+        largest-kept = rw (r .shown .entries-shown, r .shown .header, says-of (p .largest)) (entries-kept (r .proper));
         keyed = r .keyed;
         pending-counted = rw (r .shown .header);
         pending-whole = rw (r .shown .header) (r .shown .pending-held);
@@ -134,6 +158,7 @@ plainOf h rows sorts staged =
       generation = h .generation;
       rows = plainRows (h .sort) (entriesOf (h .entries) sorts) 0 (rowsOf (h .columns) (h .rows) rows);
       staged = staged;
+      largest = largestSays (h .largest);
     }
 
 length-plainRows : (sort : ℕ) (es : List Entry) (n : ℕ) (rows : List (List ℕ)) → length (plainRows sort es n rows) ≡ length rows
@@ -227,6 +252,7 @@ module _ {h : Header} {rows keys sorts pending : List ℕ} {staged : List Staged
         live-first = every-of firstFits noRow (plainOf h rows sorts staged .rows) first-fits;
         keys-differ = λ i j a b e. s .keys-differ i j (plainOf-live i a) (plainOf-live j b) (ap (take (h .keys)) (sym (plainOf-cells i a)) ∙ e ∙ ap (take (h .keys)) (plainOf-cells j b));
         sorted = λ i j a b. climb i j a (omega (arith, plainOf-length));
+        largest-kept = every-of (keptRow (h .sort) (largestSays (h .largest))) noRow (plainOf h rows sorts staged .rows) kept;
         staged-whole = s .pending-whole .whole;
       }
     where
@@ -240,6 +266,12 @@ module _ {h : Header} {rows keys sorts pending : List ℕ} {staged : List Staged
 
       first-fits : (i : ℕ) → i < length (plainOf h rows sorts staged .rows) → firstFits (rowOf (plainOf h rows sorts staged) i) ≡ true
       first-fits i k = rw (plainOf-row i (inside i k)) (plainRow-first (h .sort) (valueAt i (entriesOf (h .entries) sorts)) (rowAt (h .columns) i rows))
+
+      kept : (i : ℕ) → i < length (plainOf h rows sorts staged .rows) → keptRow (h .sort) (largestSays (h .largest)) (rowOf (plainOf h rows sorts staged) i) ≡ true
+      kept i k =
+          let es : List Entry = entriesOf (h .entries) sorts in
+          let some-rows : 0 < h .rows = omega (arith, inside i k) in
+          rw (plainOf-sort i (inside i k)) (valueAt-every (λ v. atMost v (largestSays (h .largest))) i es (sound-some es (h .rows) (s .entries-rise) some-rows) (s .largest-kept))
 
       climb : (i j : ℕ) → i ≤ j → j < h .rows → getD (rowOf (plainOf h rows sorts staged) i .cells) (h .sort) 0 ≤ getD (rowOf (plainOf h rows sorts staged) j .cells) (h .sort) 0
       climb i j a b =
@@ -274,6 +306,7 @@ module _ {h : Header} {rows keys sorts pending : List ℕ} {staged : List Staged
   plainOf-header =
       let a : h .rows ≡ length (plainOf h rows sorts staged .rows) = sym plainOf-length in
       let c : h .entries ≡ length (entries (plainOf h rows sorts staged)) = sym (length-entriesOf (h .entries) sorts) ∙ ap length plainOf-entries in
+      let d : h .largest ≡ largestOf (largestSays (h .largest)) = sym (of-says (h .largest)) in
       λ i.
       record {
         columns = h .columns;
@@ -286,6 +319,7 @@ module _ {h : Header} {rows keys sorts pending : List ℕ} {staged : List Staged
         entries = c i;
         pending = s .pending-counted i;
         generation = h .generation;
+        largest = d i;
       }
 
   -- sound stores show a plain table, of the same staged records

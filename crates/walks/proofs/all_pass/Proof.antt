@@ -89,7 +89,7 @@ module _ {M : Type 1} (𝓤 : URA M) (H : Heap 𝓤) (A : Atoms 𝓤) (W : Given
   y = record { ptr = (b, o); name = γ; now = cs }
 
   abbrev vh : Val
-  vh = HT′.lowered h
+  vh = LL.val HT.the-type HT′.the-laws h
 
   abbrev sx : Val
   sx = sliceVal (x .ptr) (length (x .now))

@@ -124,7 +124,7 @@ module _ {M : Type 1} (𝓤 : URA M) (H : Heap 𝓤) (A : Atoms 𝓤) (W : Given
   m = length (now x)
 
   abbrev vh : Val
-  vh = HT′.lowered h
+  vh = LL.val HT.the-type HT′.the-laws h
 
   abbrev vd : Val
   vd = DT′.lowered d

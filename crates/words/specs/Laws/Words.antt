@@ -1,32 +1,77 @@
--- A promise under a C name is kept: nothing is done, or an answer told. Assumes nothing.
-use Prim.Native.Nat.{ℕ}
+-- A header's words are read as written, a flag above 1 is turned away, and a promise under a C name is kept: nothing is done,
+-- or an answer told. Assumes nothing.
+use Prim.Native.Nat.{ℕ, _<_}
 use mathlib.Core.Path.{_≡_, refl}
+use mathlib.Core.Bool.{true}
 use mathlib.Core.List.{List}
-use lib.ListN.{length}
+use lib.ListN.{length, getD}
+use borrow.Author.Tests.{lt-leb}
+use Rattle.plain.specs.Staged.{openable}
+use Rattle.table.specs.declared.Largest.{Largest}
+use Rattle.table.specs.declared.Largest.the-variants.{None as NoLargest, Value}
+use Rattle.table.specs.declared.Header.{Header}
 use Rattle.table.specs.declared.TableAnswer.{TableAnswer}
 use Rattle.table.specs.declared.MergeAnswer.{MergeAnswer}
-use Rattle.words.specs.Words.{tableNumber, tableHeader, Told, MergeTold, Called, MergeCalled, Asked}
+use Rattle.table.specs.Refusing.{outside}
+use Rattle.words.specs.Words.{largestIn, largestFlag, largestWord, columnsIn, headerIn, headerWords, tableNumber, tableHeader, Told, MergeTold, Called, MergeCalled, Asked}
+
+-- the largest value
+largest-read : (l : Largest) → largestIn (largestFlag l) (largestWord l) ≡ l
+unfolding largestIn largestFlag largestWord
+largest-read NoLargest = refl
+largest-read (Value v) = refl
+
+columns-read : (columns : ℕ) (l : Largest) → columnsIn columns (largestFlag l) ≡ columns
+unfolding columnsIn largestFlag
+columns-read columns NoLargest = refl
+columns-read columns (Value v) = refl
+
+-- a header is read as it was written
+pub header-read : (h : Header) → headerIn (headerWords h) ≡ h
+unfolding headerIn headerWords
+header-read h =
+    let c = columns-read (h .columns) (h .largest) in
+    let l = largest-read (h .largest) in
+    λ i.
+    record {
+      columns = c i;
+      keys = h .keys;
+      sort = h .sort;
+      rule = h .rule;
+      capacity = h .capacity;
+      rows = h .rows;
+      dead = h .dead;
+      entries = h .entries;
+      pending = h .pending;
+      generation = h .generation;
+      largest = l i;
+    }
+
+-- one whose flag is above 1 fails test 1
+pub flag-refused : (words : List ℕ) → 1 < getD words 10 0 → outside (headerIn words) ≡ true
+unfolding headerIn columnsIn outside openable
+flag-refused words h = rw (lt-leb (getD words 10 0) 1 h)
 
 module _ {promise : TableAnswer → Type 0} {unchanged : Type 0} {header : List ℕ} where
-  pub called-unheaded : (length header ≡ 10 → ⊥) → unchanged → Called promise unchanged header 1 header
+  pub called-unheaded : (length header ≡ 12 → ⊥) → unchanged → Called promise unchanged header 1 header
   called-unheaded n u = record { done = λ e. absurd (n e); unheaded = λ e. (u, refl, refl) }
 
-  pub called-done : {answer : TableAnswer} {r : ℕ} {header′ : List ℕ} → length header ≡ 10 → promise answer
+  pub called-done : {answer : TableAnswer} {r : ℕ} {header′ : List ℕ} → length header ≡ 12 → promise answer
       → Told tableNumber (tableHeader header) answer r header′ → Called promise unchanged header r header′
   called-done {answer} l p t =
       record { done = λ e. (answer, p, t .numbered, t .worded); unheaded = λ n. absurd (n l) }
 
 module _ {promise : MergeAnswer → Type 0} {unchanged : Type 0} {header words : List ℕ} where
-  pub merge-unheaded : (length header ≡ 10 → ⊥) → unchanged → MergeCalled promise unchanged header words 1 header words
+  pub merge-unheaded : (length header ≡ 12 → ⊥) → unchanged → MergeCalled promise unchanged header words 1 header words
   merge-unheaded n u =
       record { done = λ e d. absurd (n e); unheaded = λ m. (u, refl, refl, refl); unworded = λ e m. absurd (n e) }
 
-  pub merge-unworded : length header ≡ 10 → (length words ≡ 3 → ⊥) → unchanged
+  pub merge-unworded : length header ≡ 12 → (length words ≡ 3 → ⊥) → unchanged
       → MergeCalled promise unchanged header words 2 header words
   merge-unworded l n u =
       record { done = λ e d. absurd (n d); unheaded = λ m. absurd (m l); unworded = λ e m. (u, refl, refl, refl) }
 
-  pub merge-done : {answer : MergeAnswer} {r : ℕ} {header′ words′ : List ℕ} → length header ≡ 10 → length words ≡ 3
+  pub merge-done : {answer : MergeAnswer} {r : ℕ} {header′ words′ : List ℕ} → length header ≡ 12 → length words ≡ 3
       → promise answer → MergeTold answer header words r header′ words′
       → MergeCalled promise unchanged header words r header′ words′
   merge-done {answer} l k p t =
@@ -37,15 +82,15 @@ module _ {promise : MergeAnswer → Type 0} {unchanged : Type 0} {header words :
       }
 
 module _ {A : Type 0} {promise : A → Type 0} {number : A → ℕ} {told : List ℕ → A → List ℕ} {count : ℕ} {header words : List ℕ} where
-  pub asked-unheaded : (length header ≡ 10 → ⊥) → Asked promise number told count header words 1 words
+  pub asked-unheaded : (length header ≡ 12 → ⊥) → Asked promise number told count header words 1 words
   asked-unheaded n =
       record { done = λ e d. absurd (n e); unheaded = λ m. (refl, refl); unworded = λ e m. absurd (n e) }
 
-  pub asked-unworded : length header ≡ 10 → (length words ≡ count → ⊥) → Asked promise number told count header words 2 words
+  pub asked-unworded : length header ≡ 12 → (length words ≡ count → ⊥) → Asked promise number told count header words 2 words
   asked-unworded l n =
       record { done = λ e d. absurd (n d); unheaded = λ m. absurd (m l); unworded = λ e m. (refl, refl) }
 
-  pub asked-done : {answer : A} {r : ℕ} {words′ : List ℕ} → length header ≡ 10 → length words ≡ count → promise answer
+  pub asked-done : {answer : A} {r : ℕ} {words′ : List ℕ} → length header ≡ 12 → length words ≡ count → promise answer
       → Told number (told words) answer r words′ → Asked promise number told count header words r words′
   asked-done {answer} l k p t =
       record {

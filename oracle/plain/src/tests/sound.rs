@@ -146,6 +146,20 @@ fn sort_entries() {
 }
 
 #[test]
+fn largest_value() {
+    assert_eq!(Stores::of(&table()).header.largest, Some(15));
+    assert_eq!(after(|s| s.header.largest = Some(16)), Ok(true));
+    assert_eq!(after(|s| s.header.largest = Some(u32::MAX)), Ok(true));
+    assert_eq!(after(|s| s.header.largest = Some(14)), Ok(false));
+    assert_eq!(after(|s| s.header.largest = None), Ok(false));
+    // Without a sort entry there may be one or not.
+    let mut empty = Stores::of(&opened([1, 1, 0, 0, 1, 0]));
+    assert_eq!(empty.verdict(), Ok(true));
+    empty.header.largest = Some(7);
+    assert_eq!(empty.verdict(), Ok(true));
+}
+
+#[test]
 fn key_store() {
     let slot_of = |s: &Stores, row: u32| {
         let slot = s.keys.iter().position(|&word| word % (1 << 17) == row + 1);

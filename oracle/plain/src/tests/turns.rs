@@ -30,8 +30,8 @@ fn dead_last_row_of_sort_column_0() {
     assert_eq!(table.contents().sort_entries, [(8, 0), (9, 1)]);
 }
 
-#[test]
-fn last_value_falls_at_compaction() {
+/// A table that held stamps 5 and 9; the row of 9 is gone.
+fn without_the_newest() -> Plain {
     let mut table = opened([2, 1, 1, 0, 16, 0]);
     insert(&mut table, &[1, 5]);
     insert(&mut table, &[2, 9]);
@@ -39,9 +39,52 @@ fn last_value_falls_at_compaction() {
     remove_key(&mut table, &[2]);
     merge(&mut table);
     table.call(&LENT, &Call::Compact);
-    insert(&mut table, &[3, 6]);
+    table
+}
+
+#[test]
+fn old_stamps_stay_out_after_a_compaction() {
+    let mut table = without_the_newest();
+    assert_eq!(table.contents().sort_entries, [(5, 0)]);
+    assert_eq!(table.header().largest, Some(9));
+    insert(&mut table, &[3, 8]);
+    assert_eq!(merge(&mut table), merged(9, 0, false));
+    insert(&mut table, &[3, 9]);
     assert_eq!(merge(&mut table), merged(0, 0, true));
-    assert_eq!(table.contents().sort_entries, [(5, 0), (6, 1)]);
+    assert_eq!(table.contents().sort_entries, [(5, 0), (9, 1)]);
+}
+
+#[test]
+fn clears_and_the_largest_value() {
+    let mut table = without_the_newest();
+    // The rows go, and a clear of what is left, which has none, changes nothing but pending.
+    remove_key(&mut table, &[1]);
+    merge(&mut table);
+    table.call(&LENT, &Call::Compact);
+    assert_eq!(table.call(&LENT, &Call::Clear), Answer::Done);
+    assert_eq!(table.header().largest, Some(9));
+    insert(&mut table, &[1, 8]);
+    assert_eq!(merge(&mut table), merged(9, 0, false));
+    insert(&mut table, &[1, 9]);
+    merge(&mut table);
+    // One that empties rows, here a dead one, begins anew.
+    remove_key(&mut table, &[1]);
+    merge(&mut table);
+    assert_eq!(table.call(&LENT, &Call::Clear), Answer::Done);
+    assert_eq!(table.header().largest, None);
+    insert(&mut table, &[1, 0]);
+    assert_eq!(merge(&mut table), merged(0, 0, true));
+    assert_eq!(table.header().largest, Some(0));
+}
+
+#[test]
+fn rows_before_a_stop_count() {
+    let mut table = opened([2, 1, 1, 0, 16, 0]);
+    for cells in [[1, 5], [2, 9], [3, 8]] {
+        insert(&mut table, &cells);
+    }
+    assert_eq!(merge(&mut table), merged(9, 2, true));
+    assert_eq!(table.header().largest, Some(9));
 }
 
 #[test]

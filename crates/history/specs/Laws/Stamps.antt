@@ -1,0 +1,17 @@
+-- Old stamps stay out of every history, from the promises alone. Assumes nothing.
+use mathlib.Core.Path.{sym, ap, _∙_}
+use Rattle.plain.specs.Plain.{opened}
+use Rattle.plain.specs.Laws.Stamps.{stamped-history}
+use Rattle.table.specs.declared.Header.{Header}
+use Rattle.table.specs.Numbers.{largestSays}
+use Rattle.table.specs.Laws.Sound.{says-of}
+use Rattle.history.specs.Stamps.{OldStampsStayOut}
+use Rattle.history.specs.Laws.Calls.{history-represents}
+
+pub stamps-kept : OldStampsStayOut
+stamps-kept o generation calls s h =
+    let k = stamped-history o generation calls in
+    record {
+      largest-kept = ap (λ (x : Header). largestSays (x .largest)) (history-represents h .shown .header) ∙ says-of _ ∙ k .largest-kept;
+      never-fall = k .never-fall;
+    }

@@ -1,0 +1,51 @@
+-- The rows that calls append, taken from the steps of each merge's inserts on the plain table, and the sort values appended
+-- "since opening or the last clear that emptied rows" (change 7). Assumes nothing.
+use Prim.Native.Nat.{ℕ}
+use mathlib.Core.Bool.{cond}
+use mathlib.Core.List.{List, [], _∷_, _++_, map}
+use mathlib.Core.Option.{Option, none, some}
+use lib.ListN.{length, getD}
+use lib.Dec.{ltb, eqb}
+use Rattle.plain.specs.Staged.{inserts}
+use Rattle.plain.specs.Plain.{Plain, Insertion, unchanged, appended, stopped, insertion, removed, raised}
+use Rattle.plain.specs.Calls.{Call, staging, merging, compacting, clearing, Lent, refusal, after}
+use Rattle.plain.specs.Proper.{rowOf}
+
+-- what an insert adds to the rows appended, and what those after it do: the row appended is the one after the rows there were
+abbrev pub appendsOn : Insertion → Plain → (Plain → List (List ℕ)) → List (List ℕ)
+appendsOn unchanged p rest = rest p
+appendsOn (appended p′) p rest = rowOf p′ (length (p .rows)) .cells ∷ rest p′
+appendsOn (stopped number) p rest = []
+
+-- the rows that these inserts append, in order, until one stops the merge
+unfoldable pub insertsAppend : List (List ℕ) → Plain → List (List ℕ)
+insertsAppend [] p = []
+insertsAppend (cells ∷ rest) p = appendsOn (insertion cells p) p (insertsAppend rest)
+
+-- the rows that a merge appends, stopped or not
+unfoldable pub mergeAppends : Plain → List (List ℕ)
+mergeAppends p = insertsAppend (inserts (p .staged)) (removed p)
+
+-- the sort values of rows
+abbrev pub stampsOf : Plain → List (List ℕ) → List ℕ
+stampsOf p rows = map (λ cells. getD cells (p .opening .sort) 0) rows
+
+-- the sort values appended "since opening or the last clear that emptied rows", before a call and after it
+unfoldable pub stampsDone : List ℕ → Plain → Call → List ℕ
+stampsDone before p (staging r) = before
+stampsDone before p merging = before ++ stampsOf p (mergeAppends p)
+stampsDone before p compacting = before
+stampsDone before p clearing = cond (ltb 0 (length (p .rows))) [] before
+
+unfoldable pub stampsAfter : List ℕ → Plain → Lent → List ℕ
+stampsAfter before p c = cond (eqb (refusal p (c .lengths) (c .call)) 0) (stampsDone before p (c .call)) before
+
+-- after all the calls, the first one first
+unfoldable pub stampsSince : List ℕ → Plain → List Lent → List ℕ
+stampsSince before p [] = before
+stampsSince before p (c ∷ cs) = stampsSince (stampsAfter before p c) (after p (c .lengths) (c .call)) cs
+
+-- the largest of these, if there is one
+unfoldable pub greatest : List ℕ → Option ℕ
+greatest [] = none
+greatest (v ∷ vs) = some (raised v (greatest vs))

@@ -1,0 +1,54 @@
+-- `soundness::largest_sound` meets its contract. Assumes nothing.
+use borrow.Author.Needs.{needs}
+use Rattle.soundness.proofs.CheckingSteps.{largest-empty, largest-missing, largest-compared}
+use Rattle.soundness.proofs.largest_sound.Statement.{statement}
+use Rattle.soundness.proofs.largest_sound.Tie as tie
+
+returns : tie.Need-returns
+returns c = let a = c .before .before .args in largest-empty (a .h) (a .sorts .now) (c .if1 .taken)
+
+enum-told : tie.Need-enum-told
+enum-told c = search needs
+
+enum-known-largest : tie.Need-enum-known-largest
+enum-known-largest c = search needs
+
+mul-at : tie.Need-mul-at
+mul-at c = search needs
+
+sub-at : tie.Need-sub-at
+sub-at c = search needs
+
+cast-at : tie.Need-cast-at
+cast-at c = search needs
+
+mul-result : tie.Need-mul-result
+mul-result c = search needs
+
+shared-slice-read-result : tie.Need-shared-slice-read-result
+shared-slice-read-result c = search needs
+
+returns-2 : tie.Need-returns-2
+returns-2 c =
+    let a = c .before .before .before .before .args in
+    largest-missing (a .h) (a .sorts .now) (c .before .before .if1 .left) (c .enum-told .given .1)
+
+returns-3 : tie.Need-returns-3
+returns-3 c =
+    let a = c .before .before .before .before .before .before .before .args in
+    largest-compared (a .h) (a .sorts .now) (c .before .before .before .before .before .if1 .left) _ (c .before .before .before .largest .given .1)
+
+pub largest-sound-spec : {M : Type 1} → statement M
+largest-sound-spec =
+    tie.close
+    (tie.spec
+    returns
+    enum-told
+    enum-known-largest
+    mul-at
+    sub-at
+    cast-at
+    mul-result
+    shared-slice-read-result
+    returns-2
+    returns-3)
