@@ -69,6 +69,8 @@ extern "C" {
 #define MOULDGREY_LAST_GENERATION 10
 /* A number of cells that is not a multiple of the width. */
 #define MOULDGREY_BROKEN_ROW 13
+/* A noted version of another generation, or of more rows than there are. */
+#define MOULDGREY_OLD_NOTE 18
 
 /* A header's words, by their places. */
 #define MOULDGREY_HEADER_WORDS 12
@@ -233,6 +235,19 @@ uint32_t mouldgrey_fast_subset(const uint32_t *header, size_t header_len, const 
  */
 uint32_t mouldgrey_updates_since(const uint32_t *header, size_t header_len, uint32_t row,
                                  uint32_t *words, size_t words_len);
+
+/*
+ * The rows since a version that was noted: its generation and row count, as mouldgrey_version gave
+ * them. words, 3: 1, count, row count. Refuses: 1, 18 if the generation is another or count is above
+ * the row count.
+ *
+ * If it is accepted, each row below count has the cells it had when the version was noted, or is
+ * dead, and the live rows are the noted ones still live together with the live rows of the answer.
+ * This holds within one history. A table that was opened anew since the note was taken is another
+ * one: at the same generation the note may be accepted all the same, and says nothing of its rows.
+ */
+uint32_t mouldgrey_rows_since(const uint32_t *header, size_t header_len, uint32_t generation,
+                              uint32_t count, uint32_t *words, size_t words_len);
 
 /*
  * words, 2: generation and row count. Refuses: 1.

@@ -365,6 +365,23 @@ pub fn updates_since(header: &Header, row: u32) -> Result<(u32, u32), Refusal> {
     Ok((words[1], words[2]))
 }
 
+/// The rows since a noted version, start and end. Refused by 1 and 18.
+#[inline]
+pub fn rows_since(header: &Header, noted: Version) -> Result<(u32, u32), Refusal> {
+    let mut words = [0; 3];
+    verdict(unsafe {
+        raw::mouldgrey_rows_since(
+            words_in(header),
+            HEADER_WORDS,
+            noted.generation,
+            noted.rows,
+            words.as_mut_ptr(),
+            words.len(),
+        )
+    })?;
+    Ok((words[1], words[2]))
+}
+
 /// The live rows of a subset that meet a condition. Refused by 1, 2, 4, 5, 6 and, if the output is shorter than the subset, 2.
 #[inline]
 pub fn refine_one(

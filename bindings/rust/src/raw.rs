@@ -142,6 +142,14 @@ unsafe extern "C" {
         words: *mut u32,
         words_len: usize,
     ) -> u32;
+    pub fn mouldgrey_rows_since(
+        header: *const u32,
+        header_len: usize,
+        generation: u32,
+        count: u32,
+        words: *mut u32,
+        words_len: usize,
+    ) -> u32;
     pub fn mouldgrey_version(
         header: *const u32,
         header_len: usize,

@@ -24,6 +24,8 @@ pub enum Refusal {
     LastGeneration = 10,
     /// A number of cells that is not a multiple of the width.
     BrokenRow = 13,
+    /// A noted version of another generation, or of more rows than there are.
+    OldNote = 18,
 }
 
 /// Why a merge stopped. What came before the stop stands; the rest of the batch is dropped.
@@ -46,6 +48,7 @@ impl Refusal {
         Refusal::PendingFull,
         Refusal::LastGeneration,
         Refusal::BrokenRow,
+        Refusal::OldNote,
     ];
 
     /// The paper's number.
@@ -68,6 +71,7 @@ impl Refusal {
             Refusal::PendingFull => "no room in the pending store",
             Refusal::LastGeneration => "the generation cannot rise",
             Refusal::BrokenRow => "not a multiple of the width",
+            Refusal::OldNote => "a noted version of another generation or of more rows",
         }
     }
 }

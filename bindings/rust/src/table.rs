@@ -251,6 +251,15 @@ impl Table {
         Ok(Subset::Range(start, end))
     }
 
+    /// The rows since a version that this table had. Refused by 18, another generation or more rows than there are. Accepted,
+    /// each row below the noted row count has the cells it had or is dead, and the live rows are those noted and still live
+    /// together with the live rows of the answer. Of a version that another table had, or this one before it was opened anew, it
+    /// says nothing.
+    pub fn rows_since(&self, noted: Version) -> Result<Subset, Refusal> {
+        let (start, end) = lent::rows_since(&self.stores.header, noted)?;
+        Ok(Subset::Range(start, end))
+    }
+
     /// All row numbers, dead rows among them.
     pub fn all(&self) -> Subset {
         Subset::Range(0, self.stores.header.rows)

@@ -1,7 +1,7 @@
 // The questions under C names: lookups, fast range, versions, refining, intersect.
 ghost use mathlib.Core.Path.{_≡_};
 ghost use lib.ListN.{length};
-ghost use Rattle.table.specs.Promises.{LookedUp, CellRead, RangeRead, RowsSince, VersionRead};
+ghost use Rattle.table.specs.Promises.{LookedUp, CellRead, RangeRead, RowsSince, NotedRows, VersionRead};
 ghost use Rattle.words.specs.Words.{headerIn, rowNumber, rowWords, cellNumber, cellWords, rangeNumber, rangeWords, versionNumber, versionWords, Asked, subsetNumber, subsetWords};
 ghost use Rattle.offsets.specs.Answers.{subsetOf};
 ghost use Rattle.queries.specs.Queries.{RefinedOne};
@@ -93,6 +93,25 @@ pub extern "C" fn mouldgrey_updates_since(header: &[u32], row: u32, words: &mut 
         return 2;
     }
     let answer = reading::updates_since(header_of(header), row);
+    write_range(answer, words)
+}
+
+#[no_mangle]
+pub extern "C" fn mouldgrey_rows_since(
+    header: &[u32],
+    generation: u32,
+    count: u32,
+    words: &mut [u32],
+) -> u32
+    ensures { λ r. ⌜ Asked (λ answer. NotedRows (headerIn (now (header .entry))) generation count answer) rangeNumber rangeWords 3 (now (header .entry)) (now (words .entry)) r (now (words .exit)) ⌝ }
+{
+    if header.len() != 12 {
+        return 1;
+    }
+    if words.len() != 3 {
+        return 2;
+    }
+    let answer = reading::rows_since(header_of(header), generation, count);
     write_range(answer, words)
 }
 

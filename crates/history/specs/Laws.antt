@@ -7,3 +7,4 @@ pub mod Theorem
 pub mod Batches
 pub mod Lent
 pub mod Stamps
+pub mod Notes

@@ -3,4 +3,5 @@ pub mod Runs
 pub mod Claim
 pub mod Batches
 pub mod Stamps
+pub mod Notes
 pub mod Laws

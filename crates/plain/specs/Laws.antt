@@ -6,5 +6,6 @@ pub mod Counts
 pub mod Proper
 pub mod Live
 pub mod Batches
+pub mod Notes
 pub mod Turns
 pub mod Stamps

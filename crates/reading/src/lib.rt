@@ -1,6 +1,6 @@
 // What may be asked of a table by its header and key store or sort entries: `get_row`, `get_row_column`, `fast_subset`,
-// `version` and `updates_since` of table/mod.rs.
-ghost use Rattle.table.specs.Promises.{LookedUp, CellRead, RangeRead, VersionRead, RowsSince};
+// `version` and `updates_since` of table/mod.rs, and the rows since a noted version.
+ghost use Rattle.table.specs.Promises.{LookedUp, CellRead, RangeRead, VersionRead, RowsSince, NotedRows};
 use constraints::Constraint;
 use key_index::Found;
 use table::CellAnswer;
@@ -13,6 +13,7 @@ use table::keyed;
 use table::refusing::cell_refusal;
 use table::refusing::fast_refusal;
 use table::refusing::lookup_refusal;
+use table::refusing::noted_refusal;
 use table::refusing::since_refusal;
 use table::refusing::version_refusal;
 
@@ -90,4 +91,15 @@ pub fn updates_since(h: Header, row: u32) -> RangeAnswer
         return RangeAnswer::Refused(refusal);
     }
     RangeAnswer::Range(row, h.rows)
+}
+
+// The rows since a version that was noted: its generation and row count.
+pub fn rows_since(h: Header, generation: u32, count: u32) -> RangeAnswer
+    ensures { λ r. ⌜ NotedRows h generation count r ⌝ }
+{
+    let refusal = noted_refusal(h, generation, count);
+    if refusal != 0 {
+        return RangeAnswer::Refused(refusal);
+    }
+    RangeAnswer::Range(count, h.rows)
 }

@@ -19,7 +19,7 @@ use Rattle.plain.specs.Laws.Calls.{first-no, first-rest}
 use Rattle.plain.specs.Laws.Proper.{Bounds, openable-bounds}
 use Rattle.table.specs.declared.Header.{Header}
 use Rattle.table.specs.Numbers.{openingOf}
-use Rattle.table.specs.Refusing.{outside, pendingOutside, rowsShort, pairsShort, mergeRefusal, compactRefusal, clearRefusal, lookupRefusal, cellRefusal, fastRefusal, versionRefusal, sinceRefusal, soundRefusal, lookupTests}
+use Rattle.table.specs.Refusing.{outside, pendingOutside, rowsShort, pairsShort, mergeRefusal, compactRefusal, clearRefusal, lookupRefusal, cellRefusal, fastRefusal, versionRefusal, sinceRefusal, notedRefusal, soundRefusal, lookupTests}
 use Rattle.table.specs.Laws.Refusals.{Inside, outside-inside}
 
 not-leb : (a b : ℕ) → ltb b a ≡ not (leb a b)
@@ -328,3 +328,20 @@ module _ (h : Header) where
   pub since-none : (row : ℕ) → outside h ≡ false → row ≤ h .rows → 0 ≡ sinceRefusal h row
   unfolding sinceRefusal first
   since-none row e k = rw (e, le-ltb _ _ k)
+
+  module _ (generation count : ℕ) where
+    pub noted-outside : outside h ≡ true → 1 ≡ notedRefusal h generation count
+    unfolding notedRefusal first
+    noted-outside e = rw e
+
+    pub noted-other : outside h ≡ false → (generation ≡ h .generation → ⊥) → 18 ≡ notedRefusal h generation count
+    unfolding notedRefusal first
+    noted-other e other = rw (e, ne-eqb _ _ other)
+
+    pub noted-above : outside h ≡ false → generation ≡ h .generation → h .rows < count → 18 ≡ notedRefusal h generation count
+    unfolding notedRefusal first
+    noted-above e is k = rw (e, eq-eqb _ _ is, lt-ltb _ _ k)
+
+    pub noted-none : outside h ≡ false → generation ≡ h .generation → count ≤ h .rows → 0 ≡ notedRefusal h generation count
+    unfolding notedRefusal first
+    noted-none e is k = rw (e, eq-eqb _ _ is, le-ltb _ _ k)

@@ -27,7 +27,7 @@ use Rattle.table.specs.declared.RangeAnswer.{RangeAnswer}
 use Rattle.table.specs.declared.VersionAnswer.{VersionAnswer}
 use Rattle.table.specs.declared.SoundAnswer.{SoundAnswer}
 use Rattle.table.specs.Numbers.{openingOf, largestSays, header, tableSays, mergeSays, rowSays, cellSays, rangeSays, versionSays, soundSays}
-use Rattle.table.specs.Refusing.{stageRefusal, mergeRefusal, compactRefusal, clearRefusal, lookupRefusal, cellRefusal, fastRefusal, versionRefusal, sinceRefusal, soundRefusal}
+use Rattle.table.specs.Refusing.{stageRefusal, mergeRefusal, compactRefusal, clearRefusal, lookupRefusal, cellRefusal, fastRefusal, versionRefusal, sinceRefusal, notedRefusal, soundRefusal}
 use Rattle.table.specs.Stores.{headerOf, stored, rowStore, sortStore, recordWords, rowsIn, Shows}
 use Rattle.table.specs.Sound.{keyedOf, KeysDiffer, Sound}
 
@@ -228,6 +228,10 @@ pub record VersionRead (h : Header) (answer : VersionAnswer) : Type 0 where
 
 pub record RowsSince (h : Header) (row : ℕ) (answer : RangeAnswer) : Type 0 where
   pub answers : rangeSays answer ≡ reply (sinceRefusal h row) (some (range row (h .rows)))
+
+-- "Given that version, the table answers the rows since then": of any table
+pub record NotedRows (h : Header) (generation count : ℕ) (answer : RangeAnswer) : Type 0 where
+  pub answers : rangeSays answer ≡ reply (notedRefusal h generation count) (some (range count (h .rows)))
 
 -- the soundness check: lent all stores. It "says yes exactly for sound stores"
 pub record Checked (h : Header) (rows keys sorts pending : List ℕ) (answer : SoundAnswer) : Type 0 where

@@ -73,6 +73,14 @@ versionRefusal h = first (rung (outside h) 1 ∷ [])
 unfoldable pub sinceRefusal : Header → ℕ → ℕ
 sinceRefusal h row = first (rung (outside h) 1 ∷ rung (ltb (h .rows) row) 5 ∷ [])
 
+-- *the rows since a noted version*: 1, 18 "another generation or a noted count above the row count"
+unfoldable pub notedRefusal : Header → ℕ → ℕ → ℕ
+notedRefusal h generation count =
+    first
+    (rung (outside h) 1
+    ∷ rung (not (eqb generation (h .generation)) || ltb (h .rows) count) 18
+    ∷ [])
+
 -- the soundness check: 1, 2
 unfoldable pub soundRefusal : Header → ℕ → ℕ → ℕ → ℕ → ℕ
 soundRefusal h rows keys sorts pending =

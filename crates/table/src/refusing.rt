@@ -249,6 +249,22 @@ pub fn version_refusal(h: Header) -> u32
     1
 }
 
+// *The rows since a noted version*
+pub fn noted_refusal(h: Header, generation: u32, count: u32) -> u32
+    ensures { λ r. ⌜ r ≡ rules.notedRefusal h generation count ⌝ }
+{
+    if is_outside(h) {
+        return 1;
+    }
+    if generation != h.generation {
+        return 18;
+    }
+    if h.rows < count {
+        return 18;
+    }
+    0
+}
+
 // *Rows since*
 pub fn since_refusal(h: Header, row: u32) -> u32
     ensures { λ r. ⌜ r ≡ rules.sinceRefusal h row ⌝ }

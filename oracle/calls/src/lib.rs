@@ -152,6 +152,8 @@ pub enum Question {
     FastRange(Condition),
     Version,
     RowsSince(u32),
+    /// The rows since a noted version: generation and row count.
+    RowsSinceNote(u32, u32),
     RefineOne {
         subset: Subset,
         condition: Condition,

@@ -297,6 +297,7 @@ impl<'a, J: Judge> Pair<'a, J> {
     ) -> Result<Answer, Unlike> {
         let answer = self.plain.ask(&step.lent, asked);
         counts.step(&self.opening, step, &answer);
+        counts.note(asked, &answer, self.seen.generation);
         if !self.is_asked(asked, &answer) {
             return Ok(answer);
         }

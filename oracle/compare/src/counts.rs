@@ -7,9 +7,9 @@ use std::collections::BTreeMap;
 /// A kind of call or question with the refusals that it has, in order. `AGAIN` is the second test 2, of the output.
 type Kind = (&'static str, &'static [usize]);
 
-const AGAIN: usize = 11;
+pub const AGAIN: usize = 19;
 
-const KINDS: [Kind; 17] = [
+const KINDS: [Kind; 18] = [
     ("open", &[1, 2]),
     ("insert", &[1, 3, 7]),
     ("remove by key", &[1, 3, 7]),
@@ -27,10 +27,11 @@ const KINDS: [Kind; 17] = [
     ("any match", &[1, 2, 4, 5, 6]),
     ("page", &[1, 2, 4, 5, 6, AGAIN]),
     ("intersect", &[4, AGAIN]),
+    ("rows since a note", &[1, 18]),
 ];
 
 /// Answers and turns that every full run must have seen.
-const FEATURES: [&str; 56] = [
+const FEATURES: [&str; 58] = [
     "open: sort column 0",
     "open: sort column a key column",
     "open: sort column not a key column",
@@ -69,6 +70,8 @@ const FEATURES: [&str; 56] = [
     "fast range: rows",
     "rows since: empty",
     "rows since: rows",
+    "rows since a note: empty",
+    "rows since a note: rows",
     "refine by one: range",
     "refine by one: list",
     "refine by one: 0..0",
@@ -131,6 +134,13 @@ const GATE: [&str; 20] = [
     "page: n above 2^32",
 ];
 
+/// Refusals that a gate's run must have seen so many times, by their reasons.
+const OFTEN: [&str; 2] = [
+    "rows since a note: another generation",
+    "rows since a note: more rows than there are",
+];
+const TIMES: u64 = 1_000;
+
 /// What the run against the Rust must have seen besides.
 const RUST_GATE: [&str; 6] = [
     "ended: stop 8",
@@ -156,8 +166,8 @@ pub struct Counts {
     features: BTreeMap<&'static str, u64>,
 }
 
-/// Places for the numbers 0, accepted, to 10 and `AGAIN`.
-type Outcomes = BTreeMap<usize, [u64; 12]>;
+/// Places for the numbers 0, accepted, to 18 and `AGAIN`.
+type Outcomes = BTreeMap<usize, [u64; 20]>;
 
 /// The place of a step's kind in `KINDS`.
 fn kind(act: &Act) -> usize {
@@ -187,6 +197,7 @@ fn question_kind(question: &Question) -> usize {
         Question::AnyMatch { .. } => 14,
         Question::Page { .. } => 15,
         Question::Intersect { .. } => 16,
+        Question::RowsSinceNote(..) => 17,
     }
 }
 
@@ -349,6 +360,8 @@ impl Counts {
             (Question::Version, _) => return,
             (Question::RowsSince(_), of) if is_empty(of) => "rows since: empty",
             (Question::RowsSince(_), _) => "rows since: rows",
+            (Question::RowsSinceNote(..), of) if is_empty(of) => "rows since a note: empty",
+            (Question::RowsSinceNote(..), _) => "rows since a note: rows",
             (Question::RefineOne { .. }, Answer::Subset(Subset::Range(0, 0))) => {
                 "refine by one: 0..0"
             }
@@ -366,6 +379,13 @@ impl Counts {
             (Question::Intersect { .. }, _) => "intersect: list",
         };
         self.feature(name);
+    }
+
+    /// Counts refused notes by their reasons. A note of another generation counts for that, whatever its rows.
+    pub fn note(&mut self, question: &Question, answer: &Answer, generation: u32) {
+        if let (Question::RowsSinceNote(noted, _), Answer::Refused(18)) = (question, answer) {
+            self.feature(OFTEN[usize::from(*noted == generation)]);
+        }
     }
 
     /// Counts an accepted opening.
@@ -544,6 +564,12 @@ impl Counts {
     /// their refusals, if it follows the paper.
     pub fn missed_by_gate(&self, follows_paper: bool) -> Vec<String> {
         let mut missing = self.missing(&GATE, |_| true);
+        for name in OFTEN {
+            let times = self.features.get(name).copied().unwrap_or_default();
+            if times < TIMES {
+                missing.push(format!("{name}: only {times} times"));
+            }
+        }
         if !follows_paper {
             let seen = |name: &&&str| self.features.contains_key(**name);
             let unseen = RUST_GATE.iter().filter(|name| !seen(name));
@@ -572,7 +598,7 @@ impl Counts {
                 .flat_map(|(_, outcomes)| outcomes)
                 .sum()
         };
-        println!("{} calls, {} questions", total(0..7), total(7..17));
+        println!("{} calls, {} questions", total(0..7), total(7..KINDS.len()));
         println!(
             "{} answers compared with the other judge's",
             self.compared()

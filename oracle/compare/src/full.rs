@@ -171,6 +171,10 @@ impl Writer {
         self.ask_one(Question::Version);
         for row in [0, ROWS / 2 - 1, ROWS / 2, ROWS - 1, ROWS, ROWS + 1] {
             self.ask_one(Question::RowsSince(row));
+            for rise in 0..3 {
+                let generation = o.generation.wrapping_add(rise);
+                self.ask_one(Question::RowsSinceNote(generation, row));
+            }
         }
     }
 

@@ -53,6 +53,8 @@ pub struct Writer {
     stamp: u32,
     /// Rows seen at some time: number and cells.
     remembered: Vec<(u32, Vec<u32>)>,
+    /// Versions seen at some time, also before the last opening: generation and row count.
+    versions: Vec<(u32, u32)>,
     steps: Vec<Step>,
     rounds: u32,
 }
@@ -132,6 +134,7 @@ impl Writer {
             flavour,
             stamp: 0,
             remembered: Vec::new(),
+            versions: Vec::new(),
             steps: Vec::new(),
             rounds: 0,
         }
@@ -148,6 +151,7 @@ impl Writer {
         self.steps.push(Step { lent, act });
         if !is_staging {
             self.seen = self.scout.contents();
+            self.versions.push((self.seen.generation, self.seen.rows));
         }
         answer
     }
@@ -314,6 +318,17 @@ impl Writer {
     pub fn a_live_row(&mut self) -> Option<(u32, Vec<u32>)> {
         let place = self.rng.place(self.seen.live.len());
         self.seen.live.get(place).cloned()
+    }
+
+    /// Mostly one of the last few.
+    pub fn an_earlier_version(&mut self) -> (u32, u32) {
+        let count = self.versions.len();
+        let few = match self.rng.percent(80) {
+            true => count.min(4),
+            false => count,
+        };
+        let place = count - few + self.rng.place(few);
+        self.versions.get(place).copied().unwrap_or_default()
     }
 
     /// One staging, wrong in some way now and then.

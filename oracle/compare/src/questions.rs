@@ -6,7 +6,7 @@ use crate::lists;
 use calls::{Condition, Question, Subset};
 
 /// How many kinds of question there are.
-pub const KINDS: u32 = 10;
+pub const KINDS: u32 = 11;
 
 /// Writes one question of this kind.
 pub fn ask(w: &mut Writer, kind: u32) {
@@ -31,6 +31,7 @@ pub fn ask(w: &mut Writer, kind: u32) {
             conditions: conditions(w),
         },
         8 => page(w),
+        9 => note(w),
         _ => lists::intersection(&mut w.rng, w.manner.loose),
     };
     let output = output(w, needed_output(&question));
@@ -101,6 +102,19 @@ fn row_number(w: &mut Writer) -> u32 {
         2 => u32::MAX,
         _ => w.rng.below(rows + 1),
     }
+}
+
+/// A version: one that the table had, or nearly; at times of another table.
+fn note(w: &mut Writer) -> Question {
+    let (generation, rows) = (w.seen.generation, w.seen.rows);
+    let (generation, rows) = match w.rng.below(8) {
+        0 => (generation, rows + 1),
+        1 => (generation, row_number(w)),
+        2 => (generation.wrapping_add(1), w.rng.below(rows + 1)),
+        3 => (generation.wrapping_sub(1), w.rng.below(rows + 1)),
+        _ => w.an_earlier_version(),
+    };
+    Question::RowsSinceNote(generation, rows)
 }
 
 /// A value to compare with: a cell of that column, one beside it, an edge, a small number.

@@ -2,7 +2,7 @@
 //! them without Rust. Both judges answer while it is made and whenever it is replayed.
 
 use crate::compare::{Pair, Rival};
-use crate::counts::Counts;
+use crate::counts::{AGAIN, Counts};
 use crate::generate::{Manner, history};
 use crate::history::{Act, Step, needed};
 use crate::text::{answer_line, parse, step_line};
@@ -26,7 +26,7 @@ const MANNER: Manner = Manner {
 };
 
 /// Asked before any opening, so each is refused with 1, save the last.
-const UNOPENED: [&str; 17] = [
+const UNOPENED: [&str; 18] = [
     "I,1",
     "R,1",
     "K,0,1",
@@ -38,6 +38,7 @@ const UNOPENED: [&str; 17] = [
     "F,1,0,0",
     "V",
     "S,0",
+    "W,0,0",
     "N,0,0,0,1,0,0",
     "A,0,0,0,0",
     "Y,0,0,0,0",
@@ -223,7 +224,7 @@ impl<'a, J: Judge> List<'a, J> {
 
 /// What the list must show: all but the refusals for short stores.
 fn missing(counts: &Counts) -> Vec<String> {
-    counts.missing(&[], |number| number != 2 && number <= 10)
+    counts.missing(&[], |number| number != 2 && number != AGAIN)
 }
 
 /// A table of three rows, and each refusal that has nothing to do with the lengths of stores.

@@ -80,7 +80,15 @@ fn small_table(rule: u32) -> Family {
         "G",
         "C",
     ];
-    let end = ["M", "A,0,0,0,0", "L,0", "F,1,2,2", "F,2,2,2", "F,3,2,1"];
+    let end = [
+        "M",
+        "A,0,0,0,0",
+        "L,0",
+        "F,1,2,2",
+        "F,2,2,2",
+        "F,3,2,1",
+        "W,0,1",
+    ];
     Family::new(&[&open], &letters, 6, &end)
 }
 

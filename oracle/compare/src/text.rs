@@ -42,6 +42,7 @@ fn question_line(question: &Question) -> String {
         Question::FastRange(c) => line("F", &[c.kind, c.a, c.b]),
         Question::Version => line("V", &[]),
         Question::RowsSince(row) => line("S", &[*row]),
+        Question::RowsSinceNote(generation, rows) => line("W", &[*generation, *rows]),
         Question::RefineOne {
             subset, condition, ..
         } => {
@@ -203,6 +204,7 @@ fn question(letter: &str, numbers: &mut Numbers) -> Option<Question> {
         "F" => Some(Question::FastRange(numbers.condition()?)),
         "V" => Some(Question::Version),
         "S" => Some(Question::RowsSince(numbers.one()?)),
+        "W" => Some(Question::RowsSinceNote(numbers.one()?, numbers.one()?)),
         "N" => Some(Question::RefineOne {
             subset: numbers.subset()?,
             condition: numbers.condition()?,

@@ -205,7 +205,7 @@ fn page(rng: &mut Rng, image: &Image) -> Question {
 
 fn question(rng: &mut Rng, image: &Image) -> Question {
     let h = image.numbers();
-    match rng.below(13) {
+    match rng.below(14) {
         0 => Question::Lookup(cells(rng, image, h.keys)),
         1 => {
             let column = match rng.percent(80) {
@@ -217,7 +217,14 @@ fn question(rng: &mut Rng, image: &Image) -> Question {
         2 => Question::FastRange(condition(rng, image)),
         3 => Question::Version,
         4 => Question::RowsSince(row_number(rng, image)),
-        5 | 6 => {
+        5 => {
+            let generation = match rng.percent(70) {
+                true => h.generation,
+                false => hostile_number(rng, &image.header),
+            };
+            Question::RowsSinceNote(generation, row_number(rng, image))
+        }
+        6 | 7 => {
             let subset = subset(rng, image);
             Question::RefineOne {
                 condition: condition(rng, image),
@@ -225,7 +232,7 @@ fn question(rng: &mut Rng, image: &Image) -> Question {
                 subset,
             }
         }
-        7 | 8 => {
+        8 | 9 => {
             let subset = subset(rng, image);
             Question::RefineList {
                 conditions: conditions(rng, image),
@@ -233,11 +240,11 @@ fn question(rng: &mut Rng, image: &Image) -> Question {
                 subset,
             }
         }
-        9 => Question::AnyMatch {
+        10 => Question::AnyMatch {
             subset: subset(rng, image),
             conditions: conditions(rng, image),
         },
-        10 | 11 => page(rng, image),
+        11 | 12 => page(rng, image),
         _ => {
             let (first, second) = (subset(rng, image), subset(rng, image));
             let needed = match (&first, &second) {

@@ -193,6 +193,9 @@ impl Session {
             Question::RowsSince(row) => unsafe {
                 raw::mouldgrey_updates_since(h, h_len, *row, w, w_len)
             },
+            Question::RowsSinceNote(generation, rows) => unsafe {
+                raw::mouldgrey_rows_since(h, h_len, *generation, *rows, w, w_len)
+            },
             Question::RefineOne {
                 subset,
                 condition,

@@ -7,7 +7,7 @@ use std::collections::BTreeMap;
 /// not fit".
 type Kind = (&'static str, &'static [usize]);
 
-pub const SHIPPED: [Kind; 20] = [
+pub const SHIPPED: [Kind; 21] = [
     ("mouldgrey_open_table", &[1, 2]),
     ("mouldgrey_stage_insert", &[1, 3, 7]),
     ("mouldgrey_stage_remove", &[1, 3, 7]),
@@ -20,6 +20,7 @@ pub const SHIPPED: [Kind; 20] = [
     ("mouldgrey_get_row_column", &[1, 2, 3, 6]),
     ("mouldgrey_fast_subset", &[1, 2, 6]),
     ("mouldgrey_updates_since", &[1, 2, 5]),
+    ("mouldgrey_rows_since", &[1, 2, 18]),
     ("mouldgrey_version", &[1, 2]),
     ("mouldgrey_refine_one", &[1, 2, 4, 5, 6]),
     ("mouldgrey_refine_ref", &[1, 2, 4, 5, 6]),
@@ -59,8 +60,8 @@ pub enum Change {
 /// How often a changed table was found sound, unsound, refused.
 type Verdicts = [u64; 3];
 
-/// Places for the numbers 0, accepted, to 13.
-type Outcomes = [u64; 14];
+/// Places for the numbers 0, accepted, to 18.
+type Outcomes = [u64; 19];
 
 #[derive(Default)]
 pub struct Report {

@@ -33,6 +33,7 @@ pub fn name(act: &Act) -> &'static str {
         Act::Ask(Question::FastRange(_)) => "mouldgrey_fast_subset",
         Act::Ask(Question::Version) => "mouldgrey_version",
         Act::Ask(Question::RowsSince(_)) => "mouldgrey_updates_since",
+        Act::Ask(Question::RowsSinceNote(..)) => "mouldgrey_rows_since",
         Act::Ask(Question::RefineOne { .. }) => "mouldgrey_refine_one",
         Act::Ask(Question::RefineList { .. }) => "mouldgrey_refine_ref",
         Act::Ask(Question::AnyMatch { .. }) => "mouldgrey_contains_match",
@@ -137,7 +138,9 @@ fn answer(question: &Question, image: &Image, plain: Option<&Plain>) -> Option<A
             generation: h.generation,
             rows: h.rows,
         }),
-        (Question::RowsSince(row), _) => Some(Answer::Subset(Subset::Range(*row, h.rows))),
+        (Question::RowsSince(row) | Question::RowsSinceNote(_, row), _) => {
+            Some(Answer::Subset(Subset::Range(*row, h.rows)))
+        }
         (
             Question::RefineOne { .. }
             | Question::RefineList { .. }

@@ -161,6 +161,7 @@ impl Judge for Plain {
             Question::FastRange(condition) => self.fast_range(condition),
             Question::Version => self.version(),
             Question::RowsSince(row) => self.rows_since(*row),
+            Question::RowsSinceNote(_, count) => self.rows_since(*count),
             Question::RefineOne {
                 subset, condition, ..
             } => self.refine_one(subset, condition),

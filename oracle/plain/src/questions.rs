@@ -57,7 +57,7 @@ impl Plain {
         }
     }
 
-    /// *Rows since*.
+    /// *Rows since*, and since a note of so many rows.
     pub(crate) fn rows_since(&self, row: u32) -> Answer {
         Answer::Subset(Subset::Range(row, self.row_count()))
     }

@@ -87,6 +87,11 @@ pub fn test_question(h: &Header, lent: &Lengths, question: &Question) -> Result<
             test_header(h)?;
             refuse(5, *row > h.rows)
         }
+        // *Rows since a note*: 1, "18, another generation or a noted count above the row count".
+        Question::RowsSinceNote(generation, count) => {
+            test_header(h)?;
+            refuse(18, *generation != h.generation || *count > h.rows)
+        }
         // *Refine by one*: 1, 2, 4, 5, 6, "2 again, output shorter than the subset".
         Question::RefineOne {
             subset,

@@ -5,7 +5,9 @@ mod stores;
 mod tests;
 
 use calls::{Answer, Call, Condition, Contents, DEAD, Expected, Judge, Lengths, Question, Subset};
-use mouldgrey::{Constraint, Header, Merge, Opening, Page, Refusal, SubsetRef, Written, lent};
+use mouldgrey::{
+    Constraint, Header, Merge, Opening, Page, Refusal, SubsetRef, Version, Written, lent,
+};
 use stores::Stores;
 
 /// What stands behind a lent store, and in one that was never written.
@@ -125,6 +127,13 @@ impl ProvedTable {
                 rows: version.rows,
             }),
             Question::RowsSince(row) => answer(lent::updates_since(h, *row), range_answer),
+            Question::RowsSinceNote(generation, rows) => {
+                let noted = Version {
+                    generation: *generation,
+                    rows: *rows,
+                };
+                answer(lent::rows_since(h, noted), range_answer)
+            }
             Question::RefineOne {
                 subset,
                 condition,

@@ -173,6 +173,12 @@ impl Judge for RustTable {
                 let since = Offset::new(u64::from(*row));
                 Answer::Subset(answered(&self.open().table.updates_since(since)))
             }
+            // As its index does it: the rows since the minor version, if the major one is the same.
+            Question::RowsSinceNote(generation, count) => {
+                assert_eq!(self.open().generation(), *generation, "another generation");
+                let since = Offset::new(u64::from(*count));
+                Answer::Subset(answered(&self.open().table.updates_since(since)))
+            }
             Question::RefineOne {
                 subset, condition, ..
             } => {

@@ -174,7 +174,8 @@ insertAll-keeps P test f (cells ∷ rest) e place added p h =
     go (appended p′) q ih = ih true p′ (f cells p p′ (every-head test cells rest e) h q)
     go (stopped n) q ih = h
 
-every-true : (rows : List (List ℕ)) → every (λ row. true) rows ≡ true
+-- a test that all pass
+pub every-true : (rows : List (List ℕ)) → every (λ row. true) rows ≡ true
 unfolding every
 every-true [] = refl
 every-true (row ∷ rows) = every-true rows

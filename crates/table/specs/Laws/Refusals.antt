@@ -2,7 +2,7 @@
 -- for each ladder of Refusing, and what the key index asks. Assumes nothing.
 use Prim.Native.Nat.{ℕ, _+_, _*_, _/_, _≤_, _<_}
 use mathlib.Core.Path.{_≡_}
-use mathlib.Core.Bool.{true, false, _&&_, _||_}
+use mathlib.Core.Bool.{true, false, not, _&&_, _||_}
 use mathlib.Core.List.{List}
 use native.Mathlib.Omega.{arith}
 use lib.Dec.{leb, ltb, eqb}
@@ -19,7 +19,7 @@ use Rattle.plain.specs.Laws.Calls.{first-no, first-rest}
 use Rattle.plain.specs.Laws.Proper.{Bounds, openable-bounds}
 use Rattle.table.specs.declared.Header.{Header}
 use Rattle.table.specs.Numbers.{openingOf}
-use Rattle.table.specs.Refusing.{outside, pendingOutside, rowsShort, pairsShort, mergeRefusal, compactRefusal, clearRefusal, lookupRefusal, cellRefusal, fastRefusal, versionRefusal, sinceRefusal, soundRefusal, lookupTests}
+use Rattle.table.specs.Refusing.{outside, pendingOutside, rowsShort, pairsShort, mergeRefusal, compactRefusal, clearRefusal, lookupRefusal, cellRefusal, fastRefusal, versionRefusal, sinceRefusal, notedRefusal, soundRefusal, lookupTests}
 use Rattle.table.specs.Sound.{keyedOf}
 use Rattle.table.specs.Laws.Shown.{LongEnough, stores-long}
 
@@ -239,6 +239,21 @@ pub since-accepted : (h : Header) (row : ℕ) → sinceRefusal h row ≡ 0 → S
 unfolding sinceRefusal
 since-accepted h row e =
     record { inside = outside-inside h (first-no _ 0 _ e); row-there = ltb-false _ _ (first-no _ 4 _ (first-rest _ 0 _ e)) }
+
+-- ---- the rows since a noted version
+
+pub record Noted (h : Header) (generation count : ℕ) : Type 0 where
+  pub same : generation ≡ h .generation
+  pub rows-there : count ≤ h .rows
+
+pub noted-accepted : (h : Header) (generation count : ℕ) → notedRefusal h generation count ≡ 0 → Noted h generation count
+unfolding notedRefusal
+noted-accepted h generation count e =
+    let f = first-no (not (eqb generation (h .generation)) || ltb (h .rows) count) 17 _ (first-rest _ 0 _ e) in
+    record {
+      same = eqb-true _ _ (not-false _ (or-no-left (not (eqb generation (h .generation))) _ f));
+      rows-there = ltb-false _ _ (or-no-right (not (eqb generation (h .generation))) _ f);
+    }
 
 -- ---- the soundness check
 

@@ -87,6 +87,7 @@ fn questions() -> Vec<(Question, Vec<usize>)> {
         (Question::FastRange(condition(1, 0, 0)), vec![2]),
         (Question::Version, vec![]),
         (Question::RowsSince(0), vec![]),
+        (Question::RowsSinceNote(0, 0), vec![]),
         (
             Question::RefineOne {
                 subset: subset.clone(),
@@ -199,6 +200,10 @@ fn keys_columns_rows() {
     assert_eq!(ask(Question::Cell(vec![1], 3)), refused(6));
     assert_eq!(ask(Question::RowsSince(4)), refused(5));
     assert_eq!(ask(Question::RowsSince(3)), range(3, 3));
+    assert_eq!(ask(Question::RowsSinceNote(0, 4)), refused(18));
+    assert_eq!(ask(Question::RowsSinceNote(1, 3)), refused(18));
+    assert_eq!(ask(Question::RowsSinceNote(0, 3)), range(3, 3));
+    assert_eq!(ask(Question::RowsSinceNote(0, 1)), range(1, 3));
     assert_eq!(fast(&table, 6, 0, 0), refused(6));
     assert_eq!(fast(&table, 1, 3, 0), refused(6));
     assert_eq!(fast(&table, 0, 0, 3), refused(6));

@@ -1,0 +1,44 @@
+-- `exports_questions::mouldgrey_rows_since` meets its contract. Assumes nothing.
+use mathlib.Core.Path.{sym}
+use Rattle.words.specs.Laws.Words.{asked-unheaded, asked-unworded, asked-done}
+use borrow.Author.Needs.{needs}
+use Rattle.exports_questions.proofs.mouldgrey_rows_since.Statement.{statement}
+use Rattle.exports_questions.proofs.mouldgrey_rows_since.Tie as tie
+
+returns : tie.Need-returns
+returns c = asked-unheaded (c .if1 .taken)
+
+returns-2 : tie.Need-returns-2
+returns-2 c = asked-unworded (c .before .if1 .left) (c .if2 .taken)
+
+header-of-requires : tie.Need-header-of-requires
+header-of-requires c κs = search needs
+
+rows-since-requires : tie.Need-rows-since-requires
+rows-since-requires c κs = search needs
+
+write-range-requires : tie.Need-write-range-requires
+write-range-requires c κs = search needs
+
+same-length : tie.Need-same-length
+same-length c = search needs
+
+returns-3 : tie.Need-returns-3
+returns-3 c =
+    let w = c .before .before in
+    let q = w .before .before in
+    let h = q .before in
+    let t = h .before in
+    rw (sym (h .header-of .ensures)) (asked-done (t .before .if1 .left) (t .if2 .left) (q .rows-since .ensures) (w .write-range .ensures))
+
+pub mouldgrey-rows-since-spec : {M : Type 1} → statement M
+mouldgrey-rows-since-spec =
+    tie.close
+    (tie.spec
+    returns
+    returns-2
+    header-of-requires
+    rows-since-requires
+    write-range-requires
+    same-length
+    returns-3)

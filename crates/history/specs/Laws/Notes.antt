@@ -1,0 +1,98 @@
+-- An accepted note guarantees what its copy holds. Assumes nothing but the promises that histories are made of, and that of the
+-- rows since a noted version.
+use Prim.Native.Nat.{ℕ, _+_, _-_, _≤_, _<_}
+use mathlib.Core.Path.{_≡_, sym, ap, _∙_}
+use mathlib.Core.Bool.{true, false}
+use mathlib.Core.Logic.{_⊎_, inl, inr}
+use mathlib.Core.List.{_++_}
+use mathlib.Core.Option.{some}
+use native.Mathlib.Nat.{zero-add}
+use native.Mathlib.Omega.{arith}
+use lib.ListN.{length, drop}
+use Rattle.lists.specs.Lists.{keep, has}
+use Rattle.lists.specs.Laws.Keep.{split}
+use Rattle.lists.specs.Laws.Rising.{within-of, within-below, has-countFrom}
+use Rattle.offsets.specs.Subsets.{Subset, range, members}
+use Rattle.constraints.specs.Constraints.{isLive}
+use Rattle.plain.specs.Plain.{Row, Plain, liveFrom, liveRows, opened}
+use Rattle.plain.specs.Proper.{rowOf}
+use Rattle.plain.specs.Calls.{afterAll}
+use Rattle.plain.specs.Laws.Notes.{Follows, calls-follow, follows-at, follows-length, follows-live, live-behind}
+use Rattle.table.specs.declared.Header.{Header}
+use Rattle.table.specs.Promises.{Stores, Represents}
+use Rattle.table.specs.Laws.Shown.{row-shown, rows-counted}
+use Rattle.table.specs.Laws.Refusals.{noted-accepted}
+use Rattle.history.specs.Claim.{liveIn}
+use Rattle.history.specs.Notes.{storedRow, Guaranteed, OldNote}
+use Rattle.table.specs.Laws.Replies.{accepted-number, accepted-same}
+use Rattle.table.specs.Laws.Live.{live-shown}
+use Rattle.history.specs.Laws.Calls.{history-represents, steps-represents}
+
+generation-shown : {p : Plain} {s : Stores} → Represents p s → s .header .generation ≡ p .generation
+generation-shown r = ap (λ (h : Header). h .generation) (r .shown .header)
+
+-- the members of a range, one by one
+range-no : (a b i : ℕ) → i < a → has i (members (range a b)) ≡ false
+unfolding members
+range-no a b i h = has-countFrom i a (b - a) ∙ within-below a (a + (b - a)) i h
+
+range-yes : (a b i : ℕ) → a ≤ i → i < b → has i (members (range a b)) ≡ true
+unfolding members
+range-yes a b i h k = has-countFrom i a (b - a) ∙ within-of a (a + (b - a)) i h (omega arith)
+
+module _ {p q : Plain} {then now : Stores} (r : Represents p then) (s : Represents q now) (f : Follows (p .rows) (q .rows)) where
+  -- as many rows then as the note counts, and no fewer now
+  count-now : then .header .rows ≤ now .header .rows
+  count-now = omega (arith, rows-counted r, rows-counted s, follows-length f)
+
+  -- a stored row is live where the plain table's is
+  live-now : (i : ℕ) → i < length (p .rows) → isLive (storedRow now i) ≡ rowOf q i .live
+  live-now i h = sym (row-shown s i (omega (arith, follows-length f)) .live)
+
+  -- and has then the cells that it had
+  same-now : (i : ℕ) → i < then .header .rows → isLive (storedRow now i) ≡ true → storedRow now i ≡ storedRow then i
+  same-now i h e =
+      let k : i < length (p .rows) = omega (arith, rows-counted r) in
+      let l : rowOf q i .live ≡ true = sym (live-now i k) ∙ e in
+      let g = follows-at f i k l in
+      sym (row-shown s i (omega (arith, follows-length f)) .same l)
+      ∙ ap (λ (row : Row). row .cells) g
+      ∙ row-shown r i k .same (ap (λ (row : Row). row .live) (sym g) ∙ l)
+
+  kept-or-dead : (i : ℕ) → i < then .header .rows → (storedRow now i ≡ storedRow then i) ⊎ (isLive (storedRow now i) ≡ false)
+  kept-or-dead i h = elim (split (isLive (storedRow now i))) [ inl e ↦ inl (same-now i h e) | inr e ↦ inr e ]
+
+  -- the live rows of the range since then are those behind the rows that were there
+  behind : keep (λ row. has (row .number) (members (range (then .header .rows) (now .header .rows)))) (liveFrom 0 (q .rows))
+      ≡ liveFrom (0 + length (p .rows)) (drop (length (p .rows)) (q .rows))
+  behind =
+      let few = follows-length f in
+      live-behind (λ i. has i (members (range (then .header .rows) (now .header .rows)))) 0 (length (p .rows)) (q .rows)
+      (omega arith)
+      (λ i h. rw (zero-add i) (range-no _ _ i (omega (arith, rows-counted r))))
+      (λ i h k. rw (zero-add i) (range-yes _ _ i (omega (arith, rows-counted r)) (omega (arith, rows-counted s))))
+
+  together : liveIn now
+      ≡ keep (λ row. isLive (storedRow now (row .number))) (liveIn then)
+      ++ keep (λ row. has (row .number) (members (range (then .header .rows) (now .header .rows)))) (liveIn now)
+  unfolding liveRows liveIn
+  together =
+      rw (live-shown r, live-shown s, behind)
+      (follows-live 0 (λ i. isLive (storedRow now i)) f (λ i h. rw (zero-add i) (live-now i h)))
+
+  guaranteed : Guaranteed then now (range (then .header .rows) (now .header .rows))
+  guaranteed = record { kept-or-dead = kept-or-dead; live-rows = together }
+
+pub old-note : OldNote
+old-note o generation earlier later then now answer since history steps noted is =
+    let r = history-represents history in
+    let s = steps-represents r steps in
+    let told = sym is ∙ noted .answers in
+    let same = noted-accepted _ _ _ (accepted-number _ _ _ told) .same in
+    let f =
+    calls-follow (afterAll (opened o generation) earlier) later
+    (sym (generation-shown s) ∙ sym same ∙ generation-shown r) in
+    rw (only (accepted-same _ _ _ told)) (guaranteed r s f)
+  where
+    only : {a b : Subset} → some a ≡ some b → a ≡ b
+    only e = cc

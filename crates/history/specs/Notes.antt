@@ -1,0 +1,45 @@
+-- A reader with an old note (document 02, change 14): "Field readers keep a copy of the rows and the version at which they took
+-- it. Given that version, the table answers the rows since then. Within one history of demand 3, an accepted note guarantees
+-- that each row below the noted count either has the cells it had or is dead. The live rows are then the copied rows still live
+-- together with the live rows of the answer. The guarantee also covers stopped merges and clears of an empty table". Of a table
+-- that was opened anew it says nothing: that is another history, even at the same generation. Assumes nothing.
+use Prim.Native.Nat.{ℕ, _<_}
+use mathlib.Core.Path.{_≡_}
+use mathlib.Core.Bool.{false}
+use mathlib.Core.Logic.{_⊎_}
+use mathlib.Core.List.{List, _++_}
+use mathlib.Core.Option.{some}
+use Rattle.lists.specs.Lists.{keep, has, rowAt}
+use Rattle.refusals.specs.Refusals.{accepted}
+use Rattle.offsets.specs.Subsets.{Subset, members}
+use Rattle.constraints.specs.Constraints.{isLive}
+use Rattle.plain.specs.Staged.{Opening}
+use Rattle.plain.specs.Calls.{Lent}
+use Rattle.table.specs.declared.RangeAnswer.{RangeAnswer}
+use Rattle.table.specs.Numbers.{rangeSays}
+use Rattle.table.specs.Promises.{Stores, NotedRows}
+use Rattle.history.specs.Histories.{Steps, History}
+use Rattle.history.specs.Claim.{liveIn}
+
+-- row i as it is stored
+abbrev pub storedRow : Stores → ℕ → List ℕ
+storedRow s i = rowAt (s .header .columns) i (s .rows)
+
+-- a table then, when the copy was made, and now; the rows that it now answers as those since then
+pub record Guaranteed (then now : Stores) (since : Subset) : Type 0 where
+  -- "each row below the noted count either has the cells it had or is dead"
+  pub kept-or-dead : (i : ℕ) → i < then .header .rows
+      → (storedRow now i ≡ storedRow then i) ⊎ (isLive (storedRow now i) ≡ false)
+  -- "the copied rows still live together with the live rows of the answer", numbers and cells, in order
+  pub live-rows : liveIn now
+      ≡ keep (λ row. isLive (storedRow now (row .number))) (liveIn then)
+      ++ keep (λ row. has (row .number) (members since)) (liveIn now)
+
+-- a note taken at any moment of a history, "that version" being the generation and row count of that moment, and accepted at
+-- any later moment of it
+abbrev pub OldNote : Type 0
+OldNote =
+    (o : Opening) (generation : ℕ) (earlier later : List Lent) (then now : Stores) (answer : RangeAnswer) (since : Subset)
+    → History o generation earlier then → Steps then later now
+    → NotedRows (now .header) (then .header .generation) (then .header .rows) answer → rangeSays answer ≡ accepted (some since)
+    → Guaranteed then now since
