@@ -133,14 +133,15 @@ static void print_pages(uint32_t level, uint32_t stamp) {
                                                        {MOULDGREY_AT_LEAST, SORT, stamp}};
     const uint32_t none[1] = {0};
     uint32_t output[2];
-    uint32_t words[3] = {0, 1, 0};
-    while (words[1] == 1) {
-        const uint32_t place = words[2];
+    uint32_t words[4] = {0, 0, 1, 0};
+    while (words[2] == 1) {
+        const uint32_t place = words[3];
         accepted("page", mouldgrey_read_page(header, LENGTH(header), rows, LENGTH(rows), true, 0,
                                              header[MOULDGREY_ROWS], none, 0, place, 2, conditions,
                                              LENGTH(conditions), output, LENGTH(output), words,
                                              LENGTH(words)));
-        printf("page from %u: %u of two\n", (unsigned)place, (unsigned)words[0]);
+        printf("page from %u: %u of two, %u dead\n", (unsigned)place, (unsigned)words[0],
+               (unsigned)words[1]);
     }
 }
 

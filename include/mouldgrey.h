@@ -293,10 +293,11 @@ uint32_t mouldgrey_contains_match(const uint32_t *header, size_t header_len, con
 
 /*
  * A page: visits n ids of a subset, from the place that is counted from 0 on, and writes those of
- * the live rows that meet all conditions to output. words, 3: how many were written; then 1 and the
- * next place, or 0 and 0 if nothing remains. Output past the ids written is unchanged. Refuses: 1,
- * 2, 4, 5 (also if place is above the subset's size), 6, and 2 again if output is shorter than the
- * smaller of n and what remains; output unchanged.
+ * the live rows that meet all conditions to output. words, 4: how many were written; how many of
+ * those visited have a dead row, apart from live rows that fail a condition; then 1 and the next
+ * place, or 0 and 0 if nothing remains. Output past the ids written is unchanged. Refuses: 1, 2, 4,
+ * 5 (also if place is above the subset's size), 6, and 2 again if output is shorter than the smaller
+ * of n and what remains; output unchanged.
  */
 uint32_t mouldgrey_read_page(const uint32_t *header, size_t header_len, const uint32_t *rows,
                              size_t rows_len, bool dense, uint32_t start, uint32_t end,

@@ -494,7 +494,7 @@ pub fn read_page(
     output: &mut [u32],
 ) -> Result<Page, Refusal> {
     let (dense, start, end, ids) = parts(subset);
-    let mut words = [0; 3];
+    let mut words = [0; 4];
     verdict(unsafe {
         raw::mouldgrey_read_page(
             words_in(header),
@@ -516,9 +516,10 @@ pub fn read_page(
             words.len(),
         )
     })?;
-    let [written, more, next] = words;
+    let [written, dead, more, next] = words;
     Ok(Page {
         written: written as usize,
+        dead: dead as usize,
         next: (more == 1).then_some(next),
     })
 }

@@ -38,7 +38,7 @@ pub enum Stop {
 }
 
 impl Refusal {
-    pub const ALL: [Refusal; 9] = [
+    pub const ALL: [Refusal; 10] = [
         Refusal::OutOfBounds,
         Refusal::TooShort,
         Refusal::WrongWidth,

@@ -59,10 +59,12 @@ pub enum Written {
     List(usize),
 }
 
-/// A page over a lent output: how many ids stand at its start, and the next place, if anything remains.
+/// A page over a lent output: how many ids stand at its start, how many of the ids visited have a dead row, and the next place, if
+/// anything remains.
 #[derive(Clone, Copy, Debug, PartialEq, Eq)]
 pub struct Page {
     pub written: usize,
+    pub dead: usize,
     pub next: Option<u32>,
 }
 

@@ -248,6 +248,7 @@ fn pages() {
     assert_eq!(output, [9, 9]);
     let whole = Page {
         written: 2,
+        dead: 0,
         next: None,
     };
     assert_eq!(ask(&mut output), Ok(whole));
@@ -262,7 +263,13 @@ fn refused_words() {
     let header = s.header.words();
     let mut words = [7, 8, 9, 10];
     let mut since = |row, count: usize| unsafe {
-        raw::mouldgrey_updates_since(header.as_ptr(), 10, row, words.as_mut_ptr(), count)
+        raw::mouldgrey_updates_since(
+            header.as_ptr(),
+            header.len(),
+            row,
+            words.as_mut_ptr(),
+            count,
+        )
     };
     assert_eq!(since(21, 3), 5);
     assert_eq!(since(20, 4), 2);

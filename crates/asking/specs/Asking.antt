@@ -19,7 +19,7 @@ unfoldable pub matchWords : List ℕ → MatchAnswer → List ℕ
 matchWords words (MatchRefused n) = words
 matchWords words (Match answer) = bit answer ∷ []
 
--- how many ids were written; then 1 and the next place, or 0 and 0
+-- how many ids were written, how many of those visited have a dead row; then 1 and the next place, or 0 and 0
 unfoldable pub placeWords : NextPlace → List ℕ
 placeWords None = 0 ∷ 0 ∷ []
 placeWords (At place) = 1 ∷ place ∷ []
@@ -30,4 +30,4 @@ pageNumber (Paged page) = 0
 
 unfoldable pub pageWords : List ℕ → PageAnswer → List ℕ
 pageWords words (PageRefused n) = words
-pageWords words (Paged page) = page .written ∷ placeWords (page .next)
+pageWords words (Paged page) = page .written ∷ page .dead ∷ placeWords (page .next)

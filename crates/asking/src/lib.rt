@@ -1,6 +1,7 @@
 // What a function under a C name that is lent a list of conditions does before and after its question: the header is read, and
 // the answer told. The function itself, proved by hand, has no test of its own.
 ghost use mathlib.Core.Path.{_≡_};
+ghost use mathlib.Core.List.{[], _∷_};
 ghost use lib.ListN.{length};
 ghost use Rattle.words.specs.Words.{subsetNumber, subsetWords, Told};
 ghost use Rattle.asking.specs.Asking.{matchNumber, matchWords, pageNumber, pageWords};
@@ -14,9 +15,8 @@ use table::Largest;
 use words::bit_of;
 use words::header_of;
 use words::write_subset;
-use words::write_three;
 
-// The header that its words hold; where they are not ten, or the answer's words not so many as needed, one that every question
+// The header that its words hold; where they are not twelve, or the answer's words not so many as needed, one that every question
 // refuses, and nothing is done.
 pub fn header_asked(header: &[u32], words: usize, needed: usize) -> Header
     ensures { λ r. ⌜ HeaderAsked (now (header .entry)) words needed r ⌝ }
@@ -79,8 +79,18 @@ pub fn tell_match(headed: usize, answer: MatchAnswer, words: &mut [u32]) -> u32
     write_match(answer, words)
 }
 
+fn write_four(words: &mut [u32], first: u32, second: u32, third: u32, fourth: u32)
+    requires { ⌜ length (now words) ≡ 4 ⌝ }
+    ensures { λ _. ⌜ now (words .exit) ≡ first ∷ second ∷ third ∷ fourth ∷ [] ⌝ }
+{
+    words[0] = first;
+    words[1] = second;
+    words[2] = third;
+    words[3] = fourth;
+}
+
 fn write_page(answer: PageAnswer, words: &mut [u32]) -> u32
-    requires { ⌜ length (now words) ≡ 3 ⌝ }
+    requires { ⌜ length (now words) ≡ 4 ⌝ }
     ensures { λ r. ⌜ Told pageNumber (pageWords (now (words .entry))) answer r (now (words .exit)) ⌝ }
 {
     match answer {
@@ -89,11 +99,11 @@ fn write_page(answer: PageAnswer, words: &mut [u32]) -> u32
             let next = page.next;
             match next {
                 NextPlace::None => {
-                    write_three(words, page.written, 0, 0);
+                    write_four(words, page.written, page.dead, 0, 0);
                     0
                 }
                 NextPlace::At(place) => {
-                    write_three(words, page.written, 1, place);
+                    write_four(words, page.written, page.dead, 1, place);
                     0
                 }
             }
@@ -102,12 +112,12 @@ fn write_page(answer: PageAnswer, words: &mut [u32]) -> u32
 }
 
 pub fn tell_page(headed: usize, answer: PageAnswer, words: &mut [u32]) -> u32
-    ensures { λ r. ⌜ Tells pageNumber pageWords 3 headed answer (now (words .entry)) r (now (words .exit)) ⌝ }
+    ensures { λ r. ⌜ Tells pageNumber pageWords 4 headed answer (now (words .entry)) r (now (words .exit)) ⌝ }
 {
     if headed != 12 {
         return 1;
     }
-    if words.len() != 3 {
+    if words.len() != 4 {
         return 2;
     }
     write_page(answer, words)

@@ -54,7 +54,8 @@ pub extern "C" fn mouldgrey_contains_match(
     tell_match(header.len(), answer, words)
 }
 
-// The answer goes into three words: how many ids were written, then 1 and the next place, or 0 and 0.
+// The answer goes into four words: how many ids were written, how many of those visited have a dead row, then 1 and the next
+// place, or 0 and 0.
 #[no_mangle]
 pub extern "C" fn mouldgrey_read_page(
     header: &[u32],
@@ -69,9 +70,9 @@ pub extern "C" fn mouldgrey_read_page(
     output: &mut [u32],
     words: &mut [u32],
 ) -> u32
-    ensures { λ r. ⌜ Asked (λ answer. PageRead (headerIn (now (header .entry))) (now (rows .entry)) (subsetOf (record { dense = dense; start = start; end = end }) (now (ids .entry))) place n (now (conditions .entry)) (now (output .entry)) answer (now (output .exit))) pageNumber pageWords 3 (now (header .entry)) (now (words .entry)) r (now (words .exit)) × (((length (now (header .entry)) ≡ 12) × (length (now (words .entry)) ≡ 3) → ⊥) → now (output .exit) ≡ now (output .entry)) ⌝ }
+    ensures { λ r. ⌜ Asked (λ answer. PageRead (headerIn (now (header .entry))) (now (rows .entry)) (subsetOf (record { dense = dense; start = start; end = end }) (now (ids .entry))) place n (now (conditions .entry)) (now (output .entry)) answer (now (output .exit))) pageNumber pageWords 4 (now (header .entry)) (now (words .entry)) r (now (words .exit)) × (((length (now (header .entry)) ≡ 12) × (length (now (words .entry)) ≡ 4) → ⊥) → now (output .exit) ≡ now (output .entry)) ⌝ }
 {
-    let h = header_asked(header, words.len(), 3);
+    let h = header_asked(header, words.len(), 4);
     let head = SubsetHead { dense, start, end };
     let answer = questions::read_page(h, rows, head, ids, place, n, conditions, output);
     tell_page(header.len(), answer, words)

@@ -7,13 +7,13 @@ use mathlib.Core.List.{List, [], _∷_, _++_}
 use mathlib.Core.Option.{Option, none, some}
 use lib.ListN.{length, take, drop}
 use lib.Dec.{ltb}
-use Rattle.lists.specs.Lists.{putAt, keep, every, any, rowAt}
+use Rattle.lists.specs.Lists.{putAt, keep, count, every, any, rowAt}
 use Rattle.refusals.specs.Refusals.{Rung, rung, first, Reply, refused, accepted, reply}
 use Rattle.offsets.specs.declared.SubsetAnswer.{SubsetAnswer}
 use Rattle.offsets.specs.Subsets.{Subset, wellFormed, members, size, endOf, retain, narrowed}
 use Rattle.offsets.specs.Answers.{Answered}
 use Rattle.constraints.specs.declared.Constraint.{Constraint}
-use Rattle.constraints.specs.Constraints.{known, meets}
+use Rattle.constraints.specs.Constraints.{known, isLive, meets}
 use Rattle.table.specs.declared.Header.{Header}
 use Rattle.table.specs.Refusing.{outside, rowsShort}
 use Rattle.queries.specs.declared.MatchAnswer.{MatchAnswer}
@@ -27,6 +27,10 @@ use Rattle.queries.specs.declared.PageAnswer.the-variants.{Refused as Pa
 -- row `id` is live and meets the conditions
 unfoldable pub matches : Header → List ℕ → List Constraint → ℕ → Bool
 matches h rows conditions id = meets (rowAt (h .columns) id rows) conditions
+
+-- "how many of the visited ids were dead, apart from live rows that failed a condition": how many ids have a dead row
+unfoldable pub deadAmong : Header → List ℕ → List ℕ → ℕ
+deadAmong h rows ids = count (λ id. not (isLive (rowAt (h .columns) id rows))) ids
 
 -- "5, range end or last id plus one above the row count"
 unfoldable pub pastRows : Header → Subset → Bool
@@ -85,13 +89,18 @@ nextPlace subset start n = cond (ltb (start + n) (size subset)) (some (start + n
 
 pub record PageReply : Type 0 where
   pub ids : List ℕ
+  pub dead : ℕ
   pub next : Option ℕ
 
 unfoldable pub pageReply : Header → List ℕ → Subset → ℕ → ℕ → List Constraint → ℕ → Reply PageReply
 pageReply h rows subset start n conditions output =
     reply
     (pageRefusal h (length rows) subset start n conditions output)
-    (record { ids = keep (matches h rows conditions) (visited subset start n); next = nextPlace subset start n })
+    (record {
+      ids = keep (matches h rows conditions) (visited subset start n);
+      dead = deadAmong h rows (visited subset start n);
+      next = nextPlace subset start n;
+    })
 
 -- what the answers say
 unfoldable pub matchSays : MatchAnswer → Reply Bool
@@ -102,19 +111,20 @@ unfoldable pub nextSays : NextPlace → Option ℕ
 nextSays None = none
 nextSays (At place) = some place
 
--- of a page: how many ids were written, and the next place
+-- of a page: how many ids were written, how many of those visited have a dead row, and the next place
 pub record PageTold : Type 0 where
   pub written : ℕ
+  pub dead : ℕ
   pub next : Option ℕ
 
 unfoldable pub pageSays : PageAnswer → Reply PageTold
 pageSays (PageRefused n) = refused n
-pageSays (Paged page) = accepted (record { written = page .written; next = nextSays (page .next) })
+pageSays (Paged page) = accepted (record { written = page .written; dead = page .dead; next = nextSays (page .next) })
 
 -- what is told of a reply, and the ids that it writes
 unfoldable pub pageTold : Reply PageReply → Reply PageTold
 pageTold (refused n) = refused n
-pageTold (accepted page) = accepted (record { written = length (page .ids); next = page .next })
+pageTold (accepted page) = accepted (record { written = length (page .ids); dead = page .dead; next = page .next })
 
 unfoldable pub pageWrites : Reply PageReply → List ℕ
 pageWrites (refused n) = []

@@ -15,9 +15,10 @@ pub enum NextPlace {
     At(u32),
 }
 
-// A page: how many ids were written, and the next place.
+// A page: how many ids were written, how many of those visited have a dead row, and the next place.
 pub struct Page {
     pub written: u32,
+    pub dead: u32,
     pub next: NextPlace,
 }
 

@@ -6,18 +6,15 @@ use offsets::SubsetAnswer;
 use offsets::SubsetHead;
 use queries::MatchAnswer;
 use queries::PageAnswer;
+use sweeping::Question;
 use sweeping::close_match;
 use sweeping::close_page;
 use sweeping::close_refine;
-use sweeping::open_match;
-use sweeping::open_page;
 use sweeping::open_refine;
 use sweeping::retain;
 use sweeping::write_found;
 use table::Header;
-use walks::all_pass;
-use walks::find_match;
-use walks::sweep_all;
+use walks::ask;
 
 // The rows of a subset that are live and meet a condition: a range while they are neighbours, of a list a list.
 pub fn refine_one(
@@ -54,9 +51,7 @@ pub fn refine_ref(
 ) -> SubsetAnswer
     ensures { λ r. ⌜ RefinedList h (now (rows .entry)) (subsetOf head (now (ids .entry))) (now (conditions .entry)) (now (out .entry)) r (now (out .exit)) ⌝ }
 {
-    let known = all_pass(true, h, rows, 0, conditions);
-    let begun = open_refine(h, rows.len(), head, ids, known, out.len());
-    let done = sweep_all(h, rows, head, ids, conditions, begun, out);
+    let done = ask(Question::Refine, h, rows, head, ids, conditions, out);
     close_refine(head, done, out)
 }
 
@@ -70,9 +65,8 @@ pub fn contains_match(
 ) -> MatchAnswer
     ensures { λ r. ⌜ Matched h (now (rows .entry)) (subsetOf head (now (ids .entry))) (now (conditions .entry)) r ⌝ }
 {
-    let known = all_pass(true, h, rows, 0, conditions);
-    let begun = open_match(h, rows.len(), head, ids, known);
-    let done = find_match(h, rows, head, ids, conditions, begun);
+    let mut none = [0u32; 0];
+    let done = ask(Question::Match, h, rows, head, ids, conditions, &mut none);
     close_match(done)
 }
 
@@ -89,8 +83,14 @@ pub fn read_page(
 ) -> PageAnswer
     ensures { λ r. ⌜ PageRead h (now (rows .entry)) (subsetOf head (now (ids .entry))) start n (now (conditions .entry)) (now (out .entry)) r (now (out .exit)) ⌝ }
 {
-    let known = all_pass(true, h, rows, 0, conditions);
-    let begun = open_page(h, rows.len(), head, ids, start, n, known, out.len());
-    let done = sweep_all(h, rows, head, ids, conditions, begun, out);
+    let done = ask(
+        Question::Page(start, n),
+        h,
+        rows,
+        head,
+        ids,
+        conditions,
+        out,
+    );
     close_page(head, ids, done, out)
 }

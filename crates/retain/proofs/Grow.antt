@@ -1,7 +1,7 @@
 -- A growing answer, an id at a time. Assumes nothing.
 use Prim.Native.Nat.{ℕ, suc, _+_, _-_, _≤_, _<_}
 use mathlib.Core.Path.{_≡_, refl, sym, ap, ap₂, _∙_}
-use mathlib.Core.Bool.{true, false, false≢true}
+use mathlib.Core.Bool.{true}
 use mathlib.Core.List.{List, [], _∷_, _++_}
 use native.Mathlib.Nat.{zero-add, add-zero}
 use native.Mathlib.Decide.{ℕ-discrete}
@@ -9,7 +9,7 @@ use native.Mathlib.Omega.{arith}
 use lib.ListN.{length, getD, set, length-set, length-append, List·getD-append}
 use lib.Seq.{getD-at}
 use Rattle.lists.specs.Lists.{putAt, countFrom, rising}
-use Rattle.lists.specs.Laws.Parts.{putAt-nil}
+use Rattle.lists.specs.Laws.Parts.{putAt-nil, length-putAt}
 use Rattle.lists.specs.Laws.Rising.{length-countFrom, getD-countFrom, countFrom-snoc, rising-at, rising-gap}
 use Rattle.lists.specs.Laws.Search.{put-more}
 use Rattle.refusals.specs.Refusals.{accepted}
@@ -17,67 +17,33 @@ use Rattle.retain.specs.declared.Growing.{Growing}
 use Rattle.offsets.specs.declared.SubsetAnswer.the-variants.{Range, List as Ids}
 use Rattle.offsets.specs.Subsets.{range, list, shaped}
 use Rattle.offsets.specs.Answers.{Answered}
-use Rattle.retain.specs.inner.Growing.{Grows, NextId, CanAdd, Adds, Begins, Ends, Pushes}
+use Rattle.retain.specs.inner.Growing.{pushed, Grows, NextId, CanAdd, Adds, Begins, Ends}
 use Rattle.offsets.specs.Laws.Subsets.{answered-range, answered-list, shaped-list, shaped-countFrom}
 
--- ---- a push
+-- ---- neighbouring ids
 
-pub pushed : (output : List ℕ) (count id : ℕ) → Pushes output count id (count + 1) (set output count id)
-pushed output count id =
-    record {
-      pushes = λ output₀ kept room w.
-          record {
-            number = ap (λ (n : ℕ). n + 1) (w .number) ∙ simp length-append;
-            cells =
-                ap (λ (l : List ℕ). set l count id) (w .cells)
-                ∙ put-more output₀ kept count id (w .number) (let n = w .number in omega arith);
-          };
-    }
-
--- ---- the ids of a range
-
-pub record Filled (output₀ output : List ℕ) (start end id : ℕ) : Type 0 where
-  pub from : start ≤ id
-  pub upto : id ≤ end
+pub record Filled (output₀ output : List ℕ) (start count i : ℕ) : Type 0 where
+  pub upto : i ≤ count
   pub same : length output ≡ length output₀
-  pub cells : output ≡ putAt output₀ 0 (countFrom start (id - start))
+  pub cells : output ≡ putAt output₀ 0 (countFrom start i)
 
-countFrom-none : (s n : ℕ) → n ≡ 0 → countFrom s n ≡ []
+pub filled-begin : (output₀ : List ℕ) (start count : ℕ) → Filled output₀ output₀ start count 0
 unfolding countFrom
-countFrom-none s n e = ap (countFrom s) e
+filled-begin output₀ start count = record { upto = omega arith; same = refl; cells = sym (putAt-nil output₀ 0) }
 
-pub filled-begin : (output₀ : List ℕ) (start end : ℕ) → start ≤ end → Filled output₀ output₀ start end start
-filled-begin output₀ start end h =
+pub filled-more : (output₀ output : List ℕ) (start count i : ℕ) → count ≤ length output₀ → Filled output₀ output start count i → i < count → Filled output₀ (set output i (start + i)) start count (i + 1)
+filled-more output₀ output start count i h s k =
     record {
-      from = omega arith;
-      upto = h;
-      same = refl;
-      cells = sym (ap (putAt output₀ 0) (countFrom-none start (start - start) (omega arith)) ∙ putAt-nil output₀ 0);
-    }
-
-pub filled-more : (output₀ output : List ℕ) (start end id : ℕ) → end - start ≤ length output₀ → Filled output₀ output start end id → id < end
-    → Filled output₀ (set output (id - start) id) start end (id + 1)
-filled-more output₀ output start end id h s k =
-    let a = s .from in
-    let n : id + 1 - start ≡ id - start + 1 = omega arith in
-    let m : start + (id - start) ≡ id = omega arith in
-    let e : countFrom start (id + 1 - start) ≡ countFrom start (id - start) ++ (id ∷ []) =
-    ap (countFrom start) n ∙ countFrom-snoc start (id - start) ∙ ap (λ (x : ℕ). countFrom start (id - start) ++ (x ∷ [])) m in
-    record {
-      from = omega arith;
       upto = omega arith;
       same = simp length-set (s .same);
       cells =
-          ap (λ (l : List ℕ). set l (id - start) id) (s .cells)
-          ∙ put-more output₀ (countFrom start (id - start)) (id - start) id (sym (length-countFrom start (id - start))) (omega arith)
-          ∙ ap (putAt output₀ 0) (sym e);
+          ap (λ (l : List ℕ). set l i (start + i)) (s .cells)
+          ∙ put-more output₀ (countFrom start i) i (start + i) (sym (length-countFrom start i)) (omega arith)
+          ∙ ap (putAt output₀ 0) (sym (countFrom-snoc start i));
     }
 
-pub filled-end : (output₀ output : List ℕ) (start end id : ℕ) → Filled output₀ output start end id → end ≤ id → output ≡ putAt output₀ 0 (countFrom start (end - start))
-filled-end output₀ output start end id s h =
-    let u = s .upto in
-    let e : id ≡ end = omega arith in
-    s .cells ∙ ap (λ (k : ℕ). putAt output₀ 0 (countFrom start (k - start))) e
+pub filled-end : (output₀ output : List ℕ) (start count i : ℕ) → Filled output₀ output start count i → count ≤ i → output ≡ putAt output₀ 0 (countFrom start count)
+filled-end output₀ output start count i s h = let e : i ≡ count = omega (arith, s .upto) in s .cells ∙ ap (λ (k : ℕ). putAt output₀ 0 (countFrom start k)) e
 
 -- ---- what the next id is known by
 
@@ -116,158 +82,163 @@ shaped-nil = refl
 
 -- ---- the states
 
-pub begun : Begins (record { dense = true; start = 0; end = 0; count = 0 })
+pub begun : Begins (record { start = 0; count = 0; written = 0 })
+unfolding rising countFrom
 begun =
     record {
+      nothing = refl;
       begins = λ output.
           record {
-            up = unfold rising in refl;
+            up = refl;
             same = refl;
-            as-range = λ e. record { order = omega arith; none = λ q. refl; ids = sym (countFrom-none 0 (0 - 0) (omega arith)); unwritten = refl };
-            as-list = λ e. absurd (false≢true (sym e));
+            number = refl;
+            as-range = λ e. record { ids = refl; none = λ q. refl; fits = omega arith; unwritten = refl };
+            as-list = λ e. absurd (e refl);
           };
     }
+
+-- what is kept where it is a range
+module _ (output₀ output : List ℕ) (g : Growing) (kept : List ℕ) (s : Grows output₀ output g kept) (d : g .written ≡ 0) where
+  first-is : 0 < g .count → getD kept 0 0 ≡ g .start
+  first-is h = ap (λ (l : List ℕ). getD l 0 0) (s .as-range d .ids) ∙ getD-countFrom (g .start) (g .count) 0 0 h ∙ add-zero (g .start)
+
+  top-below : (id : ℕ) → rising (kept ++ (id ∷ [])) ≡ true → 0 < g .count → g .start + g .count ≤ id
+  top-below id e h =
+      let top = getD-countFrom (g .start) (g .count) (g .count - 1) 0 (omega arith) in
+      let is : getD kept (g .count - 1) 0 ≡ g .start + (g .count - 1) = ap (λ (l : List ℕ). getD l (g .count - 1) 0) (s .as-range d .ids) ∙ top in
+      let below = kept-below kept id e (g .count - 1) (omega (arith, s .number)) in
+      omega arith
 
 module _ (output : List ℕ) (g : Growing) (id : ℕ) where
   -- what the code may rely on
   pub record Sure : Type 0 where
-    pub small : id < 4294967295
-    pub order : g .dense ≡ true → g .start ≤ g .end
-    pub range-room : g .dense ≡ true → g .end - g .start < length output
-    pub range-few : g .dense ≡ true → g .end - g .start ≤ id
-    pub list-room : g .dense ≡ false → g .count < length output
-    pub list-few : g .dense ≡ false → g .count ≤ id
+    pub few : g .count < 4294967295
+    pub sum : g .written ≡ 0 → (g .count ≡ 0 → ⊥) → g .start + g .count < 4294967296
+    pub room : (g .count ≡ 0 → ⊥) → g .count < length output
+    pub some : (g .written ≡ 0 → ⊥) → g .count ≡ 0 → ⊥
 
   pub sure : CanAdd output g id → Sure
   sure c =
       record {
-        small = c .next .small;
-        order = λ e. c .grows .as-range e .order;
-        range-room = λ e. omega (arith, run e, c .next .room, c .grows .same);
-        range-few = λ e. omega (arith, run e, kept-few (c .kept) id (c .next .up));
-        list-room = λ e. omega (arith, c .grows .as-list e .wrote .number, c .next .room, c .grows .same);
-        list-few = λ e. omega (arith, c .grows .as-list e .wrote .number, kept-few (c .kept) id (c .next .up));
+        few = omega (arith, c .grows .number, kept-few (c .kept) id (c .next .up), c .next .small);
+        sum = λ d n. omega (arith, top-below (c .output₀) output g (c .kept) (c .grows) d id (c .next .up) (omega (arith, n)), c .next .small);
+        room = λ n. omega (arith, c .next .room (omega (arith, c .grows .number, n)), c .grows .number, c .grows .same);
+        some = λ d n. d (c .grows .as-list d .wrote .number ∙ sym (c .grows .number) ∙ n);
       }
-    where
-      run : g .dense ≡ true → length (c .kept) ≡ g .end - g .start
-      run e = ap length (c .grows .as-range e .ids) ∙ length-countFrom (g .start) (g .end - g .start)
 
   -- the first id
-  pub adds-first : g .dense ≡ true → g .start ≡ g .end → Adds output g id (record { dense = g .dense; start = id; end = id + 1; count = g .count }) output
+  pub adds-first : g .written ≡ 0 → g .count ≡ 0 → Adds output g id (record { start = id; count = 1; written = g .written }) output
+  unfolding countFrom
   adds-first d z =
       record {
+        one-more = omega arith;
         adds = λ output₀ kept s n.
             let r = s .as-range d in
-            let k : g .end - g .start ≡ 0 = omega arith in
-            let none : kept ≡ [] = r .ids ∙ countFrom-none (g .start) (g .end - g .start) k in
-            let one : id + 1 - id ≡ 0 + 1 = omega arith in
-            let ids : countFrom id (id + 1 - id) ≡ id ∷ [] = ap (countFrom id) one ∙ first-run in
+            let none : kept ≡ [] = r .ids ∙ ap (countFrom (g .start)) z in
             record {
               up = n .up;
               same = s .same;
-              as-range = λ e. record { order = omega arith; none = λ q. absurd (omega arith); ids = ap (λ (l : List ℕ). l ++ (id ∷ [])) none ∙ sym ids; unwritten = r .unwritten };
-              as-list = λ e. absurd (false≢true (sym e ∙ d));
+              number = omega (arith, s .number, long kept id (n .up));
+              as-range = λ e. record { ids = ap (λ (l : List ℕ). l ++ (id ∷ [])) none; none = λ q. absurd (omega arith); fits = omega (arith, n .small); unwritten = r .unwritten };
+              as-list = λ e. absurd (e d);
             };
       }
-    where
-      first-run : countFrom id (0 + 1) ≡ id ∷ []
-      first-run = countFrom-snoc id 0 ∙ unfold countFrom in ap (λ (x : ℕ). x ∷ []) (add-zero id)
 
   -- a neighbour
-  pub adds-neighbour : g .dense ≡ true → g .end ≡ id → Adds output g id (record { dense = g .dense; start = g .start; end = id + 1; count = g .count }) output
+  pub adds-neighbour : g .written ≡ 0 → g .start + g .count ≡ id → Adds output g id (record { start = g .start; count = g .count + 1; written = g .written }) output
   adds-neighbour d z =
       record {
+        one-more = refl;
         adds = λ output₀ kept s n.
             let r = s .as-range d in
-            let o = r .order in
-            let k : id + 1 - g .start ≡ g .end - g .start + 1 = omega arith in
-            let m : g .start + (g .end - g .start) ≡ id = omega arith in
-            let ids : countFrom (g .start) (id + 1 - g .start) ≡ kept ++ (id ∷ []) =
-            ap (countFrom (g .start)) k ∙ countFrom-snoc (g .start) (g .end - g .start) ∙ ap (λ (x : ℕ). countFrom (g .start) (g .end - g .start) ++ (x ∷ [])) m ∙ ap (λ (l : List ℕ). l ++ (id ∷ [])) (sym (r .ids)) in
+            let ids : kept ++ (id ∷ []) ≡ countFrom (g .start) (g .count + 1) = rw (r .ids, ← z) (sym (countFrom-snoc (g .start) (g .count))) in
             record {
               up = n .up;
               same = s .same;
-              as-range = λ e. record { order = omega arith; none = λ q. absurd (omega arith); ids = sym ids; unwritten = r .unwritten };
-              as-list = λ e. absurd (false≢true (sym e ∙ d));
+              number = omega (arith, s .number, long kept id (n .up));
+              as-range = λ e. record { ids = ids; none = λ q. absurd (omega arith); fits = omega (arith, n .small); unwritten = r .unwritten };
+              as-list = λ e. absurd (e d);
             };
       }
 
   -- an id past a gap: the range is written out, and the id after it
-  pub adds-gap : (filled : List ℕ) (count : ℕ) (output′ : List ℕ) → g .dense ≡ true → (g .start ≡ g .end → ⊥) → (g .end ≡ id → ⊥)
-      → filled ≡ putAt output 0 (countFrom (g .start) (g .end - g .start)) → Pushes filled (g .end - g .start) id count output′ → length output′ ≡ length output
-      → Adds output g id (record { dense = false; start = g .start; end = g .end; count = count }) output′
-  adds-gap filled count output′ d p q f w l = record { adds = added }
+  pub adds-gap : (filled : List ℕ) → g .written ≡ 0 → (g .count ≡ 0 → ⊥) → (g .start + g .count ≡ id → ⊥) → filled ≡ putAt output 0 (countFrom (g .start) (g .count))
+      → Adds output g id (pushed g) (set filled (g .count) id)
+  unfolding pushed
+  adds-gap filled d p q f = record { one-more = refl; adds = added }
     where
       added : (output₀ kept : List ℕ) → Grows output₀ output g kept → NextId output₀ kept id
-          → Grows output₀ output′ (record { dense = false; start = g .start; end = g .end; count = count }) (kept ++ (id ∷ []))
+          → Grows output₀ (set filled (g .count) id) (pushed g) (kept ++ (id ∷ []))
       added output₀ kept s n =
           let r = s .as-range d in
-          let size : length kept ≡ g .end - g .start = ap length (r .ids) ∙ length-countFrom (g .start) (g .end - g .start) in
-          let cells : filled ≡ putAt output₀ 0 kept = f ∙ ap (λ (l : List ℕ). putAt l 0 (countFrom (g .start) (g .end - g .start))) (r .unwritten) ∙ ap (putAt output₀ 0) (sym (r .ids)) in
-          let o = r .order in
-          let first : getD kept 0 0 ≡ g .start + 0 = ap (λ (l : List ℕ). getD l 0 0) (r .ids) ∙ getD-countFrom (g .start) (g .end - g .start) 0 0 (omega arith) in
-          let top : getD kept (g .end - g .start - 1) 0 ≡ g .start + (g .end - g .start - 1) =
-          ap (λ (l : List ℕ). getD l (g .end - g .start - 1) 0) (r .ids) ∙ getD-countFrom (g .start) (g .end - g .start) (g .end - g .start - 1) 0 (omega arith) in
-          let below = kept-below kept id (n .up) (g .end - g .start - 1) (omega arith) in
+          let cells : filled ≡ putAt output₀ 0 kept = rw (r .ids, ← r .unwritten) f in
+          let put = put-more output₀ kept (g .count) id (s .number) (omega (arith, n .room (omega (arith, s .number, p)), s .number)) in
+          let some : 0 < g .count = omega (arith, p) in
+          let top = top-below output₀ output g kept s d id (n .up) some in
           record {
             up = n .up;
-            same = l ∙ s .same;
-            as-range = λ e. absurd (false≢true e);
+            same = length-of output₀ kept cells put (omega (arith, n .room (omega (arith, s .number)), long kept id (n .up)));
+            number = omega (arith, s .number, long kept id (n .up));
+            as-range = λ e. absurd (omega arith);
             as-list = λ e.
                 record {
-                  wrote = w .pushes output₀ kept (n .room) (record { number = sym size; cells = cells });
-                  some = omega (arith, long kept id (n .up));
-                  gap = gap-of kept id (n .up) (omega arith) (omega arith);
+                  wrote = record { number = omega (arith, s .number, long kept id (n .up)); cells = ap (λ (l : List ℕ). set l (g .count) id) cells ∙ put };
+                  gap = gap-of kept id (n .up) (omega (arith, s .number)) (omega (arith, first-is output₀ output g kept s d some, s .number, q));
                 };
           }
+        where
+          length-of : (output₀ kept : List ℕ) → filled ≡ putAt output₀ 0 kept → set (putAt output₀ 0 kept) (g .count) id ≡ putAt output₀ 0 (kept ++ (id ∷ [])) → length (kept ++ (id ∷ [])) ≤ length output₀
+              → length (set filled (g .count) id) ≡ length output₀
+          length-of output₀ kept c w l = ap (λ (m : List ℕ). length (set m (g .count) id)) c ∙ ap length w ∙ length-putAt output₀ (kept ++ (id ∷ [])) 0 (omega (arith, l))
 
   -- the list grows
-  pub adds-more : (count : ℕ) (output′ : List ℕ) → g .dense ≡ false → Pushes output (g .count) id count output′ → length output′ ≡ length output
-      → Adds output g id (record { dense = g .dense; start = g .start; end = g .end; count = count }) output′
-  adds-more count output′ d w l =
+  pub adds-more : (g .written ≡ 0 → ⊥) → Adds output g id (pushed g) (set output (g .count) id)
+  unfolding pushed
+  adds-more d =
       record {
+        one-more = refl;
         adds = λ output₀ kept s n.
             let r = s .as-list d in
-            let below = kept-below kept id (n .up) (length kept - 1) (omega (arith, r .some)) in
+            let some : 0 < length kept = omega (arith, r .wrote .number, d) in
+            let below = kept-below kept id (n .up) (length kept - 1) (omega arith) in
             record {
               up = n .up;
-              same = l ∙ s .same;
-              as-range = λ e. absurd (false≢true (sym d ∙ e));
+              same = simp length-set (s .same);
+              number = omega (arith, s .number, long kept id (n .up));
+              as-range = λ e. absurd (omega arith);
               as-list = λ e.
                   record {
-                    wrote = w .pushes output₀ kept (n .room) (r .wrote);
-                    some = omega (arith, long kept id (n .up));
-                    gap = gap-of kept id (n .up) (r .some) (omega (arith, r .gap));
+                    wrote =
+                        record {
+                          number = omega (arith, s .number, long kept id (n .up));
+                          cells = ap (λ (l : List ℕ). set l (g .count) id) (r .wrote .cells) ∙ put-more output₀ kept (g .count) id (s .number) (omega (arith, n .room some, s .number));
+                        };
+                    gap = gap-of kept id (n .up) some (omega (arith, r .gap));
                   };
             };
       }
 
 -- ---- the answer
 
-pub ended-range : (g : Growing) → g .dense ≡ true → Ends g (Range (g .start) (g .end))
-ended-range g d = record { ends = ended }
-  where
-    ended : (output₀ output kept : List ℕ) → Grows output₀ output g kept → Answered (accepted (shaped kept)) output₀ (Range (g .start) (g .end)) output
-    ended output₀ output kept s =
-        let r = s .as-range d in
-        let o = r .order in
-        let e : shaped kept ≡ range (g .start) (g .end) =
-        ap shaped (r .ids)
-        ∙ elim (ℕ-discrete (g .start) (g .end)) [
-          | yes q ↦
-              let z = r .none q in
-              ap shaped (countFrom-none (g .start) (g .end - g .start) (omega arith)) ∙ shaped-nil ∙ ap₂ range (sym z) (sym z ∙ q)
-          | no q ↦
-              let k : g .start + (g .end - g .start) ≡ g .end = omega arith in
-              shaped-countFrom (g .start) (g .end - g .start) (omega arith) ∙ ap (range (g .start)) k
-        ] in
-        rw (e, r .unwritten) (answered-range (g .start) (g .end) output₀)
+pub ended-range : (g : Growing) → g .written ≡ 0 → Ends g (Range (g .start) (g .start + g .count))
+ended-range g d =
+    record {
+      ends = λ output₀ output kept s.
+          let r = s .as-range d in
+          let e : shaped kept ≡ range (g .start) (g .start + g .count) =
+          ap shaped (r .ids)
+          ∙ elim (ℕ-discrete (g .count) 0) [
+            | yes q ↦ unfold countFrom in ap (λ (k : ℕ). shaped (countFrom (g .start) k)) q ∙ shaped-nil ∙ ap₂ range (sym (r .none q)) (omega (arith, r .none q))
+            | no q ↦ shaped-countFrom (g .start) (g .count) (omega (arith, q))
+          ] in
+          rw (e, r .unwritten) (answered-range (g .start) (g .start + g .count) output₀);
+    }
 
-pub ended-list : (g : Growing) → g .dense ≡ false → Ends g (Ids (g .count))
+pub ended-list : (g : Growing) → (g .written ≡ 0 → ⊥) → Ends g (Ids (g .count))
 ended-list g d = record { ends = ended }
   where
     ended : (output₀ output kept : List ℕ) → Grows output₀ output g kept → Answered (accepted (shaped kept)) output₀ (Ids (g .count)) output
-    ended output₀ output [] s = absurd (omega (arith, s .as-list d .some))
+    ended output₀ output [] s = absurd (d (s .as-list d .wrote .number))
     ended output₀ output (x ∷ xs) s =
         let r = s .as-list d in
         let k : suc (length xs) - 1 ≡ length xs = omega arith in
@@ -275,4 +246,4 @@ ended-list g d = record { ends = ended }
         let apart : (x ∷ xs) ≡ countFrom x (suc (length xs)) → ⊥ =
         λ q. let last : getD (x ∷ xs) (length xs) 0 ≡ x + length xs = rw q (getD-countFrom x (suc (length xs)) (length xs) 0 (omega arith)) in omega arith in
         let e : shaped (x ∷ xs) ≡ list (x ∷ xs) = shaped-list x xs apart in
-        rw e (answered-list (x ∷ xs) output₀ (g .count) output (r .wrote))
+        rw e (answered-list (x ∷ xs) output₀ (g .count) output (record { number = s .number; cells = r .wrote .cells }))

@@ -1,19 +1,18 @@
 // The answer of `retain` over a range as it grows: a range while the kept ids are neighbours, then a list of all of them.
 // `retain` itself stands where its test is.
 ghost use mathlib.Core.Path.{_≡_};
-ghost use Prim.Native.Nat.{_-_, _≤_, _<_};
-ghost use lib.ListN.{length};
+ghost use Prim.Native.Nat.{_+_, _≤_, _<_};
+ghost use lib.ListN.{length, set};
 ghost use Rattle.lists.specs.Lists.{putAt, countFrom};
-ghost use Rattle.retain.specs.inner.Growing.{CanAdd, Adds, Begins, Ends, Pushes};
+ghost use Rattle.retain.specs.inner.Growing.{pushed, CanAdd, Adds, Begins, Ends};
 use offsets::SubsetAnswer;
 
-// The answer of `retain` over a range as it grows: a range start..end while the kept ids are neighbours, then the first
-// `count` ids of the output.
+// The answer of `retain` over a range as it grows: how many ids are kept, the first of them, and how many are written. None is
+// while they are neighbours; all are once they are not. It is plain numbers, which a loop holds in registers.
 pub struct Growing {
-    pub dense: bool,
     pub start: u32,
-    pub end: u32,
     pub count: u32,
+    pub written: u32,
 }
 
 // Nothing is kept yet.
@@ -21,34 +20,36 @@ pub fn empty() -> Growing
     ensures { λ r. ⌜ Begins r ⌝ }
 {
     Growing {
-        dense: true,
         start: 0,
-        end: 0,
         count: 0,
+        written: 0,
     }
 }
 
-// Writes an id after the first `count` of the output, and answers how many they are then.
-pub fn push_id(output: &mut [u32], count: u32, id: u32) -> u32
-    requires { ⌜ (count < length (now output)) × (count < 4294967295) ⌝ }
-    ensures { λ r. ⌜ Pushes (now (output .entry)) count id r (now (output .exit)) ⌝ }
+// Writes neighbouring ids to the start of the output.
+pub fn fill_from_dense(output: &mut [u32], start: u32, count: u32)
+    requires { ⌜ (start + count < 4294967296) × (count ≤ length (now output)) ⌝ }
+    ensures { λ _. ⌜ now (output .exit) ≡ putAt (now (output .entry)) 0 (countFrom start count) ⌝ }
 {
-    let at = count as usize;
+    let mut i = 0;
+    while i < count {
+        let at = i as usize;
+        output[at] = start + i;
+        i += 1;
+    }
+}
+
+// Writes one more id, after the others, which are written.
+fn push_id(g: Growing, output: &mut [u32], id: u32) -> Growing
+    requires { ⌜ (g .count < length (now output)) × (g .count < 4294967295) ⌝ }
+    ensures { λ r. ⌜ (r ≡ pushed g) × (now (output .exit) ≡ set (now (output .entry)) (g .count) id) ⌝ }
+{
+    let at = g.count as usize;
     output[at] = id;
-    count + 1
-}
-
-// Writes the ids of a range to the start of the output.
-pub fn fill_from_dense(output: &mut [u32], start: u32, end: u32)
-    requires { ⌜ (start ≤ end) × (end - start ≤ length (now output)) ⌝ }
-    ensures { λ _. ⌜ now (output .exit) ≡ putAt (now (output .entry)) 0 (countFrom start (end - start)) ⌝ }
-{
-    let mut id = start;
-    while id < end {
-        let at = (id - start) as usize;
-        output[at] = id;
-        id += 1;
-    }
+    let mut more = g;
+    more.count = g.count + 1;
+    more.written = g.count + 1;
+    more
 }
 
 // One more kept id, above the others.
@@ -56,34 +57,30 @@ pub fn add_row_sorted(g: Growing, output: &mut [u32], id: u32) -> Growing
     requires { ⌜ CanAdd (now output) g id ⌝ }
     ensures { λ r. ⌜ Adds (now (output .entry)) g id r (now (output .exit)) ⌝ }
 {
+    if g.written != 0 {
+        return push_id(g, output, id);
+    }
     let mut more = g;
-    if g.dense {
-        if g.start == g.end {
-            more.start = id;
-            more.end = id + 1;
-            return more;
-        }
-        if g.end == id {
-            more.end = id + 1;
-            return more;
-        }
-        fill_from_dense(output, g.start, g.end);
-        let count = push_id(output, g.end - g.start, id);
-        more.dense = false;
-        more.count = count;
+    if g.count == 0 {
+        more.start = id;
+        more.count = 1;
         return more;
     }
-    let count = push_id(output, g.count, id);
-    more.count = count;
-    more
+    if g.start + g.count == id {
+        more.count = g.count + 1;
+        return more;
+    }
+    fill_from_dense(output, g.start, g.count);
+    push_id(g, output, id)
 }
 
 // The answer, when no more is kept.
 pub fn grown(g: Growing) -> SubsetAnswer
+    requires { ⌜ (g .written ≡ 0 → g .start + g .count < 4294967296) ⌝ }
     ensures { λ r. ⌜ Ends g r ⌝ }
 {
-    if g.dense {
-        return SubsetAnswer::Range(g.start, g.end);
+    if g.written == 0 {
+        return SubsetAnswer::Range(g.start, g.start + g.count);
     }
     SubsetAnswer::List(g.count)
 }

@@ -1,14 +1,13 @@
 -- What the questions answer: refused, or by the ids that a sweep has kept. Assumes nothing.
-use Prim.Native.Nat.{ℕ, _+_, _-_, _≤_, _<_}
+use Prim.Native.Nat.{ℕ, _+_, _-_, _≤_, _<_, min}
 use mathlib.Core.Path.{_≡_, refl, sym, ap, _∙_}
-use mathlib.Core.Bool.{Bool, true, false, _&&_, and-true, false≢true}
+use mathlib.Core.Bool.{Bool, true, false, and-true, false≢true}
 use mathlib.Core.List.{List, [], _∷_}
 use mathlib.Core.Logic.{inl, inr}
 use native.Mathlib.Decide.{ℕ-discrete}
 use native.Mathlib.Omega.{arith}
 use lib.Dec.{eqb}
 use lib.ListN.{length, getD}
-use lib.Seq.{take-all}
 use borrow.Author.Tests.{eqb-true, eq-eqb}
 use Rattle.lists.specs.Lists.{keep, every, countFrom}
 use Rattle.lists.specs.Laws.Parts.{putAt-nil}
@@ -28,48 +27,169 @@ use Rattle.offsets.specs.Laws.Subsets.{dense-is, sparse-is, formed-order, lengt
 use Rattle.constraints.specs.declared.Constraint.{Constraint}
 use Rattle.constraints.specs.Constraints.{known}
 use Rattle.table.specs.declared.Header.{Header}
-use Rattle.sweeping.specs.declared.Sweep.{Sweep}
 use Rattle.queries.specs.Queries.{matches, refineRefusal, visited, refineOneReply, refineListReply, RefinedOne, RefinedList}
-use Rattle.sweeping.specs.inner.Sweeping.{RefineOpened, Finished, CanWrite, Writes, whole, CanClose, RefineClosed}
+use Rattle.queries.specs.inner.Tests.{Askable, RefineRefused, MatchRefused, PageRefused}
+use Rattle.sweeping.specs.declared.Sweep.{Sweep}
+use Rattle.sweeping.specs.declared.Question.{Question}
+use Rattle.sweeping.specs.declared.Question.the-variants.{Refine, Match, Page}
+use Rattle.sweeping.specs.inner.Sweeping.{upTo, places, visits, firstPlace, roomFor, refusalOf, Placed, Finished, Opened, Asked, CanWrite, Writes, whole, CanClose, RefineClosed}
+use Rattle.sweeping.proofs.Visits.{upTo-nil, upTo-all, visited-none, length-visited, visited-all, visited-end}
 
 -- ---- replies
 
 module _ (number : ℕ) (value : Subset) (output : List ℕ) where
-  pub answered-refused : (n : ℕ) → n ≡ number → (n ≡ 0 → ⊥) → Answered (reply number value) output (Refused n) output
+  answered-refused : (n : ℕ) → n ≡ number → (n ≡ 0 → ⊥) → Answered (reply number value) output (Refused n) output
   unfolding subsetSays shape written
   answered-refused n e z =
       let k : reply number value ≡ refused n = sym (reply-refused (refused n) number n value refl e z) in
       record { answers = rw k; writes = rw k (sym (putAt-nil output 0)) }
 
-  pub answered-accepted : (answer : SubsetAnswer) (output′ : List ℕ) → number ≡ 0 → Answered (accepted value) output answer output′
+  answered-accepted : (answer : SubsetAnswer) (output′ : List ℕ) → number ≡ 0 → Answered (accepted value) output answer output′
       → Answered (reply number value) output answer output′
   answered-accepted answer output′ e a =
       let k : reply number value ≡ accepted value = sym (reply-accepted (accepted value) number value refl e) in rw k a
 
+-- ---- the beginning
+
+module _ (question : Question) (h : Header) (rows : ℕ) (subset : Subset) (knows : Bool) (output number : ℕ)
+    (numbered : (conditions : List Constraint) → knows ≡ every (known (h .columns)) conditions → number ≡ refusalOf question h rows subset conditions output) (s : Sweep) where
+  -- a refused question has no places
+  opened-refused : (number ≡ 0 → ⊥) → Placed subset number 0 0 0 s → Opened question h rows subset knows output s
+  opened-refused n p =
+      record {
+        number-is = λ conditions k. p .refused-is ∙ numbered conditions k;
+        askable = λ z. absurd (n (sym (p .refused-is) ∙ z));
+        sweepable = λ output₀ l.
+            record {
+              askable = λ q. absurd (omega (arith, p .next-is, p .end-is, q));
+              order = omega (arith, p .next-is, p .end-is);
+              within = omega (arith, p .end-is);
+              wants = λ q. absurd (omega (arith, p .next-is, p .end-is, q));
+              room = λ _. omega (arith, p .next-is, p .end-is);
+              id-is = p .id-is;
+              none-dead = p .none-dead;
+              none-found = p .none-found;
+            };
+        first-is = λ z. absurd (n (sym (p .refused-is) ∙ z));
+        visits-is = λ z. absurd (n (sym (p .refused-is) ∙ z));
+        in-room = λ z. absurd (n (sym (p .refused-is) ∙ z));
+        no-places = λ _. p .next-is ∙ sym (p .end-is);
+      }
+
+  module _ (z : number ≡ 0) (a : Askable h rows subset) (next end most : ℕ) (p : Placed subset 0 next end most s) where
+    opened-over : next ≤ end → end ≤ size subset → (next < end → 0 < most) → (1 < most → end - next ≤ output) → next ≡ firstPlace question
+        → ((test : ℕ → Bool) → upTo most test (visited subset next (end - next)) ≡ visits question test subset) → roomFor question subset ≤ output → Opened question h rows subset knows output s
+    unfolding places
+    opened-over o w m r f v u =
+        record {
+          number-is = λ conditions k. p .refused-is ∙ sym z ∙ numbered conditions k;
+          askable = λ _. a;
+          sweepable = λ output₀ l.
+              record {
+                askable = λ _. a;
+                order = omega (arith, p .next-is, p .end-is, o);
+                within = omega (arith, p .end-is, w);
+                wants = λ q. rw (p .most-is) (m (omega (arith, p .next-is, p .end-is, q)));
+                room = λ q. omega (arith, r (rw (p .most-is) at q), p .next-is, p .end-is, l);
+                id-is = p .id-is;
+                none-dead = p .none-dead;
+                none-found = p .none-found;
+              };
+          first-is = λ _. p .next-is ∙ f;
+          visits-is = λ _ test. rw (p .next-is, p .end-is, p .most-is) (v test);
+          in-room = λ _. u;
+          no-places = λ n. absurd (n (p .refused-is));
+        }
+
+all-places : (subset : Subset) → visited subset 0 (size subset - 0) ≡ members subset
+all-places subset = let k : size subset - 0 ≡ size subset = omega arith in ap (visited subset 0) k ∙ visited-all subset
+
+module _ (h : Header) (rows : ℕ) (subset : Subset) (knows : Bool) (s : Sweep) where
+  pub refine-stopped : (output number : ℕ) → RefineRefused h rows subset knows output number → (number ≡ 0 → ⊥) → Placed subset number 0 0 0 s → Opened Refine h rows subset knows output s
+  unfolding refusalOf
+  refine-stopped output number r n p = opened-refused Refine h rows subset knows output number (r .number-is) s n p
+
+  pub match-stopped : (number : ℕ) → MatchRefused h rows subset knows number → (number ≡ 0 → ⊥) → Placed subset number 0 0 0 s → (output : ℕ) → Opened Match h rows subset knows output s
+  unfolding refusalOf
+  match-stopped number r n p output = opened-refused Match h rows subset knows output number (r .number-is) s n p
+
+  pub page-stopped : (start n output number : ℕ) → PageRefused h rows subset start n knows output number → (number ≡ 0 → ⊥) → Placed subset number 0 0 0 s → Opened (Page start n) h rows subset knows output s
+  unfolding refusalOf
+  page-stopped start n output number r m p = opened-refused (Page start n) h rows subset knows output number (r .number-is) s m p
+
+  pub refine-opened : (output number : ℕ) → RefineRefused h rows subset knows output number → number ≡ 0 → Placed subset 0 0 (size subset) (size subset) s → Opened Refine h rows subset knows output s
+  unfolding refusalOf visits firstPlace roomFor
+  refine-opened output number r z p =
+      opened-over Refine h rows subset knows output number (r .number-is) s z (r .askable z) 0 (size subset) (size subset) p (omega arith) (omega arith) (λ q. q) (λ _. omega (arith, r .room z)) refl
+      (λ test. rw (all-places subset) (upTo-all test (size subset) (members subset) (omega (arith, length-members subset)))) (r .room z)
+
+  pub match-opened : (number : ℕ) → MatchRefused h rows subset knows number → number ≡ 0 → Placed subset 0 0 (size subset) 1 s → (output : ℕ) → Opened Match h rows subset knows output s
+  unfolding refusalOf visits firstPlace roomFor
+  match-opened number r z p output =
+      opened-over Match h rows subset knows output number (r .number-is) s z (r .askable z) 0 (size subset) 1 p (omega arith) (omega arith) (λ _. omega arith) (λ q. absurd (omega (arith, q))) refl
+      (λ test. rw (all-places subset)) (omega arith)
+
+  pub page-opened : (start n output number : ℕ) → PageRefused h rows subset start n knows output number → number ≡ 0
+      → Placed subset 0 start (start + min n (size subset - start)) (min n (size subset - start)) s → Opened (Page start n) h rows subset knows output s
+  unfolding refusalOf visits firstPlace roomFor
+  page-opened start n output number r z p =
+      let few = min n (size subset - start) in
+      let k : start + few - start ≡ few = omega arith in
+      opened-over (Page start n) h rows subset knows output number (r .number-is) s z (r .askable z) start (start + few) few p (omega arith) (omega (arith, r .within z)) (λ q. omega (arith, q)) (λ _. omega (arith, r .room z)) refl
+      (λ test. rw k (upTo-all test few (visited subset start few) (omega (arith, length-visited subset start few (omega (arith, r .within z)))) ∙ visited-end subset start n)) (r .room z)
+
 -- ---- all places
 
-visited-all : (subset : Subset) → visited subset 0 (size subset) ≡ members subset
-unfolding visited
-visited-all subset = take-all (size subset) (members subset) (omega (arith, length-members subset))
+-- nothing is written while nothing is visited
+nothing-kept : (test : ℕ → Bool) (ids output output′ : List ℕ) (g : Growing) → ids ≡ [] → Grows output output′ g (keep test ids) → output′ ≡ output
+unfolding keep
+nothing-kept test ids output output′ g e w =
+    elim (ℕ-discrete (g .written) 0) [
+      | yes z ↦ w .as-range z .unwritten
+      | no n ↦ absurd (n (w .as-list n .wrote .number ∙ ap (λ (l : List ℕ). length (keep test l)) e))
+    ]
 
-module _ (h : Header) (rows : ℕ) (subset : Subset) (knows : Bool) (output output′ : List ℕ) (test : ℕ → Bool) (s s′ : Sweep)
-    (o : RefineOpened h rows subset knows (length output) s) (z : s .refused ≡ 0) (f : Finished subset test s output s′ output′) where
-  pub kept-all : Grows output output′ (s′ .found) (keep test (members subset))
-  kept-all =
-      let a = o .all z in
-      let n : s .end - s .next ≡ size subset = omega (arith, a .0, a .1) in
-      let k : visited subset (s .next) (s .end - s .next) ≡ members subset = rw (n, a .0) (visited-all subset) in
-      rw (← k) (f .grows)
+-- a question over its places, or refused
+module _ (question : Question) (h : Header) (rows : List ℕ) (subset : Subset) (conditions : List Constraint) (knows : Bool) (output : List ℕ) (s : Sweep) (k : knows ≡ every (known (h .columns)) conditions)
+    (o : Opened question h (length rows) subset knows (length output) s) (s′ : Sweep) (output′ : List ℕ) (f : Finished h rows subset (matches h rows conditions) s output s′ output′) where
+  abbrev wanted : ℕ → Bool
+  wanted = matches h rows conditions
 
-  pub can-write : CanWrite output′ (s′ .found)
-  can-write =
-      let w = o .sweepable output refl in
+  was : s′ .refused ≡ 0 → s .refused ≡ 0
+  was z = sym (f .refused-is) ∙ z
+
+  no-visits : (s′ .refused ≡ 0 → ⊥) → upTo (s .most) wanted (places subset s) ≡ []
+  unfolding places
+  no-visits n =
+      let e : visited subset (s .next) (s .end - s .next) ≡ [] = visited-none subset (s .next) (s .end - s .next) (omega (arith, o .no-places (λ z. n (f .refused-is ∙ z)))) in
+      ap (upTo (s .most) wanted) e ∙ upTo-nil wanted (s .most)
+
+  pub asked-all : Asked question h rows subset conditions output s′ output′
+  asked-all =
       record {
-        output₀ = output;
-        kept = keep test (members subset);
-        grows = kept-all;
-        room = omega (arith, length-keep test (members subset), count-le test (members subset), length-members subset, w .room, o .all z);
+        number-is = f .refused-is ∙ o .number-is conditions k;
+        askable = λ z. o .askable (was z);
+        in-room = λ z. o .in-room (was z);
+        within = λ z. let w = o .sweepable output refl in omega (arith, w .order, w .within, o .first-is (was z));
+        next-is = λ z. rw (← o .visits-is (was z) wanted, ← o .first-is (was z)) (f .next-is);
+        grows = λ z. rw (← o .visits-is (was z) wanted) (f .grows);
+        dead-is = λ z. rw (← o .visits-is (was z) wanted) (f .dead-is);
+        unwritten = λ n. nothing-kept wanted _ output output′ (s′ .found) (no-visits n) (f .grows);
       }
+
+-- ---- refine
+
+module _ (h : Header) (rows : List ℕ) (subset : Subset) (conditions : List Constraint) (output : List ℕ) (s : Sweep) (output′ : List ℕ) (a : Asked Refine h rows subset conditions output s output′) (z : s .refused ≡ 0) where
+  abbrev test : ℕ → Bool
+  test = matches h rows conditions
+
+  pub kept-all : Grows output output′ (s .found) (keep test (members subset))
+  unfolding visits
+  kept-all = a .grows z
+
+  pub can-write : CanWrite output′ (s .found)
+  unfolding roomFor
+  can-write = record { output₀ = output; kept = _; grows = kept-all; room = omega (arith, length-keep test (members subset), count-le test (members subset), length-members subset, a .in-room z) }
 
 -- ---- refine by one
 
@@ -84,10 +204,17 @@ module _ (head : SubsetHead) (ids : List ℕ) (test : ℕ → Bool) (output outp
   retained-list n e w = rw (sparse-is head ids e) (answered-list _ output n output′ (rw (sparse-is head ids e) at w))
 
 module _ (h : Header) (rows : List ℕ) (subset : Subset) (c : Constraint) (knows : Bool) (output : List ℕ) (s : Sweep)
-    (k : knows ≡ known (h .columns) c) (o : RefineOpened h (length rows) subset knows (length output) s) where
-  one-number : s .refused ≡ refineRefusal h (length rows) subset (c ∷ []) (length output)
+    (k : knows ≡ known (h .columns) c) (o : Opened Refine h (length rows) subset knows (length output) s) where
+  one-known : knows ≡ every (known (h .columns)) (c ∷ [])
   unfolding every
-  one-number = o .number-is (c ∷ []) (k ∙ sym (and-true (known (h .columns) c)))
+  one-known = k ∙ sym (and-true (known (h .columns) c))
+
+  one-number : s .refused ≡ refineRefusal h (length rows) subset (c ∷ []) (length output)
+  unfolding refusalOf
+  one-number = o .number-is (c ∷ []) one-known
+
+  pub one-asked : (s′ : Sweep) (output′ : List ℕ) → Finished h rows subset (matches h rows (c ∷ [])) s output s′ output′ → Asked Refine h rows subset (c ∷ []) output s′ output′
+  one-asked s′ output′ f = asked-all Refine h rows subset (c ∷ []) knows output s one-known o s′ output′ f
 
   pub one-refused : (s .refused ≡ 0 → ⊥) → RefinedOne h rows subset c output (Refused (s .refused)) output
   unfolding refineOneReply
@@ -105,31 +232,20 @@ module _ (head : SubsetHead) (g : Growing) where
   unfolding whole
   whole-list e = rw e
 
-  pub whole-gap : head .dense ≡ true → g .dense ≡ false → false ≡ whole head g
+  pub whole-size : head .dense ≡ true → eqb (g .count) (head .end - head .start) ≡ whole head g
   unfolding whole
-  whole-gap e f = rw (e, f)
+  whole-size e = rw e
 
-  pub whole-size : head .dense ≡ true → g .dense ≡ true → eqb (g .end - g .start) (head .end - head .start) ≡ whole head g
+  whole-range : whole head g ≡ true → head .dense ≡ true
   unfolding whole
-  whole-size e f = rw (e, f)
+  whole-range e = and-left (head .dense) _ e
 
-  pub record Whole : Type 0 where
-    pub range-is : head .dense ≡ true
-    pub found-is : g .dense ≡ true
-    pub same-size : g .end - g .start ≡ head .end - head .start
-
-  whole-is : whole head g ≡ true → Whole
+  whole-count : whole head g ≡ true → g .count ≡ head .end - head .start
   unfolding whole
-  whole-is e =
-      let a = and-left (head .dense && g .dense) _ e in
-      record {
-        range-is = and-left (head .dense) _ a;
-        found-is = and-right (head .dense) _ a;
-        same-size = eqb-true _ _ (and-right (head .dense && g .dense) _ e);
-      }
+  whole-count e = eqb-true _ _ (and-right (head .dense) _ e)
 
-  not-whole : whole head g ≡ false → Whole → ⊥
-  not-whole e w = false≢true (sym e ∙ sym (whole-size (w .range-is) (w .found-is)) ∙ eq-eqb _ _ (w .same-size))
+  not-whole : head .dense ≡ true → whole head g ≡ false → g .count ≡ head .end - head .start → ⊥
+  not-whole d e q = false≢true (sym e ∙ sym (whole-size d) ∙ eq-eqb _ _ q)
 
 module _ (test : ℕ → Bool) (a b : ℕ) where
   abbrev ids-of : List ℕ
@@ -144,32 +260,30 @@ module _ (test : ℕ → Bool) (a b : ℕ) where
   narrowed-some e = rw e
 
   module _ (output₀ output : List ℕ) (g : Growing) (grows : Grows output₀ output g (keep test ids-of)) where
-    as-many : g .dense ≡ true → length (keep test ids-of) ≡ g .end - g .start
-    as-many e = ap length (grows .as-range e .ids) ∙ length-countFrom (g .start) (g .end - g .start)
+    all-kept : g .count ≡ b - a → every test ids-of ≡ true
+    all-kept n = keep-length-every test ids-of (sym (grows .number) ∙ n ∙ sym (length-countFrom a (b - a)))
 
-    all-kept : g .dense ≡ true → g .end - g .start ≡ b - a → every test ids-of ≡ true
-    all-kept e n = keep-length-every test ids-of (as-many e ∙ n ∙ sym (length-countFrom a (b - a)))
-
-    -- where all is kept the ids are neighbours
-    no-gap : every test ids-of ≡ true → g .dense ≡ false → ⊥
-    no-gap q e =
-        let l = grows .as-list e in
-        let k : keep test ids-of ≡ ids-of = keep-every test ids-of q in
-        let n : length ids-of ≡ b - a = length-countFrom a (b - a) in
-        let some : 0 < length ids-of = rw k at (l .some) in
-        let gap : getD ids-of 0 0 + length ids-of ≤ getD ids-of (length ids-of - 1) 0 = rw k at (l .gap) in
-        let first = getD-countFrom a (b - a) 0 0 (omega arith) in
-        let last = getD-countFrom a (b - a) (length ids-of - 1) 0 (omega arith) in
-        omega arith
-
-    not-all : (g .dense ≡ true → g .end - g .start ≡ b - a → ⊥) → every test ids-of ≡ false
+    not-all : (g .count ≡ b - a → ⊥) → every test ids-of ≡ false
     not-all f =
         elim (split (every test ids-of)) [
-          | inl q ↦ elim (split (g .dense)) [
-            | inl e ↦ absurd (f e (sym (as-many e) ∙ ap length (keep-every test ids-of q) ∙ length-countFrom a (b - a)))
-            | inr e ↦ absurd (no-gap q e)
-          ]
+          | inl q ↦ absurd (f (grows .number ∙ ap length (keep-every test ids-of q) ∙ length-countFrom a (b - a)))
           | inr q ↦ q
+        ]
+
+    -- where all is kept the ids are neighbours, and nothing is written
+    all-unwritten : every test ids-of ≡ true → output ≡ output₀
+    all-unwritten q =
+        elim (ℕ-discrete (g .written) 0) [
+          | yes e ↦ grows .as-range e .unwritten
+          | no e ↦ absurd
+              (let l = grows .as-list e in
+              let k : keep test ids-of ≡ ids-of = keep-every test ids-of q in
+              let n : length ids-of ≡ b - a = length-countFrom a (b - a) in
+              let some : g .written ≡ length ids-of = rw k at (l .wrote .number) in
+              let gap : getD ids-of 0 0 + length ids-of ≤ getD ids-of (length ids-of - 1) 0 = rw k at (l .gap) in
+              let first = getD-countFrom a (b - a) 0 0 (omega (arith, e)) in
+              let last = getD-countFrom a (b - a) (length ids-of - 1) 0 (omega (arith, e)) in
+              omega (arith, e))
         ]
 
 module _ (head : SubsetHead) (s : Sweep) (output : List ℕ) where
@@ -179,15 +293,13 @@ module _ (head : SubsetHead) (s : Sweep) (output : List ℕ) where
   pub closed-whole : s .refused ≡ 0 → whole head (s .found) ≡ true → RefineClosed head s output (Range (head .start) (head .end)) output
   unfolding members
   closed-whole z e =
-      let w = whole-is head (s .found) e in
       record {
         refuses = λ n. absurd (n z);
         narrows = λ _ ids test output₀ _ grows.
-            let d = dense-is head ids (w .range-is) in
+            let d = dense-is head ids (whole-range head (s .found) e) in
             let k = rw d at grows in
-            let u = k .as-range (w .found-is) .unwritten in
-            rw (d, narrowed-all test (head .start) (head .end) (all-kept test (head .start) (head .end) output₀ output (s .found) k (w .found-is) (w .same-size)), u)
-            (answered-range (head .start) (head .end) output₀);
+            let all = all-kept test (head .start) (head .end) output₀ output (s .found) k (whole-count head (s .found) e) in
+            rw (d, narrowed-all test (head .start) (head .end) all, all-unwritten test (head .start) (head .end) output₀ output (s .found) k all) (answered-range (head .start) (head .end) output₀);
       }
 
   pub closed-list : (n : ℕ) (output′ : List ℕ) → s .refused ≡ 0 → whole head (s .found) ≡ false → Writes output (s .found) n output′ → RefineClosed head s output (Ids n) output′
@@ -200,11 +312,7 @@ module _ (head : SubsetHead) (s : Sweep) (output : List ℕ) where
               | inl f ↦
                   let d = dense-is head ids f in
                   let k = rw d at grows in
-                  rw (
-                    d,
-                    narrowed-some test (head .start) (head .end) (not-all test (head .start) (head .end) output₀ output (s .found) k
-                        (λ g q. not-whole head (s .found) e (record { range-is = f; found-is = g; same-size = q }))),
-                  )
+                  rw (d, narrowed-some test (head .start) (head .end) (not-all test (head .start) (head .end) output₀ output (s .found) k (not-whole head (s .found) f e)))
                   (answered-list _ output₀ n output′ (w .writes output₀ _ k))
               | inr f ↦ rw (sparse-is head ids f) (listed ids test output₀ (rw (sparse-is head ids f) at grows))
             ];
@@ -213,54 +321,24 @@ module _ (head : SubsetHead) (s : Sweep) (output : List ℕ) where
       listed : (ids : List ℕ) (test : ℕ → Bool) (output₀ : List ℕ) → Grows output₀ output (s .found) (keep test ids) → Answered (accepted (narrowed test (list ids))) output₀ (Ids n) output′
       listed ids test output₀ grows = unfold narrowed in answered-list _ output₀ n output′ (w .writes output₀ _ grows)
 
--- nothing is written while nothing is kept
-pub unwritten : (output₀ output : List ℕ) (g : Growing) → Grows output₀ output g [] → output ≡ output₀
-unwritten output₀ output g grows =
-    elim (split (g .dense)) [
-      | inl e ↦ grows .as-range e .unwritten
-      | inr e ↦ absurd (let l = grows .as-list e .some in omega arith)
-    ]
-
-module _ (h : Header) (rows : List ℕ) (head : SubsetHead) (ids : List ℕ) (conditions : List Constraint) (knows : Bool) (output : List ℕ) (s : Sweep)
-    (k : knows ≡ every (known (h .columns)) conditions) (o : RefineOpened h (length rows) (subsetOf head ids) knows (length output) s)
-    (s′ : Sweep) (output′ : List ℕ) (f : Finished (subsetOf head ids) (matches h rows conditions) s output s′ output′) where
-  abbrev asked : Subset
-  asked = subsetOf head ids
-
-  abbrev keeps : ℕ → Bool
-  keeps = matches h rows conditions
-
-  all-kept-ids : s .refused ≡ 0 → Grows output output′ (s′ .found) (keep keeps (members asked))
-  all-kept-ids z = kept-all h (length rows) asked knows output output′ keeps s s′ o z f
-
-  -- what the end of a refine asks
-  pub can-close : s′ .refused ≡ 0 → CanClose head s′ output′
-  can-close e =
-      let z = sym (f .refused-is) ∙ e in
+module _ (h : Header) (rows : List ℕ) (head : SubsetHead) (ids : List ℕ) (conditions : List Constraint) (output : List ℕ) (s : Sweep) (output′ : List ℕ)
+    (a : Asked Refine h rows (subsetOf head ids) conditions output s output′) where
+  -- what the end of a refine by a list asks
+  pub can-close : s .refused ≡ 0 → CanClose head s output′
+  can-close z =
       record {
-        order = λ d. formed-order (head .start) (head .end) (rw (dense-is head ids d) at (o .askable z .formed));
-        found-order = λ d. all-kept-ids z .as-range d .order;
-        can-write = can-write h (length rows) asked knows output output′ keeps s s′ o z f;
+        order = λ d. formed-order (head .start) (head .end) (rw (dense-is head ids d) at (a .askable z .formed));
+        can-write = can-write h rows (subsetOf head ids) conditions output s output′ a z;
       }
 
-  nothing-written : (s .refused ≡ 0 → ⊥) → output′ ≡ output
-  unfolding visited keep
-  nothing-written n =
-      let e : s .end - s .next ≡ 0 = omega (arith, o .no-places n) in
-      unwritten output output′ (s′ .found) (rw e at (f .grows))
-
   -- and answers
-  pub list-answered : (answer : SubsetAnswer) (output″ : List ℕ) → RefineClosed head s′ output′ answer output″ → RefinedList h rows asked conditions output answer output″
-  unfolding refineListReply
+  pub list-answered : (answer : SubsetAnswer) (output″ : List ℕ) → RefineClosed head s output′ answer output″ → RefinedList h rows (subsetOf head ids) conditions output answer output″
+  unfolding refineListReply refusalOf
   list-answered answer output″ c =
       record {
         answered =
             elim (ℕ-discrete (s .refused) 0) [
-              | yes z ↦ answered-accepted _ _ output answer output″ (sym number ∙ z) (c .narrows (f .refused-is ∙ z) ids keeps output (o .askable z .formed) (all-kept-ids z))
-              | no n ↦ let r = c .refuses (λ z. n (sym (f .refused-is) ∙ z)) in
-                  rw (r .0, r .1, nothing-written n) (answered-refused _ _ output (s′ .refused) (f .refused-is ∙ number) (λ z. n (sym (f .refused-is) ∙ z)))
+              | yes z ↦ answered-accepted _ _ output answer output″ (sym (a .number-is) ∙ z) (c .narrows z ids (matches h rows conditions) output (a .askable z .formed) (kept-all h rows (subsetOf head ids) conditions output s output′ a z))
+              | no n ↦ let r = c .refuses n in rw (r .0, r .1, a .unwritten n) (answered-refused _ _ output (s .refused) (a .number-is) n)
             ];
       }
-    where
-      number : s .refused ≡ refineRefusal h (length rows) asked conditions (length output)
-      number = o .number-is conditions k

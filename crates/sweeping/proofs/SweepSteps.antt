@@ -1,32 +1,33 @@
 -- A sweep, place by place: ids and rows by the subset's kind, and what each step keeps. Assumes nothing.
 use Prim.Native.Nat.{ℕ, _+_, _-_, _*_, _≤_, _<_}
-use mathlib.Core.Path.{_≡_, refl, sym, ap, subst, _∙_}
+use mathlib.Core.Path.{_≡_, refl, sym, ap, ap₂, subst, _∙_}
 use mathlib.Core.Logic.{inl, inr}
-use mathlib.Core.Bool.{Bool, true, false, _&&_, and-true, and-false, false≢true}
-use mathlib.Core.List.{List, [], _∷_, _++_}
+use mathlib.Core.Bool.{Bool, true, false, and-true, and-false, false≢true}
+use mathlib.Core.List.{List, [], _∷_, _++_, append-assoc, append-nil}
+use native.Mathlib.Decide.{ℕ-discrete}
 use native.Mathlib.Omega.{arith}
-use lib.ListN.{length, take, drop, getD, length-take, length-drop}
-use lib.Seq.{getD-drop}
+use lib.ListN.{length, take, drop, getD}
 use borrow.Author.Tests.{ltb-false}
-use Rattle.lists.specs.Lists.{putAt, keep, every, countFrom, rising, rowAt}
-use Rattle.lists.specs.Laws.Keep.{split, keep-step, keep-skip, length-keep, count-le}
-use Rattle.lists.specs.Laws.Rising.{length-countFrom, getD-countFrom, rising-keep, rising-take, rising-drop}
+use Rattle.lists.specs.Lists.{putAt, keep, count, every, countFrom, rising, rowAt}
+use Rattle.lists.specs.Laws.Keep.{split, keep-append}
+use Rattle.lists.specs.Laws.Rising.{getD-countFrom, rising-keep, rising-take, rising-drop}
 use Rattle.lists.specs.Laws.Rows.{row-in}
 use Rattle.offsets.specs.declared.SubsetHead.{SubsetHead}
 use Rattle.retain.specs.declared.Growing.{Growing}
-use Rattle.offsets.specs.Subsets.{Subset, members, size, endOf}
+use Rattle.offsets.specs.Subsets.{Subset, range, list, members, size, endOf, bounds}
 use Rattle.offsets.specs.Answers.{subsetOf}
-use Rattle.retain.specs.inner.Growing.{Grows, NextId, CanAdd, Adds, Begins}
-use Rattle.offsets.specs.Laws.Subsets.{dense-is, sparse-is, rising-members, length-members, members-below}
+use Rattle.retain.specs.inner.Growing.{NextId}
+use Rattle.offsets.specs.Laws.Subsets.{dense-is, sparse-is, rising-members, members-below, formed-short}
 use Rattle.constraints.specs.declared.Constraint.{Constraint}
-use Rattle.constraints.specs.Constraints.{known, isLive, met, meets}
+use Rattle.constraints.specs.Constraints.{isLive, met, meets}
 use Rattle.table.specs.declared.Header.{Header}
 use Rattle.table.specs.Refusing.{rowsShort}
 use Rattle.table.specs.Laws.Refusals.{outside-inside}
 use Rattle.sweeping.specs.declared.Sweep.{Sweep}
-use Rattle.queries.specs.Queries.{matches, pastRows, visited}
-use Rattle.sweeping.specs.inner.Sweeping.{RowLies, passes, Placed, Sweepable, RefineOpened, Swept, KeepsRow, Decides, Steps, Finished, CanWrite, Writes}
-use Rattle.queries.specs.inner.Tests.{Askable, RefineRefused}
+use Rattle.queries.specs.Queries.{matches, pastRows, deadAmong, visited}
+use Rattle.sweeping.specs.inner.Sweeping.{RowLies, upTo, places, done, Sweepable, Swept, Keeps, CanMove, Moves, CanStep, Steps, Finished, CanWrite, Writes}
+use Rattle.queries.specs.inner.Tests.{Askable}
+use Rattle.sweeping.proofs.Visits.{upTo-nil, upTo-hit, upTo-miss, visited-none, length-visited, visited-more, visited-first, kept-few, dead-more, dead-few}
 
 -- ---- a place's id, by the subset's kind
 
@@ -58,248 +59,309 @@ long-of : (h : Header) (rows : ℕ) → rowsShort h rows ≡ false → h .capaci
 unfolding rowsShort
 long-of h rows e = ltb-false _ _ e
 
-pub below-of : (h : Header) (subset : Subset) → pastRows h subset ≡ false → endOf subset ≤ h .rows
+below-of : (h : Header) (subset : Subset) → pastRows h subset ≡ false → endOf subset ≤ h .rows
 unfolding pastRows
 below-of h subset e = ltb-false _ _ e
 
 -- the id at a place is that of a row, which lies in the store
-module _ (h : Header) (rows : ℕ) (subset : Subset) (a : Askable h rows subset) (place : ℕ) (l : place < size subset) where
-  abbrev id-of : ℕ
-  id-of = getD (members subset) place 0
+module _ (h : Header) (rows : ℕ) (subset : Subset) (a : Askable h rows subset) where
+  module _ (place : ℕ) (l : place < size subset) where
+    abbrev id-of : ℕ
+    id-of = getD (members subset) place 0
 
-  id-below : id-of < h .rows
-  id-below = let m = members-below subset (a .formed) place l in let b = below-of h subset (a .below) in omega arith
+    id-below : id-of < h .rows
+    id-below = let m = members-below subset (a .formed) place l in let b = below-of h subset (a .below) in omega arith
 
-  pub id-small : id-of < 65536
-  id-small = let i = outside-inside h (a .inside) in omega (arith, id-below, i .rows-fit, i .bounds .capacity-few)
+    id-small : id-of < 65536
+    id-small = let i = outside-inside h (a .inside) in omega (arith, id-below, i .rows-fit, i .bounds .capacity-few)
 
-  pub id-lies : RowLies h rows id-of
-  id-lies =
-      let i = outside-inside h (a .inside) in
-      let r = row-in id-of (h .capacity) (h .columns) (omega (arith, id-below, i .rows-fit)) in
-      omega (arith, long-of h rows (a .long))
+    id-lies : RowLies h rows id-of
+    id-lies =
+        let i = outside-inside h (a .inside) in
+        let r = row-in id-of (h .capacity) (h .columns) (omega (arith, id-below, i .rows-fit)) in
+        omega (arith, long-of h rows (a .long))
 
--- ---- the ids kept
+pub size-few : (h : Header) (rows : ℕ) (subset : Subset) → Askable h rows subset → size subset ≤ 65536
+unfolding size
+size-few h rows (range a b) q =
+    let i = outside-inside h (q .inside) in
+    let e : endOf (range a b) ≤ h .rows = below-of h (range a b) (q .below) in
+    let f : endOf (range a b) ≡ b = unfold endOf bounds in refl in
+    omega (arith, i .rows-fit, i .bounds .capacity-few)
+size-few h rows (list ids) q = formed-short ids (q .formed)
 
-module _ (subset : Subset) (test : ℕ → Bool) (start k : ℕ) (l : start + k < size subset) where
-  abbrev from : List ℕ
-  from = drop start (members subset)
+-- ---- one row
 
-  inside-from : k < length from
-  inside-from = rw (length-drop start (members subset), length-members subset) (omega arith)
+module _ (h : Header) (rows : List ℕ) (id : ℕ) where
+  abbrev live : Bool
+  live = isLive (rowAt (h .columns) id rows)
 
-  here : getD from k 0 ≡ getD (members subset) (start + k) 0
-  here = getD-drop start (members subset) k 0
+  pub match-unmet : (c : Constraint) → met (rowAt (h .columns) id rows) c ≡ false → false ≡ matches h rows (c ∷ []) id
+  unfolding matches meets every
+  match-unmet c e = rw e (sym (and-false live))
 
-  pub kept-step : test (getD (members subset) (start + k) 0) ≡ true
-      → keep test (visited subset start (k + 1)) ≡ keep test (visited subset start k) ++ (getD (members subset) (start + k) 0 ∷ [])
-  unfolding visited
-  kept-step e = rw (← here) (keep-step test from k 0 inside-from (rw here e))
+  pub match-met : (c : Constraint) (r : Bool) → met (rowAt (h .columns) id rows) c ≡ true → r ≡ live → r ≡ matches h rows (c ∷ []) id
+  unfolding matches meets every
+  match-met c r e q = rw e (q ∙ sym (and-true live))
 
-  pub kept-skip : test (getD (members subset) (start + k) 0) ≡ false → keep test (visited subset start (k + 1)) ≡ keep test (visited subset start k)
-  unfolding visited
-  kept-skip e = keep-skip test from k 0 inside-from (rw here e)
+  pub dead-none : live ≡ true → 0 ≡ deadAmong h rows (id ∷ [])
+  unfolding deadAmong count
+  dead-none e = rw e
 
-pub kept-few : (subset : Subset) (test : ℕ → Bool) (start k : ℕ) → length (keep test (visited subset start k)) ≤ k
-unfolding visited
-kept-few subset test start k =
-    let l = take k (drop start (members subset)) in
-    let a = length-keep test l in
-    let b = count-le test l in
-    let c : length l ≤ k = rw (length-take k (drop start (members subset))) (omega arith) in
-    omega arith
+  pub dead-at-most : deadAmong h rows (id ∷ []) ≤ 1
+  dead-at-most = dead-few h rows (id ∷ [])
+
+  pub dead-one : live ≡ false → 1 ≡ deadAmong h rows (id ∷ [])
+  unfolding deadAmong count
+  dead-one e = rw e
+
+-- ---- a step
+
+module _ (h : Header) (rows : List ℕ) (subset : Subset) (s : Sweep) (output : List ℕ) (n : ℕ) (e : n ≡ deadAmong h rows (s .id ∷ [])) where
+  abbrev counted : Sweep
+  counted = record { refused = s .refused; next = s .next; end = s .end; id = s .id; most = s .most; dead = s .dead + n; found = s .found }
+
+  pub steps-miss : (hit : Bool) → hit ≡ false → (s′ : Sweep) → Moves subset counted s′ → Steps h rows subset s hit output s′ output
+  steps-miss hit z s′ m =
+      record {
+        refused-is = m .refused-is;
+        next-is = m .next-is;
+        most-is = m .most-is;
+        dead-is = m .dead-is ∙ ap (λ (k : ℕ). s .dead + k) e;
+        id-is = m .id-is;
+        adds = λ q. absurd (false≢true (sym z ∙ q));
+        stops = λ q. absurd (false≢true (sym z ∙ q));
+        goes-on = λ q. absurd (false≢true (sym z ∙ q));
+        skips = λ _. (m .found-is, refl, m .end-is);
+      }
+
+  pub steps-hit : (hit : Bool) → hit ≡ true → (t s′ : Sweep) (output′ : List ℕ) → Keeps counted output t output′ → Moves subset t s′ → Steps h rows subset s hit output s′ output′
+  steps-hit hit z t s′ output′ k m =
+      record {
+        refused-is = m .refused-is ∙ k .refused-is;
+        next-is = m .next-is ∙ ap (λ (i : ℕ). i + 1) (k .next-is);
+        most-is = m .most-is ∙ k .most-is;
+        dead-is = m .dead-is ∙ k .dead-is ∙ ap (λ (i : ℕ). s .dead + i) e;
+        id-is = m .id-is;
+        adds = λ _. rw (m .found-is) (k .adds);
+        stops = λ _ q. m .end-is ∙ k .stops (ap (λ (g : Growing). g .count) (sym (m .found-is)) ∙ q);
+        goes-on = λ _ q. m .end-is ∙ k .goes-on (λ z. q (ap (λ (g : Growing). g .count) (m .found-is) ∙ z));
+        skips = λ q. absurd (false≢true (sym q ∙ z));
+      }
+
+-- after an id is kept there is a place to move on from
+pub keeps-moves : (subset : Subset) (s : Sweep) (output : List ℕ) (s′ : Sweep) (output′ : List ℕ) → s .next < s .end → s .end ≤ size subset → Keeps s output s′ output′ → CanMove subset s′
+keeps-moves subset s output s′ output′ m w k =
+    elim (ℕ-discrete (s′ .found .count) (s .most)) [
+      | yes e ↦ let q = k .stops e in record { more = omega (arith, q, k .next-is); within = omega (arith, q) }
+      | no n ↦ let q = k .goes-on n in record { more = omega (arith, q, k .next-is); within = omega (arith, q) }
+    ]
+
+-- ---- the sweep
 
 kept-rising : (subset : Subset) (test : ℕ → Bool) (start k : ℕ) → rising (members subset) ≡ true → rising (keep test (visited subset start k)) ≡ true
 unfolding visited
 kept-rising subset test start k e = rising-keep test _ (rising-take k _ (rising-drop start _ e))
 
--- ---- a step
+keep-one : (test : ℕ → Bool) (xs : List ℕ) (x : ℕ) → test x ≡ true → keep test (xs ++ (x ∷ [])) ≡ keep test xs ++ (x ∷ [])
+unfolding keep
+keep-one test xs x e = keep-append test xs (x ∷ []) ∙ rw e
 
-module _ (h : Header) (rows : List ℕ) (s : Sweep) (meets : Bool) (output : List ℕ) where
-  pub keeps-unmet : meets ≡ false → KeepsRow h rows s meets output (s .found) output
-  keeps-unmet e =
-      record { passed = λ q. absurd (false≢true (sym (both-no e) ∙ q)); failed = λ q. (refl, refl) }
-    where
-      both-no : meets ≡ false → (isLive (rowAt (h .columns) (s .id) rows) && meets) ≡ false
-      both-no f = rw f (and-false (isLive (rowAt (h .columns) (s .id) rows)))
+keep-none : (test : ℕ → Bool) (xs : List ℕ) (x : ℕ) → test x ≡ false → keep test (xs ++ (x ∷ [])) ≡ keep test xs
+unfolding keep
+keep-none test xs x e = keep-append test xs (x ∷ []) ∙ rw e (append-nil (keep test xs))
 
-  pub keeps-dead : isLive (rowAt (h .columns) (s .id) rows) ≡ false → KeepsRow h rows s meets output (s .found) output
-  keeps-dead e = record { passed = λ q. absurd (false≢true (rw e at q)); failed = λ q. (refl, refl) }
-
-  pub keeps-id : (g : Growing) (output′ : List ℕ) → meets ≡ true → isLive (rowAt (h .columns) (s .id) rows) ≡ true → Adds output (s .found) (s .id) g output′
-      → KeepsRow h rows s meets output g output′
-  keeps-id g output′ e f a = record { passed = λ q. a; failed = λ q. absurd (false≢true (sym q ∙ rw (e, f))) }
+-- the beginning
+pub swept-begin : (h : Header) (rows : List ℕ) (subset : Subset) (test : ℕ → Bool) (s : Sweep) (output : List ℕ) → Sweepable h (length rows) subset s output → Swept h rows subset test s output s output
+unfolding keep deadAmong count done
+swept-begin h rows subset test s output w =
+    let e : visited subset (s .next) (s .next - s .next) ≡ [] = visited-none subset (s .next) (s .next - s .next) (omega arith) in
+    let n = w .none-found .nothing in
+    let m : s .most - s .found .count ≡ s .most = omega arith in
+    record {
+      refused-is = refl;
+      most-is = refl;
+      from = omega arith;
+      upto = w .order;
+      within = omega arith;
+      wants = λ l. omega (arith, w .wants l);
+      id-is = w .id-is;
+      visits-is = rw (e, m);
+      grows = rw e (w .none-found .begins output);
+      dead-is = rw e (w .none-dead);
+    }
 
 module _ (h : Header) (rows : List ℕ) (subset : Subset) (test : ℕ → Bool) (s₀ : Sweep) (output₀ : List ℕ) (w : Sweepable h (length rows) subset s₀ output₀)
-    (s : Sweep) (output : List ℕ) (v : Swept subset test s₀ output₀ s output) where
-  abbrev done : ℕ
-  done = s .next - s₀ .next
+    (s : Sweep) (output : List ℕ) (v : Swept h rows subset test s₀ output₀ s output) where
+  abbrev so-far : List ℕ
+  so-far = done subset s₀ s
 
-  abbrev kept : List ℕ
-  kept = keep test (visited subset (s₀ .next) done)
+  long : length so-far ≡ s .next - s₀ .next
+  unfolding done
+  long = length-visited subset (s₀ .next) (s .next - s₀ .next) (omega (arith, v .from, v .upto, v .within, w .within))
 
   module _ (m : s .next < s .end) where
     asked : Askable h (length rows) subset
-    asked = w .askable (omega (arith, v .from, v .end-is))
+    asked = w .askable (omega (arith, v .from, v .within))
 
     place-in : s .next < size subset
-    place-in = omega (arith, w .within, v .end-is)
+    place-in = omega (arith, w .within, v .within)
 
-    sum : s₀ .next + done ≡ s .next
-    sum = omega (arith, v .from)
+    -- the id at the next place comes after those visited
+    with-next : (s′ : Sweep) → s′ .next ≡ s .next + 1 → done subset s₀ s′ ≡ so-far ++ (s .id ∷ [])
+    unfolding done
+    with-next s′ e =
+        let n : s′ .next - s₀ .next ≡ s .next - s₀ .next + 1 = omega (arith, e, v .from) in
+        let sum : s₀ .next + (s .next - s₀ .next) ≡ s .next = omega (arith, v .from) in
+        let id-here : s .id ≡ getD (members subset) (s₀ .next + (s .next - s₀ .next)) 0 = v .id-is m ∙ ap (λ (i : ℕ). getD (members subset) i 0) (sym sum) in
+        rw (n, id-here) (visited-more subset (s₀ .next) (s .next - s₀ .next) (omega (arith, place-in, sum)))
 
-    id-here : s .id ≡ getD (members subset) (s₀ .next + done) 0
-    id-here = v .id-is m ∙ ap (λ (i : ℕ). getD (members subset) i 0) (sym sum)
+    -- and before those that are left
+    next-first : places subset s ≡ s .id ∷ visited subset (s .next + 1) (s .end - (s .next + 1))
+    unfolding places
+    next-first = rw (v .id-is m) (visited-first subset (s .next) (s .end) m (omega (arith, v .within, w .within)))
 
-    sum-in : s₀ .next + done < size subset
-    sum-in = omega (arith, place-in, sum)
-
-    -- the row at the next place lies in the store
+    -- its row lies in the store
     pub next-lies : RowLies h (length rows) (s .id)
     next-lies = subst (RowLies h (length rows)) (sym (v .id-is m)) (id-lies h (length rows) subset asked (s .next) place-in)
 
-    -- and its id may come next
-    module _ (e : test (s .id) ≡ true) where
-      with-id : keep test (visited subset (s₀ .next) (done + 1)) ≡ kept ++ (s .id ∷ [])
-      with-id = rw id-here (kept-step subset test (s₀ .next) done sum-in (rw id-here at e))
+    next-id : test (s .id) ≡ true → NextId output₀ (keep test so-far) (s .id)
+    next-id e =
+        record {
+          up = rw (← keep-one test so-far (s .id) e, ← with-next after refl) (unfold done in kept-rising subset test (s₀ .next) (after .next - s₀ .next) (rising-members subset (asked .formed)));
+          room = λ l.
+              let few : length (keep test so-far) ≤ s .next - s₀ .next = unfold done in kept-few subset test (s₀ .next) (s .next - s₀ .next) in
+              let wants = v .wants m in
+              omega (arith, w .room (omega (arith, v .grows .number, v .most-is)), v .within, v .from);
+          small = rw (v .id-is m) (omega (arith, id-small h (length rows) subset asked (s .next) place-in));
+        }
+      where
+        after : Sweep
+        after = record { refused = 0; next = s .next + 1; end = 0; id = 0; most = 0; dead = 0; found = s .found }
 
-      next-id : NextId output₀ kept (s .id)
-      next-id =
+    pub can-step : (hit : Bool) → hit ≡ test (s .id) → CanStep h (length rows) subset s hit output
+    can-step hit e =
+        record {
+          lies = next-lies;
+          few = omega (arith, v .dead-is, dead-few h rows so-far, long, size-few h (length rows) subset asked, place-in);
+          can-move = record { more = m; within = omega (arith, v .within, w .within) };
+          can-add = λ q. record { output₀ = output₀; kept = keep test so-far; grows = v .grows; next = next-id (sym e ∙ q) };
+        }
+
+    module _ (hit : Bool) (e : hit ≡ test (s .id)) (s′ : Sweep) (output′ : List ℕ) (t : Steps h rows subset s hit output s′ output′) where
+      dead-next : s′ .dead ≡ deadAmong h rows (done subset s₀ s′)
+      dead-next = rw (with-next s′ (t .next-is)) (t .dead-is ∙ ap (λ (n : ℕ). n + deadAmong h rows (s .id ∷ [])) (v .dead-is) ∙ sym (dead-more h rows so-far (s .id ∷ [])))
+
+      -- what is left to visit, once the next place is
+      left : (n n′ : ℕ) (rest : List ℕ) → upTo n test (places subset s) ≡ s .id ∷ rest → rest ≡ upTo n′ test (places subset s′) → so-far ++ upTo n test (places subset s) ≡ done subset s₀ s′ ++ upTo n′ test (places subset s′)
+      left n n′ rest p q = rw (p, with-next s′ (t .next-is), q) (sym (append-assoc so-far (s .id ∷ []) _))
+
+      same-places : s′ .end ≡ s .end → visited subset (s .next + 1) (s .end - (s .next + 1)) ≡ places subset s′
+      unfolding places
+      same-places q = rw (t .next-is, q)
+
+      stepped-miss : hit ≡ false → Swept h rows subset test s₀ output₀ s′ output′
+      stepped-miss f =
+          let k = t .skips f in
+          let no : test (s .id) ≡ false = sym e ∙ f in
+          let n = v .wants m in
+          let wanted : s .most - s .found .count ≡ s′ .most - s′ .found .count = ap₂ (λ (i : ℕ) (g : Growing). i - g .count) (sym (t .most-is)) (sym (k .0)) in
           record {
-            up = rw (← with-id) (kept-rising subset test (s₀ .next) (done + 1) (rising-members subset (asked .formed)));
-            room = omega (arith, kept-few subset test (s₀ .next) done, w .room, v .end-is, v .from);
-            small = rw (v .id-is m) (omega (arith, id-small h (length rows) subset asked (s .next) place-in));
+            refused-is = t .refused-is ∙ v .refused-is;
+            most-is = t .most-is ∙ v .most-is;
+            from = omega (arith, t .next-is, v .from);
+            upto = omega (arith, t .next-is, k .2);
+            within = omega (arith, k .2, v .within);
+            wants = λ l. rw (k .0) (omega (arith, t .most-is));
+            id-is = t .id-is;
+            visits-is = v .visits-is ∙ left (s .most - s .found .count) (s′ .most - s′ .found .count) _ (ap (upTo (s .most - s .found .count) test) next-first ∙ upTo-miss test _ (s .id) _ (omega arith) no) (ap₂ (λ (i : ℕ) (l : List ℕ). upTo i test l) wanted (same-places (k .2)));
+            grows = rw (with-next s′ (t .next-is), keep-none test so-far (s .id) no, k .0, k .1) (v .grows);
+            dead-is = dead-next;
           }
 
-      pub next-add : CanAdd output (s .found) (s .id)
-      next-add = record { output₀ = output₀; kept = kept; grows = v .grows; next = next-id }
+      stepped-hit : hit ≡ true → Swept h rows subset test s₀ output₀ s′ output′
+      stepped-hit f =
+          let yes-is : test (s .id) ≡ true = sym e ∙ f in
+          let a = t .adds f in
+          let n = v .wants m in
+          let c = a .one-more in
+          record {
+            refused-is = t .refused-is ∙ v .refused-is;
+            most-is = t .most-is ∙ v .most-is;
+            from = omega (arith, t .next-is, v .from);
+            upto = ends .0;
+            within = ends .1;
+            wants = ends .2;
+            id-is = t .id-is;
+            visits-is = v .visits-is ∙ left (s .most - s .found .count) (s′ .most - s′ .found .count) _ (ap (upTo (s .most - s .found .count) test) next-first ∙ upTo-hit test _ (s .id) _ (omega arith) yes-is) rest-is;
+            grows = rw (with-next s′ (t .next-is), keep-one test so-far (s .id) yes-is) (a .adds output₀ (keep test so-far) (v .grows) (next-id yes-is));
+            dead-is = dead-next;
+          }
+        where
+          ends : (s′ .next ≤ s′ .end) × (s′ .end ≤ s₀ .end) × (s′ .next < s′ .end → s′ .found .count < s′ .most)
+          ends =
+              let n = v .wants m in
+              let c = t .adds f .one-more in
+              elim (ℕ-discrete (s′ .found .count) (s .most)) [
+                | yes q ↦ let z = t .stops f q in (omega (arith, z, t .next-is), omega (arith, z, v .within), λ l. absurd (omega (arith, z, t .next-is, l)))
+                | no q ↦ let z = t .goes-on f q in (omega (arith, z, t .next-is), omega (arith, z, v .within), λ l. omega (arith, q, t .most-is))
+              ]
 
-    without-id : test (s .id) ≡ false → keep test (visited subset (s₀ .next) (done + 1)) ≡ kept
-    without-id e = kept-skip subset test (s₀ .next) done sum-in (rw id-here at e)
+          rest-is : upTo (s .most - s .found .count - 1) test (visited subset (s .next + 1) (s .end - (s .next + 1))) ≡ upTo (s′ .most - s′ .found .count) test (places subset s′)
+          rest-is =
+              let c = t .adds f .one-more in
+              let k : s′ .most - s′ .found .count ≡ s .most - s .found .count - 1 = omega (arith, t .most-is) in
+              elim (ℕ-discrete (s′ .found .count) (s .most)) [
+                | yes q ↦
+                    let z : s .most - s .found .count - 1 ≡ 0 = omega arith in
+                    let p : places subset s′ ≡ [] = unfold places in visited-none subset (s′ .next) (s′ .end - s′ .next) (omega (arith, t .stops f q, t .next-is)) in
+                    rw (k, z, p) (unfold upTo in refl)
+                | no q ↦ rw k (ap (upTo (s .most - s .found .count - 1) test) (same-places (t .goes-on f q)))
+              ]
 
-    module _ (meets : Bool) (d : Decides h rows s meets test) (g : Growing) (output′ : List ℕ) (k : KeepsRow h rows s meets output g output′) where
-      grown-on : Grows output₀ output′ g (keep test (visited subset (s₀ .next) (done + 1)))
-      grown-on =
-          elim (split (test (s .id))) [
-            | inl e ↦ rw (with-id e) (k .passed (sym d ∙ e) .adds output₀ kept (v .grows) (next-id e))
-            | inr e ↦ let f = k .failed (sym d ∙ e) in rw (without-id e, f .0, f .1) (v .grows)
+      pub stepped : Swept h rows subset test s₀ output₀ s′ output′
+      stepped =
+          elim (split hit) [
+            | inl f ↦ stepped-hit f
+            | inr f ↦ stepped-miss f
           ]
 
-      pub stepped : (s′ : Sweep) → Placed subset (s .refused) (s .next + 1) (s .end) g s′ → Swept subset test s₀ output₀ s′ output′
-      stepped s′ p =
-          let n : s′ .next - s₀ .next ≡ done + 1 = omega (arith, p .next-is, v .from) in
-          record {
-            refused-is = p .refused-is ∙ v .refused-is;
-            end-is = p .end-is ∙ v .end-is;
-            from = omega (arith, p .next-is, v .from);
-            upto = omega (arith, p .next-is, p .end-is, m);
-            id-is = λ l. p .id-is (omega (arith, p .next-is, p .end-is, l)) ∙ ap (λ (i : ℕ). getD (members subset) i 0) (sym (p .next-is));
-            grows = rw (n, p .found-is) grown-on;
-          }
-
   -- the end
-  pub finished : s .end ≤ s .next → Finished subset test s₀ output₀ s output
+  pub finished : s .end ≤ s .next → Finished h rows subset test s₀ output₀ s output
   finished l =
-      let n : s .next - s₀ .next ≡ s₀ .end - s₀ .next = omega (arith, v .upto, v .end-is) in
-      record { refused-is = v .refused-is; end-is = v .end-is; grows = rw (← n) (v .grows) }
+      let p : places subset s ≡ [] = unfold places in visited-none subset (s .next) (s .end - s .next) (omega arith) in
+      let all : upTo (s₀ .most) test (places subset s₀) ≡ so-far = v .visits-is ∙ rw (p, upTo-nil test (s .most - s .found .count)) (append-nil so-far) in
+      record {
+        refused-is = v .refused-is;
+        next-is = rw all (omega (arith, long, v .from));
+        grows = rw all (v .grows);
+        dead-is = rw all (v .dead-is);
+      }
 
--- the beginning
-pub swept-begin : (h : Header) (rows : ℕ) (subset : Subset) (test : ℕ → Bool) (s : Sweep) (output : List ℕ) → Sweepable h rows subset s output → Swept subset test s output s output
-unfolding visited keep
-swept-begin h rows subset test s output w =
-    let n : s .next - s .next ≡ 0 = omega arith in
-    record { refused-is = refl; end-is = refl; from = omega arith; upto = w .order; id-is = w .id-is; grows = rw n (w .found-none .begins output) }
-
--- a step, whatever the test
-pub steps-of : (h : Header) (rows : List ℕ) (subset : Subset) (s : Sweep) (meets : Bool) (output : List ℕ) (g : Growing) (s′ : Sweep) (output′ : List ℕ) → s .next < s .end
-    → KeepsRow h rows s meets output g output′ → Placed subset (s .refused) (s .next + 1) (s .end) g s′ → Steps h rows subset s meets output s′ output′
-steps-of h rows subset s meets output g s′ output′ m k p =
-    record {
-      next-is = p .next-is;
-      end-is = p .end-is;
-      steps = λ test s₀ output₀ w v d. stepped h rows subset test s₀ output₀ w s output v m meets d g output′ k s′ p;
-    }
-
--- ---- one condition
-
-pub matches-one : (h : Header) (rows : List ℕ) (c : Constraint) (id : ℕ) → matches h rows (c ∷ []) id ≡ (isLive (rowAt (h .columns) id rows) && met (rowAt (h .columns) id rows) c)
-unfolding matches meets every
-matches-one h rows c id = rw (and-true (met (rowAt (h .columns) id rows) c))
-
-pub decides-one : (h : Header) (rows : List ℕ) (c : Constraint) (s : Sweep) (r : Bool) → r ≡ met (rowAt (h .columns) (s .id) rows) c → Decides h rows s r (matches h rows (c ∷ []))
-decides-one h rows c s r e = matches-one h rows c (s .id) ∙ ap (λ (b : Bool). isLive (rowAt (h .columns) (s .id) rows) && b) (sym e)
+-- fewer places are left
+pub steps-less : (h : Header) (rows : List ℕ) (subset : Subset) (s : Sweep) (hit : Bool) (output : List ℕ) (s′ : Sweep) (output′ : List ℕ) → s .next < s .end → Steps h rows subset s hit output s′ output′
+    → s′ .end - s′ .next < s .end - s .next
+steps-less h rows subset s hit output s′ output′ m t =
+    elim (split hit) [
+      | inl f ↦ elim (ℕ-discrete (s′ .found .count) (s .most)) [
+        | yes q ↦ omega (arith, t .stops f q, t .next-is)
+        | no q ↦ omega (arith, t .goes-on f q, t .next-is)
+      ]
+      | inr f ↦ omega (arith, t .skips f .2, t .next-is)
+    ]
 
 -- ---- what is written at the end
 
 module _ (output : List ℕ) (g : Growing) where
-  pub can-fill : CanWrite output g → g .dense ≡ true → (g .start ≤ g .end) × (g .end - g .start ≤ length output)
-  can-fill w e =
-      let a = w .grows .as-range e in
-      let n : length (w .kept) ≡ g .end - g .start = ap length (a .ids) ∙ length-countFrom (g .start) (g .end - g .start) in
-      (a .order, omega (arith, w .room, w .grows .same))
+  pub can-fill : CanWrite output g → g .written ≡ 0 → (g .start + g .count < 4294967296) × (g .count ≤ length output)
+  can-fill w e = (w .grows .as-range e .fits, omega (arith, w .grows .number, w .room, w .grows .same))
 
-  pub wrote-range : (output′ : List ℕ) → g .dense ≡ true → output′ ≡ putAt output 0 (countFrom (g .start) (g .end - g .start)) → Writes output g (g .end - g .start) output′
+  pub wrote-range : (output′ : List ℕ) → g .written ≡ 0 → output′ ≡ putAt output 0 (countFrom (g .start) (g .count)) → Writes output g (g .count) output′
   wrote-range output′ e q =
       record {
         writes = λ output₀ kept grows. let a = grows .as-range e in
-            record {
-              number = sym (ap length (a .ids) ∙ length-countFrom (g .start) (g .end - g .start));
-              cells = rw (a .ids, ← a .unwritten) q;
-            };
+            record { number = grows .number; cells = rw (a .ids, ← a .unwritten) q };
       }
 
-  pub wrote-list : g .dense ≡ false → Writes output g (g .count) output
-  wrote-list e = record { writes = λ output₀ kept grows. grows .as-list e .wrote }
-
--- ---- the beginning of a refine
-
-module _ (h : Header) (rows : ℕ) (subset : Subset) (knows : Bool) (output number : ℕ) (found : Growing) (r : RefineRefused h rows subset knows output number) (b : Begins found) (s : Sweep) where
-  pub opened-refused : (number ≡ 0 → ⊥) → Placed subset number 0 0 found s → RefineOpened h rows subset knows output s
-  opened-refused n p =
-      record {
-        number-is = λ conditions k. p .refused-is ∙ r .number-is conditions k;
-        askable = λ z. absurd (n (sym (p .refused-is) ∙ z));
-        all = λ z. absurd (n (sym (p .refused-is) ∙ z));
-        no-places = λ _. p .next-is ∙ sym (p .end-is);
-        sweepable = λ output₀ l.
-            record {
-              askable = λ q. absurd (omega (arith, p .next-is, p .end-is, q));
-              order = omega (arith, p .next-is, p .end-is);
-              within = omega (arith, p .end-is);
-              room = omega (arith, p .next-is, p .end-is);
-              id-is = λ q. absurd (omega (arith, p .next-is, p .end-is, q));
-              found-none = rw (p .found-is) b;
-            };
-      }
-
-  pub opened-all : number ≡ 0 → Placed subset 0 0 (size subset) found s → RefineOpened h rows subset knows output s
-  opened-all z p =
-      record {
-        number-is = λ conditions k. p .refused-is ∙ sym z ∙ r .number-is conditions k;
-        askable = λ _. r .askable z;
-        all = λ _. (p .next-is, p .end-is);
-        no-places = λ m. absurd (m (p .refused-is));
-        sweepable = λ output₀ l.
-            record {
-              askable = λ q. r .askable z;
-              order = omega (arith, p .next-is);
-              within = omega (arith, p .end-is);
-              room = omega (arith, p .end-is, p .next-is, r .room z, l);
-              id-is = λ q. p .id-is (omega (arith, p .next-is, p .end-is, q)) ∙ ap (λ (i : ℕ). getD (members subset) i 0) (sym (p .next-is));
-              found-none = rw (p .found-is) b;
-            };
-      }
-
--- ---- a condition
-
-module _ (asked : Bool) (h : Header) (rows : List ℕ) (id : ℕ) (c : Constraint) (ok : Bool) where
-  pub passes-not : ok ≡ false → false ≡ (ok && passes asked h rows id c)
-  passes-not e = rw e
-
-  pub passes-known : ok ≡ true → asked ≡ true → (r : Bool) → r ≡ known (h .columns) c → r ≡ (ok && passes asked h rows id c)
-  unfolding passes
-  passes-known e f r q = rw (e, f) q
-
-  pub passes-met : ok ≡ true → asked ≡ false → (r : Bool) → r ≡ met (rowAt (h .columns) id rows) c → r ≡ (ok && passes asked h rows id c)
-  unfolding passes
-  passes-met e f r q = rw (e, f) q
+  pub wrote-list : (g .written ≡ 0 → ⊥) → Writes output g (g .count) output
+  wrote-list e = record { writes = λ output₀ kept grows. record { number = grows .number; cells = grows .as-list e .wrote .cells } }

@@ -1,9 +1,10 @@
-// A sweep over places of a subset, one row after another: what refine, any match and page share. It keeps the ids of the
-// rows that pass in a growing answer, so nothing is written while they are neighbours.
+// A sweep over places of a subset, one row after another: what refine, any match and page share. They differ in the places,
+// and in how many matches end the sweep. The ids of the rows that match are kept in a growing answer, so nothing is written
+// while they are neighbours.
 ghost use mathlib.Core.Path.{_≡_};
-ghost use mathlib.Core.Bool.{true, _&&_};
+ghost use mathlib.Core.Bool.{true};
 ghost use mathlib.Core.List.{_∷_, []};
-ghost use Prim.Native.Nat.{_≤_, _<_};
+ghost use Prim.Native.Nat.{ℕ, _≤_, _<_};
 ghost use lib.ListN.{length, getD};
 ghost use Rattle.lists.specs.Lists.{rowAt};
 ghost use Rattle.constraints.specs.Constraints as rules;
@@ -11,8 +12,8 @@ ghost use Rattle.offsets.specs.Answers.{subsetOf};
 ghost use Rattle.offsets.specs.Subsets as subsets;
 ghost use Rattle.offsets.specs.Subsets.{members};
 ghost use Rattle.retain.specs.inner.Growing.{CanAdd};
-ghost use Rattle.queries.specs.Queries.{matches};
-ghost use Rattle.sweeping.specs.inner.Sweeping.{nextOf, RowLies, RowNeeded, passes, Placed, Sweepable, KeepsRow, CanStep, Steps, Finished, CanWrite, Writes, RefineOpened, whole, CanClose, RefineClosed, PageOpened, nextAt, CanPage, PageClosed, MatchOpened, CanLook, Looks, MatchClosed};
+ghost use Rattle.queries.specs.Queries.{matches, deadAmong};
+ghost use Rattle.sweeping.specs.inner.Sweeping.{RowLies, RowNeeded, starts, passes, Placed, CanMove, Moves, Keeps, CanStep, Steps, Sweepable, Finished, Opened, CanWrite, Writes, whole, CanClose, RefineClosed, nextOf, nextAt, PageClosed, MatchClosed};
 use constraints::Constraint;
 use offsets::SubsetAnswer;
 use offsets::SubsetHead;
@@ -27,50 +28,32 @@ use queries::refusing::smaller;
 use retain::Growing;
 use table::Header;
 
-// From place `next` on, whose id is `id`, up to `end`. A refused question has its number, and no places.
+// From place `next` on, whose id is `id`, up to `end`, or to where `most` ids are kept. `dead` of the ids visited have a dead
+// row. A refused question has its number, and no places. It is plain numbers, which a loop holds in registers.
 pub struct Sweep {
     pub refused: u32,
-    pub next: usize,
-    pub end: usize,
+    pub next: u32,
+    pub end: u32,
     pub id: u32,
+    pub most: u32,
+    pub dead: u32,
     pub found: Growing,
 }
 
-// The id at a place.
-fn id_at(head: SubsetHead, ids: &[u32], place: usize) -> u32
-    requires { ⌜ place < subsets.size (subsetOf head (now ids)) ⌝ }
-    ensures { λ r. ⌜ r ≡ getD (members (subsetOf head (now (ids .entry)))) place 0 ⌝ }
-{
-    if head.dense {
-        return head.start + place as u32;
-    }
-    ids[place]
+// What is asked of conditions: that they are known, or that a row is live and meets them.
+pub enum Test {
+    Known,
+    Row(u32),
 }
 
-// A sweep at a place. At its end it has no id.
-fn at_place(
-    head: SubsetHead,
-    ids: &[u32],
-    refused: u32,
-    next: usize,
-    end: usize,
-    found: Growing,
-) -> Sweep
-    requires { ⌜ end ≤ subsets.size (subsetOf head (now ids)) ⌝ }
-    ensures { λ r. ⌜ Placed (subsetOf head (now (ids .entry))) refused next end found r ⌝ }
-{
-    let mut id = 0;
-    if next < end {
-        id = id_at(head, ids, next);
-    }
-    Sweep {
-        refused: refused,
-        next: next,
-        end: end,
-        id: id,
-        found: found,
-    }
+// What is asked of a subset. A page has its start place and how many ids it visits.
+pub enum Question {
+    Refine,
+    Match,
+    Page(u32, usize),
 }
+
+// ---- a row
 
 // The row is live.
 fn is_live_at(h: Header, rows: &[u32], id: u32) -> bool
@@ -92,35 +75,133 @@ fn is_met_at(h: Header, rows: &[u32], id: u32, c: Constraint) -> bool
     constraints::met(c, &rows[from..to])
 }
 
-// The ids kept, with that of the next place if its row is live and meets the conditions.
-fn keep_row(h: Header, rows: &[u32], s: Sweep, meets: bool, out: &mut [u32]) -> Growing
-    requires { ⌜ RowLies h (length (now rows)) (s .id) × ((rules.isLive (rowAt (h .columns) (s .id) (now rows)) && meets) ≡ true → CanAdd (now out) (s .found) (s .id)) ⌝ }
-    ensures { λ r. ⌜ KeepsRow h (now (rows .entry)) s meets (now (out .entry)) r (now (out .exit)) ⌝ }
+// The row meets the condition and is live. The condition comes first: it fails oftener, and is foreseen better.
+fn is_match(h: Header, rows: &[u32], id: u32, c: Constraint) -> bool
+    requires { ⌜ RowLies h (length (now rows)) id ⌝ }
+    ensures { λ r. ⌜ r ≡ matches h (now (rows .entry)) (c ∷ []) id ⌝ }
 {
-    if !meets {
-        return s.found;
+    if !is_met_at(h, rows, id, c) {
+        return false;
     }
-    if !is_live_at(h, rows, s.id) {
-        return s.found;
+    is_live_at(h, rows, id)
+}
+
+// 1 for a dead row, else 0.
+fn dead_at(h: Header, rows: &[u32], id: u32) -> u32
+    requires { ⌜ RowLies h (length (now rows)) id ⌝ }
+    ensures { λ r. ⌜ r ≡ deadAmong h (now (rows .entry)) (id ∷ []) ⌝ }
+{
+    if is_live_at(h, rows, id) {
+        return 0;
     }
-    retain::add_row_sorted(s.found, out, s.id)
+    1
+}
+
+// ---- conditions
+
+// Before any condition: a row must be live.
+pub fn can_pass(test: Test, h: Header, rows: &[u32]) -> bool
+    requires { ⌜ RowNeeded test h (length (now rows)) ⌝ }
+    ensures { λ r. ⌜ r ≡ starts test h (now (rows .entry)) ⌝ }
+{
+    match test {
+        Test::Known => true,
+        Test::Row(id) => is_live_at(h, rows, id),
+    }
+}
+
+// One condition: it is known, or the row's cells meet it.
+pub fn passes_test(test: Test, h: Header, rows: &[u32], c: Constraint) -> bool
+    requires { ⌜ RowNeeded test h (length (now rows)) ⌝ }
+    ensures { λ r. ⌜ r ≡ passes test h (now (rows .entry)) c ⌝ }
+{
+    match test {
+        Test::Known => constraints::known(c, h.columns),
+        Test::Row(id) => is_met_at(h, rows, id, c),
+    }
+}
+
+// ---- places
+
+// The id at a place.
+fn id_at(head: SubsetHead, ids: &[u32], place: u32) -> u32
+    requires { ⌜ place < subsets.size (subsetOf head (now ids)) ⌝ }
+    ensures { λ r. ⌜ r ≡ getD (members (subsetOf head (now (ids .entry)))) place 0 ⌝ }
+{
+    if head.dense {
+        return head.start + place;
+    }
+    let at = place as usize;
+    ids[at]
+}
+
+// A sweep that begins. Without places it has no id.
+fn at_place(head: SubsetHead, ids: &[u32], refused: u32, next: u32, end: u32, most: u32) -> Sweep
+    requires { ⌜ end ≤ subsets.size (subsetOf head (now ids)) ⌝ }
+    ensures { λ r. ⌜ Placed (subsetOf head (now (ids .entry))) refused next end most r ⌝ }
+{
+    let mut s = Sweep {
+        refused: refused,
+        next: next,
+        end: end,
+        id: 0,
+        most: most,
+        dead: 0,
+        found: retain::empty(),
+    };
+    if next < end {
+        s.id = id_at(head, ids, next);
+    }
+    s
+}
+
+// The id at the next place is kept. With as many as are wanted the sweep ends.
+fn keep_id(s: Sweep, out: &mut [u32]) -> Sweep
+    requires { ⌜ (s .next < s .end) × CanAdd (now out) (s .found) (s .id) ⌝ }
+    ensures { λ r. ⌜ Keeps s (now (out .entry)) r (now (out .exit)) ⌝ }
+{
+    let found = retain::add_row_sorted(s.found, out, s.id);
+    let mut n = s;
+    n.found = found;
+    if found.count == s.most {
+        n.end = s.next + 1;
+    }
+    n
 }
 
 // One place further.
+fn move_on(head: SubsetHead, ids: &[u32], s: Sweep) -> Sweep
+    requires { ⌜ CanMove (subsetOf head (now ids)) s ⌝ }
+    ensures { λ r. ⌜ Moves (subsetOf head (now (ids .entry))) s r ⌝ }
+{
+    let mut n = s;
+    n.next = s.next + 1;
+    if n.next < n.end {
+        n.id = id_at(head, ids, n.next);
+    }
+    n
+}
+
+// The row at the next place is visited: a hit is one that matches.
 pub fn step(
     h: Header,
     rows: &[u32],
     head: SubsetHead,
     ids: &[u32],
     s: Sweep,
-    meets: bool,
+    hit: bool,
     out: &mut [u32],
 ) -> Sweep
-    requires { ⌜ CanStep h (now rows) (subsetOf head (now ids)) s meets (now out) ⌝ }
-    ensures { λ r. ⌜ Steps h (now (rows .entry)) (subsetOf head (now (ids .entry))) s meets (now (out .entry)) r (now (out .exit)) ⌝ }
+    requires { ⌜ CanStep h (length (now rows)) (subsetOf head (now ids)) s hit (now out) ⌝ }
+    ensures { λ r. ⌜ Steps h (now (rows .entry)) (subsetOf head (now (ids .entry))) s hit (now (out .entry)) r (now (out .exit)) ⌝ }
 {
-    let found = keep_row(h, rows, s, meets, out);
-    at_place(head, ids, s.refused, s.next + 1, s.end, found)
+    let mut n = s;
+    n.dead = s.dead + dead_at(h, rows, s.id);
+    if !hit {
+        return move_on(head, ids, n);
+    }
+    let kept = keep_id(n, out);
+    move_on(head, ids, kept)
 }
 
 // All places, by one condition.
@@ -134,43 +215,19 @@ pub fn retain(
     out: &mut [u32],
 ) -> Sweep
     requires { ⌜ Sweepable h (length (now rows)) (subsetOf head (now ids)) s (now out) ⌝ }
-    ensures { λ r. ⌜ Finished (subsetOf head (now (ids .entry))) (matches h (now (rows .entry)) (c ∷ [])) s (now (out .entry)) r (now (out .exit)) ⌝ }
+    ensures { λ r. ⌜ Finished h (now (rows .entry)) (subsetOf head (now (ids .entry))) (matches h (now (rows .entry)) (c ∷ [])) s (now (out .entry)) r (now (out .exit)) ⌝ }
 {
     let mut at = s;
     while at.next < at.end {
-        let met = is_met_at(h, rows, at.id, c);
-        at = step(h, rows, head, ids, at, met, out);
+        let hit = is_match(h, rows, at.id, c);
+        at = step(h, rows, head, ids, at, hit, out);
     }
     at
 }
 
-// One condition more, where those before it pass: it is known, if that is asked, else the row's cells meet it.
-pub fn passes_too(asked: bool, h: Header, rows: &[u32], id: u32, c: Constraint, ok: bool) -> bool
-    requires { ⌜ RowNeeded asked h (length (now rows)) id ⌝ }
-    ensures { λ r. ⌜ r ≡ (ok && passes asked h (now (rows .entry)) id c) ⌝ }
-{
-    if !ok {
-        return false;
-    }
-    if asked {
-        return constraints::known(c, h.columns);
-    }
-    is_met_at(h, rows, id, c)
-}
+// ---- the beginning
 
-// Writes the ids kept to the start of the output, if they are not there yet, and answers how many they are.
-pub fn write_found(g: Growing, out: &mut [u32]) -> u32
-    requires { ⌜ CanWrite (now out) g ⌝ }
-    ensures { λ r. ⌜ Writes (now (out .entry)) g r (now (out .exit)) ⌝ }
-{
-    if g.dense {
-        retain::fill_from_dense(out, g.start, g.end);
-        return g.end - g.start;
-    }
-    g.count
-}
-
-// A refine begins: refused, or over all places.
+// A refine: refused, or over all places.
 pub fn open_refine(
     h: Header,
     rows: usize,
@@ -179,27 +236,91 @@ pub fn open_refine(
     known: bool,
     output: usize,
 ) -> Sweep
-    ensures { λ r. ⌜ RefineOpened h rows (subsetOf head (now (ids .entry))) known output r ⌝ }
+    ensures { λ r. ⌜ Opened Question.Refine h rows (subsetOf head (now (ids .entry))) known output r ⌝ }
 {
     let number = refine_refusal(h, rows, head, ids, known, output);
     if number != 0 {
-        return at_place(head, ids, number, 0, 0, retain::empty());
+        return at_place(head, ids, number, 0, 0, 0);
     }
-    at_place(head, ids, 0, 0, offsets::size(head, ids), retain::empty())
+    let size = offsets::size(head, ids) as u32;
+    at_place(head, ids, 0, 0, size, size)
+}
+
+// A search for a match: refused, or over all places up to the first match.
+fn open_match(h: Header, rows: usize, head: SubsetHead, ids: &[u32], known: bool) -> Sweep
+    ensures { λ r. ⌜ ((output : ℕ) → Opened Question.Match h rows (subsetOf head (now (ids .entry))) known output r) ⌝ }
+{
+    let number = match_refusal(h, rows, head, ids, known);
+    if number != 0 {
+        return at_place(head, ids, number, 0, 0, 0);
+    }
+    let size = offsets::size(head, ids) as u32;
+    at_place(head, ids, 0, 0, size, 1)
+}
+
+// A page: refused, or over n places from the start place on, as far as there are.
+fn open_page(
+    h: Header,
+    rows: usize,
+    head: SubsetHead,
+    ids: &[u32],
+    start: u32,
+    n: usize,
+    known: bool,
+    output: usize,
+) -> Sweep
+    ensures { λ r. ⌜ Opened (Question.Page start n) h rows (subsetOf head (now (ids .entry))) known output r ⌝ }
+{
+    let number = page_refusal(h, rows, head, ids, start, n, known, output);
+    if number != 0 {
+        return at_place(head, ids, number, 0, 0, 0);
+    }
+    let left = offsets::size(head, ids) - start as usize;
+    let places = smaller(n, left) as u32;
+    at_place(head, ids, 0, start, start + places, places)
+}
+
+// A question begins: refused, or over its places.
+pub fn opening(
+    question: Question,
+    h: Header,
+    rows: usize,
+    head: SubsetHead,
+    ids: &[u32],
+    known: bool,
+    output: usize,
+) -> Sweep
+    ensures { λ r. ⌜ Opened question h rows (subsetOf head (now (ids .entry))) known output r ⌝ }
+{
+    match question {
+        Question::Refine => open_refine(h, rows, head, ids, known, output),
+        Question::Match => open_match(h, rows, head, ids, known),
+        Question::Page(start, n) => open_page(h, rows, head, ids, start, n, known, output),
+    }
+}
+
+// ---- the end
+
+// Writes the ids kept to the start of the output, if they are not there yet, and answers how many they are.
+pub fn write_found(g: Growing, out: &mut [u32]) -> u32
+    requires { ⌜ CanWrite (now out) g ⌝ }
+    ensures { λ r. ⌜ Writes (now (out .entry)) g r (now (out .exit)) ⌝ }
+{
+    if g.written == 0 {
+        retain::fill_from_dense(out, g.start, g.count);
+    }
+    g.count
 }
 
 // Whether the ids kept are all of a range.
 fn is_whole(head: SubsetHead, g: Growing) -> bool
-    requires { ⌜ (head .dense ≡ true → head .start ≤ head .end) × (g .dense ≡ true → g .start ≤ g .end) ⌝ }
+    requires { ⌜ (head .dense ≡ true → head .start ≤ head .end) ⌝ }
     ensures { λ r. ⌜ r ≡ whole head g ⌝ }
 {
     if !head.dense {
         return false;
     }
-    if !g.dense {
-        return false;
-    }
-    g.end - g.start == head.end - head.start
+    g.count == head.end - head.start
 }
 
 // A refine by a list ends: refused, the range as it was, or a list.
@@ -216,101 +337,39 @@ pub fn close_refine(head: SubsetHead, s: Sweep, out: &mut [u32]) -> SubsetAnswer
     SubsetAnswer::List(write_found(s.found, out))
 }
 
-// A page begins: refused, or over n places from the start place on, as far as there are.
-pub fn open_page(
-    h: Header,
-    rows: usize,
-    head: SubsetHead,
-    ids: &[u32],
-    start: u32,
-    n: usize,
-    known: bool,
-    output: usize,
-) -> Sweep
-    ensures { λ r. ⌜ PageOpened h rows (subsetOf head (now (ids .entry))) start n known output r ⌝ }
-{
-    let number = page_refusal(h, rows, head, ids, start, n, known, output);
-    if number != 0 {
-        return at_place(head, ids, number, 0, 0, retain::empty());
-    }
-    let first = start as usize;
-    let size = offsets::size(head, ids);
-    let end = first + smaller(n, size - first);
-    at_place(head, ids, 0, first, end, retain::empty())
-}
-
 // The place to go on from.
-fn next_place(head: SubsetHead, ids: &[u32], end: usize) -> NextPlace
-    requires { ⌜ end < 4294967296 ⌝ }
-    ensures { λ r. ⌜ r ≡ nextOf (nextAt (subsetOf head (now (ids .entry))) end) ⌝ }
+fn next_place(head: SubsetHead, ids: &[u32], next: u32) -> NextPlace
+    ensures { λ r. ⌜ r ≡ nextOf (nextAt (subsetOf head (now (ids .entry))) next) ⌝ }
 {
-    if end < offsets::size(head, ids) {
-        return NextPlace::At(end as u32);
+    if (next as usize) < offsets::size(head, ids) {
+        return NextPlace::At(next);
     }
     NextPlace::None
 }
 
 // A page ends: its ids are written.
 pub fn close_page(head: SubsetHead, ids: &[u32], s: Sweep, out: &mut [u32]) -> PageAnswer
-    requires { ⌜ (s .refused ≡ 0 → CanPage s (now out)) ⌝ }
+    requires { ⌜ (s .refused ≡ 0 → CanWrite (now out) (s .found)) ⌝ }
     ensures { λ r. ⌜ PageClosed (subsetOf head (now (ids .entry))) s (now (out .entry)) r (now (out .exit)) ⌝ }
 {
     if s.refused != 0 {
         return PageAnswer::Refused(s.refused);
     }
-    let next = next_place(head, ids, s.end);
+    let next = next_place(head, ids, s.next);
     let written = write_found(s.found, out);
     PageAnswer::Page(Page {
         written: written,
+        dead: s.dead,
         next: next,
     })
 }
 
-// A search for a match begins: refused, or over all places.
-pub fn open_match(h: Header, rows: usize, head: SubsetHead, ids: &[u32], known: bool) -> Sweep
-    ensures { λ r. ⌜ MatchOpened h rows (subsetOf head (now (ids .entry))) known r ⌝ }
-{
-    let number = match_refusal(h, rows, head, ids, known);
-    if number != 0 {
-        return at_place(head, ids, number, 0, 0, retain::empty());
-    }
-    at_place(head, ids, 0, 0, offsets::size(head, ids), retain::empty())
-}
-
-// The row is live and meets the conditions.
-fn is_match(h: Header, rows: &[u32], id: u32, meets: bool) -> bool
-    requires { ⌜ RowLies h (length (now rows)) id ⌝ }
-    ensures { λ r. ⌜ r ≡ (rules.isLive (rowAt (h .columns) id (now (rows .entry))) && meets) ⌝ }
-{
-    if !meets {
-        return false;
-    }
-    is_live_at(h, rows, id)
-}
-
-// One place further, or to the end with the id of the next place if its row is a match.
-pub fn look(h: Header, rows: &[u32], head: SubsetHead, ids: &[u32], s: Sweep, meets: bool) -> Sweep
-    requires { ⌜ CanLook h (length (now rows)) (subsetOf head (now ids)) s ⌝ }
-    ensures { λ r. ⌜ Looks h (now (rows .entry)) (subsetOf head (now (ids .entry))) s meets r ⌝ }
-{
-    if is_match(h, rows, s.id, meets) {
-        let found = Growing {
-            dense: true,
-            start: s.id,
-            end: s.id + 1,
-            count: 0,
-        };
-        return at_place(head, ids, s.refused, s.end, s.end, found);
-    }
-    at_place(head, ids, s.refused, s.next + 1, s.end, s.found)
-}
-
-// A search for a match ends: refused, or whether an id was found.
+// A search for a match ends: refused, or whether there was one.
 pub fn close_match(s: Sweep) -> MatchAnswer
     ensures { λ r. ⌜ MatchClosed s r ⌝ }
 {
     if s.refused != 0 {
         return MatchAnswer::Refused(s.refused);
     }
-    MatchAnswer::Match(s.found.start < s.found.end)
+    MatchAnswer::Match(s.found.count != 0)
 }

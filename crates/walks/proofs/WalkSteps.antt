@@ -1,37 +1,70 @@
 -- Conditions met one after another from the front, and the orders by which the loops that are walked by hand end. Assumes
 -- nothing.
-use Prim.Native.Nat.{ℕ, _+_, _-_, _<_}
-use mathlib.Core.Path.{_≡_, refl, ap, _∙_}
-use mathlib.Core.Bool.{Bool, true, false, _&&_}
-use mathlib.Core.List.{List}
+use Prim.Native.Nat.{ℕ, zero, suc, _+_, _-_, _<_}
+use mathlib.Core.Path.{_≡_, refl, sym, ap, _∙_}
+use mathlib.Core.Logic.{inl, inr}
+use mathlib.Core.Bool.{Bool, true, false, _&&_, false≢true}
+use mathlib.Core.List.{List, [], _∷_}
 use mathlib.Core.WellFounded.{WellFounded, InvImage·wf}
 use native.Mathlib.Numerals.{add-one}
+use lib.Dec.{ltb}
 use lib.ListN.{length, getD, take}
-use lib.Seq.{take-suc}
+use lib.Seq.{take-all, take-suc}
 use lib.WfN.{Nat·lt-wfRel}
+use borrow.Author.Tests.{ltb-false}
 use Rattle.lists.specs.Lists.{every}
-use Rattle.lists.specs.Laws.Every.{every-more}
+use Rattle.lists.specs.Laws.Keep.{split, and-left, and-right}
+use Rattle.lists.specs.Laws.Every.{every-more, every-head, every-tail, every-cons}
 use Rattle.constraints.specs.declared.Constraint.{Constraint}
 use Rattle.constraints.specs.Constraints.{known, meets}
 use Rattle.table.specs.declared.Header.{Header}
 use Rattle.sweeping.specs.declared.Sweep.{Sweep}
+use Rattle.sweeping.specs.declared.Test.the-variants.{Known, Row}
 use Rattle.queries.specs.Queries.{matches}
-use Rattle.sweeping.specs.inner.Sweeping.{passes, Decides}
+use Rattle.sweeping.specs.inner.Sweeping.{starts, passes, allPass}
 
 -- what is read past the end of a list of conditions
 abbrev pub none : Constraint
 none = record { kind = 0; column = 0; value = 0 }
 
-module _ (test : Constraint → Bool) where
-  -- the first 0 conditions pass
-  pub upto-none : (cs : List Constraint) → every test (take 0 cs) ≡ true
-  unfolding every
-  upto-none cs = refl
+module _ (start : Bool) (test : Constraint → Bool) (cs : List Constraint) where
+  -- the first i conditions pass
+  abbrev pub passed : ℕ → Bool
+  passed i = start && every test (take i cs)
 
-  -- the first i + 1 conditions pass where the first i do, and the next
-  pub upto : (cs : List Constraint) (i : ℕ) → i < length cs → every test (take (i + 1) cs) ≡ (every test (take i cs) && test (getD cs i none))
-  upto cs i l =
-      ap (λ (k : ℕ). every test (take k cs)) (add-one i) ∙ ap (every test) (take-suc cs i none l) ∙ every-more test (take i cs) (getD cs i none)
+  pub passed-none : start ≡ passed 0
+  unfolding every
+  passed-none = elim (split start) [
+    | inl e ↦ rw e
+    | inr e ↦ rw e
+  ]
+
+  -- where they do, the first i + 1 do if the next does
+  pub passed-next : (i : ℕ) → i < length cs → passed i ≡ true → test (getD cs i none) ≡ passed (i + 1)
+  passed-next i l e =
+      let more : every test (take (i + 1) cs) ≡ (every test (take i cs) && test (getD cs i none)) =
+      ap (λ (k : ℕ). every test (take k cs)) (add-one i) ∙ ap (every test) (take-suc cs i none l) ∙ every-more test (take i cs) (getD cs i none) in
+      rw (more, and-left start (every test (take i cs)) e, and-right start (every test (take i cs)) e)
+
+  every-take : (i : ℕ) (l : List Constraint) → every test l ≡ true → every test (take i l) ≡ true
+  every-take zero l e = unfold every in refl
+  every-take (suc i) [] e = unfold every in refl
+  every-take (suc i) (x ∷ xs) e = every-cons test x (take i xs) (every-head test x xs e) (every-take i xs (every-tail test x xs e))
+
+  -- the loop ends where one does not pass, or at the last
+  pub passed-all : (i : ℕ) → (passed i && ltb i (length cs)) ≡ false → passed i ≡ (start && every test cs)
+  passed-all i e =
+      elim (split (passed i)) [
+        | inl y ↦ let past : ltb i (length cs) ≡ false = rw y at e in ap (λ (l : List Constraint). start && every test l) (take-all i cs (ltb-false i (length cs) past))
+        | inr n ↦ n ∙ sym (failed n)
+      ]
+    where
+      failed : passed i ≡ false → (start && every test cs) ≡ false
+      failed n =
+          elim (split (start && every test cs)) [
+            | inl y ↦ absurd (false≢true (sym n ∙ rw (and-left start (every test cs) y) (every-take i cs (and-right start (every test cs) y))))
+            | inr m ↦ m
+          ]
 
 -- i′ is nearer n than i
 abbrev pub Up : ℕ → ℕ → ℕ → Type 0
@@ -47,11 +80,11 @@ Fewer S at t′ t = at t′ .end - at t′ .next < at t .end - at t .next
 pub fewer-wf : (S : Type 0) (at : S → Sweep) → WellFounded (Fewer S at)
 fewer-wf S at = InvImage·wf (λ (t : S). at t .end - at t .next) (Nat·lt-wfRel .wf)
 
--- what all conditions passing says: they are known, or the row at the next place is one that matches if it is live
-pub all-known : (h : Header) (rows : List ℕ) (id : ℕ) (cs : List Constraint) → every (passes true h rows id) cs ≡ every (known (h .columns)) cs
-unfolding passes
-all-known h rows id cs = refl
+-- what all conditions passing says: they are known, or the row matches
+pub all-known : (h : Header) (rows : List ℕ) (cs : List Constraint) → allPass Known h rows cs ≡ every (known (h .columns)) cs
+unfolding allPass starts passes
+all-known h rows cs = refl
 
-pub all-decide : (h : Header) (rows : List ℕ) (cs : List Constraint) (s : Sweep) → Decides h rows s (every (passes false h rows (s .id)) cs) (matches h rows cs)
-unfolding passes matches meets
-all-decide h rows cs s = refl
+pub row-matches : (h : Header) (rows : List ℕ) (cs : List Constraint) (id : ℕ) → allPass (Row id) h rows cs ≡ matches h rows cs id
+unfolding allPass starts passes matches meets
+row-matches h rows cs id = refl

@@ -1,34 +1,37 @@
-// The walks that go by a list of conditions, each condition handed by value to a step of `sweeping`.
+// The walk behind every question: conditions one after another for each row, rows one after another for each question. Each
+// condition and each row is handed on by value to a step of `sweeping`.
 ghost use mathlib.Core.Path.{_≡_};
 ghost use lib.ListN.{length};
-ghost use Rattle.lists.specs.Lists.{every};
 ghost use Rattle.offsets.specs.Answers.{subsetOf};
 ghost use Rattle.queries.specs.Queries.{matches};
-ghost use Rattle.sweeping.specs.inner.Sweeping.{RowNeeded, passes, Sweepable, Finished, Lookable, Found};
+ghost use Rattle.sweeping.specs.inner.Sweeping.{RowNeeded, allPass, Sweepable, Finished, Asked};
 use constraints::Constraint;
 use offsets::SubsetHead;
+use sweeping::Question;
 use sweeping::Sweep;
-use sweeping::look;
-use sweeping::passes_too;
+use sweeping::Test;
+use sweeping::can_pass;
+use sweeping::opening;
+use sweeping::passes_test;
 use sweeping::step;
 use table::Header;
 
-// All conditions pass. No row is read where it is asked whether they are known.
-pub fn all_pass(asked: bool, h: Header, rows: &[u32], id: u32, conditions: &[Constraint]) -> bool
-    requires { ⌜ RowNeeded asked h (length (now rows)) id ⌝ }
-    ensures { λ r. ⌜ r ≡ every (passes asked h (now (rows .entry)) id) (now (conditions .entry)) ⌝ }
+// All conditions pass: up to the first that does not, and none for a dead row.
+pub fn all_pass(test: Test, h: Header, rows: &[u32], conditions: &[Constraint]) -> bool
+    requires { ⌜ RowNeeded test h (length (now rows)) ⌝ }
+    ensures { λ r. ⌜ r ≡ allPass test h (now (rows .entry)) (now (conditions .entry)) ⌝ }
 {
-    let mut ok = true;
+    let mut ok = can_pass(test, h, rows);
     let mut i = 0;
-    while i < conditions.len() {
-        ok = passes_too(asked, h, rows, id, conditions[i], ok);
+    while ok & (i < conditions.len()) {
+        ok = passes_test(test, h, rows, conditions[i]);
         i += 1;
     }
     ok
 }
 
 // All places, by all conditions.
-pub fn sweep_all(
+pub fn sweep(
     h: Header,
     rows: &[u32],
     head: SubsetHead,
@@ -38,32 +41,29 @@ pub fn sweep_all(
     out: &mut [u32],
 ) -> Sweep
     requires { ⌜ Sweepable h (length (now rows)) (subsetOf head (now ids)) s (now out) ⌝ }
-    ensures { λ r. ⌜ Finished (subsetOf head (now (ids .entry))) (matches h (now (rows .entry)) (now (conditions .entry))) s (now (out .entry)) r (now (out .exit)) ⌝ }
+    ensures { λ r. ⌜ Finished h (now (rows .entry)) (subsetOf head (now (ids .entry))) (matches h (now (rows .entry)) (now (conditions .entry))) s (now (out .entry)) r (now (out .exit)) ⌝ }
 {
     let mut at = s;
     while at.next < at.end {
-        let met = all_pass(false, h, rows, at.id, conditions);
-        at = step(h, rows, head, ids, at, met, out);
+        let hit = all_pass(Test::Row(at.id), h, rows, conditions);
+        at = step(h, rows, head, ids, at, hit, out);
     }
     at
 }
 
-// Looks for a match, by all conditions.
-pub fn find_match(
+// A question: refused, or its places swept.
+pub fn ask(
+    question: Question,
     h: Header,
     rows: &[u32],
     head: SubsetHead,
     ids: &[u32],
     conditions: &[Constraint],
-    s: Sweep,
+    out: &mut [u32],
 ) -> Sweep
-    requires { ⌜ Lookable h (length (now rows)) (subsetOf head (now ids)) s ⌝ }
-    ensures { λ r. ⌜ Found (subsetOf head (now (ids .entry))) (matches h (now (rows .entry)) (now (conditions .entry))) s r ⌝ }
+    ensures { λ r. ⌜ Asked question h (now (rows .entry)) (subsetOf head (now (ids .entry))) (now (conditions .entry)) (now (out .entry)) r (now (out .exit)) ⌝ }
 {
-    let mut at = s;
-    while at.next < at.end {
-        let met = all_pass(false, h, rows, at.id, conditions);
-        at = look(h, rows, head, ids, at, met);
-    }
-    at
+    let known = all_pass(Test::Known, h, rows, conditions);
+    let begun = opening(question, h, rows.len(), head, ids, known, out.len());
+    sweep(h, rows, head, ids, conditions, begun, out)
 }

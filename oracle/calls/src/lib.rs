@@ -206,9 +206,10 @@ pub enum Answer {
         rows: u32,
     },
     Match(bool),
-    /// The ids written and the next place, if any.
+    /// The ids written, how many of those visited have a dead row, and the next place, if any.
     Page {
         ids: Vec<u32>,
+        dead: u32,
         next: Option<u32>,
     },
 }

@@ -31,7 +31,7 @@ const KINDS: [Kind; 18] = [
 ];
 
 /// Answers and turns that every full run must have seen.
-const FEATURES: [&str; 58] = [
+const FEATURES: [&str; 60] = [
     "open: sort column 0",
     "open: sort column a key column",
     "open: sort column not a key column",
@@ -87,6 +87,8 @@ const FEATURES: [&str; 58] = [
     "page: from the subset's size",
     "page: from above the subset's size",
     "page: output shorter than n",
+    "page: over dead rows",
+    "page: dead rows and failed ones",
     "intersect: range",
     "intersect: list",
     "intersect: empty list",
@@ -379,6 +381,20 @@ impl Counts {
             (Question::Intersect { .. }, _) => "intersect: list",
         };
         self.feature(name);
+        if let (
+            Question::Page {
+                subset, start, n, ..
+            },
+            Answer::Page { ids, dead, .. },
+        ) = (question, answer)
+        {
+            let visited = u64::min(*n, size(subset) as u64 - u64::from(*start));
+            match (*dead, visited - ids.len() as u64 - u64::from(*dead)) {
+                (0, _) => {}
+                (_, 0) => self.feature("page: over dead rows"),
+                _ => self.feature("page: dead rows and failed ones"),
+            }
+        }
     }
 
     /// Counts refused notes by their reasons. A note of another generation counts for that, whatever its rows.

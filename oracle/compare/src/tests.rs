@@ -59,8 +59,13 @@ impl Judge for Faulty {
             {
                 Answer::Subset(Subset::Range(0, 0))
             }
-            Answer::Page { ids, next: None } if self.fault == Fault::LateNone => Answer::Page {
+            Answer::Page {
+                ids,
+                dead,
+                next: None,
+            } if self.fault == Fault::LateNone => Answer::Page {
                 next: ids.last().map(|_| 0),
+                dead,
                 ids,
             },
             answer => answer,

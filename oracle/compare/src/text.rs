@@ -107,10 +107,10 @@ pub fn answer_line(answer: &Answer) -> String {
         Answer::Subset(subset) => line("=S", &subset_numbers(subset)),
         Answer::Version { generation, rows } => line("=V", &[*generation, *rows]),
         Answer::Match(yes) => line("=B", &[u32::from(*yes)]),
-        Answer::Page { ids, next } => {
+        Answer::Page { ids, dead, next } => {
             let next = next.map_or(vec![0], |place| vec![1, place]);
             let count = [ids.len() as u32];
-            line("=P", &[&count, ids.as_slice(), &next].concat())
+            line("=P", &[&count, ids.as_slice(), &[*dead], &next].concat())
         }
     }
 }

@@ -49,6 +49,7 @@ fn words_of(act: &Act) -> usize {
         Act::Call(_) => 0,
         Act::IsSound | Act::Ask(Question::AnyMatch { .. }) => 1,
         Act::Ask(Question::Lookup(_) | Question::Cell(..) | Question::Version) => 2,
+        Act::Ask(Question::Page { .. }) => 4,
         Act::Ask(_) => 3,
     }
 }
@@ -160,9 +161,9 @@ fn answer_words(act: &Act, answer: &Answer) -> Vec<u32> {
         Answer::Subset(Subset::Range(start, end)) => vec![1, *start, *end],
         Answer::Subset(Subset::List(ids)) => vec![2, ids.len() as u32, 0],
         Answer::Match(yes) => vec![u32::from(*yes)],
-        Answer::Page { ids, next } => {
+        Answer::Page { ids, dead, next } => {
             let (more, place) = next.map_or((0, 0), |place| (1, place));
-            vec![ids.len() as u32, more, place]
+            vec![ids.len() as u32, *dead, more, place]
         }
         _ => vec![0; words_of(act)],
     }

@@ -83,7 +83,8 @@ impl Plain {
         Answer::Match(!kept.is_empty())
     }
 
-    /// *Page*: "Visits n ids from the start place, writes the live matching ones."
+    /// *Page*: "Visits n ids from the start place, writes the live matching ones." It "shall also answer how many of the
+    /// visited ids were dead, apart from live rows that failed a condition".
     pub(crate) fn page(
         &self,
         subset: &Subset,
@@ -95,8 +96,10 @@ impl Plain {
         let visited = &ids(subset)[start..end];
         // "Next place or *none*": none if nothing remains.
         let next = (end < size(subset)).then_some(end as u32);
+        let dead = visited.iter().filter(|&&id| !self.is_live(id)).count();
         Answer::Page {
             ids: self.matching(visited, conditions),
+            dead: dead as u32,
             next,
         }
     }

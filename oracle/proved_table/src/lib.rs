@@ -350,6 +350,7 @@ fn page_over_output(
     let (heard, ids) = heard_over_output(length, ask, |page| page.written);
     answer(heard, |page| Answer::Page {
         ids,
+        dead: page.dead as u32,
         next: page.next,
     })
 }

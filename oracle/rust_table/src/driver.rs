@@ -105,6 +105,19 @@ impl RustTable {
         self.open.as_mut().expect("no table is open")
     }
 
+    /// How many of so many ids of a subset, from a place on, have a live row: the Rust visits only those.
+    fn live_from(&self, subset: &offsets::Subset, start: u32, visited: u32) -> u32 {
+        let mut live = 0;
+        self.open().table.scan_generic_bounded(
+            subset.as_ref(),
+            Offset::new(u64::from(start)),
+            visited as usize,
+            &[],
+            |_, _| live += 1,
+        );
+        live
+    }
+
     /// `Subset::retain`, which no call reaches with a test of the caller's own.
     pub fn retain(subset: &Subset, keep: &dyn Fn(u32) -> bool) -> Subset {
         let mut kept = carried(subset);
@@ -209,17 +222,21 @@ impl Judge for RustTable {
                 conditions,
                 ..
             } => {
+                let subset = carried(subset);
                 let mut ids = Vec::new();
                 let next = self.open().table.scan_generic_bounded(
-                    carried(subset).as_ref(),
+                    subset.as_ref(),
                     Offset::new(u64::from(*start)),
                     *n as usize,
                     &constraints(conditions),
                     |row, _| ids.push(row.rep()),
                 );
+                let next = next.map(|place| place.rep() as u32);
+                let visited = next.unwrap_or(subset.size() as u32) - start;
                 Answer::Page {
                     ids,
-                    next: next.map(|place| place.rep() as u32),
+                    dead: visited - self.live_from(&subset, *start, visited),
+                    next,
                 }
             }
             Question::Intersect { first, second, .. } => {

@@ -14,14 +14,14 @@ enum-known-answer-2 c = search needs
 enum-told : tie.Need-enum-told
 enum-told c = search needs
 
-write-three-requires : tie.Need-write-three-requires
-write-three-requires c κs = search needs
+write-four-requires : tie.Need-write-four-requires
+write-four-requires c κs = search needs
 
 enum-known-next : tie.Need-enum-known-next
 enum-known-next c = search needs
 
-write-three-requires-2 : tie.Need-write-three-requires-2
-write-three-requires-2 c κs = search needs
+write-four-requires-2 : tie.Need-write-four-requires-2
+write-four-requires-2 c κs = search needs
 
 returns : tie.Need-returns
 unfolding pageNumber pageWords
@@ -35,7 +35,7 @@ unfolding pageNumber placeWords pageWords
 returns-2 c =
     let w = c .before .before in
     let n = w .before .before in
-    rw (n .before .before .before .answer2 .given .1) record { numbered = refl; worded = rw (n .enum-told .given .1) (w .write-three .ensures) }
+    rw (n .before .before .before .answer2 .given .1) record { numbered = refl; worded = rw (n .enum-told .given .1) (w .write-four .ensures) }
 
 same-length-2 : tie.Need-same-length-2
 same-length-2 c = search needs
@@ -45,7 +45,7 @@ unfolding pageNumber placeWords pageWords
 returns-3 c =
     let w = c .before .before in
     let n = w .before .before .before in
-    rw (n .before .before .before .answer2 .given .1) record { numbered = refl; worded = rw (n .next .given .1) (w .write-three2 .ensures) }
+    rw (n .before .before .before .answer2 .given .1) record { numbered = refl; worded = rw (n .next .given .1) (w .write-four2 .ensures) }
 
 pub write-page-spec : {M : Type 1} → statement M
 write-page-spec =
@@ -54,9 +54,9 @@ write-page-spec =
     enum-known-answer
     enum-known-answer-2
     enum-told
-    write-three-requires
+    write-four-requires
     enum-known-next
-    write-three-requires-2
+    write-four-requires-2
     returns
     same-length
     returns-2

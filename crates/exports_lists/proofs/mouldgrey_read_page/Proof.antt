@@ -180,7 +180,7 @@ module _ {M : Type 1} (𝓤 : URA M) (H : Heap 𝓤) (A : Atoms 𝓤) (W : Given
   Asks = λ h r os. PageRead h (now x) subset place n (now y) (now o) r os
 
   abbrev Told : PageAnswer → ℕ → List ℕ → Type 0
-  Told = λ r t zs. Tells pageNumber pageWords 3 (length (now e)) r (now z) t zs
+  Told = λ r t zs. Tells pageNumber pageWords 4 (length (now e)) r (now z) t zs
 
   -- what the callees' triples bind outside
   abbrev to-ask : Header → Ask 𝓤 H A mem run .Ghost
@@ -201,7 +201,7 @@ module _ {M : Type 1} (𝓤 : URA M) (H : Heap 𝓤) (A : Atoms 𝓤) (W : Given
     asks-tell r v is-r =
         qed W (‵ (flft κ₅ q₅) ∷ ‵ OwnZ ∷ []) ∵ nothing ! $ move ! (2 ∷ 0 ∷ []) $ fjoin ! $ owned ! AT.the-row (Is AT.the-row) (EL.makes AT.the-type AT′.the-plain 𝓤 H A) r _ is-r $ fjoin ! $ owned ! usize (Is usize) (uint-makes 𝓤 H A W w64) (length (e .now)) _ (refl, roomE .0) $ fjoin ! $ nothing ! $ move ! (2 ∷ 0 ∷ []) $ join ! $ join ! $ frame ! $ done !
 
-    exits : (t : ℕ) (w : Val) (os : List ℕ) (zs : List ℕ) → Asked ((λ (r : PageAnswer). Asks (headerIn (now e)) r os)) pageNumber pageWords 3 (now e) (now z) t zs × (((length (now e) ≡ 12) × (length (now z) ≡ 3) → ⊥) → os ≡ now o) → length os ≡ length (o .now) → length zs ≡ length (z .now)
+    exits : (t : ℕ) (w : Val) (os : List ℕ) (zs : List ℕ) → Asked ((λ (r : PageAnswer). Asks (headerIn (now e)) r os)) pageNumber pageWords 4 (now e) (now z) t zs × (((length (now e) ≡ 12) × (length (now z) ≡ 4) → ⊥) → os ≡ now o) → length os ≡ length (o .now) → length zs ≡ length (z .now)
         → ent 𝓤 (⋆ 𝓤 H A (‵ (flft κ₀ q₀) ∷ ‵ (flft κ₁ q₁) ∷ ‵ (flft κ₂ q₂) ∷ ‵ (flft κ₃ q₃) ∷ ‵ (flft κ₄ q₄) ∷ (‵ (flft κ₅ q₅) ⊛ ‵ ftrue) ∷ ‵ OwnE ∷ ‵ OwnX ∷ ‵ OwnI ∷ ‵ OwnY ∷ ‵ (finally u32 (o .name) os) ∷ ‵ (finally u32 (z .name) zs) ∷ ‵ (u32 .own t (w ∷ [])) ∷ [])) (Post w)
     exits t w os zs said lo lz =
         qed W (‵ (flft κ₀ q₀) ∷ ‵ (flft κ₁ q₁) ∷ ‵ (flft κ₂ q₂) ∷ ‵ (flft κ₃ q₃) ∷ ‵ (flft κ₄ q₄) ∷ (‵ (flft κ₅ q₅) ⊛ ‵ ftrue) ∷ ‵ OwnE ∷ ‵ OwnX ∷ ‵ OwnI ∷ ‵ OwnY ∷ ‵ (finally u32 (o .name) os) ∷ ‵ (finally u32 (z .name) zs) ∷ ‵ (u32 .own t (w ∷ [])) ∷ []) ∵
@@ -217,7 +217,7 @@ module _ {M : Type 1} (𝓤 : URA M) (H : Heap 𝓤) (A : Atoms 𝓤) (W : Given
       Locals at-h at-d at-answer Γ = ‵ (froom SlL l₁₉ 0) ∷ ‵ (fdies SlL l₁₉) ∷ ‵ (froom RfL l₁₈ 0) ∷ ‵ (fdies RfL l₁₈) ∷ ‵ (froom SlL l₁₇ 0) ∷ ‵ (fdies SlL l₁₇) ∷ ‵ (froom RfL l₁₆ 0) ∷ ‵ (fdies RfL l₁₆) ∷ ‵ (froom (tyInt w64) l₁₅ 0) ∷ ‵ (fdies (tyInt w64) l₁₅) ∷ at-answer ∷ ‵ (fdies AT′.mir l₁₄) ∷ at-d ∷ ‵ (fdies DT′.mir l₁₃) ∷ at-h ∷ ‵ (fdies HT′.mir l₁₂) ∷ ‵ (fat fullShare SlZ l₁₁ 0 sz) ∷ ‵ (fdies SlZ l₁₁) ∷ ‵ (fat fullShare SlO l₁₀ 0 so) ∷ ‵ (fdies SlO l₁₀) ∷ ‵ (fat fullShare SlY l₉ 0 sy) ∷ ‵ (fdies SlY l₉) ∷ ‵ (fat fullShare (tyInt w64) l₈ 0 (vint w64 n)) ∷ ‵ (fdies (tyInt w64) l₈) ∷ ‵ (fat fullShare (tyInt w32) l₇ 0 (vint w32 place)) ∷ ‵ (fdies (tyInt w32) l₇) ∷ ‵ (fat fullShare SlI l₆ 0 si) ∷ ‵ (fdies SlI l₆) ∷ ‵ (fat fullShare (tyInt w32) l₅ 0 (vint w32 end)) ∷ ‵ (fdies (tyInt w32) l₅) ∷ ‵ (fat fullShare (tyInt w32) l₄ 0 (vint w32 start)) ∷ ‵ (fdies (tyInt w32) l₄) ∷ ‵ (fat fullShare tyBool l₃ 0 (vbool dense)) ∷ ‵ (fdies tyBool l₃) ∷ ‵ (fat fullShare SlX l₂ 0 sx) ∷ ‵ (fdies SlX l₂) ∷ ‵ (fat fullShare SlE l₁ 0 se) ∷ ‵ (fdies SlE l₁) ∷ ‵ (froom (tyInt w32) l₀ 0) ∷ ‵ (fdies (tyInt w32) l₀) ∷ Γ
 
       -- the question is answered: the answer is told, to which words is given up
-      tells-answer : (h : Header) (r : PageAnswer) (v : Val) (os : List ℕ) → Is AT.the-row r (v ∷ []) → HeaderAsked (now e) (length (now z)) 3 h → Asks h r os → length os ≡ length (o .now)
+      tells-answer : (h : Header) (r : PageAnswer) (v : Val) (os : List ℕ) → Is AT.the-row r (v ∷ []) → HeaderAsked (now e) (length (now z)) 4 h → Asks h r os → length os ≡ length (o .now)
           → Sq W (Locals (‵ (fat fullShare HT′.mir l₁₂ 0 (LL.val HT.the-type HT′.the-laws h))) (‵ (fat fullShare DT′.mir l₁₃ 0 vd)) (‵ (fat fullShare AT′.mir l₁₄ 0 v)) (‵ (flft κ₀ q₀) ∷ ‵ (flft κ₁ q₁) ∷ ‵ (flft κ₂ q₂) ∷ ‵ (flft κ₃ q₃) ∷ ‵ (flft κ₄ q₄) ∷ ‵ (flft κ₅ q₅) ∷ ‵ OwnE ∷ ‵ OwnX ∷ ‵ OwnI ∷ ‵ OwnY ∷ ‵ (finally u32 (o .name) os) ∷ ‵ OwnZ ∷ [])) (runs C Λ E mir.t-7 (atRet E Post))
       tells-answer h r v os is-r header asked lo =
           assigns ! (of-opd ! (load ! (from ! (fld ! refl (stop !))) (look-in ! 36 (sub ! 1 refl (whole !))))) (from ! (stop !)) (init ! 8 refl (tt, record { fits = roomE .0 })) $
@@ -236,7 +236,7 @@ module _ {M : Type 1} (𝓤 : URA M) (H : Heap 𝓤) (A : Atoms 𝓤) (W : Given
           keep ! (4 ∷ 5 ∷ 6 ∷ 7 ∷ 8 ∷ 1 ∷ 9 ∷ 10 ∷ 11 ∷ 12 ∷ 13 ∷ 2 ∷ 0 ∷ []) $ by ! (exits t w os (zs .1 .1 .0) ((asked-told (λ h r. Asks h r os) header asked told, λ wrong. page-kept (header .turned-away wrong) asked)) lo lz)))))))
 
       -- the header is read: the question
-      asks-it : (h : Header) → Is HT.the-row h (LL.val HT.the-type HT′.the-laws h ∷ []) → HeaderAsked (now e) (length (now z)) 3 h
+      asks-it : (h : Header) → Is HT.the-row h (LL.val HT.the-type HT′.the-laws h ∷ []) → HeaderAsked (now e) (length (now z)) 4 h
           → Sq W (Locals (‵ (fat fullShare HT′.mir l₁₂ 0 (LL.val HT.the-type HT′.the-laws h))) (‵ (froom DT′.mir l₁₃ 0)) (‵ (froom AT′.mir l₁₄ 0)) (‵ (flft κ₀ q₀) ∷ ‵ (flft κ₁ q₁) ∷ ‵ (flft κ₂ q₂) ∷ ‵ (flft κ₃ q₃) ∷ ‵ (flft κ₄ q₄) ∷ ‵ (flft κ₅ q₅) ∷ ‵ OwnE ∷ ‵ OwnX ∷ ‵ OwnI ∷ ‵ OwnY ∷ ‵ OwnO ∷ ‵ OwnZ ∷ [])) (runs C Λ E mir.t-3 (atRet E Post))
       asks-it h is-h header =
           assigns ! (agg ! (and-then ! (load ! (from ! (stop !)) (look ! 32 refl)) (and-then ! (load ! (from ! (stop !)) (look ! 30 refl)) (and-then ! (load ! (from ! (stop !)) (look ! 28 refl)) (no-more !))))) (from ! (stop !)) (init ! 12 refl (LL.lawful DT.the-type DT′.the-laws 𝓤 H A W .typed d _ is-d .0)) $
@@ -261,10 +261,10 @@ module _ {M : Type 1} (𝓤 : URA M) (H : Heap 𝓤) (A : Atoms 𝓤) (W : Given
           assigns ! (of-opd ! (load ! (from ! (fld ! refl (stop !))) (look-in ! 16 (sub ! 1 refl (whole !))))) (from ! (stop !)) (init ! 8 refl (tt, record { fits = roomZ .0 })) $
           move ! (41 ∷ []) $ fsplit ! $ move ! (1 ∷ []) $ fsplit ! $ move ! (1 ∷ []) $ fsplit ! $ drop ! $ fsplit ! $ drop ! $ fsplit ! $ drop ! $ fsplit ! $ move ! (1 ∷ []) $ fsplit ! $ drop ! $ fsplit ! $ drop ! $ fsplit ! $ move ! (1 ∷ []) $ fsplit ! $ move ! (1 ∷ []) $ fsplit ! $ move ! (1 ∷ []) $
           move ! (47 ∷ []) $ split ! $ move ! (1 ∷ []) $ split ! $ move ! (1 ∷ []) $ split ! $ move ! (1 ∷ []) $ split ! $ move ! (1 ∷ []) $ split ! $ move ! (1 ∷ []) $ split ! $ move ! (1 ∷ []) $
-          move ! (13 ∷ []) $ use1 W (‵ OwnE ⊛ ‵ OwnE) (shr-slice-copy 𝓤 H A W (named 0) κ₀ u32 .twice e (se ∷ [])) $ split ! $ move ! (8 ∷ 0 ∷ []) $ group ! 2 $ use1 W (raw (Hdr 𝓤 H A mem run .pre (to-header 𝓤 H A W mem run κ₀ q₀ e (length (z .now)) 3))) (asks-header 𝓤 H A W mem run κ₀ q₀ e (length (z .now)) 3 (refl, roomZ .0) (refl, lit< tt)) $
-          calls-at ! fm (Hdr 𝓤 H A mem run) known-header (to-header 𝓤 H A W mem run κ₀ q₀ e (length (z .now)) 3) (and-then ! (load ! (from ! (stop !)) (look ! 50 refl)) (and-then ! (load ! (from ! (stop !)) (look ! 22 refl)) (and-then ! (lit ! tt) (no-more !)))) (λ v.
-          use1 W (later (some (λ (h : Header). ((‵ (flft κ₀ q₀) ⊛ ‵ ftrue) ⊛ ‵ (HT.the-row .own h (v ∷ []))) ⊛ raw (ensured 𝓤 H A hdr.ended (hdr.clauses 𝓤 H A mem run) (κ₀, tt) (to-header 𝓤 H A W mem run κ₀ q₀ e (length (z .now)) 3 .0 .3) tt h)))) (id⊢ 𝓤 _) $ await ! tt $ pick ! (λ h.
-          split ! $ move ! (1 ∷ []) $ use1 W (raw (fact 𝓤 (HeaderAsked (now e) (length (z .now)) 3 h))) (said-header 𝓤 H A W mem run κ₀ q₀ e (length (z .now)) 3 h) $ heard ! (HeaderAsked (now e) (length (z .now)) 3 h) (λ header. split ! $ move ! (1 ∷ []) $ facts ! HT.the-row (Is HT.the-row) (shows 𝓤 H A HT.the-row) h (v ∷ []) (λ is.
+          move ! (13 ∷ []) $ use1 W (‵ OwnE ⊛ ‵ OwnE) (shr-slice-copy 𝓤 H A W (named 0) κ₀ u32 .twice e (se ∷ [])) $ split ! $ move ! (8 ∷ 0 ∷ []) $ group ! 2 $ use1 W (raw (Hdr 𝓤 H A mem run .pre (to-header 𝓤 H A W mem run κ₀ q₀ e (length (z .now)) 4))) (asks-header 𝓤 H A W mem run κ₀ q₀ e (length (z .now)) 4 (refl, roomZ .0) (refl, lit< tt)) $
+          calls-at ! fm (Hdr 𝓤 H A mem run) known-header (to-header 𝓤 H A W mem run κ₀ q₀ e (length (z .now)) 4) (and-then ! (load ! (from ! (stop !)) (look ! 50 refl)) (and-then ! (load ! (from ! (stop !)) (look ! 22 refl)) (and-then ! (lit ! tt) (no-more !)))) (λ v.
+          use1 W (later (some (λ (h : Header). ((‵ (flft κ₀ q₀) ⊛ ‵ ftrue) ⊛ ‵ (HT.the-row .own h (v ∷ []))) ⊛ raw (ensured 𝓤 H A hdr.ended (hdr.clauses 𝓤 H A mem run) (κ₀, tt) (to-header 𝓤 H A W mem run κ₀ q₀ e (length (z .now)) 4 .0 .3) tt h)))) (id⊢ 𝓤 _) $ await ! tt $ pick ! (λ h.
+          split ! $ move ! (1 ∷ []) $ use1 W (raw (fact 𝓤 (HeaderAsked (now e) (length (z .now)) 4 h))) (said-header 𝓤 H A W mem run κ₀ q₀ e (length (z .now)) 4 h) $ heard ! (HeaderAsked (now e) (length (z .now)) 4 h) (λ header. split ! $ move ! (1 ∷ []) $ facts ! HT.the-row (Is HT.the-row) (shows 𝓤 H A HT.the-row) h (v ∷ []) (λ is.
           let tells = LL.tells HT.the-type HT′.the-laws h _ is in
           land ! (from ! (stop !)) (init ! 28 refl (LL.lawful HT.the-type HT′.the-laws 𝓤 H A W .typed h _ is .0)) $ rewrite ! 28 (λ (u : Val). ‵ (fat fullShare HT′.mir l₁₂ 0 u)) (ap only tells) refl $
           forget ! 22 refl $ split ! $

@@ -33,10 +33,11 @@ page-said (PageRefused n) (PageRefused m) e = cc
 page-said (PageRefused n) (Paged q) e = cc
 page-said (Paged p) (PageRefused m) e = cc
 page-said (Paged p) (Paged q) e =
-    let told : _≡_ {A = PageTold} (record { written = p .written; next = nextSays (p .next) }) (record { written = q .written; next = nextSays (q .next) }) = cc in
+    let told : _≡_ {A = PageTold} (record { written = p .written; dead = p .dead; next = nextSays (p .next) }) (record { written = q .written; dead = q .dead; next = nextSays (q .next) }) = cc in
     let written : p .written ≡ q .written = ap (λ (t : PageTold). t .written) told in
+    let dead : p .dead ≡ q .dead = ap (λ (t : PageTold). t .dead) told in
     let next : p .next ≡ q .next = next-said (p .next) (q .next) (ap (λ (t : PageTold). t .next) told) in
-    λ i. Paged (record { written = written i; next = next i })
+    λ i. Paged (record { written = written i; dead = dead i; next = next i })
 
 match-said : (a b : MatchAnswer) → matchSays a ≡ matchSays b → a ≡ b
 unfolding matchSays

@@ -1,4 +1,4 @@
--- `offsets::fill_from_dense` meets its contract. Assumes nothing.
+-- `retain::fill_from_dense` meets its contract. Assumes nothing.
 use Prim.Native.Nat.{_-_}
 use borrow.Author.Needs.{needs}
 use Rattle.retain.proofs.Grow.{Filled, filled-begin, filled-more, filled-end}
@@ -6,19 +6,19 @@ use Rattle.retain.proofs.fill_from_dense.Statement.{statement}
 use Rattle.retain.proofs.fill_from_dense.Tie as tie
 
 abbrev Inv-loop : tie.InvT-loop
-Inv-loop output₀ start end id₀ output id = Filled output₀ output start end id
+Inv-loop output₀ start count i₀ output i = Filled output₀ output start count i
 
 abbrev μ-loop : tie.MeasureT-loop
-μ-loop output₀ start end id₀ output id = end - id
+μ-loop output₀ start count i₀ output i = count - i
 
 loop-holds : tie.Need-loop-holds Inv-loop μ-loop
-loop-holds c = filled-begin _ _ _ (c .pre .0)
-
-sub-at : tie.Need-sub-at Inv-loop μ-loop
-sub-at c = search needs
+loop-holds c = filled-begin _ _ _
 
 cast-at : tie.Need-cast-at Inv-loop μ-loop
 cast-at c = search needs
+
+add-output : tie.Need-add-output Inv-loop μ-loop
+add-output c = search needs
 
 mul-output : tie.Need-mul-output Inv-loop μ-loop
 mul-output c = search needs
@@ -26,8 +26,8 @@ mul-output c = search needs
 slice-write-output : tie.Need-slice-write-output Inv-loop μ-loop
 slice-write-output c = search needs
 
-add-id : tie.Need-add-id Inv-loop μ-loop
-add-id c = search needs
+add-i : tie.Need-add-i Inv-loop μ-loop
+add-i c = search needs
 
 loop-less : tie.Need-loop-less Inv-loop μ-loop
 loop-less c = search needs
@@ -48,11 +48,11 @@ fill-from-dense-spec =
     Inv-loop
     μ-loop
     loop-holds
-    sub-at
     cast-at
+    add-output
     mul-output
     slice-write-output
-    add-id
+    add-i
     loop-less
     loop-again
     same-length

@@ -2,7 +2,7 @@
 -- Nothing is written while it is a range. Assumes nothing.
 use Prim.Native.Nat.{ℕ, _+_, _-_, _≤_, _<_}
 use mathlib.Core.Path.{_≡_}
-use mathlib.Core.Bool.{true, false}
+use mathlib.Core.Bool.{true}
 use mathlib.Core.List.{List, [], _∷_, _++_}
 use lib.ListN.{length, getD}
 use Rattle.lists.specs.Lists.{countFrom, rising}
@@ -13,30 +13,34 @@ use Rattle.offsets.specs.Subsets.{shaped}
 use Rattle.offsets.specs.Answers.{Answered}
 use Rattle.offsets.specs.inner.Writing.{Wrote}
 
+-- one more id is kept, and all are written
+unfoldable pub pushed : Growing → Growing
+pushed g = record { start = g .start; count = g .count + 1; written = g .count + 1 }
+
 -- still a range: 0..0 where nothing is kept
 pub record AsRange (output₀ output : List ℕ) (g : Growing) (kept : List ℕ) : Type 0 where
-  pub order : g .start ≤ g .end
-  pub none : g .start ≡ g .end → g .start ≡ 0
-  pub ids : kept ≡ countFrom (g .start) (g .end - g .start)
+  pub ids : kept ≡ countFrom (g .start) (g .count)
+  pub none : g .count ≡ 0 → g .start ≡ 0
+  pub fits : g .start + g .count < 4294967296
   pub unwritten : output ≡ output₀
 
 -- a list, since the kept ids are not all neighbours
 pub record AsList (output₀ output : List ℕ) (g : Growing) (kept : List ℕ) : Type 0 where
-  pub wrote : Wrote output₀ kept (g .count) output
-  pub some : 0 < length kept
+  pub wrote : Wrote output₀ kept (g .written) output
   pub gap : getD kept 0 0 + length kept ≤ getD kept (length kept - 1) 0
 
 -- `kept` are the ids so far, `output₀` is the output before the first
 pub record Grows (output₀ output : List ℕ) (g : Growing) (kept : List ℕ) : Type 0 where
   pub up : rising kept ≡ true
   pub same : length output ≡ length output₀
-  pub as-range : g .dense ≡ true → AsRange output₀ output g kept
-  pub as-list : g .dense ≡ false → AsList output₀ output g kept
+  pub number : g .count ≡ length kept
+  pub as-range : g .written ≡ 0 → AsRange output₀ output g kept
+  pub as-list : (g .written ≡ 0 → ⊥) → AsList output₀ output g kept
 
--- an id that may come next: above those kept, with room for it, and not the largest u32
+-- an id that may come next: above those kept, with room for it if it is not the first, and not the largest u32
 pub record NextId (output₀ kept : List ℕ) (id : ℕ) : Type 0 where
   pub up : rising (kept ++ (id ∷ [])) ≡ true
-  pub room : length kept < length output₀
+  pub room : 0 < length kept → length kept < length output₀
   pub small : id < 4294967295
 
 -- what adding an id asks: that it may come next, whatever was kept
@@ -48,16 +52,14 @@ pub record CanAdd (output : List ℕ) (g : Growing) (id : ℕ) : Type 0 where
 
 -- and does
 pub record Adds (output : List ℕ) (g : Growing) (id : ℕ) (g′ : Growing) (output′ : List ℕ) : Type 0 where
+  pub one-more : g′ .count ≡ g .count + 1
   pub adds : (output₀ kept : List ℕ) → Grows output₀ output g kept → NextId output₀ kept id → Grows output₀ output′ g′ (kept ++ (id ∷ []))
 
 -- the first state
 pub record Begins (g : Growing) : Type 0 where
+  pub nothing : g .count ≡ 0
   pub begins : (output : List ℕ) → Grows output output g []
 
 -- the answer at the end
 pub record Ends (g : Growing) (r : SubsetAnswer) : Type 0 where
   pub ends : (output₀ output kept : List ℕ) → Grows output₀ output g kept → Answered (accepted (shaped kept)) output₀ r output
-
--- an id written after those that were: the step of `retain` over a list
-pub record Pushes (output : List ℕ) (count id count′ : ℕ) (output′ : List ℕ) : Type 0 where
-  pub pushes : (output₀ kept : List ℕ) → length kept < length output₀ → Wrote output₀ kept count output → Wrote output₀ (kept ++ (id ∷ [])) count′ output′

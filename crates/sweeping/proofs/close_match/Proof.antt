@@ -1,4 +1,4 @@
--- `queries::sweeping::close_match` meets its contract. Assumes nothing.
+-- `sweeping::close_match` meets its contract. Assumes nothing.
 use Rattle.sweeping.proofs.MatchSteps.{match-refused, match-told}
 use Rattle.sweeping.proofs.close_match.Statement.{statement}
 use Rattle.sweeping.proofs.close_match.Tie as tie

@@ -1,4 +1,4 @@
--- `queries::sweeping::close_page` meets its contract. Assumes nothing.
+-- `sweeping::close_page` meets its contract. Assumes nothing.
 use borrow.Author.Needs.{needs}
 use Rattle.sweeping.proofs.PageSteps.{page-refused, page-written}
 use Rattle.sweeping.proofs.close_page.Statement.{statement}
@@ -8,10 +8,10 @@ returns : tie.Need-returns
 returns c = page-refused _ _ _ (c .if1 .taken)
 
 next-place-requires : tie.Need-next-place-requires
-next-place-requires c κs = c .before .before .before .before .pre (c .if1 .left) .small
+next-place-requires c κs = search needs
 
 write-found-requires : tie.Need-write-found-requires
-write-found-requires c κs = c .before .before .before .before .before .before .pre (c .before .before .if1 .left) .can-write
+write-found-requires c κs = c .before .before .before .before .before .before .pre (c .before .before .if1 .left)
 
 same-length : tie.Need-same-length
 same-length c = search needs

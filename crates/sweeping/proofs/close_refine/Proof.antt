@@ -1,4 +1,4 @@
--- `queries::sweeping::close_refine` meets its contract. Assumes nothing.
+-- `sweeping::close_refine` meets its contract. Assumes nothing.
 use mathlib.Core.Path.{sym, _∙_}
 use borrow.Author.Needs.{needs}
 use Rattle.sweeping.proofs.AnswerSteps.{closed-refused, closed-whole, closed-list}
@@ -9,7 +9,7 @@ returns : tie.Need-returns
 returns c = closed-refused _ _ _ (c .if1 .taken)
 
 is-whole-requires : tie.Need-is-whole-requires
-is-whole-requires c κs = let p = c .before .before .before .pre (c .if1 .left) in (p .order, p .found-order)
+is-whole-requires c κs = c .before .before .before .pre (c .if1 .left) .order
 
 returns-2 : tie.Need-returns-2
 returns-2 c = closed-whole _ _ _ (c .before .before .if1 .left) (sym (c .before .is-whole .ensures) ∙ c .if2 .taken)

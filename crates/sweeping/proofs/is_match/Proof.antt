@@ -1,20 +1,22 @@
--- `queries::sweeping::is_match` meets its contract. Assumes nothing.
-use borrow.Author.Needs.{needs}
+-- `sweeping::is_match` meets its contract. Assumes nothing.
+use mathlib.Core.Path.{sym, _∙_}
 use borrow.Author.Tests.{not-true, not-false}
-use Rattle.lists.specs.Lists.{rowAt}
-use Rattle.constraints.specs.Constraints.{isLive}
-use Rattle.sweeping.proofs.MatchSteps.{match-unmet, match-live}
+use borrow.Author.Needs.{needs}
+use Rattle.sweeping.proofs.SweepSteps.{match-unmet, match-met}
 use Rattle.sweeping.proofs.is_match.Statement.{statement}
 use Rattle.sweeping.proofs.is_match.Tie as tie
 
+is-met-at-requires : tie.Need-is-met-at-requires
+is-met-at-requires c κs = search needs
+
 returns : tie.Need-returns
-returns c = let a = c .before .before .args in match-unmet (isLive (rowAt (a .h .columns) (a .id) (a .rows .now))) (a .meets) (not-true _ (c .if1 .taken))
+returns c = match-unmet _ _ _ _ (sym (c .before .is-met-at .ensures) ∙ not-true _ (c .if1 .taken))
 
 is-live-at-requires : tie.Need-is-live-at-requires
 is-live-at-requires c κs = search needs
 
 returns-2 : tie.Need-returns-2
-returns-2 c = let a = c .before .before .before .args in match-live (isLive (rowAt (a .h .columns) (a .id) (a .rows .now))) (a .meets) (not-false _ (c .before .if1 .left)) _ (c .is-live-at .ensures)
+returns-2 c = match-met _ _ _ _ _ (sym (c .before .before .is-met-at .ensures) ∙ not-false _ (c .before .if1 .left)) (c .is-live-at .ensures)
 
 pub is-match-spec : {M : Type 1} → statement M
-is-match-spec = tie.close (tie.spec returns is-live-at-requires returns-2)
+is-match-spec = tie.close (tie.spec is-met-at-requires returns is-live-at-requires returns-2)

@@ -1,4 +1,4 @@
--- `queries::sweeping::next_place` meets its contract. Assumes nothing.
+-- `sweeping::next_place` meets its contract. Assumes nothing.
 use native.Mathlib.Omega.{arith}
 use borrow.Author.Needs.{needs}
 use Rattle.sweeping.proofs.PageSteps.{next-some, next-none}
@@ -8,9 +8,6 @@ use Rattle.sweeping.proofs.next_place.Tie as tie
 size-requires : tie.Need-size-requires
 size-requires c κs = search needs
 
-cast-t6 : tie.Need-cast-t6
-cast-t6 c = search needs
-
 returns : tie.Need-returns
 returns c = next-some _ _ (omega (arith, c .before .size .ensures, c .if1 .taken))
 
@@ -18,4 +15,4 @@ returns-2 : tie.Need-returns-2
 returns-2 c = next-none _ _ (omega (arith, c .before .size .ensures, c .if1 .left))
 
 pub next-place-spec : {M : Type 1} → statement M
-next-place-spec = tie.close (tie.spec size-requires cast-t6 returns returns-2)
+next-place-spec = tie.close (tie.spec size-requires returns returns-2)

@@ -1,55 +1,52 @@
--- `queries::sweeping::open_page` meets its contract. Assumes nothing.
+-- `sweeping::open_page` meets its contract. Assumes nothing.
 use native.Mathlib.Omega.{arith}
 use borrow.Author.Needs.{needs}
-use Rattle.sweeping.proofs.PageSteps.{page-stopped, page-begun}
+use Rattle.sweeping.proofs.SweepSteps.{size-few}
+use Rattle.sweeping.proofs.AnswerSteps.{page-stopped, page-opened}
 use Rattle.sweeping.proofs.open_page.Statement.{statement}
 use Rattle.sweeping.proofs.open_page.Tie as tie
 
 page-refusal-requires : tie.Need-page-refusal-requires
 page-refusal-requires c κs = search needs
 
-empty-requires : tie.Need-empty-requires
-empty-requires c κs = search needs
-
 at-place-requires : tie.Need-at-place-requires
 at-place-requires c κs = search needs
 
 returns : tie.Need-returns
-returns c = page-stopped _ _ _ _ _ _ _ _ _ (c .before .before .before .page-refusal .ensures) (c .before .empty .ensures) _ (c .before .before .if1 .taken) (c .at-place .ensures)
+returns c = page-stopped _ _ _ _ _ _ _ _ _ (c .before .before .page-refusal .ensures) (c .before .if1 .taken) (c .at-place .ensures)
 
 size-requires : tie.Need-size-requires
 size-requires c κs = search needs
 
-sub-smaller : tie.Need-sub-smaller
-sub-smaller c = let l = c .before .before .page-refusal .ensures .within (c .before .if1 .left) in omega (arith, c .size .ensures)
+sub-left : tie.Need-sub-left
+sub-left c = omega (arith, c .size .ensures, c .before .before .page-refusal .ensures .within (c .before .if1 .left))
 
 smaller-requires : tie.Need-smaller-requires
 smaller-requires c κs = search needs
 
-add-end : tie.Need-add-end
-add-end c = search needs
+cast-places : tie.Need-cast-places
+cast-places c = omega (arith, c .smaller .ensures, c .before .size .ensures, size-few _ _ _ (c .before .before .before .page-refusal .ensures .askable (c .before .before .if1 .left)))
 
-empty-requires-2 : tie.Need-empty-requires-2
-empty-requires-2 c κs = search needs
+add-at-place : tie.Need-add-at-place
+add-at-place c = let r = c .before .before .before .page-refusal .ensures in omega (arith, c .smaller .ensures, c .before .size .ensures, size-few _ _ _ (r .askable (c .before .before .if1 .left)), r .within (c .before .before .if1 .left))
 
 at-place-requires-2 : tie.Need-at-place-requires-2
-at-place-requires-2 c κs = let l = c .before .before .before .before .page-refusal .ensures .within (c .before .before .before .if1 .left) in omega (arith, c .before .before .size .ensures, c .before .smaller .ensures)
+at-place-requires-2 c κs = omega (arith, c .smaller .ensures, c .before .size .ensures, c .before .before .before .page-refusal .ensures .within (c .before .before .if1 .left))
 
 returns-2 : tie.Need-returns-2
-returns-2 c = page-begun _ _ _ _ _ _ _ _ _ (c .before .before .before .before .before .page-refusal .ensures) (c .before .empty2 .ensures) _ (c .before .before .before .before .if1 .left) (rw (c .before .before .smaller .ensures, c .before .before .before .size .ensures) at (c .at-place2 .ensures))
+returns-2 c = page-opened _ _ _ _ _ _ _ _ _ (c .before .before .before .before .page-refusal .ensures) (c .before .before .before .if1 .left) (rw (c .before .smaller .ensures, c .before .before .size .ensures) at (c .at-place2 .ensures))
 
 pub open-page-spec : {M : Type 1} → statement M
 open-page-spec =
     tie.close
     (tie.spec
     page-refusal-requires
-    empty-requires
     at-place-requires
     returns
     size-requires
-    sub-smaller
+    sub-left
     smaller-requires
-    add-end
-    empty-requires-2
+    cast-places
+    add-at-place
     at-place-requires-2
     returns-2)

@@ -1,31 +1,44 @@
--- `queries::sweeping::step` meets its contract. Assumes nothing.
-use mathlib.Core.Path.{_∙_}
+-- `sweeping::step` meets its contract. Assumes nothing.
 use native.Mathlib.Omega.{arith}
+use borrow.Author.Tests.{not-true, not-false}
 use borrow.Author.Needs.{needs}
-use Rattle.sweeping.proofs.SweepSteps.{next-lies, next-add, steps-of}
+use Rattle.sweeping.proofs.SweepSteps.{dead-at-most, steps-miss, steps-hit, keeps-moves}
 use Rattle.sweeping.proofs.step.Statement.{statement}
 use Rattle.sweeping.proofs.step.Tie as tie
 
-keep-row-requires : tie.Need-keep-row-requires
-keep-row-requires c κs =
-    let a = c .before .before .before .before .args in
-    let p = c .before .before .before .before .pre in (
-      next-lies (a .h) (a .rows .now) _ _ _ _ (p .sweepable) _ _ (p .swept) (p .more),
-      λ e. next-add (a .h) (a .rows .now) _ _ _ _ (p .sweepable) _ _ (p .swept) (p .more) (p .decides ∙ e),
-    )
+dead-at-requires : tie.Need-dead-at-requires
+dead-at-requires c κs = search needs
 
-add-at-place : tie.Need-add-at-place
-add-at-place c = search needs
+add-n : tie.Need-add-n
+add-n c = let a = c .before .before .before .before .before .args in omega (arith, c .before .before .before .before .before .pre .few, c .before .dead-at .ensures, dead-at-most (a .h) (a .rows .now) (a .s .id))
 
-at-place-requires : tie.Need-at-place-requires
-at-place-requires c κs = let p = c .before .before .before .before .before .before .before .before .pre in omega (arith, p .sweepable .within, p .swept .end-is)
+move-on-requires : tie.Need-move-on-requires
+move-on-requires c κs = search needs
+
+returns : tie.Need-returns
+returns c = steps-miss _ _ _ _ _ _ (c .before .before .before .dead-at .ensures) _ (not-true _ (c .before .if1 .taken)) _ (c .move-on .ensures)
+
+keep-id-requires : tie.Need-keep-id-requires
+keep-id-requires c κs = let p = c .before .before .before .before .before .before .before .pre in (p .can-move .more, p .can-add (not-false _ (c .before .if1 .left)))
+
+move-on-requires-2 : tie.Need-move-on-requires-2
+move-on-requires-2 c κs = let p = c .before .before .before .before .before .before .before .before .before .before .pre .can-move in keeps-moves _ _ _ _ _ (p .more) (p .within) (c .before .before .keep-id .ensures)
 
 same-length : tie.Need-same-length
 same-length c = search needs
 
-returns : tie.Need-returns
-returns c = steps-of _ _ _ _ _ _ _ _ _ (c .before .before .before .before .before .before .before .before .before .pre .more) (c .before .before .before .before .keep-row .ensures) (c .at-place .ensures)
+returns-2 : tie.Need-returns-2
+returns-2 c = steps-hit _ _ _ _ _ _ (c .before .before .before .before .before .before .before .dead-at .ensures) _ (not-false _ (c .before .before .before .before .before .if1 .left)) _ _ _ (c .before .before .before .keep-id .ensures) (c .move-on2 .ensures)
 
 pub step-spec : {M : Type 1} → statement M
 step-spec =
-    tie.close (tie.spec keep-row-requires add-at-place at-place-requires same-length returns)
+    tie.close
+    (tie.spec
+    dead-at-requires
+    add-n
+    move-on-requires
+    returns
+    keep-id-requires
+    move-on-requires-2
+    same-length
+    returns-2)

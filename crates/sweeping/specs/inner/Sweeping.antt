@@ -1,12 +1,13 @@
--- A sweep over places of a subset, one row after another, with the ids kept so far. Assumes nothing.
-use Prim.Native.Nat.{ℕ, _+_, _-_, _*_, _≤_, _<_, min}
+-- A sweep over places of a subset, one row after another: what it tests, visits, keeps and counts, and what the questions
+-- make of it. Assumes nothing.
+use Prim.Native.Nat.{ℕ, zero, suc, _+_, _-_, _*_, _≤_, _<_, min}
 use mathlib.Core.Path.{_≡_}
-use mathlib.Core.Bool.{Bool, true, false, cond, _&&_, _||_}
+use mathlib.Core.Bool.{Bool, true, false, cond, not, _&&_}
 use mathlib.Core.Option.{Option, none, some}
-use mathlib.Core.List.{List}
+use mathlib.Core.List.{List, [], _∷_, _++_}
 use lib.Dec.{ltb, eqb}
-use lib.ListN.{length, drop, getD}
-use Rattle.lists.specs.Lists.{putAt, keep, every, any, rowAt}
+use lib.ListN.{length, getD}
+use Rattle.lists.specs.Lists.{putAt, keep, every, rowAt}
 use Rattle.refusals.specs.Refusals.{accepted}
 use Rattle.retain.specs.declared.Growing.{Growing}
 use Rattle.offsets.specs.declared.SubsetAnswer.{SubsetAnswer}
@@ -15,89 +16,197 @@ use Rattle.offsets.specs.declared.SubsetHead.{SubsetHead}
 use Rattle.offsets.specs.Subsets.{Subset, wellFormed, members, size, narrowed}
 use Rattle.offsets.specs.Answers.{subsetOf, Answered}
 use Rattle.offsets.specs.inner.Writing.{Wrote}
-use Rattle.retain.specs.inner.Growing.{Grows, Begins, Adds}
+use Rattle.retain.specs.inner.Growing.{Grows, CanAdd, Adds, Begins}
 use Rattle.constraints.specs.declared.Constraint.{Constraint}
 use Rattle.constraints.specs.Constraints.{known, met, isLive}
 use Rattle.table.specs.declared.Header.{Header}
 use Rattle.queries.specs.declared.MatchAnswer.{MatchAnswer}
-use Rattle.queries.specs.declared.MatchAnswer.the-variants.{Refused as MatchIsRefused, Match}
+use Rattle.queries.specs.declared.MatchAnswer.the-variants.{Refused as MatchIsRefused, Match as Matches}
 use Rattle.queries.specs.declared.PageAnswer.{PageAnswer}
 use Rattle.queries.specs.declared.NextPlace.{NextPlace}
 use Rattle.queries.specs.declared.NextPlace.the-variants.{None as NoPlace, At}
 use Rattle.queries.specs.declared.PageAnswer.the-variants.{Refused as PageIsRefused, Page as Paged}
 use Rattle.sweeping.specs.declared.Sweep.{Sweep}
-use Rattle.queries.specs.Queries.{refineRefusal, matchRefusal, pageRefusal, visited}
+use Rattle.sweeping.specs.declared.Test.{Test}
+use Rattle.sweeping.specs.declared.Test.the-variants.{Known, Row}
+use Rattle.sweeping.specs.declared.Question.{Question}
+use Rattle.sweeping.specs.declared.Question.the-variants.{Refine, Match, Page}
+use Rattle.queries.specs.Queries.{refineRefusal, matchRefusal, pageRefusal, matches, deadAmong, visited}
 use Rattle.queries.specs.inner.Tests.{Askable}
+
+-- ---- tests of a list of conditions
 
 -- a row lies in the store
 abbrev pub RowLies : Header → ℕ → ℕ → Type 0
 RowLies h rows id = id * h .columns + h .columns ≤ rows
 
--- a condition is known, if that is asked, else the row's cells meet it
-unfoldable pub passes : Bool → Header → List ℕ → ℕ → Constraint → Bool
-passes asked h rows id c = cond asked (known (h .columns) c) (met (rowAt (h .columns) id rows) c)
+abbrev pub RowNeeded : Test → Header → ℕ → Type 0
+RowNeeded Known h rows = Unit {0}
+RowNeeded (Row id) h rows = RowLies h rows id
 
--- a row is read where that is not asked
-abbrev pub RowNeeded : Bool → Header → ℕ → ℕ → Type 0
-RowNeeded asked h rows id = asked ≡ false → RowLies h rows id
+-- before any condition: a row must be live
+unfoldable pub starts : Test → Header → List ℕ → Bool
+starts Known h rows = true
+starts (Row id) h rows = isLive (rowAt (h .columns) id rows)
 
--- a sweep at a place, if it has not come to its end
-pub record Placed (subset : Subset) (refused next end : ℕ) (found : Growing) (s : Sweep) : Type 0 where
+-- a condition is known, or the row's cells meet it
+unfoldable pub passes : Test → Header → List ℕ → Constraint → Bool
+passes Known h rows c = known (h .columns) c
+passes (Row id) h rows c = met (rowAt (h .columns) id rows) c
+
+-- all conditions are known, or the row is live and meets them
+unfoldable pub allPass : Test → Header → List ℕ → List Constraint → Bool
+allPass test h rows conditions = starts test h rows && every (passes test h rows) conditions
+
+-- ---- what is visited
+
+-- the ids up to and including the nth that passes a test, all if there are fewer
+unfoldable pub upTo : ℕ → (ℕ → Bool) → List ℕ → List ℕ
+upTo zero test ids = []
+upTo (suc n) test [] = []
+upTo (suc n) test (x ∷ xs) = x ∷ cond (test x) (upTo n test xs) (upTo (suc n) test xs)
+
+-- a refinement visits every member, any match the members up to and including the first that matches, a page n from its
+-- start place on
+unfoldable pub visits : Question → (ℕ → Bool) → Subset → List ℕ
+visits Refine test subset = members subset
+visits Match test subset = upTo 1 test (members subset)
+visits (Page start n) test subset = visited subset start n
+
+unfoldable pub firstPlace : Question → ℕ
+firstPlace Refine = 0
+firstPlace Match = 0
+firstPlace (Page start n) = start
+
+-- for how many ids the output has room
+unfoldable pub roomFor : Question → Subset → ℕ
+roomFor Refine subset = size subset
+roomFor Match subset = 0
+roomFor (Page start n) subset = min n (size subset - start)
+
+unfoldable pub refusalOf : Question → Header → ℕ → Subset → List Constraint → ℕ → ℕ
+refusalOf Refine h rows subset conditions output = refineRefusal h rows subset conditions output
+refusalOf Match h rows subset conditions output = matchRefusal h rows subset conditions
+refusalOf (Page start n) h rows subset conditions output = pageRefusal h rows subset start n conditions output
+
+-- ---- a sweep
+
+-- the ids that it has before it
+unfoldable pub places : Subset → Sweep → List ℕ
+places subset s = visited subset (s .next) (s .end - s .next)
+
+-- the ids that a sweep which began as s₀ has visited
+unfoldable pub done : Subset → Sweep → Sweep → List ℕ
+done subset s₀ s = visited subset (s₀ .next) (s .next - s₀ .next)
+
+-- a sweep that begins at a place
+pub record Placed (subset : Subset) (refused next end most : ℕ) (s : Sweep) : Type 0 where
   pub refused-is : s .refused ≡ refused
   pub next-is : s .next ≡ next
   pub end-is : s .end ≡ end
-  pub found-is : s .found ≡ found
-  pub id-is : next < end → s .id ≡ getD (members subset) next 0
+  pub most-is : s .most ≡ most
+  pub none-dead : s .dead ≡ 0
+  pub none-found : Begins (s .found)
+  pub id-is : s .next < s .end → s .id ≡ getD (members subset) (s .next) 0
 
--- a sweep that may begin: it has room for each id of its places
+-- a sweep that may begin: it wants an id, and has room for each that it may keep, but for the first, which it may keep
+-- without writing it
 pub record Sweepable (h : Header) (rows : ℕ) (subset : Subset) (s : Sweep) (output : List ℕ) : Type 0 where
   pub askable : s .next < s .end → Askable h rows subset
   pub order : s .next ≤ s .end
   pub within : s .end ≤ size subset
-  pub room : s .end - s .next ≤ length output
+  pub wants : s .next < s .end → 0 < s .most
+  pub room : 1 < s .most → s .end - s .next ≤ length output
   pub id-is : s .next < s .end → s .id ≡ getD (members subset) (s .next) 0
-  pub found-none : Begins (s .found)
+  pub none-dead : s .dead ≡ 0
+  pub none-found : Begins (s .found)
 
--- a sweep that began as s₀ on output₀ has kept the ids that pass a test, from the first place to the next
-pub record Swept (subset : Subset) (test : ℕ → Bool) (s₀ : Sweep) (output₀ : List ℕ) (s : Sweep) (output : List ℕ) : Type 0 where
+-- a sweep that began as s₀ on output₀: of the ids visited so far it has kept those that pass a test, and counted those
+-- whose rows are dead
+pub record Swept (h : Header) (rows : List ℕ) (subset : Subset) (test : ℕ → Bool) (s₀ : Sweep) (output₀ : List ℕ) (s : Sweep) (output : List ℕ) : Type 0 where
   pub refused-is : s .refused ≡ s₀ .refused
-  pub end-is : s .end ≡ s₀ .end
+  pub most-is : s .most ≡ s₀ .most
   pub from : s₀ .next ≤ s .next
   pub upto : s .next ≤ s .end
+  pub within : s .end ≤ s₀ .end
+  pub wants : s .next < s .end → s .found .count < s .most
   pub id-is : s .next < s .end → s .id ≡ getD (members subset) (s .next) 0
-  pub grows : Grows output₀ output (s .found) (keep test (visited subset (s₀ .next) (s .next - s₀ .next)))
+  pub visits-is : upTo (s₀ .most) test (places subset s₀) ≡ done subset s₀ s ++ upTo (s .most - s .found .count) test (places subset s)
+  pub grows : Grows output₀ output (s .found) (keep test (done subset s₀ s))
+  pub dead-is : s .dead ≡ deadAmong h rows (done subset s₀ s)
 
--- the ids kept, once the row at the next place is tested: its id is added where it is live and meets the conditions
-pub record KeepsRow (h : Header) (rows : List ℕ) (s : Sweep) (meets : Bool) (output : List ℕ) (g : Growing) (output′ : List ℕ) : Type 0 where
-  pub passed : (isLive (rowAt (h .columns) (s .id) rows) && meets) ≡ true → Adds output (s .found) (s .id) g output′
-  pub failed : (isLive (rowAt (h .columns) (s .id) rows) && meets) ≡ false → (g ≡ s .found) × (output′ ≡ output)
+-- an id is kept; with as many as are wanted the sweep ends
+pub record Keeps (s : Sweep) (output : List ℕ) (s′ : Sweep) (output′ : List ℕ) : Type 0 where
+  pub refused-is : s′ .refused ≡ s .refused
+  pub next-is : s′ .next ≡ s .next
+  pub most-is : s′ .most ≡ s .most
+  pub dead-is : s′ .dead ≡ s .dead
+  pub adds : Adds output (s .found) (s .id) (s′ .found) output′
+  pub stops : s′ .found .count ≡ s .most → s′ .end ≡ s .next + 1
+  pub goes-on : (s′ .found .count ≡ s .most → ⊥) → s′ .end ≡ s .end
 
--- the row at the next place passes a test where it is live and meets the conditions
-abbrev pub Decides : Header → List ℕ → Sweep → Bool → (ℕ → Bool) → Type 0
-Decides h rows s meets test = test (s .id) ≡ (isLive (rowAt (h .columns) (s .id) rows) && meets)
-
--- what a step asks: a sweep that has not come to its end, whatever its test
-pub record CanStep (h : Header) (rows : List ℕ) (subset : Subset) (s : Sweep) (meets : Bool) (output : List ℕ) : Type 0 where
-  pub test : ℕ → Bool
-  pub s₀ : Sweep
-  pub output₀ : List ℕ
-  pub sweepable : Sweepable h (length rows) subset s₀ output₀
-  pub swept : Swept subset test s₀ output₀ s output
-  pub decides : Decides h rows s meets test
+-- one place further
+pub record CanMove (subset : Subset) (s : Sweep) : Type 0 where
   pub more : s .next < s .end
+  pub within : s .end ≤ size subset
 
--- and does
-pub record Steps (h : Header) (rows : List ℕ) (subset : Subset) (s : Sweep) (meets : Bool) (output : List ℕ) (s′ : Sweep) (output′ : List ℕ) : Type 0 where
+pub record Moves (subset : Subset) (s s′ : Sweep) : Type 0 where
+  pub refused-is : s′ .refused ≡ s .refused
   pub next-is : s′ .next ≡ s .next + 1
   pub end-is : s′ .end ≡ s .end
-  pub steps : (test : ℕ → Bool) (s₀ : Sweep) (output₀ : List ℕ) → Sweepable h (length rows) subset s₀ output₀ → Swept subset test s₀ output₀ s output
-      → Decides h rows s meets test → Swept subset test s₀ output₀ s′ output′
+  pub most-is : s′ .most ≡ s .most
+  pub dead-is : s′ .dead ≡ s .dead
+  pub found-is : s′ .found ≡ s .found
+  pub id-is : s′ .next < s′ .end → s′ .id ≡ getD (members subset) (s′ .next) 0
+
+-- a row is visited
+pub record CanStep (h : Header) (rows : ℕ) (subset : Subset) (s : Sweep) (hit : Bool) (output : List ℕ) : Type 0 where
+  pub lies : RowLies h rows (s .id)
+  pub few : s .dead < 65536
+  pub can-move : CanMove subset s
+  pub can-add : hit ≡ true → CanAdd output (s .found) (s .id)
+
+pub record Steps (h : Header) (rows : List ℕ) (subset : Subset) (s : Sweep) (hit : Bool) (output : List ℕ) (s′ : Sweep) (output′ : List ℕ) : Type 0 where
+  pub refused-is : s′ .refused ≡ s .refused
+  pub next-is : s′ .next ≡ s .next + 1
+  pub most-is : s′ .most ≡ s .most
+  pub dead-is : s′ .dead ≡ s .dead + deadAmong h rows (s .id ∷ [])
+  pub id-is : s′ .next < s′ .end → s′ .id ≡ getD (members subset) (s′ .next) 0
+  pub adds : hit ≡ true → Adds output (s .found) (s .id) (s′ .found) output′
+  pub stops : hit ≡ true → s′ .found .count ≡ s .most → s′ .end ≡ s .next + 1
+  pub goes-on : hit ≡ true → (s′ .found .count ≡ s .most → ⊥) → s′ .end ≡ s .end
+  pub skips : hit ≡ false → (s′ .found ≡ s .found) × (output′ ≡ output) × (s′ .end ≡ s .end)
 
 -- a sweep that has come to its end
-pub record Finished (subset : Subset) (test : ℕ → Bool) (s₀ : Sweep) (output₀ : List ℕ) (s : Sweep) (output : List ℕ) : Type 0 where
+pub record Finished (h : Header) (rows : List ℕ) (subset : Subset) (test : ℕ → Bool) (s₀ : Sweep) (output₀ : List ℕ) (s : Sweep) (output : List ℕ) : Type 0 where
   pub refused-is : s .refused ≡ s₀ .refused
-  pub end-is : s .end ≡ s₀ .end
-  pub grows : Grows output₀ output (s .found) (keep test (visited subset (s₀ .next) (s₀ .end - s₀ .next)))
+  pub next-is : s .next ≡ s₀ .next + length (upTo (s₀ .most) test (places subset s₀))
+  pub grows : Grows output₀ output (s .found) (keep test (upTo (s₀ .most) test (places subset s₀)))
+  pub dead-is : s .dead ≡ deadAmong h rows (upTo (s₀ .most) test (places subset s₀))
+
+-- ---- a question
+
+-- a question that begins, refused or over its places
+pub record Opened (question : Question) (h : Header) (rows : ℕ) (subset : Subset) (knows : Bool) (output : ℕ) (s : Sweep) : Type 0 where
+  pub number-is : (conditions : List Constraint) → knows ≡ every (known (h .columns)) conditions → s .refused ≡ refusalOf question h rows subset conditions output
+  pub askable : s .refused ≡ 0 → Askable h rows subset
+  pub sweepable : (output₀ : List ℕ) → length output₀ ≡ output → Sweepable h rows subset s output₀
+  pub first-is : s .refused ≡ 0 → s .next ≡ firstPlace question
+  pub visits-is : s .refused ≡ 0 → (test : ℕ → Bool) → upTo (s .most) test (places subset s) ≡ visits question test subset
+  pub in-room : s .refused ≡ 0 → roomFor question subset ≤ output
+  pub no-places : (s .refused ≡ 0 → ⊥) → s .next ≡ s .end
+
+-- a question that has been asked: refused with nothing written, or its ids visited, those that match kept and the dead ones
+-- counted
+pub record Asked (question : Question) (h : Header) (rows : List ℕ) (subset : Subset) (conditions : List Constraint) (output : List ℕ) (s : Sweep) (output′ : List ℕ) : Type 0 where
+  pub number-is : s .refused ≡ refusalOf question h (length rows) subset conditions (length output)
+  pub askable : s .refused ≡ 0 → Askable h (length rows) subset
+  pub in-room : s .refused ≡ 0 → roomFor question subset ≤ length output
+  pub within : s .refused ≡ 0 → firstPlace question ≤ size subset
+  pub next-is : s .refused ≡ 0 → s .next ≡ firstPlace question + length (visits question (matches h rows conditions) subset)
+  pub grows : s .refused ≡ 0 → Grows output output′ (s .found) (keep (matches h rows conditions) (visits question (matches h rows conditions) subset))
+  pub dead-is : s .refused ≡ 0 → s .dead ≡ deadAmong h rows (visits question (matches h rows conditions) subset)
+  pub unwritten : (s .refused ≡ 0 → ⊥) → output′ ≡ output
 
 -- what writing the ids kept asks, and does
 pub record CanWrite (output : List ℕ) (g : Growing) : Type 0 where
@@ -109,24 +218,13 @@ pub record CanWrite (output : List ℕ) (g : Growing) : Type 0 where
 pub record Writes (output : List ℕ) (g : Growing) (count : ℕ) (output′ : List ℕ) : Type 0 where
   pub writes : (output₀ kept : List ℕ) → Grows output₀ output g kept → Wrote output₀ kept count output′
 
--- ---- refine
-
--- a refine that begins, refused or over all places
-pub record RefineOpened (h : Header) (rows : ℕ) (subset : Subset) (knows : Bool) (output : ℕ) (s : Sweep) : Type 0 where
-  pub number-is : (conditions : List Constraint) → knows ≡ every (known (h .columns)) conditions → s .refused ≡ refineRefusal h rows subset conditions output
-  pub askable : s .refused ≡ 0 → Askable h rows subset
-  pub all : s .refused ≡ 0 → (s .next ≡ 0) × (s .end ≡ size subset)
-  pub no-places : (s .refused ≡ 0 → ⊥) → s .next ≡ s .end
-  pub sweepable : (output₀ : List ℕ) → length output₀ ≡ output → Sweepable h rows subset s output₀
-
 -- the ids kept are all of a range
 unfoldable pub whole : SubsetHead → Growing → Bool
-whole head g = head .dense && g .dense && eqb (g .end - g .start) (head .end - head .start)
+whole head g = head .dense && eqb (g .count) (head .end - head .start)
 
 -- what the end of a refine asks, if it was not refused
 pub record CanClose (head : SubsetHead) (s : Sweep) (output : List ℕ) : Type 0 where
   pub order : head .dense ≡ true → head .start ≤ head .end
-  pub found-order : s .found .dense ≡ true → s .found .start ≤ s .found .end
   pub can-write : CanWrite output (s .found)
 
 -- the end of a refine by a list: "a range stays only if all of it is kept, else a list"
@@ -136,17 +234,6 @@ pub record RefineClosed (head : SubsetHead) (s : Sweep) (output : List ℕ) (ans
       → Grows output₀ output (s .found) (keep test (members (subsetOf head ids)))
       → Answered (accepted (narrowed test (subsetOf head ids))) output₀ answer output′
 
--- ---- page
-
--- a page that begins, refused or over its places
-pub record PageOpened (h : Header) (rows : ℕ) (subset : Subset) (start n : ℕ) (knows : Bool) (output : ℕ) (s : Sweep) : Type 0 where
-  pub number-is : (conditions : List Constraint) → knows ≡ every (known (h .columns)) conditions → s .refused ≡ pageRefusal h rows subset start n conditions output
-  pub askable : s .refused ≡ 0 → Askable h rows subset
-  pub within : s .refused ≡ 0 → start ≤ size subset
-  pub places : s .refused ≡ 0 → (s .next ≡ start) × (s .end ≡ start + min n (size subset - start))
-  pub no-places : (s .refused ≡ 0 → ⊥) → s .next ≡ s .end
-  pub sweepable : (output₀ : List ℕ) → length output₀ ≡ output → Sweepable h rows subset s output₀
-
 -- a next place as it is answered
 unfoldable pub nextOf : Option ℕ → NextPlace
 nextOf none = NoPlace
@@ -154,66 +241,15 @@ nextOf (some place) = At place
 
 -- the place to go on from, where a page has ended
 unfoldable pub nextAt : Subset → ℕ → Option ℕ
-nextAt subset end = cond (ltb end (size subset)) (some end) none
-
--- what the end of a page asks, if it was not refused
-pub record CanPage (s : Sweep) (output : List ℕ) : Type 0 where
-  pub small : s .end < 4294967296
-  pub can-write : CanWrite output (s .found)
+nextAt subset next = cond (ltb next (size subset)) (some next) none
 
 -- the end of a page
 pub record PageClosed (subset : Subset) (s : Sweep) (output : List ℕ) (answer : PageAnswer) (output′ : List ℕ) : Type 0 where
   pub refuses : (s .refused ≡ 0 → ⊥) → (answer ≡ PageIsRefused (s .refused)) × (output′ ≡ output)
   pub pages : s .refused ≡ 0 → (output₀ kept : List ℕ) → Grows output₀ output (s .found) kept
-      → (answer ≡ Paged (record { written = length kept; next = nextOf (nextAt subset (s .end)) })) × (output′ ≡ putAt output₀ 0 kept)
+      → (answer ≡ Paged (record { written = length kept; dead = s .dead; next = nextOf (nextAt subset (s .next)) })) × (output′ ≡ putAt output₀ 0 kept)
 
--- ---- any match
-
--- an id is kept
-unfoldable pub foundSome : Growing → Bool
-foundSome g = ltb (g .start) (g .end)
-
--- a search that may begin
-pub record Lookable (h : Header) (rows : ℕ) (subset : Subset) (s : Sweep) : Type 0 where
-  pub askable : s .next < s .end → Askable h rows subset
-  pub order : s .next ≤ s .end
-  pub within : s .end ≤ size subset
-  pub id-is : s .next < s .end → s .id ≡ getD (members subset) (s .next) 0
-  pub found-none : foundSome (s .found) ≡ false
-  pub all : s .refused ≡ 0 → (s .next ≡ 0) × (s .end ≡ size subset)
-
--- a search for a match that begins, refused or over all places
-pub record MatchOpened (h : Header) (rows : ℕ) (subset : Subset) (knows : Bool) (s : Sweep) : Type 0 where
-  pub number-is : (conditions : List Constraint) → knows ≡ every (known (h .columns)) conditions → s .refused ≡ matchRefusal h rows subset conditions
-  pub lookable : Lookable h rows subset s
-
--- a search that began as s₀: a match was found, or stands from the next place on, if there is one
-pub record Looking (subset : Subset) (test : ℕ → Bool) (s₀ s : Sweep) : Type 0 where
-  pub refused-is : s .refused ≡ s₀ .refused
-  pub end-is : s .end ≡ s₀ .end
-  pub from : s₀ .next ≤ s .next
-  pub upto : s .next ≤ s .end
-  pub id-is : s .next < s .end → s .id ≡ getD (members subset) (s .next) 0
-  pub finds : s .refused ≡ 0 → (foundSome (s .found) || any test (drop (s .next) (members subset))) ≡ any test (members subset)
-
--- what a look asks
-pub record CanLook (h : Header) (rows : ℕ) (subset : Subset) (s : Sweep) : Type 0 where
-  pub askable : Askable h rows subset
-  pub more : s .next < s .end
-  pub within : s .end ≤ size subset
-  pub id-is : s .id ≡ getD (members subset) (s .next) 0
-
--- and does, whatever the test
-pub record Looks (h : Header) (rows : List ℕ) (subset : Subset) (s : Sweep) (meets : Bool) (s′ : Sweep) : Type 0 where
-  pub fewer : s′ .end - s′ .next < s .end - s .next
-  pub looks : (test : ℕ → Bool) (s₀ : Sweep) → Looking subset test s₀ s → Decides h rows s meets test → Looking subset test s₀ s′
-
--- a search that has come to its end
-pub record Found (subset : Subset) (test : ℕ → Bool) (s₀ s : Sweep) : Type 0 where
-  pub refused-is : s .refused ≡ s₀ .refused
-  pub finds : s .refused ≡ 0 → foundSome (s .found) ≡ any test (members subset)
-
--- its answer
+-- the end of a search for a match
 pub record MatchClosed (s : Sweep) (answer : MatchAnswer) : Type 0 where
   pub refuses : (s .refused ≡ 0 → ⊥) → answer ≡ MatchIsRefused (s .refused)
-  pub tells : s .refused ≡ 0 → answer ≡ Match (foundSome (s .found))
+  pub tells : s .refused ≡ 0 → answer ≡ Matches (not (eqb (s .found .count) 0))

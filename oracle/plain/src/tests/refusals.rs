@@ -253,6 +253,7 @@ fn pages() {
     assert_eq!(ask((0, 2), &[], 1), refused(2));
     let last = Answer::Page {
         ids: vec![1, 2],
+        dead: 0,
         next: None,
     };
     assert_eq!(ask((1, u64::MAX), &[], 2), last);

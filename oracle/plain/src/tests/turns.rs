@@ -219,6 +219,7 @@ fn dead_mark_in_questions() {
     };
     let live = Answer::Page {
         ids: vec![1, 2, 3],
+        dead: 1,
         next: None,
     };
     assert_eq!(table.ask(&LENT, &all), live);

@@ -1,0 +1,18 @@
+-- `sweeping::dead_at` meets its contract. Assumes nothing.
+use mathlib.Core.Path.{sym, _∙_}
+use borrow.Author.Needs.{needs}
+use Rattle.sweeping.proofs.SweepSteps.{dead-none, dead-one}
+use Rattle.sweeping.proofs.dead_at.Statement.{statement}
+use Rattle.sweeping.proofs.dead_at.Tie as tie
+
+is-live-at-requires : tie.Need-is-live-at-requires
+is-live-at-requires c κs = search needs
+
+returns : tie.Need-returns
+returns c = dead-none _ _ _ (sym (c .before .is-live-at .ensures) ∙ c .if1 .taken)
+
+returns-2 : tie.Need-returns-2
+returns-2 c = dead-one _ _ _ (sym (c .before .is-live-at .ensures) ∙ c .if1 .left)
+
+pub dead-at-spec : {M : Type 1} → statement M
+dead-at-spec = tie.close (tie.spec is-live-at-requires returns returns-2)
