@@ -36,8 +36,10 @@ fn keep_within(ids: &[u32], start: u32, end: u32, output: &mut [u32]) -> usize
 {
     let low = binary_search_by_id(ids, start);
     let high = binary_search_from(ids, low, end);
-    write_ids(output, &ids[low..high]);
-    high - low
+    let from = low as usize;
+    let upto = high as usize;
+    write_ids(output, &ids[from..upto]);
+    upto - from
 }
 
 // The ids that another list has too, both lists walked in step.
@@ -73,18 +75,20 @@ fn gallop_along(ids: &[u32], others: &[u32], output: &mut [u32]) -> usize
     requires { ⌜ Fitting (now ids) (now output) × Searchable (now others) ⌝ }
     ensures { λ r. ⌜ Wrote (now (output .entry)) (common (now (ids .entry)) (now (others .entry))) r (now (output .exit)) ⌝ }
 {
+    let count = ids.len() as u32;
+    let end = others.len() as u32;
     let mut i = 0;
     let mut o = 0;
-    let mut n = 0;
-    while i < ids.len() {
-        if others.len() <= o {
-            return n;
+    let mut n: u32 = 0;
+    while i < count {
+        if end <= o {
+            return n as usize;
         }
-        let id = ids[i];
+        let id = ids[i as usize];
         i += 1;
         match scan_for_offset(others, o, id) {
             Scan::Found(p) => {
-                output[n] = id;
+                output[n as usize] = id;
                 n += 1;
                 o = p + 1;
             }
@@ -93,7 +97,7 @@ fn gallop_along(ids: &[u32], others: &[u32], output: &mut [u32]) -> usize
             }
         }
     }
-    n
+    n as usize
 }
 
 // Two lists are of like length.

@@ -9,6 +9,7 @@ use Rattle.lists.specs.Lists.{rising, has, place}
 use Rattle.lists.specs.Laws.Search.{place-le, place-past, place-upto, place-at, has-place, has-not-place}
 use Rattle.offset_search.specs.declared.Scan.{Scan}
 use Rattle.offset_search.specs.declared.Scan.the-variants.{Found, Next}
+use Rattle.offset_search.specs.Laws.Strides.{stride-bound}
 use Rattle.offset_search.specs.inner.Search.{SearchedPart, ReachedBetween, scanPlace, scan, ScannedAt, Scanned}
 
 -- ---- the binary search
@@ -55,37 +56,43 @@ halved-end ids start end target low high s h =
 
 -- ---- the strides
 
--- the id at `low` is below the target
-pub record Strides (ids : List ℕ) (target low step : ℕ) : Type 0 where
-  pub inside : low < length ids
+-- the id at `low` is below the target; `left` ids stand from there on, and the stride to come fits 32 bits
+pub record Strides (ids : List ℕ) (target low left step : ℕ) : Type 0 where
+  pub few : length ids ≤ 65536
+  pub whole : low + left ≡ length ids
+  pub inside : 1 ≤ left
   pub on : 1 ≤ step
+  pub bound : step ≤ 131072
   pub behind : rising ids ≡ true → low < place target ids
 
-module _ (ids : List ℕ) (target low step : ℕ) (s : Strides ids target low step) where
-  pub stride-more : step < length ids - low → getD ids (low + step) 0 < target → Strides ids target (low + step) (step * 2)
+module _ (ids : List ℕ) (target low left step : ℕ) (s : Strides ids target low left step) where
+  pub stride-more : step < left → getD ids (low + step) 0 < target → Strides ids target (low + step) (left - step) (step * 2)
   stride-more h k =
       record {
+        few = s .few;
+        whole = omega (arith, s .whole);
         inside = omega arith;
         on = omega (arith, s .on);
-        behind = λ e. place-past target ids e (low + step) (omega arith) k;
+        bound = stride-bound left step (omega (arith, s .few, s .whole)) h;
+        behind = λ e. place-past target ids e (low + step) (omega (arith, s .whole)) k;
       }
 
-  pub stride-over : step < length ids - low → target ≤ getD ids (low + step) 0 → ReachedBetween ids target (low + 1) (low + step)
+  pub stride-over : step < left → target ≤ getD ids (low + step) 0 → ReachedBetween ids target (low + 1) (low + step)
   stride-over h k =
       record {
         order = omega (arith, s .on);
-        within = omega arith;
+        within = omega (arith, s .whole);
         after = λ e. (let p = s .behind e in omega arith);
-        upto = λ e. place-upto target ids e (low + step) (omega arith) k;
+        upto = λ e. place-upto target ids e (low + step) (omega (arith, s .whole)) k;
       }
 
-  pub stride-end : ReachedBetween ids target (low + 1) (length ids)
+  pub stride-end : ReachedBetween ids target (low + 1) (low + left)
   stride-end =
       record {
         order = omega (arith, s .inside);
-        within = omega arith;
+        within = omega (arith, s .whole);
         after = λ e. (let p = s .behind e in omega arith);
-        upto = λ e. place-le target ids;
+        upto = λ e. rw (s .whole) (place-le target ids);
       }
 
 -- ---- what a scan says

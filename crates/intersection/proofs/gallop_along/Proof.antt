@@ -9,19 +9,31 @@ use Rattle.intersection.proofs.gallop_along.Statement.{statement}
 use Rattle.intersection.proofs.gallop_along.Tie as tie
 
 abbrev Inv-loop : tie.InvT-loop
-Inv-loop ids others output₀ i₀ o₀ n₀ output i o n = Meets ids others output₀ output i o n
+Inv-loop ids others output₀ count end i₀ o₀ n₀ output i o n = Meets ids others output₀ output i o n
 
 abbrev μ-loop : tie.MeasureT-loop
-μ-loop ids others output₀ i₀ o₀ n₀ output i o n = length ids - i
+μ-loop ids others output₀ count end i₀ o₀ n₀ output i o n = length ids - i
+
+cast-count : tie.Need-cast-count Inv-loop μ-loop
+cast-count c = search needs
+
+cast-end : tie.Need-cast-end Inv-loop μ-loop
+cast-end c = search needs
 
 loop-holds : tie.Need-loop-holds Inv-loop μ-loop
 loop-holds c = meets-begin _ _ _
+
+cast-result : tie.Need-cast-result Inv-loop μ-loop
+cast-result c = search needs
 
 same-length : tie.Need-same-length Inv-loop μ-loop
 same-length c = c .before .before .loop .inv .same
 
 returns : tie.Need-returns Inv-loop μ-loop
 returns c = spent _ _ _ _ _ _ _ (c .before .before .before .before .before .before .pre .0) (c .before .before .before .before .before .before .pre .1) (c .before .before .loop .inv) (c .before .loop-test .taken) (c .if1 .taken)
+
+cast-id : tie.Need-cast-id Inv-loop μ-loop
+cast-id c = search needs
 
 mul-id : tie.Need-mul-id Inv-loop μ-loop
 mul-id c = search needs
@@ -37,6 +49,9 @@ scan-for-offset-requires c κs = search needs
 
 enum-known-p : tie.Need-enum-known-p Inv-loop μ-loop
 enum-known-p c = search needs
+
+cast-output : tie.Need-cast-output Inv-loop μ-loop
+cast-output c = search needs
 
 mul-output : tie.Need-mul-output Inv-loop μ-loop
 mul-output c = search needs
@@ -66,6 +81,9 @@ loop-less-2 c = search needs
 loop-again-2 : tie.Need-loop-again-2 Inv-loop μ-loop
 loop-again-2 c = scan-miss _ _ _ _ _ _ _ (c .before .before .before .before .before .before .before .before .before .before .before .pre .0) (c .before .before .before .before .before .before .before .before .before .before .before .pre .1) (c .before .before .before .before .before .before .before .loop .inv) (c .before .before .before .before .before .before .loop-test .taken) _ (rw (c .before .p2 .given .1) at (c .before .before .before .scan-for-offset .ensures))
 
+cast-result-2 : tie.Need-cast-result-2 Inv-loop μ-loop
+cast-result-2 c = search needs
+
 same-length-2 : tie.Need-same-length-2 Inv-loop μ-loop
 same-length-2 c = c .before .loop .inv .same
 
@@ -78,14 +96,19 @@ gallop-along-spec =
     (tie.spec
     Inv-loop
     μ-loop
+    cast-count
+    cast-end
     loop-holds
+    cast-result
     same-length
     returns
+    cast-id
     mul-id
     shared-slice-read-id
     add-i
     scan-for-offset-requires
     enum-known-p
+    cast-output
     mul-output
     slice-write-output
     add-n
@@ -95,5 +118,6 @@ gallop-along-spec =
     enum-known-p-2
     loop-less-2
     loop-again-2
+    cast-result-2
     same-length-2
     returns-2)

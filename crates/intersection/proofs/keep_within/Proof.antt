@@ -12,6 +12,12 @@ binary-search-by-id-requires c κs = search needs
 binary-search-from-requires : tie.Need-binary-search-from-requires
 binary-search-from-requires c κs = search needs
 
+cast-from : tie.Need-cast-from
+cast-from c = search needs
+
+cast-upto : tie.Need-cast-upto
+cast-upto c = search needs
+
 mul-write-ids : tie.Need-mul-write-ids
 mul-write-ids c = search needs
 
@@ -46,6 +52,8 @@ keep-within-spec =
     (tie.spec
     binary-search-by-id-requires
     binary-search-from-requires
+    cast-from
+    cast-upto
     mul-write-ids
     sub-write-ids
     part-write-ids-start

@@ -21,6 +21,9 @@ sub-mid c = search needs
 add-mid : tie.Need-add-mid Inv-loop μ-loop
 add-mid c = search needs
 
+cast-if1 : tie.Need-cast-if1 Inv-loop μ-loop
+cast-if1 c = search needs
+
 mul-if1 : tie.Need-mul-if1 Inv-loop μ-loop
 mul-if1 c = search needs
 
@@ -54,6 +57,7 @@ binary-search-part-spec =
     loop-holds
     sub-mid
     add-mid
+    cast-if1
     mul-if1
     shared-slice-read-if1
     add-low

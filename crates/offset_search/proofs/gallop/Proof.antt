@@ -1,7 +1,5 @@
 -- `offsets::gallop` meets its contract. Assumes nothing.
-use Prim.Native.Nat.{_-_}
 use native.Mathlib.Omega.{arith}
-use lib.ListN.{length}
 use borrow.Author.Needs.{needs}
 use Rattle.offset_search.specs.inner.Search.{Reached}
 use Rattle.offset_search.proofs.Search.{Strides, stride-more, stride-over, stride-end}
@@ -9,19 +7,25 @@ use Rattle.offset_search.proofs.gallop.Statement.{statement}
 use Rattle.offset_search.proofs.gallop.Tie as tie
 
 abbrev Inv-loop : tie.InvT-loop
-Inv-loop ids start target low₀ step₀ low step = Strides ids target low step
+Inv-loop ids start target low₀ left₀ step₀ low left step = Strides ids target low left step
 
 abbrev μ-loop : tie.MeasureT-loop
-μ-loop ids start target low₀ step₀ low step = length ids - low
+μ-loop ids start target low₀ left₀ step₀ low left step = left
+
+cast-left : tie.Need-cast-left Inv-loop μ-loop
+cast-left c = search needs
+
+sub-left : tie.Need-sub-left Inv-loop μ-loop
+sub-left c = search needs
 
 loop-holds : tie.Need-loop-holds Inv-loop μ-loop
-loop-holds c = record { inside = c .pre .0; on = omega arith; behind = c .pre .1 }
-
-sub-loop : tie.Need-sub-loop Inv-loop μ-loop
-sub-loop c = search needs
+loop-holds c = record { few = c .pre .0; whole = omega arith; inside = omega arith; on = omega arith; bound = omega arith; behind = c .pre .2 }
 
 add-probe : tie.Need-add-probe Inv-loop μ-loop
 add-probe c = search needs
+
+cast-id : tie.Need-cast-id Inv-loop μ-loop
+cast-id c = search needs
 
 mul-id : tie.Need-mul-id Inv-loop μ-loop
 mul-id c = search needs
@@ -33,12 +37,15 @@ returns : tie.Need-returns Inv-loop μ-loop
 unfolding Reached
 returns c = record { inside = omega arith; hit = c .if1 .taken }
 
-add-t13 : tie.Need-add-t13 Inv-loop μ-loop
-add-t13 c = search needs
+add-t16 : tie.Need-add-t16 Inv-loop μ-loop
+add-t16 c = search needs
 
 returns-2 : tie.Need-returns-2 Inv-loop μ-loop
 unfolding Reached
-returns-2 c = stride-over _ _ _ _ (c .before .before .before .before .loop .inv) (c .before .before .before .loop-test .taken) (omega arith)
+returns-2 c = stride-over _ _ _ _ _ (c .before .before .before .before .loop .inv) (c .before .before .before .loop-test .taken) (omega arith)
+
+sub-left-2 : tie.Need-sub-left-2 Inv-loop μ-loop
+sub-left-2 c = search needs
 
 mul-step : tie.Need-mul-step Inv-loop μ-loop
 mul-step c = search needs
@@ -47,14 +54,17 @@ loop-less : tie.Need-loop-less Inv-loop μ-loop
 loop-less c = search needs
 
 loop-again : tie.Need-loop-again Inv-loop μ-loop
-loop-again c = stride-more _ _ _ _ (c .before .before .before .before .loop .inv) (c .before .before .before .loop-test .taken) (omega arith)
+loop-again c = stride-more _ _ _ _ _ (c .before .before .before .before .loop .inv) (c .before .before .before .loop-test .taken) (omega arith)
 
-add-t14 : tie.Need-add-t14 Inv-loop μ-loop
-add-t14 c = search needs
+add-t10 : tie.Need-add-t10 Inv-loop μ-loop
+add-t10 c = search needs
+
+add-t17 : tie.Need-add-t17 Inv-loop μ-loop
+add-t17 c = search needs
 
 returns-3 : tie.Need-returns-3 Inv-loop μ-loop
 unfolding Reached
-returns-3 c = stride-end _ _ _ _ (c .before .loop .inv)
+returns-3 c = stride-end _ _ _ _ _ (c .before .loop .inv)
 
 pub gallop-spec : {M : Type 1} → statement M
 gallop-spec =
@@ -62,16 +72,20 @@ gallop-spec =
     (tie.spec
     Inv-loop
     μ-loop
+    cast-left
+    sub-left
     loop-holds
-    sub-loop
     add-probe
+    cast-id
     mul-id
     shared-slice-read-id
     returns
-    add-t13
+    add-t16
     returns-2
+    sub-left-2
     mul-step
     loop-less
     loop-again
-    add-t14
+    add-t10
+    add-t17
     returns-3)

@@ -7,6 +7,9 @@ use Rattle.offset_search.proofs.Search.{scanned-end, scanned-hit, scann
 use Rattle.offset_search.proofs.scan_for_offset.Statement.{statement}
 use Rattle.offset_search.proofs.scan_for_offset.Tie as tie
 
+cast-t13 : tie.Need-cast-t13
+cast-t13 c = search needs
+
 returns : tie.Need-returns
 returns c = scanned-end _ _ _ (c .if1 .taken)
 
@@ -23,7 +26,7 @@ returns-3 : tie.Need-returns-3
 returns-3 c = scanned-before _ _ _ (c .before .before .before .if1 .left) (c .if3 .taken)
 
 gallop-requires : tie.Need-gallop-requires
-gallop-requires c κs = (c .before .before .before .if1 .left, λ e. place-past _ _ e _ (c .before .before .before .if1 .left) (omega arith))
+gallop-requires c κs = (c .before .before .before .before .before .pre, c .before .before .before .if1 .left, λ e. place-past _ _ e _ (c .before .before .before .if1 .left) (omega arith))
 
 enum-known-p : tie.Need-enum-known-p
 enum-known-p c = search needs
@@ -53,6 +56,7 @@ pub scan-for-offset-spec : {M : Type 1} → statement M
 scan-for-offset-spec =
     tie.close
     (tie.spec
+    cast-t13
     returns
     mul-id
     shared-slice-read-id
