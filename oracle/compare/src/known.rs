@@ -15,6 +15,7 @@ pub fn check<J: Judge>(rival: &Rival<J>) -> Result<Vec<String>, String> {
         shared_hash(rival)?,
         greatest_id(rival)?,
         older_stamp(rival)?,
+        longest_page(rival)?,
     ])
 }
 
@@ -99,5 +100,33 @@ fn greatest_id<J: Judge>(rival: &Rival<J>) -> Result<String, String> {
             "0..5 with {{1, 4294967295}}: {{1}} here, a panic in the id type under the Rust ({panic})"
         )),
         other => Err(format!("0..5 with {{1, 4294967295}} gives {other:?}")),
+    }
+}
+
+/// A page from place 1 that asks for as many ids as a number can say: the Rust's sum of the two does not fit.
+fn longest_page<J: Judge>(rival: &Rival<J>) -> Result<String, String> {
+    let lines = ["O,1,1,0,0,1,0", "I,7", "M"].map(String::from);
+    let page = Question::Page {
+        subset: Subset::Range(0, 1),
+        start: 1,
+        n: u64::MAX,
+        conditions: Vec::new(),
+        output: 0,
+    };
+    let ours = play(Plain::new(), &lines).ask(&stores(), &page);
+    let other = play((rival.make)(), &lines);
+    let theirs = guarded(|| other.ask(&stores(), &page));
+    match (ours, theirs) {
+        (
+            Answer::Page {
+                ids,
+                dead: 0,
+                next: None,
+            },
+            Err(panic),
+        ) if ids.is_empty() => Ok(format!(
+            "a page from place 1 of 18446744073709551615 ids: what remains here, a panic under the Rust ({panic})"
+        )),
+        other => Err(format!("a page from place 1 of all ids gives {other:?}")),
     }
 }

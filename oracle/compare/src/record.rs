@@ -8,7 +8,7 @@ use crate::history::{Act, Step, needed};
 use crate::text::{answer_line, parse, step_line};
 use calls::{Call, Judge, Lengths, Opening};
 
-pub const SEED: u64 = 1;
+pub const SEED: u64 = 391;
 
 /// The list ends with the history that brings it to so many lines.
 const ENOUGH_LINES: usize = 4500;
@@ -48,7 +48,18 @@ const UNOPENED: [&str; 18] = [
 ];
 
 /// The paper's examples and wrong turns, as far as lines can show them; (h) is made below.
-const EXAMPLES: [&[&str]; 9] = [
+const EXAMPLES: [&[&str]; 10] = [
+    // Document 02: a stamp older than one that was dropped stays out.
+    &[
+        "O,3,1,2,1,20,0",
+        "I,1,5,12",
+        "M",
+        "R,1",
+        "M",
+        "G",
+        "I,2,5,11",
+        "M",
+    ],
     &[
         "O,4,2,3,1,64,0",
         "I,7,1,160,10",

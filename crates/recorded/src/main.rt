@@ -1,0 +1,221 @@
+// The program `recorded`: reads the recorded list from standard input, makes each of its calls and questions on the library, and
+// compares what that answers with the list's answer. It writes how many answers the list has, how many were asked for here, and
+// how many agreed. Questions with a list of conditions are left out.
+use libc::STDIN_FILENO;
+use libc::STDOUT_FILENO;
+use recorded_calls::UNASKED;
+use recorded_calls::ask;
+use recorded_calls::compact;
+use recorded_calls::empty;
+use recorded_calls::merge_pending;
+use recorded_calls::stage;
+use recorded_lines::Said;
+use recorded_lines::part;
+use recorded_lines::read_line;
+use table::Header;
+use table::Largest;
+
+// The header before the first opening, which every operation refuses.
+fn no_table() -> Header {
+    Header {
+        columns: 0,
+        keys: 0,
+        sort: 0,
+        rule: 0,
+        capacity: 0,
+        rows: 0,
+        dead: 0,
+        entries: 0,
+        pending: 0,
+        generation: 0,
+        largest: Largest::None,
+    }
+}
+
+// A call or question, by its letter.
+fn serve(
+    h: Header,
+    letter: u8,
+    numbers: &[u32],
+    rows: &mut [u32],
+    keys: &mut [u32],
+    sorts: &mut [u32],
+    pending: &mut [u32],
+    live: &mut [u64],
+    base: &mut [u32],
+    out: &mut [u32],
+) -> Said {
+    match letter {
+        b'I' | b'R' | b'K' => stage(h, letter, numbers, pending, out),
+        b'M' => merge_pending(h, rows, keys, sorts, pending, live, base, out),
+        b'O' | b'C' => empty(h, letter, numbers, rows, keys, sorts, pending, out),
+        b'G' => compact(h, rows, keys, sorts, live, base, out),
+        _ => ask(h, letter, numbers, rows, keys, sorts, out),
+    }
+}
+
+// The answers of the list, those asked for here, and those that agreed.
+struct Counts {
+    answers: u64,
+    asked: u64,
+    agreed: u64,
+}
+
+fn one_more(count: u64) -> u64 {
+    if count < 1000000 {
+        return count + 1;
+    }
+    count
+}
+
+// What was counted, and the place behind the answer's line.
+struct Judged {
+    counts: Counts,
+    place: usize,
+}
+
+fn counted(counts: Counts, is_asked: bool, agrees: bool) -> Counts {
+    let mut after = counts;
+    after.answers = one_more(counts.answers);
+    if is_asked {
+        after.asked = one_more(counts.asked);
+    }
+    if agrees {
+        after.agreed = one_more(counts.agreed);
+    }
+    after
+}
+
+// The answer against the list's line at a place, whose numbers are read over those of the question.
+fn judge(
+    counts: Counts,
+    said: Said,
+    out: &[u32],
+    text: &[u8],
+    place: usize,
+    numbers: &mut [u32],
+) -> Judged {
+    let line = read_line(text, place, numbers);
+    let mut agrees = false;
+    if said.letter == line.letter {
+        agrees = row_buffer::same_cells(part(out, 0, said.count), part(numbers, 0, line.count));
+    }
+    Judged {
+        counts: counted(counts, said.letter != UNASKED, agrees),
+        place: line.next,
+    }
+}
+
+// The table, the place in the list, and what was counted.
+struct State {
+    header: Header,
+    place: usize,
+    counts: Counts,
+    is_over: bool,
+}
+
+// A call or question and its answer: two lines.
+fn turn(
+    state: State,
+    text: &[u8; 65536],
+    numbers: &mut [u32; 64],
+    rows: &mut [u32; 512],
+    keys: &mut [u32; 128],
+    sorts: &mut [u32; 128],
+    pending: &mut [u32; 256],
+    live: &mut [u64; 1],
+    base: &mut [u32; 1],
+    out: &mut [u32; 80],
+) -> State {
+    let header = state.header;
+    let counts = state.counts;
+    let place = state.place;
+    let line = read_line(text, place, numbers);
+    let letter = line.letter;
+    let answer = line.next;
+    if letter == 0 {
+        return State {
+            header: header,
+            place: place,
+            counts: counts,
+            is_over: true,
+        };
+    }
+    let given = part(numbers, 0, line.count);
+    let said = serve(
+        header,
+        letter,
+        given,
+        rows,
+        keys,
+        sorts,
+        pending,
+        live,
+        base,
+        out,
+    );
+    let left = said.header;
+    let judged = judge(counts, said, out, text, answer, numbers);
+    let now = judged.counts;
+    State {
+        header: left,
+        place: judged.place,
+        counts: now,
+        is_over: false,
+    }
+}
+
+fn write_count(count: u64, text: &[u8]) {
+    io::print_decimal(STDOUT_FILENO, count);
+    io::write_all(STDOUT_FILENO, text);
+}
+
+fn write_counts(counts: Counts) {
+    write_count(counts.answers, b" recorded answers\n");
+    write_count(counts.asked, b" of them asked for here\n");
+    write_count(counts.agreed, b" agreed\n");
+}
+
+fn main() {
+    let mut text = [0u8; 65536];
+    io::read_full(STDIN_FILENO, &mut text);
+    let mut numbers = [0u32; 64];
+    let mut rows = [0u32; 512];
+    let mut keys = [0u32; 128];
+    let mut sorts = [0u32; 128];
+    let mut pending = [0u32; 256];
+    let mut live = [0u64; 1];
+    let mut base = [0u32; 1];
+    let mut out = [0u32; 80];
+    let mut state = State {
+        header: no_table(),
+        place: 0,
+        counts: Counts {
+            answers: 0,
+            asked: 0,
+            agreed: 0,
+        },
+        is_over: false,
+    };
+    let mut turns = 65536u32;
+    while turns > 0 {
+        state = turn(
+            state,
+            &text,
+            &mut numbers,
+            &mut rows,
+            &mut keys,
+            &mut sorts,
+            &mut pending,
+            &mut live,
+            &mut base,
+            &mut out,
+        );
+        if state.is_over {
+            break;
+        }
+        turns -= 1;
+    }
+    let counts = state.counts;
+    write_counts(counts);
+}

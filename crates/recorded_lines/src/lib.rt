@@ -1,0 +1,121 @@
+// Lines of the recorded list (oracle/recorded/README.md) as the program `recorded` reads them, and answers in the same form: a
+// letter and numbers. Nothing is asked of a caller: a number that a line lacks counts as 0.
+use table::Header;
+
+// An answer: the header that is left, the letter, and how many numbers stand at the start of the lent ones.
+pub struct Said {
+    pub header: Header,
+    pub letter: u8,
+    pub count: usize,
+}
+
+// A line: its letter, how many numbers stand at the start of the lent ones, and the place behind the line's end.
+pub struct Line {
+    pub letter: u8,
+    pub count: usize,
+    pub next: usize,
+}
+
+pub fn number_at(numbers: &[u32], place: usize) -> u32 {
+    if place < numbers.len() {
+        return numbers[place];
+    }
+    0
+}
+
+// A place so much further on. No line has as many numbers as the bounds.
+pub fn further(place: usize, count: u32) -> usize {
+    if place < 1000 {
+        if count < 1000 {
+            return place + count as usize;
+        }
+    }
+    0
+}
+
+// The numbers from a place up to another, none where there are no such.
+pub fn part<'a>(numbers: &'a [u32], from: usize, to: usize) -> &'a [u32] {
+    if to <= numbers.len() {
+        if from <= to {
+            return &numbers[from..to];
+        }
+    }
+    &numbers[0..0]
+}
+
+pub fn put(out: &mut [u32], place: usize, number: u32) {
+    if place < out.len() {
+        out[place] = number;
+    }
+}
+
+pub fn tell(header: Header, letter: u8, count: usize) -> Said {
+    Said {
+        header,
+        letter,
+        count,
+    }
+}
+
+pub fn refused(header: Header, number: u32, out: &mut [u32]) -> Said {
+    put(out, 0, number);
+    tell(header, b'X', 1)
+}
+
+// A decimal with one digit more; other bytes, and digits that do not fit, are passed over.
+fn with_digit(number: u32, byte: u8) -> u32 {
+    if byte < b'0' {
+        return number;
+    }
+    if b'9' < byte {
+        return number;
+    }
+    let longer = 10 * number as u64 + (byte - b'0') as u64;
+    if 0xffff_ffff < longer {
+        return number;
+    }
+    longer as u32
+}
+
+// One byte behind the letter: a comma begins a number. Answers how many there are.
+fn feed(count: usize, byte: u8, numbers: &mut [u32]) -> usize {
+    if byte == b',' {
+        if count < numbers.len() {
+            numbers[count] = 0;
+            return count + 1;
+        }
+        return count;
+    }
+    if count == 0 {
+        return 0;
+    }
+    let last = count - 1;
+    if last < numbers.len() {
+        numbers[last] = with_digit(numbers[last], byte);
+    }
+    count
+}
+
+// The line that begins at a place. An answer's letter stands behind an equals sign.
+pub fn read_line(text: &[u8], start: usize, numbers: &mut [u32]) -> Line {
+    let mut letter = b'=';
+    let mut count = 0;
+    let mut at = start;
+    while at < text.len() {
+        let byte = text[at];
+        at += 1;
+        if byte == b'\n' {
+            break;
+        }
+        if letter == b'=' {
+            letter = byte;
+        } else {
+            count = feed(count, byte, numbers);
+        }
+    }
+    Line {
+        letter,
+        count,
+        next: at,
+    }
+}
