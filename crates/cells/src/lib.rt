@@ -12,15 +12,16 @@ pub fn is_stale(first: u32) -> bool
     first == STALE
 }
 
-pub const LOW_BITS: u32 = 25;
+// The compact hash has `H2_BITS` of the hash's top bits above its low ones.
+const H2_BITS: u32 = 7;
 
-pub const LOW_MASK: u64 = 0x1ff_ffff;
+const H2_MASK: u64 = 0x7f;
 
-pub const H2_BITS: u32 = 7;
+const H2_SHIFT: u32 = 64 - H2_BITS;
 
-pub const H2_MASK: u64 = 0x7f;
+const LOW_BITS: u32 = 32 - H2_BITS;
 
-pub const H2_SHIFT: u32 = 57;
+const LOW_MASK: u64 = 0x1ff_ffff;
 
 // The compact hash of a 64-bit hash.
 pub fn from_full(full: u64) -> u32

@@ -15,7 +15,7 @@ pub struct Constraint {
 }
 
 // The cell of a column.
-pub fn cell(row: &[u32], column: u32) -> u32
+fn cell(row: &[u32], column: u32) -> u32
     ensures { λ r. ⌜ r ≡ getD (now (row .entry)) column 0 ⌝ }
 {
     let at = column as usize;

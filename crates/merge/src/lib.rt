@@ -65,7 +65,7 @@ fn insert_next(
 }
 
 // All inserts, in staging order, until one must be appended and cannot be.
-pub fn insert_all(
+fn insert_all(
     h: Header,
     rows: &mut [u32],
     keys: &mut [u32],

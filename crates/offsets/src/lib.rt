@@ -24,7 +24,7 @@ pub enum SubsetAnswer {
     List(u32),
 }
 
-pub const LONGEST_LIST: usize = 65536;
+const LONGEST_LIST: usize = 65536;
 
 // How many ids the test for rising goes on by at a time: few enough that the compiler unrolls a block's loop.
 const BLOCK: usize = 64;
@@ -44,7 +44,7 @@ fn is_block_rising(ids: &[u32]) -> bool
 }
 
 // The ids rise strictly: block by block up to the first that does not rise, each from the last id of the one before.
-pub fn is_rising(ids: &[u32]) -> bool
+fn is_rising(ids: &[u32]) -> bool
     ensures { λ r. ⌜ r ≡ rising (now (ids .entry)) ⌝ }
 {
     let mut at = 0;

@@ -9,14 +9,6 @@ use Rattle.cells.specs.Cells.{compact, probed, mixed, mixedAll, keyHash}
 pub compact-probe : (hash : ℕ) → hash < 2 ^ 32 → compact (probed hash) ≡ hash
 compact-probe hash h = omega arith
 
--- a compact hash is a cell
-pub compact-fits : (full : ℕ) → full < 2 ^ 64 → compact full < 2 ^ 32
-compact-fits full h = omega arith
-
--- a probe is a 64-bit number
-pub probe-fits : (hash : ℕ) → hash < 2 ^ 32 → probed hash < 2 ^ 64
-probe-fits hash h = omega arith
-
 mixed-fits : (hash cell : ℕ) → mixed hash cell < 2 ^ 32
 unfolding mixed
 mixed-fits hash cell = omega arith

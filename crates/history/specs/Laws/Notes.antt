@@ -41,10 +41,6 @@ unfolding members
 range-yes a b i h k = has-countFrom i a (b - a) ∙ within-of a (a + (b - a)) i h (omega arith)
 
 module _ {p q : Plain} {then now : Stores} (r : Represents p then) (s : Represents q now) (f : Follows (p .rows) (q .rows)) where
-  -- as many rows then as the note counts, and no fewer now
-  count-now : then .header .rows ≤ now .header .rows
-  count-now = omega (arith, rows-counted r, rows-counted s, follows-length f)
-
   -- a stored row is live where the plain table's is
   live-now : (i : ℕ) → i < length (p .rows) → isLive (storedRow now i) ≡ rowOf q i .live
   live-now i h = sym (row-shown s i (omega (arith, follows-length f)) .live)

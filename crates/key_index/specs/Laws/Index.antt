@@ -17,7 +17,7 @@ use Rattle.cells.specs.Cells.{compact, keyHash}
 use Rattle.key_index.specs.declared.Keyed.{Keyed}
 use Rattle.key_index.specs.Slots.{LiveAt, keyAt, slots, word, home, slotFrom, StandsAt, KeysSound, tagged}
 use Rattle.key_index.specs.inner.Ring.{rowNamed}
-use Rattle.key_index.specs.Laws.Ring.{home-spread, word-tagged, word-some, word-row, word-same, slot-below, slot-met}
+use Rattle.key_index.specs.Laws.Ring.{home-spread, word-tagged, word-some, word-row, word-same, slot-below}
 use Rattle.key_index.specs.Laws.Pigeons.{pigeons}
 use Rattle.key_index.specs.inner.Index.{RowsIn, Fits, FirstFree, FoundAt, FirstHit, PutIs, zeros, EmptyIs}
 
@@ -65,13 +65,6 @@ module _ (t : Keyed) (rows store : List ℕ) (fits : Fits t rows store) (sound :
 
   pub free-slot : (slot : ℕ) × (slot < slots t) × (getD store slot 0 ≡ 0)
   free-slot = elim (any-free (slots t) store) [ inl f ↦ absurd (not-all f) | inr s ↦ s ]
-
-  -- going round from any slot
-  pub free-from : (start : ℕ) → (d : ℕ) × (d < slots t) × (getD store (slotFrom (slots t) start d) 0 ≡ 0)
-  free-from start =
-      let s = free-slot in
-      let m = slot-met (slots t) (omega (arith, fits .some)) start (s .0) (s .1) in
-      (m .0, m .1, rw (m .2) (s .2))
 
   -- so a row can always be put
   pub put-succeeds : (hash new : ℕ) (r : Bool) (store′ : List ℕ) → PutIs (slots t) store hash new r store′ → r ≡ true

@@ -1,5 +1,5 @@
--- From what a change did to the rows of the store, said row by row, to what the laws of soundness in Laws.antt ask of it: rows
--- as they were, one more, or one more in place of another. Assumes nothing.
+-- From what a change did to the rows of the store, said row by row, to what the laws of soundness in Laws.antt ask of it: one
+-- more, or one more in place of another. Assumes nothing.
 use Prim.Native.Nat.{ℕ, _+_, _<_}
 use mathlib.Core.Path.{_≡_, sym, ap, _∙_}
 use mathlib.Core.Logic.{inl, inr}
@@ -12,7 +12,7 @@ use Rattle.lists.specs.Lists.{rowAt}
 use Rattle.constraints.specs.Constraints.{isLive}
 use Rattle.key_index.specs.declared.Keyed.{Keyed}
 use Rattle.key_index.specs.Slots.{LiveAt, keyAt}
-use Rattle.key_index.specs.Laws.Index.{SameLive, Grown, Swapped}
+use Rattle.key_index.specs.Laws.Index.{Grown, Swapped}
 
 -- the same table with n rows
 pub record WithRows (t t′ : Keyed) (n : ℕ) : Type 0 where
@@ -42,17 +42,6 @@ module _ (t t′ : Keyed) (rows rows′ : List ℕ) (n : ℕ) (with-rows : WithR
 
   still-key : (i : ℕ) → rowAt (t .columns) i rows′ ≡ rowAt (t .columns) i rows → keyAt t′ rows′ i ≡ keyAt t rows i
   still-key i e = key-of i ∙ ap (take (t .keys)) e
-
--- the rows are as they were
-pub same-rows : (t t′ : Keyed) (rows rows′ : List ℕ) → WithRows t t′ (t .rows)
-    → ((i : ℕ) → i < t .rows → rowAt (t .columns) i rows′ ≡ rowAt (t .columns) i rows) → SameLive t t′ rows rows′
-same-rows t t′ rows rows′ w f =
-    record {
-      capacity = w .capacity;
-      keeps = λ i live. live-of t t′ rows rows′ (t .rows) w i (live .0) (still-live t t′ rows rows′ (t .rows) w i (f i (live .0)) (live .1));
-      only = λ i live. let l = of-live t t′ rows rows′ (t .rows) w i live in (l .0, was-live t t′ rows rows′ (t .rows) w i (f i (l .0)) (l .1));
-      key = λ i live. still-key t t′ rows rows′ (t .rows) w i (f i (live .0));
-    }
 
 -- a live row comes after them
 pub grown-rows : (t t′ : Keyed) (rows rows′ : List ℕ) → WithRows t t′ (t .rows + 1) → t .rows < t .capacity

@@ -3,10 +3,9 @@ use Prim.Native.Nat.{ℕ, zero, suc, _+_, _<_, suc-le-suc}
 use mathlib.Core.Path.{_≡_, refl, sym, ap, _∙_}
 use mathlib.Core.Bool.{Bool, true, false, not, _&&_, _||_, and-true, and-assoc, false≢true}
 use mathlib.Core.List.{List, [], _∷_, _++_, map}
-use native.Mathlib.Numerals.{add-one}
 use native.Mathlib.Omega.{arith}
-use lib.ListN.{length, drop, getD}
-use Rattle.lists.specs.Lists.{keep, count, every, any}
+use lib.ListN.{length, getD}
+use Rattle.lists.specs.Lists.{keep, count, every}
 use Rattle.lists.specs.Laws.Keep.{and-left, and-right, keep-every, every-keep}
 
 -- both hold
@@ -97,13 +96,3 @@ module _ {A : Type 0} (test : A → Bool) where
   unfolding every
   every-more [] x = and-true (test x)
   every-more (y ∷ xs) x = ap (λ (b : Bool). test y && b) (every-more xs x) ∙ sym (and-assoc (test y) (every test xs) (test x))
-
-  any-suc : (d : A) (xs : List A) (i : ℕ) → i < length xs → any test (drop i xs) ≡ (test (getD xs i d) || any test (drop (suc i) xs))
-  unfolding any
-  any-suc d [] i h = absurd (omega arith)
-  any-suc d (x ∷ xs) zero h = refl
-  any-suc d (x ∷ xs) (suc i) h = any-suc d xs i (omega arith)
-
-  -- from a place on, the element there passes or one after it
-  pub any-step : (d : A) (xs : List A) (i : ℕ) → i < length xs → any test (drop i xs) ≡ (test (getD xs i d) || any test (drop (i + 1) xs))
-  any-step d xs i h = rw (add-one i) (any-suc d xs i h)

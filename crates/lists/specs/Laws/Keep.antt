@@ -2,9 +2,9 @@
 use Prim.Native.Nat.{ℕ, zero, suc, _+_, _≤_, _<_, suc-le-suc}
 use mathlib.Core.Path.{_≡_, refl, sym, _∙_}
 use mathlib.Core.Logic.{_⊎_, inl, inr}
-use mathlib.Core.Bool.{Bool, true, false, not, _&&_, and-comm}
-use mathlib.Core.List.{List, [], _∷_, _++_, map, append-nil}
-use native.Mathlib.Nat.{zero-add, add-zero, suc-add}
+use mathlib.Core.Bool.{Bool, true, false, not, _&&_}
+use mathlib.Core.List.{List, [], _∷_, _++_, append-nil}
+use native.Mathlib.Nat.{zero-add, suc-add}
 use native.Mathlib.Numerals.{add-one}
 use native.Mathlib.Omega.{arith}
 use lib.ListN.{length, take, getD}
@@ -69,30 +69,6 @@ module _ {A : Type 0} where
   keep-same s t f [] = refl
   keep-same s t f (x ∷ xs) = rw (f x, keep-same s t f xs)
 
-  pub count-same : (s t : A → Bool) → ((x : A) → s x ≡ t x) → (xs : List A) → count s xs ≡ count t xs
-  unfolding count
-  count-same s t f [] = refl
-  count-same s t f (x ∷ xs) = rw (f x, count-same s t f xs)
-
-  pub keep-same-on : (s t : A → Bool) (d : A) (xs : List A) → ((i : ℕ) → i < length xs → s (getD xs i d) ≡ t (getD xs i d)) → keep s xs ≡ keep t xs
-  unfolding keep
-  keep-same-on s t d [] f = refl
-  keep-same-on s t d (x ∷ xs) f = rw (f 0 (omega arith), keep-same-on s t d xs (λ i h. f (suc i) (suc-le-suc h)))
-
-  pub count-same-on : (s t : A → Bool) (d : A) (xs : List A) → ((i : ℕ) → i < length xs → s (getD xs i d) ≡ t (getD xs i d)) → count s xs ≡ count t xs
-  unfolding count
-  count-same-on s t d [] f = refl
-  count-same-on s t d (x ∷ xs) f = rw (f 0 (omega arith), count-same-on s t d xs (λ i h. f (suc i) (suc-le-suc h)))
-
-  -- a second test on what passed a first
-  pub keep-keep : (s t : A → Bool) (xs : List A) → keep s (keep t xs) ≡ keep (λ x. t x && s x) xs
-  unfolding keep
-  keep-keep s t [] = refl
-  keep-keep s t (x ∷ xs) = let h = keep-keep s t xs in elim (split (t x)) [ inl e ↦ rw (e, h) | inr e ↦ rw (e, h) ]
-
-  pub keep-comm : (s t : A → Bool) (xs : List A) → keep s (keep t xs) ≡ keep t (keep s xs)
-  keep-comm s t xs = keep-keep s t xs ∙ keep-same (λ x. t x && s x) (λ x. s x && t x) (λ x. and-comm (t x) (s x)) xs ∙ sym (keep-keep t s xs)
-
   module _ (test : A → Bool) where
     pub keep-every : (xs : List A) → every test xs ≡ true → keep test xs ≡ xs
     unfolding keep every
@@ -113,19 +89,9 @@ module _ {A : Type 0} where
           | inr e ↦ absurd (let z : length (keep test xs) ≡ suc (length xs) = rw (keep-no test x xs e) at q in omega (arith, length-keep test xs, count-le test xs))
         ]
 
-    pub keep-none : (xs : List A) → count test xs ≡ 0 → keep test xs ≡ []
-    keep-none xs q = empty (keep test xs) (length-keep test xs ∙ q)
-      where
-        empty : (l : List A) → length l ≡ 0 → l ≡ []
-        empty [] e = refl
-        empty (y ∷ l) e = absurd (omega arith)
-
     -- one more element is looked at: it passes, or it does not
     keep-last : (xs : List A) (i : ℕ) (d : A) → i < length xs → keep test (take (i + 1) xs) ≡ keep test (take i xs) ++ keep test (getD xs i d ∷ [])
     keep-last xs i d h = rw (add-one, take-suc xs i d h) (keep-append test (take i xs) (getD xs i d ∷ []))
-
-    count-last : (xs : List A) (i : ℕ) (d : A) → i < length xs → count test (take (i + 1) xs) ≡ count test (take i xs) + count test (getD xs i d ∷ [])
-    count-last xs i d h = rw (add-one, take-suc xs i d h) (count-append test (take i xs) (getD xs i d ∷ []))
 
     pub keep-step : (xs : List A) (i : ℕ) (d : A) → i < length xs → test (getD xs i d) ≡ true → keep test (take (i + 1) xs) ≡ keep test (take i xs) ++ (getD xs i d ∷ [])
     unfolding keep
@@ -134,14 +100,6 @@ module _ {A : Type 0} where
     pub keep-skip : (xs : List A) (i : ℕ) (d : A) → i < length xs → test (getD xs i d) ≡ false → keep test (take (i + 1) xs) ≡ keep test (take i xs)
     unfolding keep
     keep-skip xs i d h q = keep-last xs i d h ∙ rw q (append-nil (keep test (take i xs)))
-
-    pub count-step : (xs : List A) (i : ℕ) (d : A) → i < length xs → test (getD xs i d) ≡ true → count test (take (i + 1) xs) ≡ count test (take i xs) + 1
-    unfolding count
-    count-step xs i d h q = count-last xs i d h ∙ rw q
-
-    pub count-skip : (xs : List A) (i : ℕ) (d : A) → i < length xs → test (getD xs i d) ≡ false → count test (take (i + 1) xs) ≡ count test (take i xs)
-    unfolding count
-    count-skip xs i d h q = count-last xs i d h ∙ rw q (add-zero (count test (take i xs)))
 
     pub count-split : (xs : List A) → count test xs + count (λ x. not (test x)) xs ≡ length xs
     unfolding count
@@ -166,8 +124,3 @@ module _ {A : Type 0} where
   every-keep-of s t (x ∷ xs) q =
       let h = every-keep-of s t xs (and-right (s x) _ q) in
       elim (split (t x)) [ inl e ↦ rw (e, and-left (s x) _ q, h) | inr e ↦ rw (e, h) ]
-
-  pub keep-map : {B : Type 0} (f : B → A) (t : A → Bool) (xs : List B) → keep t (map f xs) ≡ map f (keep (λ x. t (f x)) xs)
-  unfolding keep
-  keep-map f t [] = refl
-  keep-map f t (x ∷ xs) = let h = keep-map f t xs in elim (split (t (f x))) [ inl e ↦ rw (e, h) | inr e ↦ rw (e, h) ]

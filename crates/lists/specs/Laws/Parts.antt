@@ -6,7 +6,7 @@ use native.Mathlib.Nat.{add-zero, zero-add, suc-add}
 use native.Mathlib.Numerals.{add-one}
 use native.Mathlib.Omega.{arith}
 use lib.ListN.{length, take, drop, getD, set, length-append, length-take, length-drop, length-set, take-append-drop, drop-of-length-le}
-use lib.Seq.{take-all, take-append-le, take-append-add, take-at, drop-append-le, drop-append-add, drop-at, drop-drop, take-take, take-nil, getD-take, getD-drop, set-split}
+use lib.Seq.{take-all, take-append-le, take-at, drop-append-add, drop-at, drop-drop, take-take, take-nil, getD-take, getD-drop, set-split}
 use borrow.Rule.Slice.PartMut.{putMid}
 use Rattle.lists.specs.Lists.{putAt}
 
@@ -47,11 +47,6 @@ module _ {A : Type 0} where
     pub part-putAt : take (length w) (drop at (putAt l at w)) ≡ w
     unfolding putAt
     part-putAt = ap (take (length w)) (drop-at (take at l) _ at head-length) ∙ take-at w _ (length w) refl
-
-    pub getD-putAt-before : (i : ℕ) (d : A) → i < at → getD (putAt l at w) i d ≡ getD l i d
-    getD-putAt-before i d h =
-        let k : at ≤ at = omega arith in
-        sym (getD-take at (putAt l at w) i d h) ∙ ap (λ (x : List A). getD x i d) (take-putAt at k) ∙ getD-take at l i d h
 
     pub getD-putAt-in : (i : ℕ) (d : A) → i < length w → getD (putAt l at w) (at + i) d ≡ getD w i d
     getD-putAt-in i d h =
@@ -127,32 +122,9 @@ module _ {A : Type 0} where
       let g : at + length v ≤ at + length w = omega arith in
       ap₂ (λ (x y : List A). x ++ (w ++ y)) (take-putAt l v at h at k) (drop-putAt l v at h _ g)
 
-  -- and as long
-  pub putAt-again : (l v w : List A) (at : ℕ) → at + length v ≤ length l → length v ≡ length w → putAt (putAt l at v) at w ≡ putAt l at w
-  putAt-again l v w at h e = putAt-over l v w at h (omega arith)
-
   -- what stands at the front, written there again
   pub putAt-front : (l : List A) (n : ℕ) → n ≤ length l → putAt l 0 (take n l) ≡ l
   putAt-front l n h = putAt-alike l l n h refl
-
-  -- two writes apart, in either order
-  pub putAt-apart : (l v w : List A) (a b : ℕ) → a + length v ≤ b → b + length w ≤ length l → putAt (putAt l a v) b w ≡ putAt (putAt l b w) a v
-  unfolding putAt
-  putAt-apart l v w a b h k =
-      let f : a + length v ≤ length l = omega arith in
-      let g : a + length v ≤ b + length w = omega arith in
-      let p : a ≤ b = omega arith in
-      let m : length (take a l) ≡ a = simp length-take (omega arith) in
-      let n : a + length v ≤ length (take b l) = simp length-take (omega arith) in
-      let e : b ≡ length (take a l) + (length v + (b - (a + length v))) = omega arith in
-      let q : a + length v + (b - (a + length v)) ≡ b = omega arith in
-      let front : take b (putAt l a v) ≡ take a l ++ (v ++ drop (a + length v) (take b l)) =
-      ap (λ (i : ℕ). take i (putAt l a v)) e ∙ take-append-add (take a l) _ _
-      ∙ ap (λ (x : List A). take a l ++ x) (take-append-add v _ _ ∙ ap (λ (x : List A). v ++ x) (take-drop (a + length v) _ l ∙ ap (λ (i : ℕ). drop (a + length v) (take i l)) q)) in
-      ap₂ (λ (x y : List A). x ++ (w ++ y)) front (drop-putAt l v a f (b + length w) g)
-      ∙ append-assoc (take a l) _ _
-      ∙ ap (λ (x : List A). take a l ++ x) (append-assoc v _ _)
-      ∙ sym (ap₂ (λ (x y : List A). x ++ (v ++ y)) (take-putAt l w b k a p) (drop-append-le (a + length v) (take b l) _ n))
 
   -- one cell, and two neighbours
   pub set-putAt : (l : List A) (i : ℕ) (a : A) → i < length l → set l i a ≡ putAt l i (a ∷ [])

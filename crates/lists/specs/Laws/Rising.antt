@@ -4,13 +4,12 @@ use mathlib.Core.Path.{_≡_, refl, sym, ap, ap₂, _∙_}
 use mathlib.Core.Logic.{_⊎_, inl, inr}
 use mathlib.Core.Bool.{Bool, true, false, _&&_, _||_, and-assoc, and-comm, and-true, and-false, or-assoc, false≢true}
 use mathlib.Core.List.{List, [], _∷_, _++_}
-use native.Mathlib.Nat.{zero-add, add-zero, suc-add, add-suc, zero-min, min-zero, suc-min-suc, zero-sub, sub-zero, suc-sub-suc}
+use native.Mathlib.Nat.{zero-add, add-zero, suc-add, add-suc, sub-zero, suc-sub-suc}
 use native.Mathlib.Decide.{decLt, ℕ-discrete}
 use native.Mathlib.Numerals.{add-one}
 use native.Mathlib.Omega.{arith}
 use lib.Dec.{leb, ltb, eqb}
 use lib.ListN.{length, take, drop, getD}
-use lib.Seq.{ext-getD}
 use borrow.Author.Tests.{ltb-true, leb-true, eqb-true, lt-ltb, le-ltb, le-leb, lt-leb, eq-eqb, ne-eqb}
 use Rattle.lists.specs.Lists.{keep, count, countFrom, above, rising, has, within, same}
 use Rattle.lists.specs.Laws.Keep.{split, and-left, and-right, keep-yes, keep-no, count-yes, count-no}
@@ -63,18 +62,6 @@ countFrom-append s (suc n) m = rw (suc-add n m, countFrom-append (suc s) n m, su
 pub countFrom-snoc : (s n : ℕ) → countFrom s (n + 1) ≡ countFrom s n ++ ((s + n) ∷ [])
 unfolding countFrom
 countFrom-snoc s n = countFrom-append s n 1
-
-pub take-countFrom : (k s n : ℕ) → take k (countFrom s n) ≡ countFrom s (min k n)
-unfolding countFrom
-take-countFrom zero s n = rw zero-min
-take-countFrom (suc k) s zero = rw min-zero
-take-countFrom (suc k) s (suc n) = rw (suc-min-suc, take-countFrom k (suc s) n)
-
-pub drop-countFrom : (k s n : ℕ) → drop k (countFrom s n) ≡ countFrom (s + k) (n - k)
-unfolding countFrom
-drop-countFrom zero s n = rw (add-zero, sub-zero)
-drop-countFrom (suc k) s zero = rw zero-sub
-drop-countFrom (suc k) s (suc n) = rw (suc-sub-suc, drop-countFrom k (suc s) n, suc-add s k, add-suc s k)
 
 -- ---- above and rising
 
@@ -157,16 +144,6 @@ rising-of-suc (x ∷ y ∷ ys) f = above-cons x y ys (f 0 (omega arith)) (rising
 -- neighbours decide
 pub rising-of : (l : List ℕ) → ((i : ℕ) → i + 1 < length l → getD l i 0 < getD l (i + 1) 0) → rising l ≡ true
 rising-of l f = rising-of-suc l (λ i h. rw add-one at (f i (omega arith)))
-
-above-snoc : (y : ℕ) (l : List ℕ) (x : ℕ) → above y l ≡ true → y < x → ((i : ℕ) → i < length l → getD l i 0 < x) → above y (l ++ (x ∷ [])) ≡ true
-above-snoc y [] x e h f = above-cons y x [] h (unfold above in refl)
-above-snoc y (z ∷ zs) x e h f =
-    above-cons y z (zs ++ (x ∷ [])) (above-head y z zs e) (above-snoc z zs x (above-tail y z zs e) (f 0 (omega arith)) (λ i k. f (suc i) (suc-le-suc k)))
-
-pub rising-snoc : (l : List ℕ) (x : ℕ) → rising l ≡ true → ((i : ℕ) → i < length l → getD l i 0 < x) → rising (l ++ (x ∷ [])) ≡ true
-unfolding rising
-rising-snoc [] x e f = unfold above in refl
-rising-snoc (y ∷ ys) x e f = above-snoc y ys x e (f 0 (omega arith)) (λ i k. f (suc i) (suc-le-suc k))
 
 above-take : (n x : ℕ) (l : List ℕ) → above x l ≡ true → above x (take n l) ≡ true
 above-take zero x l e = unfold above in refl
@@ -360,20 +337,6 @@ rising-gap l e i (suc k) h =
     let b : getD l (i + k) 0 < getD l (i + suc k) 0 = rising-at l e (i + k) (i + suc k) (omega arith) (omega arith) in
     omega arith
 
--- a rising list that ends as far from its start as it is long is a run
-pub neighbours-countFrom : (l : List ℕ) (s n : ℕ) → rising l ≡ true → length l ≡ n → 0 < n → getD l 0 0 ≡ s → getD l (n - 1) 0 ≡ s + (n - 1) → l ≡ countFrom s n
-neighbours-countFrom l s n e p z first last = ext-getD 0 l (countFrom s n) (p ∙ sym (length-countFrom s n)) each
-  where
-    each : (i : ℕ) → i < length l → getD l i 0 ≡ getD (countFrom s n) i 0
-    each i h =
-        let a : getD l 0 0 + i ≤ getD l (0 + i) 0 = rising-gap l e 0 i (omega arith) in
-        let a′ : getD l 0 0 + i ≤ getD l i 0 = rw zero-add at a in
-        let b : getD l i 0 + (n - 1 - i) ≤ getD l (i + (n - 1 - i)) 0 = rising-gap l e i (n - 1 - i) (omega arith) in
-        let k : i + (n - 1 - i) ≡ n - 1 = omega arith in
-        let b′ : getD l i 0 + (n - 1 - i) ≤ getD l (n - 1) 0 = rw k at b in
-        let c = getD-countFrom s n i 0 (omega arith) in
-        omega arith
-
 -- ---- what a search finds
 
 -- how many are below t, where the first p are and the others are not
@@ -432,6 +395,3 @@ same-eq (x ∷ xs) (y ∷ ys) e = ap₂ (λ (z : ℕ) (zs : List ℕ). z ∷ zs)
 
 pub same-ne : (l m : List ℕ) → (l ≡ m → ⊥) → same l m ≡ false
 same-ne l m h = elim (split (same l m)) [ inl e ↦ absurd (h (same-eq l m e)) | inr e ↦ e ]
-
-pub same-length : (l m : List ℕ) → same l m ≡ true → length l ≡ length m
-same-length l m e = ap length (same-eq l m e)

@@ -1,8 +1,8 @@
 -- What may be relied on of the rules: which cells the row made has, and what rules 0 and 1 come to. Assumes nothing.
 use Prim.Native.Nat.{ℕ, zero, suc, min, _+_, _≤_, _<_}
 use mathlib.Core.Path.{_≡_, refl, sym, ap, _∙_}
-use mathlib.Core.Logic.{_⊎_, inl, inr}
-use mathlib.Core.Bool.{Bool, true, false, cond, not, _&&_, _||_, false≢true}
+use mathlib.Core.Logic.{inl, inr}
+use mathlib.Core.Bool.{Bool, true, false, cond, not, _&&_}
 use mathlib.Core.List.{List, [], _∷_}
 use native.Mathlib.Nat.{add-zero}
 use native.Mathlib.Decide.{decLt, ℕ-discrete}
@@ -10,24 +10,14 @@ use native.Mathlib.Omega.{arith}
 use lib.Dec.{leb, eqb}
 use lib.ListN.{length, take, getD, length-take}
 use lib.Seq.{getD-take, ext-getD}
-use borrow.Author.Tests.{eq-eqb, ne-eqb, le-leb, lt-leb, eqb-true}
-use Rattle.lists.specs.Laws.Keep.{split, and-left, and-right}
-use Rattle.merge_rules.specs.Rules.{ruledColumn, smaller, larger, taken, madeCell, madeFrom, changesFrom, kept, made, ruled}
+use borrow.Author.Tests.{eq-eqb, ne-eqb, le-leb, lt-leb}
+use Rattle.lists.specs.Laws.Keep.{split}
+use Rattle.merge_rules.specs.Rules.{ruledColumn, taken, madeCell, madeFrom, changesFrom, kept, made, ruled}
 use Rattle.merge_rules.specs.Survivor.{survivor}
-use Rattle.merge_rules.specs.Laws.Signed.{smaller-same, larger-same}
 
 and-false : (b : Bool) → (b && false) ≡ false
 and-false true = refl
 and-false false = refl
-
-or-right : (a b : Bool) → (a || b) ≡ false → b ≡ false
-or-right true b e = absurd (false≢true (sym e))
-or-right false b e = e
-
--- no change of a cell that the rule may choose
-no-change : (r rest : Bool) (x y : ℕ) → r ≡ true → ((r && not (eqb x y)) || rest) ≡ false → x ≡ y
-no-change r rest x y q e =
-    elim (split (eqb x y)) [ inl s ↦ eqb-true x y s | inr s ↦ absurd (false≢true (sym (rw (q, s) at e))) ]
 
 -- ---- cells
 
@@ -45,20 +35,6 @@ ruled-past keys sort column h = rw (le-leb _ _ h)
 
 pub ruled-other : (keys sort column : ℕ) → keys ≤ column → (column ≡ sort → ⊥) → ruledColumn keys sort column ≡ true
 ruled-other keys sort column h ne = ruled-past keys sort column h ∙ rw (ne-eqb _ _ ne)
-
--- equal cells stay
-pub taken-same : (rule cell : ℕ) → taken rule cell cell ≡ cell
-unfolding taken
-taken-same rule cell =
-    let low : smaller cell cell ≡ cell = smaller-same cell in
-    let high : larger cell cell ≡ cell = larger-same cell in
-    elim (split (eqb rule 1)) [
-      | inl e ↦ rw e
-      | inr e ↦ elim (split (eqb rule 2)) [
-        | inl f ↦ rw (e, f) low
-        | inr f ↦ elim (split (eqb rule 3)) [ inl g ↦ rw (e, f, g) high | inr g ↦ rw (e, f, g) ]
-      ]
-    ]
 
 module _ (rule keys sort column old new : ℕ) where
   -- "Key cells stay"
@@ -118,10 +94,6 @@ module _ (rule keys sort : ℕ) where
           ∙ made-key-cell rule keys sort i (getD old i 0) (getD new i 0) k same
           ∙ sym (getD-take keys old i 0 k)
 
-  -- "the sort cell is the new row's"
-  pub made-sort : (old new : List ℕ) → sort < length old → sort < length new → getD (madeFrom rule keys sort 0 old new) sort 0 ≡ getD new sort 0
-  made-sort old new h k = made-at old new sort h k ∙ made-sort-cell rule keys sort sort (getD old sort 0) (getD new sort 0) refl
-
   -- "the old row is kept", or a row is made
   pub kept-of : (old new : List ℕ) → changesFrom rule keys sort 0 old new ≡ false → ruled rule keys sort old new ≡ kept
   unfolding ruled
@@ -130,50 +102,6 @@ module _ (rule keys sort : ℕ) where
   pub made-of : (old new : List ℕ) → changesFrom rule keys sort 0 old new ≡ true → ruled rule keys sort old new ≡ made (madeFrom rule keys sort 0 old new)
   unfolding ruled
   made-of old new e = rw e
-
-  pub kept-or-changed : (old new : List ℕ)
-      → ((changesFrom rule keys sort 0 old new ≡ false) × (ruled rule keys sort old new ≡ kept))
-      ⊎ ((changesFrom rule keys sort 0 old new ≡ true) × (ruled rule keys sort old new ≡ made (madeFrom rule keys sort 0 old new)))
-  kept-or-changed old new = elim (split (changesFrom rule keys sort 0 old new)) [ inl e ↦ inr (e, made-of old new e) | inr e ↦ inl (e, kept-of old new e) ]
-
-  -- where nothing changes, the rule takes every old cell outside keys and sort column
-  same-from : (column : ℕ) (old new : List ℕ) → changesFrom rule keys sort column old new ≡ false → (i : ℕ) → i < length old → i < length new
-      → ruledColumn keys sort (column + i) ≡ true → taken rule (getD old i 0) (getD new i 0) ≡ getD old i 0
-  unfolding changesFrom
-  same-from column [] new e i h k r = absurd (omega arith)
-  same-from column (a ∷ old) [] e i h k r = absurd (omega arith)
-  same-from column (a ∷ old) (b ∷ new) e zero h k r =
-      let q : ruledColumn keys sort column ≡ true = rw add-zero at r in
-      no-change _ _ _ _ q e
-  same-from column (a ∷ old) (b ∷ new) e (suc i) h k r =
-      let z : suc column + i ≡ column + suc i = omega arith in
-      same-from (suc column) old new (or-right (ruledColumn keys sort column && not (eqb (taken rule a b) a)) _ e) i (omega arith) (omega arith) (rw z r)
-
-  pub kept-cells : (old new : List ℕ) → changesFrom rule keys sort 0 old new ≡ false → (i : ℕ) → i < length old → i < length new
-      → ruledColumn keys sort i ≡ true → taken rule (getD old i 0) (getD new i 0) ≡ getD old i 0
-  kept-cells old new e i h k r = let z : 0 + i ≡ i = omega arith in same-from 0 old new e i h k (rw z r)
-
-  -- where something changes, there is such a cell that the rule does not take
-  change-from : (column : ℕ) (old new : List ℕ) → changesFrom rule keys sort column old new ≡ true
-      → (i : ℕ) × (i < length old) × (i < length new) × (ruledColumn keys sort (column + i) ≡ true) × (taken rule (getD old i 0) (getD new i 0) ≡ getD old i 0 → ⊥)
-  unfolding changesFrom
-  change-from column [] new e = absurd (false≢true e)
-  change-from column (a ∷ old) [] e = absurd (false≢true e)
-  change-from column (a ∷ old) (b ∷ new) e =
-      elim (split (ruledColumn keys sort column && not (eqb (taken rule a b) a))) [
-        | inl q ↦ (0, omega arith, omega arith, rw add-zero (and-left _ _ q), λ s. false≢true (sym (ap not (eq-eqb _ _ s)) ∙ and-right (ruledColumn keys sort column) _ q))
-        | inr q ↦
-            let t = change-from (suc column) old new (rw q at e) in
-            let z : suc column + t .0 ≡ column + suc (t .0) = omega arith in
-            (suc (t .0), omega arith, omega arith, rw (← z) (t .3), t .4)
-      ]
-
-  pub changed-cell : (old new : List ℕ) → changesFrom rule keys sort 0 old new ≡ true
-      → (i : ℕ) × (i < length old) × (i < length new) × (ruledColumn keys sort i ≡ true) × (taken rule (getD old i 0) (getD new i 0) ≡ getD old i 0 → ⊥)
-  changed-cell old new e =
-      let t = change-from 0 old new e in
-      let z : 0 + t .0 ≡ t .0 = omega arith in
-      (t .0, t .1, t .2, rw z at (t .3), t .4)
 
 -- ---- rule 0
 
@@ -234,10 +162,6 @@ module _ (keys sort : ℕ) (old new : List ℕ) (n : length old ≡ length new) 
 pub survivor-length : (rule keys sort : ℕ) (old new : List ℕ) → length old ≡ length new → length (survivor rule keys sort old new) ≡ length old
 unfolding survivor
 survivor-length rule keys sort old new n = elim (split (changesFrom rule keys sort 0 old new)) [ inl e ↦ rw e (sym n) | inr e ↦ rw e ]
-
-pub survivor-keys : (rule keys sort : ℕ) (old new : List ℕ) → take keys old ≡ take keys new → take keys (survivor rule keys sort old new) ≡ take keys old
-unfolding survivor
-survivor-keys rule keys sort old new k = elim (split (changesFrom rule keys sort 0 old new)) [ inl e ↦ rw e (sym k) | inr e ↦ rw e ]
 
 -- ---- what a row that is made is
 

@@ -2,19 +2,17 @@
 -- such number is meant by one cell; their order is that of the numbers plus 2147483648. Assumes nothing.
 use Prim.Native.Nat.{ℕ, suc, _+_, _-_, _%_, _≤_, _<_}
 use mathlib.Core.Path.{_≡_, refl, sym, ap, _∙_, subst}
-use mathlib.Core.Logic.{_⊎_, inl, inr}
-use mathlib.Core.Bool.{Bool, true, false, not, cond}
+use mathlib.Core.Bool.{Bool, true, false}
 use native.Mathlib.Decide.{decLt}
 use native.Mathlib.Omega.{arith}
-use lib.Dec.{T, ltb, ltb→lt, leb→le, le→leb}
-use lib.IntN.{ℤ, pos, negsuc, _+ℤ_}
-use lib.Signed.{ltZ, leZ, _≤ℤ_, ≤ℤ-refl, leZ-yes, ltZ-no}
+use lib.Dec.{ltb, leb→le, le→leb}
+use lib.IntN.{ℤ, pos, negsuc}
+use lib.Signed.{_≤ℤ_, leZ-yes}
 use mir.Syntax.{w32}
 use mir.Val.{toZ, ofZ, sel}
 use mir.Facts.{ofZ-toZ}
 use borrow.Author.Tests.{lt-ltb, le-ltb}
-use Rattle.lists.specs.Laws.Keep.{split}
-use Rattle.merge_rules.specs.Rules.{signed, signedLess, smaller, larger}
+use Rattle.merge_rules.specs.Rules.{signed, signedLess}
 
 -- ---- the number that a cell means
 
@@ -102,21 +100,6 @@ module _ (a b : ℕ) where
   unfolding signedLess
   not-less-negative h k = rw (not-negative a h, negative b k)
 
--- the number plus 2147483648
-pub lifted : (cell : ℕ) → cell < 4294967296 → signed cell +ℤ pos 2147483648 ≡ pos ((cell + 2147483648) % 4294967296)
-lifted cell p =
-    elim (decLt cell 2147483648) [
-      | yes h ↦
-          let e : cell + 2147483648 ≡ (cell + 2147483648) % 4294967296 = omega arith in
-          ap (λ (z : ℤ). z +ℤ pos 2147483648) (not-negative cell h) ∙ ap pos e
-      | no h ↦
-          let k : suc (4294967295 - cell) ≤ 2147483648 = omega arith in
-          let e : 2147483648 - suc (4294967295 - cell) ≡ (cell + 2147483648) % 4294967296 = omega arith in
-          ap (λ (z : ℤ). z +ℤ pos 2147483648) (negative cell (omega arith))
-          ∙ ap (λ (b : Bool). cond b (negsuc (suc (4294967295 - cell) - suc 2147483648)) (pos (2147483648 - suc (4294967295 - cell)))) (le-ltb 2147483648 (suc (4294967295 - cell)) k)
-          ∙ ap pos e
-    ]
-
 -- the order of signed cells is that of the numbers plus 2147483648, here x and y
 pub less-lifted : (a b x y : ℕ) → a < 4294967296 → b < 4294967296 → x ≡ (a + 2147483648) % 4294967296 → y ≡ (b + 2147483648) % 4294967296
     → signedLess a b ≡ ltb x y
@@ -131,46 +114,3 @@ less-lifted a b x y p q e f =
         | no k ↦ less-negative a b (omega arith) (omega arith) p q ∙ agree a b x y (λ (l : a < b). omega arith) (λ (l : b ≤ a). omega arith)
       ]
     ]
-
--- ---- the smaller and the larger cell
-
-less-le : (a b : ℤ) → T (ltZ a b) → T (leZ a b)
-less-le (pos a) (pos b) t = let h : a < b = ltb→lt a b t in le→leb a b (omega arith)
-less-le (pos a) (negsuc b) t = t
-less-le (negsuc a) (pos b) t = t
-less-le (negsuc a) (negsuc b) t = let h : b < a = ltb→lt b a t in le→leb b a (omega arith)
-
-less-at-most : (a b : ℕ) → signedLess a b ≡ true → signed a ≤ℤ signed b
-unfolding signedLess
-less-at-most a b e = leZ-yes (less-le (signed a) (signed b) (subst T (sym e) tt))
-
-not-less-at-most : (a b : ℕ) → signedLess a b ≡ false → signed b ≤ℤ signed a
-unfolding signedLess
-not-less-at-most a b e = ltZ-no (subst (λ (t : Bool). T (not t)) (sym e) tt)
-
-module _ (a b : ℕ) where
-  -- one of the two, and it means no more than either
-  pub smaller-is : ((smaller a b ≡ a) ⊎ (smaller a b ≡ b)) × (signed (smaller a b) ≤ℤ signed a) × (signed (smaller a b) ≤ℤ signed b)
-  unfolding smaller
-  smaller-is =
-      elim (split (signedLess b a)) [
-        | inl e ↦ rw e (inr refl, less-at-most b a e, ≤ℤ-refl _)
-        | inr e ↦ rw e (inl refl, ≤ℤ-refl _, not-less-at-most b a e)
-      ]
-
-  -- one of the two, and it means no less than either
-  pub larger-is : ((larger a b ≡ a) ⊎ (larger a b ≡ b)) × (signed a ≤ℤ signed (larger a b)) × (signed b ≤ℤ signed (larger a b))
-  unfolding larger
-  larger-is =
-      elim (split (signedLess a b)) [
-        | inl e ↦ rw e (inr refl, less-at-most a b e, ≤ℤ-refl _)
-        | inr e ↦ rw e (inl refl, ≤ℤ-refl _, not-less-at-most a b e)
-      ]
-
-pub smaller-same : (cell : ℕ) → smaller cell cell ≡ cell
-unfolding smaller
-smaller-same cell = elim (split (signedLess cell cell)) [ inl e ↦ rw e | inr e ↦ rw e ]
-
-pub larger-same : (cell : ℕ) → larger cell cell ≡ cell
-unfolding larger
-larger-same cell = elim (split (signedLess cell cell)) [ inl e ↦ rw e | inr e ↦ rw e ]

@@ -233,10 +233,6 @@ wellFormed-narrowed test (list ids) p h = formed-keep test ids p
 
 -- ---- answers
 
--- nothing is written yet
-pub wrote-none : (output : List ℕ) → Wrote output [] 0 output
-wrote-none output = record { number = refl; cells = sym (putAt-nil output 0) }
-
 pub answered-range : (a b : ℕ) (output : List ℕ) → Answered (accepted (range a b)) output (Range a b) output
 unfolding subsetSays shape written
 answered-range a b output = record { answers = refl; writes = sym (putAt-nil output 0) }

@@ -1,10 +1,10 @@
 -- What a merge's parts leave as it was: the count of rows, the opening, the generation, the staged records. Assumes
 -- nothing.
-use Prim.Native.Nat.{ℕ, zero, suc, _≤_}
+use Prim.Native.Nat.{ℕ, zero, suc}
 use mathlib.Core.Path.{_≡_, refl, ap, _∙_}
 use mathlib.Core.Bool.{Bool, true, false, cond}
 use mathlib.Core.Option.{Option, none, some}
-use mathlib.Core.List.{List, [], _∷_, _++_}
+use mathlib.Core.List.{List, [], _∷_}
 use native.Mathlib.Omega.{arith}
 use lib.Dec.{eqb}
 use lib.ListN.{length, take, length-append, length-map}
@@ -185,27 +185,9 @@ pub insertAll-alike : (rows : List (List ℕ)) (place : ℕ) (added : Bool) (p :
 insertAll-alike rows place added p =
     insertAll-keeps (λ t. Alike p t) (λ row. true) (λ cells t t′ u h q. alike-then h (insertion-alike cells t t′ q)) rows (every-true rows) place added p (alike-same p)
 
--- no insert takes a row away
-pub insertAll-count : (rows : List (List ℕ)) (place : ℕ) (added : Bool) (p : Plain) → length (p .rows) ≤ length (insertAll rows place added p .table .rows)
-insertAll-count rows place added p =
-    insertAll-keeps (λ t. length (p .rows) ≤ length (t .rows)) (λ row. true) (λ cells t t′ u h q. omega (arith, insertion-count cells t t′ q)) rows (every-true rows) place added p
-    (omega arith)
-
 -- a merge's removals and inserts leave all but the rows and the largest value
 pub applied-alike : (p : Plain) → Alike p (applied p .table)
 unfolding applied
 applied-alike p =
     alike-then (withoutKeys-alike (keyRemovals (p .staged)) p)
     (alike-then (withoutRows-alike (rowRemovals (p .staged)) _) (insertAll-alike (inserts (p .staged)) 0 false _))
-
--- they take no row away
-pub applied-count : (p : Plain) → length (p .rows) ≤ length (applied p .table .rows)
-unfolding applied
-applied-count p =
-    let q : Plain = withoutKeys (keyRemovals (p .staged)) p in
-    omega (
-      arith,
-      length-withoutKeys (keyRemovals (p .staged)) p,
-      length-withoutRows (rowRemovals (p .staged)) q,
-      insertAll-count (inserts (p .staged)) 0 false (withoutRows (rowRemovals (p .staged)) q),
-    )

@@ -4,7 +4,7 @@
 use Prim.Native.Nat.{ℕ, zero, suc, _+_, _-_, _*_, _/_, _%_, _^_, _≤_, _<_}
 use mathlib.Core.Path.{_≡_, refl, sym, ap, ap₂, _∙_}
 use mathlib.Core.Logic.{inl, inr}
-use mathlib.Core.Bool.{Bool, true, false, cond, not, false≢true}
+use mathlib.Core.Bool.{Bool, true, false, cond, false≢true}
 use mathlib.Core.List.{List, [], _∷_}
 use native.Mathlib.Nat.{zero-add, add-zero, suc-add, add-assoc, add-comm, zero-mul, one-mul, mul-assoc, mul-comm, pow-suc, mod-lt, mod-eq-of-lt, add-mul-mod-self-right}
 use native.Mathlib.Decide.{decLt}
@@ -12,12 +12,11 @@ use native.Mathlib.Numerals.{add-one, one-add}
 use native.Mathlib.Omega.{arith}
 use lib.Pow.{pow-pos, pow-add, mod-pow-add}
 use lib.Count.{ones, ones-cat, ones-le}
-use lib.ListN.{length, take, drop, getD, set, length-take}
-use lib.Seq.{take-length, take-take}
+use lib.ListN.{length, take, drop, getD, set}
+use lib.Seq.{take-take}
 use Rattle.lists.specs.Lists.{keep, count, rowAt, rowsOf}
-use Rattle.lists.specs.Laws.Keep.{split, count-le}
-use Rattle.lists.specs.Laws.Rows.{length-rowsOf, getD-rowsOf, getD-rowAt, rowsOf-set}
-use Rattle.cells.specs.Cells.{isDead}
+use Rattle.lists.specs.Laws.Keep.{split}
+use Rattle.lists.specs.Laws.Rows.{rowsOf-set}
 use Rattle.row_buffer.specs.Ranks.{setBelow, marks, countTo, liveAt, liveWord, newNumber}
 
 -- ---- digits
@@ -62,14 +61,6 @@ module _ (f : ℕ → Bool) where
       let h = marks-lt n in
       let e : 2 ^ suc n ≡ 2 ^ n * 2 = pow-suc 2 n in
       elim (split (f n)) [ inl q ↦ rw q (omega arith) | inr q ↦ rw q (omega arith) ]
-
-  -- places that are not marked add nothing
-  pub marks-end : (n j : ℕ) → ((k : ℕ) → n ≤ k → f k ≡ false) → marks f (n + j) ≡ marks f n
-  marks-end n zero none = rw add-zero
-  marks-end n (suc j) none =
-      let e : n + suc j ≡ n + j + 1 = omega arith in
-      let h : n ≤ n + j = omega arith in
-      rw e (marks-no (n + j) (none (n + j) h) ∙ marks-end n j none)
 
   -- the digit that a mark is
   digit : ℕ → ℕ
@@ -125,19 +116,7 @@ module _ {A : Type 0} (live : A → Bool) where
   liveAt-in (row ∷ rows) zero d h = refl
   liveAt-in (row ∷ rows) (suc i) d h = liveAt-in rows i d (omega arith)
 
-  pub liveAt-past : (rows : List A) (i : ℕ) → length rows ≤ i → liveAt live rows i ≡ false
-  unfolding liveAt
-  liveAt-past [] i h = refl
-  liveAt-past (row ∷ rows) zero h = absurd (omega arith)
-  liveAt-past (row ∷ rows) (suc i) h = liveAt-past rows i (omega arith)
-
-  pub live-in : (rows : List A) (i : ℕ) → liveAt live rows i ≡ true → i < length rows
-  unfolding liveAt
-  live-in [] i e = absurd (false≢true e)
-  live-in (row ∷ rows) zero e = omega arith
-  live-in (row ∷ rows) (suc i) e = let h = live-in rows i e in omega arith
-
-  -- the word of the rows from `start` on: none, one row more, live or not, and no row left
+  -- the word of the rows from `start` on: none, one row more, live or not
   module _ (rows : List A) (start : ℕ) where
     pub word-none : liveWord live rows start 0 ≡ 0
     unfolding liveWord marks
@@ -155,10 +134,6 @@ module _ {A : Type 0} (live : A → Bool) where
     unfolding liveWord
     word-lt n = marks-lt (λ bit. liveAt live rows (start + bit)) n
 
-    pub word-end : (n j : ℕ) → length rows ≤ start + n → liveWord live rows start (n + j) ≡ liveWord live rows start n
-    unfolding liveWord
-    word-end n j h = marks-end (λ bit. liveAt live rows (start + bit)) n j (λ k p. liveAt-past rows (start + k) (omega arith))
-
   number-digit : (rows : List A) (i : ℕ) → newNumber live rows (suc i) ≡ newNumber live rows i + cond (liveAt live rows i) 1 0
   unfolding newNumber liveAt count
   number-digit [] zero = refl
@@ -168,24 +143,13 @@ module _ {A : Type 0} (live : A → Bool) where
       let h = number-digit rows i in
       elim (split (live row)) [ inl e ↦ rw (e, h, suc-add) | inr e ↦ rw (e, h) ]
 
-  -- numbers rise by one from live row to live row, and stay over dead ones
+  -- numbers rise by one over a live row
   pub number-live : (rows : List A) (i : ℕ) → liveAt live rows i ≡ true → newNumber live rows (i + 1) ≡ newNumber live rows i + 1
   number-live rows i e = rw (add-one i) (number-digit rows i ∙ rw e)
-
-  pub number-dead : (rows : List A) (i : ℕ) → liveAt live rows i ≡ false → newNumber live rows (i + 1) ≡ newNumber live rows i
-  number-dead rows i e = rw add-one (number-digit rows i ∙ rw e (add-zero (newNumber live rows i)))
 
   pub number-zero : (rows : List A) → newNumber live rows 0 ≡ 0
   unfolding newNumber count
   number-zero rows = refl
-
-  pub number-le : (rows : List A) (i : ℕ) → newNumber live rows i ≤ i
-  unfolding newNumber
-  number-le rows i = omega (arith, count-le live (take i rows), length-take i rows)
-
-  pub number-all : (rows : List A) → newNumber live rows (length rows) ≡ count live rows
-  unfolding newNumber
-  number-all rows = rw take-length
 
   number-grows : (rows : List A) (i k : ℕ) → newNumber live rows i ≤ newNumber live rows (i + k)
   number-grows rows i zero = rw add-zero (omega arith)
@@ -193,37 +157,12 @@ module _ {A : Type 0} (live : A → Bool) where
       let e : i + suc k ≡ suc (i + k) = omega arith in
       rw e (omega (arith, number-grows rows i k, number-digit rows (i + k)))
 
-  number-stays : (rows : List A) (i k : ℕ) → ((m : ℕ) → i ≤ m → m < i + k → liveAt live rows m ≡ false) → newNumber live rows (i + k) ≡ newNumber live rows i
-  number-stays rows i zero none = rw add-zero
-  number-stays rows i (suc k) none =
-      let e : i + suc k ≡ i + k + 1 = omega arith in
-      let low : i ≤ i + k = omega arith in
-      let high : i + k < i + suc k = omega arith in
-      rw e (number-dead rows (i + k) (none (i + k) low high) ∙ number-stays rows i k (λ m p q. none m p (omega arith)))
-
-  -- "the new number of the first live one": before it no row of the word counts
-  pub number-first : (rows : List A) (start i : ℕ) → start ≤ i → ((m : ℕ) → start ≤ m → m < i → liveAt live rows m ≡ false) → newNumber live rows i ≡ newNumber live rows start
-  number-first rows start i h none =
-      let k : i ≡ start + (i - start) = omega arith in
-      rw k (number-stays rows start (i - start) (λ m p q. none m p (omega arith)))
-
   -- different live rows have different numbers, in order
   pub number-rises : (rows : List A) (i j : ℕ) → i < j → liveAt live rows i ≡ true → newNumber live rows i < newNumber live rows j
   number-rises rows i j h e =
       let k : j ≡ i + 1 + (j - (i + 1)) = omega arith in
       let up : newNumber live rows (i + 1) ≤ newNumber live rows j = rw k (number-grows rows (i + 1) (j - (i + 1))) in
       omega (arith, number-live rows i e)
-
-  -- from a live row to the next live one
-  pub number-next : (rows : List A) (i j : ℕ) → i < j → liveAt live rows i ≡ true → ((m : ℕ) → i < m → m < j → liveAt live rows m ≡ false)
-      → newNumber live rows j ≡ newNumber live rows i + 1
-  number-next rows i j h e none =
-      let k : j ≡ i + 1 + (j - (i + 1)) = omega arith in
-      rw k (number-stays rows (i + 1) (j - (i + 1)) (λ m p q. none m (omega arith) (omega arith)) ∙ number-live rows i e)
-
-  -- a live row's number is below the count of those kept
-  pub number-lt : (rows : List A) (i : ℕ) → liveAt live rows i ≡ true → newNumber live rows i < count live rows
-  number-lt rows i e = rw (← number-all rows) (number-rises rows i (length rows) (live-in rows i e) e)
 
   -- each number below the count of those before row n is one of theirs
   pub number-back : (rows : List A) (n k : ℕ) → k < newNumber live rows n → (i : ℕ) × (i < n) × (liveAt live rows i ≡ true) × (newNumber live rows i ≡ k)
@@ -255,14 +194,6 @@ module _ {A : Type 0} (live : A → Bool) where
   number-rank rows start n bit h =
       ap (λ (x : ℕ). newNumber live rows start + x) (below-marks (λ b. liveAt live rows (start + b)) bit n h) ∙ number-upto rows start bit
 
-  -- the same, by the row's number: its word is i / 64, its bit i % 64
-  pub number-word : (rows : List A) (i : ℕ)
-      → newNumber live rows (i / 64 * 64) + setBelow (liveWord live rows (i / 64 * 64) 64) (i % 64) ≡ newNumber live rows i
-  number-word rows i =
-      let e : i / 64 * 64 + i % 64 ≡ i = omega arith in
-      let h : i % 64 ≤ 64 = omega arith in
-      number-rank rows (i / 64 * 64) 64 (i % 64) h ∙ ap (newNumber live rows) e
-
   -- a kept row stands at its new number
   pub keep-at : (rows : List A) (i : ℕ) (d : A) → liveAt live rows i ≡ true → getD (keep live rows) (newNumber live rows i) d ≡ getD rows i d
   unfolding keep count newNumber liveAt
@@ -280,16 +211,6 @@ unfolding rowAt
 key-row w i k store h = take-take k w (drop (i * w) store) h
 
 module _ (w n i : ℕ) (store : List ℕ) (some : 0 < w) (in-count : i < n) where
-  -- a row is live by its first cell, as `is_dead` reads it
-  pub live-row : (live : List ℕ → Bool) → ((row : List ℕ) → live row ≡ not (isDead (getD row 0 0)))
-      → liveAt live (rowsOf w n store) i ≡ not (isDead (getD store (i * w) 0))
-  live-row live means =
-      let h : i < length (rowsOf w n store) = simp length-rowsOf in-count in
-      liveAt-in live (rowsOf w n store) i [] h
-      ∙ means (getD (rowsOf w n store) i [])
-      ∙ ap (λ (row : List ℕ). not (isDead (getD row 0 0))) (getD-rowsOf w n store i in-count)
-      ∙ ap (λ (cell : ℕ). not (isDead cell)) (getD-rowAt w i store 0 0 some ∙ ap (λ (k : ℕ). getD store k 0) (add-zero (i * w)))
-
   -- the rows after `set_stale`
   pub stale-rows : rowsOf w n (set store (i * w) 4294967295) ≡ set (rowsOf w n store) i (set (rowAt w i store) 0 4294967295)
   stale-rows =

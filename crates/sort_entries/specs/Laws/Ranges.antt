@@ -1,8 +1,7 @@
 -- The fast range has exactly the rows whose recorded value passes the test. Assumes nothing.
 use Prim.Native.Nat.{ℕ, zero, suc, _+_, _-_, _≤_, _<_, suc-le-suc}
 use mathlib.Core.Path.{_≡_, refl, sym, ap, _∙_}
-use mathlib.Core.Logic.{inl, inr}
-use mathlib.Core.Bool.{Bool, true, false, cond, _&&_}
+use mathlib.Core.Bool.{true}
 use mathlib.Core.List.{List, [], _∷_}
 use native.Mathlib.Decide.{decLt, ℕ-discrete}
 use native.Mathlib.Numerals.{add-one}
@@ -12,9 +11,8 @@ use lib.Seq.{drop-cons}
 use lib.Dec.{leb, ltb, eqb}
 use borrow.Author.Tests.{lt-ltb, le-ltb, le-leb, lt-leb, eq-eqb, ne-eqb}
 use Rattle.lists.specs.Lists.{above, has, within}
-use Rattle.lists.specs.Laws.Keep.{split}
-use Rattle.lists.specs.Laws.Rising.{above-head, above-tail, above-cons, above-weaker, has-countFrom, within-of, within-below, within-past, within-high}
-use Rattle.offsets.specs.Subsets.{Subset, range, wellFormed, members, bounds, endOf}
+use Rattle.lists.specs.Laws.Rising.{above-head, above-tail, above-cons, above-weaker, has-countFrom, within-of, within-below, within-past}
+use Rattle.offsets.specs.Subsets.{range, members}
 use Rattle.constraints.specs.Constraints.{compares}
 use Rattle.sort_entries.specs.Entries.{Entry, entry, firstRow, Position, found, absent, position, rangeAt, fastRange, valueAt, entriesSound}
 use Rattle.sort_entries.specs.Laws.Sound.{valueOf, values, Climb, sound-climb, sound-first, climb-tail, climb-in, climb-above, first-le, first-next}
@@ -247,96 +245,6 @@ pub fast-range : (es : List Entry) (rows kind v : ℕ) → entriesSound es rows 
 unfolding fastRange
 fast-range es rows kind v s one five i h =
     placed-range v es rows (sound-first es rows s) i h (position v es rows) (placed v es rows (sound-climb es rows s)) kind one five
-
--- ---- its form
-
-pub record Within (s : Subset) (rows : ℕ) : Type 0 where
-  pub start : ℕ
-  pub end : ℕ
-  pub is : s ≡ range start end
-  pub order : start ≤ end
-  pub inside : end ≤ rows
-
-range-within : (a b rows : ℕ) → a ≤ b → b ≤ rows → Within (range a b) rows
-range-within a b rows h k = record { start = a; end = b; is = refl; order = h; inside = k }
-
-cond-within : (t : Bool) (r s : Subset) (rows : ℕ) → Within r rows → Within s rows → Within (cond t r s) rows
-cond-within true r s rows p q = p
-cond-within false r s rows p q = q
-
-module _ (v : ℕ) (es : List Entry) (rows f b : ℕ) (s : Cuts v es rows f b) where
-  before-f : Within (range 0 f) rows
-  before-f = let o = s .order in let z = s .end in range-within 0 f rows (omega arith) (omega arith)
-
-  before-b : Within (range 0 b) rows
-  before-b = range-within 0 b rows (omega arith) (s .end)
-
-  from-f-on : Within (range f rows) rows
-  from-f-on = let o = s .order in let z = s .end in range-within f rows rows (omega arith) (omega arith)
-
-  from-b-on : Within (range b rows) rows
-  from-b-on = range-within b rows rows (s .end) (omega arith)
-
-  f-to-b : Within (range f b) rows
-  f-to-b = range-within f b rows (s .order) (s .end)
-
-  -- the ranges of the kinds, after that of kind 1
-  others : (kind : ℕ) (first : Subset) → Within first rows
-      → Within (cond (eqb kind 1) first (cond (eqb kind 2) (range 0 f) (cond (eqb kind 3) (range b rows) (cond (eqb kind 4) (range 0 b) (range f rows))))) rows
-  others kind first w =
-      cond-within (eqb kind 1) _ _ rows w
-      (cond-within (eqb kind 2) _ _ rows before-f
-      (cond-within (eqb kind 3) _ _ rows from-b-on (cond-within (eqb kind 4) _ _ rows before-b from-f-on)))
-
-placed-within : (kind v : ℕ) (es : List Entry) (rows : ℕ) (p : Position) → Placed v es rows p → Within (rangeAt kind p rows) rows
-unfolding rangeAt
-placed-within kind v es rows (found f b) s = others v es rows f b s kind (range f b) (f-to-b v es rows f b s)
-placed-within kind v es rows (absent g) s = others v es rows g g s kind (range 0 0) (range-within 0 0 rows (omega arith) (omega arith))
-
-module _ (s : Subset) (rows : ℕ) (w : Within s rows) where
-  within-formed : wellFormed s ≡ true
-  unfolding wellFormed
-  within-formed = rw (w .is) (le-leb _ _ (w .order))
-
-  within-end : endOf s ≤ rows
-  unfolding endOf bounds
-  within-end = rw (w .is) (w .inside)
-
-  within-has : (i : ℕ) → has i (members s) ≡ true → i < rows
-  within-has i e =
-      let h : has i (members (range (w .start) (w .end))) ≡ true = rw (w .is) at e in
-      let k = within-high (w .start) (w .end) i (sym (has-range (w .start) (w .end) i (w .order)) ∙ h) in
-      let z = w .inside in
-      omega arith
-
--- of any kind it is a range, in order, that ends within the rows
-module _ (es : List Entry) (rows kind v : ℕ) (s : entriesSound es rows ≡ true) where
-  pub fast-within : Within (fastRange kind v es rows) rows
-  unfolding fastRange
-  fast-within = placed-within kind v es rows (position v es rows) (placed v es rows (sound-climb es rows s))
-
-  pub fast-formed : wellFormed (fastRange kind v es rows) ≡ true
-  fast-formed = within-formed (fastRange kind v es rows) rows fast-within
-
-  pub fast-end : endOf (fastRange kind v es rows) ≤ rows
-  fast-end = within-end (fastRange kind v es rows) rows fast-within
-
-  pub fast-members : (i : ℕ) → has i (members (fastRange kind v es rows)) ≡ true → i < rows
-  fast-members = within-has (fastRange kind v es rows) rows fast-within
-
-  -- of any number at all
-  pub fast-has : 1 ≤ kind → kind ≤ 5 → (i : ℕ) → has i (members (fastRange kind v es rows)) ≡ (ltb i rows && compares kind (valueAt i es) v)
-  fast-has one five i =
-      elim (decLt i rows) [
-        | yes h ↦ rw (lt-ltb i rows h) (fast-range es rows kind v s one five i h)
-        | no h ↦
-            let k : rows ≤ i = omega arith in
-            rw (le-ltb i rows k)
-            (elim (split (has i (members (fastRange kind v es rows)))) [
-              | inl e ↦ let a = fast-members i e in absurd (omega arith)
-              | inr e ↦ e
-            ])
-      ]
 
 -- ---- where a value stands, from the place that a search finds
 

@@ -1,19 +1,16 @@
 -- Laws of the entries of rows whose sort values never fall: they are sound, and record each row's value. Assumes nothing.
-use Prim.Native.Nat.{ℕ, zero, suc, _+_, _-_, _≤_, _<_, suc-le-suc}
-use mathlib.Core.Path.{_≡_, refl, sym, ap, _∙_}
-use mathlib.Core.Logic.{inl, inr}
-use mathlib.Core.Bool.{Bool, true}
-use mathlib.Core.List.{List, [], _∷_, _++_, map}
+use Prim.Native.Nat.{ℕ, zero, suc, _+_, _-_, _≤_, _<_}
+use mathlib.Core.Path.{_≡_, refl, ap, _∙_}
+use mathlib.Core.Bool.{true}
+use mathlib.Core.List.{List, [], _∷_}
 use native.Mathlib.Decide.{decLt}
 use native.Mathlib.Numerals.{add-one}
 use native.Mathlib.Omega.{arith}
-use lib.ListN.{length, take, getD, length-append, List·getD-append}
-use lib.Seq.{take-suc, take-length, length-take-le, getD-at}
-use lib.Dec.{leb}
-use borrow.Author.Tests.{leb-true, le-leb}
-use Rattle.lists.specs.Lists.{keep, every, rising}
-use Rattle.lists.specs.Laws.Keep.{split, keep-yes, keep-no}
-use Rattle.sort_entries.specs.Entries.{Entry, last, push, rebuilt, pushAll, firstRow, valueAt, entriesSound, begins}
+use lib.ListN.{length, take, getD}
+use lib.Seq.{take-suc, take-length, length-take-le}
+use borrow.Author.Tests.{le-leb}
+use Rattle.lists.specs.Lists.{every, rising}
+use Rattle.sort_entries.specs.Entries.{Entry, push, rebuilt, pushAll, valueAt, entriesSound, begins}
 use Rattle.sort_entries.specs.Laws.Push.{push-few, push-grows, rebuilt-snoc}
 use Rattle.sort_entries.specs.Laws.Grow.{admits, admits-valueAt, admits-none, push-sound, push-earlier, push-here}
 
@@ -97,41 +94,3 @@ pushAll-front row (suc n) (v ∷ vs) es = pushAll-front (suc row) n vs (push v r
 pub rebuilt-front : (n : ℕ) (vs : List ℕ) → length (rebuilt (take n vs)) ≤ length (rebuilt vs)
 unfolding rebuilt
 rebuilt-front n vs = pushAll-front 0 n vs []
-
--- ---- values that never fall
-
--- a first value not above the others
-abbrev AtMost : ℕ → List ℕ → Type 0
-AtMost v vs = (j : ℕ) → j < length vs → v ≤ getD vs j 0
-
-falls-cons : (v : ℕ) (vs : List ℕ) → AtMost v vs → NeverFalls vs → NeverFalls (v ∷ vs)
-falls-cons v vs a f zero zero h k = omega arith
-falls-cons v vs a f zero (suc j) h k = a j (omega arith)
-falls-cons v vs a f (suc i) zero h k = absurd (omega arith)
-falls-cons v vs a f (suc i) (suc j) h k = f i j (omega arith) (omega arith)
-
-at-most-cons : (v w : ℕ) (vs : List ℕ) → v ≤ w → AtMost v vs → AtMost v (w ∷ vs)
-at-most-cons v w vs h a zero k = h
-at-most-cons v w vs h a (suc j) k = a j (omega arith)
-
-module _ {A : Type 0} (f : A → ℕ) (t : A → Bool) where
-  at-most-keep : (v : ℕ) (xs : List A) → AtMost v (map f xs) → AtMost v (map f (keep t xs))
-  at-most-keep v [] a = unfold keep in a
-  at-most-keep v (x ∷ xs) a =
-      elim (split (t x)) [
-        | inl e ↦ rw (keep-yes t x xs e) (at-most-cons v (f x) (map f (keep t xs)) (a 0 (omega arith)) (at-most-keep v xs (λ j h. a (suc j) (suc-le-suc h))))
-        | inr e ↦ rw (keep-no t x xs e) (at-most-keep v xs (λ j h. a (suc j) (suc-le-suc h)))
-      ]
-
-  -- those that are kept never fall either
-  pub falls-keep : (xs : List A) → NeverFalls (map f xs) → NeverFalls (map f (keep t xs))
-  falls-keep [] n = unfold keep in n
-  falls-keep (x ∷ xs) n =
-      elim (split (t x)) [
-        | inl e ↦
-            rw (keep-yes t x xs e)
-            (falls-cons (f x) (map f (keep t xs))
-            (at-most-keep (f x) xs (λ j h. n 0 (suc j) (omega arith) (suc-le-suc h)))
-            (falls-keep xs (λ i j h k. n (suc i) (suc j) (suc-le-suc h) (suc-le-suc k))))
-        | inr e ↦ rw (keep-no t x xs e) (falls-keep xs (λ i j h k. n (suc i) (suc j) (suc-le-suc h) (suc-le-suc k)))
-      ]

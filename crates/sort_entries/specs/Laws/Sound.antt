@@ -110,9 +110,6 @@ module _ (es : List Entry) (rows : ℕ) where
           let q = List·getD-map (λ (e : Entry). e .row) es (i + 1) (entry 0 0) in
           omega arith
 
-  pub facts-sound : Sound es rows → entriesSound es rows ≡ true
-  facts-sound s = sound-of (λ i h. s .rise i (i + 1) (omega arith) h) (λ i h. s .later i (i + 1) (omega arith) h) (s .below) (s .first)
-
 -- ---- an end of climbing entries
 
 module _ (e : Entry) (es : List Entry) (rows : ℕ) (c : Climb (e ∷ es) rows) where

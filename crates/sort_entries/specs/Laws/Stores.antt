@@ -2,7 +2,7 @@
 use Prim.Native.Nat.{ℕ, zero, suc, _+_, _-_, _*_, _≤_, _<_}
 use mathlib.Core.Path.{_≡_, refl, sym, ap, ap₂, _∙_}
 use mathlib.Core.Bool.{Bool, true}
-use mathlib.Core.List.{List, [], _∷_, _++_, append-nil}
+use mathlib.Core.List.{List, [], _∷_, _++_}
 use native.Mathlib.Numerals.{add-one}
 use native.Mathlib.Omega.{arith}
 use lib.ListN.{length, take, drop, getD, length-drop}
@@ -70,18 +70,6 @@ unfolding entriesOf
 getD-entriesOf zero store i d h = absurd (omega arith)
 getD-entriesOf (suc n) store zero d h = unfold pairAt in refl
 getD-entriesOf (suc n) store (suc i) d h = getD-entriesOf n (drop 2 store) i d (omega arith) ∙ pairAt-suc i store
-
--- the words of the pair at place i
-pub pairAt-words : (es : List Entry) (i : ℕ) (d : Entry) (rest : List ℕ) → i < length es → pairAt i (words es ++ rest) ≡ getD es i d
-pairAt-words es i d rest h = sym (getD-entriesOf (length es) (words es ++ rest) i d h) ∙ ap (λ (l : List Entry). getD l i d) (entriesOf-words es rest)
-
-pub getD-words-value : (es : List Entry) (i : ℕ) (d : Entry) → i < length es → getD (words es) (2 * i) 0 ≡ getD es i d .value
-unfolding pairAt
-getD-words-value es i d h = ap (λ (l : List ℕ). getD l (2 * i) 0) (sym (append-nil (words es))) ∙ ap (λ (e : Entry). e .value) (pairAt-words es i d [] h)
-
-pub getD-words-row : (es : List Entry) (i : ℕ) (d : Entry) → i < length es → getD (words es) (2 * i + 1) 0 ≡ getD es i d .row
-unfolding pairAt
-getD-words-row es i d h = ap (λ (l : List ℕ). getD l (2 * i + 1) 0) (sym (append-nil (words es))) ∙ ap (λ (e : Entry). e .row) (pairAt-words es i d [] h)
 
 entriesOf-suc : (n : ℕ) (store : List ℕ) → entriesOf (suc n) store ≡ entriesOf n store ++ (pairAt n store ∷ [])
 unfolding entriesOf

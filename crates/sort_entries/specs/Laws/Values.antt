@@ -3,15 +3,12 @@
 use Prim.Native.Nat.{ℕ, _≤_, _<_}
 use mathlib.Core.Path.{_≡_, refl, sym, ap, ap₂, _∙_}
 use mathlib.Core.Bool.{true}
-use mathlib.Core.List.{List, [], _∷_, map}
+use mathlib.Core.List.{List, [], _∷_}
 use native.Mathlib.Decide.{decLt}
-use native.Mathlib.Nat.{zero-add}
 use native.Mathlib.Omega.{arith}
-use lib.ListN.{length, getD, length-map}
+use lib.ListN.{length, getD}
 use borrow.Author.Tests.{le-leb, lt-leb}
-use Rattle.lists.specs.Lists.{countFrom}
-use Rattle.lists.specs.Laws.Every.{getD-map-below}
-use Rattle.lists.specs.Laws.Rising.{length-countFrom, getD-countFrom, above-head}
+use Rattle.lists.specs.Laws.Rising.{above-head}
 use Rattle.sort_entries.specs.Entries.{Entry, entry, firstRow, rebuilt, valueAt, entriesSound}
 use Rattle.sort_entries.specs.Laws.Sound.{values, Climb, sound-climb, sound-first, climb-tail, climb-in, climb-next, climb-above}
 use Rattle.sort_entries.specs.Laws.Rebuilt.{NeverFalls, rebuilt-sound, rebuilt-valueAt}
@@ -114,20 +111,3 @@ rebuilt-same vs es s g = sound-ext (rebuilt vs) es (length vs) (rebuilt-sound vs
   where
     up : NeverFalls vs
     up = λ i j h k. omega (arith, g i (omega arith), g j k, valueAt-climbs i j es (length vs) (sound-climb es (length vs) s) h)
-
--- the list of those values
-pub rebuilt-values : (es : List Entry) (n : ℕ) → entriesSound es n ≡ true → rebuilt (map (λ i. valueAt i es) (countFrom 0 n)) ≡ es
-rebuilt-values es n s = rebuilt-same vs es (rw count s) each
-  where
-    vs : List ℕ
-    vs = map (λ i. valueAt i es) (countFrom 0 n)
-
-    count : length vs ≡ n
-    count = length-map (countFrom 0 n) (λ i. valueAt i es) ∙ length-countFrom 0 n
-
-    each : (i : ℕ) → i < length vs → getD vs i 0 ≡ valueAt i es
-    each i h =
-        let k : i < n = omega (arith, count) in
-        let j : i < length (countFrom 0 n) = omega (arith, length-countFrom 0 n) in
-        getD-map-below (λ (x : ℕ). valueAt x es) (countFrom 0 n) i 0 0 j
-        ∙ ap (λ (x : ℕ). valueAt x es) (getD-countFrom 0 n i 0 k ∙ zero-add i)

@@ -12,9 +12,7 @@ use Rattle.table.specs.declared.RangeAnswer.{RangeAnswer}
 use Rattle.table.specs.declared.RangeAnswer.the-variants.{Refused as RangeRefused, None as NoRange, Range}
 use Rattle.table.specs.declared.VersionAnswer.{VersionAnswer}
 use Rattle.table.specs.declared.VersionAnswer.the-variants.{Refused as VersionRefused, Version as Versioned}
-use Rattle.table.specs.declared.SoundAnswer.{SoundAnswer}
-use Rattle.table.specs.declared.SoundAnswer.the-variants.{Refused as SoundRefused, Sound}
-use Rattle.table.specs.Numbers.{tableSays, mergeSays, rowSays, cellSays, rangeSays, versionSays, soundSays}
+use Rattle.table.specs.Numbers.{tableSays, mergeSays, rowSays, cellSays, rangeSays, versionSays}
 
 pub table-said : (a b : TableAnswer) → tableSays a ≡ tableSays b → a ≡ b
 unfolding tableSays
@@ -72,10 +70,3 @@ version-said (VersionRefused m) (VersionRefused n) e = cc
 version-said (VersionRefused m) (Versioned y) e = cc
 version-said (Versioned x) (VersionRefused n) e = cc
 version-said (Versioned x) (Versioned y) e = cc
-
-pub sound-said : (a b : SoundAnswer) → soundSays a ≡ soundSays b → a ≡ b
-unfolding soundSays
-sound-said (SoundRefused m) (SoundRefused n) e = cc
-sound-said (SoundRefused m) (Sound y) e = cc
-sound-said (Sound x) (SoundRefused n) e = cc
-sound-said (Sound x) (Sound y) e = cc

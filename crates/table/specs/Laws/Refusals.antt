@@ -19,7 +19,7 @@ use Rattle.plain.specs.Laws.Calls.{first-no, first-rest}
 use Rattle.plain.specs.Laws.Proper.{Bounds, openable-bounds}
 use Rattle.table.specs.declared.Header.{Header}
 use Rattle.table.specs.Numbers.{openingOf}
-use Rattle.table.specs.Refusing.{outside, pendingOutside, rowsShort, pairsShort, mergeRefusal, compactRefusal, clearRefusal, lookupRefusal, cellRefusal, fastRefusal, versionRefusal, sinceRefusal, notedRefusal, soundRefusal, lookupTests}
+use Rattle.table.specs.Refusing.{outside, pendingOutside, rowsShort, pairsShort, mergeRefusal, compactRefusal, clearRefusal, lookupRefusal, cellRefusal, fastRefusal, notedRefusal, soundRefusal, lookupTests}
 use Rattle.table.specs.Sound.{keyedOf}
 use Rattle.table.specs.Laws.Shown.{LongEnough, stores-long}
 
@@ -224,21 +224,6 @@ fast-accepted h sorts c e =
       sorts-long = pairs-long-of h sorts (first-no _ 1 _ rest);
       is-known = not-false _ (first-no _ 5 _ (first-rest _ 1 _ rest));
     }
-
--- ---- *Version*, *Rows since*
-
-pub version-accepted : (h : Header) → versionRefusal h ≡ 0 → Inside h
-unfolding versionRefusal
-version-accepted h e = outside-inside h (first-no _ 0 _ e)
-
-pub record Since (h : Header) (row : ℕ) : Type 0 where
-  pub inside : Inside h
-  pub row-there : row ≤ h .rows
-
-pub since-accepted : (h : Header) (row : ℕ) → sinceRefusal h row ≡ 0 → Since h row
-unfolding sinceRefusal
-since-accepted h row e =
-    record { inside = outside-inside h (first-no _ 0 _ e); row-there = ltb-false _ _ (first-no _ 4 _ (first-rest _ 0 _ e)) }
 
 -- ---- the rows since a noted version
 
