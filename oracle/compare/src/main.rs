@@ -33,7 +33,9 @@ usage: oracle                   the gate's run: all short histories, many by cha
        oracle hostile N SEED    at least N calls of all C functions on stores that nobody made
        oracle record [SEED]     prints the recorded list
        oracle replay FILE       checks a recorded list against both judges and the proved table
-       oracle bench             measures the proved library beside the Rust (build it with --release)
+       oracle bench [N [PART]]  measures the proved library beside the Rust (build it with --release): medians of N runs, of the
+                                rows whose names have this part
+       oracle bench --check     fails if a row is above the ratio recorded in ratios.txt by more than a third
        oracle seal              the same for the monthly seal; fails above its limit (build it with --release)";
 
 const RUST: Rival<RustTable> = Rival {
@@ -84,10 +86,10 @@ fn command(arguments: &[&str]) -> Result<(), String> {
         ["record"] => record(record::SEED),
         ["record", seed] => record(number(seed)?),
         ["replay", file] => replay(file),
-        ["bench"] => {
-            measure::bench();
-            Ok(())
-        }
+        ["bench", "--check"] => measure::check(),
+        ["bench"] => bench(1, ""),
+        ["bench", runs] => bench(number(runs)?, ""),
+        ["bench", runs, part] => bench(number(runs)?, part),
         ["seal"] => measure::seal(),
         _ => Err(USAGE.to_string()),
     }
@@ -103,6 +105,11 @@ fn gate() -> Result<(), String> {
     print(proved::compare()?)?;
     println!("the proved library on hostile stores:");
     print(hostile::gate(HOSTILE_CALLS, HOSTILE_SEED)?)
+}
+
+fn bench(runs: u64, part: &str) -> Result<(), String> {
+    measure::bench(runs as usize, part);
+    Ok(())
 }
 
 fn print(lines: Vec<String>) -> Result<(), String> {

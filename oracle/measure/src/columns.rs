@@ -1,6 +1,6 @@
 //! Column order beside plain Rust loops: one that goes down each column, and one that goes along each row.
 
-use crate::time::compare_each;
+use crate::report::Report;
 use mouldgrey::{Refusal, lent};
 use std::hint::black_box;
 
@@ -72,14 +72,14 @@ const WAYS: [Way; 2] = [
     },
 ];
 
-fn beside(way: &Way, width: usize, rows: usize) {
+fn beside(report: &mut Report, way: &Way, width: usize, rows: usize) {
     let count = width * rows;
     let cells: Vec<u32> = (0..count as u32)
         .map(|i| i.wrapping_mul(2_654_435_761))
         .collect();
     let (mut one, mut other) = (vec![0; count], vec![0; count]);
     for (plain, order) in [("by columns", way.by_columns), ("by rows", way.by_rows)] {
-        compare_each(
+        report.compare(
             &format!("{}, {rows} rows of {width}: {plain}, each row", way.name),
             rows,
             || (way.ours)(width as u32, &cells, &mut one),
@@ -88,10 +88,10 @@ fn beside(way: &Way, width: usize, rows: usize) {
     }
 }
 
-pub fn orders() {
+pub fn orders(report: &mut Report) {
     for way in &WAYS {
         for (width, rows) in [(8, 65_536), (4, 65_536), (1, 65_536), (8, 1_000), (3, 50)] {
-            beside(way, width, rows);
+            beside(report, way, width, rows);
         }
     }
 }

@@ -1,10 +1,12 @@
 //! The key index beside the Rust's way: std's HashMap, which is hashbrown, from the Rust's own compact hash to a row, placed
 //! by the hash's probe, the key compared in the row store. 4 columns, 2 of them keys, capacity 65,536, half full and full.
-//! A time is for one key.
+//! Ours stands behind C functions that test a table's numbers and take its widths at run time; so do the Rust's functions
+//! here. A time is for one key.
 
-use crate::time::{compare_each, nanoseconds};
+use crate::report::Report;
 use probes::Keyed;
 use std::collections::HashMap;
+use std::collections::hash_map::Entry;
 use std::hash::{BuildHasherDefault, Hasher};
 
 const CAPACITY: u32 = 65_536;
@@ -80,7 +82,7 @@ impl Both {
     fn put_map(&mut self, count: u32) {
         self.map.clear();
         for row in 0..count {
-            self.map.insert(rust_table::key_hash(&key(row)), row);
+            insert(CAPACITY, &mut self.map, &key(row), row);
         }
     }
 
@@ -89,6 +91,13 @@ impl Both {
         if let Some((_, slot)) = probes::find(self.table, &self.rows, &self.store, &key(row)) {
             probes::take_out(self.table, &self.rows, &mut self.store, slot);
             probes::put(CAPACITY, &mut self.store, &key(row), row);
+        }
+    }
+
+    /// The same in the map.
+    fn swap_map(&mut self, row: u32) {
+        if remove(self.table, &self.rows, &mut self.map, &key(row)).is_some() {
+            insert(CAPACITY, &mut self.map, &key(row), row);
         }
     }
 }
@@ -106,39 +115,62 @@ fn finds(both: &Both, keys: &[Key]) -> u32 {
         .fold(0, u32::wrapping_add)
 }
 
+/// The tests that our functions make of a table's numbers.
+fn fits(t: Keyed, rows: &[u32], key: &[u32]) -> bool {
+    let widths = 1 <= t.columns && t.columns <= 8 && 1 <= t.keys && t.keys <= t.columns;
+    let capacity = 1 <= t.capacity && t.capacity <= 65_536 && t.rows <= t.capacity;
+    let rows = (t.capacity * t.columns) as usize <= rows.len();
+    widths && capacity && rows && key.len() == t.keys as usize
+}
+
 /// The row of a key, by its hash and then by its cells.
-fn get(both: &Both, key: &Key) -> Option<u32> {
-    let row = *both.map.get(&rust_table::key_hash(key))?;
-    let at = (row * COLUMNS) as usize;
-    (both.rows[at..at + 2] == *key).then_some(row)
+#[inline(never)]
+fn get(t: Keyed, rows: &[u32], map: &Map, key: &[u32]) -> Option<u32> {
+    assert!(fits(t, rows, key), "{t:?} does not fit");
+    let row = *map.get(&rust_table::key_hash(key))?;
+    let at = (row * t.columns) as usize;
+    (rows[at..at + key.len()] == *key).then_some(row)
+}
+
+#[inline(never)]
+fn insert(capacity: u32, map: &mut Map, key: &[u32], row: u32) {
+    assert!(1 <= capacity && row < capacity && capacity <= 65_536);
+    map.insert(rust_table::key_hash(key), row);
+}
+
+/// The row of a key, which is taken out.
+#[inline(never)]
+fn remove(t: Keyed, rows: &[u32], map: &mut Map, key: &[u32]) -> Option<u32> {
+    assert!(fits(t, rows, key), "{t:?} does not fit");
+    let Entry::Occupied(entry) = map.entry(rust_table::key_hash(key)) else {
+        return None;
+    };
+    let at = (*entry.get() * t.columns) as usize;
+    (rows[at..at + key.len()] == *key).then(|| entry.remove())
 }
 
 fn gets(both: &Both, keys: &[Key]) -> u32 {
+    let got = |key: &Key| get(both.table, &both.rows, &both.map, key);
     keys.iter()
-        .map(|key| get(both, key).unwrap_or(0))
+        .map(|key| got(key).unwrap_or(0))
         .fold(0, u32::wrapping_add)
 }
 
-fn at(name: &str, count: u32) {
+fn at(report: &mut Report, name: &str, count: u32) {
     let mut both = Both::filled(count);
     let hits = order(count);
     let misses: Vec<Key> = (0..BATCH as u32).map(|i| key(CAPACITY + i)).collect();
     let label = |what: &str| format!("key index, {name}: {what}");
-    compare_each(
-        &label("find hit"),
-        BATCH,
-        || finds(&both, &hits),
-        || gets(&both, &hits),
-    );
-    compare_each(
-        &label("find miss"),
-        BATCH,
-        || finds(&both, &misses),
-        || gets(&both, &misses),
-    );
-    let fresh = nanoseconds(|| finds(&both, &misses));
+    for (what, keys) in [("find hit", &hits), ("find miss", &misses)] {
+        report.compare(
+            &label(what),
+            BATCH,
+            || finds(&both, keys),
+            || gets(&both, keys),
+        );
+    }
     let (mut ours, mut theirs) = (Both::filled(count), Both::filled(count));
-    compare_each(
+    report.compare(
         &label("put, from empty"),
         count as usize,
         || ours.put_store(count),
@@ -147,29 +179,25 @@ fn at(name: &str, count: u32) {
     let rows: Vec<u32> = (0..BATCH as u32)
         .map(|i| i.wrapping_mul(40_503) % count)
         .collect();
-    compare_each(
+    report.compare(
         &label("take out and put back"),
         BATCH,
         || rows.iter().for_each(|&row| ours.swap(row)),
-        || {
-            for &row in &rows {
-                theirs.map.remove(&rust_table::key_hash(&key(row)));
-                theirs.map.insert(rust_table::key_hash(&key(row)), row);
-            }
-        },
+        || rows.iter().for_each(|&row| theirs.swap_map(row)),
     );
     for i in 0..1_000_000u32 {
         both.swap(i.wrapping_mul(40_503) % count);
     }
-    let churned = nanoseconds(|| finds(&both, &misses));
-    println!(
-        "  {:52} {:33.2}",
-        label("find miss after a million, to fresh"),
-        churned / fresh
+    let fresh = Both::filled(count);
+    report.compare(
+        &label("miss after a million removals, to a fresh one"),
+        BATCH,
+        || finds(&both, &misses),
+        || finds(&fresh, &misses),
     );
 }
 
-pub fn index() {
-    at("half full", CAPACITY / 2);
-    at("full", CAPACITY);
+pub fn index(report: &mut Report) {
+    at(report, "half full", CAPACITY / 2);
+    at(report, "full", CAPACITY);
 }

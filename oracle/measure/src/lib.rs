@@ -3,17 +3,45 @@
 mod columns;
 mod keys;
 mod offsets;
+mod report;
 mod seal;
 mod tables;
-mod time;
+
+use report::Report;
 
 pub use seal::seal;
 
-/// A line for each thing measured.
-pub fn bench() {
-    println!("times of the proved library and of the Rust, in nanoseconds, and their ratio");
-    offsets::intersect();
-    keys::index();
-    tables::operations();
-    columns::orders();
+/// In how many runs a row may come within its limit: single runs on a shared machine differ much.
+const TRIES: usize = 3;
+
+fn run(report: &mut Report) {
+    offsets::intersect(report);
+    keys::index(report);
+    tables::operations(report);
+    columns::orders(report);
+}
+
+/// A line for each thing measured whose name has this part: the medians of so many runs.
+pub fn bench(runs: usize, part: &str) {
+    let mut report = Report::of(part);
+    for _ in 0..runs.max(1) {
+        run(&mut report);
+    }
+    report.print();
+}
+
+/// Measures all rows; an error if one is above what is recorded of it.
+pub fn check() -> Result<(), String> {
+    let mut report = Report::of("");
+    for _ in 0..TRIES {
+        run(&mut report);
+        if report.above().is_empty() {
+            break;
+        }
+    }
+    report.print();
+    match report.above() {
+        above if above.is_empty() => Ok(()),
+        above => Err(format!("above its record:\n{}", above.join("\n"))),
+    }
 }

@@ -1,36 +1,17 @@
-//! Whole operations beside the carried-over Rust's, from one driver over the same calls. Staging is counted by itself: the
-//! Rust's merge finds its rows in a buffer, ours in the pending store.
+//! Whole operations beside the carried-over Rust's. Staging is counted by itself: the Rust's merge finds its rows in a buffer,
+//! ours in the pending store.
 
-use crate::time::{compare_each, nanoseconds_anew, tell};
-use calls::{Call, Condition, Judge, Lengths, Opening, Question, Subset};
-use proved_table::ProvedTable;
-use rust_table::RustTable;
+use crate::offsets::size;
+use crate::report::Report;
+use calls::{Call, Condition, Judge, Lengths, Subset};
+use chance::Rng;
+use mouldgrey::{Constraint, Opening, SubsetRef, Table, lent};
+use proved_table::{borrowed, constraint};
+use rust_table::{RustSubset, RustTable};
 
 const CAPACITY: u32 = 65_536;
 const SORT: u32 = 3;
-
-fn opening(columns: u32) -> Opening {
-    Opening {
-        columns,
-        keys: 2,
-        sort: SORT,
-        rule: 1,
-        capacity: CAPACITY,
-        generation: 0,
-    }
-}
-
-fn lent(columns: u32) -> Lengths {
-    let capacity = CAPACITY as usize;
-    Lengths {
-        rows: capacity * columns as usize,
-        keys: 2 * capacity,
-        sort_entries: 2 * capacity,
-        pending: capacity * (columns as usize + 2),
-        live_words: capacity / 64,
-        base_words: capacity / 64,
-    }
-}
+const SEED: u64 = 5;
 
 /// The key of row `i`, in an order that no store follows.
 fn key(i: u32) -> [u32; 2] {
@@ -45,39 +26,92 @@ fn row(i: u32, columns: u32, level: u32, stamp: u32) -> Vec<u32> {
     cells
 }
 
-/// The same table twice, and the lengths that ours is lent.
+/// The Rust takes no notice of lengths.
+const UNLENT: Lengths = Lengths {
+    rows: 0,
+    keys: 0,
+    sort_entries: 0,
+    pending: 0,
+    live_words: 0,
+    base_words: 0,
+};
+
+/// The same table twice. Copies of both leave what is staged last in the caches: ours has no more room for it than it needs.
 #[derive(Clone)]
 struct Both {
-    lent: Lengths,
-    ours: ProvedTable,
+    ours: Table,
     theirs: RustTable,
 }
 
-impl Both {
-    fn opened(columns: u32) -> Both {
-        let mut both = Both {
-            lent: lent(columns),
-            ours: ProvedTable::new(),
-            theirs: RustTable::new(),
-        };
-        both.ours.lend(&both.lent);
-        both.call(&Call::Open(opening(columns)));
-        both
-    }
+fn play(table: &mut Table, call: &Call) {
+    let done = match call {
+        Call::Open(_) => unreachable!("made open"),
+        Call::Insert(cells) => table.stage_insert(cells),
+        Call::RemoveKey(key) => table.stage_remove(key),
+        Call::RemoveRow(row, key) => table.stage_remove_row(*row, key),
+        Call::Merge => table.merge().map(|_| ()),
+        Call::Compact => table.compact(),
+        Call::Clear => table.clear(),
+    };
+    assert_eq!(done, Ok(()));
+}
 
-    fn call(&mut self, call: &Call) {
-        self.ours.play(&self.lent, call);
-        self.theirs.call(&self.lent, call);
+fn play_rust(table: &mut RustTable, call: &Call) {
+    table.call(&UNLENT, call);
+}
+
+impl Both {
+    /// An empty table of these columns, with room for so many staged inserts.
+    fn opened(columns: u32, inserts: u32) -> Both {
+        let opening = Opening {
+            columns,
+            keys: 2,
+            sort: SORT,
+            rule: 1,
+            capacity: CAPACITY,
+            generation: 0,
+        };
+        let same = calls::Opening {
+            columns,
+            keys: 2,
+            sort: SORT,
+            rule: 1,
+            capacity: CAPACITY,
+            generation: 0,
+        };
+        let pending = inserts * (columns + 2);
+        let mut theirs = RustTable::new();
+        play_rust(&mut theirs, &Call::Open(same));
+        Both {
+            ours: Table::new(&opening, pending as usize).expect("an opening within its bounds"),
+            theirs,
+        }
     }
 
     fn staged(mut self, calls: impl Iterator<Item = Call>) -> Both {
-        calls.for_each(|call| self.call(&call));
+        for call in calls {
+            play(&mut self.ours, &call);
+            play_rust(&mut self.theirs, &call);
+        }
         self
     }
 
-    fn merged(mut self) -> Both {
-        self.call(&Call::Merge);
-        self
+    fn merged(self) -> Both {
+        self.staged(std::iter::once(Call::Merge))
+    }
+
+    /// Calls on copies, for each of so many rows.
+    fn once(&self, report: &mut Report, name: &str, rows: u32, calls: &[Call]) {
+        report.compare_anew(
+            name,
+            rows as usize,
+            (&self.ours, |table: &mut Table| {
+                calls.iter().for_each(|call| play(table, call))
+            }),
+            (&self.theirs, |table: &mut RustTable| {
+                calls.iter().for_each(|call| play_rust(table, call))
+            }),
+        );
     }
 }
 
@@ -85,153 +119,211 @@ fn inserts(count: u32, columns: u32, level: u32) -> impl Iterator<Item = Call> {
     (0..count).map(move |i| Call::Insert(row(i, columns, level, 100 * level + i / 1_000)))
 }
 
-/// One call on a table made anew each time, for each of so many rows.
-fn once(name: &str, rows: u32, before: &Both, call: &Call) {
-    let lent = before.lent;
-    let ours = nanoseconds_anew(
-        || before.ours.clone(),
-        |table| {
-            table.play(&lent, call);
-        },
-    );
-    let theirs = nanoseconds_anew(
-        || before.theirs.clone(),
-        |table| {
-            table.call(&lent, call);
-        },
-    );
-    tell(name, ours / f64::from(rows), theirs / f64::from(rows));
+fn removal(i: u32) -> Call {
+    Call::RemoveKey(key(i).to_vec())
 }
 
-fn stagings(count: u32) {
-    let before = Both::opened(4);
-    let calls: Vec<Call> = inserts(count, 4, 1).collect();
-    let ours = nanoseconds_anew(
-        || before.ours.clone(),
-        |table| {
-            for call in &calls {
-                table.play(&before.lent, call);
-            }
-        },
-    );
-    let theirs = nanoseconds_anew(
-        || before.theirs.clone(),
-        |table| {
-            for call in &calls {
-                table.call(&before.lent, call);
-            }
-        },
-    );
-    let rows = f64::from(count);
-    tell("stage: 60,000 inserts, each", ours / rows, theirs / rows);
+fn stagings(report: &mut Report) {
+    let calls: Vec<Call> = inserts(60_000, 4, 1).collect();
+    Both::opened(4, 60_000).once(report, "stage: 60,000 inserts, each", 60_000, &calls);
 }
 
-fn merges() {
-    let new = Both::opened(4).staged(inserts(60_000, 4, 1));
-    once("merge: 60,000 new keys, each", 60_000, &new, &Call::Merge);
-    let half = Both::opened(4).staged(inserts(30_000, 4, 1)).merged();
+fn merges(report: &mut Report) {
+    let mut merge = |name: &str, rows: u32, before: Both| {
+        before.once(report, &format!("merge: {name}"), rows, &[Call::Merge])
+    };
+    let new = Both::opened(4, 60_000).staged(inserts(60_000, 4, 1));
+    merge("60,000 new keys, each", 60_000, new);
+    let half = Both::opened(4, 30_000)
+        .staged(inserts(30_000, 4, 1))
+        .merged();
     let known = half.clone().staged(inserts(30_000, 4, 2));
-    once(
-        "merge: 30,000 known keys, each",
-        30_000,
-        &known,
-        &Call::Merge,
-    );
+    merge("30,000 known keys, each", 30_000, known);
     let kept = half.clone().staged(inserts(30_000, 4, 1));
-    once("merge: 30,000 rows kept, each", 30_000, &kept, &Call::Merge);
-    let removed = half.staged((0..15_000).map(|i| Call::RemoveKey(key(2 * i).to_vec())));
-    once(
-        "merge: 15,000 removals by key, each",
-        15_000,
-        &removed,
-        &Call::Merge,
-    );
+    merge("30,000 rows kept, each", 30_000, kept);
+    let removed = half.staged((0..15_000).map(|i| removal(2 * i)));
+    merge("15,000 removals by key, each", 15_000, removed);
+    let few = Both::opened(4, 32).staged(inserts(32, 4, 1)).merged();
+    let dying = few.staged((0..17).map(removal));
+    merge("17 removals of 32 rows, compacting, whole", 1, dying);
 }
 
-/// A full table of 8 columns, 32,769 rows of it dead, spread by chance: they die in two merges, neither of which compacts.
-fn compactions() {
-    let mut full = Both::opened(8).staged(inserts(CAPACITY, 8, 1)).merged();
+/// A full table of 8 columns, 32,768 rows of it dead by chance, which is not yet more than half; and tables of few rows.
+fn compactions(report: &mut Report) {
+    let full = Both::opened(8, CAPACITY)
+        .staged(inserts(CAPACITY, 8, 1))
+        .merged();
     let mut order: Vec<u32> = (0..CAPACITY).collect();
-    order.sort_by_key(|i| i.wrapping_mul(0x9e37_79b1));
-    let removal = |i: &u32| Call::RemoveKey(key(*i).to_vec());
-    full = full.staged(order[..32_768].iter().map(removal)).merged();
-    once(
-        "compact: 65,536 rows, 32,768 dead, each row",
+    let mut rng = Rng::new(SEED);
+    for i in 0..CAPACITY as usize {
+        order.swap(i, i + rng.place(CAPACITY as usize - i));
+    }
+    let dying = order[..32_768].iter().map(|&i| removal(i));
+    full.staged(dying).merged().once(
+        report,
+        "compact: 65,536 rows, 32,768 dead by chance, each row",
         CAPACITY,
-        &full,
-        &Call::Compact,
+        &[Call::Compact],
     );
+    for (rows, count) in [("32", 32), ("1,000", 1_000)] {
+        let few = Both::opened(4, count).staged(inserts(count, 4, 1)).merged();
+        for (name, call) in [("compact", Call::Compact), ("clear", Call::Clear)] {
+            let name = format!("{name}: {rows} rows, capacity 65,536, whole");
+            few.once(report, &name, 1, &[call]);
+        }
+    }
 }
 
-fn questions() {
-    let both = Both::opened(4).staged(inserts(60_000, 4, 1)).merged();
-    let ask = |name: &str, questions: &[Question]| {
-        compare_each(
+fn lookups(report: &mut Report, both: &Both) {
+    let (ours, theirs) = (&both.ours, &both.theirs);
+    for (name, from) in [("one cell: hit", 0), ("one cell: miss", 1_000_000)] {
+        let keys: Vec<[u32; 2]> = (0..8_192).map(|i| key(from + i * 7)).collect();
+        report.compare(
             name,
-            questions.len(),
+            keys.len(),
             || {
-                for question in questions {
-                    std::hint::black_box(both.ours.ask_lent(&both.lent, question));
-                }
+                keys.iter()
+                    .filter_map(|key| ours.get_row_column(key, 2).expect("a fit key"))
+                    .fold(0, u32::wrapping_add)
             },
             || {
-                for question in questions {
-                    std::hint::black_box(both.theirs.ask(&both.lent, question));
-                }
+                keys.iter()
+                    .filter_map(|key| theirs.cell(key, 2))
+                    .fold(0, u32::wrapping_add)
             },
         );
-    };
-    let keys = |from: u32| -> Vec<Question> {
-        (0..8_192)
-            .map(|i| Question::Cell(key(from + i * 7).to_vec(), 2))
-            .collect()
-    };
-    ask("one cell: hit", &keys(0));
-    ask("one cell: miss", &keys(1_000_000));
-    let ranges: Vec<Question> = (100..160)
-        .map(|value| {
-            Question::FastRange(Condition {
-                kind: 5,
-                a: SORT,
-                b: value,
-            })
-        })
-        .collect();
-    ask("fast range", &ranges);
-    let refine = |condition: Condition| Question::RefineOne {
-        subset: Subset::Range(0, 60_000),
-        condition,
-        output: 60_000,
-    };
-    ask(
-        "refine 60,000 rows: all kept",
-        &[refine(Condition {
-            kind: 1,
-            a: 2,
-            b: 1,
-        })],
-    );
-    ask(
-        "refine 60,000 rows: half kept",
-        &[refine(Condition {
-            kind: 1,
-            a: 1,
-            b: 2,
-        })],
-    );
-    ask(
-        "refine 60,000 rows: none kept",
-        &[refine(Condition {
-            kind: 1,
-            a: 2,
-            b: 9,
-        })],
+    }
+    let s = ours.stores();
+    report.compare(
+        "fast range",
+        60,
+        || {
+            (100..160)
+                .filter_map(|value| {
+                    let c = Constraint::ge(SORT, value);
+                    lent::fast_subset(&s.header, &s.sorts, c).expect("a known condition")
+                })
+                .map(|(start, end)| (end - start) as usize)
+                .sum::<usize>()
+        },
+        || {
+            (100..160)
+                .filter_map(|b| {
+                    theirs.fast_range_size(&Condition {
+                        kind: 5,
+                        a: SORT,
+                        b,
+                    })
+                })
+                .sum::<usize>()
+        },
     );
 }
 
-pub fn operations() {
-    stagings(60_000);
-    merges();
-    compactions();
-    questions();
+/// 60,000 rows, in column 2 a 1 or, by chance, a 2; the level of all is 1 in column 4.
+fn rows_by_chance() -> Both {
+    let mut rng = Rng::new(SEED);
+    let calls = (0..60_000).map(|i| {
+        let mut cells = row(i, 5, 1, 100 + i / 1_000);
+        cells[2] = rng.within(1, 2);
+        Call::Insert(cells)
+    });
+    Both::opened(5, 60_000).staged(calls).merged()
+}
+
+fn is(column: u32, value: u32) -> Condition {
+    Condition {
+        kind: 1,
+        a: column,
+        b: value,
+    }
+}
+
+fn refines(report: &mut Report, both: &Both) {
+    let s = both.ours.stores();
+    let mut output = vec![0; 60_000];
+    let all = Subset::Range(0, 60_000);
+    let list = Subset::List((0..60_000).collect());
+    for (of, subset) in [("a range", &all), ("a list", &list)] {
+        let same = RustSubset::new(subset);
+        for (kept, condition) in [
+            ("all", is(4, 1)),
+            ("every other", is(1, 2)),
+            ("half by chance", is(2, 1)),
+            ("none", is(4, 9)),
+        ] {
+            let c = constraint(&condition);
+            report.compare(
+                &format!("refine {of} of 60,000: {kept} kept"),
+                1,
+                || {
+                    size(lent::refine_one(
+                        &s.header,
+                        &s.rows,
+                        borrowed(subset),
+                        c,
+                        &mut output,
+                    ))
+                },
+                || both.theirs.refined_size(&same, &condition),
+            );
+        }
+    }
+}
+
+fn walks(report: &mut Report, both: &Both) {
+    let s = both.ours.stores();
+    let mut output = vec![0; 60_000];
+    let range = SubsetRef::Range(0, 60_000);
+    let same = RustSubset::new(&Subset::Range(0, 60_000));
+    let conditions = [is(2, 1), is(4, 1)];
+    let ours: Vec<Constraint> = conditions.iter().map(constraint).collect();
+    report.compare(
+        "refine by two conditions, of 60,000: half by chance kept",
+        1,
+        || {
+            size(lent::refine_ref(
+                &s.header,
+                &s.rows,
+                range,
+                &ours,
+                &mut output,
+            ))
+        },
+        || both.theirs.refined_by_all_size(&same, &conditions),
+    );
+    let nowhere = [is(4, 9)];
+    let none: Vec<Constraint> = nowhere.iter().map(constraint).collect();
+    report.compare(
+        "any match of 60,000: none",
+        1,
+        || lent::contains_match(&s.header, &s.rows, range, &none).expect("a fit question"),
+        || both.theirs.contains_match(&same, &nowhere),
+    );
+    let mut ids = Vec::with_capacity(60_000);
+    report.compare(
+        "page of 1,000: half by chance written",
+        1,
+        || {
+            let page = lent::read_page(&s.header, &s.rows, range, 500, 1_000, &ours, &mut output);
+            page.expect("a fit question").next
+        },
+        || {
+            ids.clear();
+            both.theirs.page(&same, 500, 1_000, &conditions, &mut ids)
+        },
+    );
+}
+
+pub fn operations(report: &mut Report) {
+    stagings(report);
+    merges(report);
+    compactions(report);
+    let both = Both::opened(4, 60_000)
+        .staged(inserts(60_000, 4, 1))
+        .merged();
+    lookups(report, &both);
+    let both = rows_by_chance();
+    refines(report, &both);
+    walks(report, &both);
 }

@@ -391,6 +391,61 @@ fn constraints(conditions: &[Condition]) -> Vec<Constraint> {
     conditions.iter().map(constraint).collect()
 }
 
+/// Questions to be measured without the way from and to `calls`: answers of one number.
+impl RustTable {
+    pub fn cell(&self, key: &[u32], column: u32) -> Option<u32> {
+        let cell = self
+            .open()
+            .table
+            .get_row_column(values(key), ColumnId::new(column));
+        cell.map(|value| value.rep())
+    }
+
+    pub fn fast_range_size(&self, condition: &Condition) -> Option<usize> {
+        let range = self.open().table.fast_subset(&constraint(condition));
+        range.map(|subset| subset.size())
+    }
+
+    /// Refines a copy, since the Rust does it in place.
+    pub fn refined_size(&self, subset: &RustSubset, condition: &Condition) -> usize {
+        let table = &self.open().table;
+        table
+            .refine_one(subset.0.clone(), &constraint(condition))
+            .size()
+    }
+
+    pub fn refined_by_all_size(&self, subset: &RustSubset, conditions: &[Condition]) -> usize {
+        let table = &self.open().table;
+        table
+            .refine_ref(subset.0.as_ref(), &constraints(conditions), true)
+            .size()
+    }
+
+    pub fn contains_match(&self, subset: &RustSubset, conditions: &[Condition]) -> bool {
+        let table = &self.open().table;
+        table.contains_match(subset.0.as_ref(), &constraints(conditions))
+    }
+
+    /// The ids of a page, pushed to a list.
+    pub fn page(
+        &self,
+        subset: &RustSubset,
+        place: u32,
+        n: usize,
+        conditions: &[Condition],
+        ids: &mut Vec<u32>,
+    ) -> Option<u32> {
+        let next = self.open().table.scan_generic_bounded(
+            subset.0.as_ref(),
+            Offset::new(u64::from(place)),
+            n,
+            &constraints(conditions),
+            |row, _| ids.push(row.rep()),
+        );
+        next.map(|place| place.rep() as u32)
+    }
+}
+
 /// A subset of the Rust's own, to be measured without the way from and to `calls`.
 pub struct RustSubset(offsets::Subset);
 

@@ -1,0 +1,182 @@
+//! Rows of times. Within a row ours and the Rust's are measured in turn, and the least of many rounds counts for each: what is
+//! measured is the work, not the machine's other business.
+
+use std::hint::black_box;
+use std::time::Instant;
+
+/// Rounds of a row, of about half a millisecond each.
+const ROUNDS: usize = 60;
+/// Rounds of a row whose work uses up what it works on.
+const ROUNDS_ANEW: usize = 40;
+const NAME_WIDTH: usize = 68;
+
+/// What is recorded: the lines that `oracle bench 7` printed.
+const RECORDED: &str = include_str!("../../ratios.txt");
+/// A row may be above its recorded ratio by a third.
+const ALLOWED: f64 = 4.0 / 3.0;
+
+/// A row, with the times of ours and of the Rust in each run.
+struct Row {
+    name: String,
+    times: Vec<(f64, f64)>,
+}
+
+/// The rows that are wanted, in the order in which they were first measured.
+pub struct Report {
+    part: String,
+    rows: Vec<Row>,
+}
+
+fn nanoseconds(work: impl FnOnce()) -> f64 {
+    let start = Instant::now();
+    work();
+    start.elapsed().as_nanos() as f64
+}
+
+/// How many calls make a round.
+fn calls_of_round<R>(work: &mut impl FnMut() -> R) -> u32 {
+    let once = nanoseconds(|| {
+        black_box(work());
+    });
+    (500_000.0 / once.max(1.0)).clamp(1.0, 100_000.0) as u32
+}
+
+fn round<R>(calls: u32, work: &mut impl FnMut() -> R) -> f64 {
+    let all = nanoseconds(|| {
+        for _ in 0..calls {
+            black_box(work());
+        }
+    });
+    all / f64::from(calls)
+}
+
+fn median(mut numbers: Vec<f64>) -> f64 {
+    numbers.sort_by(f64::total_cmp);
+    numbers[numbers.len() / 2]
+}
+
+impl Row {
+    fn ratios(&self) -> Vec<f64> {
+        self.times.iter().map(|(o, t)| o / t).collect()
+    }
+
+    fn least_ratio(&self) -> f64 {
+        self.ratios().into_iter().fold(f64::INFINITY, f64::min)
+    }
+
+    /// The medians of both times and of the ratio; behind several runs also the ratio's least and most.
+    fn line(&self) -> String {
+        let ours = median(self.times.iter().map(|t| t.0).collect());
+        let theirs = median(self.times.iter().map(|t| t.1).collect());
+        let ratio = median(self.ratios());
+        let mut line = format!(
+            "  {:NAME_WIDTH$} {ours:11.1} {theirs:11.1} {ratio:7.2}",
+            self.name
+        );
+        if 1 < self.times.len() {
+            let most = self.ratios().into_iter().fold(0.0, f64::max);
+            line += &format!(" {:7.2} {most:7.2}", self.least_ratio());
+        }
+        line
+    }
+}
+
+/// The name and the ratio of a printed line.
+fn recorded(line: &str) -> Option<(&str, f64)> {
+    let (name, times) = line.strip_prefix("  ")?.split_at_checked(NAME_WIDTH)?;
+    let ratio = times.split_whitespace().nth(2)?.parse().ok()?;
+    Some((name.trim_end(), ratio))
+}
+
+impl Report {
+    /// Only rows whose names have this part are measured.
+    pub fn of(part: &str) -> Report {
+        Report {
+            part: part.to_string(),
+            rows: Vec::new(),
+        }
+    }
+
+    fn is_wanted(&self, name: &str) -> bool {
+        name.contains(&self.part)
+    }
+
+    fn add(&mut self, name: &str, pieces: usize, ours: f64, theirs: f64) {
+        let times = (ours / pieces as f64, theirs / pieces as f64);
+        match self.rows.iter_mut().find(|row| row.name == name) {
+            Some(row) => row.times.push(times),
+            None => self.rows.push(Row {
+                name: name.to_string(),
+                times: vec![times],
+            }),
+        }
+    }
+
+    /// Two works that can be done again and again; the time is for each of so many pieces.
+    pub fn compare<R, S>(
+        &mut self,
+        name: &str,
+        pieces: usize,
+        mut ours: impl FnMut() -> R,
+        mut theirs: impl FnMut() -> S,
+    ) {
+        if !self.is_wanted(name) {
+            return;
+        }
+        let (calls, their_calls) = (calls_of_round(&mut ours), calls_of_round(&mut theirs));
+        let (mut least, mut their_least) = (f64::INFINITY, f64::INFINITY);
+        for _ in 0..ROUNDS {
+            least = least.min(round(calls, &mut ours));
+            their_least = their_least.min(round(their_calls, &mut theirs));
+        }
+        self.add(name, pieces, least, their_least);
+    }
+
+    /// Two works that use up what they work on: each is done on a copy, and making it is not counted.
+    pub fn compare_anew<O: Clone, T: Clone>(
+        &mut self,
+        name: &str,
+        pieces: usize,
+        (before, ours): (&O, impl Fn(&mut O)),
+        (their_before, theirs): (&T, impl Fn(&mut T)),
+    ) {
+        if !self.is_wanted(name) {
+            return;
+        }
+        let (mut least, mut their_least) = (f64::INFINITY, f64::INFINITY);
+        for _ in 0..ROUNDS_ANEW {
+            let mut copy = before.clone();
+            least = least.min(nanoseconds(|| ours(&mut copy)));
+            black_box(copy);
+            let mut copy = their_before.clone();
+            their_least = their_least.min(nanoseconds(|| theirs(&mut copy)));
+            black_box(copy);
+        }
+        self.add(name, pieces, least, their_least);
+    }
+
+    pub fn print(&self) {
+        println!("nanoseconds of the proved library and of the Rust, and their ratio");
+        for row in &self.rows {
+            println!("{}", row.line());
+        }
+    }
+
+    /// The rows that were in no run within what is recorded of them; those of which nothing is recorded, too.
+    pub fn above(&self) -> Vec<String> {
+        let limits: Vec<(&str, f64)> = RECORDED.lines().filter_map(recorded).collect();
+        let limit = |row: &Row| limits.iter().find(|(name, _)| *name == row.name);
+        self.rows
+            .iter()
+            .filter_map(|row| match limit(row) {
+                None => Some(format!("nothing is recorded of: {}", row.name)),
+                Some((_, ratio)) if ratio * ALLOWED < row.least_ratio() => Some(format!(
+                    "{:.2}, recorded {ratio:.2}: {}",
+                    row.least_ratio(),
+                    row.name
+                )),
+                Some(_) => None,
+            })
+            .collect()
+    }
+}
