@@ -17,7 +17,7 @@ use Rattle.key_index.specs.declared.Keyed.{Keyed}
 use Rattle.key_index.specs.Slots.{keyAt, slots, home, KeysSound, spread}
 use Rattle.key_index.specs.Laws.Ring.{home-spread}
 use Rattle.key_index.specs.inner.Index.{Fits}
-use Rattle.key_clearing.specs.inner.Clearing.{RunFreed, RowFreed, RowsFreed}
+use Rattle.key_clearing.specs.inner.Clearing.{RunFreed, RowFreed, KeysFreed}
 use Rattle.key_clearing.specs.Laws.Clearing.{Left, left-begin, left-dead, left-live, left-end, all-free}
 
 -- a row lies in its store, which is small
@@ -93,7 +93,7 @@ module _ (t : Keyed) (rows store₀ : List ℕ) (some : 1 ≤ t .capacity) where
           tail = r .tail ∙ s .tail;
         }
 
-    pub turn-end : 2 * t .capacity ≤ length store₀ → t .rows ≤ row → RowsFreed t rows store₀ store
+    pub turn-end : 2 * t .capacity ≤ length store₀ → t .rows ≤ row → KeysFreed t rows store₀ store
     turn-end long h =
         let e : row ≡ t .rows = omega (arith, s .most) in
         record {

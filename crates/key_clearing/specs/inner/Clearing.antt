@@ -29,6 +29,6 @@ pub record RowFreed (t : Keyed) (rows store : List ℕ) (row : ℕ) (store′ : 
   pub tail : drop (slots t) store′ ≡ drop (slots t) store
 
 -- a sound store is empty afterwards; on no store is anything past the slots written
-pub record RowsFreed (t : Keyed) (rows store store′ : List ℕ) : Type 0 where
+pub record KeysFreed (t : Keyed) (rows store store′ : List ℕ) : Type 0 where
   pub empty : KeysSound t rows store → EmptyIs (t .capacity) store store′
   pub tail : drop (slots t) store′ ≡ drop (slots t) store
