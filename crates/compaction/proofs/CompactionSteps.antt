@@ -2,7 +2,7 @@
 -- rows, and what the entry point answers. Assumes nothing.
 use Prim.Native.Nat.{ℕ, _+_, _*_, _/_, _%_, _^_, _≤_, _<_}
 use mathlib.Core.Path.{_≡_, refl, sym, ap, ap₂, _∙_}
-use mathlib.Core.Bool.{true, false, not}
+use mathlib.Core.Bool.{Bool, true, false, not}
 use mathlib.Core.List.{List, [], _∷_, _++_}
 use native.Mathlib.Nat.{mul-le-mul-right}
 use native.Mathlib.Decide.{ℕ-discrete}
@@ -10,7 +10,7 @@ use native.Mathlib.Omega.{arith}
 use lib.ListN.{length, take, drop, getD, set, length-take, length-drop, length-set, length-append}
 use lib.Seq.{drop-set-lt}
 use borrow.Author.Tests.{eq-eqb, ne-eqb}
-use Rattle.lists.specs.Lists.{putAt, keep, rowAt, rowsOf, flat, mapFront}
+use Rattle.lists.specs.Lists.{putAt, keep, rowAt, rowsOf, flat}
 use Rattle.lists.specs.Laws.Parts.{putAt-nil, getD-putAt-in}
 use Rattle.lists.specs.Laws.Keep.{length-keep}
 use Rattle.lists.specs.Laws.Rows.{row-in}
@@ -22,10 +22,11 @@ use Rattle.sort_entries.specs.Laws.Push.{push-few}
 use Rattle.row_buffer.specs.Ranks.{liveAt, newNumber}
 use Rattle.key_index.specs.declared.Keyed.{Keyed}
 use Rattle.key_index.specs.Slots.{slots}
-use Rattle.key_index.specs.inner.Index.{RowsIn}
+use Rattle.key_index.specs.inner.Index.{RowsIn, Fits}
 use Rattle.key_index.specs.Laws.Index.{rows-in}
-use Rattle.key_gaps.specs.inner.Gaps.{renumbered, Ranked}
-use Rattle.key_gaps.specs.Laws.Renumbering.{below-number, live-among}
+use Rattle.key_index.specs.Laws.Lines.{small}
+use Rattle.renumbering.specs.inner.Renumbering.{Ranked, Rest, FewRenumbered}
+use Rattle.renumbering.specs.Laws.Renumbering.{live-first, below-number, live-among, either-renumbered}
 use Rattle.refusals.specs.Laws.Replies.{verdict-refused, verdict-accepted}
 use Rattle.table.specs.declared.Header.{Header}
 use Rattle.table.specs.declared.TableAnswer.the-variants.{Refused as TableRefused, Table}
@@ -37,7 +38,7 @@ use Rattle.table.specs.Promises.{body, compactionWords, PastNeeded, lengths, Co
 use Rattle.table.specs.Laws.Refusals.{inside-fits, compact-accepted}
 use Rattle.compaction.specs.inner.Compaction.{Lendable, Compaction}
 use Rattle.compaction.specs.inner.ClosingUp.{Begun, Keepable, RowKept, Closable, Closed, liveStored, entriesFor, closedHeader}
-use Rattle.compaction.specs.Laws.Compaction.{live-first, live-one, live-none, next-row, close-one, entries-one, rebuild-one, Words, words-begin, words-begun, word-below, words-marked, words-passed, words-number, compaction}
+use Rattle.compaction.specs.Laws.Compaction.{live-one, live-none, next-row, close-one, entries-one, rebuild-one, Words, words-begin, words-begun, word-below, words-marked, words-passed, words-number, compaction}
 
 -- ---- a word is begun
 
@@ -298,16 +299,25 @@ module _ {h : Header} {rows keys sorts live base : List ℕ} (lent : Lendable h 
         base-long = lent .base-long;
       }
 
-  module _ {live′ base′ : List ℕ} {t : Keyed} (e : t ≡ keyedOf h) where
+  module _ {t : Keyed} (e : t ≡ keyedOf h) where
     -- and for the key store's new numbers
-    pub can-renumber : length live′ ≡ length live → length base′ ≡ length base → (Ranked t live′ base′) × (slots t ≤ length keys)
-    can-renumber el eb =
-        rw e
-        (record { capacity = lent .fits .most; count = lent .fits .count; marks = rw el (lent .live-long); firsts = rw eb (lent .base-long) }, lent .fits .long)
+    pub can-renumber : Fits t rows keys
+    can-renumber = rw e (lent .fits)
 
-    pub compact-end : {kept : Kept} {rows′ keys′ sorts′ : List ℕ} → h .generation < 4294967295 → Closed h rows sorts live base kept rows′ sorts′ live′ base′
-        → keys′ ≡ mapFront (renumbered t live′ base′) (slots t) keys → Compaction h rows keys sorts live base (closedHeader h kept) rows′ keys′ sorts′ live′ base′
-    compact-end {kept} {rows′} {keys′} {sorts′} g c k = rw (k, e) (compaction h rows keys sorts live base lent kept rows′ sorts′ live′ base′ c g)
+    module _ {live′ base′ : List ℕ} where
+      pub can-rest : (n : ℕ) → n ≡ length keys → length live′ ≡ length live → length base′ ≡ length base → (Ranked t live′ base′) × (slots t ≤ n)
+      can-rest n ek el eb =
+          rw e
+          (record { capacity = lent .fits .most; count = lent .fits .count; marks = rw el (lent .live-long); firsts = rw eb (lent .base-long) }, rw ek (lent .fits .long))
+
+      pub compact-end : {done : Bool} {kept : Kept} {rows′ keys₁ keys′ sorts′ : List ℕ} → h .generation < 4294967295 → FewRenumbered t rows keys done keys₁
+          → Closed h rows sorts live base kept rows′ sorts′ live′ base′ → Rest t done keys₁ live′ base′ keys′ → length keys′ ≡ length keys
+          → Compaction h rows keys sorts live base (closedHeader h kept) rows′ keys′ sorts′ live′ base′
+      compact-end {done} {kept} {rows′} {keys₁} {keys′} {sorts′} g few c rest same =
+          compaction h rows keys sorts live base lent kept rows′ sorts′ live′ base′ c keys′ same
+          (either-renumbered (keyedOf h) rows keys keys₁ keys′ live′ base′ done (small (keyedOf h) rows keys (lent .fits)) (lent .fits .long) (c .numbered)
+          (rw e at few) (rw e at rest))
+          g
 
 -- ---- the entry point
 

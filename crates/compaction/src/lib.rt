@@ -1,5 +1,6 @@
 // Compaction: `rehash_impl` of table/mod.rs. One pass moves the live rows down, marks them in the compaction words and rebuilds
-// the sort entries; a second gives the key store the new row numbers, without hashing.
+// the sort entries. Another gives the key store the new row numbers: after it, over the slots and without hashing; or before it,
+// over the rows, where they are few.
 ghost use mathlib.Core.Path.{_≡_};
 ghost use Prim.Native.Nat.{_/_, _<_};
 ghost use lib.ListN.{length};
@@ -94,8 +95,10 @@ pub fn compact_rows(
     requires { ⌜ Lendable h (now rows) (now keys) (now sorts) (now live) (now base) × (h .generation < 4294967295) ⌝ }
     ensures { λ r. ⌜ Compaction h (now (rows .entry)) (now (keys .entry)) (now (sorts .entry)) (now (live .entry)) (now (base .entry)) r (now (rows .exit)) (now (keys .exit)) (now (sorts .exit)) (now (live .exit)) (now (base .exit)) ⌝ }
 {
+    let t = keyed(h);
+    let few = renumbering::renumber_few(t, rows, keys);
     let kept = close_up(h, rows, sorts, live, base);
-    key_gaps::renumber(keyed(h), keys, live, base);
+    renumbering::renumber_rest(t, few, keys, live, base);
     let mut n = h;
     n.rows = kept.rows;
     n.dead = 0;

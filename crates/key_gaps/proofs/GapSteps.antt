@@ -1,4 +1,4 @@
--- The steps of `take_out` as the definitions of specs/Index.antt: distances round the ring, the home of a word's row, and the
+-- The steps of `take_out`: distances round the ring, the home of a word's row, and the
 -- walk that closes the gap. Assumes nothing.
 use Prim.Native.Nat.{ℕ, _+_, _-_, _*_, _%_, _^_, _≤_, _<_}
 use mathlib.Core.Path.{_≡_, refl, sym, ap, _∙_}
@@ -6,9 +6,8 @@ use mathlib.Core.Bool.{true, false}
 use mathlib.Core.List.{List}
 use native.Mathlib.Nat.{mod-eq-of-lt, add-mod-right}
 use native.Mathlib.Omega.{arith}
-use lib.ListN.{length, take, drop, getD, set, length-set}
+use lib.ListN.{length, drop, getD, set, length-set}
 use Rattle.cells.specs.Cells.{compact, keyHash}
-use Rattle.row_buffer.specs.Laws.Rows.{key-row}
 use Rattle.key_index.specs.declared.Keyed.{Keyed}
 use Rattle.key_index.specs.Slots.{keyAt, slots, slotFrom, spread}
 use Rattle.key_index.specs.inner.Ring.{rowNamed, namesRow, away}
@@ -35,20 +34,10 @@ away-behind n a b h k =
 
 -- ---- homes
 
--- the part of the row store that is lent is the row's key
-pub key-part : (t : Keyed) (rows : List ℕ) (w : ℕ) → t .keys ≤ t .columns → let from = (w % 2 ^ 17 - 1) * t .columns in
-    take (from + t .keys - from) (drop from rows) ≡ keyAt t rows (rowNamed w)
-unfolding rowNamed
-key-part t rows w h =
-    let from = (w % 2 ^ 17 - 1) * t .columns in
-    let k : from + t .keys - from ≡ t .keys = omega arith in
-    rw k (sym (key-row (t .columns) (w % 2 ^ 17 - 1) (t .keys) rows h))
-
--- the home slot of its hash
-pub home-part : (t : Keyed) (rows : List ℕ) (w hash : ℕ) (part : List ℕ) → part ≡ keyAt t rows (rowNamed w) → hash ≡ compact (keyHash part)
-    → spread (slots t) hash ≡ homeOf t rows w
-unfolding homeOf
-home-part t rows w hash part e f = home-spread (slots t) hash (keyAt t rows (rowNamed w)) (f ∙ ap (λ (key : List ℕ). compact (keyHash key)) e)
+-- the home slot of the hash of its row's key
+pub home-hash : (t : Keyed) (rows : List ℕ) (w hash : ℕ) → hash ≡ compact (keyHash (keyAt t rows (w % 2 ^ 17 - 1))) → spread (slots t) hash ≡ homeOf t rows w
+unfolding homeOf rowNamed
+home-hash t rows w hash e = home-spread (slots t) hash (keyAt t rows (w % 2 ^ 17 - 1)) e
 
 -- ---- the walk that closes a gap
 

@@ -1,2 +1,1 @@
 pub mod GapSteps
-pub mod RenumberSteps

@@ -7,11 +7,12 @@ use mathlib.Core.List.{List}
 use native.Mathlib.Nat.{mul-le-mul}
 use native.Mathlib.Omega.{arith}
 use lib.Dec.{leb}
-use lib.ListN.{length}
+use lib.ListN.{length, take, drop}
 use borrow.Author.Tests.{lt-ltb}
 use Rattle.lists.specs.Lists.{same}
 use Rattle.lists.specs.Laws.Rising.{same-refl, same-eq}
 use Rattle.lists.specs.Laws.Rows.{row-in}
+use Rattle.row_buffer.specs.Laws.Rows.{key-row}
 use Rattle.key_index.specs.declared.Keyed.{Keyed}
 use Rattle.key_index.specs.Slots.{keyAt, tagged}
 use Rattle.key_index.specs.inner.Ring.{namesRow}
@@ -21,6 +22,21 @@ use Rattle.key_index.specs.inner.Index.{RowsIn, Leads, HitIs}
 pub names-some : (t : Keyed) (w : ℕ) → (w % 2 ^ 17 ≡ 0 → ⊥) → leb (w % 2 ^ 17) (t .rows) ≡ namesRow t w
 unfolding namesRow
 names-some t w ne = let p : 0 < w % 2 ^ 17 = omega arith in rw (lt-ltb 0 (w % 2 ^ 17) p)
+
+-- a row lies in its store
+pub row-inside : (t : Keyed) (rows : List ℕ) (row : ℕ) → RowsIn t rows → row < t .rows
+    → (row * t .columns + t .columns ≤ length rows) × (row * t .columns + t .columns ≤ 524288)
+row-inside t rows row f h =
+    let i = row-in row (t .capacity) (t .columns) (omega (arith, f .count)) in
+    (omega (arith, f .cells), omega (arith, mul-le-mul (f .most) (f .most-columns)))
+
+-- its part that is lent is its key
+pub key-part : (t : Keyed) (rows : List ℕ) (row : ℕ) → t .keys ≤ t .columns → let from = row * t .columns in
+    take (from + t .keys - from) (drop from rows) ≡ keyAt t rows row
+key-part t rows row h =
+    let from = row * t .columns in
+    let k : from + t .keys - from ≡ t .keys = omega arith in
+    rw k (sym (key-row (t .columns) row (t .keys) rows h))
 
 -- a word that names a row has its number, from 1 on, and the row lies in its store
 pub record Named (t : Keyed) (rows : List ℕ) (w : ℕ) : Type 0 where
@@ -32,9 +48,9 @@ pub record Named (t : Keyed) (rows : List ℕ) (w : ℕ) : Type 0 where
 pub named : (t : Keyed) (rows : List ℕ) (w : ℕ) → RowsIn t rows → namesRow t w ≡ true → Named t rows w
 named t rows w f e =
     let n = names-number t w e in
-    let r : w % 2 ^ 17 - 1 < t .capacity = omega (arith, f .count, n) in
-    let i = row-in (w % 2 ^ 17 - 1) (t .capacity) (t .columns) r in
-    record { some = n .0; row = omega (arith, n); inside = omega (arith, f .cells); small = omega (arith, mul-le-mul (f .most) (f .most-columns)) }
+    let r : w % 2 ^ 17 - 1 < t .rows = omega (arith, n) in
+    let i = row-inside t rows (w % 2 ^ 17 - 1) f r in
+    record { some = n .0; row = r; inside = i .0; small = i .1 }
 
 module _ (t : Keyed) (rows key : List ℕ) (hash w row : ℕ) (few : t .rows ≤ 65536) where
   pub hit-bits : (w / 2 ^ 17 ≡ hash % 2 ^ 15 → ⊥) → HitIs t rows key hash w row false

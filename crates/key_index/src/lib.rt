@@ -5,7 +5,8 @@
 ghost use mathlib.Core.Path.{_≡_};
 ghost use Prim.Native.Nat.{_-_, _%_, _^_, _<_};
 ghost use lib.ListN.{length, set};
-ghost use Rattle.key_index.specs.Slots.{slots, slotFrom, spread, tagged};
+ghost use Rattle.cells.specs.Cells.{compact, keyHash};
+ghost use Rattle.key_index.specs.Slots.{keyAt, slots, slotFrom, spread, tagged};
 ghost use Rattle.key_index.specs.inner.Ring.{namesRow};
 ghost use Rattle.key_index.specs.inner.Index.{Room, RowsIn, Fits, HitIs, FoundIs, PutIs, EmptyIs};
 
@@ -42,6 +43,16 @@ pub fn slot_word(hash: u32, row: u32) -> u32
     ensures { λ r. ⌜ r ≡ tagged hash row ⌝ }
 {
     hash % HASH_RANGE * ROW_RANGE + (row + 1)
+}
+
+// The hash of a row's key.
+pub fn row_hash(t: Keyed, rows: &[u32], row: u32) -> u32
+    requires { ⌜ (RowsIn t (now rows)) × (row < t .rows) ⌝ }
+    ensures { λ r. ⌜ r ≡ compact (keyHash (keyAt t (now (rows .entry)) row)) ⌝ }
+{
+    let from = (row * t.columns) as usize;
+    let to = from + t.keys as usize;
+    cells::compact_hash(&rows[from..to])
 }
 
 // The slot after, going round.

@@ -354,7 +354,7 @@ pub extern "C" fn mouldgrey_renumber(
         capacity,
         rows: count,
     };
-    key_gaps::renumber(t, store, live, base);
+    renumbering::renumber(t, store, live, base);
     1
 }
 

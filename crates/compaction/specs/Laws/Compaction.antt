@@ -13,9 +13,8 @@ use lib.ListN.{length, getD, set, length-map}
 use lib.Seq.{getD-set-same, getD-set-other}
 use lib.Dec.{ltb}
 use borrow.Author.Tests.{eq-eqb, ne-eqb}
-use Rattle.lists.specs.Lists.{putAt, keep, rowAt, rowsOf, flat, mapFront}
+use Rattle.lists.specs.Lists.{putAt, keep, rowAt, rowsOf, flat}
 use Rattle.lists.specs.Laws.Keep.{split, keep-append, length-keep, count-le, every-keep}
-use Rattle.lists.specs.Laws.Front.{length-mapFront, drop-mapFront}
 use Rattle.lists.specs.Laws.Parts.{length-putAt, putAt-then, part-after}
 use Rattle.lists.specs.Laws.Rows.{widths, length-rowsOf, length-rowAt, rowsOf-snoc, rowsOf-widths, widths-keep, length-flat, flat-append, getD-rowAt, getD-rowsOf, rowsOf-put-flat}
 use Rattle.cells.specs.Cells.{isDead}
@@ -27,9 +26,9 @@ use Rattle.sort_entries.specs.Laws.Rebuilt.{rebuilt-few}
 use Rattle.sort_entries.specs.Laws.Stores.{length-words, words-snoc, entriesOf-put}
 use Rattle.row_buffer.specs.Ranks.{liveAt, liveWord, newNumber}
 use Rattle.row_buffer.specs.Laws.Rows.{word-none, word-live, word-dead, word-lt, number-rank, keep-at}
-use Rattle.key_index.specs.Slots.{LiveAt, slots}
-use Rattle.key_gaps.specs.inner.Gaps.{newRow, renumbered}
-use Rattle.key_gaps.specs.Laws.Renumbering.{liveBelow, below-number, live-among, live-rises, Compacted, renumber-sound}
+use Rattle.key_index.specs.Slots.{LiveAt}
+use Rattle.renumbering.specs.inner.Renumbering.{liveBelow, Renumbered, newRow}
+use Rattle.renumbering.specs.Laws.Renumbering.{below-number, live-among, live-rises, Compacted, renumber-sound}
 use Rattle.key_index.specs.Laws.Lines.{small}
 use Rattle.plain.specs.Plain.{Row, Plain, compacted}
 use Rattle.plain.specs.Refusing.{storesShort}
@@ -48,11 +47,6 @@ use Rattle.plain.specs.Proper.{Proper}
 use Rattle.table.specs.Laws.Shown.{stores-long, stored-rows, rows-counted, row-shown}
 
 -- ---- the live rows close up
-
--- a row is live by its first cell
-pub live-first : (w i : ℕ) (rows : List ℕ) → 0 < w → isLive (rowAt w i rows) ≡ not (isDead (getD rows (i * w) 0))
-unfolding isLive
-live-first w i rows h = ap (λ (cell : ℕ). not (isDead cell)) (getD-rowAt w i rows 0 0 h ∙ ap (λ (k : ℕ). getD rows k 0) (add-zero (i * w)))
 
 module _ (w n : ℕ) (rows : List ℕ) where
   -- they are not more than the rows
@@ -275,8 +269,8 @@ module _ (h : Header) (rows sorts live base : List ℕ) (kept : Kept) (rows′ s
       ∙ keep-at isLive (rowsOf (h .columns) (h .rows) rows) i [] (live-among t rows (h .rows) i (l .0) ∙ l .1)
       ∙ getD-rowsOf (h .columns) (h .rows) rows i (l .0)
 
-  -- so that the words renumber the key store
-  closed-numbers : Compacted (keyedOf h) rows (keyedOf (closedHeader h kept)) rows′ live′ base′
+  -- so that the key store leads to them by their new numbers
+  closed-numbers : Compacted (keyedOf h) rows (keyedOf (closedHeader h kept)) rows′
   closed-numbers =
       record {
         columns = refl;
@@ -284,14 +278,11 @@ module _ (h : Header) (rows sorts live base : List ℕ) (kept : Kept) (rows′ s
         capacity = refl;
         count = closed-count;
         moved = closed-moved;
-        ranked = c .numbered;
       }
 
 module _ (h : Header) (rows keys sorts live base : List ℕ) (lent : Lendable h rows keys sorts live base) (kept : Kept) (rows′ sorts′ live′ base′ : List ℕ)
-    (c : Closed h rows sorts live base kept rows′ sorts′ live′ base′) where
-  abbrev keys′ : List ℕ
-  keys′ = mapFront (renumbered (keyedOf h) live′ base′) (slots (keyedOf h)) keys
-
+    (c : Closed h rows sorts live base kept rows′ sorts′ live′ base′) (keys′ : List ℕ) (same-keys : length keys′ ≡ length keys)
+    (n : Renumbered (keyedOf h) rows keys keys′) where
   rows-fit : h .rows * h .columns ≤ length rows
   rows-fit = omega (arith, lent .fits .cells, mul-le-mul-right (h .columns) (lent .fits .count))
 
@@ -336,7 +327,7 @@ module _ (h : Header) (rows keys sorts live base : List ℕ) (lent : Lendable h 
 
     long-after : storesShort (p .opening) (lengths rows′ keys′ sorts′ pending [] []) ≡ false
     unfolding storesShort
-    long-after = rw (same-rows, same-sorts, length-mapFront (renumbered (keyedOf h) live′ base′) (slots (keyedOf h)) keys) (r .long-enough)
+    long-after = rw (same-rows, same-sorts, same-keys) (r .long-enough)
 
     proper-after : Proper (compacted p)
     proper-after = compacted-proper (r .proper) (rw (ap (λ (n : Header). n .generation) (r .shown .header)) at g)
@@ -357,8 +348,8 @@ module _ (h : Header) (rows keys sorts live base : List ℕ) (lent : Lendable h 
           proper = proper-after;
           long-enough = unfold compacted in long-after;
           shown = shown-after;
-          keyed = renumber-sound (keyedOf h) rows (keyedOf (closedHeader h kept)) rows′ live′ base′
-              (closed-numbers h rows sorts live base kept rows′ sorts′ live′ base′ c rows-fit) keys (small (keyedOf h) rows keys (lent .fits)) (lent .fits .long) (r .keyed);
+          keyed = renumber-sound (keyedOf h) rows (keyedOf (closedHeader h kept)) rows′ (closed-numbers h rows sorts live base kept rows′ sorts′ live′ base′ c rows-fit)
+              keys keys′ (small (keyedOf h) rows keys (lent .fits)) (r .keyed) n;
         }
 
     closed-up : ClosedUp h rows keys sorts (closedHeader h kept) rows′ keys′ sorts′ pending p
@@ -375,7 +366,7 @@ module _ (h : Header) (rows keys sorts live base : List ℕ) (lent : Lendable h 
   pub compaction : h .generation < 4294967295 → Compaction h rows keys sorts live base (closedHeader h kept) rows′ keys′ sorts′ live′ base′
   compaction g =
       record {
-        past = drop-mapFront (renumbered (keyedOf h) live′ base′) (slots (keyedOf h)) keys;
+        past = n .rest;
         words-past = c .words-past;
         table = λ pending p r. closed-up pending p r g;
       }

@@ -12,8 +12,7 @@ use Rattle.sort_entries.specs.Entries.{Entry, words, rebuilt}
 use Rattle.sort_entries.specs.inner.Append.{Room, Append}
 use Rattle.key_index.specs.Slots.{LiveAt}
 use Rattle.key_index.specs.inner.Index.{RowsIn}
-use Rattle.key_gaps.specs.inner.Gaps.{newRow}
-use Rattle.key_gaps.specs.Laws.Renumbering.{liveBelow}
+use Rattle.renumbering.specs.inner.Renumbering.{liveBelow, newRow}
 use Rattle.table.specs.declared.Header.{Header}
 use Rattle.compaction.specs.declared.Kept.{Kept}
 use Rattle.table.specs.Sound.{keyedOf}

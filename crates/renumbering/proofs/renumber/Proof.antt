@@ -1,10 +1,10 @@
--- `key_index::gaps::renumber` meets its contract. Assumes nothing.
+-- `renumbering::renumber` meets its contract. Assumes nothing.
 use Prim.Native.Nat.{_-_}
 use native.Mathlib.Omega.{arith}
 use Rattle.key_index.specs.Slots.{slots}
-use Rattle.key_gaps.proofs.RenumberSteps.{Pass, pass-begin, pass-step, pass-end}
-use Rattle.key_gaps.proofs.renumber.Statement.{statement}
-use Rattle.key_gaps.proofs.renumber.Tie as tie
+use Rattle.renumbering.proofs.RenumberSteps.{Pass, pass-begin, pass-step, pass-end}
+use Rattle.renumbering.proofs.renumber.Statement.{statement}
+use Rattle.renumbering.proofs.renumber.Tie as tie
 
 abbrev Inv-loop : tie.InvT-loop
 Inv-loop t store₀ live base n at₀ store at = Pass t live base store₀ store at

@@ -1,4 +1,4 @@
--- The steps of `renumber` as the definitions of specs/Index.antt: what becomes of a word, and the turns of the loop over the
+-- The steps of `renumber`: what becomes of a word, and the turns of the loop over the
 -- slots. Assumes nothing.
 use Prim.Native.Nat.{ℕ, _+_, _-_, _*_, _/_, _%_, _^_, _≤_, _<_}
 use mathlib.Core.Path.{_≡_, refl, ap, _∙_}
@@ -14,7 +14,7 @@ use Rattle.key_index.specs.declared.Keyed.{Keyed}
 use Rattle.key_index.specs.Slots.{slots}
 use Rattle.key_index.specs.inner.Ring.{rowNamed, namesRow}
 use Rattle.key_index.specs.Laws.Ring.{names-number}
-use Rattle.key_gaps.specs.inner.Gaps.{newRow, renumbered, Ranked}
+use Rattle.renumbering.specs.inner.Renumbering.{newRow, renumbered, Ranked}
 
 module _ (t : Keyed) (w : ℕ) (live base : List ℕ) where
   -- a word that names no row stays

@@ -2,24 +2,27 @@
 -- compaction gives are such. Assumes nothing.
 use Prim.Native.Nat.{ℕ, _+_, _-_, _*_, _/_, _%_, _^_, _≤_, _<_}
 use mathlib.Core.Path.{_≡_, sym, ap, _∙_}
-use mathlib.Core.Bool.{true}
+use mathlib.Core.Logic.{inl, inr}
+use mathlib.Core.Bool.{Bool, true, false, not}
 use mathlib.Core.List.{List, []}
+use native.Mathlib.Nat.{add-zero}
 use native.Mathlib.Decide.{decLt, ℕ-discrete}
 use native.Mathlib.Omega.{arith}
 use lib.ListN.{length, getD}
 use borrow.Author.Tests.{le-leb}
 use Rattle.lists.specs.Lists.{count, rowAt, rowsOf, mapFront}
-use Rattle.lists.specs.Laws.Keep.{count-le}
-use Rattle.lists.specs.Laws.Rows.{length-rowsOf, getD-rowsOf, rowsOf-take}
-use Rattle.lists.specs.Laws.Front.{getD-mapFront}
+use Rattle.lists.specs.Laws.Keep.{split, count-le}
+use Rattle.lists.specs.Laws.Rows.{length-rowsOf, getD-rowsOf, getD-rowAt, rowsOf-take}
+use Rattle.lists.specs.Laws.Front.{getD-mapFront, drop-mapFront}
+use Rattle.cells.specs.Cells.{isDead}
 use Rattle.constraints.specs.Constraints.{isLive}
 use Rattle.row_buffer.specs.Ranks.{liveAt, newNumber}
-use Rattle.row_buffer.specs.Laws.Rows.{liveAt-in, number-rises, number-back}
+use Rattle.row_buffer.specs.Laws.Rows.{liveAt-in, number-live, number-dead, number-rises, number-back}
 use Rattle.key_index.specs.declared.Keyed.{Keyed}
 use Rattle.key_index.specs.Slots.{LiveAt, keyAt, slots, word, home, slotFrom, StandsAt, KeysSound, tagged}
 use Rattle.key_index.specs.Laws.Ring.{word-row, word-same, word-some, names-none, names-word, slot-below}
-use Rattle.key_gaps.specs.inner.Gaps.{newRow, renumbered}
 use Rattle.key_index.specs.Laws.Lines.{Small}
+use Rattle.renumbering.specs.inner.Renumbering.{liveBelow, Renamed, Renumbered, newRow, renumbered, Rest, FewRenumbered}
 
 -- a free slot stays free
 pub renumbered-free : (t : Keyed) (live base : List ℕ) (w : ℕ) → w ≡ 0 → renumbered t live base w ≡ 0
@@ -49,31 +52,21 @@ pub record Renames (t : Keyed) (rows : List ℕ) (t′ : Keyed) (rows′ : List 
   pub apart : (i j : ℕ) → LiveAt t rows i → LiveAt t rows j → new i ≡ new j → i ≡ j
   pub back : (k : ℕ) → LiveAt t′ rows′ k → (i : ℕ) × LiveAt t rows i × (new i ≡ k)
 
-module _ (t : Keyed) (rows : List ℕ) (t′ : Keyed) (rows′ store live base : List ℕ) (new : ℕ → ℕ) (r : Renames t rows t′ rows′ new) where
-  module _ (m : Small t) (few : t′ .rows ≤ t′ .capacity) (long : slots t ≤ length store) (ranked : (i : ℕ) → LiveAt t rows i → newRow live base i ≡ new i)
-      (s : KeysSound t rows store) where
-    after : List ℕ
-    after = mapFront (renumbered t live base) (slots t) store
-
+module _ (t : Keyed) (rows : List ℕ) (t′ : Keyed) (rows′ store : List ℕ) (new : ℕ → ℕ) (r : Renames t rows t′ rows′ new) where
+  module _ (m : Small t) (few : t′ .rows ≤ t′ .capacity) (s : KeysSound t rows store) (after : List ℕ) (a : Renamed t rows store new after) where
     new-small : (i : ℕ) → LiveAt t rows i → new i ≤ 65536
     new-small i l = omega (arith, r .forth i l .0, few, r .capacity, m .capacity)
-
-    -- what a slot holds after
-    slot-after : (slot : ℕ) → slot < slots t → getD after slot 0 ≡ renumbered t live base (getD store slot 0)
-    unfolding after
-    slot-after slot h = getD-mapFront (renumbered t live base) (slots t) store slot 0 h (omega arith)
 
     -- a slot that held a live row's word holds the word of its new number
     word-after : (slot i : ℕ) → slot < slots t → LiveAt t rows i → getD store slot 0 ≡ word (keyAt t rows i) i
         → getD after slot 0 ≡ word (keyAt t′ rows′ (new i)) (new i)
-    word-after slot i h l e =
-        slot-after slot h ∙ ap (renumbered t live base) e ∙ renumbered-word t live base m (keyAt t rows i) i (new i) (l .0) (ranked i l) (new-small i l) ∙ ap (λ (k : List ℕ). word k (new i)) (sym (r .key i l))
+    word-after slot i h l e = a .taken slot i h l e ∙ ap (λ (k : List ℕ). word k (new i)) (sym (r .key i l))
 
     -- a slot that is not free was not free
     held-before : (slot : ℕ) → slot < slots t → 0 < getD after slot 0 → 0 < getD store slot 0
     held-before slot h c =
         elim (ℕ-discrete (getD store slot 0) 0) [
-          | yes e ↦ absurd (let z : getD after slot 0 ≡ 0 = slot-after slot h ∙ renumbered-free t live base _ e in omega arith)
+          | yes e ↦ absurd (omega (arith, a .free slot h e))
           | no e ↦ omega arith
         ]
 
@@ -94,16 +87,16 @@ module _ (t : Keyed) (rows : List ℕ) (t′ : Keyed) (rows′ store live base :
         s .once a b h k (held-before a h c) (o .2 ∙ ap (λ (x : ℕ). word (keyAt t rows x) x) i ∙ sym (p .2))
 
     stands-after : (i d : ℕ) → LiveAt t rows i → StandsAt (slots t) store (keyAt t rows i) i d → StandsAt (slots t) after (keyAt t′ rows′ (new i)) (new i) d
-    stands-after i d l a =
+    stands-after i d l p =
         let e = r .key i l in
         let n = slots t in
         let b : (x : ℕ) → slotFrom n (home n (keyAt t rows i)) x < n = λ x. slot-below n (home n (keyAt t rows i)) x (omega (arith, m .some)) in
         record {
-          below = a .below;
-          there = ap (λ (k : List ℕ). getD after (slotFrom n (home n k) d) 0) e ∙ word-after (slotFrom n (home n (keyAt t rows i)) d) i (b d) l (a .there);
+          below = p .below;
+          there = ap (λ (k : List ℕ). getD after (slotFrom n (home n k) d) 0) e ∙ word-after (slotFrom n (home n (keyAt t rows i)) d) i (b d) l (p .there);
           way = λ x h q.
               let z : getD after (slotFrom n (home n (keyAt t rows i)) x) 0 ≡ 0 = ap (λ (k : List ℕ). getD after (slotFrom n (home n k) x) 0) (sym e) ∙ q in
-              free-before (slotFrom n (home n (keyAt t rows i)) x) (b x) z (a .way x h);
+              free-before (slotFrom n (home n (keyAt t rows i)) x) (b x) z (p .way x h);
         }
       where
         -- a slot that is free was free
@@ -113,8 +106,7 @@ module _ (t : Keyed) (rows : List ℕ) (t′ : Keyed) (rows′ store live base :
             omega (arith, word-after slot (o .0) h (o .1) (o .2), word-some (keyAt t′ rows′ (new (o .0))) (new (o .0)))
 
     -- the store with the new numbers leads to exactly the rows after
-    pub renames-sound : KeysSound t′ rows′ (mapFront (renumbered t live base) (slots t) store)
-    unfolding after
+    pub renames-sound : KeysSound t′ rows′ after
     renames-sound =
         record {
           only-live = λ slot h c. only-after slot (omega (arith, r .capacity)) c;
@@ -122,15 +114,15 @@ module _ (t : Keyed) (rows : List ℕ) (t′ : Keyed) (rows′ store live base :
           leads = λ k l.
               let f = r .back k l in
               let d = s .leads (f .0) (f .1) in
-              let a = stands-after (f .0) (d .0) (f .1) (d .1) in
-              rw (← f .2) (d .0, rw (r .capacity) a);
+              rw (← f .2) (d .0, rw (r .capacity) (stands-after (f .0) (d .0) (f .1) (d .1)));
         }
 
 -- ---- the numbers that a compaction gives
 
--- how many rows below row i live: "the others close up in order"
-abbrev pub liveBelow : Keyed → List ℕ → ℕ → ℕ
-liveBelow t rows i = count isLive (rowsOf (t .columns) i rows)
+-- a row is live by its first cell
+pub live-first : (w i : ℕ) (rows : List ℕ) → 0 < w → isLive (rowAt w i rows) ≡ not (isDead (getD rows (i * w) 0))
+unfolding isLive
+live-first w i rows h = ap (λ (cell : ℕ). not (isDead cell)) (getD-rowAt w i rows 0 0 h ∙ ap (λ (k : ℕ). getD rows k 0) (add-zero (i * w)))
 
 module _ (t : Keyed) (rows : List ℕ) where
   pub live-few : (n : ℕ) → liveBelow t rows n ≤ n
@@ -150,6 +142,17 @@ module _ (t : Keyed) (rows : List ℕ) where
         let k : i < length firsts = rw length-rowsOf h in
         liveAt-in isLive firsts i [] k ∙ ap isLive (getD-rowsOf (t .columns) n rows i h)
 
+  -- one row more, live or dead
+  pub live-more : (i : ℕ) → isLive (rowAt (t .columns) i rows) ≡ true → liveBelow t rows (i + 1) ≡ liveBelow t rows i + 1
+  live-more i e =
+      let k : i < i + 1 = omega arith in
+      omega (arith, below-number (i + 1) (i + 1) (omega arith), below-number (i + 1) i (omega arith), number-live isLive (firsts (i + 1)) i (live-among (i + 1) i k ∙ e))
+
+  pub live-same : (i : ℕ) → isLive (rowAt (t .columns) i rows) ≡ false → liveBelow t rows (i + 1) ≡ liveBelow t rows i
+  live-same i e =
+      let k : i < i + 1 = omega arith in
+      omega (arith, below-number (i + 1) (i + 1) (omega arith), below-number (i + 1) i (omega arith), number-dead isLive (firsts (i + 1)) i (live-among (i + 1) i k ∙ e))
+
   -- a live row's number is below that of each later one
   pub live-rises : (i j : ℕ) → isLive (rowAt (t .columns) i rows) ≡ true → i < j → liveBelow t rows i < liveBelow t rows j
   live-rises i j e h = omega (arith, below-number j i (omega arith), below-number j j (omega arith), number-rises isLive (firsts j) i j h (live-among j i h ∙ e))
@@ -160,16 +163,15 @@ module _ (t : Keyed) (rows : List ℕ) where
       let b = number-back isLive (firsts n) n k (omega (arith, below-number n n (omega arith))) in
       (b .0, b .1, sym (live-among n (b .0) (b .1)) ∙ b .2, below-number n (b .0) (omega (arith, b .1)) ∙ b .3)
 
--- What a compaction leaves: each live row at its new number, nothing else counted, and words that give these numbers.
-pub record Compacted (t : Keyed) (rows : List ℕ) (t′ : Keyed) (rows′ live base : List ℕ) : Type 0 where
+-- What a compaction leaves: each live row at its new number, and nothing else counted.
+pub record Compacted (t : Keyed) (rows : List ℕ) (t′ : Keyed) (rows′ : List ℕ) : Type 0 where
   pub columns : t′ .columns ≡ t .columns
   pub keys : t′ .keys ≡ t .keys
   pub capacity : t′ .capacity ≡ t .capacity
   pub count : t′ .rows ≡ liveBelow t rows (t .rows)
   pub moved : (i : ℕ) → LiveAt t rows i → rowAt (t .columns) (liveBelow t rows i) rows′ ≡ rowAt (t .columns) i rows
-  pub ranked : (i : ℕ) → LiveAt t rows i → newRow live base i ≡ liveBelow t rows i
 
-module _ (t : Keyed) (rows : List ℕ) (t′ : Keyed) (rows′ live base : List ℕ) (c : Compacted t rows t′ rows′ live base) where
+module _ (t : Keyed) (rows : List ℕ) (t′ : Keyed) (rows′ : List ℕ) (c : Compacted t rows t′ rows′) where
   compacted-row : (i : ℕ) → LiveAt t rows i → rowAt (t′ .columns) (liveBelow t rows i) rows′ ≡ rowAt (t .columns) i rows
   compacted-row i l = rw (c .columns) (c .moved i l)
 
@@ -190,8 +192,37 @@ module _ (t : Keyed) (rows : List ℕ) (t′ : Keyed) (rows′ live base : List 
       forth i l = (omega (arith, live-rises t rows i (t .rows) (l .1) (l .0), c .count), rw (compacted-row i l) (l .1))
 
   -- "compaction renumbers": the store leads to exactly the rows that were kept
-  pub renumber-sound : (store : List ℕ) → Small t → slots t ≤ length store → KeysSound t rows store
-      → KeysSound t′ rows′ (mapFront (renumbered t live base) (slots t) store)
-  renumber-sound store m long s =
+  pub renumber-sound : (store store′ : List ℕ) → Small t → KeysSound t rows store → Renumbered t rows store store′ → KeysSound t′ rows′ store′
+  renumber-sound store store′ m s n =
       let few : t′ .rows ≤ t′ .capacity = omega (arith, c .count, c .capacity, live-few t rows (t .rows), m .count) in
-      renames-sound t rows t′ rows′ store live base (liveBelow t rows) renames m few long (c .ranked) s
+      renames-sound t rows t′ rows′ store (liveBelow t rows) renames m few s store′ (n .numbers s)
+
+-- ---- slot by slot
+
+-- words that tell these numbers give them to each slot
+pub slots-renumbered : (t : Keyed) (rows store live base : List ℕ) → Small t → slots t ≤ length store
+    → ((i : ℕ) → LiveAt t rows i → newRow live base i ≡ liveBelow t rows i)
+    → Renumbered t rows store (mapFront (renumbered t live base) (slots t) store)
+slots-renumbered t rows store live base m long ranked =
+    record {
+      numbers = λ _. record {
+        free = λ slot h e. slot-after slot h ∙ renumbered-free t live base _ e;
+        taken = λ slot i h l e.
+            slot-after slot h
+            ∙ ap (renumbered t live base) e
+            ∙ renumbered-word t live base m (keyAt t rows i) i (liveBelow t rows i) (l .0) (ranked i l) (omega (arith, live-few t rows i, l .0, m .count, m .capacity));
+      };
+      rest = drop-mapFront (renumbered t live base) (slots t) store;
+    }
+  where
+    slot-after : (slot : ℕ) → slot < slots t → getD (mapFront (renumbered t live base) (slots t) store) slot 0 ≡ renumbered t live base (getD store slot 0)
+    slot-after slot h = getD-mapFront (renumbered t live base) (slots t) store slot 0 h (omega arith)
+
+-- done row by row first, or else slot by slot
+pub either-renumbered : (t : Keyed) (rows store store₁ store₂ live base : List ℕ) (done : Bool) → Small t → slots t ≤ length store
+    → ((i : ℕ) → LiveAt t rows i → newRow live base i ≡ liveBelow t rows i) → FewRenumbered t rows store done store₁ → Rest t done store₁ live base store₂
+    → Renumbered t rows store store₂
+either-renumbered t rows store store₁ store₂ live base done m long ranked few rest = elim (split done) [
+  | inl e ↦ rw (rest .yes e) (few .yes e)
+  | inr e ↦ rw (rest .no e, few .no e) (slots-renumbered t rows store live base m long ranked)
+]

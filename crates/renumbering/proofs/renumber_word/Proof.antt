@@ -1,4 +1,4 @@
--- `key_index::gaps::renumber_word` meets its contract. Assumes nothing.
+-- `renumbering::renumber_word` meets its contract. Assumes nothing.
 use Prim.Native.Nat.{_-_, _/_, _%_, _^_, _≤_, _<_}
 use mathlib.Core.Path.{_≡_, sym, _∙_}
 use mathlib.Core.Bool.{true}
@@ -8,9 +8,9 @@ use borrow.Author.Needs.{needs}
 use borrow.Author.Tests.{not-true, not-false}
 use Rattle.row_buffer.specs.Laws.Rows.{setBelow-le}
 use Rattle.key_index.specs.inner.Ring.{namesRow}
-use Rattle.key_gaps.proofs.RenumberSteps.{stays, too-large, has-new, in-words}
-use Rattle.key_gaps.proofs.renumber_word.Statement.{statement}
-use Rattle.key_gaps.proofs.renumber_word.Tie as tie
+use Rattle.renumbering.proofs.RenumberSteps.{stays, too-large, has-new, in-words}
+use Rattle.renumbering.proofs.renumber_word.Statement.{statement}
+use Rattle.renumbering.proofs.renumber_word.Tie as tie
 
 names-row-requires : tie.Need-names-row-requires
 names-row-requires c κs = search needs

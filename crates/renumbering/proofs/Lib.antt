@@ -1,0 +1,2 @@
+pub mod RenumberSteps
+pub mod RowSteps
