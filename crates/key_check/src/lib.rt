@@ -4,8 +4,7 @@
 ghost use mathlib.Core.Path.{_≡_};
 ghost use Prim.Native.Nat.{_<_, _≤_};
 ghost use lib.ListN.{length};
-ghost use Rattle.cells.specs.Cells.{compact, keyHash};
-ghost use Rattle.key_index.specs.Slots.{keyAt, slots};
+ghost use Rattle.key_index.specs.Slots.{slots};
 ghost use Rattle.key_index.specs.inner.Index.{Fits};
 ghost use Rattle.key_check.specs.inner.Check.{RowsLie, liveRow, liveRows, StandsIs, FreeIs, RoundFits, KeysChecked};
 use key_index::Keyed;
@@ -21,16 +20,6 @@ fn row_live(t: Keyed, rows: &[u32], row: u32) -> bool
     let from = (row * t.columns) as usize;
     let to = from + t.columns as usize;
     constraints::is_live(&rows[from..to])
-}
-
-// The compact hash of a row's key.
-fn row_hash(t: Keyed, rows: &[u32], row: u32) -> u32
-    requires { ⌜ RowsLie t (now rows) × (row < t .rows) ⌝ }
-    ensures { λ r. ⌜ r ≡ compact (keyHash (keyAt t (now (rows .entry)) row)) ⌝ }
-{
-    let from = (row * t.columns) as usize;
-    let to = from + t.keys as usize;
-    cells::compact_hash(&rows[from..to])
 }
 
 // How many rows are live.
@@ -82,7 +71,7 @@ fn stands(t: Keyed, rows: &[u32], word: u32, at: u32, run: u32) -> bool
     if !row_live(t, rows, row) {
         return false;
     }
-    let hash = row_hash(t, rows, row);
+    let hash = key_index::row_hash(t, rows, row);
     if word != slot_word(hash, row) {
         return false;
     }

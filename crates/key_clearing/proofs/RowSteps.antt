@@ -1,18 +1,17 @@
 -- The steps of `empty_row`, one law for each way to return, and the turns of `empty_by_rows`. Assumes nothing.
-use Prim.Native.Nat.{ℕ, _+_, _-_, _*_, _≤_, _<_}
+use Prim.Native.Nat.{ℕ, _+_, _*_, _≤_, _<_}
 use mathlib.Core.Path.{_≡_, refl, sym, ap, _∙_}
 use mathlib.Core.Logic.{inl, inr}
 use mathlib.Core.Bool.{true, false, not, false≢true}
 use mathlib.Core.List.{List}
 use native.Mathlib.Nat.{add-zero, mul-le-mul}
 use native.Mathlib.Omega.{arith}
-use lib.ListN.{length, getD, take, drop}
+use lib.ListN.{length, getD, drop}
 use Rattle.lists.specs.Lists.{rowAt}
 use Rattle.lists.specs.Laws.Keep.{split}
 use Rattle.lists.specs.Laws.Rows.{row-in, getD-rowAt}
 use Rattle.cells.specs.Cells.{isDead, compact, keyHash}
 use Rattle.constraints.specs.Constraints.{isLive}
-use Rattle.row_buffer.specs.Laws.Rows.{key-row}
 use Rattle.key_index.specs.declared.Keyed.{Keyed}
 use Rattle.key_index.specs.Slots.{keyAt, slots, home, KeysSound, spread}
 use Rattle.key_index.specs.Laws.Ring.{home-spread}
@@ -24,14 +23,12 @@ use Rattle.key_clearing.specs.Laws.Clearing.{Left, left-begin, left-dead
 pub record Inside (t : Keyed) (rows : List ℕ) (row : ℕ) : Type 0 where
   pub in-store : row * t .columns + t .columns ≤ length rows
   pub small : row * t .columns + t .columns ≤ 524288
-  pub some : 1 ≤ t .columns
-  pub keys : t .keys ≤ t .columns
 
 module _ (t : Keyed) (rows store : List ℕ) (row : ℕ) where
   pub inside : Fits t rows store → row < t .rows → Inside t rows row
   inside f h =
       let e = row-in row (t .capacity) (t .columns) (omega (arith, f .count)) in
-      record { in-store = omega (arith, f .cells); small = omega (arith, mul-le-mul (f .most) (f .most-columns)); some = f .some-columns; keys = f .most-keys }
+      record { in-store = omega (arith, f .cells); small = omega (arith, mul-le-mul (f .most) (f .most-columns)) }
 
   first-cell : 1 ≤ t .columns → isLive (rowAt (t .columns) row rows) ≡ not (isDead (getD rows (row * t .columns) 0))
   unfolding isLive
@@ -44,14 +41,11 @@ module _ (t : Keyed) (rows store : List ℕ) (row : ℕ) where
       record { live = λ l. absurd (false≢true (sym dead ∙ l)); dead = λ _. refl; tail = refl }
 
   -- a live one, and the home slot of its key's hash
-  pub row-live : (hash start : ℕ) (store′ : List ℕ) → 1 ≤ t .columns → t .keys ≤ t .columns → isDead (getD rows (row * t .columns) 0) ≡ false
-      → hash ≡ compact (keyHash (take (row * t .columns + t .keys - row * t .columns) (drop (row * t .columns) rows))) → start ≡ spread (slots t) hash
-      → RunFreed (slots t) store start store′ → RowFreed t rows store row store′
-  row-live hash start store′ h k e f g run =
+  pub row-live : (hash start : ℕ) (store′ : List ℕ) → 1 ≤ t .columns → isDead (getD rows (row * t .columns) 0) ≡ false
+      → hash ≡ compact (keyHash (keyAt t rows row)) → start ≡ spread (slots t) hash → RunFreed (slots t) store start store′ → RowFreed t rows store row store′
+  row-live hash start store′ h e f g run =
       let live : isLive (rowAt (t .columns) row rows) ≡ true = first-cell h ∙ ap not e in
-      let w : row * t .columns + t .keys - row * t .columns ≡ t .keys = omega arith in
-      let key : take (row * t .columns + t .keys - row * t .columns) (drop (row * t .columns) rows) ≡ keyAt t rows row = rw w (sym (key-row (t .columns) row (t .keys) rows k)) in
-      let at : start ≡ home (slots t) (keyAt t rows row) = g ∙ home-spread (slots t) hash (keyAt t rows row) (f ∙ ap (λ (l : List ℕ). compact (keyHash l)) key) in
+      let at : start ≡ home (slots t) (keyAt t rows row) = g ∙ home-spread (slots t) hash (keyAt t rows row) f in
       record { live = λ _. rw at at run; dead = λ l. absurd (false≢true (sym l ∙ live)); tail = run .1 .tail }
 
 -- a store of the same length will do too

@@ -39,8 +39,7 @@ fn empty_row(t: Keyed, rows: &[u32], store: &mut [u32], row: u32)
     if row_buffer::is_dead(rows, from) {
         return;
     }
-    let to = from + t.keys as usize;
-    let hash = cells::compact_hash(&rows[from..to]);
+    let hash = key_index::row_hash(t, rows, row);
     let slots = 2 * t.capacity;
     let home = home_slot(slots, hash);
     empty_run(slots, store, home);
