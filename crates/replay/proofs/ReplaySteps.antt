@@ -5,6 +5,8 @@ use mathlib.Core.Path.{_≡_, refl, _∙_}
 use mathlib.Core.List.{List}
 use native.Mathlib.Omega.{arith}
 use lib.ListN.{take, drop, getD}
+use Rattle.frames.specs.inner.Lengths.{FrameLength}
+use Rattle.frames.specs.Laws.Frames.{framed-end, framed-next}
 use Rattle.plain.specs.Refusing.{Lengths}
 use Rattle.table.specs.declared.Header.{Header}
 use Rattle.table.specs.declared.TableAnswer.{TableAnswer}
@@ -15,9 +17,8 @@ use Rattle.table.specs.declared.MergeAnswer.the-variants.{Refused as MergeRefus
 use Rattle.table.specs.Numbers.{tableSays, mergeSays}
 use Rattle.table.specs.Promises.{Stores, headerAfter, headerMerged}
 use Rattle.replay.specs.Encoding.{callOf, decoded}
-use Rattle.replay.specs.inner.Replaying.{CallLength, Made, Replayed}
+use Rattle.replay.specs.inner.Replaying.{Made}
 use Rattle.replay.specs.Laws.Replaying.{none-made, made-then}
-use Rattle.replay.specs.Laws.Theorem.{replayed}
 
 -- ---- the header that an answer leaves
 
@@ -46,28 +47,28 @@ lengths-same a b c d e f = λ i. record { rows = a i; keys = b i; sorts = c i; p
 
 -- before the call at a place, with stores of these lengths
 pub record Going (words : List ℕ) (l l′ : Lengths) (s s′ : Stores) (at count : ℕ) : Type 0 where
-  pub here : CallLength words at count
+  pub here : FrameLength words at count
   pub same : l′ ≡ l
   pub rest : (t : Stores) → Made (decoded (drop at words)) l s′ t → Made (decoded words) l s t
 
 module _ {words : List ℕ} {l : Lengths} {s : Stores} where
-  pub going-begin : {count : ℕ} → CallLength words 0 count → Going words l l s s 0 count
+  pub going-begin : {count : ℕ} → FrameLength words 0 count → Going words l l s s 0 count
   going-begin here = record { here = here; same = refl; rest = λ t made. made }
 
   module _ {l′ : Lengths} {s′ : Stores} {at count : ℕ} (v : Going words l l′ s s′ at count) where
     -- one call is made
     pub going-again : {l″ : Lengths} {s″ : Stores} {next : ℕ} → (count ≡ 0 → ⊥) → l″ ≡ l′
         → Made (callOf (getD words at 0) (take (at + count - (at + 2)) (drop (at + 2) words))) l′ s′ s″
-        → CallLength words (at + count) next → Going words l l″ s s″ (at + count) next
+        → FrameLength words (at + count) next → Going words l l″ s s″ (at + count) next
     going-again {l″} {s″} some lent one here =
         let cells : at + count - (at + 2) ≡ count - 2 = omega arith in
         let made : Made (callOf (getD words at 0) (take (count - 2) (drop (at + 2) words))) l s′ s″ = rw (v .same, cells) at one in
         record {
           here = here;
           same = lent ∙ v .same;
-          rest = λ t more. v .rest t (rw (v .here .whole some) (made-then made more));
+          rest = λ t more. v .rest t (rw (framed-next callOf (v .here) some) (made-then made more));
         }
 
     -- no call is left
-    pub going-end : count ≡ 0 → Replayed (decoded words) l s s′
-    going-end none = replayed (v .rest s′ (none-made l s′ (v .here .none none)))
+    pub going-end : count ≡ 0 → Made (decoded words) l s s′
+    going-end none = v .rest s′ (none-made l s′ (framed-end callOf (v .here) none))

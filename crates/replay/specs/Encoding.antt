@@ -1,10 +1,10 @@
--- An encoding of lists of calls as words: each call a kind, a count and so many words. Every list of words is one; what is
--- no call is passed over. Assumes nothing.
-use Prim.Native.Nat.{ℕ, zero, suc}
+-- An encoding of lists of calls as words: each call a kind, a count and so many words (`frames`). Every list of words is one;
+-- what is no call is passed over. Assumes nothing.
+use Prim.Native.Nat.{ℕ}
 use mathlib.Core.Bool.{cond}
-use mathlib.Core.List.{List, [], _∷_, _++_}
-use lib.ListN.{length, take}
-use lib.Dec.{leb, eqb}
+use mathlib.Core.List.{List, [], _∷_}
+use lib.Dec.{eqb}
+use Rattle.frames.specs.Frames.{framed}
 use Rattle.plain.specs.Staged.{insert, removeKey, removeRow}
 use Rattle.plain.specs.Calls.{Call, staging, merging, compacting, clearing}
 
@@ -25,13 +25,6 @@ callOf kind words =
     (rowRemoval words)
     (cond (eqb kind 3) (merging ∷ []) (cond (eqb kind 4) (compacting ∷ []) (cond (eqb kind 5) (clearing ∷ []) [])))))
 
--- the calls of the words after the first n, which belong to the call before; one that is cut off ends the list
-unfoldable pub decodedAfter : ℕ → List ℕ → List Call
-decodedAfter n [] = []
-decodedAfter (suc n) (word ∷ words) = decodedAfter n words
-decodedAfter zero (kind ∷ []) = []
-decodedAfter zero (kind ∷ count ∷ words) =
-    cond (leb count (length words)) (callOf kind (take count words) ++ decodedAfter count words) []
-
+-- the calls of a list of words
 abbrev pub decoded : List ℕ → List Call
-decoded words = decodedAfter 0 words
+decoded words = framed callOf words

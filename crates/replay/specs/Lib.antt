@@ -1,3 +1,4 @@
 pub mod Encoding
+pub mod Replays
 pub mod inner
 pub mod Laws

@@ -1,37 +1,23 @@
-// Lists of calls, read from words and made one after another on lent stores: what is claimed of histories holds of running
-// code.
+// Lists of calls, read from words and made one after another on lent stores, from the opening on: what is claimed of histories
+// holds of running code.
 ghost use mathlib.Core.Path.{_≡_};
 ghost use Prim.Native.Nat.{_≤_};
-ghost use lib.ListN.{length};
 ghost use Rattle.table.specs.Numbers.{tableSays, mergeSays};
-ghost use Rattle.table.specs.Promises.{headerAfter, headerMerged, stores, lengths};
+ghost use Rattle.table.specs.Promises.{headerAfter, headerMerged, stores, body, compactionWords, lengths, opening};
 ghost use Rattle.replay.specs.Encoding.{callOf, decoded};
-ghost use Rattle.replay.specs.inner.Replaying.{CallLength, Made, MadeOnPending, Replayed};
+ghost use Rattle.replay.specs.Replays.{Replayed};
+ghost use Rattle.replay.specs.inner.Replaying.{Made, MadeOnPending};
 use compaction::compact;
+use frames::frame_length;
 use merge::merge;
 use opening::clear;
+use opening::open_table;
 use staging::stage_insert;
 use staging::stage_remove;
 use staging::stage_remove_row;
 use table::Header;
 use table::MergeAnswer;
 use table::TableAnswer;
-
-// The words of the call at a place, its kind and count among them; 0 if none stands there whole.
-fn call_length(calls: &[u32], at: usize) -> usize
-    requires { ⌜ at ≤ length (now calls) ⌝ }
-    ensures { λ r. ⌜ CallLength (now (calls .entry)) at r ⌝ }
-{
-    let left = calls.len() - at;
-    if left < 2 {
-        return 0;
-    }
-    let count = calls[at + 1] as usize;
-    if left < count + 2 {
-        return 0;
-    }
-    count + 2
-}
 
 // A refused call leaves the header as it was.
 fn header_after(h: Header, answer: TableAnswer) -> Header
@@ -99,7 +85,7 @@ fn make_call(
 }
 
 // All calls, in order; a refused one leaves all as it is.
-pub fn replay(
+fn make_calls(
     h: Header,
     calls: &[u32],
     rows: &mut [u32],
@@ -109,11 +95,11 @@ pub fn replay(
     live: &mut [u64],
     base: &mut [u32],
 ) -> Header
-    ensures { λ r. ⌜ Replayed (decoded (now (calls .entry))) (lengths (now (rows .entry)) (now (keys .entry)) (now (sorts .entry)) (now (pending .entry)) (now (live .entry)) (now (base .entry))) (stores h (now (rows .entry)) (now (keys .entry)) (now (sorts .entry)) (now (pending .entry))) (stores r (now (rows .exit)) (now (keys .exit)) (now (sorts .exit)) (now (pending .exit))) ⌝ }
+    ensures { λ r. ⌜ Made (decoded (now (calls .entry))) (lengths (now (rows .entry)) (now (keys .entry)) (now (sorts .entry)) (now (pending .entry)) (now (live .entry)) (now (base .entry))) (stores h (now (rows .entry)) (now (keys .entry)) (now (sorts .entry)) (now (pending .entry))) (stores r (now (rows .exit)) (now (keys .exit)) (now (sorts .exit)) (now (pending .exit))) ⌝ }
 {
     let mut n = h;
     let mut at: usize = 0;
-    let mut words = call_length(calls, at);
+    let mut words = frame_length(calls, at);
     while words != 0 {
         n = make_call(
             n,
@@ -127,7 +113,46 @@ pub fn replay(
             base,
         );
         at += words;
-        words = call_length(calls, at);
+        words = frame_length(calls, at);
     }
     n
+}
+
+// Opens a table and makes all calls on it.
+pub fn replay(
+    columns: u32,
+    key_columns: u32,
+    sort: u32,
+    rule: u32,
+    capacity: u32,
+    generation: u32,
+    calls: &[u32],
+    rows: &mut [u32],
+    keys: &mut [u32],
+    sorts: &mut [u32],
+    pending: &mut [u32],
+    live: &mut [u64],
+    base: &mut [u32],
+) -> TableAnswer
+    ensures { λ r. ⌜ Replayed (opening columns «key_columns» sort rule capacity) generation (decoded (now (calls .entry))) (body (now (rows .entry)) (now (keys .entry)) (now (sorts .entry))) (now (pending .entry)) (compactionWords (now (live .entry)) (now (base .entry))) r (body (now (rows .exit)) (now (keys .exit)) (now (sorts .exit))) (now (pending .exit)) (compactionWords (now (live .exit)) (now (base .exit))) ⌝ }
+{
+    let opened = open_table(
+        columns,
+        key_columns,
+        sort,
+        rule,
+        capacity,
+        generation,
+        rows,
+        keys,
+        sorts,
+        pending,
+    );
+    match opened {
+        TableAnswer::Refused(n) => TableAnswer::Refused(n),
+        TableAnswer::Table(h) => {
+            let n = make_calls(h, calls, rows, keys, sorts, pending, live, base);
+            TableAnswer::Table(n)
+        }
+    }
 }

@@ -5,7 +5,8 @@ use mathlib.Core.Path.{_≡_}
 use mathlib.Core.List.{List, [], _++_, append-nil}
 use Rattle.plain.specs.Staged.{Opening}
 use Rattle.plain.specs.Calls.{Lent}
-use Rattle.table.specs.Promises.{Stores, stores, body}
+use Rattle.table.specs.declared.TableAnswer.the-variants.{Table}
+use Rattle.table.specs.Promises.{Stores, stores, body, Opened}
 use Rattle.history.specs.Histories.{Called, behind, Step, called, Steps, end, next, History}
 
 -- nothing stands behind what is lent
@@ -26,3 +27,10 @@ steps-then (next step steps) more = next step (steps-then steps more)
 pub history-then : {o : Opening} {generation : ℕ} {calls more : List Lent} {s t : Stores} → History o generation calls s → Steps s more t → History o generation (calls ++ more) t
 history-then h steps =
     record { start = h .start; keys-before = h .keys-before; opened = h .opened; rest = h .rest; pending = h .pending; steps = steps-then (h .steps) steps }
+
+-- an opening that is lent the stores whole, and the calls behind it
+pub history-whole : {o : Opening} {generation : ℕ} {calls : List Lent} {start s : Stores} (keys-before : List ℕ)
+    → Opened o generation (body (start .rows) keys-before (start .sorts)) (start .pending) (Table (start .header)) (start .keys)
+    → Steps start calls s → History o generation calls s
+history-whole {start = start} keys-before opened steps =
+    record { start = start; keys-before = keys-before; opened = opened; rest = body [] [] []; pending = []; steps = rw (behind-nothing start) steps }

@@ -9,14 +9,15 @@ use native.Mathlib.Omega.{arith}
 use lib.ListN.{length, getD}
 use lib.Dec.{eqb}
 use borrow.Author.Tests.{ltb-false, leb-true, eqb-true, eqb-false, ne-eqb, not-false}
-use Rattle.lists.specs.Lists.{keep, every, has, within, rowAt, rising}
+use Rattle.lists.specs.Lists.{keep, every, has, rowAt, rising}
 use Rattle.lists.specs.Laws.Keep.{split, and-left, length-keep, count-le}
 use Rattle.lists.specs.Laws.Rising.{has-at, keep-has-comm}
 use Rattle.lists.specs.Laws.Every.{or-no-left, or-no-right}
 use Rattle.refusals.specs.Refusals.{refused, accepted, reply}
 use Rattle.offsets.specs.declared.SubsetAnswer.{SubsetAnswer}
-use Rattle.offsets.specs.Subsets.{Subset, range, list, wellFormed, members, size, endOf, listOrNothing, intersect, retain, narrowed}
+use Rattle.offsets.specs.Subsets.{Subset, wellFormed, members, size, endOf, intersect, retain, narrowed}
 use Rattle.offsets.specs.Answers.{Answered, readOff, written, room, intersectRefusal, intersectReply}
+use Rattle.offsets.specs.Laws.Answers.{written-refused, written-members, written-intersect}
 use Rattle.offsets.specs.Laws.Subsets.{rising-members, length-members, members-below, members-intersect, members-retain, members-narrowed, read-off}
 use Rattle.constraints.specs.declared.Constraint.{Constraint}
 use Rattle.constraints.specs.Constraints.{known, compares, met, meets}
@@ -37,12 +38,6 @@ use Rattle.history.specs.Laws.Narrowing.{alive, fits, alive-of, alive-be
 
 -- ---- an answer, read off its output
 
--- what an accepted reply writes is at most its ids
-written-members : (v : Subset) → length (written (accepted v)) ≤ length (members v)
-unfolding written members
-written-members (range start end) = omega arith
-written-members (list ids) = omega arith
-
 -- a refused question leaves the ids and counts for nothing, an accepted one does what its value does
 answered-narrows : {s : Stores} {g : Gathered} (a : Subset) (n : ℕ) (v : Subset) (output : List ℕ) (answer : SubsetAnswer) (output′ : List ℕ)
     → Answered (reply n v) output answer output′ → (n ≡ 0 → length (written (accepted v)) ≤ length output) → (n ≡ 0 → Narrows s (members a) (members v) g)
@@ -50,17 +45,17 @@ answered-narrows : {s : Stores} {g : Gathered} (a : Subset) (n : ℕ) (v : Subse
 unfolding reply left gathered
 answered-narrows a zero v output answer output′ m fit f = rw (read-off (accepted v) output answer output′ (fit refl) m) (f refl)
 answered-narrows {s} a (suc n) v output answer output′ m fit f =
-    rw (read-off (refused (suc n)) output answer output′ (unfold written in omega arith) m) (narrows-not s (members a))
+    rw (read-off (refused (suc n)) output answer output′ (written-refused (suc n) (length output)) m) (narrows-not s (members a))
 
 -- ---- refining
 
 -- the tests of *Refine*, passed
-record Refinable (h : Header) (a : Subset) (output : ℕ) : Type 0 where
-  formed : wellFormed a ≡ true
-  inside : endOf a ≤ h .rows
-  space : size a ≤ output
+pub record Refinable (h : Header) (a : Subset) (output : ℕ) : Type 0 where
+  pub formed : wellFormed a ≡ true
+  pub inside : endOf a ≤ h .rows
+  pub space : size a ≤ output
 
-refinable : (h : Header) (rows : ℕ) (a : Subset) (cs : List Constraint) (output : ℕ) → refineRefusal h rows a cs output ≡ 0 → Refinable h a output
+pub refinable : (h : Header) (rows : ℕ) (a : Subset) (cs : List Constraint) (output : ℕ) → refineRefusal h rows a cs output ≡ 0 → Refinable h a output
 unfolding refineRefusal tests pastRows
 refinable h rows a cs output e =
     let b = first-rest _ 0 _ e in
@@ -88,19 +83,19 @@ module _ (s : Stores) (a : Subset) (cs : List Constraint) (output : ℕ) (m : Re
       (λ id e. unfold matches meets fits every in rw (alive-live s id e))
       (λ r id e q. alive-of s id (has-below (s .header) a output m id e) (unfold matches meets in and-left _ _ q))
 
-  refined-fit : length (written (accepted v)) ≤ output
+  pub refined-fit : length (written (accepted v)) ≤ output
   refined-fit =
       let test : ℕ → Bool = matches (s .header) (s .rows) cs in
       omega (arith, written-members v, ap length is, length-keep test (members a), count-le test (members a), length-members a, m .space)
 
 -- ---- intersecting
 
-record Intersectable (a b : Subset) (output : ℕ) : Type 0 where
-  first-formed : wellFormed a ≡ true
-  second-formed : wellFormed b ≡ true
-  space : room a b ≤ output
+pub record Intersectable (a b : Subset) (output : ℕ) : Type 0 where
+  pub first-formed : wellFormed a ≡ true
+  pub second-formed : wellFormed b ≡ true
+  pub space : room a b ≤ output
 
-intersectable : (a b : Subset) (output : ℕ) → intersectRefusal a b output ≡ 0 → Intersectable a b output
+pub intersectable : (a b : Subset) (output : ℕ) → intersectRefusal a b output ≡ 0 → Intersectable a b output
 unfolding intersectRefusal
 intersectable a b output e =
     let f = first-no (not (wellFormed a) || not (wellFormed b)) 3 _ e in
@@ -110,22 +105,6 @@ intersectable a b output e =
       space = ltb-false _ _ (first-no _ 1 _ (first-rest _ 3 _ e));
     }
 
-listed-room : (l : List ℕ) → length (written (accepted (listOrNothing l))) ≤ length l
-unfolding written listOrNothing
-listed-room [] = omega arith
-listed-room (x ∷ xs) = omega arith
-
-kept-room : (test : ℕ → Bool) (l : List ℕ) → length (keep test l) ≤ length l
-kept-room test l = omega (arith, length-keep test l, count-le test l)
-
--- it writes no more ids than it has room for
-intersect-fit : (a b : Subset) → length (written (accepted (intersect a b))) ≤ room a b
-unfolding intersect room
-intersect-fit (range a b) (range c d) = unfold written in omega arith
-intersect-fit (range a b) (list ids) = omega (arith, listed-room (keep (within a b) ids), kept-room (within a b) ids)
-intersect-fit (list ids) (range a b) = unfold written in kept-room (within a b) ids
-intersect-fit (list ids) (list others) = unfold written in kept-room (λ id. has id others) ids
-
 -- the ids in common, whichever subset comes first: what is left of a list of ids by one that it is intersected with
 intersected-narrows : {s : Stores} {g : Gathered} (a b : Subset) (output : List ℕ) (answer : SubsetAnswer) (output′ : List ℕ) → Intersected a b output answer output′
     → ((v : Subset) → rising (members a) ≡ true → members v ≡ keep (λ id. has id (members b)) (members a) → Narrows s (members a) (members v) g)
@@ -134,12 +113,12 @@ unfolding intersectReply
 intersected-narrows a b output answer output′ (inl m) f =
     let t = intersectable a b (length output) in
     answered-narrows a _ (intersect a b) output answer output′ m
-    (λ e. omega (arith, intersect-fit a b, t e .space))
+    (λ e. omega (arith, written-intersect a b, t e .space))
     (λ e. f (intersect a b) (rising-members a (t e .first-formed)) (members-intersect a b (t e .first-formed) (t e .second-formed)))
 intersected-narrows a b output answer output′ (inr m) f =
     let t = intersectable b a (length output) in
     answered-narrows a _ (intersect b a) output answer output′ m
-    (λ e. omega (arith, intersect-fit b a, t e .space))
+    (λ e. omega (arith, written-intersect b a, t e .space))
     (λ e.
     let up = rising-members a (t e .second-formed) in
     f (intersect b a) up

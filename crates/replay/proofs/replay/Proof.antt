@@ -1,123 +1,74 @@
--- `replay::replay` meets its contract. The loop's invariant: the calls still to come end where all of them do. Assumes
--- nothing.
-use Prim.Native.Nat.{_-_}
-use mathlib.Core.Path.{ap}
-use native.Mathlib.Omega.{arith}
-use lib.ListN.{length}
+-- `replay::replay` meets its contract. Assumes nothing.
+use Rattle.replay.specs.Laws.Theorem.{replay-refused, replay-made}
 use borrow.Author.Needs.{needs}
-use Rattle.plain.specs.Refusing.{Lengths}
-use Rattle.table.specs.Promises.{stores, lengths}
-use Rattle.replay.proofs.ReplaySteps.{Going, lengths-same, going-begin, going-again, going-end}
 use Rattle.replay.proofs.replay.Statement.{statement}
 use Rattle.replay.proofs.replay.Tie as tie
 
-abbrev Inv-loop : tie.InvT-loop
-Inv-loop calls rows₀ keys₀ sorts₀ pending₀ live₀ base₀ n₀ at₀ words₀ rows keys sorts pending live base n at words =
-    Going calls (lengths rows₀ keys₀ sorts₀ pending₀ live₀ base₀) (lengths rows keys sorts pending live base) (stores n₀ rows₀ keys₀ sorts₀ pending₀) (stores n rows keys sorts pending) at words
+open-table-requires : tie.Need-open-table-requires
+open-table-requires c κs = search needs
 
-abbrev μ-loop : tie.MeasureT-loop
-μ-loop calls rows₀ keys₀ sorts₀ pending₀ live₀ base₀ n₀ at₀ words₀ rows keys sorts pending live base n at words = length calls - at
+enum-known-opened : tie.Need-enum-known-opened
+enum-known-opened c = search needs
 
-call-length-requires : tie.Need-call-length-requires Inv-loop μ-loop
-call-length-requires c κs = omega arith
+enum-known-opened-2 : tie.Need-enum-known-opened-2
+enum-known-opened-2 c = search needs
 
-loop-holds : tie.Need-loop-holds Inv-loop μ-loop
-loop-holds c = going-begin (c .call-length .ensures)
+make-calls-requires : tie.Need-make-calls-requires
+make-calls-requires c κs = search needs
 
-mul-make-call : tie.Need-mul-make-call Inv-loop μ-loop
-mul-make-call c = search needs
+same-length : tie.Need-same-length
+same-length c = search needs
 
-shared-slice-read-make-call : tie.Need-shared-slice-read-make-call Inv-loop μ-loop
-shared-slice-read-make-call c = let v = c .before .before .loop .inv .here in omega (arith, v .inside, v .long (c .before .loop-test .taken))
+same-length-2 : tie.Need-same-length-2
+same-length-2 c = search needs
 
-add-make-call : tie.Need-add-make-call Inv-loop μ-loop
-add-make-call c = let v = c .before .before .loop .inv .here in omega (arith, v .inside, v .long (c .before .loop-test .taken))
+same-length-3 : tie.Need-same-length-3
+same-length-3 c = search needs
 
-add-make-call-2 : tie.Need-add-make-call-2 Inv-loop μ-loop
-add-make-call-2 c = let v = c .before .before .loop .inv .here in omega (arith, v .inside, v .long (c .before .loop-test .taken))
+same-length-4 : tie.Need-same-length-4
+same-length-4 c = search needs
 
-mul-make-call-2 : tie.Need-mul-make-call-2 Inv-loop μ-loop
-mul-make-call-2 c = let v = c .before .before .loop .inv .here in omega (arith, v .inside, v .long (c .before .loop-test .taken))
+returns : tie.Need-returns
+returns c = replay-refused _ _ (c .before .before .before .before .before .open-table .ensures) _ (c .before .opened .given .1)
 
-sub-make-call : tie.Need-sub-make-call Inv-loop μ-loop
-sub-make-call c = let v = c .before .before .loop .inv .here in omega (arith, v .inside, v .long (c .before .loop-test .taken))
+same-length-5 : tie.Need-same-length-5
+same-length-5 c = search needs
 
-part-make-call-start : tie.Need-part-make-call-start Inv-loop μ-loop
-part-make-call-start c = let v = c .before .before .loop .inv .here in omega (arith, v .inside, v .long (c .before .loop-test .taken))
+same-length-6 : tie.Need-same-length-6
+same-length-6 c = search needs
 
-part-make-call-end : tie.Need-part-make-call-end Inv-loop μ-loop
-part-make-call-end c = let v = c .before .before .loop .inv .here in omega (arith, v .inside, v .long (c .before .loop-test .taken))
+same-length-7 : tie.Need-same-length-7
+same-length-7 c = search needs
 
-make-call-requires : tie.Need-make-call-requires Inv-loop μ-loop
-make-call-requires c κs = search needs
+same-length-8 : tie.Need-same-length-8
+same-length-8 c = search needs
 
-add-at : tie.Need-add-at Inv-loop μ-loop
-add-at c =
-    let t = c .before .before .before .before .before .before .before .before .before .before .before .before .before .before .before .before .before .before .before .before .before in
-    omega (arith, t .before .before .before .before .before .before .before .before .before .before .good .1 .0, t .before .loop .inv .here .inside)
+same-length-9 : tie.Need-same-length-9
+same-length-9 c = search needs
 
-call-length-requires-2 : tie.Need-call-length-requires-2 Inv-loop μ-loop
-call-length-requires-2 c κs = c .before .before .before .before .before .before .before .before .before .before .before .before .before .before .before .before .before .before .before .before .before .before .loop .inv .here .inside
+same-length-10 : tie.Need-same-length-10
+same-length-10 c = search needs
 
-loop-less : tie.Need-loop-less Inv-loop μ-loop
-loop-less c =
-    let t = c .before .before .before .before .before .before .before .before .before .before .before .before .before .before .before .before .before .before .before .before .before .before in
-    omega (arith, t .before .loop .inv .here .inside, t .before .loop .inv .here .long (t .loop-test .taken))
-
-loop-again : tie.Need-loop-again Inv-loop μ-loop
-loop-again c =
-    let t = c .before .before .before .before .before .before .before .before .before .before .before .before .before .before .before .before .before .before .before .before .before .before in
-    going-again (t .before .loop .inv) (t .loop-test .taken)
-    (lengths-same (c .before .before .before .before .before .before .before .before .before .before .before .before .rows .given) (c .before .before .before .before .before .before .before .before .before .before .keys .given) (c .before .before .before .before .before .before .before .before .sorts .given) (c .before .before .before .before .before .before .pending .given) (c .before .before .before .before .live .given) (c .before .before .base .given))
-    (c .before .before .before .before .before .before .before .before .before .before .before .before .before .make-call .ensures)
-    (c .call-length2 .ensures)
-
-same-length : tie.Need-same-length Inv-loop μ-loop
-same-length c = ap (λ (x : Lengths). x .rows) (c .before .loop .inv .same)
-
-same-length-2 : tie.Need-same-length-2 Inv-loop μ-loop
-same-length-2 c = ap (λ (x : Lengths). x .keys) (c .before .loop .inv .same)
-
-same-length-3 : tie.Need-same-length-3 Inv-loop μ-loop
-same-length-3 c = ap (λ (x : Lengths). x .sorts) (c .before .loop .inv .same)
-
-same-length-4 : tie.Need-same-length-4 Inv-loop μ-loop
-same-length-4 c = ap (λ (x : Lengths). x .pending) (c .before .loop .inv .same)
-
-same-length-5 : tie.Need-same-length-5 Inv-loop μ-loop
-same-length-5 c = ap (λ (x : Lengths). x .liveWords) (c .before .loop .inv .same)
-
-same-length-6 : tie.Need-same-length-6 Inv-loop μ-loop
-same-length-6 c = ap (λ (x : Lengths). x .baseWords) (c .before .loop .inv .same)
-
-returns : tie.Need-returns Inv-loop μ-loop
-returns c = going-end (c .before .loop .inv) (c .loop-test .left)
+returns-2 : tie.Need-returns-2
+returns-2 c = replay-made _ _ (c .before .before .before .before .before .before .before .before .before .before .before .before .before .before .before .before .before .before .before .before .before .before .before .before .open-table .ensures) _ _ _ _ _ (c .before .before .before .before .before .before .before .before .before .before .before .before .before .before .before .before .before .before .before .before .opened2 .given .1) (c .before .before .before .before .before .before .before .before .before .before .before .before .before .before .before .before .before .before .before .before .before .before .before .keys .given) (c .before .before .before .before .before .before .before .before .before .before .before .before .make-calls .ensures)
 
 pub replay-spec : {M : Type 1} → statement M
 replay-spec =
     tie.close
     (tie.spec
-    Inv-loop
-    μ-loop
-    call-length-requires
-    loop-holds
-    mul-make-call
-    shared-slice-read-make-call
-    add-make-call
-    add-make-call-2
-    mul-make-call-2
-    sub-make-call
-    part-make-call-start
-    part-make-call-end
-    make-call-requires
-    add-at
-    call-length-requires-2
-    loop-less
-    loop-again
+    open-table-requires
+    enum-known-opened
+    enum-known-opened-2
+    make-calls-requires
     same-length
     same-length-2
     same-length-3
     same-length-4
+    returns
     same-length-5
     same-length-6
-    returns)
+    same-length-7
+    same-length-8
+    same-length-9
+    same-length-10
+    returns-2)

@@ -12,7 +12,8 @@ use Rattle.table.specs.Numbers.{tableSays, mergeSays}
 use Rattle.table.specs.Promises.{Stores, stores, body, compactionWords, lengths, headerAfter, headerMerged, Staging, Merging, Compacting, Clearing}
 use Rattle.history.specs.Histories.{Called, staged, merged, compacted, cleared, end, next}
 use Rattle.history.specs.Laws.Further.{whole-step, steps-then}
-use Rattle.replay.specs.inner.Replaying.{lentTo, lengthsFor, Made, MadeOnPending}
+use Rattle.replay.specs.Replays.{lengthsFor, lentTo}
+use Rattle.replay.specs.inner.Replaying.{Made, MadeOnPending}
 
 -- no call
 pub none-made : {calls : List Call} (l : Lengths) (s : Stores) → calls ≡ [] → Made calls l s s

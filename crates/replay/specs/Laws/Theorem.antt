@@ -1,22 +1,61 @@
--- Calls that are replayed go on with the history that the stores had, so that term 3 of the order holds of the stores that
--- they leave. Assumes nothing.
-use Prim.Native.Nat.{ℕ}
-use mathlib.Core.List.{List, _++_}
+-- An opening and the calls behind it are a history, so that term 3 of the order holds of the stores that they leave. Assumes
+-- nothing.
+use Prim.Native.Nat.{ℕ, zero, suc, _<_}
+use mathlib.Core.Path.{_≡_, refl, ap}
+use mathlib.Core.List.{List, []}
+use native.Mathlib.Omega.{arith}
+use lib.ListN.{length}
+use Rattle.refusals.specs.Refusals.{refused, accepted, reply, refuses, verdict, ruling}
 use Rattle.plain.specs.Staged.{Opening}
-use Rattle.plain.specs.Refusing.{Lengths}
-use Rattle.plain.specs.Calls.{Call, Lent}
-use Rattle.table.specs.Promises.{Stores}
+use Rattle.plain.specs.Refusing.{openRefusal}
+use Rattle.plain.specs.Plain.{opened}
+use Rattle.plain.specs.Calls.{Call}
+use Rattle.table.specs.declared.Header.{Header}
+use Rattle.table.specs.declared.TableAnswer.{TableAnswer}
+use Rattle.table.specs.declared.TableAnswer.the-variants.{Refused, Table}
+use Rattle.table.specs.Numbers.{tableSays}
+use Rattle.table.specs.Stores.{headerOf}
+use Rattle.table.specs.Promises.{Body, body, stores, joined, CompactionWords, lengths, Opened}
+use Rattle.table.specs.Laws.Replies.{accepted-number}
 use Rattle.history.specs.Histories.{History}
-use Rattle.history.specs.Claim.{Claimed}
-use Rattle.history.specs.Laws.Further.{history-then}
+use Rattle.history.specs.Laws.Further.{history-whole}
 use Rattle.history.specs.Laws.Theorem.{term-three}
-use Rattle.replay.specs.inner.Replaying.{lentAll, Made, Replayed}
+use Rattle.replay.specs.Replays.{lentAll, Replayed}
+use Rattle.replay.specs.inner.Replaying.{Made}
 
-module _ {calls : List Call} {l : Lengths} {s s′ : Stores} (made : Made calls l s s′) where
-  pub term-three-replayed : (o : Opening) (generation : ℕ) (earlier : List Lent) → History o generation earlier s
-      → Claimed o generation (earlier ++ lentAll l calls) s′
-  term-three-replayed o generation earlier history =
-      term-three o generation (earlier ++ lentAll l calls) s′ (history-then history (made .steps))
+-- a refused reply was turned away, by its number
+refused-number : {A : Type 0} (n m : ℕ) (a : A) → refused m ≡ reply n a → (0 < n) × (refuses m ≡ ruling n)
+unfolding reply ruling
+refused-number zero m a e = absurd (let z : _≡_ {A = ℕ} 0 1 = cc in omega arith)
+refused-number (suc n) m a e = (omega arith, let same : m ≡ suc n = cc in rw same)
 
-  pub replayed : Replayed calls l s s′
-  replayed = record { made = made; claimed = term-three-replayed }
+module _ {o : Opening} {generation : ℕ} {b : Body} {pending keys′ : List ℕ} {answer : TableAnswer} (calls : List Call) (w : CompactionWords) (m : Opened o generation b pending answer keys′) where
+  -- a refused opening
+  pub replay-refused : (n : ℕ) → answer ≡ Refused n
+      → Replayed o generation calls b pending w (Refused n) (body (b .rows) keys′ (b .sorts)) pending w
+  unfolding tableSays verdict
+  replay-refused n e =
+      let k : ℕ = openRefusal o (lengths (b .rows) (b .keys) (b .sorts) pending [] []) in
+      let says = refused-number k n (headerOf (opened o generation)) (rw (ap tableSays e) at (m .answers)) in
+      record {
+        refusal = says .1;
+        unchanged = λ some. (rw (m .unchanged some), refl, refl);
+        history = λ h said. absurd (let z : _≡_ {A = ℕ} 0 1 = cc in omega arith);
+        claimed = λ h said. absurd (let z : _≡_ {A = ℕ} 0 1 = cc in omega arith);
+      }
+
+  -- an accepted one, and the calls
+  pub replay-made : (h h′ : Header) (b′ : Body) (pending′ : List ℕ) (w′ : CompactionWords) → answer ≡ Table h → length keys′ ≡ length (b .keys)
+      → Made calls (lengths (b .rows) keys′ (b .sorts) pending (w .live) (w .base)) (stores h (b .rows) keys′ (b .sorts) pending) (joined h′ b′ pending′)
+      → Replayed o generation calls b pending w (Table h′) b′ pending′ w′
+  unfolding tableSays verdict ruling
+  replay-made h h′ b′ pending′ w′ e same made =
+      let none = accepted-number _ h (headerOf (opened o generation)) (rw (ap tableSays e) at (m .answers)) in
+      let whole : History o generation (lentAll (lengths (b .rows) (b .keys) (b .sorts) pending (w .live) (w .base)) calls) (joined h′ b′ pending′) =
+      history-whole (b .keys) (rw e at m) (rw same at (made .steps)) in
+      record {
+        refusal = rw none;
+        unchanged = λ some. absurd (omega arith);
+        history = λ g said. let is : h′ ≡ g = cc in rw (← is) whole;
+        claimed = λ g said. let is : h′ ≡ g = cc in rw (← is) (term-three _ _ _ _ whole);
+      }

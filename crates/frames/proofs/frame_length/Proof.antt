@@ -1,10 +1,10 @@
--- `replay::call_length` meets its contract. Assumes nothing.
+-- `frames::frame_length` meets its contract. Assumes nothing.
 use Prim.Native.Nat.{_+_}
 use native.Mathlib.Omega.{arith}
-use Rattle.replay.specs.Laws.Encoding.{length-end, length-cut, length-whole}
+use Rattle.frames.specs.Laws.Frames.{length-end, length-cut, length-whole}
 use borrow.Author.Needs.{needs}
-use Rattle.replay.proofs.call_length.Statement.{statement}
-use Rattle.replay.proofs.call_length.Tie as tie
+use Rattle.frames.proofs.frame_length.Statement.{statement}
+use Rattle.frames.proofs.frame_length.Tie as tie
 
 sub-left : tie.Need-sub-left
 sub-left c = search needs
@@ -36,8 +36,8 @@ add-result c = search needs
 returns-3 : tie.Need-returns-3
 returns-3 c = length-whole _ _ (c .before .before .before .pre) (c .if2 .left)
 
-pub call-length-spec : {M : Type 1} → statement M
-call-length-spec =
+pub frame-length-spec : {M : Type 1} → statement M
+frame-length-spec =
     tie.close
     (tie.spec
     sub-left

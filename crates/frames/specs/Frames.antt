@@ -1,0 +1,20 @@
+-- Lists in words: each item a kind, a count and so many words. Every list of words is one; an item that is cut off ends it.
+-- Assumes nothing.
+use Prim.Native.Nat.{ℕ, zero, suc}
+use mathlib.Core.Bool.{cond}
+use mathlib.Core.List.{List, [], _∷_, _++_}
+use lib.ListN.{length, take}
+use lib.Dec.{leb}
+
+-- what the words of each kind stand for
+module _ {A : Type 0} (of : ℕ → List ℕ → List A) where
+  -- the items of the words after the first n, which belong to the item before
+  unfoldable pub framedAfter : ℕ → List ℕ → List A
+  framedAfter n [] = []
+  framedAfter (suc n) (word ∷ words) = framedAfter n words
+  framedAfter zero (kind ∷ []) = []
+  framedAfter zero (kind ∷ count ∷ words) =
+      cond (leb count (length words)) (of kind (take count words) ++ framedAfter count words) []
+
+  abbrev pub framed : List ℕ → List A
+  framed words = framedAfter 0 words

@@ -1,0 +1,45 @@
+-- What `replay` promises: an opening and, where that is accepted, a list of calls one after another, each lent the stores whole.
+-- They are a history, so that the claim of the order's term 3 holds of them. Assumes nothing.
+use Prim.Native.Nat.{ℕ, _<_}
+use mathlib.Core.Path.{_≡_}
+use mathlib.Core.List.{List, [], map}
+use Rattle.refusals.specs.Refusals.{accepted, verdict, ruling}
+use Rattle.plain.specs.Staged.{Opening}
+use Rattle.plain.specs.Refusing.{Lengths, openRefusal}
+use Rattle.plain.specs.Calls.{Call, staging, merging, compacting, clearing, Lent}
+use Rattle.table.specs.declared.Header.{Header}
+use Rattle.table.specs.declared.TableAnswer.{TableAnswer}
+use Rattle.table.specs.Numbers.{tableSays}
+use Rattle.table.specs.Promises.{Body, joined, CompactionWords, lengths}
+use Rattle.history.specs.Histories.{History}
+use Rattle.history.specs.Claim.{Claimed}
+
+-- the compaction words go to a merge and a compaction alone
+abbrev pub withoutWords : Lengths → Lengths
+withoutWords l =
+    record { rows = l .rows; keys = l .keys; sorts = l .sorts; pending = l .pending; liveWords = 0; baseWords = 0 }
+
+unfoldable pub lengthsFor : Lengths → Call → Lengths
+lengthsFor l (staging r) = withoutWords l
+lengthsFor l merging = l
+lengthsFor l compacting = l
+lengthsFor l clearing = withoutWords l
+
+abbrev pub lentTo : Lengths → Call → Lent
+lentTo l c = record { call = c; lengths = lengthsFor l c }
+
+abbrev pub lentAll : Lengths → List Call → List Lent
+lentAll l calls = map (lentTo l) calls
+
+module _ (o : Opening) (generation : ℕ) (calls : List Call) (b : Body) (pending : List ℕ) (w : CompactionWords) (answer : TableAnswer)
+    (b′ : Body) (pending′ : List ℕ) (w′ : CompactionWords) where
+  abbrev pub made : List Lent
+  made = lentAll (lengths (b .rows) (b .keys) (b .sorts) pending (w .live) (w .base)) calls
+
+  pub record Replayed : Type 0 where
+    -- where the opening is refused, no call is made and nothing changes
+    pub refusal : verdict (tableSays answer) ≡ ruling (openRefusal o (lengths (b .rows) (b .keys) (b .sorts) pending [] []))
+    pub unchanged : 0 < openRefusal o (lengths (b .rows) (b .keys) (b .sorts) pending [] []) → (b′ ≡ b) × (pending′ ≡ pending) × (w′ ≡ w)
+    -- else they are made, and "the live rows, numbers and cells, are those of document 01's plain table after the same calls"
+    pub history : (h : Header) → tableSays answer ≡ accepted h → History o generation made (joined h b′ pending′)
+    pub claimed : (h : Header) → tableSays answer ≡ accepted h → Claimed o generation made (joined h b′ pending′)

@@ -1,0 +1,4 @@
+pub mod Encoding
+pub mod Asking
+pub mod inner
+pub mod Laws
