@@ -6,7 +6,7 @@
 use Prim.Native.Nat.{ℕ, _≤_}
 use mathlib.Core.Path.{_≡_}
 use mathlib.Core.List.{List, [], _∷_, _++_, map}
-use Rattle.refusals.specs.Refusals.{Reply, refused, accepted, Verdict, accepts, verdict}
+use Rattle.refusals.specs.Refusals.{Reply, refused, accepted, verdict}
 use Rattle.plain.specs.Staged.{insert}
 use Rattle.plain.specs.Refusing.{Lengths}
 use Rattle.plain.specs.Calls.{staging, merging, Lent}
@@ -18,13 +18,13 @@ use Rattle.history.specs.Histories.{Called, staged, merged, compacted, c
 use Rattle.history.specs.Claim.{liveIn}
 
 -- whether a call was refused, by its answer
-unfoldable pub verdictIn : {s t : Stores} {c : Lent} → Called s c t → Verdict
+unfoldable pub verdictIn : {s t : Stores} {c : Lent} → Called s c t → Reply (Unit {0})
 verdictIn (staged r answer pending′ promise) = verdict (tableSays answer)
 verdictIn (merged w answer b′ w′ promise) = verdict (mergeSays answer)
 verdictIn (compacted w answer b′ w′ promise) = verdict (tableSays answer)
 verdictIn (cleared answer keys′ promise) = verdict (tableSays answer)
 
-unfoldable pub verdictOf : {s t : Stores} {c : Lent} → Step s c t → Verdict
+unfoldable pub verdictOf : {s t : Stores} {c : Lent} → Step s c t → Reply (Unit {0})
 verdictOf (called rest pending call) = verdictIn call
 
 -- the number that a merge answered it had stopped with, 0 if it had not
@@ -44,10 +44,10 @@ statusOf (called rest pending call) = statusIn call
 -- a batch of inserts alone: its rows staged in turn, then a merge; "no call is refused and none of the .. merges stops"
 pub data Batch : Stores → List (List ℕ) → Stores → Type 0 where
   merge : {s t : Stores} {l : Lengths} (step : Step s (record { call = merging; lengths = l }) t)
-      → verdictOf step ≡ accepts → statusOf step ≡ 0 → Batch s [] t
+      → verdictOf step ≡ accepted tt → statusOf step ≡ 0 → Batch s [] t
   stage : {s t u : Stores} {l : Lengths} {row : List ℕ} {rows : List (List ℕ)}
       (step : Step s (record { call = staging (insert row); lengths = l }) t)
-      → verdictOf step ≡ accepts → Batch t rows u → Batch s (row ∷ rows) u
+      → verdictOf step ≡ accepted tt → Batch t rows u → Batch s (row ∷ rows) u
 
 -- the cells of the live rows, in order
 unfoldable pub cellsIn : Stores → List (List ℕ)

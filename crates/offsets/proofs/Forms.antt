@@ -11,8 +11,8 @@ use borrow.Author.Tests.{le-leb, lt-leb}
 use Rattle.lists.specs.Lists.{rising}
 use Rattle.offsets.specs.declared.SubsetHead.{SubsetHead}
 use Rattle.offsets.specs.declared.BoundsAnswer.the-variants.{None, Ends}
-use Rattle.offsets.specs.Subsets.{list, wellFormed, size, lastOf, bounds}
-use Rattle.offsets.specs.Laws.Subsets.{dense-is, sparse-is, lastOf-getD}
+use Rattle.offsets.specs.Subsets.{list, wellFormed, size, bounds}
+use Rattle.offsets.specs.Laws.Subsets.{dense-is, sparse-is}
 use Rattle.offsets.specs.Answers.{subsetOf}
 use Rattle.offsets.specs.inner.Writing.{boundsSays}
 
@@ -35,7 +35,7 @@ said-ends : (start end : ℕ) → boundsSays (Ends start end) ≡ some (record {
 unfolding boundsSays
 said-ends start end = refl
 
-bounds-cons : (x : ℕ) (xs : List ℕ) → some (record { start = x; end = lastOf x xs + 1 }) ≡ bounds (list (x ∷ xs))
+bounds-cons : (x : ℕ) (xs : List ℕ) → some (record { start = x; end = getD (x ∷ xs) (length xs) 0 + 1 }) ≡ bounds (list (x ∷ xs))
 unfolding bounds
 bounds-cons x xs = refl
 
@@ -67,5 +67,5 @@ module _ (head : SubsetHead) (ids : List ℕ) where
       go (x ∷ xs) h =
           let k : suc (length xs) - 1 ≡ length xs = omega arith in
           said-ends x (getD (x ∷ xs) (suc (length xs) - 1) 0 + 1)
-          ∙ ap (λ (n : ℕ). some (record { start = x; end = n + 1 })) (ap (λ (i : ℕ). getD (x ∷ xs) i 0) k ∙ sym (lastOf-getD x xs))
+          ∙ ap (λ (n : ℕ). some (record { start = x; end = n + 1 })) (ap (λ (i : ℕ). getD (x ∷ xs) i 0) k)
           ∙ bounds-cons x xs

@@ -4,7 +4,7 @@ use Prim.Native.Nat.{ℕ, _+_, _-_, min, max}
 use mathlib.Core.Bool.{Bool, cond, _&&_}
 use mathlib.Core.List.{List, [], _∷_}
 use mathlib.Core.Option.{Option, none, some}
-use lib.ListN.{length}
+use lib.ListN.{length, getD}
 use lib.Dec.{leb}
 use Rattle.lists.specs.Lists.{keep, every, countFrom, rising, has, within, same}
 
@@ -26,11 +26,6 @@ unfoldable pub size : Subset → ℕ
 size (range start end) = end - start
 size (list ids) = length ids
 
--- the last of a list that begins with x
-unfoldable pub lastOf : ℕ → List ℕ → ℕ
-lastOf x [] = x
-lastOf x (y ∷ ys) = lastOf y ys
-
 -- "`bounds` gives the ends of a subset"; an empty list has none
 pub record Ends : Type 0 where
   pub start : ℕ
@@ -39,7 +34,7 @@ pub record Ends : Type 0 where
 unfoldable pub bounds : Subset → Option Ends
 bounds (range start end) = some (record { start = start; end = end })
 bounds (list []) = none
-bounds (list (x ∷ xs)) = some (record { start = x; end = lastOf x xs + 1 })
+bounds (list (x ∷ xs)) = some (record { start = x; end = getD (x ∷ xs) (length xs) 0 + 1 })
 
 -- the end that test 5 looks at: "range end or last id plus one"; an empty list has 0
 unfoldable pub endOf : Subset → ℕ

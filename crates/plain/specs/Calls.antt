@@ -7,31 +7,26 @@ use lib.Dec.{ltb, eqb}
 use lib.ListN.{length}
 use Rattle.plain.specs.Staged.{Staged, wordsAll}
 use Rattle.plain.specs.Plain.{Plain, stage, merged, compacted, cleared}
-use Rattle.plain.specs.Refusing.{Lengths, Counts, stageLadder, mergeLadder, compactLadder, clearLadder}
+use Rattle.plain.specs.Refusing.{Lengths, stageLadder, mergeLadder, compactLadder, clearLadder}
 
 pub data Call : Type 0 where
   staging : Staged → Call
   merging compacting clearing : Call
 
-unfoldable pub countsOf : Plain → Counts
-countsOf p =
-    record {
-      opening = p .opening;
-      generation = p .generation;
-      rows = length (p .rows);
-      used = wordsAll (p .opening) (p .staged);
-    }
+-- its pending words used
+abbrev pub used : Plain → ℕ
+used p = wordsAll (p .opening) (p .staged)
 
 -- all that is left of test 1 on a table that was opened: "pending words used above the pending store"
 unfoldable pub pendingShort : Plain → ℕ → Bool
-pendingShort p pending = ltb pending (countsOf p .used)
+pendingShort p pending = ltb pending (used p)
 
 -- the first number that applies, 0 if none
 unfoldable pub refusal : Plain → Lengths → Call → ℕ
-refusal p l (staging r) = stageLadder (pendingShort p (l .pending)) (countsOf p) (l .pending) r
-refusal p l merging = mergeLadder (pendingShort p (l .pending)) (countsOf p) l
-refusal p l compacting = compactLadder false (countsOf p) l
-refusal p l clearing = clearLadder false (countsOf p) (l .keys)
+refusal p l (staging r) = stageLadder (pendingShort p (l .pending)) (p .opening) (length (p .rows)) (used p) (l .pending) r
+refusal p l merging = mergeLadder (pendingShort p (l .pending)) (p .opening) l
+refusal p l compacting = compactLadder false (p .opening) (p .generation) l
+refusal p l clearing = clearLadder false (p .opening) (p .generation) (length (p .rows)) (l .keys)
 
 -- what an accepted call leaves
 unfoldable pub done : Plain → Call → Plain

@@ -1,6 +1,6 @@
--- What each call turns away (document 01, "Operations and what each turns away"), over the numbers that its tests look at. A
--- plain table and a header have the same ladders; test 1 is handed in, since it differs. The first number that applies, 0 if
--- none. Assumes nothing.
+-- What each call turns away (document 01, "Operations and what each turns away"), over the numbers that its tests look at: an
+-- opening's, the generation, the row count, the pending words used, and the lengths of what is lent. A plain table and a header
+-- have the same ladders; test 1 is handed in, since it differs. The first number that applies, 0 if none. Assumes nothing.
 use Prim.Native.Nat.{ℕ, _+_, _*_, _/_}
 use mathlib.Core.Bool.{Bool, false, not, _&&_, _||_}
 use mathlib.Core.List.{[], _∷_}
@@ -17,13 +17,6 @@ pub record Lengths : Type 0 where
   pub pending : ℕ
   pub liveWords : ℕ
   pub baseWords : ℕ
-
--- what the tests look at of a table: its opening, its generation, its row count, its pending words used
-pub record Counts : Type 0 where
-  pub opening : Opening
-  pub generation : ℕ
-  pub rows : ℕ
-  pub used : ℕ
 
 -- "rows, capacity times columns; keys, 2 times capacity; sort entries, 2 times capacity"
 unfoldable pub storesShort : Opening → Lengths → Bool
@@ -55,33 +48,25 @@ unfoldable pub openRefusal : Opening → Lengths → ℕ
 openRefusal o l = first (rung (not (openable o)) 1 ∷ rung (storesShort o l) 2 ∷ [])
 
 -- *Stage*: 1, 3, 5, 7
-unfoldable pub stageLadder : Bool → Counts → ℕ → Staged → ℕ
-stageLadder outside c pending r =
+unfoldable pub stageLadder : Bool → Opening → ℕ → ℕ → ℕ → Staged → ℕ
+stageLadder outside o rows used pending r =
     first
     (rung outside 1
-    ∷ rung (wrongWidth (c .opening) r) 3
-    ∷ rung (noSuchRow (c .rows) r) 5
-    ∷ rung (overfull (c .used) pending (wordsOf (c .opening) r)) 7
+    ∷ rung (wrongWidth o r) 3
+    ∷ rung (noSuchRow rows r) 5
+    ∷ rung (overfull used pending (wordsOf o r)) 7
     ∷ [])
 
 -- *Merge*: 1, 2
-unfoldable pub mergeLadder : Bool → Counts → Lengths → ℕ
-mergeLadder outside c l = first (rung outside 1 ∷ rung (storesShort (c .opening) l || wordsShort (c .opening) l) 2 ∷ [])
+unfoldable pub mergeLadder : Bool → Opening → Lengths → ℕ
+mergeLadder outside o l = first (rung outside 1 ∷ rung (storesShort o l || wordsShort o l) 2 ∷ [])
 
 -- *Compact*: 1, 2, 10
-unfoldable pub compactLadder : Bool → Counts → Lengths → ℕ
-compactLadder outside c l =
-    first
-    (rung outside 1
-    ∷ rung (storesShort (c .opening) l || wordsShort (c .opening) l) 2
-    ∷ rung (eqb (c .generation) 4294967295) 10
-    ∷ [])
+unfoldable pub compactLadder : Bool → Opening → ℕ → Lengths → ℕ
+compactLadder outside o generation l =
+    first (rung outside 1 ∷ rung (storesShort o l || wordsShort o l) 2 ∷ rung (eqb generation 4294967295) 10 ∷ [])
 
 -- *Clear*: 1, 2, 10 "only if there are rows"
-unfoldable pub clearLadder : Bool → Counts → ℕ → ℕ
-clearLadder outside c keys =
-    first
-    (rung outside 1
-    ∷ rung (ltb keys (2 * c .opening .capacity)) 2
-    ∷ rung (eqb (c .generation) 4294967295 && ltb 0 (c .rows)) 10
-    ∷ [])
+unfoldable pub clearLadder : Bool → Opening → ℕ → ℕ → ℕ → ℕ
+clearLadder outside o generation rows keys =
+    first (rung outside 1 ∷ rung (ltb keys (2 * o .capacity)) 2 ∷ rung (eqb generation 4294967295 && ltb 0 rows) 10 ∷ [])

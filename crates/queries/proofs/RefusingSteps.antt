@@ -19,7 +19,7 @@ use Rattle.constraints.specs.declared.Constraint.{Constraint}
 use Rattle.constraints.specs.Constraints.{known}
 use Rattle.table.specs.declared.Header.{Header}
 use Rattle.table.specs.Refusing.{outside, rowsShort}
-use Rattle.queries.specs.Queries.{pastRows, unknown, tests, refineRefusal, matchRefusal, pageRefusal}
+use Rattle.queries.specs.Queries.{pastRows, tests, refineRefusal, matchRefusal, pageRefusal}
 use Rattle.queries.specs.inner.Tests.{Askable, subsetRefusal, RefineRefused, MatchRefused, PageRefused}
 
 -- ---- test 5
@@ -107,7 +107,7 @@ module _ (h : Header) (rows : ℕ) (subset : Subset) where
 
       refine-rest : (knows : Bool) → Askable h rows subset → knows ≡ every (known (h .columns)) conditions
           → refineRefusal h rows subset conditions output ≡ first (rung (not knows) 6 ∷ rung (ltb output (size subset)) 2 ∷ [])
-      unfolding refineRefusal unknown first tests
+      unfolding refineRefusal first tests
       refine-rest knows a k = rw (a .inside, a .long, a .formed, a .below, k)
 
     pub refine-early : (knows : Bool) (number : ℕ) → number ≡ subsetRefusal h rows subset → (number ≡ 0 → ⊥) → RefineRefused h rows subset knows output number
@@ -167,7 +167,7 @@ module _ (h : Header) (rows : ℕ) (subset : Subset) where
 
   match-rest : (conditions : List Constraint) (knows : Bool) → Askable h rows subset → knows ≡ every (known (h .columns)) conditions
       → matchRefusal h rows subset conditions ≡ first (rung (not knows) 6 ∷ [])
-  unfolding matchRefusal unknown first tests
+  unfolding matchRefusal first tests
   match-rest conditions knows a k = rw (a .inside, a .long, a .formed, a .below, k)
 
   module _ (knows : Bool) where
@@ -205,7 +205,7 @@ module _ (h : Header) (rows : ℕ) (subset : Subset) where
 
       page-rest : (knows : Bool) → Askable h rows subset → knows ≡ every (known (h .columns)) conditions
           → pageRefusal h rows subset start n conditions output ≡ first (rung (ltb (size subset) start) 5 ∷ rung (not knows) 6 ∷ rung (ltb output (min n (size subset - start))) 2 ∷ [])
-      unfolding pageRefusal unknown first tests
+      unfolding pageRefusal first tests
       page-rest knows a k = rw (a .inside, a .long, a .formed, a .below, k)
 
     module _ (knows : Bool) where

@@ -20,7 +20,6 @@ use Rattle.queries.specs.declared.MatchAnswer.{MatchAnswer}
 use Rattle.queries.specs.declared.MatchAnswer.the-variants.{Refused as MatchRefused, Match}
 use Rattle.queries.specs.declared.NextPlace.{NextPlace}
 use Rattle.queries.specs.declared.NextPlace.the-variants.{None, At}
-use Rattle.queries.specs.declared.Page.{Page}
 use Rattle.queries.specs.declared.PageAnswer.{PageAnswer}
 use Rattle.queries.specs.declared.PageAnswer.the-variants.{Refused as PageRefused, Page as Paged}
 
@@ -36,10 +35,6 @@ deadAmong h rows ids = count (λ id. not (isLive (rowAt (h .columns) id rows))) 
 unfoldable pub pastRows : Header → Subset → Bool
 pastRows h subset = ltb (h .rows) (endOf subset)
 
--- "6, kind above 5 or a column that does not exist"
-unfoldable pub unknown : Header → List Constraint → Bool
-unknown h conditions = not (every (known (h .columns)) conditions)
-
 -- the tests that all questions share, 1, 2, 4, 5 and 6, with each question's own reading of 5
 unfoldable pub tests : Header → ℕ → Subset → Bool → List Constraint → List Rung
 tests h rows subset beyond conditions =
@@ -47,7 +42,7 @@ tests h rows subset beyond conditions =
     ∷ rung (rowsShort h rows) 2
     ∷ rung (not (wellFormed subset)) 4
     ∷ rung beyond 5
-    ∷ rung (unknown h conditions) 6
+    ∷ rung (not (every (known (h .columns)) conditions)) 6
     ∷ []
 
 -- *Refine by one, by a list*: "2 again, output shorter than the subset"

@@ -4,38 +4,26 @@ use Prim.Native.Nat.{ℕ, zero, suc}
 use mathlib.Core.Bool.{Bool, cond}
 use mathlib.Core.List.{List, [], _∷_}
 
-pub record Rung : Type 0 where
-  pub applies : Bool
-  pub number : ℕ
-
-abbrev pub rung : Bool → ℕ → Rung
-rung applies number = record { applies = applies; number = number }
+-- whether it applies, and its number
+pub data Rung : Type 0 where
+  rung : Bool → ℕ → Rung
 
 -- the first number that applies, 0 if none
 unfoldable pub first : List Rung → ℕ
 first [] = 0
-first (r ∷ rs) = cond (r .applies) (r .number) (first rs)
+first (rung applies number ∷ rungs) = cond applies number (first rungs)
 
 -- what an operation answers: its refusal's number, or a value
 pub data Reply (A : Type 0) : Type 0 where
   refused : ℕ → Reply A
   accepted : A → Reply A
 
--- refused if there is a number
+-- refused if a ladder gives a number
 unfoldable pub reply : {A : Type 0} → ℕ → A → Reply A
 reply zero value = accepted value
 reply (suc n) value = refused (suc n)
 
--- whether it was refused, its value forgotten
-pub data Verdict : Type 0 where
-  refuses : ℕ → Verdict
-  accepts : Verdict
-
-unfoldable pub verdict : {A : Type 0} → Reply A → Verdict
-verdict (refused n) = refuses n
-verdict (accepted value) = accepts
-
--- the verdict of a ladder
-unfoldable pub ruling : ℕ → Verdict
-ruling zero = accepts
-ruling (suc n) = refuses (suc n)
+-- whether it was refused, and by which number; its value forgotten (`Unit {0}` is the type of `tt` alone)
+unfoldable pub verdict : {A : Type 0} → Reply A → Reply (Unit {0})
+verdict (refused n) = refused n
+verdict (accepted value) = accepted tt

@@ -3,7 +3,7 @@
 use Prim.Native.Nat.{ℕ, _<_}
 use mathlib.Core.Path.{_≡_}
 use mathlib.Core.List.{List, [], map}
-use Rattle.refusals.specs.Refusals.{accepted, verdict, ruling}
+use Rattle.refusals.specs.Refusals.{accepted, reply, verdict}
 use Rattle.plain.specs.Staged.{Opening}
 use Rattle.plain.specs.Refusing.{Lengths, openRefusal}
 use Rattle.plain.specs.Calls.{Call, staging, merging, compacting, clearing, Lent}
@@ -38,7 +38,7 @@ module _ (o : Opening) (generation : ℕ) (calls : List Call) (b : Body) (pendin
 
   pub record Replayed : Type 0 where
     -- where the opening is refused, no call is made and nothing changes
-    pub refusal : verdict (tableSays answer) ≡ ruling (openRefusal o (lengths (b .rows) (b .keys) (b .sorts) pending [] []))
+    pub refusal : verdict (tableSays answer) ≡ reply (openRefusal o (lengths (b .rows) (b .keys) (b .sorts) pending [] [])) tt
     pub unchanged : 0 < openRefusal o (lengths (b .rows) (b .keys) (b .sorts) pending [] []) → (b′ ≡ b) × (pending′ ≡ pending) × (w′ ≡ w)
     -- else they are made, and "the live rows, numbers and cells, are those of document 01's plain table after the same calls"
     pub history : (h : Header) → tableSays answer ≡ accepted h → History o generation made (joined h b′ pending′)

@@ -78,15 +78,10 @@ valueAt row [] = 0
 valueAt row (e ∷ []) = e .value
 valueAt row (e ∷ (f ∷ es)) = cond (leb (f .row) row) (valueAt row (f ∷ es)) (e .value)
 
--- "begin at row 0 where there is a row"; without a row there is no entry
-unfoldable pub begins : List Entry → ℕ → Bool
-begins [] rows = eqb rows 0
-begins (e ∷ es) rows = eqb (e .row) 0
-
--- "sort entries rise strictly, lie below the row count and begin at row 0 where there is a row"
+-- "sort entries rise strictly, lie below the row count and begin at row 0 where there is a row": without an entry there is none
 unfoldable pub entriesSound : List Entry → ℕ → Bool
 entriesSound es rows =
     rising (map (λ e. e .value) es)
     && rising (map (λ e. e .row) es)
     && every (λ e. ltb (e .row) rows) es
-    && begins es rows
+    && eqb (firstRow es rows) 0

@@ -1,6 +1,6 @@
 -- The steps of checking.rt, by the laws of specs/Laws/Checks.antt: one law for each way that a function answers, and what
 -- holds at the head of the loop over the pending words. Assumes nothing.
-use Prim.Native.Nat.{ℕ, zero, suc, _+_, _-_, _*_, _≤_, _<_}
+use Prim.Native.Nat.{ℕ, _+_, _-_, _*_, _≤_, _<_}
 use mathlib.Core.Path.{_≡_, refl, sym, ap, _∙_}
 use mathlib.Core.Bool.{Bool, true, false, not, false≢true}
 use mathlib.Core.List.{List, [], _∷_}
@@ -12,7 +12,8 @@ use lib.Dec.{leb, eqb}
 use lib.ListN.{length, take, drop, getD, length-drop}
 use lib.Seq.{getD-drop, drop-drop}
 use borrow.Author.Tests.{ne-eqb, le-leb, leb-true}
-use Rattle.refusals.specs.Refusals.{verdict, ruling, refuses}
+use Rattle.refusals.specs.Refusals.{reply, verdict}
+use Rattle.refusals.specs.Laws.Replies.{verdict-refused}
 use Rattle.lists.specs.Lists.{every, count, rowAt, rowsOf}
 use Rattle.lists.specs.Laws.Keep.{count-append, count-le}
 use Rattle.lists.specs.Laws.Rows.{row-in, length-rowsOf, rowsOf-snoc, getD-rowAt}
@@ -289,11 +290,6 @@ module _ (h : Header) (pending : List ℕ) (at : ℕ) (reached : Reached (openin
 
 -- ---- all parts
 
-refuses-number : (n : ℕ) → (n ≡ 0 → ⊥) → refuses n ≡ ruling n
-unfolding ruling
-refuses-number zero f = absurd (f refl)
-refuses-number (suc n) f = refl
-
 module _ (h : Header) (rows keys sorts pending : List ℕ) where
   pub stores-rows : (RowsSound h rows sorts → ⊥) → Told (SoundStores h rows keys sorts pending) false
   stores-rows f = told-no (λ s. f (sound-rows h rows keys sorts pending (s .0) (s .1)))
@@ -315,14 +311,14 @@ module _ (h : Header) (rows keys sorts pending : List ℕ) where
   unfolding soundSays verdict
   checked-refused n e some =
       record {
-        refusal = refuses-number n some ∙ ap ruling e;
+        refusal = verdict-refused (soundSays (Refused n)) _ n refl e some;
         sound = λ q. absurd (let z : _≡_ {A = ℕ} 0 1 = cc in omega arith);
         unsound = λ q. absurd (let z : _≡_ {A = ℕ} 0 1 = cc in omega arith);
       }
 
   pub checked-answered : (n : ℕ) → n ≡ soundRefusal h (length rows) (length keys) (length sorts) (length pending) → n ≡ 0 → (r : Bool)
       → Told (SoundStores h rows keys sorts pending) r → Checked h rows keys sorts pending (IsSound r)
-  unfolding soundSays verdict ruling
+  unfolding soundSays verdict reply
   checked-answered n e z r w =
       record {
         refusal = rw (sym e ∙ z);

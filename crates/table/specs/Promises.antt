@@ -8,7 +8,7 @@ use mathlib.Core.Option.{Option, none, some, Option·map}
 use lib.ListN.{length, drop, getD}
 use lib.Dec.{eqb}
 use Rattle.lists.specs.Lists.{putAt, rowsOf}
-use Rattle.refusals.specs.Refusals.{Reply, refused, accepted, reply, verdict, ruling}
+use Rattle.refusals.specs.Refusals.{Reply, refused, accepted, reply, verdict}
 use Rattle.offsets.specs.Subsets.{Subset, range}
 use Rattle.constraints.specs.declared.Constraint.{Constraint}
 use Rattle.sort_entries.specs.Entries.{entriesOf, entriesSound, fastRange}
@@ -160,7 +160,7 @@ module _ (s : Stores) (w : CompactionWords) (answer : MergeAnswer) (b′ : Body)
     pub words : merged p .table .generation ≡ p .generation → w′ ≡ w
 
   pub record Merging : Type 0 where
-    pub refusal : verdict (mergeSays answer) ≡ ruling (mergeRefusal (s .header) (lengthsLent s w))
+    pub refusal : verdict (mergeSays answer) ≡ reply (mergeRefusal (s .header) (lengthsLent s w)) tt
     pub unchanged : 0 < mergeRefusal (s .header) (lengthsLent s w) → (b′ ≡ bodyOf s) × (w′ ≡ w)
     pub past : SlotsPast (s .header .capacity) (s .keys) (b′ .keys)
     pub words-past : WordsPast (s .header .capacity) w w′
@@ -175,7 +175,7 @@ module _ (h : Header) (b : Body) (w : CompactionWords) (answer : TableAnswer) (b
     pub represents : Represents (compacted p) (joined (headerOf (compacted p)) b′ pending)
 
   pub record Compacting : Type 0 where
-    pub refusal : verdict (tableSays answer) ≡ ruling (compactRefusal h (lengthsLent (joined h b []) w))
+    pub refusal : verdict (tableSays answer) ≡ reply (compactRefusal h (lengthsLent (joined h b []) w)) tt
     pub unchanged : 0 < compactRefusal h (lengthsLent (joined h b []) w) → (b′ ≡ b) × (w′ ≡ w)
     pub past : SlotsPast (h .capacity) (b .keys) (b′ .keys)
     pub words-past : WordsPast (h .capacity) w w′
@@ -189,7 +189,7 @@ module _ (h : Header) (keys : List ℕ) (answer : TableAnswer) (keys′ : List �
     pub represents : Represents (cleared p) (stores (headerOf (cleared p)) rows keys′ sorts pending)
 
   pub record Clearing : Type 0 where
-    pub refusal : verdict (tableSays answer) ≡ ruling (clearRefusal h (length keys))
+    pub refusal : verdict (tableSays answer) ≡ reply (clearRefusal h (length keys)) tt
     pub unchanged : 0 < clearRefusal h (length keys) → keys′ ≡ keys
     pub past : SlotsPast (h .capacity) keys keys′
     pub table : clearRefusal h (length keys) ≡ 0
@@ -201,12 +201,12 @@ abbrev pub ofRows : Header → List ℕ → Plain
 ofRows h rows = record { opening = openingOf h; generation = h .generation; rows = rowsIn h rows; staged = []; largest = largestSays (h .largest) }
 
 pub record LookedUp (h : Header) (rows keys key : List ℕ) (answer : RowAnswer) : Type 0 where
-  pub refusal : verdict (rowSays answer) ≡ ruling (lookupRefusal h (length rows) (length keys) (length key))
+  pub refusal : verdict (rowSays answer) ≡ reply (lookupRefusal h (length rows) (length keys) (length key)) tt
   pub table : lookupRefusal h (length rows) (length keys) (length key) ≡ 0 → KeysSound (keyedOf h) rows keys → KeysDiffer h rows
       → rowSays answer ≡ accepted (Option·map (λ row. row .number) (lookup (ofRows h rows) key))
 
 pub record CellRead (h : Header) (rows keys key : List ℕ) (column : ℕ) (answer : CellAnswer) : Type 0 where
-  pub refusal : verdict (cellSays answer) ≡ ruling (cellRefusal h (length rows) (length keys) (length key) column)
+  pub refusal : verdict (cellSays answer) ≡ reply (cellRefusal h (length rows) (length keys) (length key) column) tt
   pub table : cellRefusal h (length rows) (length keys) (length key) column ≡ 0 → KeysSound (keyedOf h) rows keys → KeysDiffer h rows
       → cellSays answer ≡ accepted (Option·map (λ row. getD (row .cells) column 0) (lookup (ofRows h rows) key))
 
@@ -218,7 +218,7 @@ fastSubset h sorts c =
     (some (fastRange (c .kind) (c .value) (entriesOf (h .entries) sorts) (h .rows)))
 
 pub record RangeRead (h : Header) (sorts : List ℕ) (c : Constraint) (answer : RangeAnswer) : Type 0 where
-  pub refusal : verdict (rangeSays answer) ≡ ruling (fastRefusal h (length sorts) c)
+  pub refusal : verdict (rangeSays answer) ≡ reply (fastRefusal h (length sorts) c) tt
   pub table : fastRefusal h (length sorts) c ≡ 0 → entriesSound (entriesOf (h .entries) sorts) (h .rows) ≡ true
       → rangeSays answer ≡ accepted (fastSubset h sorts c)
 
@@ -235,6 +235,6 @@ pub record NotedRows (h : Header) (generation count : ℕ) (answer : RangeAnswer
 
 -- the soundness check: lent all stores. It "says yes exactly for sound stores"
 pub record Checked (h : Header) (rows keys sorts pending : List ℕ) (answer : SoundAnswer) : Type 0 where
-  pub refusal : verdict (soundSays answer) ≡ ruling (soundRefusal h (length rows) (length keys) (length sorts) (length pending))
+  pub refusal : verdict (soundSays answer) ≡ reply (soundRefusal h (length rows) (length keys) (length sorts) (length pending)) tt
   pub sound : soundSays answer ≡ accepted true → (staged : List Staged) × Sound h rows keys sorts pending staged
   pub unsound : soundSays answer ≡ accepted false → (staged : List Staged) → Sound h rows keys sorts pending staged → ⊥

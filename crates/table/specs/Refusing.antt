@@ -8,13 +8,9 @@ use Rattle.refusals.specs.Refusals.{Rung, rung, first}
 use Rattle.constraints.specs.declared.Constraint.{Constraint}
 use Rattle.constraints.specs.Constraints.{known}
 use Rattle.plain.specs.Staged.{openable, Staged}
-use Rattle.plain.specs.Refusing.{Lengths, Counts, stageLadder, mergeLadder, compactLadder, clearLadder}
+use Rattle.plain.specs.Refusing.{Lengths, stageLadder, mergeLadder, compactLadder, clearLadder}
 use Rattle.table.specs.declared.Header.{Header}
 use Rattle.table.specs.Numbers.{openingOf}
-
--- what the tests look at of a header
-abbrev pub countsIn : Header → Counts
-countsIn h = record { opening = openingOf h; generation = h .generation; rows = h .rows; used = h .pending }
 
 -- test 1: "header numbers outside their bounds (dead rows or sort entries above the row count, row count above capacity,
 -- keys 0 or above columns, sort column not a column, rule above 3, ..)"
@@ -37,16 +33,16 @@ pairsShort h store = ltb store (2 * h .capacity)
 -- The ladders of the calls that change a table are the plain table's, with this test 1.
 
 unfoldable pub stageRefusal : Header → ℕ → Staged → ℕ
-stageRefusal h pending r = stageLadder (pendingOutside h pending) (countsIn h) pending r
+stageRefusal h pending r = stageLadder (pendingOutside h pending) (openingOf h) (h .rows) (h .pending) pending r
 
 unfoldable pub mergeRefusal : Header → Lengths → ℕ
-mergeRefusal h l = mergeLadder (pendingOutside h (l .pending)) (countsIn h) l
+mergeRefusal h l = mergeLadder (pendingOutside h (l .pending)) (openingOf h) l
 
 unfoldable pub compactRefusal : Header → Lengths → ℕ
-compactRefusal h l = compactLadder (outside h) (countsIn h) l
+compactRefusal h l = compactLadder (outside h) (openingOf h) (h .generation) l
 
 unfoldable pub clearRefusal : Header → ℕ → ℕ
-clearRefusal h keys = clearLadder (outside h) (countsIn h) keys
+clearRefusal h keys = clearLadder (outside h) (openingOf h) (h .generation) (h .rows) keys
 
 -- *Key lookup*: 1, 2, 3
 unfoldable pub lookupTests : Header → ℕ → ℕ → ℕ → List Rung
@@ -76,15 +72,9 @@ sinceRefusal h row = first (rung (outside h) 1 ∷ rung (ltb (h .rows) row) 5 �
 -- *the rows since a noted version*: 1, 18 "another generation or a noted count above the row count"
 unfoldable pub notedRefusal : Header → ℕ → ℕ → ℕ
 notedRefusal h generation count =
-    first
-    (rung (outside h) 1
-    ∷ rung (not (eqb generation (h .generation)) || ltb (h .rows) count) 18
-    ∷ [])
+    first (rung (outside h) 1 ∷ rung (not (eqb generation (h .generation)) || ltb (h .rows) count) 18 ∷ [])
 
 -- the soundness check: 1, 2
 unfoldable pub soundRefusal : Header → ℕ → ℕ → ℕ → ℕ → ℕ
 soundRefusal h rows keys sorts pending =
-    first
-    (rung (pendingOutside h pending) 1
-    ∷ rung (rowsShort h rows || pairsShort h keys || pairsShort h sorts) 2
-    ∷ [])
+    first (rung (pendingOutside h pending) 1 ∷ rung (rowsShort h rows || pairsShort h keys || pairsShort h sorts) 2 ∷ [])

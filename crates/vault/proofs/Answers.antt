@@ -7,7 +7,7 @@ use native.Mathlib.Nat.{mul-comm, mul-zero, div-add-mod', mod-lt, div-lt-iff-lt-
 use native.Mathlib.Omega.{arith}
 use lib.ListN.{length}
 use Rattle.lists.specs.Lists.{putAt}
-use Rattle.refusals.specs.Refusals.{refuses, ruling}
+use Rattle.refusals.specs.Laws.Replies.{reply-refused, reply-accepted}
 use Rattle.vault.specs.declared.ColumnsAnswer.the-variants.{Refused, Written}
 use Rattle.vault.specs.Columns.{columnsRefusal, columnsSays, Rearranged}
 use Rattle.vault.specs.inner.Filling.{Shaped, Filled, ordered, placed}
@@ -27,14 +27,10 @@ module _ (order : ℕ → List ℕ → List ℕ) (width : ℕ) (cells output : L
   unfolding columnsSays
   rearranged-refused number e some =
       record {
-        answers = ruled number e some;
+        answers = reply-refused (columnsSays (Refused number)) _ number tt refl e some;
         written = λ none. absurd (some (e ∙ none));
         unchanged = λ h. refl;
       }
-    where
-      ruled : (m : ℕ) {n : ℕ} → m ≡ n → (m ≡ 0 → ⊥) → refuses m ≡ ruling n
-      ruled zero e none = absurd (none refl)
-      ruled (suc m) e none = rw (sym e) (unfold ruling in refl)
 
   -- accepted, and all places written
   rearranged-written : (output′ : List ℕ) → columnsRefusal width (length cells) (length output) ≡ 0 → output′ ≡ putAt output 0 (order width cells)
@@ -42,7 +38,7 @@ module _ (order : ℕ → List ℕ → List ℕ) (width : ℕ) (cells output : L
   unfolding columnsSays
   rearranged-written output′ none e =
       record {
-        answers = rw none (unfold ruling in refl);
+        answers = reply-accepted (columnsSays Written) _ tt refl none;
         written = λ h. e;
         unchanged = λ h. absurd (omega arith);
       }

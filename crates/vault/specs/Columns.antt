@@ -8,7 +8,7 @@ use mathlib.Core.List.{List, [], _∷_, map}
 use lib.ListN.{length, getD}
 use lib.Dec.{ltb, eqb}
 use Rattle.lists.specs.Lists.{putAt, rowsOf, flat, countFrom}
-use Rattle.refusals.specs.Refusals.{rung, first, Verdict, refuses, accepts, ruling}
+use Rattle.refusals.specs.Refusals.{rung, first, Reply, refused, accepted, reply}
 use Rattle.vault.specs.declared.ColumnsAnswer.{ColumnsAnswer}
 use Rattle.vault.specs.declared.ColumnsAnswer.the-variants.{Refused, Written}
 
@@ -61,13 +61,13 @@ columnsRefusal width cells output =
     first (rung (ltb width 1 || ltb 8 width) 1 ∷ rung (not (eqb (cells % width) 0)) 13 ∷ rung (ltb output cells) 2 ∷ [])
 
 -- what an answer says
-unfoldable pub columnsSays : ColumnsAnswer → Verdict
-columnsSays (Refused n) = refuses n
-columnsSays Written = accepts
+unfoldable pub columnsSays : ColumnsAnswer → Reply (Unit {0})
+columnsSays (Refused n) = refused n
+columnsSays Written = accepted tt
 
 -- What either direction promises: the cells in the other order at the start of the output, and nothing changed past them; on
 -- refusal nothing changed at all.
 pub record Rearranged (order : ℕ → List ℕ → List ℕ) (width : ℕ) (cells output : List ℕ) (answer : ColumnsAnswer) (output′ : List ℕ) : Type 0 where
-  pub answers : columnsSays answer ≡ ruling (columnsRefusal width (length cells) (length output))
+  pub answers : columnsSays answer ≡ reply (columnsRefusal width (length cells) (length output)) tt
   pub written : columnsRefusal width (length cells) (length output) ≡ 0 → output′ ≡ putAt output 0 (order width cells)
   pub unchanged : 0 < columnsRefusal width (length cells) (length output) → output′ ≡ output

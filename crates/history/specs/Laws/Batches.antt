@@ -3,7 +3,7 @@ use Prim.Native.Nat.{ℕ, zero, suc}
 use mathlib.Core.Path.{_≡_, refl, sym, ap, _∙_}
 use mathlib.Core.List.{List, map}
 use native.Mathlib.Omega.{arith}
-use Rattle.refusals.specs.Refusals.{reply, accepts, verdict, ruling}
+use Rattle.refusals.specs.Refusals.{accepted, reply, verdict}
 use Rattle.plain.specs.Staged.{insert}
 use Rattle.plain.specs.Refusing.{Lengths}
 use Rattle.plain.specs.Plain.{Plain, Numbered, merged as mergedPlain, stage as stagePlain}
@@ -22,21 +22,21 @@ use Rattle.table.specs.Laws.Live.{live-shown}
 use Rattle.history.specs.Laws.Calls.{step-represents}
 
 -- a ladder whose answer is no refusal turned nothing away
-ruled-accepts : (n : ℕ) → ruling n ≡ accepts → n ≡ 0
-unfolding ruling
-ruled-accepts zero e = refl
-ruled-accepts (suc n) e = absurd (let z : _≡_ {A = ℕ} 0 1 = cc in omega arith)
-
-replied-accepts : {A : Type 0} (n : ℕ) (a : A) → verdict (reply n a) ≡ accepts → n ≡ 0
+replied-accepts : {A : Type 0} (n : ℕ) (a : A) → verdict (reply n a) ≡ accepted tt → n ≡ 0
 unfolding reply verdict
 replied-accepts zero a e = refl
 replied-accepts (suc n) a e = absurd (let z : _≡_ {A = ℕ} 0 1 = cc in omega arith)
+
+verdict-again : (n : ℕ) → verdict (reply {A = Unit {0}} n tt) ≡ reply n tt
+unfolding reply verdict
+verdict-again zero = refl
+verdict-again (suc n) = refl
 
 -- ---- the calls of a batch, on a plain table
 
 -- an accepted staging
 stage-represents : {p : Plain} {s t : Stores} → Represents p s → {row : List ℕ} {l : Lengths} (step : Step s (record { call = staging (insert row); lengths = l }) t)
-    → verdictOf step ≡ accepts → Represents (stagePlain p (insert row)) t
+    → verdictOf step ≡ accepted tt → Represents (stagePlain p (insert row)) t
 unfolding verdictOf verdictIn done
 stage-represents {p} r {row} {l} (called {s} rest more (staged q answer pending′ m)) v =
     let n = replied-accepts _ _ (rw (m .answers) at v) in
@@ -44,10 +44,10 @@ stage-represents {p} r {row} {l} (called {s} rest more (staged q answer pending�
 
 -- an accepted merge, and its stop
 merge-represents : {p : Plain} {s t : Stores} → Represents p s → {l : Lengths} (step : Step s (record { call = merging; lengths = l }) t)
-    → verdictOf step ≡ accepts → Represents (mergedPlain p .table) t × (statusOf step ≡ mergedPlain p .status)
+    → verdictOf step ≡ accepted tt → Represents (mergedPlain p .table) t × (statusOf step ≡ mergedPlain p .status)
 unfolding verdictOf verdictIn statusOf statusIn statusTold done
 merge-represents {p} r {l} (called {s} rest more (merged w answer b′ w′ m)) v =
-    let n = ruled-accepts _ (sym (m .refusal) ∙ v) in
+    let n = replied-accepts {A = Unit {0}} _ tt (verdict-again _ ∙ sym (m .refusal) ∙ v) in
     let k = merge-accepted (s .header) l n in
     let lent = body-part rest (pending-part more r (k .pending-fits)) (k .long) in (
       rw (accepted-done p l merging (sym (merge-ladders r l) ∙ n)) at (step-represents r (called {s = s} rest more (merged w answer b′ w′ m))),

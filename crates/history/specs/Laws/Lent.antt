@@ -2,13 +2,12 @@
 -- of its 12 row cells and refused for that, and a merge that is lent all of them goes through. Assumes nothing.
 use Prim.Native.Nat.{ℕ}
 use mathlib.Core.Path.{_≡_, refl, sym, ap}
-use mathlib.Core.Bool.{false}
 use mathlib.Core.List.{List, [], _∷_}
 use mathlib.Core.Option.{Option, none, some}
 use native.Mathlib.Omega.{arith}
 use lib.ListN.{length}
 use Rattle.lists.specs.Lists.{putAt, count, rowsOf, flat}
-use Rattle.refusals.specs.Refusals.{first, verdict, ruling}
+use Rattle.refusals.specs.Refusals.{first, reply, verdict}
 use Rattle.sort_entries.specs.Entries.{words, rebuilt, pushAll}
 use Rattle.plain.specs.Staged.{Opening, openable, Staged, insert, removeKey, removeRow, wordsOf, wordsAll, keyRemovals, rowRemovals, inserts, due}
 use Rattle.plain.specs.Refusing.{Lengths, storesShort, wordsShort, openRefusal, compactLadder, mergeLadder}
@@ -82,7 +81,7 @@ example-opened = opened-done example 0 (0 ∷ eleven) eight eight [] eight refl 
 
 -- refused with 2
 example-compacted : Compacting (emptyHeader example 0) (body eleven eight eight) oneWord (TableRefused 2) (body eleven eight eight) oneWord
-unfolding tableSays verdict ruling compactRefusal compactLadder outside openable storesShort wordsShort first
+unfolding tableSays verdict reply compactRefusal compactLadder outside openable storesShort wordsShort first
 example-compacted =
     record { refusal = refl; unchanged = λ some. (refl, refl); past = refl; words-past = (refl, refl); table = λ none. absurd (omega arith) }
 
@@ -102,7 +101,7 @@ example-stays =
     }
 
 example-merged : Merging exampleStores oneWord (Merged unmoved) (body (0 ∷ eleven) eight eight) oneWord
-unfolding mergeSays verdict ruling mergeRefusal mergeLadder pendingOutside outside openable storesShort wordsShort first
+unfolding mergeSays verdict reply mergeRefusal mergeLadder pendingOutside outside openable storesShort wordsShort first
 example-merged =
     record {
       refusal = refl;

@@ -19,7 +19,7 @@ use Rattle.refusals.specs.Laws.Determined.{Same}
 use Rattle.offsets.specs.declared.SubsetHead.{SubsetHead}
 use Rattle.offsets.specs.declared.SubsetAnswer.{SubsetAnswer}
 use Rattle.offsets.specs.declared.SubsetAnswer.the-variants.{Refused, Range, List as Ids}
-use Rattle.offsets.specs.Subsets.{Subset, range, list, wellFormed, members, size, lastOf, bounds, endOf, listOrNothing, intersect, shaped, retain, narrowed}
+use Rattle.offsets.specs.Subsets.{Subset, range, list, wellFormed, members, size, bounds, endOf, listOrNothing, intersect, shaped, retain, narrowed}
 use Rattle.offsets.specs.Answers.{subsetOf, sparse, subsetSays, shape, readOff, written, Answered}
 use Rattle.offsets.specs.inner.Writing.{Wrote}
 
@@ -72,11 +72,6 @@ length-members (list ids) = refl
 
 -- ---- shapes
 
-pub lastOf-getD : (x : ℕ) (xs : List ℕ) → lastOf x xs ≡ getD (x ∷ xs) (length xs) 0
-unfolding lastOf
-lastOf-getD x [] = refl
-lastOf-getD x (y ∷ ys) = lastOf-getD y ys
-
 module _ (x : ℕ) (xs : List ℕ) where
   -- the ids are neighbours
   pub shaped-run : (x ∷ xs) ≡ countFrom x (length (x ∷ xs)) → shaped (x ∷ xs) ≡ range x (x + length (x ∷ xs))
@@ -127,7 +122,7 @@ unfolding members listOrNothing countFrom
 members-listOrNothing [] = refl
 members-listOrNothing (x ∷ xs) = refl
 
-end-list : (x : ℕ) (xs : List ℕ) → endOf (list (x ∷ xs)) ≡ lastOf x xs + 1
+end-list : (x : ℕ) (xs : List ℕ) → endOf (list (x ∷ xs)) ≡ getD (x ∷ xs) (length xs) 0 + 1
 unfolding endOf bounds
 end-list x xs = refl
 
@@ -138,7 +133,6 @@ members-below (range a b) w i h = unfold endOf bounds in let k = getD-countFrom 
 members-below (list []) w i h = absurd (omega arith)
 members-below (list (x ∷ xs)) w i h =
     let e = end-list x xs in
-    let l = lastOf-getD x xs in
     elim (decLt i (length xs)) [
       | yes k ↦ let r = rising-at (x ∷ xs) (formed-rising (x ∷ xs) w) i (length xs) k (omega arith) in omega arith
       | no k ↦ let q : i ≡ length xs = omega arith in rw q (omega arith)

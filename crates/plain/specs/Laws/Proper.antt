@@ -17,7 +17,7 @@ use Rattle.cells.specs.Cells.{isDead}
 use Rattle.plain.specs.Staged.{Opening, openable, Staged, insert, removeKey, removeRow, RowRemoval, keyRemovals, rowRemovals, inserts, skipped, due}
 use Rattle.plain.specs.Plain.{Row, Plain, withRows, opened, stage, liveWithKey, killIf, withoutKey, withoutKeys, dies, withoutRow, withoutRows, stop, insertion, applied, dead, compacted, compactIfDue, unstaged, merged, cleared, below, withRow, appended, insertAll}
 use Rattle.plain.specs.Refusing.{Lengths, wrongWidth, stageLadder, compactLadder, clearLadder}
-use Rattle.plain.specs.Calls.{Call, staging, merging, compacting, clearing, refusal, done, after, Lent, afterAll, countsOf, pendingShort}
+use Rattle.plain.specs.Calls.{Call, staging, merging, compacting, clearing, refusal, done, after, Lent, afterAll, used, pendingShort}
 use Rattle.plain.specs.Proper.{rowOf, Proper}
 use Rattle.merge_rules.specs.Laws.Rules.{made-length, made-keys, made-first}
 use Rattle.plain.specs.Laws.Lookup.{lookup-none, lookup-at}
@@ -276,8 +276,8 @@ merged-proper {p} h =
 -- ---- stage and clear
 
 -- a record is staged that is not refused
-pub staged-proper : {p : Plain} (outside : Bool) (pending : ℕ) (r : Staged) → Proper p → stageLadder outside (countsOf p) pending r ≡ 0 → Proper (stage p r)
-unfolding stage stageLadder countsOf
+pub staged-proper : {p : Plain} (outside : Bool) (pending : ℕ) (r : Staged) → Proper p → stageLadder outside (p .opening) (length (p .rows)) (used p) pending r ≡ 0 → Proper (stage p r)
+unfolding stage stageLadder
 staged-proper {p} outside pending r h e =
     let w : wrongWidth (p .opening) r ≡ false = first-no _ 2 _ (first-rest _ 0 _ e) in
     tidy-proper (stage p r) (h .numbers) (h .generation-fits) (proper-tidy h)
@@ -302,9 +302,9 @@ unfolding done refusal
 done-proper {p} l (staging r) h e = staged-proper (pendingShort p (l .pending)) (l .pending) r h e
 done-proper l merging h e = merged-proper h
 done-proper {p} l compacting h e =
-    compacted-proper h (below-last (p .generation) (h .generation-fits) (unfold compactLadder countsOf in first-no _ 9 _ (first-rest _ 1 _ (first-rest _ 0 _ e))))
+    compacted-proper h (below-last (p .generation) (h .generation-fits) (unfold compactLadder in first-no _ 9 _ (first-rest _ 1 _ (first-rest _ 0 _ e))))
 done-proper {p} l clearing h e =
-    let n : (eqb (p .generation) 4294967295 && ltb 0 (length (p .rows))) ≡ false = unfold clearLadder countsOf in first-no _ 9 _ (first-rest _ 1 _ (first-rest _ 0 _ e)) in
+    let n : (eqb (p .generation) 4294967295 && ltb 0 (length (p .rows))) ≡ false = unfold clearLadder in first-no _ 9 _ (first-rest _ 1 _ (first-rest _ 0 _ e)) in
     cleared-proper h
     (λ k.
     elim (split (eqb (p .generation) 4294967295)) [

@@ -13,7 +13,7 @@ use Rattle.merge_rules.specs.Rules.{ruledColumn, signed, signedLess, smaller, l
 use Rattle.plain.specs.Staged.{Opening, openable, insert, removeKey, removeRow, wordsOf, wordsAll, keyRemovals, rowRemovals, inserts, hasKey, skipped, due}
 use Rattle.plain.specs.Refusing.{storesShort, wordsShort, wrongWidth, noSuchRow, overfull, stageLadder, mergeLadder, clearLadder}
 use Rattle.plain.specs.Plain.{Numbered, liveFrom, liveRows, lookup, dead, opened, stage, liveWithKey, killIf, withoutKey, withoutKeys, dies, withoutRow, withoutRows, below, stop, raised, append, put, insertion, Inserted, insertAll, applied, compacted, compactIfDue, unstaged, merged, cleared}
-use Rattle.plain.specs.Calls.{Call, staging, merging, clearing, Lent, countsOf, pendingShort, refusal, done, after, afterAll}
+use Rattle.plain.specs.Calls.{Call, staging, merging, clearing, Lent, pendingShort, refusal, done, after, afterAll}
 
 pub record Turn : Type 0 where
   pub opening : Opening
@@ -226,5 +226,5 @@ comesOut t =
     && sameRows (liveRows (outcome t .table)) (t .live-after)
 
 pub all-come-out : every comesOut turns ≡ true
-unfolding every same count keep countFrom firstOf first isDead ruledColumn signed signedLess smaller larger taken madeCell madeFrom changesFrom ruled openable wordsOf wordsAll keyRemovals rowRemovals inserts hasKey skipped due storesShort wordsShort wrongWidth noSuchRow overfull stageLadder mergeLadder clearLadder liveFrom liveRows lookup dead opened stage liveWithKey killIf withoutKey withoutKeys dies withoutRow withoutRows below stop raised append put insertion insertAll applied compacted compactIfDue unstaged merged cleared countsOf pendingShort refusal done after afterAll turns sameRows comesOut
+unfolding every same count keep countFrom firstOf first isDead ruledColumn signed signedLess smaller larger taken madeCell madeFrom changesFrom ruled openable wordsOf wordsAll keyRemovals rowRemovals inserts hasKey skipped due storesShort wordsShort wrongWidth noSuchRow overfull stageLadder mergeLadder clearLadder liveFrom liveRows lookup dead opened stage liveWithKey killIf withoutKey withoutKeys dies withoutRow withoutRows below stop raised append put insertion insertAll applied compacted compactIfDue unstaged merged cleared pendingShort refusal done after afterAll turns sameRows comesOut
 all-come-out = refl

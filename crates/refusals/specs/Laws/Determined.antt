@@ -5,7 +5,7 @@ use Prim.Native.Nat.{ℕ, _<_}
 use mathlib.Core.Path.{_≡_, sym, _∙_}
 use mathlib.Core.Logic.{⊎-elim}
 use mathlib.Core.List.{List}
-use Rattle.refusals.specs.Refusals.{Reply, verdict, ruling}
+use Rattle.refusals.specs.Refusals.{Reply, reply, verdict}
 use Rattle.refusals.specs.Laws.Replies.{some-number, ruled-refused}
 
 -- two outcomes of a call that is lent one list to write to
@@ -22,7 +22,7 @@ pub record SameAnswer {A B : Type 0} (says : A → Reply B) (number : ℕ) (Know
 
 -- of answers that are known by what they say
 module _ {A B : Type 0} {says : A → Reply B} (said : (x y : A) → says x ≡ says y → x ≡ y) {number : ℕ} {a b : A}
-    (x : verdict (says a) ≡ ruling number) (y : verdict (says b) ≡ ruling number) where
+    (x : verdict (says a) ≡ reply number tt) (y : verdict (says b) ≡ reply number tt) where
   pub refused-same : 0 < number → a ≡ b
   refused-same some = said a b (ruled-refused (says a) number x some ∙ sym (ruled-refused (says b) number y some))
 

@@ -3,30 +3,25 @@ use Prim.Native.Nat.{ℕ, zero, suc, _<_}
 use mathlib.Core.Path.{_≡_, refl, ap, _∙_}
 use mathlib.Core.Logic.{_⊎_, inl, inr}
 use native.Mathlib.Omega.{arith}
-use Rattle.refusals.specs.Refusals.{Reply, refused, accepted, reply, refuses, verdict, ruling}
+use Rattle.refusals.specs.Refusals.{Reply, refused, accepted, reply, verdict}
 
 -- a ladder's number is 0 or not
 pub some-number : (n : ℕ) → (n ≡ 0) ⊎ (0 < n)
 some-number zero = inl refl
 some-number (suc n) = inr (omega arith)
 
-refuses-ruling : (n : ℕ) → (n ≡ 0 → ⊥) → refuses n ≡ ruling n
-unfolding ruling
-refuses-ruling zero some = absurd (some refl)
-refuses-ruling (suc n) some = refl
+refused-reply : {A : Type 0} (n : ℕ) (value : A) → (n ≡ 0 → ⊥) → refused n ≡ reply n value
+unfolding reply
+refused-reply zero value some = absurd (some refl)
+refused-reply (suc n) value some = refl
 
 module _ {A : Type 0} where
   -- the answer of a ladder that turns away is its number
-  pub ruled-refused : (r : Reply A) (n : ℕ) → verdict r ≡ ruling n → 0 < n → r ≡ refused n
-  unfolding verdict ruling
+  pub ruled-refused : (r : Reply A) (n : ℕ) → verdict r ≡ reply n tt → 0 < n → r ≡ refused n
+  unfolding verdict reply
   ruled-refused r zero e h = absurd (omega arith)
   ruled-refused (refused m) (suc n) e h = cc
   ruled-refused (accepted a) (suc n) e h = absurd (let z : _≡_ {A = ℕ} 0 1 = cc in omega arith)
-
-  refused-reply : (n : ℕ) (value : A) → (n ≡ 0 → ⊥) → refused n ≡ reply n value
-  unfolding reply
-  refused-reply zero value some = absurd (some refl)
-  refused-reply (suc n) value some = refl
 
   module _ (says : Reply A) (n : ℕ) where
     -- refused with the ladder's number
@@ -39,11 +34,11 @@ module _ {A : Type 0} where
     reply-accepted value e none = rw (e, none)
 
     -- refused with the ladder's number, whatever would be answered
-    pub verdict-refused : (m : ℕ) → says ≡ refused m → m ≡ n → (m ≡ 0 → ⊥) → verdict says ≡ ruling n
+    pub verdict-refused : (m : ℕ) → says ≡ refused m → m ≡ n → (m ≡ 0 → ⊥) → verdict says ≡ reply n tt
     unfolding verdict
-    verdict-refused m e number some = rw e (refuses-ruling m some ∙ ap ruling number)
+    verdict-refused m e number some = rw (e, ← number) (refused-reply m tt some)
 
     -- accepted, with whatever value
-    pub verdict-accepted : (value : A) → says ≡ accepted value → n ≡ 0 → verdict says ≡ ruling n
-    unfolding verdict ruling
+    pub verdict-accepted : (value : A) → says ≡ accepted value → n ≡ 0 → verdict says ≡ reply n tt
+    unfolding verdict reply
     verdict-accepted value e none = rw (e, none)

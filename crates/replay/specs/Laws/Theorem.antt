@@ -5,7 +5,7 @@ use mathlib.Core.Path.{_≡_, refl, ap}
 use mathlib.Core.List.{List, []}
 use native.Mathlib.Omega.{arith}
 use lib.ListN.{length}
-use Rattle.refusals.specs.Refusals.{refused, accepted, reply, refuses, verdict, ruling}
+use Rattle.refusals.specs.Refusals.{Reply, refused, accepted, reply, verdict}
 use Rattle.plain.specs.Staged.{Opening}
 use Rattle.plain.specs.Refusing.{openRefusal}
 use Rattle.plain.specs.Plain.{opened}
@@ -24,8 +24,8 @@ use Rattle.replay.specs.Replays.{lentAll, Replayed}
 use Rattle.replay.specs.inner.Replaying.{Made}
 
 -- a refused reply was turned away, by its number
-refused-number : {A : Type 0} (n m : ℕ) (a : A) → refused m ≡ reply n a → (0 < n) × (refuses m ≡ ruling n)
-unfolding reply ruling
+refused-number : {A : Type 0} (n m : ℕ) (a : A) → refused m ≡ reply n a → (0 < n) × (_≡_ {A = Reply (Unit {0})} (refused m) (reply n tt))
+unfolding reply
 refused-number zero m a e = absurd (let z : _≡_ {A = ℕ} 0 1 = cc in omega arith)
 refused-number (suc n) m a e = (omega arith, let same : m ≡ suc n = cc in rw same)
 
@@ -48,9 +48,9 @@ module _ {o : Opening} {generation : ℕ} {b : Body} {pending keys′ : List ℕ
   pub replay-made : (h h′ : Header) (b′ : Body) (pending′ : List ℕ) (w′ : CompactionWords) → answer ≡ Table h → length keys′ ≡ length (b .keys)
       → Made calls (lengths (b .rows) keys′ (b .sorts) pending (w .live) (w .base)) (stores h (b .rows) keys′ (b .sorts) pending) (joined h′ b′ pending′)
       → Replayed o generation calls b pending w (Table h′) b′ pending′ w′
-  unfolding tableSays verdict ruling
+  unfolding tableSays verdict reply
   replay-made h h′ b′ pending′ w′ e same made =
-      let none = accepted-number _ h (headerOf (opened o generation)) (rw (ap tableSays e) at (m .answers)) in
+      let none = accepted-number (openRefusal o (lengths (b .rows) (b .keys) (b .sorts) pending [] [])) h (headerOf (opened o generation)) (rw (ap tableSays e) at (m .answers)) in
       let whole : History o generation (lentAll (lengths (b .rows) (b .keys) (b .sorts) pending (w .live) (w .base)) calls) (joined h′ b′ pending′) =
       history-whole (b .keys) (rw e at m) (rw same at (made .steps)) in
       record {

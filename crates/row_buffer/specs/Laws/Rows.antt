@@ -143,9 +143,12 @@ module _ {A : Type 0} (live : A → Bool) where
       let h = number-digit rows i in
       elim (split (live row)) [ inl e ↦ rw (e, h, suc-add) | inr e ↦ rw (e, h) ]
 
-  -- numbers rise by one over a live row
+  -- numbers rise by one over a live row, and stay over a dead one
   pub number-live : (rows : List A) (i : ℕ) → liveAt live rows i ≡ true → newNumber live rows (i + 1) ≡ newNumber live rows i + 1
   number-live rows i e = rw (add-one i) (number-digit rows i ∙ rw e)
+
+  pub number-dead : (rows : List A) (i : ℕ) → liveAt live rows i ≡ false → newNumber live rows (i + 1) ≡ newNumber live rows i
+  number-dead rows i e = rw add-one (number-digit rows i ∙ rw e (add-zero (newNumber live rows i)))
 
   pub number-zero : (rows : List A) → newNumber live rows 0 ≡ 0
   unfolding newNumber count

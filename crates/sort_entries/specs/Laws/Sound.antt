@@ -1,17 +1,17 @@
 -- Sound entries taken apart into facts, and put together again. Assumes nothing.
 use Prim.Native.Nat.{ℕ, _+_, _*_, _≤_, _<_}
-use mathlib.Core.Path.{_≡_, ap, refl, sym, _∙_}
+use mathlib.Core.Path.{_≡_, ap}
 use mathlib.Core.Bool.{true, _&&_}
 use mathlib.Core.List.{List, [], _∷_, map}
 use native.Mathlib.Omega.{arith}
 use lib.ListN.{length, getD, drop, length-map, List·getD-map, drop-of-length-le}
 use lib.Seq.{drop-cons}
-use lib.Dec.{ltb, eqb}
+use lib.Dec.{ltb}
 use borrow.Author.Tests.{ltb-true, eqb-true, lt-ltb, eq-eqb}
 use Rattle.lists.specs.Lists.{every, rising, above}
 use Rattle.lists.specs.Laws.Keep.{and-left, and-right, every-getD, every-of}
 use Rattle.lists.specs.Laws.Rising.{rising-tail, rising-at, rising-of}
-use Rattle.sort_entries.specs.Entries.{Entry, entry, entriesOf, firstRow, entriesSound, begins}
+use Rattle.sort_entries.specs.Entries.{Entry, entry, entriesOf, firstRow, entriesSound}
 use Rattle.sort_entries.specs.Laws.Stores.{pairAt, getD-entriesOf}
 
 -- the value and the row at place i
@@ -39,11 +39,6 @@ pub record Sound (es : List Entry) (rows : ℕ) : Type 0 where
   pub below : (i : ℕ) → i < length es → rowOf es i < rows
   pub first : firstRow es rows ≡ 0
 
-begins-first : (es : List Entry) (rows : ℕ) → begins es rows ≡ eqb (firstRow es rows) 0
-unfolding begins firstRow
-begins-first [] rows = refl
-begins-first (e ∷ es) rows = refl
-
 module _ (es : List Entry) (rows : ℕ) where
   pub sound-climb : entriesSound es rows ≡ true → Climb es rows
   unfolding entriesSound
@@ -59,11 +54,11 @@ module _ (es : List Entry) (rows : ℕ) where
   pub sound-first : entriesSound es rows ≡ true → firstRow es rows ≡ 0
   unfolding entriesSound
   sound-first s =
-      eqb-true _ _ (sym (begins-first es rows) ∙ and-right (rising (values es) && rising (rowsIn es) && every (λ e. ltb (e .row) rows) es) _ s)
+      eqb-true _ _ (and-right (rising (values es) && rising (rowsIn es) && every (λ e. ltb (e .row) rows) es) _ s)
 
   pub sound-join : Climb es rows → firstRow es rows ≡ 0 → entriesSound es rows ≡ true
   unfolding entriesSound
-  sound-join c z = rw (c .rise, c .later, c .below, begins-first es rows, eq-eqb _ _ z)
+  sound-join c z = rw (c .rise, c .later, c .below, eq-eqb _ _ z)
 
   climb-rise : Climb es rows → (i j : ℕ) → i < j → j < length es → valueOf es i < valueOf es j
   climb-rise c i j h k =

@@ -10,7 +10,7 @@ use lib.ListN.{length, length-replicate}
 use borrow.Author.Tests.{lt-ltb, le-ltb, not-false}
 use Rattle.lists.specs.Lists.{every, count, rowsOf, flat}
 use Rattle.lists.specs.Laws.Parts.{length-putAt}
-use Rattle.refusals.specs.Refusals.{reply, verdict, ruling, accepted}
+use Rattle.refusals.specs.Refusals.{accepted, reply, verdict}
 use Rattle.refusals.specs.Laws.Replies.{some-number}
 use Rattle.sort_entries.specs.Entries.{entriesOf, rebuilt, pushAll}
 use Rattle.key_index.specs.inner.Index.{zeros, EmptyIs}
@@ -150,7 +150,7 @@ next-fits generation rows fits last some = elim (ℕ-discrete generation 4294967
 module _ (h : Header) (keys : List ℕ) where
   -- one that is turned away
   pub clear-refused : (n : ℕ) → n ≡ clearRefusal h (length keys) → (n ≡ 0 → ⊥) → Clearing h keys (Refused n) keys
-  unfolding tableSays verdict ruling
+  unfolding tableSays verdict reply
   clear-refused zero e ne = absurd (ne refl)
   clear-refused (suc n) e ne =
       record {
@@ -162,7 +162,7 @@ module _ (h : Header) (keys : List ℕ) where
 
   -- one of a table without rows
   pub clear-pending : clearRefusal h (length keys) ≡ 0 → h .rows ≡ 0 → Clearing h keys (Table (withPending h 0)) keys
-  unfolding tableSays verdict ruling
+  unfolding tableSays verdict reply
   clear-pending e none =
       record {
         refusal = rw e;
@@ -177,7 +177,7 @@ module _ (h : Header) (keys : List ℕ) where
   -- one of a table with rows
   pub clear-all : (keys′ : List ℕ) → clearRefusal h (length keys) ≡ 0 → 0 < h .rows → EmptyIs (h .capacity) keys keys′
       → Clearing h keys (Table (emptyHeader (openingOf h) (h .generation + 1))) keys′
-  unfolding tableSays verdict ruling
+  unfolding tableSays verdict reply
   clear-all keys′ e some free =
       let a = clear-accepted h (length keys) e in
       record {

@@ -2,11 +2,11 @@
 use Prim.Native.Nat.{ℕ, zero, suc, _<_}
 use mathlib.Core.Path.{_≡_, refl}
 use native.Mathlib.Omega.{arith}
-use Rattle.refusals.specs.Refusals.{Reply, refused, accepted, reply, verdict, ruling}
+use Rattle.refusals.specs.Refusals.{Reply, refused, accepted, reply, verdict}
 
 -- a ladder whose answer is a value turned nothing away
-pub ruled-accepted : {A : Type 0} (r : Reply A) (a : A) (n : ℕ) → verdict r ≡ ruling n → r ≡ accepted a → n ≡ 0
-unfolding verdict ruling
+pub ruled-accepted : {A : Type 0} (r : Reply A) (a : A) (n : ℕ) → verdict r ≡ reply n tt → r ≡ accepted a → n ≡ 0
+unfolding verdict reply
 ruled-accepted (refused m) a n e q = absurd (let z : _≡_ {A = ℕ} 0 1 = cc in omega arith)
 ruled-accepted (accepted b) a zero e q = refl
 ruled-accepted (accepted b) a (suc n) e q = absurd (let z : _≡_ {A = ℕ} 0 1 = cc in omega arith)

@@ -6,7 +6,7 @@ use mathlib.Core.List.{List}
 use native.Mathlib.Omega.{arith}
 use lib.ListN.{length, take}
 use Rattle.lists.specs.Laws.Parts.{part-putAt}
-use Rattle.refusals.specs.Refusals.{ruling}
+use Rattle.refusals.specs.Refusals.{reply}
 use Rattle.vault.specs.declared.ColumnsAnswer.the-variants.{Written}
 use Rattle.vault.specs.Columns.{toColumns, fromColumns, columnsRefusal, columnsSays, Rearranged}
 use Rattle.vault.specs.Laws.Differences.{Cells}
@@ -14,8 +14,8 @@ use Rattle.vault.specs.Laws.Inverse.{toColumns-length, fromColumns-lengt
 use Rattle.vault.specs.Laws.Refusals.{Accepted, accepted}
 
 -- an answer that nothing was refused
-none-refused : (n : ℕ) → columnsSays Written ≡ ruling n → n ≡ 0
-unfolding columnsSays ruling
+none-refused : (n : ℕ) → columnsSays Written ≡ reply n tt → n ≡ 0
+unfolding columnsSays reply
 none-refused zero e = refl
 none-refused (suc n) e = absurd (let z : _≡_ {A = ℕ} 0 1 = cc in omega arith)
 
