@@ -3,15 +3,14 @@
 // how many agreed. Questions with a list of conditions are left out.
 use libc::STDIN_FILENO;
 use libc::STDOUT_FILENO;
-use recorded_calls::UNASKED;
-use recorded_calls::ask;
-use recorded_calls::compact;
-use recorded_calls::empty;
-use recorded_calls::merge_pending;
-use recorded_calls::stage;
+use recorded_calls::call;
+use recorded_calls::is_call;
 use recorded_lines::Said;
+use recorded_lines::further;
 use recorded_lines::part;
 use recorded_lines::read_line;
+use recorded_questions::UNASKED;
+use recorded_questions::ask;
 use table::Header;
 use table::Largest;
 
@@ -41,17 +40,12 @@ fn serve(
     keys: &mut [u32],
     sorts: &mut [u32],
     pending: &mut [u32],
-    live: &mut [u64],
-    base: &mut [u32],
     out: &mut [u32],
 ) -> Said {
-    match letter {
-        b'I' | b'R' | b'K' => stage(h, letter, numbers, pending, out),
-        b'M' => merge_pending(h, rows, keys, sorts, pending, live, base, out),
-        b'O' | b'C' => empty(h, letter, numbers, rows, keys, sorts, pending, out),
-        b'G' => compact(h, rows, keys, sorts, live, base, out),
-        _ => ask(h, letter, numbers, rows, keys, sorts, out),
+    if is_call(letter) {
+        return call(h, letter, numbers, rows, keys, sorts, pending);
     }
+    ask(h, letter, numbers, rows, keys, sorts, out)
 }
 
 // The answers of the list, those asked for here, and those that agreed.
@@ -86,19 +80,26 @@ fn counted(counts: Counts, is_asked: bool, agrees: bool) -> Counts {
     after
 }
 
-// The answer against the list's line at a place, whose numbers are read over those of the question.
-fn judge(
-    counts: Counts,
-    said: Said,
-    out: &[u32],
-    text: &[u8],
-    place: usize,
-    numbers: &mut [u32],
-) -> Judged {
-    let line = read_line(text, place, numbers);
+// The numbers of an answer are those of a line.
+fn is_same(said: Said, out: &[u32], numbers: &[u32]) -> bool {
+    let first = [said.first, said.second, said.third];
+    if numbers.len() != further(said.count, said.more) {
+        return false;
+    }
+    if !row_buffer::same_cells(part(&first, 0, said.count), part(numbers, 0, said.count)) {
+        return false;
+    }
+    let more = part(out, 0, further(0, said.more));
+    row_buffer::same_cells(more, part(numbers, said.count, numbers.len()))
+}
+
+// The answer against the list's line at a place.
+fn judge(counts: Counts, said: Said, out: &[u32], text: &[u8], place: usize) -> Judged {
+    let mut numbers = [0u32; 64];
+    let line = read_line(text, place, &mut numbers);
     let mut agrees = false;
     if said.letter == line.letter {
-        agrees = row_buffer::same_cells(part(out, 0, said.count), part(numbers, 0, line.count));
+        agrees = is_same(said, out, part(&numbers, 0, line.count));
     }
     Judged {
         counts: counted(counts, said.letter != UNASKED, agrees),
@@ -118,19 +119,17 @@ struct State {
 fn turn(
     state: State,
     text: &[u8; 65536],
-    numbers: &mut [u32; 64],
     rows: &mut [u32; 512],
     keys: &mut [u32; 128],
     sorts: &mut [u32; 128],
     pending: &mut [u32; 256],
-    live: &mut [u64; 1],
-    base: &mut [u32; 1],
-    out: &mut [u32; 80],
 ) -> State {
+    let mut numbers = [0u32; 64];
+    let mut out = [0u32; 80];
     let header = state.header;
     let counts = state.counts;
     let place = state.place;
-    let line = read_line(text, place, numbers);
+    let line = read_line(text, place, &mut numbers);
     let letter = line.letter;
     let answer = line.next;
     if letter == 0 {
@@ -141,21 +140,10 @@ fn turn(
             is_over: true,
         };
     }
-    let given = part(numbers, 0, line.count);
-    let said = serve(
-        header,
-        letter,
-        given,
-        rows,
-        keys,
-        sorts,
-        pending,
-        live,
-        base,
-        out,
-    );
+    let given = part(&numbers, 0, line.count);
+    let said = serve(header, letter, given, rows, keys, sorts, pending, &mut out);
     let left = said.header;
-    let judged = judge(counts, said, out, text, answer, numbers);
+    let judged = judge(counts, said, &out, text, answer);
     let now = judged.counts;
     State {
         header: left,
@@ -179,14 +167,10 @@ fn write_counts(counts: Counts) {
 fn main() {
     let mut text = [0u8; 65536];
     io::read_full(STDIN_FILENO, &mut text);
-    let mut numbers = [0u32; 64];
     let mut rows = [0u32; 512];
     let mut keys = [0u32; 128];
     let mut sorts = [0u32; 128];
     let mut pending = [0u32; 256];
-    let mut live = [0u64; 1];
-    let mut base = [0u32; 1];
-    let mut out = [0u32; 80];
     let mut state = State {
         header: no_table(),
         place: 0,
@@ -199,18 +183,7 @@ fn main() {
     };
     let mut turns = 65536u32;
     while turns > 0 {
-        state = turn(
-            state,
-            &text,
-            &mut numbers,
-            &mut rows,
-            &mut keys,
-            &mut sorts,
-            &mut pending,
-            &mut live,
-            &mut base,
-            &mut out,
-        );
+        state = turn(state, &text, &mut rows, &mut keys, &mut sorts, &mut pending);
         if state.is_over {
             break;
         }

@@ -2,11 +2,16 @@
 // letter and numbers. Nothing is asked of a caller: a number that a line lacks counts as 0.
 use table::Header;
 
-// An answer: the header that is left, the letter, and how many numbers stand at the start of the lent ones.
+// An answer: the header that is left, the letter, its first numbers, as many as `count` says, and how many more stand at the start
+// of the lent ones.
 pub struct Said {
     pub header: Header,
     pub letter: u8,
     pub count: usize,
+    pub first: u32,
+    pub second: u32,
+    pub third: u32,
+    pub more: u32,
 }
 
 // A line: its letter, how many numbers stand at the start of the lent ones, and the place behind the line's end.
@@ -43,23 +48,38 @@ pub fn part<'a>(numbers: &'a [u32], from: usize, to: usize) -> &'a [u32] {
     &numbers[0..0]
 }
 
-pub fn put(out: &mut [u32], place: usize, number: u32) {
-    if place < out.len() {
-        out[place] = number;
-    }
-}
-
-pub fn tell(header: Header, letter: u8, count: usize) -> Said {
+pub fn tell_three(header: Header, letter: u8, first: u32, second: u32, third: u32) -> Said {
     Said {
         header,
         letter,
-        count,
+        count: 3,
+        first,
+        second,
+        third,
+        more: 0,
     }
 }
 
-pub fn refused(header: Header, number: u32, out: &mut [u32]) -> Said {
-    put(out, 0, number);
-    tell(header, b'X', 1)
+pub fn tell_two(header: Header, letter: u8, first: u32, second: u32) -> Said {
+    let mut said = tell_three(header, letter, first, second, 0);
+    said.count = 2;
+    said
+}
+
+pub fn tell_one(header: Header, letter: u8, number: u32) -> Said {
+    let mut said = tell_three(header, letter, number, 0, 0);
+    said.count = 1;
+    said
+}
+
+pub fn tell(header: Header, letter: u8) -> Said {
+    let mut said = tell_three(header, letter, 0, 0, 0);
+    said.count = 0;
+    said
+}
+
+pub fn refused(header: Header, number: u32) -> Said {
+    tell_one(header, b'X', number)
 }
 
 // A decimal with one digit more; other bytes, and digits that do not fit, are passed over.

@@ -4,11 +4,11 @@ use Rattle.recorded.proofs.main.Statement.{statement}
 use Rattle.recorded.proofs.main.Tie as tie
 
 abbrev Inv-loop : tie.InvT-loop
-Inv-loop text numbers₀ rows₀ keys₀ sorts₀ pending₀ live₀ base₀ out₀ state₀ turns₀ numbers rows keys sorts pending live base out state turns =
+Inv-loop text rows₀ keys₀ sorts₀ pending₀ state₀ turns₀ rows keys sorts pending state turns =
     Unit {0}
 
 abbrev μ-loop : tie.MeasureT-loop
-μ-loop text numbers₀ rows₀ keys₀ sorts₀ pending₀ live₀ base₀ out₀ state₀ turns₀ numbers rows keys sorts pending live base out state turns =
+μ-loop text rows₀ keys₀ sorts₀ pending₀ state₀ turns₀ rows keys sorts pending state turns =
     turns
 
 slice-aggregate-read-full : tie.Need-slice-aggregate-read-full Inv-loop μ-loop

@@ -1,0 +1,177 @@
+// The questions of the recorded list, each put to the library, and its answer in the list's form.
+use constraints::Constraint;
+use offsets::SubsetAnswer;
+use offsets::SubsetHead;
+use recorded_lines::Said;
+use recorded_lines::further;
+use recorded_lines::number_at;
+use recorded_lines::part;
+use recorded_lines::refused;
+use recorded_lines::tell;
+use recorded_lines::tell_one;
+use recorded_lines::tell_three;
+use recorded_lines::tell_two;
+use table::CellAnswer;
+use table::Header;
+use table::RangeAnswer;
+use table::RowAnswer;
+use table::VersionAnswer;
+
+// The letter of a question that is not put here: those with a list of conditions.
+pub const UNASKED: u8 = b'?';
+
+// The place of a row's first cell: as far on as its number, once for each column.
+fn row_place(row: u32, columns: u32) -> usize {
+    let mut place = 0;
+    let mut left = columns;
+    while left > 0 {
+        place = further(place, row);
+        left -= 1;
+    }
+    place
+}
+
+// A row's number, and its cells.
+fn row_told(h: Header, row: u32, rows: &[u32], out: &mut [u32]) -> Said {
+    let from = row_place(row, h.columns);
+    let cells = part(rows, from, further(from, h.columns));
+    let mut said = tell_one(h, b'R', row);
+    if cells.len() <= out.len() {
+        row_buffer::write_row(out, 0, cells);
+        said.more = h.columns;
+    }
+    said
+}
+
+// L
+fn look_up(h: Header, key: &[u32], rows: &[u32], keys: &[u32], out: &mut [u32]) -> Said {
+    match reading::get_row(h, rows, keys, key) {
+        RowAnswer::Refused(number) => refused(h, number),
+        RowAnswer::None => tell(h, b'N'),
+        RowAnswer::Row(row) => row_told(h, row, rows, out),
+    }
+}
+
+// E
+fn one_cell(h: Header, numbers: &[u32], rows: &[u32], keys: &[u32]) -> Said {
+    let key = part(numbers, 1, numbers.len());
+    match reading::get_row_column(h, rows, keys, key, number_at(numbers, 0)) {
+        CellAnswer::Refused(number) => refused(h, number),
+        CellAnswer::None => tell(h, b'N'),
+        CellAnswer::Cell(cell) => tell_one(h, b'C', cell),
+    }
+}
+
+fn range_told(h: Header, answer: RangeAnswer) -> Said {
+    match answer {
+        RangeAnswer::Refused(number) => refused(h, number),
+        RangeAnswer::None => tell(h, b'N'),
+        RangeAnswer::Range(start, end) => tell_three(h, b'S', 0, start, end),
+    }
+}
+
+// V
+fn version(h: Header) -> Said {
+    match reading::version(h) {
+        VersionAnswer::Refused(number) => refused(h, number),
+        VersionAnswer::Version(v) => tell_two(h, b'V', v.generation, v.rows),
+    }
+}
+
+// A condition that begins at a place.
+fn constraint(numbers: &[u32], place: usize) -> Constraint {
+    Constraint {
+        kind: number_at(numbers, place),
+        column: number_at(numbers, further(place, 1)),
+        value: number_at(numbers, further(place, 2)),
+    }
+}
+
+// A subset in a line: its head, the places of its ids, and the place behind it.
+struct Passed {
+    head: SubsetHead,
+    from: usize,
+    to: usize,
+}
+
+fn subset(numbers: &[u32], place: usize) -> Passed {
+    let first = number_at(numbers, further(place, 1));
+    if number_at(numbers, place) == 0 {
+        let head = SubsetHead {
+            dense: true,
+            start: first,
+            end: number_at(numbers, further(place, 2)),
+        };
+        let to = further(place, 3);
+        return Passed { head, from: to, to };
+    }
+    let head = SubsetHead {
+        dense: false,
+        start: 0,
+        end: 0,
+    };
+    let from = further(place, 2);
+    Passed {
+        head,
+        from,
+        to: further(from, first),
+    }
+}
+
+// The ids of a list stand in the lent numbers.
+fn subset_told(h: Header, answer: SubsetAnswer) -> Said {
+    match answer {
+        SubsetAnswer::Refused(number) => refused(h, number),
+        SubsetAnswer::Range(start, end) => tell_three(h, b'S', 0, start, end),
+        SubsetAnswer::List(count) => {
+            let mut said = tell_two(h, b'S', 1, count);
+            said.more = count;
+            said
+        }
+    }
+}
+
+// N
+fn refine(h: Header, numbers: &[u32], rows: &[u32], out: &mut [u32]) -> Said {
+    let passed = subset(numbers, 0);
+    let ids = part(numbers, passed.from, passed.to);
+    let c = constraint(numbers, passed.to);
+    let answer = questions::refine_one(h, rows, passed.head, ids, c, out);
+    subset_told(h, answer)
+}
+
+// T
+fn intersect(h: Header, numbers: &[u32], out: &mut [u32]) -> Said {
+    let first = subset(numbers, 0);
+    let second = subset(numbers, first.to);
+    let ids = part(numbers, first.from, first.to);
+    let others = part(numbers, second.from, second.to);
+    let answer = intersection::intersect(first.head, ids, second.head, others, out);
+    subset_told(h, answer)
+}
+
+// A question, by its letter.
+pub fn ask(
+    h: Header,
+    letter: u8,
+    numbers: &[u32],
+    rows: &[u32],
+    keys: &[u32],
+    sorts: &[u32],
+    out: &mut [u32],
+) -> Said {
+    match letter {
+        b'L' => look_up(h, numbers, rows, keys, out),
+        b'E' => one_cell(h, numbers, rows, keys),
+        b'F' => range_told(h, reading::fast_subset(h, sorts, constraint(numbers, 0))),
+        b'S' => range_told(h, reading::updates_since(h, number_at(numbers, 0))),
+        b'V' => version(h),
+        b'W' => range_told(
+            h,
+            reading::rows_since(h, number_at(numbers, 0), number_at(numbers, 1)),
+        ),
+        b'N' => refine(h, numbers, rows, out),
+        b'T' => intersect(h, numbers, out),
+        _ => tell(h, UNASKED),
+    }
+}
