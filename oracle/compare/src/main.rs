@@ -22,7 +22,7 @@ mod text;
 use compare::Rival;
 use proved_table::ProvedTable;
 use rust_table::RustTable;
-use std::process::ExitCode;
+use std::process::{Child, Command, ExitCode, Stdio};
 
 const USAGE: &str = "\
 usage: oracle                   the gate's run: all short histories, many by chance from a fixed seed, the proved library
@@ -30,6 +30,7 @@ usage: oracle                   the gate's run: all short histories, many by cha
        oracle proved COUNT SEED the same for the proved table beside the plain one
        oracle full              histories of the largest tables, for the Rust and the proved table
        oracle batches N SEED    so many batches of inserts, each cut at every place
+       oracle hostile           the gate's calls on stores that nobody made, a part of its run
        oracle hostile N SEED    at least N calls of all C functions on stores that nobody made
        oracle record [SEED]     prints the recorded list
        oracle replay FILE       checks a recorded list against both judges and the proved table
@@ -82,6 +83,7 @@ fn command(arguments: &[&str]) -> Result<(), String> {
             run::full(&PROVED)
         }
         ["batches", count, seed] => print(vec![batches::gate(number(count)?, number(seed)?)?]),
+        ["hostile"] => print(hostile::gate(HOSTILE_CALLS, HOSTILE_SEED)?),
         ["hostile", calls, seed] => print(hostile::run(number(calls)?, number(seed)?)?),
         ["record"] => record(record::SEED),
         ["record", seed] => record(number(seed)?),
@@ -96,6 +98,7 @@ fn command(arguments: &[&str]) -> Result<(), String> {
 }
 
 fn gate() -> Result<(), String> {
+    let hostile = begin_hostile()?;
     run::gate(&RUST)?;
     println!("the proved library and the plain table:");
     println!("  {}", run::gate_proved(&PROVED)?);
@@ -104,7 +107,30 @@ fn gate() -> Result<(), String> {
     println!("the proved library and the Rust:");
     print(proved::compare()?)?;
     println!("the proved library on hostile stores:");
-    print(hostile::gate(HOSTILE_CALLS, HOSTILE_SEED)?)
+    end_hostile(hostile)
+}
+
+/// Hostile stores are a process of their own beside the rest: a fault there is theirs alone, and neither waits for the other.
+fn begin_hostile() -> Result<Child, String> {
+    std::env::current_exe()
+        .and_then(|own| {
+            Command::new(own)
+                .arg("hostile")
+                .stdout(Stdio::piped())
+                .spawn()
+        })
+        .map_err(|why| format!("hostile stores: {why}"))
+}
+
+fn end_hostile(hostile: Child) -> Result<(), String> {
+    let ended = hostile
+        .wait_with_output()
+        .map_err(|why| format!("hostile stores: {why}"))?;
+    print!("{}", String::from_utf8_lossy(&ended.stdout));
+    match ended.status.success() {
+        true => Ok(()),
+        false => Err(format!("hostile stores: {}", ended.status)),
+    }
 }
 
 fn bench(runs: u64, part: &str) -> Result<(), String> {
