@@ -1,15 +1,14 @@
--- The steps of a compaction as the records of specs/Compactions.antt: a word begun, a row kept, the turns of the loop over the
--- rows, and what the entry point answers. Assumes nothing.
-use Prim.Native.Nat.{ℕ, _+_, _*_, _/_, _%_, _^_, _≤_, _<_}
+-- The steps of a compaction: a row kept, the turns of the loops over the rows, and what the entry point answers. Assumes nothing.
+use Prim.Native.Nat.{ℕ, _+_, _-_, _*_, _/_, _%_, _≤_, _<_, min}
 use mathlib.Core.Path.{_≡_, refl, sym, ap, ap₂, _∙_}
-use mathlib.Core.Bool.{Bool, true, false, not}
+use mathlib.Core.Bool.{Bool, true, false}
 use mathlib.Core.List.{List, [], _∷_, _++_}
-use native.Mathlib.Nat.{mul-le-mul-right}
-use native.Mathlib.Decide.{ℕ-discrete}
+use native.Mathlib.Nat.{add-zero, add-mul, mul-le-mul-right}
 use native.Mathlib.Omega.{arith}
+use lib.Bits.{bitAnd}
+use lib.Count.{trailingZeros}
 use lib.ListN.{length, take, drop, getD, set, length-take, length-drop, length-set, length-append}
 use lib.Seq.{drop-set-lt}
-use borrow.Author.Tests.{eq-eqb, ne-eqb}
 use Rattle.lists.specs.Lists.{putAt, keep, rowAt, rowsOf, flat}
 use Rattle.lists.specs.Laws.Parts.{putAt-nil, getD-putAt-in}
 use Rattle.lists.specs.Laws.Keep.{length-keep}
@@ -19,7 +18,9 @@ use Rattle.constraints.specs.Constraints.{isLive}
 use Rattle.sort_entries.specs.Entries.{Entry, words, push, pushAll, rebuilt}
 use Rattle.sort_entries.specs.inner.Append.{Append}
 use Rattle.sort_entries.specs.Laws.Push.{push-few}
-use Rattle.row_buffer.specs.Ranks.{liveAt, newNumber}
+use Rattle.row_buffer.specs.Ranks.{liveAt, liveWord, marks, newNumber}
+use Rattle.marks.specs.inner.Marking.{Spaced, otherAt}
+use Rattle.marks.specs.Laws.Lowest.{marks-same, onward, onward-all, Next, next-mark, no-more}
 use Rattle.key_index.specs.declared.Keyed.{Keyed}
 use Rattle.key_index.specs.Slots.{slots}
 use Rattle.key_index.specs.inner.Index.{RowsIn, Fits}
@@ -37,26 +38,8 @@ use Rattle.table.specs.Sound.{keyedOf}
 use Rattle.table.specs.Promises.{body, compactionWords, PastNeeded, lengths, Compacting}
 use Rattle.table.specs.Laws.Refusals.{inside-fits, compact-accepted}
 use Rattle.compaction.specs.inner.Compaction.{Lendable, Compaction}
-use Rattle.compaction.specs.inner.ClosingUp.{Begun, Keepable, RowKept, Closable, Closed, liveStored, entriesFor, closedHeader}
-use Rattle.compaction.specs.Laws.Compaction.{live-one, live-none, next-row, close-one, entries-one, rebuild-one, Words, words-begin, words-begun, word-below, words-marked, words-passed, words-number, compaction}
-
--- ---- a word is begun
-
-module _ (live base : List ℕ) (row kept : ℕ) where
-  pub begun-first : row % 64 ≡ 0 → Begun live base row kept (set live (row / 64) 0) (set base (row / 64) kept)
-  begun-first e = record { marks = rw (eq-eqb (row % 64) 0 e); first = rw (eq-eqb (row % 64) 0 e) }
-
-  pub begun-later : (row % 64 ≡ 0 → ⊥) → Begun live base row kept live base
-  begun-later e = record { marks = rw (ne-eqb (row % 64) 0 e); first = rw (ne-eqb (row % 64) 0 e) }
-
-  -- the words past the row's stay as they were
-  begun-past : (n : ℕ) (live′ base′ : List ℕ) → row / 64 < n → Begun live base row kept live′ base′
-      → (drop n live′ ≡ drop n live) × (drop n base′ ≡ drop n base)
-  begun-past n live′ base′ k b =
-      elim (ℕ-discrete (row % 64) 0) [
-        | yes z ↦ rw (b .marks, b .first, eq-eqb (row % 64) 0 z) (drop-set-lt n live (row / 64) 0 k, drop-set-lt n base (row / 64) kept k)
-        | no z ↦ rw (b .marks, b .first, ne-eqb (row % 64) 0 z) (refl, refl)
-      ]
+use Rattle.compaction.specs.inner.ClosingUp.{Movable, Closable, Keepable, RowKept, Closing, blockWord, Block, BlockKept, Closed, liveStored, entriesFor, closedHeader}
+use Rattle.compaction.specs.Laws.Compaction.{live-one, live-skip, later-row, close-one, entries-one, rebuild-one, Words, words-begin, words-next, words-number, compaction}
 
 -- ---- a row is kept
 
@@ -71,7 +54,7 @@ placed h rows row r k =
     let b : row * h .columns ≤ 65536 * h .columns = mul-le-mul-right (h .columns) (omega (arith, r .count, r .most)) in
     record { inside = omega (arith, r .cells); fits = omega (arith, r .most-columns) }
 
-module _ {h : Header} {rows sorts live : List ℕ} {row : ℕ} {kept : Kept} (k : Keepable h rows sorts live row kept) where
+module _ {h : Header} {rows sorts : List ℕ} {row : ℕ} {kept : Kept} (k : Keepable h rows sorts row kept) where
   -- the row, and the place that it moves to
   pub from-place : Placed (h .columns) (length rows) row
   from-place = placed h rows row (k .within) (k .row-below)
@@ -82,38 +65,22 @@ module _ {h : Header} {rows sorts live : List ℕ} {row : ℕ} {kept : Kept} (k 
   wide : length (take (h .columns) (drop (row * h .columns) rows)) ≡ h .columns
   wide = simp (length-take, length-drop) (omega (arith, from-place .inside))
 
-  pub row-kept : (mark r : ℕ) (rows′ sorts′ : List ℕ) → mark ≡ getD live (row / 64) 0 + 2 ^ (row % 64)
+  pub row-kept : (r : ℕ) (rows′ sorts′ : List ℕ)
       → rows′ ≡ putAt rows (kept .rows * h .columns) (take (h .columns) (drop (row * h .columns) rows))
       → Append sorts (kept .entries) (getD rows′ (kept .rows * h .columns + h .sort) 0) (kept .rows) r sorts′
-      → RowKept h rows sorts live row kept r rows′ sorts′ (set live (row / 64) mark)
+      → RowKept h rows sorts row kept r rows′ sorts′
   unfolding rowAt
-  row-kept mark r rows′ sorts′ e m b =
+  row-kept r rows′ sorts′ m b =
       let cells = take (h .columns) (drop (row * h .columns) rows) in
       let fits : kept .rows * h .columns + length cells ≤ length rows = omega (arith, wide, to-place, from-place .inside) in
       let cell : getD rows′ (kept .rows * h .columns + h .sort) 0 ≡ getD cells (h .sort) 0 =
       rw m (getD-putAt-in rows cells (kept .rows * h .columns) fits (h .sort) 0 (omega (arith, wide, k .sort-column))) in
-      record { moved = m; marked = ap (set live (row / 64)) e; recorded = rw cell at b }
+      record { moved = m; recorded = rw cell at b }
 
--- ---- the loop over the rows
+-- ---- rows close up
 
-module _ (h : Header) (rows₀ sorts₀ live₀ base₀ : List ℕ) where
-  -- what holds at the loop's head: the live rows before row `row` have closed up, and the others stand as they stood
-  pub record Closing (rows sorts live base : List ℕ) (kept : Kept) (row : ℕ) : Type 0 where
-    pub row-in : row ≤ h .rows
-    pub kept-few : kept .rows ≤ row
-    pub entries-few : kept .entries ≤ kept .rows
-    pub rows-same : length rows ≡ length rows₀
-    pub sorts-same : length sorts ≡ length sorts₀
-    pub live-same : length live ≡ length live₀
-    pub base-same : length base ≡ length base₀
-    pub counted : kept .rows ≡ length (liveStored (h .columns) row rows₀)
-    pub closed : rows ≡ putAt rows₀ 0 (flat (liveStored (h .columns) row rows₀))
-    pub entered : kept .entries ≡ length (entriesFor (h .sort) (liveStored (h .columns) row rows₀))
-    pub recorded : sorts ≡ putAt sorts₀ 0 (words (entriesFor (h .sort) (liveStored (h .columns) row rows₀)))
-    pub numbered : Words (rowsOf (h .columns) (h .rows) rows₀) row row live base
-    pub words-past : PastNeeded (h .capacity) live₀ live × PastNeeded (h .capacity) base₀ base
-
-  pub close-begin : Closing rows₀ sorts₀ live₀ base₀ (record { rows = 0; entries = 0 }) 0
+module _ {h : Header} {rows₀ sorts₀ : List ℕ} where
+  pub close-begin : Closing h rows₀ sorts₀ rows₀ sorts₀ (record { rows = 0; entries = 0 }) 0
   unfolding liveStored entriesFor rowsOf keep flat rebuilt pushAll words
   close-begin =
       record {
@@ -122,13 +89,190 @@ module _ (h : Header) (rows₀ sorts₀ live₀ base₀ : List ℕ) where
         entries-few = omega arith;
         rows-same = refl;
         sorts-same = refl;
-        live-same = refl;
-        base-same = refl;
         counted = refl;
         closed = sym (putAt-nil rows₀ 0);
         entered = refl;
         recorded = sym (putAt-nil sorts₀ 0);
-        numbered = words-begin _ live₀ base₀;
+      }
+
+  module _ {rows sorts : List ℕ} {kept : Kept} {row : ℕ} (s : Closing h rows₀ sorts₀ rows sorts kept row) where
+    -- dead ones are passed
+    pub close-skip : (to : ℕ) → row ≤ to → to ≤ h .rows → ((i : ℕ) → row ≤ i → i < to → isLive (rowAt (h .columns) i rows₀) ≡ false)
+        → Closing h rows₀ sorts₀ rows sorts kept to
+    close-skip to from below dead =
+        let e : row + (to - row) ≡ to = omega arith in
+        let same : liveStored (h .columns) row rows₀ ≡ liveStored (h .columns) to rows₀ =
+        sym (live-skip (h .columns) row (to - row) rows₀ (λ i p q. dead i p (omega arith))) ∙ ap (λ (n : ℕ). liveStored (h .columns) n rows₀) e in
+        record {
+          row-in = below;
+          kept-few = omega (arith, s .kept-few);
+          entries-few = s .entries-few;
+          rows-same = s .rows-same;
+          sorts-same = s .sorts-same;
+          counted = s .counted ∙ ap length same;
+          closed = s .closed ∙ ap (λ (l : List (List ℕ)). putAt rows₀ 0 (flat l)) same;
+          entered = s .entered ∙ ap (λ (l : List (List ℕ)). length (entriesFor (h .sort) l)) same;
+          recorded = s .recorded ∙ ap (λ (l : List (List ℕ)). putAt sorts₀ 0 (words (entriesFor (h .sort) l))) same;
+        }
+
+    module _ (m : Movable h rows₀ sorts₀) where
+      -- a later row stands as it stood
+      pub later-same : (i : ℕ) → row ≤ i → i < h .rows → rowAt (h .columns) i rows ≡ rowAt (h .columns) i rows₀
+      later-same i low more = rw (s .closed) (later-row (h .columns) row i rows₀ low (placed h rows₀ i (m .within) more .inside))
+
+      module _ (more : row < h .rows) where
+        -- the row can be kept
+        pub can-keep : Keepable h rows sorts row kept
+        can-keep =
+            record {
+              within = record {
+                most-columns = m .within .most-columns;
+                most-keys = m .within .most-keys;
+                most = m .within .most;
+                count = m .within .count;
+                cells = rw (s .rows-same) (m .within .cells);
+              };
+              sort-column = m .sort-column;
+              row-below = more;
+              moves-down = s .kept-few;
+              room = record {
+                few = omega (arith, s .entries-few, s .kept-few, m .within .count, m .within .most);
+                words = omega (arith, s .entries-few, s .kept-few, m .within .count, m .sorts-long, s .sorts-same);
+              };
+            }
+
+        -- it is kept
+        module _ {rows′ sorts′ : List ℕ} {r : ℕ} (k : RowKept h rows sorts row kept r rows′ sorts′) (lives : isLive (rowAt (h .columns) row rows₀) ≡ true) where
+          abbrev lv : List (List ℕ)
+          lv = liveStored (h .columns) row rows₀
+
+          abbrev cell : ℕ
+          cell = getD (rowAt (h .columns) row rows₀) (h .sort) 0
+
+          next-same : rowAt (h .columns) row rows ≡ rowAt (h .columns) row rows₀
+          next-same = later-same row (omega arith) more
+
+          grown : liveStored (h .columns) (row + 1) rows₀ ≡ lv ++ (rowAt (h .columns) row rows₀ ∷ [])
+          grown = live-one (h .columns) row rows₀ lives
+
+          entries-grown : push cell (kept .rows) (entriesFor (h .sort) lv) ≡ entriesFor (h .sort) (liveStored (h .columns) (row + 1) rows₀)
+          entries-grown = rw (grown, s .counted) (sym (entries-one (h .sort) lv (rowAt (h .columns) row rows₀)))
+
+          entries-after : (r ≡ length (push cell (kept .rows) (entriesFor (h .sort) lv))) × (sorts′ ≡ putAt sorts₀ 0 (words (push cell (kept .rows) (entriesFor (h .sort) lv))))
+          entries-after =
+              let fits : 2 * length (entriesFor (h .sort) lv) + 2 ≤ length sorts₀ = omega (arith, s .entered, s .entries-few, s .kept-few, more, m .within .count, m .sorts-long) in
+              rebuild-one sorts₀ (entriesFor (h .sort) lv) fits cell (kept .rows) (kept .entries) r sorts′ (s .entered) (rw (s .recorded, next-same) at (k .recorded))
+
+          rows-after : rows′ ≡ putAt rows₀ 0 (flat (liveStored (h .columns) (row + 1) rows₀))
+          rows-after =
+              k .moved
+              ∙ ap₂ (λ (l m : List ℕ). putAt l (kept .rows * h .columns) m) (s .closed) next-same
+              ∙ ap (λ (n : ℕ). putAt (putAt rows₀ 0 (flat lv)) (n * h .columns) (rowAt (h .columns) row rows₀)) (s .counted)
+              ∙ close-one (h .columns) row rows₀ (placed h rows₀ row (m .within) more .inside) lives
+
+          pub close-kept : length rows′ ≡ length rows → length sorts′ ≡ length sorts
+              → Closing h rows₀ sorts₀ rows′ sorts′ (record { rows = kept .rows + 1; entries = r }) (row + 1)
+          close-kept er es =
+              record {
+                row-in = omega (arith, more);
+                kept-few = omega (arith, s .kept-few);
+                entries-few = omega (arith, entries-after .0, push-few cell (kept .rows) (entriesFor (h .sort) lv), s .entered, s .entries-few);
+                rows-same = er ∙ s .rows-same;
+                sorts-same = es ∙ s .sorts-same;
+                counted = ap (λ (n : ℕ). n + 1) (s .counted) ∙ sym (ap length grown ∙ length-append lv (rowAt (h .columns) row rows₀ ∷ []));
+                closed = rows-after;
+                entered = entries-after .0 ∙ ap length entries-grown;
+                recorded = entries-after .1 ∙ ap (λ (l : List Entry). putAt sorts₀ 0 (words l)) entries-grown;
+              }
+
+-- ---- the rows that a word marks
+
+module _ {h : Header} {rows sorts : List ℕ} {first live : ℕ} {before : Kept} (b : Block h rows sorts first live before) where
+  abbrev lives : ℕ → Bool
+  lives bit = liveAt isLive (rowsOf (h .columns) (h .rows) (b .rows₀)) (first + bit)
+
+  lives-row : (bit : ℕ) → bit < b .count → lives bit ≡ isLive (rowAt (h .columns) (first + bit) (b .rows₀))
+  lives-row bit k = live-among (keyedOf h) (b .rows₀) (h .rows) (first + bit) (omega (arith, b .inside))
+
+  -- what holds at the loop's head: the rows before `place` have closed up, and the word has the others
+  pub record Going (rows′ sorts′ : List ℕ) (kept : Kept) (word : ℕ) : Type 0 where
+    pub place : ℕ
+    pub few : place ≤ b .count
+    pub others : word ≡ marks (onward lives place) (b .count)
+    pub closing : Closing h (b .rows₀) (b .sorts₀) rows′ sorts′ kept (first + place)
+
+  pub going-begin : Going rows sorts before live
+  unfolding liveWord
+  going-begin =
+      record {
+        place = 0;
+        few = omega arith;
+        others = b .marked ∙ onward-all lives (b .count);
+        closing = rw add-zero (b .closing);
+      }
+
+  module _ {rows′ sorts′ : List ℕ} {kept : Kept} {word : ℕ} (s : Going rows′ sorts′ kept word) where
+    pub going-lengths : (length rows′ ≡ length rows) × (length sorts′ ≡ length sorts)
+    going-lengths = (s .closing .rows-same ∙ sym (b .closing .rows-same), s .closing .sorts-same ∙ sym (b .closing .sorts-same))
+
+    passed : (to : ℕ) → s .place ≤ to → to ≤ b .count → ((k : ℕ) → s .place ≤ k → k < to → lives k ≡ false)
+        → Closing h (b .rows₀) (b .sorts₀) rows′ sorts′ kept (first + to)
+    passed to low high dead =
+        close-skip (s .closing) (first + to) (omega arith) (omega (arith, b .inside)) (λ i p q.
+        let e : first + (i - first) ≡ i = omega arith in
+        let f = lives-row (i - first) (omega arith) in
+        rw e at (sym f ∙ dead (i - first) (omega arith) (omega arith)))
+
+    pub going-end : word ≡ 0 → Closing h (b .rows₀) (b .sorts₀) rows′ sorts′ kept (first + b .count)
+    going-end z = passed (b .count) (s .few) (omega arith) (no-more lives (s .place) (b .count) word (s .others) z)
+
+    module _ (some : word ≡ 0 → ⊥) where
+      abbrev bit : ℕ
+      bit = trailingZeros 64 word
+
+      next : Next lives (s .place) (b .count) word bit
+      next = next-mark lives (s .place) (b .count) word (s .others) (b .few) some
+
+      pub row-in-block : first + bit < h .rows
+      row-in-block = omega (arith, next .below, b .inside)
+
+      at-row : Closing h (b .rows₀) (b .sorts₀) rows′ sorts′ kept (first + bit)
+      at-row = passed bit (next .after) (omega (arith, next .below)) (next .none)
+
+      pub going-keep : Keepable h rows′ sorts′ (first + bit) kept
+      going-keep = can-keep at-row (b .movable) row-in-block
+
+      pub going-on : {rows″ sorts″ : List ℕ} {r : ℕ} → RowKept h rows′ sorts′ (first + bit) kept r rows″ sorts″ → length rows″ ≡ length rows′ → length sorts″ ≡ length sorts′
+          → Going rows″ sorts″ (record { rows = kept .rows + 1; entries = r }) (bitAnd word (word - 1))
+      going-on k er es =
+          let e : first + bit + 1 ≡ first + (bit + 1) = omega arith in
+          record {
+            place = bit + 1;
+            few = omega (arith, next .below);
+            others = next .rest;
+            closing = rw e at (close-kept at-row (b .movable) row-in-block k (sym (lives-row bit (next .below)) ∙ next .set) er es);
+          }
+
+-- ---- all rows
+
+module _ (h : Header) (rows₀ sorts₀ live₀ base₀ : List ℕ) where
+  -- what holds at the loop's head
+  pub record Turn (rows sorts live base : List ℕ) (kept : Kept) (next : ℕ) : Type 0 where
+    pub closing : Closing h rows₀ sorts₀ rows sorts kept next
+    pub aligned : next < h .rows → next % 64 ≡ 0
+    pub live-same : length live ≡ length live₀
+    pub base-same : length base ≡ length base₀
+    pub numbered : Words (rowsOf (h .columns) (h .rows) rows₀) (h .rows) next live base
+    pub words-past : PastNeeded (h .capacity) live₀ live × PastNeeded (h .capacity) base₀ base
+
+  pub turn-begin : Turn rows₀ sorts₀ live₀ base₀ (record { rows = 0; entries = 0 }) 0
+  turn-begin =
+      record {
+        closing = close-begin;
+        aligned = λ _. omega arith;
+        live-same = refl;
+        base-same = refl;
+        numbered = words-begin _ (h .rows) live₀ base₀;
         words-past = (refl, refl);
       }
 
@@ -138,147 +282,77 @@ module _ {h : Header} {rows₀ sorts₀ live₀ base₀ : List ℕ} (c : Closabl
   unfolding liveStored
   number-next row k = length-keep isLive (rowsOf (h .columns) row rows₀) ∙ below-number (keyedOf h) rows₀ (h .rows) row k
 
-  module _ {rows sorts live base : List ℕ} {kept : Kept} {row : ℕ} (s : Closing h rows₀ sorts₀ live₀ base₀ rows sorts live base kept row) (more : row < h .rows) where
-    -- the words of the row are there
-    pub words-in : (row / 64 < length live) × (row / 64 < length base)
-    words-in = (omega (arith, s .live-same, c .live-long, c .within .count), omega (arith, s .base-same, c .base-long, c .within .count))
+  module _ {rows sorts live base : List ℕ} {kept : Kept} {first : ℕ} (s : Turn h rows₀ sorts₀ live₀ base₀ rows sorts live base kept first) (more : first < h .rows)
+      (count : ℕ) (e : count ≡ min 64 (h .rows - first)) where
+    -- the words of the block are there
+    pub words-in : (first / 64 < length live) × (first / 64 < length base)
+    words-in =
+        (omega (arith, s .live-same, c .live-long, c .movable .within .count), omega (arith, s .base-same, c .base-long, c .movable .within .count))
 
     -- so are its cells
-    pub cells-in : Placed (h .columns) (length rows) row
-    cells-in = rw (s .rows-same) (placed h rows₀ row (c .within) more)
+    pub cells-in : Placed (h .columns) (length rows) first
+    cells-in = rw (s .closing .rows-same) (placed h rows₀ first (c .movable .within) more)
 
-    -- its words are among those needed, so that none past them is written
-    word-needed : row / 64 < (h .capacity + 63) / 64
-    word-needed = omega (arith, c .within .count)
+    pub spaced : Spaced rows (first * h .columns) (h .columns) count
+    spaced =
+        let a : (first + count) * h .columns ≤ h .capacity * h .columns = mul-le-mul-right (h .columns) (omega (arith, c .movable .within .count)) in
+        let d : (first + count) * h .columns ≡ first * h .columns + count * h .columns = add-mul first count (h .columns) in
+        record {
+          few = omega arith;
+          apart = omega (arith, c .movable .sort-column);
+          inside = omega (arith, c .movable .within .cells, s .closing .rows-same);
+        }
 
-    next-same : rowAt (h .columns) row rows ≡ rowAt (h .columns) row rows₀
-    next-same = rw (s .closed) (next-row (h .columns) row rows₀ (placed h rows₀ row (c .within) more .inside))
+    -- the word marks the live ones of these rows
+    word-marks : (word : ℕ) → word ≡ marks (otherAt rows (first * h .columns) (h .columns) 4294967295) count → word ≡ blockWord h rows₀ first count
+    unfolding liveWord otherAt isDead
+    word-marks word q = q ∙ marks-same _ _ count (λ k b.
+        let i : first + k < h .rows = omega arith in
+        let d : first * h .columns + k * h .columns ≡ (first + k) * h .columns = sym (add-mul first k (h .columns)) in
+        rw d
+        (sym (live-first (h .columns) (first + k) rows (omega (arith, c .movable .sort-column)))
+        ∙ ap isLive (later-same (s .closing) (c .movable) (first + k) (omega arith) i)
+        ∙ sym (live-among (keyedOf h) rows₀ (h .rows) (first + k) i)))
 
-    -- whether it lives, as the code reads it
-    reads-live : isLive (rowAt (h .columns) row rows₀) ≡ not (isDead (getD rows (row * h .columns) 0))
-    reads-live = rw (← next-same) (live-first (h .columns) row rows (omega (arith, c .sort-column)))
-
-    reads-at : liveAt isLive (rowsOf (h .columns) (h .rows) rows₀) row ≡ isLive (rowAt (h .columns) row rows₀)
-    reads-at = live-among (keyedOf h) rows₀ (h .rows) row more
-
-    module _ {live₁ base₁ : List ℕ} (b : Begun live base row (kept .rows) live₁ base₁) where
-      begun : Words (rowsOf (h .columns) (h .rows) rows₀) row (row + 1) live₁ base₁
-      begun =
-          words-begun (rowsOf (h .columns) (h .rows) rows₀) row live base (s .numbered) (words-in .0) (words-in .1) (kept .rows) (s .counted ∙ number-next row (s .row-in))
-          live₁ base₁ b
-
-      past-begun : PastNeeded (h .capacity) live₀ live₁ × PastNeeded (h .capacity) base₀ base₁
-      past-begun =
-          let p = begun-past live base row (kept .rows) ((h .capacity + 63) / 64) live₁ base₁ word-needed b in
-          (p .0 ∙ s .words-past .0, p .1 ∙ s .words-past .1)
-
-      -- it can be kept
-      pub can-keep : length live₁ ≡ length live → Keepable h rows sorts live₁ row kept
-      can-keep e =
+    module _ (word : ℕ) (q : word ≡ marks (otherAt rows (first * h .columns) (h .columns) 4294967295) count) where
+      pub the-block : Block h rows sorts first word kept
+      the-block =
           record {
-            within = record {
-              most-columns = c .within .most-columns;
-              most-keys = c .within .most-keys;
-              most = c .within .most;
-              count = c .within .count;
-              cells = rw (s .rows-same) (c .within .cells);
-            };
-            sort-column = c .sort-column;
-            row-below = more;
-            moves-down = s .kept-few;
-            word-in = rw e (words-in .0);
-            marks-below = word-below (rowsOf (h .columns) (h .rows) rows₀) row live₁ base₁ begun;
-            room = record {
-              few = omega (arith, s .entries-few, s .kept-few, c .within .count, c .within .most);
-              words = omega (arith, s .entries-few, s .kept-few, c .within .count, c .sorts-long, s .sorts-same);
-            };
+            rows₀ = rows₀;
+            sorts₀ = sorts₀;
+            count = count;
+            movable = c .movable;
+            few = omega arith;
+            inside = omega arith;
+            marked = word-marks word q;
+            closing = s .closing;
           }
 
-      -- it is dead
-      pub close-passed : length live₁ ≡ length live → length base₁ ≡ length base → isDead (getD rows (row * h .columns) 0) ≡ true
-          → Closing h rows₀ sorts₀ live₀ base₀ rows sorts live₁ base₁ kept (row + 1)
-      close-passed el eb d =
-          let e : isLive (rowAt (h .columns) row rows₀) ≡ false = reads-live ∙ ap not d in
-          let same = sym (live-none (h .columns) row rows₀ e) in
+      pub turn-on : {rows′ sorts′ : List ℕ} {r : Kept} → BlockKept h rows sorts first word kept r rows′ sorts′
+          → Turn h rows₀ sorts₀ live₀ base₀ rows′ sorts′ (set live (first / 64) word) (set base (first / 64) (kept .rows)) r (first + count)
+      unfolding the-block
+      turn-on k =
+          let needed : first / 64 < (h .capacity + 63) / 64 = omega (arith, c .movable .within .count) in
           record {
-            row-in = omega (arith, more);
-            kept-few = omega (arith, s .kept-few);
-            entries-few = s .entries-few;
-            rows-same = s .rows-same;
-            sorts-same = s .sorts-same;
-            live-same = el ∙ s .live-same;
-            base-same = eb ∙ s .base-same;
-            counted = s .counted ∙ ap length same;
-            closed = s .closed ∙ ap (λ (l : List (List ℕ)). putAt rows₀ 0 (flat l)) same;
-            entered = s .entered ∙ ap (λ (l : List (List ℕ)). length (entriesFor (h .sort) l)) same;
-            recorded = s .recorded ∙ ap (λ (l : List (List ℕ)). putAt sorts₀ 0 (words (entriesFor (h .sort) l))) same;
-            numbered = words-passed (rowsOf (h .columns) (h .rows) rows₀) row live₁ base₁ begun (reads-at ∙ e);
-            words-past = past-begun;
+            closing = k .on the-block;
+            aligned = λ less. omega (arith, s .aligned more);
+            live-same = length-set live (first / 64) word ∙ s .live-same;
+            base-same = length-set base (first / 64) (kept .rows) ∙ s .base-same;
+            numbered = rw e (words-next (rowsOf (h .columns) (h .rows) rows₀) (h .rows) first live base word (kept .rows) (s .numbered) (s .aligned more) (words-in .0) (words-in .1)
+                (word-marks word q ∙ ap (blockWord h rows₀ first) e) (s .closing .counted ∙ number-next first (s .closing .row-in)));
+            words-past = (drop-set-lt ((h .capacity + 63) / 64) live (first / 64) word needed ∙ s .words-past .0, drop-set-lt ((h .capacity + 63) / 64) base (first / 64) (kept .rows) needed ∙ s .words-past .1);
           }
-
-      -- it is kept
-      module _ {rows′ sorts′ live′ : List ℕ} {r : ℕ} (k : RowKept h rows sorts live₁ row kept r rows′ sorts′ live′) (d : isDead (getD rows (row * h .columns) 0) ≡ false) where
-        lives : isLive (rowAt (h .columns) row rows₀) ≡ true
-        lives = reads-live ∙ ap not d
-
-        abbrev lv : List (List ℕ)
-        lv = liveStored (h .columns) row rows₀
-
-        abbrev cell : ℕ
-        cell = getD (rowAt (h .columns) row rows₀) (h .sort) 0
-
-        grown : liveStored (h .columns) (row + 1) rows₀ ≡ lv ++ (rowAt (h .columns) row rows₀ ∷ [])
-        grown = live-one (h .columns) row rows₀ lives
-
-        entries-grown : push cell (kept .rows) (entriesFor (h .sort) lv) ≡ entriesFor (h .sort) (liveStored (h .columns) (row + 1) rows₀)
-        entries-grown = rw (grown, s .counted) (sym (entries-one (h .sort) lv (rowAt (h .columns) row rows₀)))
-
-        entries-after : (r ≡ length (push cell (kept .rows) (entriesFor (h .sort) lv))) × (sorts′ ≡ putAt sorts₀ 0 (words (push cell (kept .rows) (entriesFor (h .sort) lv))))
-        entries-after =
-            let fits : 2 * length (entriesFor (h .sort) lv) + 2 ≤ length sorts₀ = omega (arith, s .entered, s .entries-few, s .kept-few, more, c .within .count, c .sorts-long) in
-            rebuild-one sorts₀ (entriesFor (h .sort) lv) fits cell (kept .rows) (kept .entries) r sorts′ (s .entered) (rw (s .recorded, next-same) at (k .recorded))
-
-        rows-after : rows′ ≡ putAt rows₀ 0 (flat (liveStored (h .columns) (row + 1) rows₀))
-        rows-after =
-            k .moved
-            ∙ ap₂ (λ (l m : List ℕ). putAt l (kept .rows * h .columns) m) (s .closed) next-same
-            ∙ ap (λ (n : ℕ). putAt (putAt rows₀ 0 (flat lv)) (n * h .columns) (rowAt (h .columns) row rows₀)) (s .counted)
-            ∙ close-one (h .columns) row rows₀ (placed h rows₀ row (c .within) more .inside) lives
-
-        past-marked : PastNeeded (h .capacity) live₁ live′
-        past-marked =
-            ap (drop ((h .capacity + 63) / 64)) (k .marked)
-            ∙ drop-set-lt ((h .capacity + 63) / 64) live₁ (row / 64) (getD live₁ (row / 64) 0 + 2 ^ (row % 64)) word-needed
-
-        pub close-kept : length live₁ ≡ length live → length base₁ ≡ length base → length rows′ ≡ length rows → length sorts′ ≡ length sorts
-            → Closing h rows₀ sorts₀ live₀ base₀ rows′ sorts′ live′ base₁ (record { rows = kept .rows + 1; entries = r }) (row + 1)
-        close-kept el eb er es =
-            record {
-              row-in = omega (arith, more);
-              kept-few = omega (arith, s .kept-few);
-              entries-few = omega (arith, entries-after .0, push-few cell (kept .rows) (entriesFor (h .sort) lv), s .entered, s .entries-few);
-              rows-same = er ∙ s .rows-same;
-              sorts-same = es ∙ s .sorts-same;
-              live-same = ap length (k .marked) ∙ length-set live₁ (row / 64) (getD live₁ (row / 64) 0 + 2 ^ (row % 64)) ∙ el ∙ s .live-same;
-              base-same = eb ∙ s .base-same;
-              counted = ap (λ (n : ℕ). n + 1) (s .counted) ∙ sym (ap length grown ∙ length-append lv (rowAt (h .columns) row rows₀ ∷ []));
-              closed = rows-after;
-              entered = entries-after .0 ∙ ap length entries-grown;
-              recorded = entries-after .1 ∙ ap (λ (l : List Entry). putAt sorts₀ 0 (words l)) entries-grown;
-              numbered = rw (k .marked) (words-marked (rowsOf (h .columns) (h .rows) rows₀) row live₁ base₁ begun (rw el (words-in .0)) (reads-at ∙ lives));
-              words-past = (past-marked ∙ past-begun .0, past-begun .1);
-            }
 
   -- all rows are done
-  pub close-end : {rows sorts live base : List ℕ} {kept : Kept} {row : ℕ} → Closing h rows₀ sorts₀ live₀ base₀ rows sorts live base kept row → h .rows ≤ row
+  pub close-end : {rows sorts live base : List ℕ} {kept : Kept} {next : ℕ} → Turn h rows₀ sorts₀ live₀ base₀ rows sorts live base kept next → h .rows ≤ next
       → Closed h rows₀ sorts₀ live₀ base₀ kept rows sorts live base
-  close-end {rows} {sorts} {live} {base} {kept} {row} s k =
-      let e : row ≡ h .rows = omega (arith, s .row-in) in
+  close-end {rows} {sorts} {live} {base} {kept} {next} s k =
+      let e : next ≡ h .rows = omega (arith, s .closing .row-in) in
       record {
-        rows-counted = rw e at (s .counted);
-        rows-after = rw e at (s .closed);
-        entries-counted = rw e at (s .entered);
-        sorts-after = rw e at (s .recorded);
+        rows-counted = rw e at (s .closing .counted);
+        rows-after = rw e at (s .closing .closed);
+        entries-counted = rw e at (s .closing .entered);
+        sorts-after = rw e at (s .closing .recorded);
         numbered = λ i l.
             words-number (rowsOf (h .columns) (h .rows) rows₀) (h .rows) live base (rw e at (s .numbered)) i (l .0)
             ∙ sym (below-number (keyedOf h) rows₀ (h .rows) i (omega (arith, l .0)));
@@ -292,9 +366,7 @@ module _ {h : Header} {rows keys sorts live base : List ℕ} (lent : Lendable h 
   pub closable : Closable h rows sorts live base
   closable =
       record {
-        within = rows-in (keyedOf h) rows keys (lent .fits);
-        sort-column = lent .sort-column;
-        sorts-long = lent .sorts-long;
+        movable = record { within = rows-in (keyedOf h) rows keys (lent .fits); sort-column = lent .sort-column; sorts-long = lent .sorts-long };
         live-long = lent .live-long;
         base-long = lent .base-long;
       }

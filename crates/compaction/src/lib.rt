@@ -1,12 +1,10 @@
 // Compaction: `rehash_impl` of table/mod.rs. One pass moves the live rows down, marks them in the compaction words and rebuilds
 // the sort entries. Another gives the key store the new row numbers: after it, over the slots and without hashing; or before it,
 // over the rows, where they are few.
-ghost use mathlib.Core.Path.{_≡_};
-ghost use Prim.Native.Nat.{_/_, _<_};
-ghost use lib.ListN.{length};
+ghost use Prim.Native.Nat.{_<_};
 ghost use Rattle.table.specs.Promises.{body, compactionWords, Compacting};
 ghost use Rattle.compaction.specs.inner.Compaction.{Lendable, Compaction};
-ghost use Rattle.compaction.specs.inner.ClosingUp.{Begun, Keepable, RowKept, Closable, Closed};
+ghost use Rattle.compaction.specs.inner.ClosingUp.{Keepable, RowKept, Block, BlockKept, Closable, Closed};
 use table::Header;
 use table::Lent;
 use table::TableAnswer;
@@ -19,32 +17,11 @@ pub struct Kept {
     pub entries: u32,
 }
 
-// At each 64th row a new compaction word begins, with the number of the next live row beside it.
-fn begin_word(live: &mut [u64], base: &mut [u32], row: u32, kept: u32)
-    requires { ⌜ (row / 64 < length (now live)) × (row / 64 < length (now base)) ⌝ }
-    ensures { λ _. ⌜ Begun (now (live .entry)) (now (base .entry)) row kept (now (live .exit)) (now (base .exit)) ⌝ }
+// A live row is moved down and recorded in the sort entries. Answers their number.
+fn keep_row(h: Header, rows: &mut [u32], sorts: &mut [u32], row: u32, kept: Kept) -> u32
+    requires { ⌜ Keepable h (now rows) (now sorts) row kept ⌝ }
+    ensures { λ r. ⌜ RowKept h (now (rows .entry)) (now (sorts .entry)) row kept r (now (rows .exit)) (now (sorts .exit)) ⌝ }
 {
-    if row % 64 == 0 {
-        let at = (row / 64) as usize;
-        live[at] = 0;
-        base[at] = kept;
-    }
-}
-
-// A live row is marked, moved down and recorded in the sort entries. Answers their number.
-fn keep_row(
-    h: Header,
-    rows: &mut [u32],
-    sorts: &mut [u32],
-    live: &mut [u64],
-    row: u32,
-    kept: Kept,
-) -> u32
-    requires { ⌜ Keepable h (now rows) (now sorts) (now live) row kept ⌝ }
-    ensures { λ r. ⌜ RowKept h (now (rows .entry)) (now (sorts .entry)) (now (live .entry)) row kept r (now (rows .exit)) (now (sorts .exit)) (now (live .exit)) ⌝ }
-{
-    let word = (row / 64) as usize;
-    live[word] = row_buffer::add_mark(live[word], row % 64);
     let to = (kept.rows * h.columns) as usize;
     let from = (row * h.columns) as usize;
     let width = h.columns as usize;
@@ -53,7 +30,31 @@ fn keep_row(
     sort_entries::append_entry(sorts, kept.entries, rows[cell], kept.rows)
 }
 
-// The live rows close up in order.
+// The live rows that a word marks close up in order.
+fn keep_block(
+    h: Header,
+    rows: &mut [u32],
+    sorts: &mut [u32],
+    first: u32,
+    live: u64,
+    before: Kept,
+) -> Kept
+    requires { ⌜ Block h (now rows) (now sorts) first live before ⌝ }
+    ensures { λ r. ⌜ BlockKept h (now (rows .entry)) (now (sorts .entry)) first live before r (now (rows .exit)) (now (sorts .exit)) ⌝ }
+{
+    let mut kept = before;
+    let mut word = live;
+    while word != 0 {
+        let row = first + u64::trailing_zeros(word);
+        word = word & (word - 1);
+        let entries = keep_row(h, rows, sorts, row, kept);
+        kept.entries = entries;
+        kept.rows += 1;
+    }
+    kept
+}
+
+// The live rows close up in order, 64 at a time: their word is made first, with the number of the next live row beside it.
 fn close_up(
     h: Header,
     rows: &mut [u32],
@@ -70,15 +71,15 @@ fn close_up(
     };
     let mut next: u32 = 0;
     while next < h.rows {
-        let row = next;
-        next += 1;
-        begin_word(live, base, row, kept.rows);
-        let at = (row * h.columns) as usize;
-        if !row_buffer::is_dead(rows, at) {
-            let entries = keep_row(h, rows, sorts, live, row, kept);
-            kept.entries = entries;
-            kept.rows += 1;
-        }
+        let first = next;
+        let count = marks::block(h.rows - first);
+        next += count;
+        let from = (first * h.columns) as usize;
+        let word = marks::marks_other(rows, from, h.columns as usize, count, cells::STALE);
+        let at = (first / 64) as usize;
+        live[at] = word;
+        base[at] = kept.rows;
+        kept = keep_block(h, rows, sorts, first, word, kept);
     }
     kept
 }

@@ -7,7 +7,7 @@ ghost use lib.ListN.{length};
 ghost use Rattle.lists.specs.Lists.{mapFront};
 ghost use Rattle.key_index.specs.Slots.{slots};
 ghost use Rattle.key_index.specs.inner.Index.{Fits};
-ghost use Rattle.renumbering.specs.inner.Renumbering.{renumbered, Ranked, Rest, SlotOf, Renumbered, RowRenumbered, FewRenumbered};
+ghost use Rattle.renumbering.specs.inner.Renumbering.{renumbered, Ranked, Block, BlockRenumbered, Rest, SlotOf, Renumbered, RowRenumbered, FewRenumbered};
 use key_index::Keyed;
 use key_index::ROW_RANGE;
 use key_index::home_slot;
@@ -31,16 +31,30 @@ fn renumber_word(t: Keyed, word: u32, live: &[u64], base: &[u32]) -> u32
     word / ROW_RANGE * ROW_RANGE + (row_buffer::rank(live[at], first, row % 64) + 1)
 }
 
+// Renumbers the next slots, up to 64, going from one that is taken to the next.
+fn renumber_block(t: Keyed, store: &mut [u32], from: u32, count: u32, live: &[u64], base: &[u32])
+    requires { ⌜ (Ranked t (now live) (now base)) × (Block (now store) from count) ⌝ }
+    ensures { λ _. ⌜ BlockRenumbered t (now (live .entry)) (now (base .entry)) (now (store .entry)) from count (now (store .exit)) ⌝ }
+{
+    let mut word = marks::marks_other(store, from as usize, 1, count, 0);
+    while word != 0 {
+        let at = (from + u64::trailing_zeros(word)) as usize;
+        word = word & (word - 1);
+        store[at] = renumber_word(t, store[at], live, base);
+    }
+}
+
 // Gives each row that the store holds its new number, in place and without a look at its key.
 pub fn renumber(t: Keyed, store: &mut [u32], live: &[u64], base: &[u32])
     requires { ⌜ (Ranked t (now live) (now base)) × (slots t ≤ length (now store)) ⌝ }
     ensures { λ _. ⌜ now (store .exit) ≡ mapFront (renumbered t (now (live .entry)) (now (base .entry))) (slots t) (now (store .entry)) ⌝ }
 {
-    let n = (2 * t.capacity) as usize;
-    let mut at = 0;
+    let n = 2 * t.capacity;
+    let mut at: u32 = 0;
     while at < n {
-        store[at] = renumber_word(t, store[at], live, base);
-        at += 1;
+        let count = marks::block(n - at);
+        renumber_block(t, store, at, count, live, base);
+        at += count;
     }
 }
 

@@ -1,61 +1,70 @@
--- `compaction::close_up` meets its contract: the turns of its loop are those of `Closing`. Assumes nothing.
+-- `compaction::close_up` meets its contract. Assumes nothing.
 use Prim.Native.Nat.{_-_}
-use mathlib.Core.Path.{sym, _∙_}
 use native.Mathlib.Omega.{arith}
-use borrow.Author.Tests.{not-true, not-false}
-use Rattle.compaction.proofs.CompactionSteps.{Closing, close-begin, words-in, cells-in, can-keep, close-passed, close-kept, close-end}
+use borrow.Author.Needs.{needs}
+use Rattle.compaction.proofs.CompactionSteps.{Turn, turn-begin, words-in, cells-in, spaced, the-block, turn-on, close-end}
 use Rattle.compaction.proofs.close_up.Statement.{statement}
 use Rattle.compaction.proofs.close_up.Tie as tie
 
 abbrev Inv-loop : tie.InvT-loop
-Inv-loop h rows₀ sorts₀ live₀ base₀ kept₀ next₀ rows sorts live base kept next = Closing h rows₀ sorts₀ live₀ base₀ rows sorts live base kept next
+Inv-loop h rows₀ sorts₀ live₀ base₀ kept₀ next₀ rows sorts live base kept next = Turn h rows₀ sorts₀ live₀ base₀ rows sorts live base kept next
 
 abbrev μ-loop : tie.MeasureT-loop
 μ-loop h rows₀ sorts₀ live₀ base₀ kept₀ next₀ rows sorts live base kept next = h .rows - next
 
 loop-holds : tie.Need-loop-holds Inv-loop μ-loop
-loop-holds c = close-begin _ _ _ _ _
+loop-holds c = turn-begin _ _ _ _ _
+
+sub-block : tie.Need-sub-block Inv-loop μ-loop
+sub-block c = omega (arith, c .before .if1 .taken)
+
+block-requires : tie.Need-block-requires Inv-loop μ-loop
+block-requires c κs = search needs
 
 add-next : tie.Need-add-next Inv-loop μ-loop
-add-next c = omega (arith, c .if1 .taken)
+add-next c = omega (arith, c .block .ensures, c .before .before .if1 .taken)
 
-begin-word-requires : tie.Need-begin-word-requires Inv-loop μ-loop
-begin-word-requires c κs = words-in (c .before .before .before .before .before .before .before .before .before .pre) (c .before .before .before .before .loop .inv) (c .before .before .if1 .taken)
+mul-from : tie.Need-mul-from Inv-loop μ-loop
+mul-from c = omega (arith, cells-in (c .before .before .before .before .before .before .before .before .before .before .pre) (c .before .before .before .before .before .loop .inv) (c .before .before .before .if1 .taken) _ (c .before .block .ensures))
 
-mul-at : tie.Need-mul-at Inv-loop μ-loop
-mul-at c = omega (arith, cells-in (c .before .before .before .before .before .before .before .before .before .before .before .before .before .before .before .pre) (c .before .before .before .before .before .before .before .before .before .before .loop .inv) (c .before .before .before .before .before .before .before .before .if1 .taken))
+cast-from : tie.Need-cast-from Inv-loop μ-loop
+cast-from c = omega (arith, cells-in (c .before .before .before .before .before .before .before .before .before .before .pre) (c .before .before .before .before .before .loop .inv) (c .before .before .before .if1 .taken) _ (c .before .block .ensures))
+
+cast-marks-other : tie.Need-cast-marks-other Inv-loop μ-loop
+cast-marks-other c = search needs
+
+marks-other-requires : tie.Need-marks-other-requires Inv-loop μ-loop
+marks-other-requires c κs = spaced (c .before .before .before .before .before .before .before .before .before .before .before .before .pre) (c .before .before .before .before .before .before .before .loop .inv) (c .before .before .before .before .before .if1 .taken) _ (c .before .before .before .block .ensures)
 
 cast-at : tie.Need-cast-at Inv-loop μ-loop
-cast-at c = omega (arith, cells-in (c .before .before .before .before .before .before .before .before .before .before .before .before .before .before .before .pre) (c .before .before .before .before .before .before .before .before .before .before .loop .inv) (c .before .before .before .before .before .before .before .before .if1 .taken))
+cast-at c = search needs
 
-is-dead-requires : tie.Need-is-dead-requires Inv-loop μ-loop
-is-dead-requires c κs = omega (arith, cells-in (c .before .before .before .before .before .before .before .before .before .before .before .before .before .before .before .before .pre) (c .before .before .before .before .before .before .before .before .before .before .before .loop .inv) (c .before .before .before .before .before .before .before .before .before .if1 .taken), c .before .before .before .before .before .before .before .before .before .before .before .before .before .before .before .before .pre .sort-column)
+mul-live : tie.Need-mul-live Inv-loop μ-loop
+mul-live c = search needs
 
-keep-row-requires : tie.Need-keep-row-requires Inv-loop μ-loop
-keep-row-requires c κs = can-keep (c .before .before .before .before .before .before .before .before .before .before .before .before .before .before .before .before .before .before .before .before .before .pre) (c .before .before .before .before .before .before .before .before .before .before .before .before .before .before .before .before .loop .inv) (c .before .before .before .before .before .before .before .before .before .before .before .before .before .before .if1 .taken) (c .before .before .before .before .before .before .before .before .before .before .before .begin-word .ensures) (omega arith)
+slice-write-live : tie.Need-slice-write-live Inv-loop μ-loop
+slice-write-live c = words-in (c .before .before .before .before .before .before .before .before .before .before .before .before .before .pre) (c .before .before .before .before .before .before .before .before .loop .inv) (c .before .before .before .before .before .before .if1 .taken) _ (c .before .before .before .before .block .ensures) .0
 
-add-kept : tie.Need-add-kept Inv-loop μ-loop
-add-kept c = omega (arith, c .before .before .before .before .before .before .before .before .before .before .before .before .before .before .before .before .before .before .before .before .before .before .before .before .loop .inv .kept-few, c .before .before .before .before .before .before .before .before .before .before .before .before .before .before .before .before .before .before .before .before .before .before .if1 .taken)
+mul-base : tie.Need-mul-base Inv-loop μ-loop
+mul-base c = search needs
+
+slice-write-base : tie.Need-slice-write-base Inv-loop μ-loop
+slice-write-base c = words-in (c .before .before .before .before .before .before .before .before .before .before .before .before .before .pre) (c .before .before .before .before .before .before .before .before .loop .inv) (c .before .before .before .before .before .before .if1 .taken) _ (c .before .before .before .before .block .ensures) .1
+
+keep-block-requires : tie.Need-keep-block-requires Inv-loop μ-loop
+keep-block-requires c κs = the-block (c .before .before .before .before .before .before .before .before .before .before .before .before .before .before .before .pre) (c .before .before .before .before .before .before .before .before .before .before .loop .inv) (c .before .before .before .before .before .before .before .before .if1 .taken) _ (c .before .before .before .before .before .before .block .ensures) _ (c .before .before .marks-other .ensures)
 
 loop-less : tie.Need-loop-less Inv-loop μ-loop
-loop-less c = omega (arith, c .before .before .before .before .before .before .before .before .before .before .before .before .before .before .before .before .before .before .before .before .before .before .if1 .taken)
+loop-less c = omega (arith, c .before .before .before .before .before .before .before .before .before .before .before .block .ensures, c .before .before .before .before .before .before .before .before .before .before .before .before .before .if1 .taken)
 
 loop-again : tie.Need-loop-again Inv-loop μ-loop
-loop-again c =
-    close-kept (c .before .before .before .before .before .before .before .before .before .before .before .before .before .before .before .before .before .before .before .before .before .before .before .before .before .before .before .before .before .pre) (c .before .before .before .before .before .before .before .before .before .before .before .before .before .before .before .before .before .before .before .before .before .before .before .before .loop .inv) (c .before .before .before .before .before .before .before .before .before .before .before .before .before .before .before .before .before .before .before .before .before .before .if1 .taken) (c .before .before .before .before .before .before .before .before .before .before .before .before .before .before .before .before .before .before .before .begin-word .ensures) (c .before .before .before .before .before .before .before .keep-row .ensures) (sym (c .before .before .before .before .before .before .before .before .before .before .before .before .is-dead .ensures) ∙ not-true _ (c .before .before .before .before .before .before .before .before .before .before .before .if2 .taken)) (omega arith) (omega arith) (omega arith) (omega arith)
-
-loop-less-2 : tie.Need-loop-less-2 Inv-loop μ-loop
-loop-less-2 c = omega (arith, c .before .before .before .before .before .before .before .before .before .before .before .if1 .taken)
-
-loop-again-2 : tie.Need-loop-again-2 Inv-loop μ-loop
-loop-again-2 c =
-    close-passed (c .before .before .before .before .before .before .before .before .before .before .before .before .before .before .before .before .before .before .pre) (c .before .before .before .before .before .before .before .before .before .before .before .before .before .loop .inv) (c .before .before .before .before .before .before .before .before .before .before .before .if1 .taken) (c .before .before .before .before .before .before .before .before .begin-word .ensures) (omega arith) (omega arith) (sym (c .before .is-dead .ensures) ∙ not-false _ (c .if2 .left))
+loop-again c = turn-on (c .before .before .before .before .before .before .before .before .before .before .before .before .before .before .before .before .before .before .before .before .pre) (c .before .before .before .before .before .before .before .before .before .before .before .before .before .before .before .loop .inv) (c .before .before .before .before .before .before .before .before .before .before .before .before .before .if1 .taken) _ (c .before .before .before .before .before .before .before .before .before .before .before .block .ensures) _ (c .before .before .before .before .before .before .before .marks-other .ensures) (c .before .before .before .before .keep-block .ensures)
 
 same-length : tie.Need-same-length Inv-loop μ-loop
-same-length c = c .before .before .loop .inv .rows-same
+same-length c = c .before .before .loop .inv .closing .rows-same
 
 same-length-2 : tie.Need-same-length-2 Inv-loop μ-loop
-same-length-2 c = c .before .before .loop .inv .sorts-same
+same-length-2 c = c .before .before .loop .inv .closing .sorts-same
 
 same-length-3 : tie.Need-same-length-3 Inv-loop μ-loop
 same-length-3 c = c .before .before .loop .inv .live-same
@@ -73,17 +82,21 @@ close-up-spec =
     Inv-loop
     μ-loop
     loop-holds
+    sub-block
+    block-requires
     add-next
-    begin-word-requires
-    mul-at
+    mul-from
+    cast-from
+    cast-marks-other
+    marks-other-requires
     cast-at
-    is-dead-requires
-    keep-row-requires
-    add-kept
+    mul-live
+    slice-write-live
+    mul-base
+    slice-write-base
+    keep-block-requires
     loop-less
     loop-again
-    loop-less-2
-    loop-again-2
     same-length
     same-length-2
     same-length-3

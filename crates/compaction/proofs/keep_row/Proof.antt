@@ -5,53 +5,35 @@ use Rattle.compaction.proofs.CompactionSteps.{from-place, to-place, row
 use Rattle.compaction.proofs.keep_row.Statement.{statement}
 use Rattle.compaction.proofs.keep_row.Tie as tie
 
-cast-word : tie.Need-cast-word
-cast-word c = search needs
-
-mul-add-mark : tie.Need-mul-add-mark
-mul-add-mark c = search needs
-
-slice-read-add-mark : tie.Need-slice-read-add-mark
-slice-read-add-mark c = search needs
-
-add-mark-requires : tie.Need-add-mark-requires
-add-mark-requires c κs = search needs
-
-mul-live : tie.Need-mul-live
-mul-live c = search needs
-
-slice-write-live : tie.Need-slice-write-live
-slice-write-live c = search needs
-
 mul-to : tie.Need-mul-to
-mul-to c = omega (arith, from-place (c .before .before .before .before .before .before .before .pre), to-place (c .before .before .before .before .before .before .before .pre))
+mul-to c = omega (arith, from-place (c .before .before .before .before .pre), to-place (c .before .before .before .before .pre))
 
 cast-to : tie.Need-cast-to
-cast-to c = omega (arith, from-place (c .before .before .before .before .before .before .before .pre), to-place (c .before .before .before .before .before .before .before .pre))
+cast-to c = omega (arith, from-place (c .before .before .before .before .pre), to-place (c .before .before .before .before .pre))
 
 mul-from : tie.Need-mul-from
-mul-from c = omega (arith, from-place (c .before .before .before .before .before .before .before .before .pre))
+mul-from c = omega (arith, from-place (c .before .before .before .before .before .pre))
 
 cast-from : tie.Need-cast-from
-cast-from c = omega (arith, from-place (c .before .before .before .before .before .before .before .before .pre))
+cast-from c = omega (arith, from-place (c .before .before .before .before .before .pre))
 
 cast-width : tie.Need-cast-width
 cast-width c = search needs
 
 move-down-requires : tie.Need-move-down-requires
-move-down-requires c κs = (to-place (c .before .before .before .before .before .before .before .before .before .before .pre), from-place (c .before .before .before .before .before .before .before .before .before .before .pre) .inside)
+move-down-requires c κs = (to-place (c .before .before .before .before .before .before .before .pre), from-place (c .before .before .before .before .before .before .before .pre) .inside)
 
 cast-cell : tie.Need-cast-cell
 cast-cell c = search needs
 
 add-cell : tie.Need-add-cell
-add-cell c = omega (arith, from-place (c .before .before .before .before .before .before .before .before .before .before .before .before .before .before .pre), to-place (c .before .before .before .before .before .before .before .before .before .before .before .before .before .before .pre))
+add-cell c = omega (arith, from-place (c .before .before .before .before .before .before .before .before .before .before .before .pre), to-place (c .before .before .before .before .before .before .before .before .before .before .before .pre))
 
 mul-append-entry : tie.Need-mul-append-entry
-mul-append-entry c = omega (arith, from-place (c .before .before .before .before .before .before .before .before .before .before .before .before .before .before .before .pre), to-place (c .before .before .before .before .before .before .before .before .before .before .before .before .before .before .before .pre))
+mul-append-entry c = omega (arith, from-place (c .before .before .before .before .before .before .before .before .before .before .before .before .pre), to-place (c .before .before .before .before .before .before .before .before .before .before .before .before .pre))
 
 slice-read-append-entry : tie.Need-slice-read-append-entry
-slice-read-append-entry c = omega (arith, from-place (c .before .before .before .before .before .before .before .before .before .before .before .before .before .before .before .before .pre), to-place (c .before .before .before .before .before .before .before .before .before .before .before .before .before .before .before .before .pre), c .before .before .before .before .before .before .before .before .before .before .before .before .before .before .before .before .pre .sort-column)
+slice-read-append-entry c = omega (arith, from-place (c .before .before .before .before .before .before .before .before .before .before .before .before .before .pre), to-place (c .before .before .before .before .before .before .before .before .before .before .before .before .before .pre), c .before .before .before .before .before .before .before .before .before .before .before .before .before .pre .sort-column)
 
 append-entry-requires : tie.Need-append-entry-requires
 append-entry-requires c κs = search needs
@@ -62,23 +44,13 @@ same-length c = search needs
 same-length-2 : tie.Need-same-length-2
 same-length-2 c = search needs
 
-same-length-3 : tie.Need-same-length-3
-same-length-3 c = search needs
-
 returns : tie.Need-returns
-returns c =
-    row-kept (c .before .before .before .before .before .before .before .before .before .before .before .before .before .before .before .before .before .before .before .pre) _ _ _ _ (c .before .before .before .before .before .before .before .before .before .before .before .before .before .before .add-mark .ensures) (c .before .before .before .before .before .before .before .before .move-down .ensures) (c .before .before .append-entry .ensures)
+returns c = row-kept (c .before .before .before .before .before .before .before .before .before .before .before .before .before .before .before .before .pre) _ _ _ (c .before .before .before .before .before .before .before .before .move-down .ensures) (c .before .before .append-entry .ensures)
 
 pub keep-row-spec : {M : Type 1} → statement M
 keep-row-spec =
     tie.close
     (tie.spec
-    cast-word
-    mul-add-mark
-    slice-read-add-mark
-    add-mark-requires
-    mul-live
-    slice-write-live
     mul-to
     cast-to
     mul-from
@@ -92,5 +64,4 @@ keep-row-spec =
     append-entry-requires
     same-length
     same-length-2
-    same-length-3
     returns)

@@ -1,9 +1,9 @@
 -- Laws of a compaction: how the live rows of a store close up row by row, their sort entries and the words that number
 -- them; and that stores so left show the compacted plain table. Assumes nothing.
-use Prim.Native.Nat.{ℕ, _+_, _-_, _*_, _/_, _%_, _^_, _≤_, _<_, min, suc, suc-le-suc}
+use Prim.Native.Nat.{ℕ, zero, suc, _+_, _-_, _*_, _/_, _%_, _≤_, _<_, min, suc-le-suc}
 use mathlib.Core.Path.{_≡_, refl, sym, ap, ap₂, _∙_}
 use mathlib.Core.Logic.{inl, inr}
-use mathlib.Core.Bool.{Bool, true, false, cond, not}
+use mathlib.Core.Bool.{Bool, true, false, cond}
 use mathlib.Core.List.{List, [], _∷_, _++_, map, map-append, map-map, append-nil}
 use native.Mathlib.Nat.{add-zero, suc-mul, mul-le-mul-right}
 use native.Mathlib.Numerals.{add-one}
@@ -12,20 +12,18 @@ use native.Mathlib.Omega.{arith}
 use lib.ListN.{length, getD, set, length-map}
 use lib.Seq.{getD-set-same, getD-set-other}
 use lib.Dec.{ltb}
-use borrow.Author.Tests.{eq-eqb, ne-eqb}
 use Rattle.lists.specs.Lists.{putAt, keep, rowAt, rowsOf, flat}
 use Rattle.lists.specs.Laws.Keep.{split, keep-append, length-keep, count-le, every-keep}
 use Rattle.lists.specs.Laws.Parts.{length-putAt, putAt-then, part-after}
 use Rattle.lists.specs.Laws.Rows.{widths, length-rowsOf, length-rowAt, rowsOf-snoc, rowsOf-widths, widths-keep, length-flat, flat-append, getD-rowAt, getD-rowsOf, rowsOf-put-flat}
-use Rattle.cells.specs.Cells.{isDead}
 use Rattle.constraints.specs.Constraints.{isLive}
 use Rattle.sort_entries.specs.Entries.{Entry, entry, entriesOf, words, last, push, rebuilt}
 use Rattle.sort_entries.specs.inner.Append.{Append}
 use Rattle.sort_entries.specs.Laws.Push.{push-new, push-same, rebuilt-snoc}
 use Rattle.sort_entries.specs.Laws.Rebuilt.{rebuilt-few}
 use Rattle.sort_entries.specs.Laws.Stores.{length-words, words-snoc, entriesOf-put}
-use Rattle.row_buffer.specs.Ranks.{liveAt, liveWord, newNumber}
-use Rattle.row_buffer.specs.Laws.Rows.{word-none, word-live, word-dead, word-lt, number-rank, keep-at}
+use Rattle.row_buffer.specs.Ranks.{liveWord, newNumber}
+use Rattle.row_buffer.specs.Laws.Rows.{number-rank, keep-at}
 use Rattle.key_index.specs.Slots.{LiveAt}
 use Rattle.renumbering.specs.inner.Renumbering.{liveBelow, Renumbered, newRow}
 use Rattle.renumbering.specs.Laws.Renumbering.{below-number, live-among, live-rises, Compacted, renumber-sound}
@@ -41,7 +39,7 @@ use Rattle.table.specs.Sound.{keyedOf}
 use Rattle.table.specs.Stores.{entries, headerOf, stored, rowStore, sortStore, Shows, RowShown}
 use Rattle.table.specs.Promises.{stores, lengths, Represents}
 use Rattle.compaction.specs.inner.Compaction.{Lendable, ClosedUp, Compaction}
-use Rattle.compaction.specs.inner.ClosingUp.{Begun, liveStored, entriesFor, closedRows, Closed, closedHeader}
+use Rattle.compaction.specs.inner.ClosingUp.{liveStored, entriesFor, closedRows, Closed, closedHeader}
 use Rattle.table.specs.Laws.Stored.{stored-live}
 use Rattle.plain.specs.Proper.{Proper}
 use Rattle.table.specs.Laws.Shown.{stores-long, stored-rows, rows-counted, row-shown}
@@ -63,9 +61,17 @@ module _ (w n : ℕ) (rows : List ℕ) where
   unfolding keep
   live-one e = live-more ∙ rw e
 
-  pub live-none : isLive (rowAt w n rows) ≡ false → liveStored w (n + 1) rows ≡ liveStored w n rows
+  live-none : isLive (rowAt w n rows) ≡ false → liveStored w (n + 1) rows ≡ liveStored w n rows
   unfolding keep
   live-none e = live-more ∙ rw e (append-nil (liveStored w n rows))
+
+-- some more, all dead
+pub live-skip : (w n k : ℕ) (rows : List ℕ) → ((i : ℕ) → n ≤ i → i < n + k → isLive (rowAt w i rows) ≡ false) → liveStored w (n + k) rows ≡ liveStored w n rows
+live-skip w n zero rows dead = rw add-zero
+live-skip w n (suc k) rows dead =
+    let e : n + suc k ≡ n + k + 1 = omega arith in
+    let low : n ≤ n + k = omega arith in
+    rw e (live-none w (n + k) rows (dead (n + k) low (omega arith)) ∙ live-skip w n k rows (λ i p q. dead i p (omega arith)))
 
 module _ (w n : ℕ) (rows : List ℕ) (fits : n * w ≤ length rows) where
   -- they are a row's width
@@ -80,14 +86,17 @@ module _ (w n : ℕ) (rows : List ℕ) (fits : n * w ≤ length rows) where
   pub flat-below : length (flat (liveStored w n rows)) ≤ n * w
   flat-below = omega (arith, flat-live, mul-le-mul-right w (length-live w n rows))
 
+-- a later row stands as it stood, after those before row n have closed up
+pub later-row : (w n i : ℕ) (rows : List ℕ) → n ≤ i → i * w + w ≤ length rows → rowAt w i (putAt rows 0 (flat (liveStored w n rows))) ≡ rowAt w i rows
+unfolding rowAt
+later-row w n i rows h fits =
+    let m : n * w ≤ i * w = mul-le-mul-right w h in
+    let b = flat-below w n rows (omega arith) in
+    part-after rows (flat (liveStored w n rows)) 0 (omega arith) (i * w) w (omega arith)
+
 module _ (w n : ℕ) (rows : List ℕ) (fits : n * w + w ≤ length rows) where
   below : length (flat (liveStored w n rows)) ≤ n * w
   below = flat-below w n rows (omega arith)
-
-  -- the next row stands as it stood, after those before it have closed up
-  pub next-row : rowAt w n (putAt rows 0 (flat (liveStored w n rows))) ≡ rowAt w n rows
-  unfolding rowAt
-  next-row = part-after rows (flat (liveStored w n rows)) 0 (omega (arith, below)) (n * w) w (omega (arith, below))
 
   -- it is moved to their end
   pub close-one : isLive (rowAt w n rows) ≡ true
@@ -134,87 +143,29 @@ module _ (sorts : List ℕ) (es : List Entry) (fits : 2 * length es + 2 ≤ leng
 
 -- ---- the words that number the rows
 
--- the words whose first row is below m are begun, and mark the live rows below n
+-- the words whose first row is below m mark the live ones of n rows
 pub record Words (rows : List (List ℕ)) (n m : ℕ) (live base : List ℕ) : Type 0 where
   pub marks : (k : ℕ) → k * 64 < m → getD live k 0 ≡ liveWord isLive rows (k * 64) (min 64 (n - k * 64))
   pub firsts : (k : ℕ) → k * 64 < m → getD base k 0 ≡ newNumber isLive rows (k * 64)
 
-pub words-begin : (rows : List (List ℕ)) (live base : List ℕ) → Words rows 0 0 live base
-words-begin rows live base = record { marks = λ k h. absurd (omega arith); firsts = λ k h. absurd (omega arith) }
+pub words-begin : (rows : List (List ℕ)) (n : ℕ) (live base : List ℕ) → Words rows n 0 live base
+words-begin rows n live base = record { marks = λ k h. absurd (omega arith); firsts = λ k h. absurd (omega arith) }
 
-module _ (rows : List (List ℕ)) (n : ℕ) (live base : List ℕ) where
-  -- the word of row n is begun
-  module _ (s : Words rows n n live base) (live-in : n / 64 < length live) (base-in : n / 64 < length base) (kept : ℕ) (e : kept ≡ newNumber isLive rows n) where
-    begun-new : n % 64 ≡ 0 → Words rows n (n + 1) (set live (n / 64) 0) (set base (n / 64) kept)
-    begun-new z =
-        record {
-          marks = λ k h. elim (ℕ-discrete (n / 64) k) [
-            | yes q ↦
-                let none : min 64 (n - k * 64) ≡ 0 = omega arith in
-                rw (none, word-none isLive rows (k * 64), ← q) (getD-set-same live (n / 64) 0 0 live-in)
-            | no q ↦ getD-set-other live (n / 64) k 0 0 (omega arith) ∙ s .marks k (omega arith)
-          ];
-          firsts = λ k h. elim (ℕ-discrete (n / 64) k) [
-            | yes q ↦
-                let start : k * 64 ≡ n = omega arith in
-                rw (start, ← e, ← q) (getD-set-same base (n / 64) kept 0 base-in)
-            | no q ↦ getD-set-other base (n / 64) k kept 0 (omega arith) ∙ s .firsts k (omega arith)
-          ];
-        }
-
-    begun-same : (n % 64 ≡ 0 → ⊥) → Words rows n (n + 1) live base
-    begun-same z = record { marks = λ k h. s .marks k (omega arith); firsts = λ k h. s .firsts k (omega arith) }
-
-    pub words-begun : (live′ base′ : List ℕ) → Begun live base n kept live′ base′ → Words rows n (n + 1) live′ base′
-    words-begun live′ base′ b =
-        elim (ℕ-discrete (n % 64) 0) [
-          | yes z ↦ rw (b .marks, b .first, eq-eqb (n % 64) 0 z) (begun-new z)
-          | no z ↦ rw (b .marks, b .first, ne-eqb (n % 64) 0 z) (begun-same z)
-        ]
-
-  module _ (s : Words rows n (n + 1) live base) where
-    -- the word of row n so far
-    pub word-now : getD live (n / 64) 0 ≡ liveWord isLive rows (n / 64 * 64) (n % 64)
-    word-now =
-        let so-far : min 64 (n - n / 64 * 64) ≡ n % 64 = omega arith in
-        s .marks (n / 64) (omega arith) ∙ ap (liveWord isLive rows (n / 64 * 64)) so-far
-
-    pub word-below : getD live (n / 64) 0 < 2 ^ (n % 64)
-    word-below = rw word-now (word-lt isLive rows (n / 64 * 64) (n % 64))
-
-    more : (n / 64 * 64 + n % 64 ≡ n) × (min 64 (n + 1 - n / 64 * 64) ≡ n % 64 + 1)
-    more = (omega arith, omega arith)
-
-    -- an earlier word is whole
-    whole : (k : ℕ) → k * 64 < n + 1 → (n / 64 ≡ k → ⊥) → liveWord isLive rows (k * 64) (min 64 (n - k * 64)) ≡ liveWord isLive rows (k * 64) (min 64 (n + 1 - k * 64))
-    whole k h q =
-        let a : min 64 (n - k * 64) ≡ 64 = omega arith in
-        let b : min 64 (n + 1 - k * 64) ≡ 64 = omega arith in
-        rw (a, b)
-
-    -- row n is marked, or it is dead
-    pub words-marked : n / 64 < length live → liveAt isLive rows n ≡ true
-        → Words rows (n + 1) (n + 1) (set live (n / 64) (getD live (n / 64) 0 + 2 ^ (n % 64))) base
-    words-marked live-in e =
-        record {
-          marks = λ k h. elim (ℕ-discrete (n / 64) k) [
-            | yes q ↦
-                rw (← q, more .1, word-live isLive rows (n / 64 * 64) (n % 64) (rw (more .0) e), ← word-now)
-                (getD-set-same live (n / 64) (getD live (n / 64) 0 + 2 ^ (n % 64)) 0 live-in)
-            | no q ↦ getD-set-other live (n / 64) k (getD live (n / 64) 0 + 2 ^ (n % 64)) 0 (omega arith) ∙ s .marks k h ∙ whole k h q
-          ];
-          firsts = s .firsts;
-        }
-
-    pub words-passed : liveAt isLive rows n ≡ false → Words rows (n + 1) (n + 1) live base
-    words-passed e =
-        record {
-          marks = λ k h. elim (ℕ-discrete (n / 64) k) [
-            | yes q ↦ rw (← q, more .1, word-dead isLive rows (n / 64 * 64) (n % 64) (rw (more .0) e)) word-now
-            | no q ↦ s .marks k h ∙ whole k h q
-          ];
-          firsts = s .firsts;
-        }
+-- the next word
+pub words-next : (rows : List (List ℕ)) (n m : ℕ) (live base : List ℕ) (word kept : ℕ) → Words rows n m live base → m % 64 ≡ 0 → m / 64 < length live → m / 64 < length base
+    → word ≡ liveWord isLive rows m (min 64 (n - m)) → kept ≡ newNumber isLive rows m
+    → Words rows n (m + min 64 (n - m)) (set live (m / 64) word) (set base (m / 64) kept)
+words-next rows n m live base word kept s start live-in base-in e f =
+    record {
+      marks = λ k h. elim (ℕ-discrete (m / 64) k) [
+        | yes q ↦ let z : k * 64 ≡ m = omega arith in rw (z, ← e, ← q) (getD-set-same live (m / 64) word 0 live-in)
+        | no q ↦ getD-set-other live (m / 64) k word 0 (omega arith) ∙ s .marks k (omega arith)
+      ];
+      firsts = λ k h. elim (ℕ-discrete (m / 64) k) [
+        | yes q ↦ let z : k * 64 ≡ m = omega arith in rw (z, ← f, ← q) (getD-set-same base (m / 64) kept 0 base-in)
+        | no q ↦ getD-set-other base (m / 64) k kept 0 (omega arith) ∙ s .firsts k (omega arith)
+      ];
+    }
 
 -- the numbers that the words tell
 pub words-number : (rows : List (List ℕ)) (n : ℕ) (live base : List ℕ) → Words rows n n live base → (i : ℕ) → i < n → newRow live base i ≡ newNumber isLive rows i

@@ -1,13 +1,12 @@
--- What the parts of a compaction promise: the words that number the rows, one live row kept, and the stores once all live
--- rows have closed up. No plain table is spoken of, so that it holds of any stores. Assumes nothing.
-use Prim.Native.Nat.{ℕ, _+_, _*_, _/_, _%_, _^_, _≤_, _<_}
+-- What the parts of a compaction promise: one live row kept, those of a block, and the stores once all live rows have closed
+-- up. No plain table is spoken of, so that it holds of any stores. Assumes nothing.
+use Prim.Native.Nat.{ℕ, _+_, _*_, _/_, _≤_, _<_}
 use mathlib.Core.Path.{_≡_}
-use mathlib.Core.Bool.{cond}
 use mathlib.Core.List.{List, map}
-use lib.ListN.{length, getD, set}
-use lib.Dec.{eqb}
+use lib.ListN.{length, getD}
 use Rattle.lists.specs.Lists.{putAt, keep, rowAt, rowsOf, flat}
 use Rattle.constraints.specs.Constraints.{isLive}
+use Rattle.row_buffer.specs.Ranks.{liveWord}
 use Rattle.sort_entries.specs.Entries.{Entry, words, rebuilt}
 use Rattle.sort_entries.specs.inner.Append.{Room, Append}
 use Rattle.key_index.specs.Slots.{LiveAt}
@@ -17,35 +16,6 @@ use Rattle.table.specs.declared.Header.{Header}
 use Rattle.compaction.specs.declared.Kept.{Kept}
 use Rattle.table.specs.Sound.{keyedOf}
 use Rattle.table.specs.Promises.{PastNeeded}
-
--- at a row that begins a word, its marks are none and its first number is the next
-pub record Begun (live base : List ℕ) (row kept : ℕ) (live′ base′ : List ℕ) : Type 0 where
-  pub marks : live′ ≡ cond (eqb (row % 64) 0) (set live (row / 64) 0) live
-  pub first : base′ ≡ cond (eqb (row % 64) 0) (set base (row / 64) kept) base
-
--- a row can be kept: at or below its place, marked above the marks of its word, and with an entry
-pub record Keepable (h : Header) (rows sorts live : List ℕ) (row : ℕ) (kept : Kept) : Type 0 where
-  pub within : RowsIn (keyedOf h) rows
-  pub sort-column : h .sort < h .columns
-  pub row-below : row < h .rows
-  pub moves-down : kept .rows ≤ row
-  pub word-in : row / 64 < length live
-  pub marks-below : getD live (row / 64) 0 < 2 ^ (row % 64)
-  pub room : Room sorts (kept .entries)
-
--- it is moved, marked, and recorded in the sort entries, of which there are then r
-pub record RowKept (h : Header) (rows sorts live : List ℕ) (row : ℕ) (kept : Kept) (r : ℕ) (rows′ sorts′ live′ : List ℕ) : Type 0 where
-  pub moved : rows′ ≡ putAt rows (kept .rows * h .columns) (rowAt (h .columns) row rows)
-  pub marked : live′ ≡ set live (row / 64) (getD live (row / 64) 0 + 2 ^ (row % 64))
-  pub recorded : Append sorts (kept .entries) (getD (rowAt (h .columns) row rows) (h .sort) 0) (kept .rows) r sorts′
-
--- numbers within their bounds, and stores and compaction words long enough
-pub record Closable (h : Header) (rows sorts live base : List ℕ) : Type 0 where
-  pub within : RowsIn (keyedOf h) rows
-  pub sort-column : h .sort < h .columns
-  pub sorts-long : 2 * h .capacity ≤ length sorts
-  pub live-long : (h .capacity + 63) / 64 ≤ length live
-  pub base-long : (h .capacity + 63) / 64 ≤ length base
 
 -- the live ones of a store's first n rows, in order
 unfoldable pub liveStored : ℕ → ℕ → List ℕ → List (List ℕ)
@@ -58,6 +28,62 @@ entriesFor sort rows = rebuilt (map (λ row. getD row sort 0) rows)
 -- what is left of a table's rows
 abbrev pub closedRows : Header → List ℕ → List (List ℕ)
 closedRows h rows = liveStored (h .columns) (h .rows) rows
+
+-- numbers within their bounds, and rows and sort entries long enough
+pub record Movable (h : Header) (rows sorts : List ℕ) : Type 0 where
+  pub within : RowsIn (keyedOf h) rows
+  pub sort-column : h .sort < h .columns
+  pub sorts-long : 2 * h .capacity ≤ length sorts
+
+-- compaction words too
+pub record Closable (h : Header) (rows sorts live base : List ℕ) : Type 0 where
+  pub movable : Movable h rows sorts
+  pub live-long : (h .capacity + 63) / 64 ≤ length live
+  pub base-long : (h .capacity + 63) / 64 ≤ length base
+
+-- a row can be kept: at or below its place, and with an entry
+pub record Keepable (h : Header) (rows sorts : List ℕ) (row : ℕ) (kept : Kept) : Type 0 where
+  pub within : RowsIn (keyedOf h) rows
+  pub sort-column : h .sort < h .columns
+  pub row-below : row < h .rows
+  pub moves-down : kept .rows ≤ row
+  pub room : Room sorts (kept .entries)
+
+-- it is moved, and recorded in the sort entries, of which there are then r
+pub record RowKept (h : Header) (rows sorts : List ℕ) (row : ℕ) (kept : Kept) (r : ℕ) (rows′ sorts′ : List ℕ) : Type 0 where
+  pub moved : rows′ ≡ putAt rows (kept .rows * h .columns) (rowAt (h .columns) row rows)
+  pub recorded : Append sorts (kept .entries) (getD (rowAt (h .columns) row rows) (h .sort) 0) (kept .rows) r sorts′
+
+-- the live rows before row `row` have closed up, and the others stand as they stood
+pub record Closing (h : Header) (rows₀ sorts₀ rows sorts : List ℕ) (kept : Kept) (row : ℕ) : Type 0 where
+  pub row-in : row ≤ h .rows
+  pub kept-few : kept .rows ≤ row
+  pub entries-few : kept .entries ≤ kept .rows
+  pub rows-same : length rows ≡ length rows₀
+  pub sorts-same : length sorts ≡ length sorts₀
+  pub counted : kept .rows ≡ length (liveStored (h .columns) row rows₀)
+  pub closed : rows ≡ putAt rows₀ 0 (flat (liveStored (h .columns) row rows₀))
+  pub entered : kept .entries ≡ length (entriesFor (h .sort) (liveStored (h .columns) row rows₀))
+  pub recorded : sorts ≡ putAt sorts₀ 0 (words (entriesFor (h .sort) (liveStored (h .columns) row rows₀)))
+
+-- the word that marks the live ones of up to 64 rows
+abbrev pub blockWord : Header → List ℕ → ℕ → ℕ → ℕ
+blockWord h rows first count = liveWord isLive (rowsOf (h .columns) (h .rows) rows) first count
+
+-- the rows before these have closed up, in some stores, and a word marks the live ones of these
+pub record Block (h : Header) (rows sorts : List ℕ) (first word : ℕ) (kept : Kept) : Type 0 where
+  pub rows₀ : List ℕ
+  pub sorts₀ : List ℕ
+  pub count : ℕ
+  pub movable : Movable h rows₀ sorts₀
+  pub few : count ≤ 64
+  pub inside : first + count ≤ h .rows
+  pub marked : word ≡ blockWord h rows₀ first count
+  pub closing : Closing h rows₀ sorts₀ rows sorts kept first
+
+-- and then these have too
+pub record BlockKept (h : Header) (rows sorts : List ℕ) (first word : ℕ) (kept r : Kept) (rows′ sorts′ : List ℕ) : Type 0 where
+  pub on : (b : Block h rows sorts first word kept) → Closing h (b .rows₀) (b .sorts₀) rows′ sorts′ r (first + b .count)
 
 -- the live rows have closed up, and the words tell their new numbers
 pub record Closed (h : Header) (rows sorts live base : List ℕ) (kept : Kept) (rows′ sorts′ live′ base′ : List ℕ) : Type 0 where

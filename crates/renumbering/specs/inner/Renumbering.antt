@@ -47,6 +47,16 @@ pub record Ranked (t : Keyed) (live base : List ℕ) : Type 0 where
   pub marks : (t .capacity + 63) / 64 ≤ length live
   pub firsts : (t .capacity + 63) / 64 ≤ length base
 
+-- up to 64 slots of a store
+pub record Block (store : List ℕ) (from count : ℕ) : Type 0 where
+  pub few : count ≤ 64
+  pub inside : from + count ≤ length store
+  pub most : from + count ≤ 131072
+
+-- where the slots before them are renumbered, they are too
+pub record BlockRenumbered (t : Keyed) (live base store : List ℕ) (from count : ℕ) (store′ : List ℕ) : Type 0 where
+  pub on : (l : List ℕ) → store ≡ mapFront (renumbered t live base) from l → store′ ≡ mapFront (renumbered t live base) (from + count) l
+
 -- all slots are renumbered, if it was not done before
 pub record Rest (t : Keyed) (done : Bool) (store live base store′ : List ℕ) : Type 0 where
   pub yes : done ≡ true → store′ ≡ store

@@ -1,0 +1,54 @@
+-- The turns of `marks_other`. Assumes nothing.
+use Prim.Native.Nat.{ℕ, _+_, _*_, _^_, _≤_, _<_}
+use mathlib.Core.Path.{_≡_, refl, sym, ap, _∙_}
+use mathlib.Core.Bool.{true, false, not}
+use mathlib.Core.List.{List}
+use native.Mathlib.Nat.{zero-mul, add-zero, suc-mul}
+use native.Mathlib.Numerals.{add-one}
+use native.Mathlib.Omega.{arith}
+use lib.ListN.{length, getD}
+use borrow.Author.Tests.{eq-eqb, ne-eqb}
+use Rattle.lists.specs.Laws.Rows.{row-in}
+use Rattle.row_buffer.specs.Ranks.{marks}
+use Rattle.row_buffer.specs.Laws.Rows.{marks-yes, marks-no, marks-lt}
+use Rattle.marks.specs.inner.Marking.{Spaced, otherAt}
+
+module _ (cells : List ℕ) (from stride count than : ℕ) where
+  -- what holds at the loop's head
+  pub record Marked (word at bit : ℕ) : Type 0 where
+    pub few : bit ≤ count
+    pub here : at ≡ from + bit * stride
+    pub made : word ≡ marks (otherAt cells from stride than) bit
+
+  pub marked-begin : Marked 0 from 0
+  unfolding marks
+  marked-begin = record { few = omega arith; here = omega (arith, zero-mul stride); made = refl }
+
+  module _ (s : Spaced cells from stride count) (word at bit : ℕ) (m : Marked word at bit) where
+    pub word-below : word < 2 ^ bit
+    word-below = rw (m .made) (marks-lt (otherAt cells from stride than) bit)
+
+    module _ (more : bit < count) where
+      -- the place lies in the store, and the next one's cell not past its end
+      pub place-in : (at < length cells) × (at + stride ≤ length cells)
+      place-in =
+          let r = row-in bit count stride more in
+          (omega (arith, m .here, s .inside, s .apart), omega (arith, m .here, s .inside))
+
+      on : at + stride ≡ from + (bit + 1) * stride
+      on = let e : (bit + 1) * stride ≡ bit * stride + stride = rw add-one (suc-mul bit stride) in omega (arith, m .here)
+
+      pub marked-other : (getD cells at 0 ≡ than → ⊥) → (word′ : ℕ) → word′ ≡ word + 2 ^ bit → Marked word′ (at + stride) (bit + 1)
+      unfolding otherAt
+      marked-other ne word′ e =
+          let y : otherAt cells from stride than bit ≡ true = ap not (ne-eqb _ than (rw (m .here) at ne)) in
+          record { few = omega arith; here = on; made = e ∙ ap (λ (x : ℕ). x + 2 ^ bit) (m .made) ∙ sym (marks-yes (otherAt cells from stride than) bit y) }
+
+      pub marked-same : getD cells at 0 ≡ than → Marked word (at + stride) (bit + 1)
+      unfolding otherAt
+      marked-same e =
+          let y : otherAt cells from stride than bit ≡ false = ap not (eq-eqb _ than (rw (m .here) at e)) in
+          record { few = omega arith; here = on; made = m .made ∙ sym (marks-no (otherAt cells from stride than) bit y) }
+
+    pub marked-end : count ≤ bit → word ≡ marks (otherAt cells from stride than) count
+    marked-end h = let e : bit ≡ count = omega (arith, m .few) in rw (← e) (m .made)

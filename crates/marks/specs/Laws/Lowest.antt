@@ -1,0 +1,164 @@
+-- A word of marks read from its lowest mark up: where that stands, and the word without it. Assumes nothing.
+use Prim.Native.Nat.{ℕ, zero, suc, _+_, _-_, _*_, _/_, _%_, _^_, _≤_, _<_, min}
+use mathlib.Core.Path.{_≡_, refl, sym, ap, ap₂, _∙_}
+use mathlib.Core.Logic.{inl, inr}
+use mathlib.Core.Bool.{Bool, true, false, cond, _&&_, false≢true}
+use native.Mathlib.Nat.{pow-suc}
+use native.Mathlib.Decide.{decLt}
+use native.Mathlib.Omega.{arith}
+use lib.Bits.{bitAnd, and-step, and-self}
+use lib.Count.{trailingZeros, under}
+use lib.Dec.{leb}
+use lib.Pow.{pow-pos}
+use borrow.Author.Tests.{le-leb, lt-leb, leb-true}
+use Rattle.lists.specs.Laws.Keep.{split, and-left, and-right}
+use Rattle.row_buffer.specs.Ranks.{marks}
+
+-- the marks of two tests that agree
+pub marks-same : (f g : ℕ → Bool) (n : ℕ) → ((k : ℕ) → k < n → f k ≡ g k) → marks f n ≡ marks g n
+unfolding marks
+marks-same f g zero h = refl
+marks-same f g (suc n) h = rw (marks-same f g n (λ k b. h k (omega arith)), h n (omega arith))
+
+-- none is set
+pub marks-none : (f : ℕ → Bool) (n : ℕ) → marks f n ≡ 0 → (k : ℕ) → k < n → f k ≡ false
+unfolding marks
+marks-none f zero e k h = absurd (omega arith)
+marks-none f (suc n) e k h = elim (split (f n)) [
+  | inl q ↦ absurd (let z : marks f n + 2 ^ n ≡ 0 = rw q at e in omega (arith, pow-pos n))
+  | inr q ↦
+      let z : marks f n + 0 ≡ 0 = rw q at e in
+      elim (decLt k n) [ yes b ↦ marks-none f n (omega arith) k b | no b ↦ let s : k ≡ n = omega arith in rw s q ]
+]
+
+-- the first mark, and the others by one place lower
+abbrev digit : Bool → ℕ
+digit b = cond b 1 0
+
+abbrev above : (ℕ → Bool) → ℕ → Bool
+above f k = f (suc k)
+
+marks-low : (f : ℕ → Bool) (n : ℕ) → marks f (suc n) ≡ digit (f 0) + 2 * marks (above f) n
+unfolding marks
+marks-low f zero = omega arith
+marks-low f (suc n) =
+    let h = marks-low f n in
+    let p : 2 ^ suc n ≡ 2 ^ n * 2 = pow-suc 2 n in
+    elim (split (f (suc n))) [ inl q ↦ rw q (omega arith) | inr q ↦ rw q (omega arith) ]
+
+zeros-odd : (d m : ℕ) → m % 2 ≡ 1 → trailingZeros (suc d) m ≡ 0
+unfolding trailingZeros
+zeros-odd d m e = rw e
+
+zeros-even : (d m : ℕ) → m % 2 ≡ 0 → trailingZeros (suc d) m ≡ suc (trailingZeros d (m / 2))
+unfolding trailingZeros
+zeros-even d m e = rw e
+
+-- the word without its lowest mark, half by half
+and-odd : (m h : ℕ) → m ≡ 1 + 2 * h → bitAnd m (m - 1) ≡ h * 2
+and-odd m h e =
+    let a : m / 2 ≡ h = omega arith in
+    let b : (m - 1) / 2 ≡ h = omega arith in
+    let c : min (m % 2) ((m - 1) % 2) ≡ 0 = omega arith in
+    and-step m (m - 1) ∙ rw (a, b, c, and-self h) (omega arith)
+
+and-even : (m h : ℕ) → m ≡ 2 * h → 0 < h → bitAnd m (m - 1) ≡ bitAnd h (h - 1) * 2
+and-even m h e some =
+    let a : m / 2 ≡ h = omega arith in
+    let b : (m - 1) / 2 ≡ h - 1 = omega arith in
+    let c : min (m % 2) ((m - 1) % 2) ≡ 0 = omega arith in
+    and-step m (m - 1) ∙ rw (a, b, c) (omega arith)
+
+-- place z has the lowest of the marks m, and `m & (m - 1)` has the others
+pub record Lowest (f : ℕ → Bool) (n m z : ℕ) : Type 0 where
+  pub below : z < n
+  pub set : f z ≡ true
+  pub none : (k : ℕ) → k < z → f k ≡ false
+  pub rest : (g : ℕ → Bool) → ((k : ℕ) → k < n → (k ≡ z → ⊥) → g k ≡ f k) → g z ≡ false → bitAnd m (m - 1) ≡ marks g n
+
+lowest : (d : ℕ) (f : ℕ → Bool) (n : ℕ) → n ≤ d → 0 < marks f n → Lowest f n (marks f n) (trailingZeros d (marks f n))
+lowest d f zero h some = absurd (let z : marks f 0 ≡ 0 = unfold marks in refl in omega arith)
+lowest zero f (suc n) h some = absurd (omega arith)
+lowest (suc d) f (suc n) h some = elim (split (f 0)) [ inl e ↦ odd e | inr e ↦ even e (λ some. lowest d (above f) n (omega arith) some) ]
+  where
+    odd : f 0 ≡ true → Lowest f (suc n) (marks f (suc n)) (trailingZeros (suc d) (marks f (suc n)))
+    odd e =
+        let m : marks f (suc n) ≡ 1 + 2 * marks (above f) n = marks-low f n ∙ rw e in
+        rw (zeros-odd d (marks f (suc n)) (omega arith))
+        (record {
+          below = omega arith;
+          set = e;
+          none = λ k b. absurd (omega arith);
+          rest = λ g same off.
+              let u : marks (above g) n ≡ marks (above f) n = marks-same _ _ n (λ k b. same (suc k) (omega arith) (λ q. omega arith)) in
+              and-odd (marks f (suc n)) (marks (above f) n) m ∙ sym (marks-low g n ∙ rw (off, u) (omega arith));
+        })
+
+    even : f 0 ≡ false → (0 < marks (above f) n → Lowest (above f) n (marks (above f) n) (trailingZeros d (marks (above f) n)))
+        → Lowest f (suc n) (marks f (suc n)) (trailingZeros (suc d) (marks f (suc n)))
+    even e deeper =
+        let m : marks f (suc n) ≡ 2 * marks (above f) n = marks-low f n ∙ rw e (omega arith) in
+        let half : marks f (suc n) / 2 ≡ marks (above f) n = omega arith in
+        let some-upper : 0 < marks (above f) n = omega arith in
+        let l = deeper some-upper in
+        rw (zeros-even d (marks f (suc n)) (omega arith), half)
+        (record {
+          below = omega (arith, l .below);
+          set = l .set;
+          none = λ k b. first e (l .none) k b;
+          rest = λ g same off.
+              let zero-off : g 0 ≡ false = same 0 (omega arith) (λ q. omega arith) ∙ e in
+              let u = l .rest (above g) (λ k b ne. same (suc k) (omega arith) (λ q. ne (omega arith))) off in
+              and-even (marks f (suc n)) (marks (above f) n) m some-upper ∙ sym (marks-low g n ∙ rw (zero-off, ← u) (omega arith));
+        })
+      where
+        first : {z : ℕ} → f 0 ≡ false → ((k : ℕ) → k < z → f (suc k) ≡ false) → (k : ℕ) → k < suc z → f k ≡ false
+        first e g zero b = e
+        first e g (suc k) b = g k (omega arith)
+
+-- ---- the marks from a place on
+
+unfoldable pub onward : (ℕ → Bool) → ℕ → ℕ → Bool
+onward f j k = leb j k && f k
+
+module _ (f : ℕ → Bool) where
+  onward-in : (j k : ℕ) → j ≤ k → onward f j k ≡ f k
+  unfolding onward
+  onward-in j k h = rw (le-leb j k h)
+
+  onward-out : (j k : ℕ) → k < j → onward f j k ≡ false
+  unfolding onward
+  onward-out j k h = rw (lt-leb j k h)
+
+  -- all
+  pub onward-all : (n : ℕ) → marks f n ≡ marks (onward f 0) n
+  onward-all n = marks-same f (onward f 0) n (λ k h. sym (onward-in 0 k (omega arith)))
+
+  -- where the next one stands
+  pub record Next (j n m z : ℕ) : Type 0 where
+    pub after : j ≤ z
+    pub below : z < n
+    pub set : f z ≡ true
+    pub none : (k : ℕ) → j ≤ k → k < z → f k ≡ false
+    pub rest : bitAnd m (m - 1) ≡ marks (onward f (z + 1)) n
+
+  module _ (j n m : ℕ) (e : m ≡ marks (onward f j) n) where
+    pub next-mark : n ≤ 64 → (m ≡ 0 → ⊥) → Next j n m (trailingZeros 64 m)
+    next-mark few some =
+        let l : Lowest (onward f j) n m (trailingZeros 64 m) = rw e (lowest 64 (onward f j) n few (omega arith)) in
+        let z = trailingZeros 64 m in
+        let after : j ≤ z = elim (decLt z j) [ yes h ↦ absurd (false≢true (sym (onward-out j z h) ∙ l .set)) | no h ↦ omega arith ] in
+        record {
+          after = after;
+          below = l .below;
+          set = sym (onward-in j z after) ∙ l .set;
+          none = λ k h b. sym (onward-in j k h) ∙ l .none k b;
+          rest = l .rest (onward f (z + 1)) (λ k h ne. elim (decLt k z) [
+            | yes b ↦ onward-out (z + 1) k (omega arith) ∙ sym (l .none k b)
+            | no b ↦ onward-in (z + 1) k (omega arith) ∙ sym (onward-in j k (omega arith))
+          ]) (onward-out (z + 1) z (omega arith));
+        }
+
+    -- there is none
+    pub no-more : m ≡ 0 → (k : ℕ) → j ≤ k → k < n → f k ≡ false
+    no-more z k h b = sym (onward-in j k h) ∙ marks-none (onward f j) n (sym e ∙ z) k b

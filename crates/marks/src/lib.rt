@@ -1,0 +1,36 @@
+// Words of marks, one for each of up to 64 places: a pass over them goes from mark to mark by the lowest one set, without a test
+// of each place that no processor can foresee.
+ghost use mathlib.Core.Path.{_≡_};
+ghost use Prim.Native.Nat.{min};
+ghost use Rattle.row_buffer.specs.Ranks.{marks};
+ghost use Rattle.marks.specs.inner.Marking.{Spaced, otherAt};
+
+// How many of the places that are left go into the next word.
+pub fn block(left: u32) -> u32
+    ensures { λ r. ⌜ r ≡ min 64 left ⌝ }
+{
+    if left < 64 {
+        return left;
+    }
+    64
+}
+
+// Marks the places whose cell is another one than this.
+pub fn marks_other(cells: &[u32], from: usize, stride: usize, count: u32, than: u32) -> u64
+    requires { ⌜ Spaced (now cells) from stride count ⌝ }
+    ensures { λ r. ⌜ r ≡ marks (otherAt (now (cells .entry)) from stride than) count ⌝ }
+{
+    let mut word: u64 = 0;
+    let mut at = from;
+    let mut bit: u32 = 0;
+    while bit < count {
+        let cell = cells[at];
+        let place = bit;
+        at += stride;
+        bit += 1;
+        if cell != than {
+            word = row_buffer::add_mark(word, place);
+        }
+    }
+    word
+}
