@@ -3,25 +3,27 @@
 ghost use mathlib.Core.Path.{_≡_};
 ghost use mathlib.Core.Bool.{true};
 ghost use Prim.Native.Nat.{_≤_};
-ghost use lib.ListN.{length as len};
-ghost use Rattle.levels_text.specs.Lines.{isForm};
-use levels_calls::ask;
-use levels_calls::merge_pending;
-use levels_calls::remake;
-use levels_calls::stage;
+ghost use lib.ListN.{length as len, take};
+ghost use Rattle.table.specs.Refusing.{outside};
+ghost use Rattle.table.specs.Promises.{stores};
+ghost use Rattle.levels.specs.inner.Turning.{Advanced, Turned};
+use levels_answers::answer;
 use levels_lines::Input;
 use levels_lines::next_line;
-use levels_lines::refuse;
-use levels_text::MOST_NUMBERS;
-use levels_text::Parsed;
+use libc::STDOUT_FILENO;
 use table::Header;
 use table::Largest;
 
 // The bytes of a line that are kept: one more than a line may have, so that a longer one is seen to be.
 const KEPT: usize = 121;
 
+// The most bytes that a line prints: a listing's head of five numbers, then 1,024 rows of eight.
+const MOST_TEXT: usize = 92217;
+
 // The header before the first opening, which every operation refuses.
-fn no_table() -> Header {
+fn no_table() -> Header
+    ensures { λ r. ⌜ outside r ≡ true ⌝ }
+{
     Header {
         columns: 0,
         keys: 0,
@@ -37,63 +39,26 @@ fn no_table() -> Header {
     }
 }
 
-// One line of the forms, by its letter.
-fn serve(
-    h: Header,
-    letter: u8,
-    numbers: &[u32],
-    rows: &mut [u32],
-    keys: &mut [u32],
-    sorts: &mut [u32],
-    pending: &mut [u32],
-    live: &mut [u64],
-    base: &mut [u32],
-) -> Header
-    requires { ⌜ isForm letter (len (now numbers)) ≡ true ⌝ }
-{
-    match letter {
-        b'I' | b'R' | b'K' => stage(h, letter, numbers, pending),
-        b'M' => merge_pending(h, rows, keys, sorts, pending, live, base),
-        b'O' | b'C' | b'G' => remake(h, letter, numbers, rows, keys, sorts, pending, live, base),
-        _ => {
-            ask(h, letter, numbers, rows, sorts);
-            h
-        }
-    }
-}
-
-// Any line, of the first bytes of the lent ones.
-pub fn answer(
+// Answers the line that the first bytes are, and writes the answer.
+fn write_answer(
     h: Header,
     line: &[u8],
     length: usize,
-    numbers: &mut [u32],
     rows: &mut [u32],
     keys: &mut [u32],
     sorts: &mut [u32],
     pending: &mut [u32],
-    live: &mut [u64],
-    base: &mut [u32],
+    text: &mut [u8],
 ) -> Header
     requires { ⌜ length ≤ len (now line) ⌝ }
+    requires { ⌜ len (now keys) ≤ 2048 ⌝ }
+    requires { ⌜ 92217 ≤ len (now text) ⌝ }
+    ensures { λ r. ⌜ Advanced (take length (now (line .entry))) (stores h (now (rows .entry)) (now (keys .entry)) (now (sorts .entry)) (now (pending .entry))) (stores r (now (rows .exit)) (now (keys .exit)) (now (sorts .exit)) (now (pending .exit))) ⌝ }
 {
-    match levels_text::parse(&line[..length], numbers) {
-        Parsed::Wrong => {
-            refuse(11);
-            h
-        }
-        Parsed::Line(letter, count) => serve(
-            h,
-            letter,
-            &numbers[..count],
-            rows,
-            keys,
-            sorts,
-            pending,
-            live,
-            base,
-        ),
-    }
+    let answered = answer(h, &line[..length], rows, keys, sorts, pending, text);
+    let used = answered.used;
+    io::write_all(STDOUT_FILENO, &text[..used]);
+    answered.header
 }
 
 // The table and the input from one line to the next.
@@ -108,14 +73,14 @@ fn turn(
     state: State,
     line: &mut [u8; KEPT],
     chunk: &mut [u8; 4096],
-    numbers: &mut [u32; MOST_NUMBERS],
     rows: &mut [u32; 8192],
     keys: &mut [u32; 2048],
     sorts: &mut [u32; 2048],
     pending: &mut [u32; 2048],
-    live: &mut [u64; 16],
-    base: &mut [u32; 16],
-) -> State {
+    text: &mut [u8; MOST_TEXT],
+) -> State
+    ensures { λ r. ⌜ Turned (stores (state .header) (now (rows .entry)) (now (keys .entry)) (now (sorts .entry)) (now (pending .entry))) (r .«is_over») (stores (r .header) (now (rows .exit)) (now (keys .exit)) (now (sorts .exit)) (now (pending .exit))) ⌝ }
+{
     let header = state.header;
     let from = state.input;
     let read = next_line(line, chunk, from);
@@ -128,18 +93,7 @@ fn turn(
         };
     }
     let length = read.length;
-    let after = answer(
-        header,
-        line,
-        length,
-        numbers,
-        rows,
-        keys,
-        sorts,
-        pending,
-        live,
-        base,
-    );
+    let after = write_answer(header, line, length, rows, keys, sorts, pending, text);
     State {
         header: after,
         input: input,
@@ -151,13 +105,11 @@ fn turn(
 fn main() {
     let mut line = [0u8; KEPT];
     let mut chunk = [0u8; 4096];
-    let mut numbers = [0u32; MOST_NUMBERS];
     let mut rows = [0u32; 8192];
     let mut keys = [0u32; 2048];
     let mut sorts = [0u32; 2048];
     let mut pending = [0u32; 2048];
-    let mut live = [0u64; 16];
-    let mut base = [0u32; 16];
+    let mut text = [0u8; MOST_TEXT];
     let mut state = State {
         header: no_table(),
         input: Input { next: 0, end: 0 },
@@ -169,13 +121,11 @@ fn main() {
             state,
             &mut line,
             &mut chunk,
-            &mut numbers,
             &mut rows,
             &mut keys,
             &mut sorts,
             &mut pending,
-            &mut live,
-            &mut base,
+            &mut text,
         );
         if state.is_over {
             return;

@@ -1,71 +1,86 @@
-// The lines of `levels` that change a table, and those that ask.
+// The lines of `levels` that change a table: each makes its call, and gives the header after it and what it says. The compaction
+// words are made where they are lent.
 ghost use mathlib.Core.Path.{_≡_};
-ghost use mathlib.Core.Bool.{true};
+ghost use mathlib.Core.Bool.{cond};
+ghost use mathlib.Core.Logic.{_⊎_};
 ghost use Prim.Native.Nat.{_≤_};
 ghost use lib.ListN.{length};
-ghost use Rattle.levels_text.specs.Lines.{isForm};
-use constraints::Constraint;
-use levels_lines::refuse;
-use levels_lines::write_line;
-use libc::STDOUT_FILENO;
+ghost use Rattle.table.specs.Numbers.{tableSays, mergeSays};
+ghost use Rattle.table.specs.Promises.{headerAfter, headerMerged, stores};
+ghost use Rattle.levels_said.specs.inner.Saying.{saidOf, saysNothing, saysMerge, Taken, Serving};
+ghost use Rattle.levels_calls.specs.inner.Calling.{OnPending, OnKeys, OnBody, OnAll};
+use levels_said::Said;
+use levels_said::Served;
 use table::Header;
 use table::MergeAnswer;
-use table::RangeAnswer;
 use table::TableAnswer;
-use table::VersionAnswer;
 
 // The most rows that the program's stores have room for.
 const MOST_ROWS: u32 = 1024;
 
-// The header that an operation leaves.
-fn taken(h: Header, answer: TableAnswer) -> Header {
+// The words that a compaction needs for so many rows.
+const WORDS: usize = 16;
+
+// What an opening, a staging, a compaction or a clear leaves and says.
+fn taken(h: Header, answer: TableAnswer) -> Served
+    ensures { λ r. ⌜ Taken (headerAfter h (tableSays answer)) (saidOf saysNothing (tableSays answer)) r ⌝ }
+{
     match answer {
-        TableAnswer::Refused(number) => {
-            refuse(number);
-            h
-        }
-        TableAnswer::Table(after) => after,
+        TableAnswer::Refused(number) => Served {
+            header: h,
+            said: Said::Refused(number),
+        },
+        TableAnswer::Table(after) => Served {
+            header: after,
+            said: Said::Nothing,
+        },
     }
 }
 
 // K: a row, then the cells of its key.
-fn stage_by_row(h: Header, numbers: &[u32], pending: &mut [u32]) -> Header
+fn stage_by_row(h: Header, numbers: &[u32], pending: &mut [u32]) -> Served
     requires { ⌜ 1 ≤ length (now numbers) ⌝ }
+    ensures { λ r. ⌜ OnPending 75 (now (numbers .entry)) h (now (pending .entry)) r (now (pending .exit)) ⌝ }
 {
-    taken(
-        h,
-        staging::stage_remove_row(h, pending, numbers[0], &numbers[1..]),
-    )
+    let answer = staging::stage_remove_row(h, pending, numbers[0], &numbers[1..]);
+    taken(h, answer)
 }
 
 // I, R and K.
-pub fn stage(h: Header, letter: u8, numbers: &[u32], pending: &mut [u32]) -> Header
+pub fn stage(h: Header, letter: u8, numbers: &[u32], pending: &mut [u32]) -> Served
+    requires { ⌜ (letter ≡ 73) ⊎ ((letter ≡ 75) ⊎ (letter ≡ 82)) ⌝ }
     requires { ⌜ 1 ≤ length (now numbers) ⌝ }
+    ensures { λ r. ⌜ OnPending letter (now (numbers .entry)) h (now (pending .entry)) r (now (pending .exit)) ⌝ }
 {
     if letter == b'I' {
-        return taken(h, staging::stage_insert(h, pending, numbers));
+        let inserted = staging::stage_insert(h, pending, numbers);
+        return taken(h, inserted);
     }
     if letter == b'R' {
-        return taken(h, staging::stage_remove(h, pending, numbers));
+        let removed = staging::stage_remove(h, pending, numbers);
+        return taken(h, removed);
     }
     stage_by_row(h, numbers, pending)
 }
 
 // O. A table that cannot be opened leaves the one before with its pending records.
-fn open_table(
+pub fn open_table(
     h: Header,
     numbers: &[u32],
     rows: &[u32],
     keys: &mut [u32],
     sorts: &[u32],
     pending: &[u32],
-) -> Header
-    requires { ⌜ 6 ≤ length (now numbers) ⌝ }
+) -> Served
+    requires { ⌜ length (now numbers) ≡ 6 ⌝ }
+    ensures { λ r. ⌜ Serving 79 (now (numbers .entry)) (stores h (now (rows .entry)) (now (keys .entry)) (now (sorts .entry)) (now (pending .entry))) (stores (r .header) (now (rows .entry)) (now (keys .exit)) (now (sorts .entry)) (now (pending .entry))) (r .said) ⌝ }
 {
     let capacity = numbers[4];
     if MOST_ROWS < capacity {
-        refuse(11);
-        return h;
+        return Served {
+            header: h,
+            said: Said::Refused(11),
+        };
     }
     let opened = opening::open_table(
         numbers[0],
@@ -82,31 +97,47 @@ fn open_table(
     taken(h, opened)
 }
 
-// O, C and G.
-pub fn remake(
-    h: Header,
-    letter: u8,
-    numbers: &[u32],
-    rows: &mut [u32],
-    keys: &mut [u32],
-    sorts: &mut [u32],
-    pending: &[u32],
-    live: &mut [u64],
-    base: &mut [u32],
-) -> Header
-    requires { ⌜ isForm letter (length (now numbers)) ≡ true ⌝ }
+// C
+pub fn clear(h: Header, keys: &mut [u32]) -> Served
+    ensures { λ r. ⌜ OnKeys 67 h (now (keys .entry)) r (now (keys .exit)) ⌝ }
 {
-    if letter == b'O' {
-        return open_table(h, numbers, rows, keys, sorts, pending);
-    }
-    if letter == b'C' {
-        return taken(h, opening::clear(h, keys));
-    }
-    taken(h, compaction::compact(h, rows, keys, sorts, live, base))
+    let cleared = opening::clear(h, keys);
+    taken(h, cleared)
 }
 
-fn digit_of(yes: bool) -> u32 {
+// G
+pub fn compact(h: Header, rows: &mut [u32], keys: &mut [u32], sorts: &mut [u32]) -> Served
+    ensures { λ r. ⌜ OnBody 71 h (now (rows .entry)) (now (keys .entry)) (now (sorts .entry)) r (now (rows .exit)) (now (keys .exit)) (now (sorts .exit)) ⌝ }
+{
+    let mut live = [0u64; WORDS];
+    let mut base = [0u32; WORDS];
+    let compacted = compaction::compact(h, rows, keys, sorts, &mut live, &mut base);
+    taken(h, compacted)
+}
+
+fn digit_of(yes: bool) -> u32
+    ensures { λ r. ⌜ r ≡ cond yes 1 0 ⌝ }
+{
     if yes { 1 } else { 0 }
+}
+
+// What a merge leaves and says.
+fn merge_taken(h: Header, answer: MergeAnswer) -> Served
+    ensures { λ r. ⌜ Taken (headerMerged h (mergeSays answer)) (saidOf saysMerge (mergeSays answer)) r ⌝ }
+{
+    match answer {
+        MergeAnswer::Refused(number) => Served {
+            header: h,
+            said: Said::Refused(number),
+        },
+        MergeAnswer::Merged(m) => {
+            let header = m.header;
+            Served {
+                header: header,
+                said: Said::Merged(m.status, digit_of(m.added), m.place),
+            }
+        }
+    }
 }
 
 // M
@@ -116,98 +147,11 @@ pub fn merge_pending(
     keys: &mut [u32],
     sorts: &mut [u32],
     pending: &[u32],
-    live: &mut [u64],
-    base: &mut [u32],
-) -> Header {
-    match merge::merge(h, rows, keys, sorts, pending, live, base) {
-        MergeAnswer::Refused(number) => {
-            refuse(number);
-            h
-        }
-        MergeAnswer::Merged(m) => {
-            let numbers = [m.status, digit_of(m.added), m.place];
-            write_line(b'M', &numbers);
-            m.header
-        }
-    }
-}
-
-// F
-fn ask_range(h: Header, numbers: &[u32], sorts: &[u32])
-    requires { ⌜ 3 ≤ length (now numbers) ⌝ }
+) -> Served
+    ensures { λ r. ⌜ OnAll 77 (stores h (now (rows .entry)) (now (keys .entry)) (now (sorts .entry)) (now (pending .entry))) (stores (r .header) (now (rows .exit)) (now (keys .exit)) (now (sorts .exit)) (now (pending .entry))) r ⌝ }
 {
-    let c = Constraint {
-        kind: numbers[0],
-        column: numbers[1],
-        value: numbers[2],
-    };
-    match reading::fast_subset(h, sorts, c) {
-        RangeAnswer::Refused(number) => refuse(number),
-        RangeAnswer::None => {
-            io::write_all(STDOUT_FILENO, b"F,none\n");
-        }
-        RangeAnswer::Range(start, end) => {
-            let ends = [start, end];
-            write_line(b'F', &ends);
-        }
-    }
-}
-
-// V
-fn ask_version(h: Header) {
-    match reading::version(h) {
-        VersionAnswer::Refused(number) => refuse(number),
-        VersionAnswer::Version(v) => {
-            let numbers = [v.generation, v.rows];
-            write_line(b'V', &numbers);
-        }
-    }
-}
-
-// A row if it is live.
-fn list_row(row: &[u32]) {
-    if constraints::is_live(row) {
-        write_line(b'D', row);
-    }
-}
-
-// The live rows of the first `count`, as far as the store goes.
-fn list_rows(rows: &[u32], columns: usize, count: u32) {
-    let mut at = 0;
-    let mut left = count;
-    while left > 0 {
-        if rows.len() - at < columns {
-            return;
-        }
-        let next = at + columns;
-        list_row(&rows[at..next]);
-        at = next;
-        left -= 1;
-    }
-}
-
-// L
-fn list(h: Header, rows: &[u32]) {
-    match reading::version(h) {
-        VersionAnswer::Refused(number) => refuse(number),
-        VersionAnswer::Version(v) => {
-            let numbers = [h.columns, h.keys, h.sort, h.rule, v.generation];
-            write_line(b'T', &numbers);
-            list_rows(rows, h.columns as usize, v.rows);
-        }
-    }
-}
-
-pub fn ask(h: Header, letter: u8, numbers: &[u32], rows: &[u32], sorts: &[u32])
-    requires { ⌜ isForm letter (length (now numbers)) ≡ true ⌝ }
-{
-    if letter == b'F' {
-        ask_range(h, numbers, sorts);
-        return;
-    }
-    if letter == b'V' {
-        ask_version(h);
-        return;
-    }
-    list(h, rows);
+    let mut live = [0u64; WORDS];
+    let mut base = [0u32; WORDS];
+    let merged = merge::merge(h, rows, keys, sorts, pending, &mut live, &mut base);
+    merge_taken(h, merged)
 }

@@ -1,78 +1,55 @@
-// Lines of standard input, and a line of standard output: bytes of a text that grows, then written at once.
-ghost use Prim.Native.Nat.{_≤_};
-ghost use lib.ListN.{length};
-ghost use Rattle.io.specs.Counts.{Counts};
+// Lines of standard input.
+ghost use Prim.Native.Nat.{_-_, _≤_};
+ghost use mathlib.Core.List.{[], _∷_};
+ghost use lib.ListN.{length as len, take, drop};
+ghost use Rattle.levels_lines.specs.inner.Scanning.{Kept, Scanned, Taken};
 use libc::STDIN_FILENO;
-use libc::STDOUT_FILENO;
 
 // One byte more, if it has room.
-pub fn put(text: &mut [u8], used: usize, byte: u8) -> usize
-    requires { ⌜ used ≤ length (now text) ⌝ }
-    ensures { λ r. ⌜ r ≤ length (now (text .exit)) ⌝ }
+fn keep(line: &mut [u8], length: usize, byte: u8) -> usize
+    requires { ⌜ length ≤ len (now line) ⌝ }
+    ensures { λ r. ⌜ Kept (now (line .entry)) length (byte ∷ []) (now (line .exit)) r ⌝ }
 {
-    if used == text.len() {
-        return used;
+    if length == line.len() {
+        return length;
     }
-    text[used] = byte;
-    used + 1
+    line[length] = byte;
+    length + 1
 }
 
-fn put_bytes(text: &mut [u8], used: usize, bytes: &[u8]) -> usize
-    requires { ⌜ used ≤ length (now text) ⌝ }
-    ensures { λ r. ⌜ r ≤ length (now (text .exit)) ⌝ }
+// What was found: how many bytes of the line are kept, the place behind the bytes read, and whether the line ended.
+pub struct Scan {
+    pub length: usize,
+    pub next: usize,
+    pub is_whole: bool,
+}
+
+// Takes bytes of the chunk up to the end of the line or of those that are there.
+fn scan_chunk(line: &mut [u8], length: usize, chunk: &[u8], from: usize, end: usize) -> Scan
+    requires { ⌜ length ≤ len (now line) ⌝ }
+    requires { ⌜ from ≤ end ⌝ }
+    requires { ⌜ end ≤ len (now chunk) ⌝ }
+    ensures { λ r. ⌜ Scanned (now (line .entry)) length (take (end - from) (drop from (now (chunk .entry)))) from (now (line .exit)) r ⌝ }
 {
-    let mut end = used;
-    let mut i = 0;
-    while i < bytes.len() {
-        end = put(text, end, bytes[i]);
-        i += 1;
+    let mut kept = length;
+    let mut at = from;
+    while at < end {
+        let byte = chunk[at];
+        at += 1;
+        if byte == b'\n' {
+            return Scan {
+                length: kept,
+                next: at,
+                is_whole: true,
+            };
+        }
+        kept = keep(line, kept, byte);
     }
-    end
-}
-
-// A comma and a number.
-fn put_number(text: &mut [u8], used: usize, number: u32) -> usize
-    requires { ⌜ used ≤ length (now text) ⌝ }
-    ensures { λ r. ⌜ r ≤ length (now (text .exit)) ⌝ }
-{
-    let mut digits = [0u8; 20];
-    let count = io::decimal(number as u64, &mut digits);
-    let end = put(text, used, b',');
-    put_bytes(text, end, &digits[..count])
-}
-
-fn put_numbers(text: &mut [u8], used: usize, numbers: &[u32]) -> usize
-    requires { ⌜ used ≤ length (now text) ⌝ }
-    ensures { λ r. ⌜ r ≤ length (now (text .exit)) ⌝ }
-{
-    let mut end = used;
-    let mut i = 0;
-    while i < numbers.len() {
-        end = put_number(text, end, numbers[i]);
-        i += 1;
+    Scan {
+        length: kept,
+        next: at,
+        is_whole: false,
     }
-    end
-}
-
-// The line's bytes, at the start of the lent ones, and how many they are.
-fn put_line(text: &mut [u8], letter: u8, numbers: &[u32]) -> usize
-    ensures { λ r. ⌜ Counts r (now (text .exit)) ⌝ }
-{
-    let lettered = put(text, 0, letter);
-    let numbered = put_numbers(text, lettered, numbers);
-    put(text, numbered, b'\n')
-}
-
-// At most eight numbers: with letter, commas and newline they take no more than 90 bytes.
-pub fn write_line(letter: u8, numbers: &[u32]) {
-    let mut text = [0u8; 90];
-    let end = put_line(&mut text, letter, numbers);
-    io::write_all(STDOUT_FILENO, &text[..end]);
-}
-
-pub fn refuse(number: u32) {
-    let numbers = [number];
-    write_line(b'X', &numbers);
 }
 
 // The bytes of the chunk that are not read yet, from `next` up to `end`.
@@ -90,7 +67,7 @@ pub struct Line {
 
 // Waits for more bytes if none is left. None comes at the end of the input, or where it cannot be read.
 fn refill(chunk: &mut [u8], input: Input) -> Input
-    ensures { λ r. ⌜ r .end ≤ length (now (chunk .exit)) ⌝ }
+    ensures { λ r. ⌜ r .end ≤ len (now (chunk .exit)) ⌝ }
 {
     if input.next < input.end {
         if input.end <= chunk.len() {
@@ -106,7 +83,7 @@ fn refill(chunk: &mut [u8], input: Input) -> Input
 
 // The next line, of which as many bytes are kept as the lent store has.
 pub fn next_line(line: &mut [u8], chunk: &mut [u8], from: Input) -> Line
-    ensures { λ r. ⌜ r .length ≤ length (now (line .exit)) ⌝ }
+    ensures { λ r. ⌜ Taken (now (line .exit)) (r .length) ⌝ }
 {
     let mut input = from;
     let mut length = 0;
@@ -114,23 +91,24 @@ pub fn next_line(line: &mut [u8], chunk: &mut [u8], from: Input) -> Line
     while turns > 0 {
         input = refill(chunk, input);
         let at = input.next;
-        if input.end <= at {
+        let end = input.end;
+        if end <= at {
             return Line {
                 input: input,
                 length: length,
                 is_over: length == 0,
             };
         }
-        input.next = at + 1;
-        let byte = chunk[at];
-        if byte == b'\n' {
+        let found = scan_chunk(line, length, chunk, at, end);
+        input.next = found.next;
+        length = found.length;
+        if found.is_whole {
             return Line {
                 input: input,
                 length: length,
                 is_over: false,
             };
         }
-        length = put(line, length, byte);
         turns -= 1;
     }
     Line {

@@ -4,11 +4,11 @@ use Rattle.levels.proofs.main.Statement.{statement}
 use Rattle.levels.proofs.main.Tie as tie
 
 abbrev Inv-loop : tie.InvT-loop
-Inv-loop line₀ chunk₀ numbers₀ rows₀ keys₀ sorts₀ pending₀ live₀ base₀ state₀ turns₀ line chunk numbers rows keys sorts pending live base state turns =
+Inv-loop line₀ chunk₀ rows₀ keys₀ sorts₀ pending₀ text₀ state₀ turns₀ line chunk rows keys sorts pending text state turns =
     Unit {0}
 
 abbrev μ-loop : tie.MeasureT-loop
-μ-loop line₀ chunk₀ numbers₀ rows₀ keys₀ sorts₀ pending₀ live₀ base₀ state₀ turns₀ line chunk numbers rows keys sorts pending live base state turns =
+μ-loop line₀ chunk₀ rows₀ keys₀ sorts₀ pending₀ text₀ state₀ turns₀ line chunk rows keys sorts pending text state turns =
     turns
 
 no-table-requires : tie.Need-no-table-requires Inv-loop μ-loop

@@ -1,19 +1,21 @@
--- `levels::input::next_line` meets its contract, and ends by its count of turns. Assumes nothing.
-use Prim.Native.Nat.{_≤_}
+-- `levels_lines::next_line` meets its contract, and ends by its count of turns. Assumes nothing.
 use mathlib.Core.Path.{_≡_}
-use borrow.Author.Needs.{needs}
+use native.Mathlib.Omega.{arith}
 use lib.ListN.{length as len}
+use Rattle.levels_lines.specs.inner.Scanning.{Taken, taken-begin, taken-more}
+use borrow.Author.Needs.{needs}
 use Rattle.levels_lines.proofs.next_line.Statement.{statement}
 use Rattle.levels_lines.proofs.next_line.Tie as tie
 
 abbrev Inv-loop : tie.InvT-loop
-Inv-loop line₀ chunk₀ input₀ length₀ turns₀ line chunk input length turns = (length ≤ len line) × (len line ≡ len line₀) × (len chunk ≡ len chunk₀)
+Inv-loop line₀ chunk₀ input₀ length₀ turns₀ line chunk input length turns =
+    Taken line length × (len line ≡ len line₀) × (len chunk ≡ len chunk₀)
 
 abbrev μ-loop : tie.MeasureT-loop
 μ-loop line₀ chunk₀ input₀ length₀ turns₀ line chunk input length turns = turns
 
 loop-holds : tie.Need-loop-holds Inv-loop μ-loop
-loop-holds c = search needs
+loop-holds c = (taken-begin _, search needs, search needs)
 
 refill-requires : tie.Need-refill-requires Inv-loop μ-loop
 refill-requires c κs = search needs
@@ -25,13 +27,10 @@ same-length-2 : tie.Need-same-length-2 Inv-loop μ-loop
 same-length-2 c = search needs
 
 returns : tie.Need-returns Inv-loop μ-loop
-returns c = search needs
+returns c = c .before .before .before .before .before .before .loop .inv .0
 
-add-input : tie.Need-add-input Inv-loop μ-loop
-add-input c = search needs
-
-slice-read-byte : tie.Need-slice-read-byte Inv-loop μ-loop
-slice-read-byte c = search needs
+scan-chunk-requires : tie.Need-scan-chunk-requires Inv-loop μ-loop
+scan-chunk-requires c κs = (omega (arith, c .before .before .before .before .before .before .before .before .loop .inv .0 .counted), (search needs, search needs))
 
 same-length-3 : tie.Need-same-length-3 Inv-loop μ-loop
 same-length-3 c = search needs
@@ -40,10 +39,7 @@ same-length-4 : tie.Need-same-length-4 Inv-loop μ-loop
 same-length-4 c = search needs
 
 returns-2 : tie.Need-returns-2 Inv-loop μ-loop
-returns-2 c = search needs
-
-put-requires : tie.Need-put-requires Inv-loop μ-loop
-put-requires c κs = search needs
+returns-2 c = taken-more _ (c .before .before .before .before .before .before .before .before .before .before .before .before .loop .inv .0) (c .before .before .line .given) (c .before .before .before .scan-chunk .ensures .kept)
 
 sub-turns : tie.Need-sub-turns Inv-loop μ-loop
 sub-turns c = search needs
@@ -52,7 +48,7 @@ loop-less : tie.Need-loop-less Inv-loop μ-loop
 loop-less c = search needs
 
 loop-again : tie.Need-loop-again Inv-loop μ-loop
-loop-again c = search needs
+loop-again c = (taken-more _ (c .before .before .before .before .before .before .before .before .before .before .before .before .loop .inv .0) (c .before .before .line .given) (c .before .before .before .scan-chunk .ensures .kept), search needs, search needs)
 
 same-length-5 : tie.Need-same-length-5 Inv-loop μ-loop
 same-length-5 c = search needs
@@ -61,7 +57,7 @@ same-length-6 : tie.Need-same-length-6 Inv-loop μ-loop
 same-length-6 c = search needs
 
 returns-3 : tie.Need-returns-3 Inv-loop μ-loop
-returns-3 c = search needs
+returns-3 c = c .before .loop .inv .0
 
 pub next-line-spec : {M : Type 1} → statement M
 next-line-spec =
@@ -74,12 +70,10 @@ next-line-spec =
     same-length
     same-length-2
     returns
-    add-input
-    slice-read-byte
+    scan-chunk-requires
     same-length-3
     same-length-4
     returns-2
-    put-requires
     sub-turns
     loop-less
     loop-again

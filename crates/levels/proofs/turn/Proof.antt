@@ -1,0 +1,27 @@
+-- `levels::turn` meets its contract. Assumes nothing.
+use native.Mathlib.Omega.{arith}
+use Rattle.levels.specs.inner.Turning.{turned-over, turned-line}
+use borrow.Author.Needs.{needs}
+use Rattle.levels.proofs.turn.Statement.{statement}
+use Rattle.levels.proofs.turn.Tie as tie
+
+next-line-requires : tie.Need-next-line-requires
+next-line-requires c κs = search needs
+
+returns : tie.Need-returns
+returns c = turned-over _
+
+write-answer-requires : tie.Need-write-answer-requires
+write-answer-requires c κs = (omega (arith, c .before .before .before .before .before .before .before .before .before .next-line .ensures .counted), (search needs, search needs))
+
+returns-2 : tie.Need-returns-2
+returns-2 c = turned-line (search needs) (c .before .before .before .before .before .before .before .before .before .before .next-line .ensures) (c .write-answer .ensures)
+
+pub turn-spec : {M : Type 1} → statement M
+turn-spec =
+    tie.close
+    (tie.spec
+    next-line-requires
+    returns
+    write-answer-requires
+    returns-2)

@@ -1,0 +1,71 @@
+// A line of `levels`, by its bytes: read, served, and what it says put at the start of a lent text.
+ghost use Prim.Native.Nat.{_≤_};
+ghost use lib.ListN.{length};
+ghost use Rattle.table.specs.Promises.{stores};
+ghost use Rattle.levels_said.specs.Answers.{Answering};
+ghost use Rattle.levels_answers.specs.inner.Reading.{Responding};
+use levels_letters::serve;
+use levels_said::Said;
+use levels_said::Served;
+use levels_text::MOST_NUMBERS;
+use levels_text::Parsed;
+use levels_told::tell;
+use table::Header;
+
+// Any line, up to what it says.
+fn respond(
+    h: Header,
+    line: &[u8],
+    rows: &mut [u32],
+    keys: &mut [u32],
+    sorts: &mut [u32],
+    pending: &mut [u32],
+) -> Served
+    ensures { λ r. ⌜ Responding (now (line .entry)) (stores h (now (rows .entry)) (now (keys .entry)) (now (sorts .entry)) (now (pending .entry))) (stores (r .header) (now (rows .exit)) (now (keys .exit)) (now (sorts .exit)) (now (pending .exit))) (r .said) ⌝ }
+{
+    let mut numbers = [0u32; MOST_NUMBERS];
+    match levels_text::parse(line, &mut numbers) {
+        Parsed::Wrong => Served {
+            header: h,
+            said: Said::Refused(11),
+        },
+        Parsed::Line(letter, count) => serve(
+            h,
+            letter,
+            &numbers[..count],
+            rows,
+            keys,
+            sorts,
+            pending,
+        ),
+    }
+}
+
+// The header after a line, and how many bytes it prints.
+pub struct Answered {
+    pub header: Header,
+    pub used: usize,
+}
+
+// Any line. The text has room for a listing of 1,024 rows of eight cells.
+pub fn answer(
+    h: Header,
+    line: &[u8],
+    rows: &mut [u32],
+    keys: &mut [u32],
+    sorts: &mut [u32],
+    pending: &mut [u32],
+    text: &mut [u8],
+) -> Answered
+    requires { ⌜ length (now keys) ≤ 2048 ⌝ }
+    requires { ⌜ 92217 ≤ length (now text) ⌝ }
+    ensures { λ r. ⌜ Answering (now (line .entry)) (stores h (now (rows .entry)) (now (keys .entry)) (now (sorts .entry)) (now (pending .entry))) (stores (r .header) (now (rows .exit)) (now (keys .exit)) (now (sorts .exit)) (now (pending .exit))) (now (text .exit)) (r .used) ⌝ }
+{
+    let served = respond(h, line, rows, keys, sorts, pending);
+    let header = served.header;
+    let said = served.said;
+    Answered {
+        header: header,
+        used: tell(header, said, rows, text),
+    }
+}

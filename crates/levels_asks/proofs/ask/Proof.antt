@@ -1,0 +1,43 @@
+-- `levels_asks::ask` meets its contract. Assumes nothing.
+use Rattle.levels_text.specs.Laws.Lines.{form-range}
+use Rattle.levels_asks.specs.inner.Asking.{range-letter, version-served, list-served, list-letter}
+use borrow.Author.Needs.{needs}
+use Rattle.levels_asks.proofs.ask.Statement.{statement}
+use Rattle.levels_asks.proofs.ask.Tie as tie
+
+ask-range-requires : tie.Need-ask-range-requires
+ask-range-requires c κs = form-range _ _ (c .if1 .taken) (c .before .before .before .pre .0)
+
+returns : tie.Need-returns
+returns c = range-letter (c .before .if1 .taken) (c .ask-range .ensures)
+
+version-requires : tie.Need-version-requires
+version-requires c κs = search needs
+
+say-version-requires : tie.Need-say-version-requires
+say-version-requires c κs = search needs
+
+returns-2 : tie.Need-returns-2
+returns-2 c = version-served (c .before .before .if2 .taken) (c .say-version .ensures) (c .before .version .ensures)
+
+version-requires-2 : tie.Need-version-requires-2
+version-requires-2 c κs = search needs
+
+say-listing-requires : tie.Need-say-listing-requires
+say-listing-requires c κs = search needs
+
+returns-3 : tie.Need-returns-3
+returns-3 c = list-served (list-letter (c .before .before .before .before .before .before .pre .1) (c .before .before .before .if1 .left) (c .before .before .if2 .left)) (c .say-listing .ensures) (c .before .version2 .ensures)
+
+pub ask-spec : {M : Type 1} → statement M
+ask-spec =
+    tie.close
+    (tie.spec
+    ask-range-requires
+    returns
+    version-requires
+    say-version-requires
+    returns-2
+    version-requires-2
+    say-listing-requires
+    returns-3)

@@ -1,0 +1,71 @@
+// The lines of `levels` that ask: what each says.
+ghost use mathlib.Core.Path.{_≡_};
+ghost use mathlib.Core.Bool.{true};
+ghost use mathlib.Core.Logic.{_⊎_};
+ghost use lib.ListN.{length};
+ghost use Rattle.table.specs.Numbers.{rangeSays, versionSays};
+ghost use Rattle.levels_text.specs.Lines.{isForm};
+ghost use Rattle.levels_said.specs.inner.Saying.{saidOf, saysRange, saysVersion, saysListing};
+ghost use Rattle.levels_asks.specs.inner.Asking.{OnSorts};
+use constraints::Constraint;
+use levels_said::Said;
+use table::Header;
+use table::RangeAnswer;
+use table::VersionAnswer;
+
+fn say_range(answer: RangeAnswer) -> Said
+    ensures { λ r. ⌜ r ≡ saidOf saysRange (rangeSays answer) ⌝ }
+{
+    match answer {
+        RangeAnswer::Refused(number) => Said::Refused(number),
+        RangeAnswer::None => Said::NoRange,
+        RangeAnswer::Range(start, end) => Said::Range(start, end),
+    }
+}
+
+fn say_version(answer: VersionAnswer) -> Said
+    ensures { λ r. ⌜ r ≡ saidOf saysVersion (versionSays answer) ⌝ }
+{
+    match answer {
+        VersionAnswer::Refused(number) => Said::Refused(number),
+        VersionAnswer::Version(v) => Said::Version(v.generation, v.rows),
+    }
+}
+
+// A listing, unless the version is refused.
+fn say_listing(answer: VersionAnswer) -> Said
+    ensures { λ r. ⌜ r ≡ saidOf saysListing (versionSays answer) ⌝ }
+{
+    match answer {
+        VersionAnswer::Refused(number) => Said::Refused(number),
+        VersionAnswer::Version(v) => Said::Listing,
+    }
+}
+
+// F
+fn ask_range(h: Header, numbers: &[u32], sorts: &[u32]) -> Said
+    requires { ⌜ length (now numbers) ≡ 3 ⌝ }
+    ensures { λ r. ⌜ OnSorts 70 (now (numbers .entry)) h (now (sorts .entry)) r ⌝ }
+{
+    let c = Constraint {
+        kind: numbers[0],
+        column: numbers[1],
+        value: numbers[2],
+    };
+    say_range(reading::fast_subset(h, sorts, c))
+}
+
+// F, V and L.
+pub fn ask(h: Header, letter: u8, numbers: &[u32], sorts: &[u32]) -> Said
+    requires { ⌜ isForm letter (length (now numbers)) ≡ true ⌝ }
+    requires { ⌜ (letter ≡ 70) ⊎ ((letter ≡ 76) ⊎ (letter ≡ 86)) ⌝ }
+    ensures { λ r. ⌜ OnSorts letter (now (numbers .entry)) h (now (sorts .entry)) r ⌝ }
+{
+    if letter == b'F' {
+        return ask_range(h, numbers, sorts);
+    }
+    if letter == b'V' {
+        return say_version(reading::version(h));
+    }
+    say_listing(reading::version(h))
+}

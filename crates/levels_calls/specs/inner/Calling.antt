@@ -1,0 +1,112 @@
+-- What a line that changes a table promises, where it is lent less than the whole table: it is served whatever the other stores
+-- hold. Assumes nothing.
+use Prim.Native.Nat.{ℕ, _-_, _≤_, _<_}
+use mathlib.Core.Path.{_≡_, refl, sym, subst}
+use mathlib.Core.Logic.{_⊎_, inl, inr}
+use mathlib.Core.Bool.{cond}
+use mathlib.Core.List.{List}
+use lib.ListN.{length, take, drop, getD}
+use Rattle.lists.specs.Laws.Parts.{part-to-end}
+use Rattle.plain.specs.Staged.{insert, removeKey, removeRow}
+use Rattle.table.specs.declared.Header.{Header}
+use Rattle.table.specs.declared.TableAnswer.{TableAnswer}
+use Rattle.table.specs.declared.TableAnswer.the-variants.{Refused as TableRefused, Table}
+use Rattle.table.specs.declared.Merge.{Merge}
+use Rattle.table.specs.declared.MergeAnswer.{MergeAnswer}
+use Rattle.table.specs.declared.MergeAnswer.the-variants.{Refused as MergeRefused, Merged as MergedTable}
+use Rattle.table.specs.Numbers.{tableSays, mergeSays}
+use Rattle.table.specs.Promises.{Stores, stores, body, compactionWords, headerAfter, headerMerged, Opened, Staging, Merging, Compacting, Clearing}
+use Rattle.levels_said.specs.declared.Said.the-variants.{Nothing, Refused, Merged}
+use Rattle.levels_said.specs.declared.Served.{Served}
+use Rattle.levels_said.specs.Said.{openingIn}
+use Rattle.levels_said.specs.inner.Saying.{saidOf, saysNothing, saysMerge, Taken, Serving}
+use Rattle.levels_said.specs.Laws.Letters.{turn-open, turn-insert, turn-by-key, turn-by-row, turn-merge, turn-clear, turn-compact}
+use Rattle.levels_said.specs.Laws.Turns.{does-told}
+use Rattle.levels_said.specs.Laws.Opening.{opening-told, large-told}
+use Rattle.levels_said.specs.Laws.Calls.{staging-does, clearing-does, compacting-does, merging-does}
+
+-- lent the pending store
+pub record OnPending (letter : ℕ) (ns : List ℕ) (h : Header) (pending : List ℕ) (r : Served) (pending′ : List ℕ) : Type 0 where
+  pub serving : (rows keys sorts : List ℕ) → Serving letter ns (stores h rows keys sorts pending) (stores (r .header) rows keys sorts pending′) (r .said)
+
+-- lent the key store; its letter stands alone
+pub record OnKeys (letter : ℕ) (h : Header) (keys : List ℕ) (r : Served) (keys′ : List ℕ) : Type 0 where
+  pub serving : (ns rows sorts pending : List ℕ) → Serving letter ns (stores h rows keys sorts pending) (stores (r .header) rows keys′ sorts pending) (r .said)
+
+-- lent all but the pending store
+pub record OnBody (letter : ℕ) (h : Header) (rows keys sorts : List ℕ) (r : Served) (rows′ keys′ sorts′ : List ℕ) : Type 0 where
+  pub serving : (ns pending : List ℕ) → Serving letter ns (stores h rows keys sorts pending) (stores (r .header) rows′ keys′ sorts′ pending) (r .said)
+
+-- lent all
+pub record OnAll (letter : ℕ) (s s′ : Stores) (r : Served) : Type 0 where
+  pub serving : (ns : List ℕ) → Serving letter ns s s′ (r .said)
+
+-- ---- what an answer says
+
+module _ (h : Header) (answer : TableAnswer) where
+  pub taken-refused : (n : ℕ) → answer ≡ TableRefused n → Taken (headerAfter h (tableSays answer)) (saidOf saysNothing (tableSays answer)) (record { header = h; said = Refused n })
+  unfolding headerAfter tableSays saidOf
+  taken-refused n e = rw e (record { header-same = refl; said-same = refl })
+
+  pub taken-table : (after : Header) → answer ≡ Table after → Taken (headerAfter h (tableSays answer)) (saidOf saysNothing (tableSays answer)) (record { header = after; said = Nothing })
+  unfolding headerAfter tableSays saidOf
+  taken-table after e = rw e (record { header-same = refl; said-same = refl })
+
+module _ (h : Header) (answer : MergeAnswer) where
+  pub merge-refused : (n : ℕ) → answer ≡ MergeRefused n → Taken (headerMerged h (mergeSays answer)) (saidOf saysMerge (mergeSays answer)) (record { header = h; said = Refused n })
+  unfolding headerMerged mergeSays saidOf
+  merge-refused n e = rw e (record { header-same = refl; said-same = refl })
+
+  pub merge-table : (m : Merge) (digit : ℕ) → answer ≡ MergedTable m → digit ≡ cond (m .added) 1 0
+      → Taken (headerMerged h (mergeSays answer)) (saidOf saysMerge (mergeSays answer)) (record { header = m .header; said = Merged (m .status) digit (m .place) })
+  unfolding headerMerged mergeSays saidOf
+  merge-table m digit e d = rw (e, d) (record { header-same = refl; said-same = refl })
+
+-- ---- the promises serve
+
+module _ {h : Header} {answer : TableAnswer} {r : Served} (k : Taken (headerAfter h (tableSays answer)) (saidOf saysNothing (tableSays answer)) r) where
+  module _ {letter : ℕ} {ns pending pending′ : List ℕ} where
+    pub insert-served : letter ≡ 73 → Staging h pending (insert ns) answer pending′ → OnPending letter ns h pending r pending′
+    insert-served e m = record { serving = λ rows keys sorts. record { answers = λ t held. rw (turn-insert _ t ns e) (does-told (staging-does k rows keys sorts m) t held) } }
+
+    pub by-key-served : letter ≡ 82 → Staging h pending (removeKey ns) answer pending′ → OnPending letter ns h pending r pending′
+    by-key-served e m = record { serving = λ rows keys sorts. record { answers = λ t held. rw (turn-by-key _ t ns e) (does-told (staging-does k rows keys sorts m) t held) } }
+
+  -- the cells of a key are all behind the row
+  pub by-row-served : {pending pending′ : List ℕ} (ns : List ℕ) → Staging h pending (removeRow (getD ns 0 0) (take (length ns - 1) (drop 1 ns))) answer pending′
+      → OnPending 75 ns h pending r pending′
+  by-row-served {pending} {pending′} ns m =
+      let m′ : Staging h pending (removeRow (getD ns 0 0) (drop 1 ns)) answer pending′ = rw (← part-to-end ns 1) m in
+      record { serving = λ rows keys sorts. record { answers = λ t held. rw (turn-by-row _ t ns refl) (does-told (staging-does k rows keys sorts m′) t held) } }
+
+  pub clear-served : {keys keys′ : List ℕ} → Clearing h keys answer keys′ → OnKeys 67 h keys r keys′
+  clear-served m = record { serving = λ ns rows sorts pending. record { answers = λ t held. rw (turn-clear _ t ns refl) (does-told (clearing-does k rows sorts pending m) t held) } }
+
+  pub compact-served : {rows keys sorts rows′ keys′ sorts′ live base live′ base′ : List ℕ} → length live ≡ 16 → length base ≡ 16
+      → Compacting h (body rows keys sorts) (compactionWords live base) answer (body rows′ keys′ sorts′) (compactionWords live′ base′)
+      → OnBody 71 h rows keys sorts r rows′ keys′ sorts′
+  compact-served a b m =
+      record { serving = λ ns pending. record { answers = λ t held. rw (turn-compact _ t ns refl) (does-told (compacting-does k a b pending m) t held) } }
+
+  pub open-served : {rows keys sorts pending keys′ : List ℕ} (ns : List ℕ) → getD ns 4 0 ≤ 1024 → Opened (openingIn ns) (getD ns 5 0) (body rows keys sorts) pending answer keys′
+      → Serving 79 ns (stores h rows keys sorts pending) (stores (r .header) rows keys′ sorts pending) (r .said)
+  open-served ns small m = record { answers = λ t held. rw (turn-open _ t ns refl) (opening-told small m k t held) }
+
+-- a capacity above 1,024
+pub large-served : (s : Stores) (ns : List ℕ) → 1024 < getD ns 4 0 → Serving 79 ns s s (Refused 11)
+large-served s ns large = record { answers = λ t held. rw (turn-open _ t ns refl) (large-told _ s (openingIn ns) (getD ns 5 0) large t held) }
+
+pub merge-served : {h : Header} {answer : MergeAnswer} {r : Served} {rows keys sorts pending rows′ keys′ sorts′ live base live′ base′ : List ℕ}
+    → Taken (headerMerged h (mergeSays answer)) (saidOf saysMerge (mergeSays answer)) r → length live ≡ 16 → length base ≡ 16
+    → Merging (stores h rows keys sorts pending) (compactionWords live base) answer (body rows′ keys′ sorts′) (compactionWords live′ base′)
+    → OnAll 77 (stores h rows keys sorts pending) (stores (r .header) rows′ keys′ sorts′ pending) r
+merge-served k a b m = record { serving = λ ns. record { answers = λ t held. rw (turn-merge _ t ns refl) (does-told (merging-does k a b m) t held) } }
+
+-- K is the letter that is left of the three
+pub row-letter : {letter : ℕ} → (letter ≡ 73) ⊎ ((letter ≡ 75) ⊎ (letter ≡ 82)) → (letter ≡ 73 → ⊥) → (letter ≡ 82 → ⊥) → letter ≡ 75
+row-letter (inl e) i r = absurd (i e)
+row-letter (inr (inl e)) i r = e
+row-letter (inr (inr e)) i r = absurd (r e)
+
+pub by-row-letter : {letter : ℕ} {ns : List ℕ} {h : Header} {pending pending′ : List ℕ} {r : Served} → letter ≡ 75 → OnPending 75 ns h pending r pending′ → OnPending letter ns h pending r pending′
+by-row-letter {letter} {ns} {h} {pending} {pending′} {r} e m = subst (λ (x : ℕ). OnPending x ns h pending r pending′) (sym e) m

@@ -1,0 +1,2 @@
+-- What the proofs of functions that no user calls lean on.
+pub mod Letters

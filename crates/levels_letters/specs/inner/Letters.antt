@@ -1,0 +1,53 @@
+-- What the letters of a line of the forms tell. Assumes nothing.
+use Prim.Native.Nat.{ℕ, _≤_}
+use mathlib.Core.Path.{_≡_, sym, subst}
+use mathlib.Core.Logic.{_⊎_, inl, inr}
+use mathlib.Core.Bool.{true, false≢true}
+use mathlib.Core.List.{List}
+use native.Mathlib.Omega.{arith}
+use lib.Dec.{eqb}
+use borrow.Author.Tests.{ne-eqb, eqb-true}
+use Rattle.lists.specs.Laws.Keep.{split, and-left}
+use Rattle.table.specs.Promises.{Stores}
+use Rattle.levels_text.specs.Lines.{isBare, isForm}
+use Rattle.levels_text.specs.Laws.Lines.{form-insert, form-by-row, form-by-key}
+use Rattle.levels_said.specs.declared.Said.{Said}
+use Rattle.levels_said.specs.inner.Saying.{Serving}
+
+-- F, L and V are the letters that are left when the others are not it
+pub asking-letters : {letter : ℕ} (count : ℕ) → isForm letter count ≡ true → ((letter ≡ 73) ⊎ ((letter ≡ 75) ⊎ (letter ≡ 82)) → ⊥) → (letter ≡ 77 → ⊥)
+    → ((letter ≡ 67) ⊎ ((letter ≡ 71) ⊎ (letter ≡ 79)) → ⊥) → (letter ≡ 70) ⊎ ((letter ≡ 76) ⊎ (letter ≡ 86))
+unfolding isForm isBare
+asking-letters {letter} count form staging merge making =
+    elim (split (eqb letter 70)) [
+      | inl f ↦ inl (eqb-true letter 70 f)
+      | inr f ↦
+          let bare : isBare letter ≡ true =
+          and-left (isBare letter) (eqb count 0)
+          (rw (ne-eqb letter 79 (λ e. making (inr (inr e))), ne-eqb letter 73 (λ e. staging (inl e)), ne-eqb letter 82 (λ e. staging (inr (inr e))), ne-eqb letter 75 (λ e. staging (inr (inl e))), f) at form)
+          in
+          elim (split (eqb letter 86)) [
+            | inl v ↦ inr (inr (eqb-true letter 86 v))
+            | inr v ↦
+                elim (split (eqb letter 76)) [
+                  | inl l ↦ inr (inl (eqb-true letter 76 l))
+                  | inr l ↦ absurd (false≢true (rw (ne-eqb letter 77 merge, v, l, ne-eqb letter 67 (λ e. making (inl e)), ne-eqb letter 71 (λ e. making (inr (inl e)))) at bare))
+                ]
+          ]
+    ]
+
+-- I, K and R have a number at least
+pub staging-some : {letter : ℕ} (count : ℕ) → isForm letter count ≡ true → (letter ≡ 73) ⊎ ((letter ≡ 75) ⊎ (letter ≡ 82)) → 1 ≤ count
+staging-some {letter} count form (inl e) = form-insert letter count e form
+staging-some {letter} count form (inr (inl e)) = let two = form-by-row letter count e form in omega arith
+staging-some {letter} count form (inr (inr e)) = form-by-key letter count e form
+
+-- C, G or O: the last that is left
+pub compact-letter : {letter : ℕ} → (letter ≡ 67) ⊎ ((letter ≡ 71) ⊎ (letter ≡ 79)) → (letter ≡ 79 → ⊥) → (letter ≡ 67 → ⊥) → letter ≡ 71
+compact-letter (inl e) o c = absurd (c e)
+compact-letter (inr (inl e)) o c = e
+compact-letter (inr (inr e)) o c = absurd (o e)
+
+-- a letter by its name
+pub as-letter : {letter letter′ : ℕ} {ns : List ℕ} {s s′ : Stores} {said : Said} → letter ≡ letter′ → Serving letter′ ns s s′ said → Serving letter ns s s′ said
+as-letter {letter} {letter′} {ns} {s} {s′} {said} e m = subst (λ (x : ℕ). Serving x ns s s′ said) (sym e) m

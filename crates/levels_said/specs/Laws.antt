@@ -1,0 +1,9 @@
+-- What follows from the definitions.
+pub mod Letters
+pub mod Kept
+pub mod Turns
+pub mod Opening
+pub mod Calls
+pub mod Questions
+pub mod Determined
+pub mod Example

@@ -1,0 +1,136 @@
+-- The promises of a fast range and a version serve F, V and L, whatever table the stores hold. Assumes nothing.
+use Prim.Native.Nat.{ℕ, suc, _*_, _≤_, _<_}
+use mathlib.Core.Path.{_≡_, refl, ap, _∙_}
+use mathlib.Core.Logic.{inl, inr}
+use mathlib.Core.Bool.{true, cond}
+use mathlib.Core.List.{List, [], _∷_, map}
+use mathlib.Core.Option.{Option, none, some}
+use native.Mathlib.Omega.{arith}
+use lib.ListN.{length}
+use borrow.Author.Tests.{le-ltb}
+use Rattle.lists.specs.Lists.{keep, rowsOf}
+use Rattle.lists.specs.Laws.Keep.{split}
+use Rattle.refusals.specs.Refusals.{accepted, reply, first, verdict}
+use Rattle.refusals.specs.Laws.Replies.{some-number}
+use Rattle.offsets.specs.Subsets.{Subset, range, list}
+use Rattle.constraints.specs.declared.Constraint.{Constraint}
+use Rattle.constraints.specs.Constraints.{known, isLive}
+use Rattle.plain.specs.Plain.{Plain, liveFrom}
+use Rattle.table.specs.declared.Header.{Header}
+use Rattle.table.specs.declared.Version.{Version}
+use Rattle.table.specs.declared.RangeAnswer.{RangeAnswer}
+use Rattle.table.specs.declared.VersionAnswer.{VersionAnswer}
+use Rattle.table.specs.Numbers.{rangeSays, versionSays}
+use Rattle.table.specs.Refusing.{outside, pairsShort, fastRefusal, versionRefusal}
+use Rattle.table.specs.Stores.{rowsIn}
+use Rattle.table.specs.Promises.{Stores, Represents, fastSubset, RangeRead, VersionRead}
+use Rattle.table.specs.Laws.Shown.{represents-inside, represents-long, rows-counted}
+use Rattle.table.specs.Laws.Sound.{represents-sound}
+use Rattle.table.specs.Laws.Live.{live-shown}
+use Rattle.table.specs.Laws.Replies.{reply-accepted}
+use Rattle.levels_text.specs.Written.{written}
+use Rattle.levels_said.specs.declared.Said.{Said}
+use Rattle.levels_said.specs.declared.Said.the-variants.{Listing}
+use Rattle.levels_said.specs.Said.{asks, rangeText, fastOf, versionText, listText}
+use Rattle.levels_said.specs.inner.Saying.{textOf, headLine, rowLines, listing, saidOf, saysRange, saysVersion, saysListing}
+use Rattle.levels_said.specs.Laws.Turns.{said-refused, said-accepted, told-table, Does, asks-refused, asks-done}
+use Rattle.levels_said.specs.Laws.Calls.{reply-ruled}
+
+-- ---- F
+
+fast-outside : (h : Header) (sorts : ℕ) (c : Constraint) → outside h ≡ true → fastRefusal h sorts c ≡ 1
+unfolding fastRefusal first
+fast-outside h sorts c e = rw e
+
+fast-number : {p : Plain} {s : Stores} → Represents p s → (c : Constraint)
+    → fastRefusal (s .header) (length (s .sorts)) c ≡ cond (known (p .opening .columns) c) 0 6
+unfolding fastRefusal first pairsShort
+fast-number {p} {s} r c =
+    let columns : s .header .columns ≡ p .opening .columns = ap (λ (h : Header). h .columns) (r .shown .header) in
+    let capacity : s .header .capacity ≡ p .opening .capacity = ap (λ (h : Header). h .capacity) (r .shown .header) in
+    let long : 2 * s .header .capacity ≤ length (s .sorts) = omega (arith, represents-long r .sorts-long) in
+    rw (represents-inside r, le-ltb (length (s .sorts)) (2 * s .header .capacity) long, columns)
+    (elim (split (known (p .opening .columns) c)) [ inl e ↦ rw e | inr e ↦ rw e ])
+
+fast-shown : {p : Plain} {s : Stores} → Represents p s → (c : Constraint) → fastSubset (s .header) (s .sorts) c ≡ fastOf p c
+unfolding fastSubset fastOf
+fast-shown {p} {s} r c =
+    let sort : s .header .sort ≡ p .opening .sort = ap (λ (h : Header). h .sort) (r .shown .header) in
+    rw (sort, r .shown .entries-shown, rows-counted r)
+
+range-said : (h : Header) (rows : List ℕ) (answer : Option Subset) → textOf h rows (saysRange answer) ≡ rangeText answer
+unfolding textOf saysRange rangeText
+range-said h rows none = refl
+range-said h rows (some (range start end)) = refl
+range-said h rows (some (list ids)) = refl
+
+pub range-does : {s : Stores} {c : Constraint} {answer : RangeAnswer} {said : Said} → said ≡ saidOf saysRange (rangeSays answer) → RangeRead (s .header) (s .sorts) c answer
+    → Does (λ p. asks p (cond (known (p .opening .columns) c) 0 6) (rangeText (fastOf p c))) s s said (fastRefusal (s .header) (length (s .sorts)) c)
+range-does {s} {c} {answer} same m =
+    let n : ℕ = fastRefusal (s .header) (length (s .sorts)) c in
+    record {
+      outside-first = fast-outside (s .header) (length (s .sorts)) c;
+      says-refused = λ more. same ∙ said-refused saysRange (rangeSays answer) n (m .refusal) more;
+      stays = λ more. refl;
+      turns-refused = λ p r more. asks-refused p _ (rangeText (fastOf p c)) n (fast-number r c) more;
+      turns-done = λ p r zero.
+          rw (asks-done p (cond (known (p .opening .columns) c) 0 6) (rangeText (fastOf p c)) n (fast-number r c) zero, same, said-accepted saysRange (rangeSays answer) (fastSubset (s .header) (s .sorts) c) (m .table zero (represents-sound r .entries-rise)), ← fast-shown r c)
+          (told-table (range-said (s .header) (s .rows) (fastSubset (s .header) (s .sorts) c)) r);
+    }
+
+-- ---- V and L
+
+version-outside : (h : Header) → outside h ≡ true → versionRefusal h ≡ 1
+unfolding versionRefusal first
+version-outside h e = rw e
+
+version-number : {p : Plain} {s : Stores} → Represents p s → versionRefusal (s .header) ≡ 0
+unfolding versionRefusal first
+version-number r = rw (represents-inside r)
+
+-- a question that is answered with the version
+version-asked : {s : Stores} {answer : VersionAnswer} {said : Said} (says : Version → Said) (text : Plain → List ℕ)
+    → ((p : Plain) → Represents p s → textOf (s .header) (s .rows) (says (record { generation = s .header .generation; rows = s .header .rows })) ≡ text p)
+    → said ≡ saidOf says (versionSays answer) → VersionRead (s .header) answer → Does (λ p. asks p 0 (text p)) s s said (versionRefusal (s .header))
+version-asked {s} {answer} says text shows same m =
+    let n : ℕ = versionRefusal (s .header) in
+    record {
+      outside-first = version-outside (s .header);
+      says-refused = λ more. same ∙ said-refused says (versionSays answer) n (rw (m .answers) (reply-ruled n _)) more;
+      stays = λ more. refl;
+      turns-refused = λ p r more. absurd (omega (arith, version-number r));
+      turns-done = λ p r zero.
+          rw (asks-done p 0 (text p) n zero zero, same, said-accepted says (versionSays answer) _ (m .answers ∙ reply-accepted n _ zero))
+          (told-table (shows p r) r);
+    }
+
+version-shown : {p : Plain} {s : Stores} → Represents p s
+    → textOf (s .header) (s .rows) (saysVersion (record { generation = s .header .generation; rows = s .header .rows })) ≡ versionText p
+unfolding textOf versionText
+version-shown {p} {s} r =
+    let generation : s .header .generation ≡ p .generation = ap (λ (h : Header). h .generation) (r .shown .header) in
+    rw (generation, rows-counted r)
+
+pub version-does : {s : Stores} {answer : VersionAnswer} {said : Said} → said ≡ saidOf saysVersion (versionSays answer) → VersionRead (s .header) answer
+    → Does (λ p. asks p 0 (versionText p)) s s said (versionRefusal (s .header))
+version-does same m = version-asked saysVersion versionText (λ p r. version-shown r) same m
+
+-- the lines of the live rows
+live-lines : (n : ℕ) (cells : List (List ℕ))
+    → map (λ row. written 68 (row .cells)) (liveFrom n (map (λ c. record { live = isLive c; cells = c }) cells)) ≡ map (written 68) (keep isLive cells)
+unfolding liveFrom keep
+live-lines n [] = refl
+live-lines n (c ∷ cells) = elim (split (isLive c)) [ inl e ↦ rw (e, live-lines (suc n) cells) | inr e ↦ rw (e, live-lines (suc n) cells) ]
+
+list-shown : {p : Plain} {s : Stores} → Represents p s → listing (s .header) (s .rows) ≡ listText p
+unfolding listText listing headLine rowLines
+list-shown {p} {s} r =
+    rw (← live-shown r) (unfold rowsIn in rw (live-lines 0 (rowsOf (s .header .columns) (s .header .rows) (s .rows)), r .shown .header))
+
+listing-said : (h : Header) (rows : List ℕ) → textOf h rows Listing ≡ listing h rows
+unfolding textOf
+listing-said h rows = refl
+
+pub list-does : {s : Stores} {answer : VersionAnswer} {said : Said} → said ≡ saidOf saysListing (versionSays answer) → VersionRead (s .header) answer
+    → Does (λ p. asks p 0 (listText p)) s s said (versionRefusal (s .header))
+list-does {s} same m = version-asked saysListing listText (λ p r. listing-said (s .header) (s .rows) ∙ list-shown r) same m

@@ -1,0 +1,4 @@
+pub mod Said
+pub mod Answers
+pub mod inner
+pub mod Laws

@@ -1,0 +1,99 @@
+-- What a line says before it is text: how that is text, and what the functions promise that answer by it. Assumes nothing.
+use Prim.Native.Nat.{ℕ, _+_, _*_, _≤_}
+use mathlib.Core.Path.{_≡_}
+use mathlib.Core.Bool.{false, cond}
+use mathlib.Core.List.{List, [], _∷_, _++_, map}
+use mathlib.Core.Option.{Option, none, some}
+use lib.ListN.{length, take}
+use Rattle.lists.specs.Lists.{keep, rowsOf, flat}
+use Rattle.refusals.specs.Refusals.{Reply, refused, accepted}
+use Rattle.offsets.specs.Subsets.{Subset, range, list}
+use Rattle.constraints.specs.Constraints.{isLive}
+use Rattle.plain.specs.Plain.{Plain}
+use Rattle.table.specs.declared.Header.{Header}
+use Rattle.table.specs.declared.Merge.{Merge}
+use Rattle.table.specs.declared.Version.{Version as Versioned}
+use Rattle.table.specs.Refusing.{outside}
+use Rattle.table.specs.Promises.{Stores}
+use Rattle.levels_text.specs.Written.{written}
+use Rattle.levels_said.specs.declared.Said.{Said}
+use Rattle.levels_said.specs.declared.Said.the-variants.{Nothing, Refused, Merged, NoRange, Range, Version, Listing}
+use Rattle.levels_said.specs.declared.Served.{Served}
+use Rattle.levels_said.specs.Said.{Turn, rangeText, turn}
+use Rattle.levels_said.specs.Answers.{Held, lent}
+
+-- ---- as text
+
+-- a listing of a header and a row store: the head line, then the live rows among the first of the store
+unfoldable pub headLine : Header → List ℕ
+headLine h = written 84 (h .columns ∷ h .keys ∷ h .sort ∷ h .rule ∷ h .generation ∷ [])
+
+unfoldable pub rowLines : ℕ → ℕ → List ℕ → List ℕ
+rowLines columns count rows = flat (map (written 68) (keep isLive (rowsOf columns count rows)))
+
+unfoldable pub listing : Header → List ℕ → List ℕ
+listing h rows = headLine h ++ rowLines (h .columns) (h .rows) rows
+
+unfoldable pub textOf : Header → List ℕ → Said → List ℕ
+textOf h rows Nothing = []
+textOf h rows (Refused n) = written 88 (n ∷ [])
+textOf h rows (Merged status added place) = written 77 (status ∷ added ∷ place ∷ [])
+textOf h rows NoRange = rangeText none
+textOf h rows (Range start end) = written 70 (start ∷ end ∷ [])
+textOf h rows (Version generation count) = written 86 (generation ∷ count ∷ [])
+textOf h rows Listing = listing h rows
+
+-- what a listing needs: rows that are stored, and a text with room for them
+pub record Listable (h : Header) (rows text : List ℕ) : Type 0 where
+  pub narrow : h .columns ≤ 8
+  pub stored : h .rows * h .columns ≤ length rows
+  pub room : 57 + 90 * h .rows ≤ length text
+
+-- the text of what is said stands at the start of a lent text
+pub record Telling (h : Header) (rows : List ℕ) (said : Said) (text : List ℕ) (used : ℕ) : Type 0 where
+  pub inside : used ≤ length text
+  pub begins : (said ≡ Listing → Listable h rows text) → take used text ≡ textOf h rows said
+
+-- ---- what an entry point's answer says
+
+unfoldable pub saidOf : {A : Type 0} → (A → Said) → Reply A → Said
+saidOf says (refused n) = Refused n
+saidOf says (accepted a) = says a
+
+-- O, I, R, K, C and G
+abbrev pub saysNothing : Header → Said
+saysNothing h = Nothing
+
+-- M
+abbrev pub saysMerge : Merge → Said
+saysMerge m = Merged (m .status) (cond (m .added) 1 0) (m .place)
+
+-- F
+unfoldable pub saysRange : Option Subset → Said
+saysRange none = NoRange
+saysRange (some (range start end)) = Range start end
+saysRange (some (list ids)) = Nothing
+
+-- V
+abbrev pub saysVersion : Versioned → Said
+saysVersion v = Version (v .generation) (v .rows)
+
+-- L
+abbrev pub saysListing : Versioned → Said
+saysListing v = Listing
+
+-- the header that an answer leaves, and what it says
+pub record Taken (header : Header) (said : Said) (r : Served) : Type 0 where
+  pub header-same : r .header ≡ header
+  pub said-same : r .said ≡ said
+
+-- ---- a line that is served
+
+-- what a turn leaves: its text, as what is said, and its table. There is a listing only of a header that test 1 lets pass
+pub record Told (turn : Turn) (s : Stores) (said : Said) : Type 0 where
+  pub says : textOf (s .header) (s .rows) said ≡ turn .text
+  pub held : Held (turn .table) s
+  pub listed : said ≡ Listing → outside (s .header) ≡ false
+
+pub record Serving (letter : ℕ) (ns : List ℕ) (s s′ : Stores) (said : Said) : Type 0 where
+  pub answers : (t : Option Plain) → Held t s → Told (turn (lent s) t letter ns) s′ said

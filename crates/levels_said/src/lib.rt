@@ -1,0 +1,22 @@
+// What a line of `levels` says before it is text.
+use table::Header;
+
+pub enum Said {
+    Nothing,
+    Refused(u32),
+    // status, added as 0 or 1, place
+    Merged(u32, u32, u32),
+    NoRange,
+    // start, end
+    Range(u32, u32),
+    // generation, row count
+    Version(u32, u32),
+    // the head line and the live rows
+    Listing,
+}
+
+// That, and the header after the line.
+pub struct Served {
+    pub header: Header,
+    pub said: Said,
+}

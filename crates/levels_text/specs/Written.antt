@@ -1,0 +1,24 @@
+-- The lines that `levels` writes (document 01, "The program `levels`"): a letter and comma-parted decimals, as it reads them.
+-- Bytes are numbers, in ASCII. Assumes nothing.
+use Prim.Native.Nat.{ℕ, zero, suc, _+_, _/_, _%_}
+use mathlib.Core.Bool.{cond}
+use mathlib.Core.List.{List, [], _∷_, _++_, map}
+use lib.Dec.{ltb}
+use Rattle.lists.specs.Lists.{flat}
+
+-- the digits of a number of at most so many, "without leading zeros"
+unfoldable pub digitsIn : ℕ → ℕ → List ℕ
+digitsIn zero n = []
+digitsIn (suc places) n = cond (ltb n 10) ((48 + n) ∷ []) (digitsIn places (n / 10) ++ ((48 + n % 10) ∷ []))
+
+-- "decimals up to 4294967295" have at most ten
+unfoldable pub decimal : ℕ → List ℕ
+decimal n = digitsIn 10 n
+
+-- a number as a field behind others
+unfoldable pub field : ℕ → List ℕ
+field n = 44 ∷ decimal n
+
+-- a letter, numbers, and the end of the line
+unfoldable pub written : ℕ → List ℕ → List ℕ
+written letter numbers = letter ∷ (flat (map field numbers) ++ (10 ∷ []))

@@ -1,0 +1,88 @@
+-- The digits that `io::decimal` gives are those of the definition. Assumes nothing.
+use Prim.Native.Nat.{ℕ, zero, suc, _+_, _-_, _*_, _/_, _%_, _^_, _≤_, _<_}
+use mathlib.Core.Path.{_≡_}
+use mathlib.Core.Logic.{inl, inr}
+use mathlib.Core.List.{List, [], _∷_, _++_, map, map-append, append-nil}
+use native.Mathlib.Nat.{pow-succ', one-le-pow, pow-le-pow-right, mod-lt, mod-eq-of-lt}
+use native.Mathlib.Omega.{arith}
+use lib.ListN.{length, length-append}
+use lib.Dec.{leb, ltb}
+use borrow.Author.Tests.{lt-ltb, le-ltb, leb-true, leb-false}
+use Rattle.lists.specs.Lists.{flat}
+use Rattle.lists.specs.Laws.Keep.{split}
+use Rattle.lists.specs.Laws.Rows.{flat-append}
+use Rattle.io.specs.Digits.{digits, glyph, Fewest}
+use Rattle.levels_text.specs.Written.{digitsIn, decimal, field, written}
+
+-- a digit
+glyph-digit : (d : ℕ) → d < 10 → glyph d ≡ 48 + d
+glyph-digit d h = rw (lt-ltb d 10 h)
+
+-- ten times as many digits
+quotient-below : (n m : ℕ) → n < 10 * m → n / 10 < m
+quotient-below n m h = omega arith
+
+quotient-above : (n m : ℕ) → 10 * m ≤ n → m ≤ n / 10
+quotient-above n m h = omega arith
+
+digits-same : (count places n : ℕ) → count < places → n < 10 ^ suc count → (0 < count → 10 ^ count ≤ n) → digits 10 (suc count) n ≡ digitsIn places n
+unfolding digitsIn
+digits-same count zero n less below above = absurd (omega arith)
+digits-same zero (suc places) n less below above =
+    let small : n < 10 = below in
+    rw (lt-ltb n 10 small, mod-eq-of-lt small, glyph-digit n small)
+digits-same (suc count) (suc places) n less below above =
+    let some : 10 * 10 ^ count ≤ n = rw (pow-succ' 10 count) at (above (omega arith)) in
+    let pos : 1 ≤ 10 ^ count = one-le-pow count 10 (omega arith) in
+    let big : 10 ≤ n = omega arith in
+    let fewer : n < 10 * 10 ^ suc count = rw (pow-succ' 10 (suc count)) at below in
+    let ih = digits-same count places (n / 10) (omega arith) (quotient-below n (10 ^ suc count) fewer) (λ h. quotient-above n (10 ^ count) some) in
+    rw (le-ltb n 10 big, glyph-digit (n % 10) (mod-lt n (omega arith)), ih)
+
+-- a u32 has at most ten
+pub few-digits : (count n : ℕ) → n ≤ 4294967295 → Fewest 10 1 n count → count ≤ 10
+few-digits count n fits f =
+    elim (split (leb count 10)) [
+      | inl t ↦ leb-true count 10 t
+      | inr over′ ↦
+          let over : 10 < count = leb-false count 10 over′ in
+          let least : 10 ^ 10 ≤ 10 ^ (count - 1) = pow-le-pow-right {n = 10} (omega arith) {i = 10} {j = count - 1} (omega arith) in
+          let most : 10 ^ (count - 1) ≤ n = f .2 (omega arith) in
+          absurd (omega arith)
+    ]
+
+pub decimal-digits : (count n : ℕ) → n ≤ 4294967295 → Fewest 10 1 n count → digits 10 count n ≡ decimal n
+unfolding decimal
+decimal-digits zero n fits f = absurd (omega arith)
+decimal-digits (suc count) n fits f =
+    let one-less : suc count - 1 ≡ count = omega arith in
+    digits-same count 10 n (omega (arith, few-digits (suc count) n fits f)) (f .1) (λ h. rw one-less at (f .2 (omega arith)))
+
+-- how many bytes a number takes behind others
+length-digits : (places n : ℕ) → length (digitsIn places n) ≤ places
+unfolding digitsIn
+length-digits zero n = omega arith
+length-digits (suc places) n =
+    elim (split (ltb n 10)) [
+      | inl e ↦ rw e (omega arith)
+      | inr e ↦ rw e (omega (arith, length-append (digitsIn places (n / 10)) ((48 + n % 10) ∷ []), length-digits places (n / 10)))
+    ]
+
+pub length-field : (n : ℕ) → length (field n) ≤ 11
+unfolding field decimal
+length-field n = omega (arith, length-digits 10 n)
+
+-- one number more
+pub fields-more : (numbers : List ℕ) (n : ℕ) → flat (map field (numbers ++ (n ∷ []))) ≡ flat (map field numbers) ++ field n
+unfolding flat
+fields-more numbers n = rw (map-append field numbers (n ∷ []), flat-append (map field numbers) (field n ∷ []), append-nil (field n))
+
+pub length-fields : (numbers : List ℕ) → length (flat (map field numbers)) ≤ 11 * length numbers
+unfolding flat
+length-fields [] = omega arith
+length-fields (n ∷ numbers) =
+    omega (arith, length-append (field n) (flat (map field numbers)), length-field n, length-fields numbers)
+
+pub length-written : (letter : ℕ) (numbers : List ℕ) → length (written letter numbers) ≤ 11 * length numbers + 2
+unfolding written
+length-written letter numbers = omega (arith, length-append (flat (map field numbers)) (10 ∷ []), length-fields numbers)

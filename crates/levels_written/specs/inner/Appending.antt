@@ -1,0 +1,118 @@
+-- Bytes put behind those that a text has already. Assumes nothing.
+use Prim.Native.Nat.{ℕ, _+_, _*_, _≤_, _<_}
+use mathlib.Core.Path.{_≡_, refl, sym, _∙_}
+use mathlib.Core.List.{List, [], _∷_, _++_, map, append-nil, append-assoc}
+use native.Mathlib.Numerals.{add-one}
+use native.Mathlib.Omega.{arith}
+use lib.ListN.{length, take, getD, set, length-append}
+use lib.Seq.{take-suc, take-all, take-suc-set}
+use Rattle.io.specs.Digits.{digits, Fewest}
+use Rattle.lists.specs.Lists.{flat}
+use Rattle.levels_text.specs.Written.{field, written}
+use Rattle.levels_written.specs.Laws.Decimals.{decimal-digits, length-field, fields-more, length-written}
+
+-- the text has these bytes behind its first `used`, up to `end`; what stands behind them is of no meaning
+pub record Appended (text : List ℕ) (used : ℕ) (bytes text′ : List ℕ) (end : ℕ) : Type 0 where
+  pub counted : end ≡ used + length bytes
+  pub same : take end text′ ≡ take used text ++ bytes
+
+module _ (text : List ℕ) (used : ℕ) where
+  pub appended-none : Appended text used [] text used
+  appended-none = record { counted = omega arith; same = sym (append-nil (take used text)) }
+
+  pub appended-one : (byte : ℕ) → used < length text → Appended text used (byte ∷ []) (set text used byte) (used + 1)
+  appended-one byte inside = record { counted = refl; same = rw (add-one, take-suc-set text used byte inside) }
+
+-- one behind the other
+pub appended-then : {text text′ text″ bytes more : List ℕ} {used end end′ : ℕ}
+    → Appended text used bytes text′ end → Appended text′ end more text″ end′ → Appended text used (bytes ++ more) text″ end′
+appended-then {text} {text′} {text″} {bytes} {more} {used} a b =
+    record {
+      counted = omega (arith, a .counted, b .counted, length-append bytes more);
+      same = b .same ∙ rw (a .same, append-assoc (take used text) bytes more);
+    }
+
+-- a comma, then the digits of a number
+pub appended-number : {text text′ text″ shown : List ℕ} {used end end′ n count : ℕ} → n ≤ 4294967295 → Fewest 10 1 n count → shown ≡ digits 10 count n
+    → Appended text used (44 ∷ []) text′ end → Appended text′ end shown text″ end′ → Appended text used (field n) text″ end′
+unfolding field
+appended-number {n = n} {count = count} fits f e comma number =
+    appended-then comma (rw (e ∙ decimal-digits count n fits f) at number)
+
+-- a letter, numbers, and the end of the line
+pub appended-line : {text text₁ text₂ text₃ : List ℕ} (numbers : List ℕ) {used lettered numbered end letter : ℕ}
+    → Appended text used (letter ∷ []) text₁ lettered → Appended text₁ lettered (flat (map field numbers)) text₂ numbered
+    → Appended text₂ numbered (10 ∷ []) text₃ end → Appended text used (written letter numbers) text₃ end
+unfolding written
+appended-line numbers first rest last = appended-then (appended-then first rest) last
+
+-- at the start of a lent text
+pub record Wrote (bytes text : List ℕ) (used : ℕ) : Type 0 where
+  pub inside : used ≤ length text
+  pub begins : take used text ≡ bytes
+
+pub wrote-nothing : (text : List ℕ) → Wrote [] text 0
+wrote-nothing text = record { inside = omega arith; begins = refl }
+
+-- where there was room for it
+pub appended-wrote : {text bytes text′ : List ℕ} {end : ℕ} → length bytes ≤ length text′ → Appended text 0 bytes text′ end → Wrote bytes text′ end
+appended-wrote room a = record { inside = omega (arith, a .counted); begins = a .same }
+
+pub line-wrote : {text text′ : List ℕ} (letter : ℕ) (numbers : List ℕ) {end : ℕ} → 11 * length numbers + 2 ≤ length text′
+    → Appended text 0 (written letter numbers) text′ end → Wrote (written letter numbers) text′ end
+line-wrote letter numbers room a = appended-wrote (omega (arith, length-written letter numbers)) a
+
+-- ---- byte by byte
+
+-- the first i bytes are put
+pub record Putting (text : List ℕ) (used : ℕ) (bytes text′ : List ℕ) (end i : ℕ) : Type 0 where
+  pub inside : i ≤ length bytes
+  pub same-length : length text′ ≡ length text
+  pub counted : end ≡ used + i
+  pub put : Appended text used (take i bytes) text′ end
+
+module _ (text : List ℕ) (used : ℕ) (bytes : List ℕ) where
+  pub putting-begin : Putting text used bytes text used 0
+  putting-begin = record { inside = omega arith; same-length = refl; counted = omega arith; put = appended-none text used }
+
+module _ {text : List ℕ} {used : ℕ} {bytes text′ : List ℕ} {end i : ℕ} (v : Putting text used bytes text′ end i) where
+  pub putting-again : {text″ : List ℕ} {end′ : ℕ} → i < length bytes → length text″ ≡ length text′
+      → Appended text′ end (getD bytes i 0 ∷ []) text″ end′ → Putting text used bytes text″ end′ (i + 1)
+  putting-again less lent one =
+      record {
+        inside = omega arith;
+        same-length = lent ∙ v .same-length;
+        counted = omega (arith, one .counted, v .counted);
+        put = rw (add-one, take-suc bytes i 0 less) (appended-then (v .put) one);
+      }
+
+  pub putting-end : length bytes ≤ i → Appended text used bytes text′ end
+  putting-end all = rw (take-all i bytes all) at (v .put)
+
+-- ---- number by number
+
+-- the first i numbers are put
+pub record Numbering (text : List ℕ) (used : ℕ) (numbers text′ : List ℕ) (end i : ℕ) : Type 0 where
+  pub inside : i ≤ length numbers
+  pub same-length : length text′ ≡ length text
+  pub few : end ≤ used + 11 * i
+  pub put : Appended text used (flat (map field (take i numbers))) text′ end
+
+module _ (text : List ℕ) (used : ℕ) (numbers : List ℕ) where
+  pub numbering-begin : Numbering text used numbers text used 0
+  unfolding flat
+  numbering-begin = record { inside = omega arith; same-length = refl; few = omega arith; put = appended-none text used }
+
+module _ {text : List ℕ} {used : ℕ} {numbers text′ : List ℕ} {end i : ℕ} (v : Numbering text used numbers text′ end i) where
+  pub numbering-again : {text″ : List ℕ} {end′ : ℕ} → i < length numbers → length text″ ≡ length text′
+      → Appended text′ end (field (getD numbers i 0)) text″ end′ → Numbering text used numbers text″ end′ (i + 1)
+  numbering-again less lent one =
+      record {
+        inside = omega arith;
+        same-length = lent ∙ v .same-length;
+        few = omega (arith, one .counted, v .few, length-field (getD numbers i 0));
+        put = rw (add-one, take-suc numbers i 0 less, fields-more (take i numbers) (getD numbers i 0)) (appended-then (v .put) one);
+      }
+
+  pub numbering-end : length numbers ≤ i → Appended text used (flat (map field numbers)) text′ end
+  numbering-end all = rw (take-all i numbers all) at (v .put)

@@ -1,0 +1,80 @@
+// A line of output, as specs/Written.antt of `levels_text` says it, behind the bytes that a lent text has already.
+ghost use mathlib.Core.List.{[], _∷_, map};
+ghost use Prim.Native.Nat.{_+_, _*_, _≤_, _<_};
+ghost use lib.ListN.{length};
+ghost use Rattle.lists.specs.Lists.{flat};
+ghost use Rattle.levels_text.specs.Written.{field, written};
+ghost use Rattle.levels_written.specs.inner.Appending.{Appended, Wrote};
+
+// One byte more.
+fn put(text: &mut [u8], used: usize, byte: u8) -> usize
+    requires { ⌜ used < length (now text) ⌝ }
+    ensures { λ r. ⌜ Appended (now (text .entry)) used (byte ∷ []) (now (text .exit)) r ⌝ }
+{
+    text[used] = byte;
+    used + 1
+}
+
+pub fn put_bytes(text: &mut [u8], used: usize, bytes: &[u8]) -> usize
+    requires { ⌜ used + length (now bytes) ≤ length (now text) ⌝ }
+    ensures { λ r. ⌜ Appended (now (text .entry)) used (now (bytes .entry)) (now (text .exit)) r ⌝ }
+{
+    let mut end = used;
+    let mut i = 0;
+    while i < bytes.len() {
+        end = put(text, end, bytes[i]);
+        i += 1;
+    }
+    end
+}
+
+// A comma and a number.
+fn put_number(text: &mut [u8], used: usize, number: u32) -> usize
+    requires { ⌜ used + 11 ≤ length (now text) ⌝ }
+    ensures { λ r. ⌜ Appended (now (text .entry)) used (field number) (now (text .exit)) r ⌝ }
+{
+    let mut digits = [0u8; 20];
+    let count = io::decimal(number as u64, &mut digits);
+    let end = put(text, used, b',');
+    put_bytes(text, end, &digits[..count])
+}
+
+fn put_numbers(text: &mut [u8], used: usize, numbers: &[u32]) -> usize
+    requires { ⌜ used + 11 * length (now numbers) ≤ length (now text) ⌝ }
+    ensures { λ r. ⌜ Appended (now (text .entry)) used (flat (map field (now (numbers .entry)))) (now (text .exit)) r ⌝ }
+{
+    let mut end = used;
+    let mut i = 0;
+    while i < numbers.len() {
+        end = put_number(text, end, numbers[i]);
+        i += 1;
+    }
+    end
+}
+
+// A letter, numbers and the end of the line.
+pub fn put_line(text: &mut [u8], used: usize, letter: u8, numbers: &[u32]) -> usize
+    requires { ⌜ used + (11 * length (now numbers) + 2) ≤ length (now text) ⌝ }
+    ensures { λ r. ⌜ Appended (now (text .entry)) used (written letter (now (numbers .entry))) (now (text .exit)) r ⌝ }
+{
+    let lettered = put(text, used, letter);
+    let numbered = put_numbers(text, lettered, numbers);
+    put(text, numbered, b'\n')
+}
+
+// A line at the start of the text.
+pub fn write_line(text: &mut [u8], letter: u8, numbers: &[u32]) -> usize
+    requires { ⌜ 11 * length (now numbers) + 2 ≤ length (now text) ⌝ }
+    ensures { λ r. ⌜ Wrote (written letter (now (numbers .entry))) (now (text .exit)) r ⌝ }
+{
+    put_line(text, 0, letter, numbers)
+}
+
+// X and a number.
+pub fn refuse(text: &mut [u8], number: u32) -> usize
+    requires { ⌜ 90 ≤ length (now text) ⌝ }
+    ensures { λ r. ⌜ Wrote (written 88 (number ∷ [])) (now (text .exit)) r ⌝ }
+{
+    let numbers = [number];
+    write_line(text, b'X', &numbers)
+}
