@@ -45,7 +45,7 @@ static uint32_t insert(uint32_t modem, uint32_t side, uint32_t level, uint32_t s
 }
 
 static void merge(void) {
-    uint32_t words[3];
+    uint32_t words[5];
     accepted("merge",
              mouldgrey_merge(header, LENGTH(header), rows, LENGTH(rows), keys, LENGTH(keys), sorts,
                              LENGTH(sorts), pending, LENGTH(pending), live, LENGTH(live), base,

@@ -166,9 +166,10 @@ uint32_t mouldgrey_stage_remove_row(uint32_t *header, size_t header_len, uint32_
  * stop and dead rows outnumber the larger of 16 and half the row count, the table compacts, save at
  * the last generation. Writes the header, rows, keys and sorts; live and base only if it compacts.
  *
- * words, 3: the stop's number and its place among all staged inserts, counted from 0 (both 0 if it
- * did not stop); 1 if a row was appended, else 0. A stop is not a refusal: the call returns 0.
- * Refuses: 1, 2 (also words_len other than 3); words unchanged.
+ * words, 5: the stop's number and its place among all staged inserts, counted from 0 (both 0 if it
+ * did not stop); 1 if a row was appended, else 0; how many rows its own compaction kept and how many
+ * it dropped (both 0 if there was none). A stop is not a refusal: the call returns 0.
+ * Refuses: 1, 2 (also words_len other than 5); words unchanged.
  */
 uint32_t mouldgrey_merge(uint32_t *header, size_t header_len, uint32_t *rows, size_t rows_len,
                          uint32_t *keys, size_t keys_len, uint32_t *sorts, size_t sorts_len,

@@ -141,6 +141,10 @@ pub struct Merge {
     pub stop: Option<(crate::Stop, u32)>,
     /// A row was appended.
     pub added: bool,
+    /// How many rows its own compaction kept, 0 if there was none.
+    pub kept: u32,
+    /// How many rows its own compaction dropped: above 16, or 0 if there was none.
+    pub dropped: u32,
 }
 
 /// A table's version: its generation and row count.

@@ -156,7 +156,7 @@ pub fn merge(
     live: &mut [u64],
     base: &mut [u32],
 ) -> Result<Merge, Refusal> {
-    let mut words = [0; 3];
+    let mut words = [0; 5];
     verdict(unsafe {
         raw::mouldgrey_merge(
             words_of(header),
@@ -177,10 +177,12 @@ pub fn merge(
             words.len(),
         )
     })?;
-    let [status, place, added] = words;
+    let [status, place, added, kept, dropped] = words;
     Ok(Merge {
         stop: Stop::from_number(status).map(|stop| (stop, place)),
         added: added == 1,
+        kept,
+        dropped,
     })
 }
 

@@ -103,6 +103,21 @@ fn stops() {
 }
 
 #[test]
+fn what_a_compaction_kept_and_dropped() {
+    let mut table = twenty();
+    for key in 0..16 {
+        assert_eq!(table.stage_remove(&[key]), Ok(()));
+    }
+    let merge = table.merge().expect("no refusal");
+    assert_eq!((merge.kept, merge.dropped), (0, 0));
+    assert_eq!(table.stage_remove(&[16]), Ok(()));
+    assert_eq!(table.stage_insert(&[70, 0, 9]), Ok(()));
+    let merge = table.merge().expect("no refusal");
+    assert_eq!((merge.kept, merge.dropped), (4, 17));
+    assert_eq!(table.version().rows, 4);
+}
+
+#[test]
 fn old_stamps_stay_out() {
     let mut table = twenty();
     assert_eq!(table.header().largest(), Some(9));

@@ -88,7 +88,8 @@ pub extern "C" fn mouldgrey_stage_remove_row(
     write_table(answer, header)
 }
 
-// The answer goes into three words: the stop's number and place, and 1 if a row was appended.
+// The answer goes into five words: the stop's number and place, 1 if a row was appended, and how many rows its compaction kept and
+// dropped.
 #[no_mangle]
 pub extern "C" fn mouldgrey_merge(
     header: &mut [u32],
@@ -105,7 +106,7 @@ pub extern "C" fn mouldgrey_merge(
     if header.len() != 12 {
         return 1;
     }
-    if words.len() != 3 {
+    if words.len() != 5 {
         return 2;
     }
     let answer = merge::merge(header_of(header), rows, keys, sorts, pending, live, base);

@@ -8,3 +8,4 @@ pub mod Batches
 pub mod Lent
 pub mod Stamps
 pub mod Notes
+pub mod Price

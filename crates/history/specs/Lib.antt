@@ -4,4 +4,5 @@ pub mod Claim
 pub mod Batches
 pub mod Stamps
 pub mod Notes
+pub mod Price
 pub mod Laws

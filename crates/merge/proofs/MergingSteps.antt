@@ -13,9 +13,10 @@ use Rattle.refusals.specs.Laws.Replies.{verdict-refused, verdict-accepted}
 use Rattle.key_index.specs.declared.Keyed.{Keyed}
 use Rattle.key_index.specs.inner.Index.{Fits}
 use Rattle.plain.specs.Staged.{due}
-use Rattle.plain.specs.Plain.{Plain, applied, unstaged}
+use Rattle.plain.specs.Plain.{live as liveCount, compacts, Plain, applied, unstaged, dead}
 use Rattle.table.specs.declared.Header.{Header}
 use Rattle.table.specs.declared.Merge.{Merge}
+use Rattle.merge.specs.declared.Passed.{Passed}
 use Rattle.table.specs.declared.MergeAnswer.the-variants.{Refused as MergeRefused, Merged}
 use Rattle.table.specs.Numbers.{mergeSays}
 use Rattle.table.specs.Refusing.{mergeRefusal}
@@ -24,11 +25,11 @@ use Rattle.pending.specs.inner.Becoming.{withCounts, withDead, Ready}
 use Rattle.merge.specs.inner.Insertions.{Insertions}
 use Rattle.removals.specs.inner.Removals.{Removable, Removals}
 use Rattle.compaction.specs.inner.Compaction.{Lendable, Compaction}
-use Rattle.merge.specs.inner.Parts.{Applying, finished, withHeader, Finishing}
+use Rattle.merge.specs.inner.Parts.{Applying, finished, finishedAs, Finishing}
 use Rattle.table.specs.Laws.Refusals.{inside-fits, Mergeable, merge-accepted}
 use Rattle.table.specs.Laws.Opening.{unstaged-represents}
 use Rattle.pending.specs.Laws.Steps.{steps-refl}
-use Rattle.merge.specs.Laws.Merging.{passes-table, finished-stopped, finished-kept, finished-compacted, compacted-store, compacted-generation, merged-table}
+use Rattle.merge.specs.Laws.Merging.{passes-table, stopped-not, due-not, due-compacts, compacted-rows, compacted-store, compacted-generation, merged-table}
 
 -- ---- a compaction is due
 
@@ -98,7 +99,7 @@ module _ (h : Header) (rows keys sorts pending : List ℕ) (ready : Ready h rows
         })
 
     -- all three
-    pub passed : (m : Merge) (rows₃ keys₃ sorts₃ : List ℕ) → Insertions h₂ rows₂ keys₂ sorts pending m rows₃ keys₃ sorts₃ → Applying h rows keys sorts pending m rows₃ keys₃ sorts₃
+    pub passed : (m : Passed) (rows₃ keys₃ sorts₃ : List ℕ) → Insertions h₂ rows₂ keys₂ sorts pending m rows₃ keys₃ sorts₃ → Applying h rows keys sorts pending m rows₃ keys₃ sorts₃
     passed m rows₃ keys₃ sorts₃ i =
         let n : h₁ .capacity ≡ h .capacity = ap (λ (x : Header). x .capacity) (by-key .header) in
         let k : h₂ .capacity ≡ h .capacity = ap (λ (x : Header). x .capacity) without in
@@ -119,9 +120,9 @@ pub lendable-emptied : {h : Header} {rows keys sorts live base : List ℕ} → L
 lendable-emptied l =
     record { fits = l .fits; sort-column = l .sort-column; sorts-long = l .sorts-long; live-long = l .live-long; base-long = l .base-long }
 
-module _ (m : Merge) (rows keys sorts live base : List ℕ) where
-  finish-same : ((pending : List ℕ) (p : Plain) → Represents p (stores (m .header) rows keys sorts pending) → finished (m .status) p ≡ unstaged p)
-      → Finishing m rows keys sorts live base (withHeader m (withPending (m .header) 0)) rows keys sorts live base
+module _ (m : Passed) (rows keys sorts live base : List ℕ) where
+  finish-same : ((pending : List ℕ) (p : Plain) → Represents p (stores (m .header) rows keys sorts pending) → compacts (m .status) p ≡ false)
+      → Finishing m rows keys sorts live base (finishedAs m (withPending (m .header) 0) 0 0) rows keys sorts live base
   finish-same same =
       record {
         past = refl;
@@ -131,7 +132,7 @@ module _ (m : Merge) (rows keys sorts live base : List ℕ) where
             let e = same pending p r in
             let z = steps-refl u in
             record {
-              header = rw e (ap (withHeader m) (u .shown .header));
+              answer = rw e (ap (λ (h : Header). finishedAs m h 0 0) (u .shown .header));
               rows-after = rw e (z .rows-after);
               sorts-after = rw e (z .sorts-after);
               represents = rw e u;
@@ -140,27 +141,29 @@ module _ (m : Merge) (rows keys sorts live base : List ℕ) where
       }
 
   -- the merge stopped
-  pub finish-stopped : (m .status ≡ 0 → ⊥) → Finishing m rows keys sorts live base (withHeader m (withPending (m .header) 0)) rows keys sorts live base
-  finish-stopped stopped = finish-same (λ pending p r. finished-stopped (m .status) p stopped)
+  pub finish-stopped : (m .status ≡ 0 → ⊥) → Finishing m rows keys sorts live base (finishedAs m (withPending (m .header) 0) 0 0) rows keys sorts live base
+  finish-stopped stopped = finish-same (λ pending p r. stopped-not (m .status) p stopped)
 
   -- no compaction is due
   pub finish-kept : m .status ≡ 0 → due (m .header .dead) (m .header .rows) (m .header .generation) ≡ false
-      → Finishing m rows keys sorts live base (withHeader m (withPending (m .header) 0)) rows keys sorts live base
-  finish-kept went d = finish-same (λ pending p r. finished-kept (m .status) p went (rw (r .shown .header) at d))
+      → Finishing m rows keys sorts live base (finishedAs m (withPending (m .header) 0) 0 0) rows keys sorts live base
+  finish-kept went d = finish-same (λ pending p r. due-not (m .status) p went (rw (r .shown .header) at d))
 
   -- one is
   pub finish-compacted : m .status ≡ 0 → due (m .header .dead) (m .header .rows) (m .header .generation) ≡ true
       → (h′ : Header) (rows′ keys′ sorts′ live′ base′ : List ℕ) → Compaction (withPending (m .header) 0) rows keys sorts live base h′ rows′ keys′ sorts′ live′ base′
-      → Finishing m rows keys sorts live base (withHeader m h′) rows′ keys′ sorts′ live′ base′
+      → Finishing m rows keys sorts live base (finishedAs m h′ (h′ .rows) (m .header .dead)) rows′ keys′ sorts′ live′ base′
   finish-compacted went d h′ rows′ keys′ sorts′ live′ base′ c =
       record {
         past = c .past;
         words-past = c .words-past;
         table = λ pending p r.
             let k = c .table pending (unstaged p) (unstaged-represents r) in
-            let e = finished-compacted (m .status) p went (rw (r .shown .header) at d) in
+            let e = due-compacts (m .status) p went (rw (r .shown .header) at d) in
+            let x : h′ .rows ≡ liveCount p = ap (λ (h : Header). h .rows) (k .header) ∙ compacted-rows p in
+            let y : m .header .dead ≡ dead p = ap (λ (h : Header). h .dead) (r .shown .header) in
             record {
-              header = rw e (ap (withHeader m) (k .header));
+              answer = rw e (λ i. finishedAs m (k .header i) (x i) (y i));
               rows-after = rw e (k .rows-after ∙ compacted-store (unstaged p) _ rows);
               sorts-after = rw e (k .sorts-after);
               represents = rw e (k .represents);
@@ -204,7 +207,7 @@ module _ (h : Header) (rows keys sorts pending live base : List ℕ) where
           a .inside .dead-fit,
         )
 
-    module _ (m : Merge) (rows₁ keys₁ sorts₁ : List ℕ) (applying : Applying h rows keys sorts pending m rows₁ keys₁ sorts₁) where
+    module _ (m : Passed) (rows₁ keys₁ sorts₁ : List ℕ) (applying : Applying h rows keys sorts pending m rows₁ keys₁ sorts₁) where
       -- what follows them asks
       pub merge-lendable : length rows₁ ≡ length rows → length keys₁ ≡ length keys → length sorts₁ ≡ length sorts → Lendable (m .header) rows₁ keys₁ sorts₁ live base
       merge-lendable a b c =

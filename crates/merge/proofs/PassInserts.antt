@@ -10,7 +10,7 @@ use lib.ListN.{length, take, drop, getD}
 use Rattle.plain.specs.Staged.{Staged, insert, removeKey, removeRow, wordsOf, inserts}
 use Rattle.plain.specs.Plain.{unchanged, appended, stopped, Inserted, inserted, insertAll, Plain, insertion}
 use Rattle.table.specs.declared.Header.{Header}
-use Rattle.table.specs.declared.Merge.{Merge}
+use Rattle.merge.specs.declared.Passed.{Passed}
 use Rattle.appending.specs.declared.Insertion.{Insertion}
 use Rattle.appending.specs.declared.Insertion.the-variants.{Kept, Appended, Stopped}
 use Rattle.table.specs.Numbers.{openingOf}
@@ -39,10 +39,10 @@ goes-stopped : (cells : List ℕ) (rest : List Staged) (place : ℕ) (added : Bo
 unfolding insertAll inserts
 goes-stopped cells rest place added p n e = rw e
 
-abbrev merge : Header → ℕ → ℕ → Bool → Merge
-merge h status place added = record { header = h; status = status; place = place; added = added }
+abbrev passed : Header → ℕ → ℕ → Bool → Passed
+passed h status place added = record { header = h; status = status; place = place; added = added }
 
-module _ {m : Merge} {rows keys sorts pending : List ℕ} {at : ℕ} (a : InsertNext m rows keys sorts pending at) where
+module _ {m : Passed} {rows keys sorts pending : List ℕ} {at : ℕ} (a : InsertNext m rows keys sorts pending at) where
   abbrev Before : Stores
   Before = stores (m .header) rows keys sorts pending
 
@@ -61,7 +61,7 @@ module _ {m : Merge} {rows keys sorts pending : List ℕ} {at : ℕ} (a : Insert
 
   module _ {one : Insertion} {rows′ keys′ sorts′ : List ℕ} (k : getD pending at 0 ≡ 0)
       (i : Inserting (m .header) rows keys sorts (take (m .header .columns) (drop (at + 2) pending)) (getD pending (at + 1) 0) one rows′ keys′ sorts′) where
-    abbrev Goes : Merge → Staged → List Staged → Plain → Type 0
+    abbrev Goes : Passed → Staged → List Staged → Plain → Type 0
     Goes r s rest p = InsertGoes m r s rest p Before (stores (r .header) rows′ keys′ sorts′ pending)
 
     -- what the insert that stands here comes to
@@ -72,7 +72,7 @@ module _ {m : Merge} {rows keys sorts pending : List ℕ} {at : ℕ} (a : Insert
         j .table (waiting-hash w) pending p t
 
     -- the record here is an insert
-    an-insert : (r : Merge) → ((cells : List ℕ) (rest : List Staged) → Next (m .header) pending at (insert cells) rest → (p : Plain) → Represents p Before → Goes r (insert cells) rest p)
+    an-insert : (r : Passed) → ((cells : List ℕ) (rest : List Staged) → Next (m .header) pending at (insert cells) rest → (p : Plain) → Represents p Before → Goes r (insert cells) rest p)
         → (s : Staged) (rest : List Staged) → Next (m .header) pending at s rest → (p : Plain) → Represents p Before → Goes r s rest p
     an-insert r f (insert cells) rest w p t = f cells rest w p t
     an-insert r f (removeKey key) rest w p t = let e : getD pending at 0 ≡ 1 = unfold kindOf in waiting-kind w in absurd (omega arith)
@@ -82,17 +82,17 @@ module _ {m : Merge} {rows keys sorts pending : List ℕ} {at : ℕ} (a : Insert
     same-steps f p t = let u = i .unchanged f in rw (u .0, u .1, u .2) (steps-refl t)
 
     -- it is kept
-    pub inserted-kept : one ≡ Kept → InsertedNext m rows keys sorts pending at (merge (m .header) 0 (m .place + 1) (m .added)) rows′ keys′ sorts′
+    pub inserted-kept : one ≡ Kept → InsertedNext m rows keys sorts pending at (passed (m .header) 0 (m .place + 1) (m .added)) rows′ keys′ sorts′
     inserted-kept e =
         record {
           past = i .past;
           header = header-same;
           place-fits = omega arith;
-          table = λ z. an-insert (merge (m .header) 0 (m .place + 1) (m .added)) goes;
+          table = λ z. an-insert (passed (m .header) 0 (m .place + 1) (m .added)) goes;
         }
       where
         goes : (cells : List ℕ) (rest : List Staged) → Next (m .header) pending at (insert cells) rest → (p : Plain) → Represents p Before
-            → Goes (merge (m .header) 0 (m .place + 1) (m .added)) (insert cells) rest p
+            → Goes (passed (m .header) 0 (m .place + 1) (m .added)) (insert cells) rest p
         goes cells rest w p t =
             record {
               next = p;
@@ -102,17 +102,17 @@ module _ {m : Merge} {rows keys sorts pending : List ℕ} {at : ℕ} (a : Insert
             }
 
     -- it is appended
-    pub inserted-appended : (h′ : Header) → one ≡ Appended h′ → InsertedNext m rows keys sorts pending at (merge h′ 0 (m .place + 1) true) rows′ keys′ sorts′
+    pub inserted-appended : (h′ : Header) → one ≡ Appended h′ → InsertedNext m rows keys sorts pending at (passed h′ 0 (m .place + 1) true) rows′ keys′ sorts′
     inserted-appended h′ e =
         record {
           past = i .past;
           header = i .header h′ e;
           place-fits = omega arith;
-          table = λ z. an-insert (merge h′ 0 (m .place + 1) true) goes;
+          table = λ z. an-insert (passed h′ 0 (m .place + 1) true) goes;
         }
       where
         goes : (cells : List ℕ) (rest : List Staged) → Next (m .header) pending at (insert cells) rest → (p : Plain) → Represents p Before
-            → Goes (merge h′ 0 (m .place + 1) true) (insert cells) rest p
+            → Goes (passed h′ 0 (m .place + 1) true) (insert cells) rest p
         goes cells rest w p t =
             let x = rw e at (comes w p t) in
             record {
@@ -123,17 +123,17 @@ module _ {m : Merge} {rows keys sorts pending : List ℕ} {at : ℕ} (a : Insert
             }
 
     -- it stops the merge
-    pub inserted-stopped : (n : ℕ) → one ≡ Stopped n → InsertedNext m rows keys sorts pending at (merge (m .header) n (m .place) (m .added)) rows′ keys′ sorts′
+    pub inserted-stopped : (n : ℕ) → one ≡ Stopped n → InsertedNext m rows keys sorts pending at (passed (m .header) n (m .place) (m .added)) rows′ keys′ sorts′
     inserted-stopped n e =
         record {
           past = i .past;
           header = header-same;
           place-fits = omega arith;
-          table = λ z. an-insert (merge (m .header) n (m .place) (m .added)) goes;
+          table = λ z. an-insert (passed (m .header) n (m .place) (m .added)) goes;
         }
       where
         goes : (cells : List ℕ) (rest : List Staged) → Next (m .header) pending at (insert cells) rest → (p : Plain) → Represents p Before
-            → Goes (merge (m .header) n (m .place) (m .added)) (insert cells) rest p
+            → Goes (passed (m .header) n (m .place) (m .added)) (insert cells) rest p
         goes cells rest w p t =
             let x = rw e at (comes w p t) in
             record {
@@ -146,7 +146,7 @@ module _ {m : Merge} {rows keys sorts pending : List ℕ} {at : ℕ} (a : Insert
 -- ---- the loop over the inserts
 
 -- what the inserts so far have come to, and the records still to come
-pub record Inserts (at : ℕ) (m : Merge) (p : Plain) (s s′ : Stores) : Type 0 where
+pub record Inserts (at : ℕ) (m : Passed) (p : Plain) (s s′ : Stores) : Type 0 where
   pub now : Plain
   pub rest : List Staged
   pub waiting : Waiting (openingOf (s .header)) (s .pending) (s .header .pending) at rest
@@ -154,7 +154,7 @@ pub record Inserts (at : ℕ) (m : Merge) (p : Plain) (s s′ : Stores) : Type 0
   pub steps : Steps p now s s′
 
 -- the loop's invariant
-pub record Filling (h : Header) (rows keys sorts pending rows′ keys′ sorts′ : List ℕ) (m : Merge) (at words : ℕ) : Type 0 where
+pub record Filling (h : Header) (rows keys sorts pending rows′ keys′ sorts′ : List ℕ) (m : Passed) (at words : ℕ) : Type 0 where
   pub here : RecordLength h pending at words
   pub inside : at ≤ h .pending
   pub going : m .status ≡ 0
@@ -187,7 +187,7 @@ module _ {h : Header} {rows keys sorts pending : List ℕ} (a : Ready h rows key
   abbrev Start : Stores
   Start = stores h rows keys sorts pending
 
-  pub filling-begin : {words : ℕ} → RecordLength h pending 0 words → Filling h rows keys sorts pending rows keys sorts (merge h 0 0 false) 0 words
+  pub filling-begin : {words : ℕ} → RecordLength h pending 0 words → Filling h rows keys sorts pending rows keys sorts (passed h 0 0 false) 0 words
   filling-begin l =
       record {
         here = l;
@@ -203,7 +203,7 @@ module _ {h : Header} {rows keys sorts pending : List ℕ} (a : Ready h rows key
         table = λ p t. record { now = p; rest = p .staged; waiting = waiting-start t; same = refl; steps = steps-refl t };
       }
 
-  module _ {rows′ keys′ sorts′ : List ℕ} {m : Merge} {at words : ℕ} (v : Filling h rows keys sorts pending rows′ keys′ sorts′ m at words) where
+  module _ {rows′ keys′ sorts′ : List ℕ} {m : Passed} {at words : ℕ} (v : Filling h rows keys sorts pending rows′ keys′ sorts′ m at words) where
     module _ (some : words ≡ 0 → ⊥) where
       pub filling-long : 3 ≤ words
       filling-long = record-long (v .here) (a .fits .some-columns) (a .fits .some-keys) (omega arith)
@@ -227,7 +227,7 @@ module _ {h : Header} {rows keys sorts pending : List ℕ} (a : Ready h rows key
           wide : m .header .columns ≡ h .columns
           wide = ap (λ (x : Header). x .columns) (v .header .counts)
 
-      module _ {r : Merge} {rows″ keys″ sorts″ : List ℕ} (one : InsertedNext m rows′ keys′ sorts′ pending at r rows″ keys″ sorts″) where
+      module _ {r : Passed} {rows″ keys″ sorts″ : List ℕ} (one : InsertedNext m rows′ keys′ sorts′ pending at r rows″ keys″ sorts″) where
         header-then : Recounted h (r .header)
         header-then = recounted-then (v .header) (one .header)
 
@@ -301,11 +301,11 @@ module _ {h : Header} {rows keys sorts pending : List ℕ} (a : Ready h rows key
             }
 
     -- no record is left
-    pub filling-end : words ≡ 0 → Insertions h rows keys sorts pending (merge (m .header) (m .status) 0 (m .added)) rows′ keys′ sorts′
+    pub filling-end : words ≡ 0 → Insertions h rows keys sorts pending (passed (m .header) (m .status) 0 (m .added)) rows′ keys′ sorts′
     filling-end z = record { past = v .past; header = v .header; table = λ p t. done p t (v .table p t .rest) refl }
       where
         done : (p : Plain) (t : Represents p Start) (l : List Staged) → v .table p t .rest ≡ l
-            → InsertedTable p Start (stores (m .header) rows′ keys′ sorts′ pending) (merge (m .header) (m .status) 0 (m .added))
+            → InsertedTable p Start (stores (m .header) rows′ keys′ sorts′ pending) (passed (m .header) (m .status) 0 (m .added))
         done p t [] e =
             let g = v .table p t in
             let q : insertAll (inserts (p .staged)) 0 false p ≡ inserted (g .now) 0 0 (m .added) = g .same ∙ rw e (unfold inserts insertAll in refl) in

@@ -23,16 +23,24 @@ use table::REMOVE_ROW;
 use table::refusing::LAST_GENERATION;
 use table::refusing::merge_refusal;
 
+// What the passes over the pending records have come to: a merge's answer, before the compaction that may follow.
+pub struct Passed {
+    pub header: Header,
+    pub status: u32,
+    pub place: u32,
+    pub added: bool,
+}
+
 // The record at a place, if it is an insert. Takes what the inserts before it have come to, and answers with what it comes
 // to: `place` is that of the next insert, unless this one stops the merge.
 fn insert_next(
-    m: Merge,
+    m: Passed,
     rows: &mut [u32],
     keys: &mut [u32],
     sorts: &mut [u32],
     pending: &[u32],
     at: u32,
-) -> Merge
+) -> Passed
     requires { ⌜ InsertNext m (now rows) (now keys) (now sorts) (now pending) at ⌝ }
     ensures { λ r. ⌜ InsertedNext m (now (rows .entry)) (now (keys .entry)) (now (sorts .entry)) (now (pending .entry)) at r (now (rows .exit)) (now (keys .exit)) (now (sorts .exit)) ⌝ }
 {
@@ -71,11 +79,11 @@ fn insert_all(
     keys: &mut [u32],
     sorts: &mut [u32],
     pending: &[u32],
-) -> Merge
+) -> Passed
     requires { ⌜ Ready h (now rows) (now keys) (now sorts) (now pending) ⌝ }
     ensures { λ r. ⌜ Insertions h (now (rows .entry)) (now (keys .entry)) (now (sorts .entry)) (now (pending .entry)) r (now (rows .exit)) (now (keys .exit)) (now (sorts .exit)) ⌝ }
 {
-    let mut done = Merge {
+    let mut done = Passed {
         header: h,
         status: 0,
         place: 0,
@@ -115,7 +123,7 @@ fn apply_pending(
     keys: &mut [u32],
     sorts: &mut [u32],
     pending: &[u32],
-) -> Merge
+) -> Passed
     requires { ⌜ Ready h (now rows) (now keys) (now sorts) (now pending) × (h .dead ≤ h .rows) ⌝ }
     ensures { λ r. ⌜ Applying h (now (rows .entry)) (now (keys .entry)) (now (sorts .entry)) (now (pending .entry)) r (now (rows .exit)) (now (keys .exit)) (now (sorts .exit)) ⌝ }
 {
@@ -124,9 +132,10 @@ fn apply_pending(
     insert_all(without_rows, rows, keys, sorts, pending)
 }
 
-// Pending is emptied and, unless the merge stopped, dead rows are dropped if that is due.
+// Pending is emptied and, unless the merge stopped, dead rows are dropped if that is due. Those that a compaction leaves were
+// live, and it drops the dead ones.
 fn finish(
-    m: Merge,
+    m: Passed,
     rows: &mut [u32],
     keys: &mut [u32],
     sorts: &mut [u32],
@@ -138,8 +147,14 @@ fn finish(
 {
     let mut n = m.header;
     n.pending = 0;
-    let mut r = m;
-    r.header = n;
+    let mut r = Merge {
+        header: n,
+        status: m.status,
+        place: m.place,
+        added: m.added,
+        kept: 0,
+        dropped: 0,
+    };
     if m.status != 0 {
         return r;
     }
@@ -148,6 +163,8 @@ fn finish(
     }
     let compacted = compact_rows(n, rows, keys, sorts, live, base);
     r.header = compacted;
+    r.kept = compacted.rows;
+    r.dropped = n.dead;
     r
 }
 

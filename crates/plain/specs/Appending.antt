@@ -1,6 +1,6 @@
--- The rows that calls append, taken from the steps of each merge's inserts on the plain table, and the sort values appended
--- "since opening or the last clear that emptied rows" (change 7). Assumes nothing.
-use Prim.Native.Nat.{ℕ}
+-- The rows that calls append, taken from the steps of each merge's inserts on the plain table: how many (change 9), and the sort
+-- values appended "since opening or the last clear that emptied rows" (change 7). Assumes nothing.
+use Prim.Native.Nat.{ℕ, _+_}
 use mathlib.Core.Bool.{cond}
 use mathlib.Core.List.{List, [], _∷_, _++_, map}
 use mathlib.Core.Option.{Option, none, some}
@@ -25,6 +25,21 @@ insertsAppend (cells ∷ rest) p = appendsOn (insertion cells p) p (insertsAppen
 -- the rows that a merge appends, stopped or not
 unfoldable pub mergeAppends : Plain → List (List ℕ)
 mergeAppends p = insertsAppend (inserts (p .staged)) (removed p)
+
+-- "The rows appended are taken from the definition of each merge's steps": how many a call appends, 0 if it is refused
+unfoldable pub appendedDone : Plain → Call → ℕ
+appendedDone p (staging r) = 0
+appendedDone p merging = length (mergeAppends p)
+appendedDone p compacting = 0
+appendedDone p clearing = 0
+
+unfoldable pub appendedBy : Plain → Lent → ℕ
+appendedBy p c = cond (eqb (refusal p (c .lengths) (c .call)) 0) (appendedDone p (c .call)) 0
+
+-- all the calls together
+unfoldable pub appendedAll : Plain → List Lent → ℕ
+appendedAll p [] = 0
+appendedAll p (c ∷ cs) = appendedBy p c + appendedAll (after p (c .lengths) (c .call)) cs
 
 -- the sort values of rows
 abbrev pub stampsOf : Plain → List (List ℕ) → List ℕ

@@ -9,3 +9,4 @@ pub mod Batches
 pub mod Notes
 pub mod Turns
 pub mod Stamps
+pub mod Price

@@ -56,6 +56,9 @@ liveRows p = liveFrom 0 (p .rows)
 unfoldable pub lookup : Plain → List ℕ → Option Numbered
 lookup p key = firstOf (λ row. hasKey (p .opening .keys) key (row .cells)) (liveRows p)
 
+unfoldable pub live : Plain → ℕ
+live p = count (λ row. row .live) (p .rows)
+
 unfoldable pub dead : Plain → ℕ
 dead p = count (λ row. not (row .live)) (p .rows)
 
@@ -183,17 +186,26 @@ applied p = insertAll (inserts (p .staged)) 0 false (removed p)
 unfoldable pub compacted : Plain → Plain
 compacted p = with p (p .generation + 1) (keep (λ row. row .live) (p .rows)) (p .staged)
 
-unfoldable pub compactIfDue : Plain → Plain
-compactIfDue p = cond (due (dead p) (length (p .rows)) (p .generation)) (compacted p) p
-
 unfoldable pub unstaged : Plain → Plain
 unstaged p = with p (p .generation) (p .rows) []
 
--- what a merge leaves: if it stopped, "pending is emptied, no compaction follows"
+-- whether a merge whose inserts leave this compacts: if it stopped, "no compaction follows"
+unfoldable pub compacts : ℕ → Plain → Bool
+compacts status p = eqb status 0 && due (dead p) (length (p .rows)) (p .generation)
+
+-- what a merge leaves: stopped or not, "pending is emptied"
 unfoldable pub merged : Plain → Inserted
 merged p =
     let m = applied p in
-    inserted (cond (eqb (m .status) 0) (compactIfDue (unstaged (m .table))) (unstaged (m .table))) (m .status) (m .place) (m .added)
+    inserted (cond (compacts (m .status) (m .table)) (compacted (unstaged (m .table))) (unstaged (m .table))) (m .status) (m .place) (m .added)
+
+-- (change 9) "how many rows its own compaction kept, 0 if there was none, and how many it dropped": those live and those dead
+-- at that moment
+unfoldable pub mergeKeeps : Plain → ℕ
+mergeKeeps p = let m = applied p in cond (compacts (m .status) (m .table)) (live (m .table)) 0
+
+unfoldable pub mergeDrops : Plain → ℕ
+mergeDrops p = let m = applied p in cond (compacts (m .status) (m .table)) (dead (m .table)) 0
 
 -- Clear: "Unless refused, empties pending; with rows, the rest too, and the generation rises by one". With rows nothing is
 -- left but the opening's numbers; without, the largest value stays

@@ -82,7 +82,7 @@ fn counted(counts: Counts, is_asked: bool, agrees: bool) -> Counts {
 
 // The numbers of an answer are those of a line.
 fn is_same(said: Said, out: &[u32], numbers: &[u32]) -> bool {
-    let first = [said.first, said.second, said.third];
+    let first = [said.first, said.second, said.third, said.fourth, said.fifth];
     if numbers.len() != further(said.count, said.more) {
         return false;
     }

@@ -36,7 +36,13 @@ fn digit_of(yes: bool) -> u32 {
 fn merge_told(h: Header, answer: MergeAnswer) -> Said {
     match answer {
         MergeAnswer::Refused(number) => refused(h, number),
-        MergeAnswer::Merged(m) => tell_three(m.header, b'M', m.status, digit_of(m.added), m.place),
+        MergeAnswer::Merged(m) => {
+            let mut said = tell_three(m.header, b'M', m.status, digit_of(m.added), m.place);
+            said.fourth = m.kept;
+            said.fifth = m.dropped;
+            said.count = 5;
+            said
+        }
     }
 }
 

@@ -11,6 +11,8 @@ pub struct Said {
     pub first: u32,
     pub second: u32,
     pub third: u32,
+    pub fourth: u32,
+    pub fifth: u32,
     pub more: u32,
 }
 
@@ -56,6 +58,8 @@ pub fn tell_three(header: Header, letter: u8, first: u32, second: u32, third: u3
         first,
         second,
         third,
+        fourth: 0,
+        fifth: 0,
         more: 0,
     }
 }

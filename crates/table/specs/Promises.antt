@@ -15,7 +15,7 @@ use Rattle.sort_entries.specs.Entries.{entriesOf, entriesSound, fastRange}
 use Rattle.key_index.specs.Slots.{KeysSound}
 use Rattle.plain.specs.Staged.{Opening, Staged, wordsOf}
 use Rattle.plain.specs.Refusing.{Lengths, storesShort, openRefusal}
-use Rattle.plain.specs.Plain.{Plain, lookup, opened, applied, merged, compacted, cleared}
+use Rattle.plain.specs.Plain.{Plain, lookup, opened, applied, merged, mergeKeeps, mergeDrops, compacted, cleared}
 use Rattle.plain.specs.Proper.{Proper}
 use Rattle.table.specs.declared.Header.{Header}
 use Rattle.table.specs.declared.TableAnswer.{TableAnswer}
@@ -139,6 +139,8 @@ mergeOf p =
       status = merged p .status;
       place = merged p .place;
       added = merged p .added;
+      kept = mergeKeeps p;
+      dropped = mergeDrops p;
     }
 
 -- the row store after a merge, over the rows that were stored before: its removals and inserts are written first, then its

@@ -50,13 +50,15 @@ pub enum TableAnswer {
     Table(Header),
 }
 
-// What a merge leaves: the header, the stop's number and the place of its insert (both 0 if it did not stop), and whether
-// a row was appended.
+// What a merge leaves: the header, the stop's number and the place of its insert (both 0 if it did not stop), whether a row
+// was appended, and how many rows its own compaction kept and dropped (both 0 if there was none).
 pub struct Merge {
     pub header: Header,
     pub status: u32,
     pub place: u32,
     pub added: bool,
+    pub kept: u32,
+    pub dropped: u32,
 }
 
 pub enum MergeAnswer {

@@ -23,6 +23,17 @@ three (x ∷ (y ∷ [])) a b d e = absurd (omega arith)
 three (x ∷ (y ∷ (z ∷ []))) a b d e = refl
 three (x ∷ (y ∷ (z ∷ (w ∷ l)))) a b d e = absurd (omega arith)
 
+pub five : (l : List ℕ) (a b d e f : ℕ) → length l ≡ 5
+    → set (set (set (set (set l 0 a) 1 b) 2 d) 3 e) 4 f
+    ≡ a ∷ b ∷ d ∷ e ∷ f ∷ []
+five [] a b d e f q = absurd (omega arith)
+five (x0 ∷ []) a b d e f q = absurd (omega arith)
+five (x0 ∷ (x1 ∷ [])) a b d e f q = absurd (omega arith)
+five (x0 ∷ (x1 ∷ (x2 ∷ []))) a b d e f q = absurd (omega arith)
+five (x0 ∷ (x1 ∷ (x2 ∷ (x3 ∷ [])))) a b d e f q = absurd (omega arith)
+five (x0 ∷ (x1 ∷ (x2 ∷ (x3 ∷ (x4 ∷ []))))) a b d e f q = refl
+five (x0 ∷ (x1 ∷ (x2 ∷ (x3 ∷ (x4 ∷ (x5 ∷ l)))))) a b d e f q = absurd (omega arith)
+
 pub twelve : (l : List ℕ) (a b d e f g h i j k m n : ℕ) → length l ≡ 12
     → set (set (set (set (set (set (set (set (set (set (set (set l 0 a) 1 b) 2 d) 3 e) 4 f) 5 g) 6 h) 7 i) 8 j) 9 k) 10 m) 11 n
     ≡ a ∷ b ∷ d ∷ e ∷ f ∷ g ∷ h ∷ i ∷ j ∷ k ∷ m ∷ n ∷ []

@@ -100,10 +100,10 @@ unfoldable pub mergeHeader : List ℕ → MergeAnswer → List ℕ
 mergeHeader words (MergeRefused n) = words
 mergeHeader words (Merged m) = headerWords (m .header)
 
--- the stop's number and place, and whether a row was appended
+-- the stop's number and place, whether a row was appended, and what its compaction kept and dropped
 unfoldable pub mergeWords : List ℕ → MergeAnswer → List ℕ
 mergeWords words (MergeRefused n) = words
-mergeWords words (Merged m) = m .status ∷ m .place ∷ bit (m .added) ∷ []
+mergeWords words (Merged m) = m .status ∷ m .place ∷ bit (m .added) ∷ m .kept ∷ m .dropped ∷ []
 
 -- 1 and the value, or all 0
 unfoldable pub rowNumber : RowAnswer → ℕ
@@ -182,13 +182,13 @@ pub record Called (promise : TableAnswer → Type 0) (unchanged : Type 0) (heade
   pub done : length header ≡ 12 → (answer : TableAnswer) × promise answer × (r ≡ tableNumber answer) × (header′ ≡ tableHeader header answer)
   pub unheaded : (length header ≡ 12 → ⊥) → unchanged × (r ≡ 1) × (header′ ≡ header)
 
--- A merge, whose answer goes into three words. Where the header is not twelve words, the number is 1; where it is, but these are
--- not three, it is 2; and nothing has changed.
+-- A merge, whose answer goes into five words. Where the header is not twelve words, the number is 1; where it is, but these are
+-- not five, it is 2; and nothing has changed.
 pub record MergeCalled (promise : MergeAnswer → Type 0) (unchanged : Type 0) (header words : List ℕ) (r : ℕ) (header′ words′ : List ℕ) : Type 0 where
-  pub done : length header ≡ 12 → length words ≡ 3
+  pub done : length header ≡ 12 → length words ≡ 5
       → (answer : MergeAnswer) × promise answer × (r ≡ mergeNumber answer) × (header′ ≡ mergeHeader header answer) × (words′ ≡ mergeWords words answer)
   pub unheaded : (length header ≡ 12 → ⊥) → unchanged × (r ≡ 1) × (header′ ≡ header) × (words′ ≡ words)
-  pub unworded : length header ≡ 12 → (length words ≡ 3 → ⊥) → unchanged × (r ≡ 2) × (header′ ≡ header) × (words′ ≡ words)
+  pub unworded : length header ≡ 12 → (length words ≡ 5 → ⊥) → unchanged × (r ≡ 2) × (header′ ≡ header) × (words′ ≡ words)
 
 -- A question, whose answer goes into so many words; 1 and 2 as for a merge.
 pub record Asked {A : Type 0} (promise : A → Type 0) (number : A → ℕ) (told : List ℕ → A → List ℕ) (count : ℕ) (header words : List ℕ) (r : ℕ) (words′ : List ℕ) : Type 0 where

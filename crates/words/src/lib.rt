@@ -110,6 +110,17 @@ fn write_three(words: &mut [u32], first: u32, second: u32, third: u32)
     words[2] = third;
 }
 
+fn write_five(words: &mut [u32], first: u32, second: u32, third: u32, fourth: u32, fifth: u32)
+    requires { ⌜ length (now words) ≡ 5 ⌝ }
+    ensures { λ _. ⌜ now (words .exit) ≡ first ∷ second ∷ third ∷ fourth ∷ fifth ∷ [] ⌝ }
+{
+    words[0] = first;
+    words[1] = second;
+    words[2] = third;
+    words[3] = fourth;
+    words[4] = fifth;
+}
+
 // 1 for yes.
 pub fn bit_of(answer: bool) -> u32
     ensures { λ r. ⌜ r ≡ bit answer ⌝ }
@@ -134,14 +145,14 @@ pub fn write_table(answer: TableAnswer, words: &mut [u32]) -> u32
 }
 
 pub fn write_merge(answer: MergeAnswer, header: &mut [u32], words: &mut [u32]) -> u32
-    requires { ⌜ (length (now header) ≡ 12) × (length (now words) ≡ 3) ⌝ }
+    requires { ⌜ (length (now header) ≡ 12) × (length (now words) ≡ 5) ⌝ }
     ensures { λ r. ⌜ MergeTold answer (now (header .entry)) (now (words .entry)) r (now (header .exit)) (now (words .exit)) ⌝ }
 {
     match answer {
         MergeAnswer::Refused(number) => number,
         MergeAnswer::Merged(m) => {
             write_header(m.header, header);
-            write_three(words, m.status, m.place, bit_of(m.added));
+            write_five(words, m.status, m.place, bit_of(m.added), m.kept, m.dropped);
             0
         }
     }

@@ -189,11 +189,14 @@ pub enum Answer {
     Refused(u32),
     /// Accepted, with nothing to say: opening, staging, compact, clear.
     Done,
-    /// A merge: the stop's number and place (both 0 if it did not stop), and whether a row was appended.
+    /// A merge: the stop's number and place (both 0 if it did not stop), whether a row was appended, and how many rows its own
+    /// compaction kept and dropped (both 0 if there was none).
     Merged {
         status: u32,
         place: u32,
         added: bool,
+        kept: u32,
+        dropped: u32,
     },
     /// A lookup that found no live row, or a fast range that is none.
     None,

@@ -31,7 +31,7 @@ const KINDS: [Kind; 18] = [
 ];
 
 /// Answers and turns that every full run must have seen.
-const FEATURES: [&str; 60] = [
+const FEATURES: [&str; 62] = [
     "open: sort column 0",
     "open: sort column a key column",
     "open: sort column not a key column",
@@ -50,6 +50,8 @@ const FEATURES: [&str; 60] = [
     "merge: stop after a row was added",
     "merge: stop at a place above 0",
     "merge: compacts by itself",
+    "merge: compacts, no row is kept",
+    "merge: compacts after a row was added",
     "merge: does not compact at the last generation",
     "merge: dead rows just not too many",
     "merge: half of many rows dead",
@@ -461,9 +463,14 @@ impl Counts {
                     status,
                     place,
                     added,
+                    kept,
+                    dropped,
                 },
             ) => {
                 self.merge((*status, *place, *added), before, after);
+                if *dropped > 0 {
+                    self.compaction(*kept, *dropped, *added);
+                }
             }
             (Call::Compact, _) if before.dead > 0 => self.feature("compact: with dead rows"),
             (Call::Compact, _) => self.feature("compact: without dead rows"),
@@ -508,9 +515,6 @@ impl Counts {
             9 => self.feature("merge: stop 9"),
             _ if before.generation != after.generation => {
                 self.feature("merge: compacts by itself");
-                if !added {
-                    self.compaction_of_dead(before.rows, before.rows - after.rows);
-                }
             }
             _ if is_held_back(after) => {
                 self.feature("merge: does not compact at the last generation");
@@ -531,9 +535,16 @@ impl Counts {
         }
     }
 
-    /// Counts a merge's own compaction that dropped so many of so many rows.
-    fn compaction_of_dead(&mut self, rows: u32, dead: u32) {
-        if rows > 32 && dead == rows / 2 + 1 {
+    /// Counts a merge's own compaction by what it kept and dropped, and whether the merge had appended a row.
+    fn compaction(&mut self, kept: u32, dropped: u32, added: bool) {
+        let rows = kept + dropped;
+        if kept == 0 {
+            self.feature("merge: compacts, no row is kept");
+        }
+        if added {
+            self.feature("merge: compacts after a row was added");
+        }
+        if rows > 32 && dropped == rows / 2 + 1 {
             self.feature(match rows % 2 {
                 0 => "merge: compacts just above half of an even count",
                 _ => "merge: compacts just above half of an odd count",

@@ -11,7 +11,7 @@ use calls::{Call, Judge, Lengths, Opening};
 pub const SEED: u64 = 391;
 
 /// The list ends with the history that brings it to so many lines.
-const ENOUGH_LINES: usize = 4500;
+const ENOUGH_LINES: usize = 4600;
 const LONGEST_LINE: usize = 120;
 const PENDING: usize = 256;
 /// Longer histories are left out.
@@ -316,6 +316,16 @@ fn dead_rows(rows: u32, dead: u32, generation: u32) -> Vec<String> {
     lines
 }
 
+/// Document 02: a merge whose compaction keeps 2 rows, one of them its own, and drops 17.
+fn kept_and_dropped() -> Vec<String> {
+    let mut lines = vec!["O,2,1,1,1,64,0".to_string()];
+    lines.extend((0..18).map(|key| format!("I,{key},0")));
+    lines.push("M".to_string());
+    lines.extend((0..17).map(|key| format!("R,{key}")));
+    lines.extend(["I,20,0", "M", "V", "L,20"].map(String::from));
+    lines
+}
+
 /// Records until the pending store has no room for one more of any kind.
 fn full_pending() -> Vec<String> {
     let mut lines = vec!["O,6,4,5,1,64,0".to_string()];
@@ -337,6 +347,7 @@ pub fn record<J: Judge>(rival: &Rival<J>, seed: u64) -> Result<Vec<String>, Stri
     for (rows, dead, generation) in DEAD_ROWS {
         list.add_lines(&dead_rows(rows, dead, generation))?;
     }
+    list.add_lines(&kept_and_dropped())?;
     list.add_lines(&full_pending())?;
     let mut number = seed;
     while list.lines.len() < ENOUGH_LINES {

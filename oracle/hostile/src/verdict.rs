@@ -45,7 +45,7 @@ pub fn name(act: &Act) -> &'static str {
 /// How many words the function's answer takes.
 fn words_of(act: &Act) -> usize {
     match act {
-        Act::Call(Call::Merge) => 3,
+        Act::Call(Call::Merge) => 5,
         Act::Call(_) => 0,
         Act::IsSound | Act::Ask(Question::AnyMatch { .. }) => 1,
         Act::Ask(Question::Lookup(_) | Question::Cell(..) | Question::Version) => 2,
@@ -109,9 +109,11 @@ pub fn expected(act: &Act, image: &Image, words: &[u32], plain: Option<&Plain>) 
                 status,
                 place,
                 added,
+                kept,
+                dropped,
             }) = answer
             {
-                expected.words = Some(vec![status, place, u32::from(added)]);
+                expected.words = Some(vec![status, place, u32::from(added), kept, dropped]);
             }
             expected.plain = table;
         }

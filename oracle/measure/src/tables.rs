@@ -3,7 +3,7 @@
 
 use crate::offsets::size;
 use crate::report::Report;
-use calls::{Call, Condition, Judge, Lengths, Subset};
+use calls::{Call, Condition, Judge, Subset};
 use chance::Rng;
 use mouldgrey::{Constraint, Opening, SubsetRef, Table, lent};
 use proved_table::{borrowed, constraint};
@@ -26,16 +26,6 @@ fn row(i: u32, columns: u32, level: u32, stamp: u32) -> Vec<u32> {
     cells
 }
 
-/// The Rust takes no notice of lengths.
-const UNLENT: Lengths = Lengths {
-    rows: 0,
-    keys: 0,
-    sort_entries: 0,
-    pending: 0,
-    live_words: 0,
-    base_words: 0,
-};
-
 /// The same table twice. Copies of both leave what is staged last in the caches: ours has no more room for it than it needs.
 #[derive(Clone)]
 struct Both {
@@ -54,10 +44,6 @@ fn play(table: &mut Table, call: &Call) {
         Call::Clear => table.clear(),
     };
     assert_eq!(done, Ok(()));
-}
-
-fn play_rust(table: &mut RustTable, call: &Call) {
-    table.call(&UNLENT, call);
 }
 
 impl Both {
@@ -81,7 +67,7 @@ impl Both {
         };
         let pending = inserts * (columns + 2);
         let mut theirs = RustTable::new();
-        play_rust(&mut theirs, &Call::Open(same));
+        theirs.play(&Call::Open(same));
         Both {
             ours: Table::new(&opening, pending as usize).expect("an opening within its bounds"),
             theirs,
@@ -91,7 +77,7 @@ impl Both {
     fn staged(mut self, calls: impl Iterator<Item = Call>) -> Both {
         for call in calls {
             play(&mut self.ours, &call);
-            play_rust(&mut self.theirs, &call);
+            self.theirs.play(&call);
         }
         self
     }
@@ -109,7 +95,9 @@ impl Both {
                 calls.iter().for_each(|call| play(table, call))
             }),
             (&self.theirs, |table: &mut RustTable| {
-                calls.iter().for_each(|call| play_rust(table, call))
+                for call in calls {
+                    table.play(call);
+                }
             }),
         );
     }

@@ -33,9 +33,19 @@ impl Plain {
         let staged = self.take_staged();
         self.take_removals_by_key(&staged);
         self.take_removals_by_row(&staged);
-        let answer = self.take_inserts(&staged);
-        // After a stop "no compaction follows".
-        if matches!(answer, Answer::Merged { status: 0, .. }) && self.compacts_by_itself() {
+        let mut answer = self.take_inserts(&staged);
+        // After a stop "no compaction follows". "Each merge answers how many rows its own compaction kept, 0 if there was none,
+        // and how many it dropped."
+        if let Answer::Merged {
+            status: 0,
+            kept,
+            dropped,
+            ..
+        } = &mut answer
+            && self.compacts_by_itself()
+        {
+            *kept = self.row_count() - self.dead;
+            *dropped = self.dead;
             self.drop_dead_rows();
         }
         answer
@@ -83,6 +93,8 @@ impl Plain {
                         status,
                         place,
                         added,
+                        kept: 0,
+                        dropped: 0,
                     };
                 }
             }
@@ -92,6 +104,8 @@ impl Plain {
             status: 0,
             place: 0,
             added,
+            kept: 0,
+            dropped: 0,
         }
     }
 

@@ -299,6 +299,8 @@ fn merge_answer(merge: Merge) -> Answer {
         status,
         place,
         added: merge.added,
+        kept: merge.kept,
+        dropped: merge.dropped,
     }
 }
 

@@ -22,6 +22,8 @@ pub(crate) trait Staging: MutationBuffer {
 /// What is private in the table and needed here.
 pub(crate) trait Opened {
     fn staging(&self) -> Box<dyn Staging>;
+    fn delete_pending(&mut self);
+    fn insert_pending(&mut self);
     fn compact(&mut self);
     fn dead_rows(&self) -> usize;
     fn sort_entries(&self) -> &[(Value, RowId)];
@@ -79,6 +81,17 @@ impl OpenTable {
     fn rows(&self) -> u32 {
         self.table.version().minor.rep() as u32
     }
+
+    /// How many rows the compaction of the merge since then kept and dropped: the rows that it left, of those that the merge's
+    /// deletions and inserts alone leave.
+    fn compacted_since(&self, mut before: OpenTable) -> (u32, u32) {
+        if self.table.version().major == before.table.version().major {
+            return (0, 0);
+        }
+        before.table.delete_pending();
+        before.table.insert_pending();
+        (self.rows(), before.rows() - self.rows())
+    }
 }
 
 impl Clone for OpenTable {
@@ -105,6 +118,34 @@ impl RustTable {
         self.open.as_mut().expect("no table is open")
     }
 
+    /// A call and nothing else; answers whether it appended a row.
+    pub fn play(&mut self, call: &Call) -> bool {
+        match call {
+            Call::Open(opening) => self.open = Some(OpenTable::new(opening)),
+            Call::Insert(row) => self
+                .open_mut()
+                .stage(|staging| staging.stage_insert(values(row))),
+            Call::RemoveKey(key) => self
+                .open_mut()
+                .stage(|staging| staging.stage_remove(values(key))),
+            Call::RemoveRow(row, key) => self
+                .open_mut()
+                .stage(|staging| staging.stage_remove_row(RowId::new(*row), values(key))),
+            Call::Merge => {
+                let open = self.open_mut();
+                open.flush();
+                return open.table.merge(&mut ExecutionState).added;
+            }
+            Call::Compact => self.open_mut().table.compact(),
+            Call::Clear => {
+                let open = self.open_mut();
+                open.flush();
+                open.table.clear();
+            }
+        }
+        false
+    }
+
     /// How many of so many ids of a subset, from a place on, have a live row: the Rust visits only those.
     fn live_from(&self, subset: &offsets::Subset, start: u32, visited: u32) -> u32 {
         let mut live = 0;
@@ -128,35 +169,20 @@ impl RustTable {
 
 impl Judge for RustTable {
     fn call(&mut self, _lent: &Lengths, call: &Call) -> Answer {
-        match call {
-            Call::Open(opening) => self.open = Some(OpenTable::new(opening)),
-            Call::Insert(row) => self
-                .open_mut()
-                .stage(|staging| staging.stage_insert(values(row))),
-            Call::RemoveKey(key) => self
-                .open_mut()
-                .stage(|staging| staging.stage_remove(values(key))),
-            Call::RemoveRow(row, key) => self
-                .open_mut()
-                .stage(|staging| staging.stage_remove_row(RowId::new(*row), values(key))),
-            Call::Merge => {
-                let open = self.open_mut();
-                open.flush();
-                let added = open.table.merge(&mut ExecutionState).added;
-                return Answer::Merged {
-                    status: 0,
-                    place: 0,
-                    added,
-                };
-            }
-            Call::Compact => self.open_mut().table.compact(),
-            Call::Clear => {
-                let open = self.open_mut();
-                open.flush();
-                open.table.clear();
-            }
+        if !matches!(call, Call::Merge) {
+            self.play(call);
+            return Answer::Done;
         }
-        Answer::Done
+        let before = self.open().clone();
+        let added = self.play(call);
+        let (kept, dropped) = self.open().compacted_since(before);
+        Answer::Merged {
+            status: 0,
+            place: 0,
+            added,
+            kept,
+            dropped,
+        }
     }
 
     fn ask(&self, _lent: &Lengths, question: &Question) -> Answer {

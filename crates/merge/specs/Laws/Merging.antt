@@ -2,7 +2,7 @@
 -- nothing.
 use Prim.Native.Nat.{ℕ}
 use mathlib.Core.Path.{_≡_, sym, ap, ap₂, _∙_}
-use mathlib.Core.Bool.{true, false}
+use mathlib.Core.Bool.{true, false, cond}
 use mathlib.Core.List.{List, []}
 use native.Mathlib.Omega.{arith}
 use lib.ListN.{length}
@@ -11,9 +11,11 @@ use Rattle.refusals.specs.Refusals.{accepted}
 use Rattle.lists.specs.Lists.{putAt, flat}
 use Rattle.lists.specs.Laws.Keep.{every-keep}
 use Rattle.plain.specs.Staged.{Staged, due, rowRemovals, inserts}
-use Rattle.plain.specs.Plain.{Inserted, insertAll, Plain, dead, withoutRows, insertion, applied, compacted, compactIfDue, unstaged, merged}
+use Rattle.plain.specs.Plain.{Inserted, insertAll, Plain, dead, withoutRows, insertion, applied, live as liveCount, compacted, unstaged, compacts, merged, mergeKeeps, mergeDrops}
 use Rattle.table.specs.declared.Header.{Header}
+use Rattle.plain.specs.Laws.Price.{compacted-live}
 use Rattle.table.specs.declared.Merge.{Merge}
+use Rattle.merge.specs.declared.Passed.{Passed}
 use Rattle.table.specs.declared.MergeAnswer.the-variants.{Merged}
 use Rattle.table.specs.Numbers.{mergeSays}
 use Rattle.table.specs.Stores.{headerOf, rowStore}
@@ -39,7 +41,7 @@ passes-applied p p₁ p₂ a b c d =
     ∙ ap₂ (λ (staged : List Staged) (q : Plain). withoutRows (rowRemovals staged) q) b (a ∙ removedAll-keys (p .staged) p))
 
 -- what the three leave
-pub passes-table : {p p₁ p₂ : Plain} {s s₁ s₂ s₃ : Stores} {m : Merge} → Represents p s
+pub passes-table : {p p₁ p₂ : Plain} {s s₁ s₂ s₃ : Stores} {m : Passed} → Represents p s
     → p₁ ≡ removedAll 1 (p .staged) p → Steps p p₁ s s₁ → p₂ ≡ removedAll 2 (p₁ .staged) p₁ → Steps p₁ p₂ s₁ s₂ → InsertedTable p₂ s₂ s₃ m
     → AppliedTable p s s₃ m
 passes-table {p} {p₁} {p₂} {s} {s₁} {s₂} {s₃} {m} r a f b g i =
@@ -54,19 +56,25 @@ passes-table {p} {p₁} {p₂} {s} {s₁} {s₂} {s₃} {m} r a f b g i =
 
 -- ---- what follows the passes
 
--- a merge that stopped
-pub finished-stopped : (status : ℕ) (p : Plain) → (status ≡ 0 → ⊥) → finished status p ≡ unstaged p
-finished-stopped status p e = rw (ne-eqb status 0 e)
+-- a merge that stopped does not compact
+pub stopped-not : (status : ℕ) (p : Plain) → (status ≡ 0 → ⊥) → compacts status p ≡ false
+unfolding compacts
+stopped-not status p e = rw (ne-eqb status 0 e)
 
--- one that did not, with too few dead rows or no generation left
-pub finished-kept : (status : ℕ) (p : Plain) → status ≡ 0 → due (dead p) (length (p .rows)) (p .generation) ≡ false → finished status p ≡ unstaged p
-unfolding compactIfDue unstaged dead
-finished-kept status p e d = rw (eq-eqb status 0 e, d)
+-- nor does one that did not, with too few dead rows or no generation left
+pub due-not : (status : ℕ) (p : Plain) → status ≡ 0 → due (dead p) (length (p .rows)) (p .generation) ≡ false → compacts status p ≡ false
+unfolding compacts
+due-not status p e d = rw (eq-eqb status 0 e, d)
 
--- one that did not, with more
-pub finished-compacted : (status : ℕ) (p : Plain) → status ≡ 0 → due (dead p) (length (p .rows)) (p .generation) ≡ true → finished status p ≡ compacted (unstaged p)
-unfolding compactIfDue unstaged dead
-finished-compacted status p e d = rw (eq-eqb status 0 e, d)
+-- with more it does
+pub due-compacts : (status : ℕ) (p : Plain) → status ≡ 0 → due (dead p) (length (p .rows)) (p .generation) ≡ true → compacts status p ≡ true
+unfolding compacts
+due-compacts status p e d = rw (eq-eqb status 0 e, d)
+
+-- as many rows as were live are left
+pub compacted-rows : (p : Plain) → length (compacted (unstaged p) .rows) ≡ liveCount p
+unfolding liveCount unstaged
+compacted-rows p = compacted-live (unstaged p)
 
 -- rows that were kept are live: what stood there before makes no difference
 pub compacted-store : (p : Plain) (before : List (List ℕ)) (store : List ℕ) → rowStore (compacted p) [] store ≡ rowStore (compacted p) before store
@@ -82,7 +90,7 @@ compacted-generation p e = omega arith
 
 -- ---- the whole
 
-module _ {h : Header} {rows keys sorts pending live base : List ℕ} {m : Merge} {rows₁ keys₁ sorts₁ : List ℕ} {r : Merge} {rows′ keys′ sorts′ live′ base′ : List ℕ} {p : Plain}
+module _ {h : Header} {rows keys sorts pending live base : List ℕ} {m : Passed} {rows₁ keys₁ sorts₁ : List ℕ} {r : Merge} {rows′ keys′ sorts′ live′ base′ : List ℕ} {p : Plain}
     (shown : Represents p (stores h rows keys sorts pending))
     (a : AppliedTable p (stores h rows keys sorts pending) (stores (m .header) rows₁ keys₁ sorts₁ pending) m)
     (f : FinishedTable m rows₁ keys₁ sorts₁ live base r rows′ keys′ sorts′ live′ base′ pending (applied p .table)) where
@@ -92,10 +100,13 @@ module _ {h : Header} {rows keys sorts pending live base : List ℕ} {m : Merge}
   merged-finished = ap (λ (status : ℕ). finished status (applied p .table)) (a .status)
 
   merged-answer : r ≡ mergeOf p
-  unfolding merged
+  unfolding merged mergeKeeps mergeDrops
   merged-answer =
+      let q : Plain = applied p .table in
       let e = ap headerOf merged-finished in
-      f .header ∙ (λ i. record { header = e i; status = a .status i; place = a .place i; added = a .added i })
+      let k = ap (λ (status : ℕ). cond (compacts status q) (liveCount q) 0) (a .status) in
+      let d = ap (λ (status : ℕ). cond (compacts status q) (dead q) 0) (a .status) in
+      f .answer ∙ (λ i. record { header = e i; status = a .status i; place = a .place i; added = a .added i; kept = k i; dropped = d i })
 
   -- the two halves are a merge
   pub merged-table : MergedTable (stores h rows keys sorts pending) (compactionWords live base) (Merged r) (body rows′ keys′ sorts′) (compactionWords live′ base′) p

@@ -7,33 +7,33 @@ use lib.ListN.{getD}
 use Rattle.plain.specs.Staged.{Staged, inserts}
 use Rattle.plain.specs.Plain.{insertAll, inserted, Plain, insertion}
 use Rattle.table.specs.declared.Header.{Header}
-use Rattle.table.specs.declared.Merge.{Merge}
+use Rattle.merge.specs.declared.Passed.{Passed}
 use Rattle.table.specs.Numbers.{openingOf}
 use Rattle.table.specs.Promises.{Stores, stores, Represents, SlotsPast}
 use Rattle.pending.specs.inner.Becoming.{Steps, Recounted, Ready, Waiting}
 
 -- all inserts
-pub record InsertedTable (p : Plain) (s s′ : Stores) (m : Merge) : Type 0 where
+pub record InsertedTable (p : Plain) (s s′ : Stores) (m : Passed) : Type 0 where
   pub steps : Steps p (insertAll (inserts (p .staged)) 0 false p .table) s s′
   pub status : m .status ≡ insertAll (inserts (p .staged)) 0 false p .status
   pub place : m .place ≡ insertAll (inserts (p .staged)) 0 false p .place
   pub added : m .added ≡ insertAll (inserts (p .staged)) 0 false p .added
 
-pub record Insertions (h : Header) (rows keys sorts pending : List ℕ) (m : Merge) (rows′ keys′ sorts′ : List ℕ) : Type 0 where
+pub record Insertions (h : Header) (rows keys sorts pending : List ℕ) (m : Passed) (rows′ keys′ sorts′ : List ℕ) : Type 0 where
   pub past : SlotsPast (h .capacity) keys keys′
   pub header : Recounted h (m .header)
   pub table : (p : Plain) → Represents p (stores h rows keys sorts pending)
       → InsertedTable p (stores h rows keys sorts pending) (stores (m .header) rows′ keys′ sorts′ pending) m
 
 -- numbers within their bounds, and the record at a place whole if it is an insert
-pub record InsertNext (m : Merge) (rows keys sorts pending : List ℕ) (at : ℕ) : Type 0 where
+pub record InsertNext (m : Passed) (rows keys sorts pending : List ℕ) (at : ℕ) : Type 0 where
   pub ready : Ready (m .header) rows keys sorts pending
   pub inside : at < m .header .pending
   pub whole : getD pending at 0 ≡ 0 → at + (m .header .columns + 2) ≤ m .header .pending
   pub place-fits : m .place ≤ at
 
 -- what the inserts from a place on come to is what those after it come to, if it does not stop the merge
-pub record InsertGoes (m : Merge) (r : Merge) (one : Staged) (rest : List Staged) (p : Plain) (s s′ : Stores) : Type 0 where
+pub record InsertGoes (m : Passed) (r : Passed) (one : Staged) (rest : List Staged) (p : Plain) (s s′ : Stores) : Type 0 where
   pub next : Plain
   pub steps : Steps p next s s′
   pub goes-on : r .status ≡ 0
@@ -41,7 +41,7 @@ pub record InsertGoes (m : Merge) (r : Merge) (one : Staged) (rest : List Staged
   pub stops : (r .status ≡ 0 → ⊥)
       → insertAll (inserts (one ∷ rest)) (m .place) (m .added) p ≡ inserted next (r .status) (r .place) (r .added)
 
-pub record InsertedNext (m : Merge) (rows keys sorts pending : List ℕ) (at : ℕ) (r : Merge) (rows′ keys′ sorts′ : List ℕ) : Type 0 where
+pub record InsertedNext (m : Passed) (rows keys sorts pending : List ℕ) (at : ℕ) (r : Passed) (rows′ keys′ sorts′ : List ℕ) : Type 0 where
   pub past : SlotsPast (m .header .capacity) keys keys′
   pub header : Recounted (m .header) (r .header)
   pub place-fits : r .place ≤ m .place + 1

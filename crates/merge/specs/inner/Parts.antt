@@ -4,11 +4,11 @@ use Prim.Native.Nat.{ℕ, _≤_}
 use mathlib.Core.Path.{_≡_}
 use mathlib.Core.Bool.{cond}
 use mathlib.Core.List.{List}
-use lib.Dec.{eqb}
 use Rattle.lists.specs.Lists.{rowsOf}
-use Rattle.plain.specs.Plain.{Plain, applied, compactIfDue, unstaged}
+use Rattle.plain.specs.Plain.{Plain, applied, live, dead, compacted, unstaged, compacts}
 use Rattle.table.specs.declared.Header.{Header}
 use Rattle.table.specs.declared.Merge.{Merge}
+use Rattle.merge.specs.declared.Passed.{Passed}
 use Rattle.table.specs.Stores.{headerOf, rowStore, sortStore}
 use Rattle.table.specs.Promises.{Stores, stores, Represents, SlotsPast, PastNeeded}
 use Rattle.pending.specs.inner.Becoming.{Steps, withCounts}
@@ -16,13 +16,13 @@ use Rattle.pending.specs.inner.Becoming.{Steps, withCounts}
 -- ---- the passes over the pending records
 
 -- the table they leave, and what they answer
-pub record AppliedTable (p : Plain) (s s′ : Stores) (m : Merge) : Type 0 where
+pub record AppliedTable (p : Plain) (s s′ : Stores) (m : Passed) : Type 0 where
   pub steps : Steps p (applied p .table) s s′
   pub status : m .status ≡ applied p .status
   pub place : m .place ≡ applied p .place
   pub added : m .added ≡ applied p .added
 
-pub record Applying (h : Header) (rows keys sorts pending : List ℕ) (m : Merge) (rows′ keys′ sorts′ : List ℕ) : Type 0 where
+pub record Applying (h : Header) (rows keys sorts pending : List ℕ) (m : Passed) (rows′ keys′ sorts′ : List ℕ) : Type 0 where
   pub past : SlotsPast (h .capacity) keys keys′
   pub counts : m .header ≡ withCounts h (m .header .rows) (m .header .dead) (m .header .entries) (m .header .largest)
   pub rows-fit : m .header .rows ≤ h .capacity
@@ -33,21 +33,27 @@ pub record Applying (h : Header) (rows keys sorts pending : List ℕ) (m : Merge
 
 -- pending is emptied; if the merge did not stop, rows are dropped if that is due
 abbrev pub finished : ℕ → Plain → Plain
-finished status p = cond (eqb status 0) (compactIfDue (unstaged p)) (unstaged p)
+finished status p = cond (compacts status p) (compacted (unstaged p)) (unstaged p)
 
--- the same answer with another header
-abbrev pub withHeader : Merge → Header → Merge
-withHeader m h = record { header = h; status = m .status; place = m .place; added = m .added }
+-- what the passes came to, with the header that is left, and what was kept and dropped
+abbrev pub finishedAs : Passed → Header → ℕ → ℕ → Merge
+finishedAs m h kept dropped =
+    record { header = h; status = m .status; place = m .place; added = m .added; kept = kept; dropped = dropped }
 
-module _ (m : Merge) (rows keys sorts live base : List ℕ) (r : Merge) (rows′ keys′ sorts′ live′ base′ : List ℕ) where
+-- the same of a plain table
+abbrev pub answerOf : Passed → Plain → Merge
+answerOf m p =
+    finishedAs m (headerOf (finished (m .status) p)) (cond (compacts (m .status) p) (live p) 0) (cond (compacts (m .status) p) (dead p) 0)
+
+module _ (m : Passed) (rows keys sorts live-words base : List ℕ) (r : Merge) (rows′ keys′ sorts′ live-words′ base′ : List ℕ) where
   pub record FinishedTable (pending : List ℕ) (p : Plain) : Type 0 where
-    pub header : r ≡ withHeader m (headerOf (finished (m .status) p))
+    pub answer : r ≡ answerOf m p
     pub rows-after : rows′ ≡ rowStore (finished (m .status) p) (rowsOf (m .header .columns) (m .header .rows) rows) rows
     pub sorts-after : sorts′ ≡ sortStore (finished (m .status) p) sorts
     pub represents : Represents (finished (m .status) p) (stores (r .header) rows′ keys′ sorts′ pending)
-    pub words : finished (m .status) p .generation ≡ p .generation → (live′ ≡ live) × (base′ ≡ base)
+    pub words : finished (m .status) p .generation ≡ p .generation → (live-words′ ≡ live-words) × (base′ ≡ base)
 
   pub record Finishing : Type 0 where
     pub past : SlotsPast (m .header .capacity) keys keys′
-    pub words-past : PastNeeded (m .header .capacity) live live′ × PastNeeded (m .header .capacity) base base′
+    pub words-past : PastNeeded (m .header .capacity) live-words live-words′ × PastNeeded (m .header .capacity) base base′
     pub table : (pending : List ℕ) (p : Plain) → Represents p (stores (m .header) rows keys sorts pending) → FinishedTable pending p

@@ -8,13 +8,13 @@ use mathlib.Core.List.{List, [], _∷_, _++_, map, map-append, append-nil, appen
 use mathlib.Core.Option.{Option, none, some, Option·map}
 use native.Mathlib.Omega.{arith}
 use lib.Dec.{eqb}
-use lib.ListN.{length, take}
-use borrow.Author.Tests.{eq-eqb, eqb-false}
+use lib.ListN.{take}
+use borrow.Author.Tests.{eqb-false}
 use Rattle.lists.specs.Lists.{keep, firstOf}
 use Rattle.lists.specs.Laws.Keep.{split, keep-append}
 use Rattle.merge_rules.specs.Rules.{Ruled, kept, made, ruled}
-use Rattle.plain.specs.Staged.{Opening, Staged, insert, keyRemovals, rowRemovals, inserts, hasKey, skipped, due}
-use Rattle.plain.specs.Plain.{Row, liveRow, Plain, withRow, Numbered, liveRows, lookup, dead, stage, liveWithKey, killIf, withoutKeys, withoutRows, stop, Insertion, unchanged, appended, stopped, append, put, insertion, goOn, insertAll, applied, compacted, compactIfDue, unstaged, merged}
+use Rattle.plain.specs.Staged.{Opening, Staged, insert, keyRemovals, rowRemovals, inserts, hasKey, skipped}
+use Rattle.plain.specs.Plain.{Row, liveRow, Plain, withRow, Numbered, liveRows, lookup, stage, liveWithKey, killIf, withoutKeys, withoutRows, stop, Insertion, unchanged, appended, stopped, append, put, insertion, goOn, Inserted, insertAll, applied, compacted, unstaged, compacts, merged}
 use Rattle.plain.specs.Laws.Counts.{insertion-alike, applied-alike}
 use Rattle.plain.specs.Laws.Live.{cells-liveFrom, liveRows-compacted}
 
@@ -146,20 +146,24 @@ insert-all-leaves (cells ∷ rest) place added p e =
     go (appended p′) q l ih s = rw (← l, ← insertion-alike cells p p′ q .opening) (ih true p′ s)
     go (stopped n) q l ih s = absurd (omega (arith, l, s))
 
--- emptied of its staged records, and compacted if that is due, a table has the same live rows
+-- emptied of its staged records, and compacted or not, a table has the same live rows
+abbrev finished : Bool → Plain → Plain
+finished compacting p = cond compacting (compacted (unstaged p)) (unstaged p)
+
 live-cells-unstaged : (p : Plain) → liveCells (unstaged p) ≡ liveCells p
 unfolding liveCells liveRows unstaged
 live-cells-unstaged p = refl
 
-live-cells-compacted : (p : Plain) → liveCells (compactIfDue p) ≡ liveCells p
-unfolding liveCells compactIfDue
-live-cells-compacted p =
-    elim (split (due (dead p) (length (p .rows)) (p .generation))) [ inl e ↦ rw e (liveRows-compacted p) | inr e ↦ rw e ]
+live-cells-finished : (compacting : Bool) (p : Plain) → liveCells (finished compacting p) ≡ liveCells p
+unfolding liveCells
+live-cells-finished true p = liveRows-compacted (unstaged p) ∙ live-cells-unstaged p
+live-cells-finished false p = live-cells-unstaged p
 
--- and the same opening and staged records
-compacted-rest : (p : Plain) → (compactIfDue p .opening ≡ p .opening) × (compactIfDue p .staged ≡ p .staged)
-unfolding compactIfDue compacted
-compacted-rest p = elim (split (due (dead p) (length (p .rows)) (p .generation))) [ inl e ↦ rw e (refl, refl) | inr e ↦ rw e (refl, refl) ]
+-- and the same opening
+finished-rest : (compacting : Bool) (p : Plain) → (finished compacting p .opening ≡ p .opening) × (finished compacting p .staged ≡ [])
+unfolding compacted unstaged
+finished-rest true p = (refl, refl)
+finished-rest false p = (refl, refl)
 
 -- a batch staged: one insert after another
 unfoldable pub batch : List (List ℕ) → Plain → Plain
@@ -198,17 +202,19 @@ module _ (rows : List (List ℕ)) (p : Plain) (e : p .staged ≡ []) where
   merged-leaves q =
       let rest = batch-rest rows p in
       let k : insertAll rows 0 false (batch rows p) .status ≡ 0 = rw applied-batch at q in
-      rw (applied-batch, k)
-      (live-cells-compacted _ ∙ live-cells-unstaged _ ∙ insert-all-leaves rows 0 false (batch rows p) k
-      ∙ ap₂ (λ (o : Opening) (live : List (List ℕ)). allArrived o rows live) (rest .0) (rest .1))
+      let t : Inserted = applied (batch rows p) in
+      live-cells-finished (compacts (t .status) (t .table)) (t .table)
+      ∙ ap (λ (x : Inserted). liveCells (x .table)) applied-batch
+      ∙ insert-all-leaves rows 0 false (batch rows p) k
+      ∙ ap₂ (λ (o : Opening) (live : List (List ℕ)). allArrived o rows live) (rest .0) (rest .1)
 
   -- with the same opening, and nothing pending
   merged-rest : merged (batch rows p) .status ≡ 0 → (merged (batch rows p) .table .opening ≡ p .opening) × (merged (batch rows p) .table .staged ≡ [])
-  unfolding merged unstaged
+  unfolding merged
   merged-rest q =
-      let t : Plain = unstaged (applied (batch rows p) .table) in
-      rw (eq-eqb _ 0 q)
-      (compacted-rest t .0 ∙ applied-alike (batch rows p) .opening ∙ batch-rest rows p .0, compacted-rest t .1)
+      let t : Inserted = applied (batch rows p) in
+      let f = finished-rest (compacts (t .status) (t .table)) (t .table) in
+      (f .0 ∙ applied-alike (batch rows p) .opening ∙ batch-rest rows p .0, f .1)
 
 -- "merging one batch and then another shall leave the same live rows in the same order as merging both as one"
 pub cut-anywhere : (p : Plain) (a b : List (List ℕ)) → p .staged ≡ [] → merged (batch a p) .status ≡ 0

@@ -7,13 +7,13 @@ use mathlib.Core.List.{List, [], _∷_, _++_}
 use native.Mathlib.Decide.{ℕ-discrete}
 use native.Mathlib.Nat.{add-zero}
 use native.Mathlib.Omega.{arith}
-use lib.Dec.{eqb, ltb}
+use lib.Dec.{ltb}
 use lib.ListN.{length, drop, getD}
 use Rattle.lists.specs.Lists.{keep}
 use Rattle.lists.specs.Laws.Keep.{split}
-use Rattle.plain.specs.Staged.{RowRemoval, keyRemovals, rowRemovals, inserts, due}
+use Rattle.plain.specs.Staged.{RowRemoval, keyRemovals, rowRemovals, inserts}
 use Rattle.plain.specs.Refusing.{Lengths}
-use Rattle.plain.specs.Plain.{Row, deadRow, Plain, liveFrom, dead, stage, liveWithKey, killIf, withoutKey, withoutKeys, dies, withoutRow, withoutRows, insertAll, applied, compacted, compactIfDue, unstaged, merged, cleared, opened}
+use Rattle.plain.specs.Plain.{Row, deadRow, Plain, liveFrom, stage, liveWithKey, killIf, withoutKey, withoutKeys, dies, withoutRow, withoutRows, insertAll, applied, compacted, unstaged, compacts, merged, cleared, opened}
 use Rattle.plain.specs.Calls.{Call, staging, merging, compacting, clearing, refusal, done, after, Lent, afterAll}
 use Rattle.plain.specs.Laws.Rows.{noRow}
 use Rattle.plain.specs.Laws.Calls.{refused-nothing, accepted-done}
@@ -104,10 +104,6 @@ onward-compacted : (p : Plain) → Onward p (compacted p)
 unfolding compacted
 onward-compacted p = risen (omega arith)
 
-onward-due : (p : Plain) → Onward p (compactIfDue p)
-unfolding compactIfDue
-onward-due p = elim (split (due (dead p) (length (p .rows)) (p .generation))) [ inl e ↦ rw e (onward-compacted p) | inr e ↦ rw e (onward-same p) ]
-
 onward-unstaged : (p : Plain) → Onward p (unstaged p)
 unfolding unstaged
 onward-unstaged p = follows refl (follows-same (p .rows))
@@ -118,7 +114,7 @@ onward-merged p =
     let t : Plain = applied p .table in
     let a : Onward p t = follows (applied-alike p .generation) (applied-follows p) in
     let u = onward-then a (onward-unstaged t) in
-    elim (split (eqb (applied p .status) 0)) [ inl e ↦ rw e (onward-then u (onward-due (unstaged t))) | inr e ↦ rw e u ]
+    elim (split (compacts (applied p .status) t)) [ inl e ↦ rw e (onward-then u (onward-compacted (unstaged t))) | inr e ↦ rw e u ]
 
 onward-cleared : (p : Plain) → Onward p (cleared p)
 unfolding cleared opened

@@ -15,7 +15,7 @@ use Rattle.lists.specs.Laws.Keep.{split, and-left, and-right, every-getD}
 use Rattle.lists.specs.Laws.Every.{and-both, every-head, every-tail, every-cons, every-snoc}
 use Rattle.cells.specs.Cells.{isDead}
 use Rattle.plain.specs.Staged.{Opening, openable, Staged, insert, removeKey, removeRow, RowRemoval, keyRemovals, rowRemovals, inserts, skipped, due}
-use Rattle.plain.specs.Plain.{Row, Plain, withRows, opened, stage, liveWithKey, killIf, withoutKey, withoutKeys, dies, withoutRow, withoutRows, stop, insertion, applied, dead, compacted, compactIfDue, unstaged, merged, cleared, below, withRow, appended, insertAll}
+use Rattle.plain.specs.Plain.{Row, Plain, withRows, opened, stage, liveWithKey, killIf, withoutKey, withoutKeys, dies, withoutRow, withoutRows, stop, insertion, applied, dead, compacted, unstaged, compacts, merged, cleared, below, withRow, appended, insertAll}
 use Rattle.plain.specs.Refusing.{Lengths, wrongWidth, stageLadder, compactLadder, clearLadder}
 use Rattle.plain.specs.Calls.{Call, staging, merging, compacting, clearing, refusal, done, after, Lent, afterAll, used, pendingShort}
 use Rattle.plain.specs.Proper.{rowOf, Proper}
@@ -257,21 +257,19 @@ unstaged-proper {p} h = tidy-proper (unstaged p) (h .numbers) (h .generation-fit
 below-last : (g : ℕ) → g ≤ 4294967295 → eqb g 4294967295 ≡ false → g < 4294967295
 below-last g h e = omega (arith, eqb-false g 4294967295 e)
 
--- a compaction at the end of a merge, if it is due
-pub compactIfDue-proper : {p : Plain} → Proper p → Proper (compactIfDue p)
-unfolding compactIfDue due
-compactIfDue-proper {p} h =
-    elim (split (due (dead p) (length (p .rows)) (p .generation))) [
-      | inl e ↦ rw e (compacted-proper h (below-last (p .generation) (h .generation-fits) (not-true _ (and-right (ltb (max 16 (length (p .rows) / 2)) (dead p)) _ e))))
-      | inr e ↦ rw e h
-    ]
+-- a merge compacts only where a generation is left
+compacts-below : {p : Plain} (status : ℕ) → Proper p → compacts status p ≡ true → p .generation < 4294967295
+unfolding compacts due
+compacts-below {p} status h e =
+    below-last (p .generation) (h .generation-fits) (not-true _ (and-right (ltb (max 16 (length (p .rows) / 2)) (dead p)) _ (and-right (eqb status 0) _ e)))
 
 -- a merge, stopped or not
 pub merged-proper : {p : Plain} → Proper p → Proper (merged p .table)
-unfolding merged
+unfolding merged unstaged
 merged-proper {p} h =
+    let q : Plain = applied p .table in
     let k = unstaged-proper (applied-proper h) in
-    elim (split (eqb (applied p .status) 0)) [ inl e ↦ rw e (compactIfDue-proper k) | inr e ↦ rw e k ]
+    elim (split (compacts (applied p .status) q)) [ inl e ↦ rw e (compacted-proper k (compacts-below (applied p .status) (applied-proper h) e)) | inr e ↦ rw e k ]
 
 -- ---- stage and clear
 

@@ -16,8 +16,8 @@ use borrow.Author.Tests.{leb-true, le-leb, ltb-false, le-ltb}
 use Rattle.lists.specs.Lists.{every}
 use Rattle.lists.specs.Laws.Keep.{split, every-getD}
 use Rattle.lists.specs.Laws.Every.{every-head, every-tail, every-cons}
-use Rattle.plain.specs.Staged.{Opening, RowRemoval, keyRemovals, rowRemovals, inserts, due}
-use Rattle.plain.specs.Plain.{Row, liveRow, Plain, withRow, opened, stage, liveWithKey, killIf, withoutKey, withoutKeys, withoutRow, withoutRows, removed, below, raised, stop, Insertion, unchanged, appended, stopped, insertion, goOn, insertAll, applied, dead, compacted, compactIfDue, unstaged, merged, cleared}
+use Rattle.plain.specs.Staged.{Opening, RowRemoval, keyRemovals, rowRemovals, inserts}
+use Rattle.plain.specs.Plain.{Row, liveRow, Plain, withRow, opened, stage, liveWithKey, killIf, withoutKey, withoutKeys, withoutRow, withoutRows, removed, below, raised, stop, Insertion, unchanged, appended, stopped, insertion, goOn, insertAll, applied, compacted, unstaged, compacts, merged, cleared}
 use Rattle.plain.specs.Calls.{Call, staging, merging, compacting, clearing, refusal, done, after, Lent, afterAll}
 use Rattle.plain.specs.Proper.{rowOf}
 use Rattle.plain.specs.Appending.{appendsOn, insertsAppend, mergeAppends, stampsOf, stampsDone, stampsAfter, stampsSince, greatest}
@@ -140,13 +140,9 @@ withoutRows-largest (r ∷ rs) p = withoutRows-largest rs (withoutRow r p)
 stamped-same : {p : Plain} {stamps : List ℕ} (q : Plain) → q .largest ≡ p .largest → Stamped p stamps → Stamped q stamps
 stamped-same q e s = record { largest-kept = e ∙ s .largest-kept; never-fall = s .never-fall }
 
-compactIfDue-largest : (p : Plain) → compactIfDue p .largest ≡ p .largest
-unfolding compactIfDue compacted
-compactIfDue-largest p = elim (split (due (dead p) (length (p .rows)) (p .generation))) [ inl e ↦ rw e | inr e ↦ rw e ]
-
 merged-largest : (p : Plain) → merged p .table .largest ≡ applied p .table .largest
-unfolding merged unstaged
-merged-largest p = elim (split (eqb (applied p .status) 0)) [ inl e ↦ rw e (compactIfDue-largest (unstaged (applied p .table))) | inr e ↦ rw e ]
+unfolding merged compacted unstaged
+merged-largest p = elim (split (compacts (applied p .status) (applied p .table))) [ inl e ↦ rw e | inr e ↦ rw e ]
 
 stamped-merge : {p : Plain} {stamps : List ℕ} → Stamped p stamps → Stamped (merged p .table) (stamps ++ stampsOf p (mergeAppends p))
 unfolding applied mergeAppends

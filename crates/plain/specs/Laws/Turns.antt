@@ -12,7 +12,7 @@ use Rattle.cells.specs.Cells.{isDead}
 use Rattle.merge_rules.specs.Rules.{ruledColumn, signed, signedLess, smaller, larger, taken, madeCell, madeFrom, changesFrom, ruled}
 use Rattle.plain.specs.Staged.{Opening, openable, insert, removeKey, removeRow, wordsOf, wordsAll, keyRemovals, rowRemovals, inserts, hasKey, skipped, due}
 use Rattle.plain.specs.Refusing.{storesShort, wordsShort, wrongWidth, noSuchRow, overfull, stageLadder, mergeLadder, clearLadder}
-use Rattle.plain.specs.Plain.{Numbered, liveFrom, liveRows, lookup, dead, opened, stage, liveWithKey, killIf, withoutKey, withoutKeys, dies, withoutRow, withoutRows, below, stop, raised, append, put, insertion, Inserted, insertAll, applied, compacted, compactIfDue, unstaged, merged, cleared}
+use Rattle.plain.specs.Plain.{Plain, Numbered, liveFrom, liveRows, lookup, live, dead, opened, stage, liveWithKey, killIf, withoutKey, withoutKeys, dies, withoutRow, withoutRows, below, stop, raised, append, put, insertion, Inserted, insertAll, applied, compacted, unstaged, compacts, merged, mergeKeeps, mergeDrops, cleared}
 use Rattle.plain.specs.Calls.{Call, staging, merging, clearing, Lent, pendingShort, refusal, done, after, afterAll}
 
 pub record Turn : Type 0 where
@@ -21,6 +21,8 @@ pub record Turn : Type 0 where
   pub status : ℕ
   pub place : ℕ
   pub added : Bool
+  pub keeps : ℕ
+  pub drops : ℕ
   pub dead-after : ℕ
   pub live-after : List Numbered
 
@@ -52,6 +54,8 @@ turns =
       status = 0;
       place = 0;
       added = false;
+      keeps = 0;
+      drops = 0;
       dead-after = 0;
       live-after = row 0 (level 1 5 12) ∷ [];
     }
@@ -62,6 +66,8 @@ turns =
       status = 0;
       place = 0;
       added = true;
+      keeps = 0;
+      drops = 0;
       dead-after = 1;
       live-after = row 1 (level 1 5 12) ∷ [];
     }
@@ -72,6 +78,8 @@ turns =
       status = 0;
       place = 0;
       added = true;
+      keeps = 0;
+      drops = 0;
       dead-after = 1;
       live-after = row 1 (8 ∷ []) ∷ [];
     }
@@ -82,6 +90,8 @@ turns =
       status = 0;
       place = 0;
       added = true;
+      keeps = 0;
+      drops = 0;
       dead-after = 1;
       live-after = row 1 (level 1 6 12) ∷ [];
     }
@@ -92,6 +102,8 @@ turns =
       status = 8;
       place = 0;
       added = false;
+      keeps = 0;
+      drops = 0;
       dead-after = 0;
       live-after = row 0 (level 1 5 12) ∷ [];
     }
@@ -102,6 +114,8 @@ turns =
       status = 0;
       place = 0;
       added = false;
+      keeps = 0;
+      drops = 0;
       dead-after = 0;
       live-after = row 0 (level 1 5 12) ∷ [];
     }
@@ -112,6 +126,8 @@ turns =
       status = 9;
       place = 2;
       added = true;
+      keeps = 0;
+      drops = 0;
       dead-after = 0;
       live-after = row 0 (level 1 5 12) ∷ [];
     }
@@ -122,6 +138,8 @@ turns =
       status = 0;
       place = 0;
       added = false;
+      keeps = 0;
+      drops = 0;
       dead-after = 1;
       live-after = row 1 (level 2 5 12) ∷ [];
     }
@@ -132,6 +150,8 @@ turns =
       status = 9;
       place = 0;
       added = false;
+      keeps = 0;
+      drops = 0;
       dead-after = 17;
       live-after = [];
     }
@@ -142,6 +162,8 @@ turns =
       status = 0;
       place = 0;
       added = true;
+      keeps = 0;
+      drops = 0;
       dead-after = 1;
       live-after = row 1 (level 1 4294967295 12) ∷ [];
     }
@@ -152,6 +174,8 @@ turns =
       status = 0;
       place = 0;
       added = false;
+      keeps = 0;
+      drops = 0;
       dead-after = 0;
       live-after = row 0 (level 1 4294967295 12) ∷ [];
     }
@@ -162,6 +186,8 @@ turns =
       status = 9;
       place = 0;
       added = false;
+      keeps = 0;
+      drops = 0;
       dead-after = 0;
       live-after = [];
     }
@@ -172,6 +198,8 @@ turns =
       status = 9;
       place = 0;
       added = false;
+      keeps = 0;
+      drops = 0;
       dead-after = 0;
       live-after = [];
     }
@@ -182,8 +210,22 @@ turns =
       status = 0;
       place = 0;
       added = true;
+      keeps = 0;
+      drops = 0;
       dead-after = 0;
       live-after = row 0 (level 2 5 11) ∷ [];
+    }
+    -- a merge answers what its compaction kept and dropped: 17 dead rows of 19
+    ∷ record {
+      opening = levels 20;
+      before = removed ++ (staging (insert (level 30 5 12)) ∷ staging (insert (level 31 5 13)) ∷ []);
+      status = 0;
+      place = 0;
+      added = true;
+      keeps = 2;
+      drops = 17;
+      dead-after = 0;
+      live-after = row 0 (level 30 5 12) ∷ row 1 (level 31 5 13) ∷ [];
     }
     -- a row appended before a stop counts
     ∷ record {
@@ -192,6 +234,8 @@ turns =
       status = 9;
       place = 0;
       added = false;
+      keeps = 0;
+      drops = 0;
       dead-after = 0;
       live-after = row 0 (level 1 5 12) ∷ [];
     }
@@ -210,10 +254,12 @@ abbrev lent : Call → Lent
 lent call =
     record { call = call; lengths = record { rows = 60; keys = 40; sorts = 40; pending = 100; liveWords = 1; baseWords = 1 } }
 
--- the merge after a turn's calls
+-- the table after a turn's calls, and the merge after them
+abbrev beforehand : Turn → Plain
+beforehand t = afterAll (opened (t .opening) 0) (map lent (t .before))
+
 abbrev outcome : Turn → Inserted
-outcome t =
-    merged (afterAll (opened (t .opening) 0) (map lent (t .before)))
+outcome t = merged (beforehand t)
 
 unfoldable pub comesOut : Turn → Bool
 unfolding sameRows
@@ -221,10 +267,12 @@ comesOut t =
     eqb (outcome t .status) (t .status)
     && eqb (outcome t .place) (t .place)
     && Bool·beq (outcome t .added) (t .added)
+    && eqb (mergeKeeps (beforehand t)) (t .keeps)
+    && eqb (mergeDrops (beforehand t)) (t .drops)
     && eqb (dead (outcome t .table)) (t .dead-after)
     && eqb (length (outcome t .table .staged)) 0
     && sameRows (liveRows (outcome t .table)) (t .live-after)
 
 pub all-come-out : every comesOut turns ≡ true
-unfolding every same count keep countFrom firstOf first isDead ruledColumn signed signedLess smaller larger taken madeCell madeFrom changesFrom ruled openable wordsOf wordsAll keyRemovals rowRemovals inserts hasKey skipped due storesShort wordsShort wrongWidth noSuchRow overfull stageLadder mergeLadder clearLadder liveFrom liveRows lookup dead opened stage liveWithKey killIf withoutKey withoutKeys dies withoutRow withoutRows below stop raised append put insertion insertAll applied compacted compactIfDue unstaged merged cleared pendingShort refusal done after afterAll turns sameRows comesOut
+unfolding every same count keep countFrom firstOf first isDead ruledColumn signed signedLess smaller larger taken madeCell madeFrom changesFrom ruled openable wordsOf wordsAll keyRemovals rowRemovals inserts hasKey skipped due storesShort wordsShort wrongWidth noSuchRow overfull stageLadder mergeLadder clearLadder liveFrom liveRows lookup live dead opened stage liveWithKey killIf withoutKey withoutKeys dies withoutRow withoutRows below stop raised append put insertion insertAll applied compacted unstaged compacts merged mergeKeeps mergeDrops cleared pendingShort refusal done after afterAll turns sameRows comesOut
 all-come-out = refl

@@ -17,8 +17,8 @@ write-header-requires c κs = search needs
 bit-of-requires : tie.Need-bit-of-requires
 bit-of-requires c κs = search needs
 
-write-three-requires : tie.Need-write-three-requires
-write-three-requires c κs = search needs
+write-five-requires : tie.Need-write-five-requires
+write-five-requires c κs = search needs
 
 returns : tie.Need-returns
 unfolding mergeNumber mergeHeader mergeWords
@@ -36,7 +36,7 @@ returns-2 c =
     let w = c .before .before in
     let h = w .before .before .before .before .before in
     let a = h .before .before .before in
-    rw (a .answer2 .given .1) record { numbered = refl; headed = h .write-header .ensures; worded = rw (sym (w .before .bit-of .ensures)) (w .write-three .ensures) }
+    rw (a .answer2 .given .1) record { numbered = refl; headed = h .write-header .ensures; worded = rw (sym (w .before .bit-of .ensures)) (w .write-five .ensures) }
 
 pub write-merge-spec : {M : Type 1} → statement M
 write-merge-spec =
@@ -46,7 +46,7 @@ write-merge-spec =
     enum-known-answer-2
     write-header-requires
     bit-of-requires
-    write-three-requires
+    write-five-requires
     returns
     same-length
     same-length-2

@@ -66,12 +66,12 @@ module _ {promise : MergeAnswer → Type 0} {unchanged : Type 0} {header words :
   merge-unheaded n u =
       record { done = λ e d. absurd (n e); unheaded = λ m. (u, refl, refl, refl); unworded = λ e m. absurd (n e) }
 
-  pub merge-unworded : length header ≡ 12 → (length words ≡ 3 → ⊥) → unchanged
+  pub merge-unworded : length header ≡ 12 → (length words ≡ 5 → ⊥) → unchanged
       → MergeCalled promise unchanged header words 2 header words
   merge-unworded l n u =
       record { done = λ e d. absurd (n d); unheaded = λ m. absurd (m l); unworded = λ e m. (u, refl, refl, refl) }
 
-  pub merge-done : {answer : MergeAnswer} {r : ℕ} {header′ words′ : List ℕ} → length header ≡ 12 → length words ≡ 3
+  pub merge-done : {answer : MergeAnswer} {r : ℕ} {header′ words′ : List ℕ} → length header ≡ 12 → length words ≡ 5
       → promise answer → MergeTold answer header words r header′ words′
       → MergeCalled promise unchanged header words r header′ words′
   merge-done {answer} l k p t =

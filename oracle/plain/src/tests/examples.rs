@@ -123,14 +123,15 @@ fn g_page_of_none() {
 
 #[test]
 fn h_when_a_merge_compacts() {
-    for (count, dead, left, generation) in [
-        (32, 16, 32, 0),
-        (16, 16, 16, 0),
-        (33, 17, 16, 1),
-        (17, 17, 0, 1),
+    let stays = merged(0, 0, false);
+    for (count, dead, answer, left, generation) in [
+        (32, 16, stays.clone(), 32, 0),
+        (16, 16, stays, 16, 0),
+        (33, 17, compacted(false, 16, 17), 16, 1),
+        (17, 17, compacted(false, 0, 17), 0, 1),
     ] {
         let mut table = with_dead(count, dead);
-        assert_eq!(merge(&mut table), merged(0, 0, false));
+        assert_eq!(merge(&mut table), answer);
         let contents = table.contents();
         assert_eq!((contents.rows, contents.generation), (left, generation));
     }

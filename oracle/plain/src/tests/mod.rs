@@ -63,6 +63,19 @@ fn merged(status: u32, place: u32, added: bool) -> Answer {
         status,
         place,
         added,
+        kept: 0,
+        dropped: 0,
+    }
+}
+
+/// A merge that did not stop, and compacted.
+fn compacted(added: bool, kept: u32, dropped: u32) -> Answer {
+    Answer::Merged {
+        status: 0,
+        place: 0,
+        added,
+        kept,
+        dropped,
     }
 }
 

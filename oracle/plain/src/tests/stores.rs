@@ -37,7 +37,7 @@ fn writes_of_a_merge_that_compacts() {
     let mut table = with_dead(17, 17);
     insert(&mut table, &[50, 6]);
     insert(&mut table, &[51, 7]);
-    assert_eq!(merge(&mut table), merged(0, 0, true));
+    assert_eq!(merge(&mut table), compacted(true, 2, 17));
     let expected = table.expected();
     assert_eq!(expected.header.rows, 2);
     assert_eq!(expected.rows[..4], [50, 6, 51, 7]);

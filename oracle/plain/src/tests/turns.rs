@@ -116,7 +116,7 @@ fn no_compaction_after_a_stop() {
     assert_eq!(merge(&mut table), merged(9, 0, false));
     assert_eq!(table.contents().rows, 20);
     // The next merge compacts, even an empty one.
-    assert_eq!(merge(&mut table), merged(0, 0, false));
+    assert_eq!(merge(&mut table), compacted(false, 3, 17));
     assert_eq!(table.contents().rows, 3);
 }
 

@@ -15,6 +15,14 @@ impl Opened for SortedWritesTable {
         Box::new(self.new_table_buffer())
     }
 
+    fn delete_pending(&mut self) {
+        self.do_delete();
+    }
+
+    fn insert_pending(&mut self) {
+        self.do_insert(&mut ExecutionState);
+    }
+
     fn compact(&mut self) {
         self.rehash();
     }

@@ -1,0 +1,64 @@
+-- Change 9, "Flash wears by rows rewritten": what the calls of a history kept and dropped, by their answers, beside the rows
+-- appended. Assumes nothing.
+use Prim.Native.Nat.{ℕ, _+_, _≤_}
+use mathlib.Core.Path.{_≡_}
+use mathlib.Core.Bool.{cond}
+use mathlib.Core.List.{List}
+use lib.Dec.{ltb}
+use Rattle.refusals.specs.Refusals.{Reply, refused, accepted}
+use Rattle.plain.specs.Staged.{Opening}
+use Rattle.plain.specs.Plain.{opened}
+use Rattle.plain.specs.Calls.{Lent}
+use Rattle.plain.specs.Appending.{appendedAll}
+use Rattle.table.specs.Numbers.{tableSays, mergeSays}
+use Rattle.table.specs.Promises.{Stores}
+use Rattle.history.specs.Histories.{Called, staged, merged, compacted, cleared, called, Steps, end, next, History}
+
+-- what is counted of calls
+pub record Wear : Type 0 where
+  -- rows that merges' compactions kept; "Compactions asked for by the caller are outside this sum"
+  pub kept : ℕ
+  -- merges that compacted
+  pub compactions : ℕ
+  -- "dead rows dropped by any compaction"
+  pub dropped : ℕ
+  -- "rows, live and dead, dropped by clears"
+  pub emptied : ℕ
+
+abbrev pub wear : ℕ → ℕ → ℕ → ℕ → Wear
+wear kept compactions dropped emptied = record { kept = kept; compactions = compactions; dropped = dropped; emptied = emptied }
+
+-- of an answer: a refused call counts nothing
+unfoldable pub counted : {A : Type 0} → Reply A → (A → Wear) → Wear
+counted (refused n) f = wear 0 0 0 0
+counted (accepted a) f = f a
+
+-- of one call: a merge has compacted if it dropped rows; the caller's compaction drops all dead rows, a clear all rows
+unfoldable pub ofCall : {s t : Stores} {c : Lent} → Called s c t → Wear
+ofCall (staged r answer pending′ m) = wear 0 0 0 0
+ofCall (merged w answer b′ w′ m) = counted (mergeSays answer) (λ a. wear (a .kept) (cond (ltb 0 (a .dropped)) 1 0) (a .dropped) 0)
+ofCall {s} (compacted w answer b′ w′ m) = counted (tableSays answer) (λ h. wear 0 0 (s .header .dead) 0)
+ofCall {s} (cleared answer keys′ m) = counted (tableSays answer) (λ h. wear 0 0 0 (s .header .rows))
+
+-- of all the calls
+unfoldable pub ofSteps : {s t : Stores} {cs : List Lent} → Steps s cs t → Wear
+ofSteps (end s) = wear 0 0 0 0
+ofSteps (next (called rest pending c) steps) =
+    let a = ofCall c in
+    let b = ofSteps steps in
+    wear (a .kept + b .kept) (a .compactions + b .compactions) (a .dropped + b .dropped) (a .emptied + b .emptied)
+
+-- the rows appended, what was counted, and the rows in the store
+pub record Priced (appended : ℕ) (w : Wear) (rows : ℕ) : Type 0 where
+  -- "rows kept by merges' compactions together never exceed rows appended"
+  pub kept-few : w .kept ≤ appended
+  -- nor do they with one more for each of these compactions: each keeps fewer rows than it drops
+  pub kept-fewer : w .kept + w .compactions ≤ appended
+  -- "rows appended equal rows in the store plus dead rows dropped by any compaction plus rows, live and dead, dropped by clears"
+  pub accounted : appended ≡ rows + w .dropped + w .emptied
+
+-- "Over any history of demand 3"
+abbrev pub PriceOfCompaction : Type 0
+PriceOfCompaction =
+    (o : Opening) (generation : ℕ) (calls : List Lent) (s : Stores) (h : History o generation calls s)
+    → Priced (appendedAll (opened o generation) calls) (ofSteps (h .steps)) (s .header .rows)

@@ -1,0 +1,81 @@
+-- What a merge appends, keeps and drops adds up, and its compaction drops more rows than it keeps. Assumes nothing.
+use Prim.Native.Nat.{ℕ, zero, suc, _+_, _*_, _/_, _≤_, _<_, max}
+use mathlib.Core.Path.{_≡_, refl, sym, ap, _∙_}
+use mathlib.Core.Logic.{inl, inr}
+use mathlib.Core.Bool.{Bool, true, false, cond}
+use mathlib.Core.List.{List, [], _∷_}
+use native.Mathlib.Nat.{add-zero, le-max-left, le-max-right}
+use native.Mathlib.Omega.{arith}
+use lib.Dec.{ltb, eqb}
+use lib.ListN.{length}
+use borrow.Author.Tests.{ltb-true, lt-ltb}
+use Rattle.lists.specs.Laws.Keep.{split, and-left, and-right, count-split, length-keep}
+use Rattle.plain.specs.Staged.{keyRemovals, rowRemovals, inserts, due}
+use Rattle.plain.specs.Plain.{Plain, Insertion, unchanged, appended, stopped, insertion, goOn, insertAll, removed, withoutKeys, applied, live, dead, compacted, unstaged, compacts, merged, mergeKeeps, mergeDrops}
+use Rattle.plain.specs.Appending.{appendsOn, insertsAppend, mergeAppends}
+use Rattle.plain.specs.Laws.Counts.{insertion-count, length-withoutKeys, length-withoutRows}
+
+-- a row is live or dead
+pub live-dead : (p : Plain) → live p + dead p ≡ length (p .rows)
+unfolding live dead
+live-dead p = omega (arith, count-split (λ row. row .live) (p .rows))
+
+-- a compaction leaves the live ones
+pub compacted-live : (p : Plain) → length (compacted p .rows) ≡ live p
+unfolding compacted live
+compacted-live p = length-keep (λ row. row .live) (p .rows)
+
+-- each insert that appends adds a row
+inserts-count : (rows : List (List ℕ)) (place : ℕ) (added : Bool) (p : Plain)
+    → length (insertAll rows place added p .table .rows) ≡ length (p .rows) + length (insertsAppend rows p)
+unfolding insertAll insertsAppend
+inserts-count [] place added p = sym (add-zero (length (p .rows)))
+inserts-count (cells ∷ rest) place added p = go (insertion cells p) refl (inserts-count rest (suc place))
+  where
+    go : (i : Insertion) → insertion cells p ≡ i
+        → ((added′ : Bool) (q : Plain) → length (insertAll rest (suc place) added′ q .table .rows) ≡ length (q .rows) + length (insertsAppend rest q))
+        → length (goOn i place added p (insertAll rest (suc place)) .table .rows) ≡ length (p .rows) + length (appendsOn i p (insertsAppend rest))
+    go unchanged e ih = ih added p
+    go (appended p′) e ih = omega (arith, ih true p′, insertion-count cells p p′ e)
+    go (stopped n) e ih = sym (add-zero (length (p .rows)))
+
+-- the rows before a merge's compaction
+applied-rows : (p : Plain) → length (applied p .table .rows) ≡ length (p .rows) + length (mergeAppends p)
+unfolding applied mergeAppends
+applied-rows p =
+    omega (
+      arith,
+      inserts-count (inserts (p .staged)) 0 false (removed p),
+      length-withoutRows (rowRemovals (p .staged)) (withoutKeys (keyRemovals (p .staged)) p),
+      length-withoutKeys (keyRemovals (p .staged)) p,
+    )
+
+-- what a merge appends is in its rows, or was dropped
+pub merged-rows : (p : Plain) → length (p .rows) + length (mergeAppends p) ≡ length (merged p .table .rows) + mergeDrops p
+unfolding merged mergeDrops unstaged
+merged-rows p =
+    let q : Plain = applied p .table in
+    elim (split (compacts (applied p .status) q)) [
+      | inl e ↦ rw e (omega (arith, applied-rows p, compacted-live (unstaged q), live-dead q, unstaged-live q))
+      | inr e ↦ rw e (omega (arith, applied-rows p))
+    ]
+  where
+    unstaged-live : (q : Plain) → live (unstaged q) ≡ live q
+    unstaged-live q = unfold live unstaged in refl
+
+-- half the rows and more are dead, so fewer are kept
+more-dead : (kept dropped rows : ℕ) → kept + dropped ≡ rows → max 16 (rows / 2) < dropped → (kept + 1 ≤ dropped) × (0 < dropped)
+more-dead kept dropped rows e h = (omega (arith, le-max-right 16 (rows / 2)), omega (arith, le-max-left 16 (rows / 2)))
+
+-- a merge's compaction drops more rows than it keeps
+pub merged-price : (p : Plain) → mergeKeeps p + cond (ltb 0 (mergeDrops p)) 1 0 ≤ mergeDrops p
+unfolding mergeKeeps mergeDrops compacts due
+merged-price p =
+    let q : Plain = applied p .table in
+    elim (split (compacts (applied p .status) q)) [
+      | inl e ↦
+          let h = ltb-true _ _ (and-left _ _ (and-right (eqb (applied p .status) 0) _ e)) in
+          let k = more-dead (live q) (dead q) (length (q .rows)) (live-dead q) h in
+          rw (e, lt-ltb 0 (dead q) (k .1)) (k .0)
+      | inr e ↦ rw e (omega arith)
+    ]
