@@ -18,7 +18,7 @@ use Rattle.plain.specs.Calls.{Call, staging, merging, compacting, clearing, ref
 use Rattle.table.specs.Stores.{entries}
 use Rattle.table.specs.Promises.{opening}
 use Rattle.levels_text.specs.Lines.{letter, numbers, accepted}
-use Rattle.levels_text.specs.Written.{written}
+use Rattle.levels_text.specs.Written.{textLine}
 
 -- what a line prints, and the table after it: none before the first accepted O
 pub record Turn : Type 0 where
@@ -30,7 +30,7 @@ turned text table = record { text = text; table = table }
 
 -- "A refusal prints X,number" (X is 88); what is not refused prints its text
 unfoldable pub replied : ℕ → List ℕ → List ℕ
-replied number text = cond (eqb number 0) text (written 88 (number ∷ []))
+replied number text = cond (eqb number 0) text (textLine 88 (number ∷ []))
 
 -- "11 is .. a capacity above 1,024", before what an opening itself turns away
 unfoldable pub openNumber : Lengths → Opening → ℕ
@@ -51,7 +51,7 @@ asks p number text = turned (replied number text) (some p)
 
 -- "M prints M,status,added,place, stopped or not" (M is 77)
 unfoldable pub mergeText : Plain → List ℕ
-mergeText p = written 77 (merged p .status ∷ cond (merged p .added) 1 0 ∷ merged p .place ∷ [])
+mergeText p = textLine 77 (merged p .status ∷ cond (merged p .added) 1 0 ∷ merged p .place ∷ [])
 
 -- "`fast_subset` answers *none* for kind 0 and for any column but the sort column"
 unfoldable pub fastOf : Plain → Constraint → Option Subset
@@ -63,19 +63,19 @@ fastOf p c =
 -- "F,0,2 (start, end; or F,none)" (F is 70). It is never a list
 unfoldable pub rangeText : Option Subset → List ℕ
 rangeText none = 70 ∷ 44 ∷ 110 ∷ 111 ∷ 110 ∷ 101 ∷ 10 ∷ []
-rangeText (some (range start end)) = written 70 (start ∷ end ∷ [])
+rangeText (some (range start end)) = textLine 70 (start ∷ end ∷ [])
 rangeText (some (list ids)) = []
 
 -- "V,0,3 (generation, row count)" (V is 86)
 unfoldable pub versionText : Plain → List ℕ
-versionText p = written 86 (p .generation ∷ length (p .rows) ∷ [])
+versionText p = textLine 86 (p .generation ∷ length (p .rows) ∷ [])
 
 -- "T,4,2,3,1,0 (columns, keys, sort, rule, generation)" (T is 84), then "D,7,1,163,12 (each live row, rising)" (D is 68)
 unfoldable pub listText : Plain → List ℕ
 listText p =
     let o = p .opening in
-    written 84 (o .columns ∷ o .keys ∷ o .sort ∷ o .rule ∷ p .generation ∷ [])
-    ++ flat (map (λ row. written 68 (row .cells)) (liveRows p))
+    textLine 84 (o .columns ∷ o .keys ∷ o .sort ∷ o .rule ∷ p .generation ∷ [])
+    ++ flat (map (λ row. textLine 68 (row .cells)) (liveRows p))
 
 -- "O,columns,keys,sort,rule,capacity,generation"; "F,kind,a,b"
 abbrev pub openingIn : List ℕ → Opening

@@ -20,5 +20,5 @@ unfoldable pub field : ℕ → List ℕ
 field n = 44 ∷ decimal n
 
 -- a letter, numbers, and the end of the line
-unfoldable pub written : ℕ → List ℕ → List ℕ
-written letter numbers = letter ∷ (flat (map field numbers) ++ (10 ∷ []))
+unfoldable pub textLine : ℕ → List ℕ → List ℕ
+textLine letter numbers = letter ∷ (flat (map field numbers) ++ (10 ∷ []))

@@ -3,7 +3,7 @@ ghost use mathlib.Core.List.{[], _∷_, map};
 ghost use Prim.Native.Nat.{_+_, _*_, _≤_, _<_};
 ghost use lib.ListN.{length};
 ghost use Rattle.lists.specs.Lists.{flat};
-ghost use Rattle.levels_text.specs.Written.{field, written};
+ghost use Rattle.levels_text.specs.Written.{field, textLine};
 ghost use Rattle.levels_written.specs.inner.Appending.{Appended, Wrote};
 
 // One byte more.
@@ -55,7 +55,7 @@ fn put_numbers(text: &mut [u8], used: usize, numbers: &[u32]) -> usize
 // A letter, numbers and the end of the line.
 pub fn put_line(text: &mut [u8], used: usize, letter: u8, numbers: &[u32]) -> usize
     requires { ⌜ used + (11 * length (now numbers) + 2) ≤ length (now text) ⌝ }
-    ensures { λ r. ⌜ Appended (now (text .entry)) used (written letter (now (numbers .entry))) (now (text .exit)) r ⌝ }
+    ensures { λ r. ⌜ Appended (now (text .entry)) used (textLine letter (now (numbers .entry))) (now (text .exit)) r ⌝ }
 {
     let lettered = put(text, used, letter);
     let numbered = put_numbers(text, lettered, numbers);
@@ -65,7 +65,7 @@ pub fn put_line(text: &mut [u8], used: usize, letter: u8, numbers: &[u32]) -> us
 // A line at the start of the text.
 pub fn write_line(text: &mut [u8], letter: u8, numbers: &[u32]) -> usize
     requires { ⌜ 11 * length (now numbers) + 2 ≤ length (now text) ⌝ }
-    ensures { λ r. ⌜ Wrote (written letter (now (numbers .entry))) (now (text .exit)) r ⌝ }
+    ensures { λ r. ⌜ Wrote (textLine letter (now (numbers .entry))) (now (text .exit)) r ⌝ }
 {
     put_line(text, 0, letter, numbers)
 }
@@ -73,7 +73,7 @@ pub fn write_line(text: &mut [u8], letter: u8, numbers: &[u32]) -> usize
 // X and a number.
 pub fn refuse(text: &mut [u8], number: u32) -> usize
     requires { ⌜ 90 ≤ length (now text) ⌝ }
-    ensures { λ r. ⌜ Wrote (written 88 (number ∷ [])) (now (text .exit)) r ⌝ }
+    ensures { λ r. ⌜ Wrote (textLine 88 (number ∷ [])) (now (text .exit)) r ⌝ }
 {
     let numbers = [number];
     write_line(text, b'X', &numbers)

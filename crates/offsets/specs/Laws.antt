@@ -1,3 +1,4 @@
 -- What follows from the definitions.
 pub mod Subsets
+pub mod Forms
 pub mod Answers

@@ -4,7 +4,6 @@ use mathlib.Core.Path.{_≡_, refl, sym, ap, _∙_}
 use mathlib.Core.Logic.{inl, inr}
 use mathlib.Core.Bool.{Bool, true, false, not}
 use mathlib.Core.List.{List, [], _∷_}
-use mathlib.Core.Option.{Option, none, some}
 use native.Mathlib.Omega.{arith}
 use lib.Dec.{ltb}
 use borrow.Author.Tests.{lt-ltb, le-ltb}
@@ -13,7 +12,8 @@ use Rattle.lists.specs.Laws.Keep.{split}
 use Rattle.refusals.specs.Refusals.{rung, first}
 use Rattle.offsets.specs.declared.BoundsAnswer.{BoundsAnswer}
 use Rattle.offsets.specs.declared.BoundsAnswer.the-variants.{None, Ends}
-use Rattle.offsets.specs.Subsets.{Subset, range, list, wellFormed, size, Ends as Extent, bounds, endOf}
+use Rattle.offsets.specs.Subsets.{Subset, wellFormed, size, bounds, endOf}
+use Rattle.offsets.specs.Laws.Forms.{end-none, end-some}
 use Rattle.offsets.specs.inner.Writing.{boundsSays}
 use Rattle.constraints.specs.declared.Constraint.{Constraint}
 use Rattle.constraints.specs.Constraints.{known}
@@ -24,26 +24,14 @@ use Rattle.queries.specs.inner.Tests.{Askable, subsetRefusal, RefineRefu
 
 -- ---- test 5
 
--- the end of the ends, 0 where there are none
-abbrev upper : Option Extent → ℕ
-upper none = 0
-upper (some extent) = extent .end
-
-end-is : (subset : Subset) → upper (bounds subset) ≡ endOf subset
-unfolding endOf bounds
-end-is (range start end) = refl
-end-is (list []) = refl
-end-is (list (x ∷ xs)) = refl
-
 module _ (h : Header) (subset : Subset) (r : BoundsAnswer) (e : boundsSays r ≡ bounds subset) where
   pub past-none : r ≡ None → false ≡ pastRows h subset
   unfolding boundsSays pastRows
-  past-none q =
-      sym (le-ltb (h .rows) 0 (omega arith)) ∙ ap (λ (extent : Option Extent). ltb (h .rows) (upper extent)) (ap boundsSays (sym q) ∙ e) ∙ ap (ltb (h .rows)) (end-is subset)
+  past-none q = sym (le-ltb (h .rows) 0 (omega arith)) ∙ ap (ltb (h .rows)) (sym (end-none subset (sym e ∙ ap boundsSays q)))
 
   pub past-ends : (start end : ℕ) → r ≡ Ends start end → ltb (h .rows) end ≡ pastRows h subset
   unfolding boundsSays pastRows
-  past-ends start end q = ap (λ (extent : Option Extent). ltb (h .rows) (upper extent)) (ap boundsSays (sym q) ∙ e) ∙ ap (ltb (h .rows)) (end-is subset)
+  past-ends start end q = ap (ltb (h .rows)) (sym (end-some subset (record { start = start; end = end }) (sym e ∙ ap boundsSays q)))
 
 -- ---- the tests that all questions share
 

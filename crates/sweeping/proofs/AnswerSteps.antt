@@ -9,10 +9,8 @@ use native.Mathlib.Omega.{arith}
 use lib.Dec.{eqb}
 use lib.ListN.{length, getD}
 use borrow.Author.Tests.{eqb-true, eq-eqb}
-use Rattle.lists.specs.Lists.{keep, every, countFrom}
-use Rattle.lists.specs.Laws.Parts.{putAt-nil}
+use Rattle.lists.specs.Lists.{keep, every}
 use Rattle.lists.specs.Laws.Keep.{split, and-left, and-right, keep-every, keep-length-every, length-keep, count-le}
-use Rattle.lists.specs.Laws.Rising.{length-countFrom, getD-countFrom}
 use Rattle.refusals.specs.Refusals.{refused, accepted, reply}
 use Rattle.refusals.specs.Laws.Replies.{reply-refused, reply-accepted}
 use Rattle.offsets.specs.declared.SubsetHead.{SubsetHead}
@@ -20,10 +18,13 @@ use Rattle.retain.specs.declared.Growing.{Growing}
 use Rattle.offsets.specs.declared.SubsetAnswer.{SubsetAnswer}
 use Rattle.offsets.specs.declared.SubsetAnswer.the-variants.{Refused, Range, List as Ids}
 use Rattle.offsets.specs.Subsets.{Subset, range, list, members, size, retain, narrowed}
-use Rattle.offsets.specs.Answers.{subsetOf, subsetSays, shape, written, Answered}
+use Rattle.offsets.specs.Answers.{subsetOf, Answered}
 use Rattle.offsets.specs.inner.Writing.{Wrote}
 use Rattle.retain.specs.inner.Growing.{Grows, Ends}
 use Rattle.offsets.specs.Laws.Subsets.{dense-is, sparse-is, formed-order, length-members, answered-range, answered-list}
+use Rattle.offsets.specs.Laws.Forms.{length-range, getD-range, narrowed-all, narrowed-some, narrowed-list}
+use Rattle.offsets.specs.Laws.Answers.{answered-refused as refused-answered}
+use Rattle.retain.specs.Laws.Retained.{grown-retains, listed-retains}
 use Rattle.constraints.specs.declared.Constraint.{Constraint}
 use Rattle.constraints.specs.Constraints.{known}
 use Rattle.table.specs.declared.Header.{Header}
@@ -39,10 +40,8 @@ use Rattle.sweeping.proofs.Visits.{upTo-nil, upTo-all, visited-none, le
 
 module _ (number : ℕ) (value : Subset) (output : List ℕ) where
   answered-refused : (n : ℕ) → n ≡ number → (n ≡ 0 → ⊥) → Answered (reply number value) output (Refused n) output
-  unfolding subsetSays shape written
   answered-refused n e z =
-      let k : reply number value ≡ refused n = sym (reply-refused (refused n) number n value refl e z) in
-      record { answers = rw k; writes = rw k (sym (putAt-nil output 0)) }
+      let k : reply number value ≡ refused n = sym (reply-refused (refused n) number n value refl e z) in rw k (refused-answered n output)
 
   answered-accepted : (answer : SubsetAnswer) (output′ : List ℕ) → number ≡ 0 → Answered (accepted value) output answer output′
       → Answered (reply number value) output answer output′
@@ -196,12 +195,10 @@ module _ (h : Header) (rows : List ℕ) (subset : Subset) (conditions : List Con
 module _ (head : SubsetHead) (ids : List ℕ) (test : ℕ → Bool) (output output′ : List ℕ) where
   pub retained-range : (g : Growing) (answer : SubsetAnswer) → head .dense ≡ true → Grows output output′ g (keep test (members (subsetOf head ids))) → Ends g answer
       → Answered (accepted (retain test (subsetOf head ids))) output answer output′
-  unfolding retain members
-  retained-range g answer e grows ends = rw (dense-is head ids e) (ends .ends output output′ _ (rw (dense-is head ids e) at grows))
+  retained-range g answer e grows ends = rw (dense-is head ids e) (grown-retains test (head .start) (head .end) (rw (dense-is head ids e) at grows) ends)
 
   pub retained-list : (n : ℕ) → head .dense ≡ false → Wrote output (keep test (members (subsetOf head ids))) n output′ → Answered (accepted (retain test (subsetOf head ids))) output (Ids n) output′
-  unfolding retain members
-  retained-list n e w = rw (sparse-is head ids e) (answered-list _ output n output′ (rw (sparse-is head ids e) at w))
+  retained-list n e w = rw (sparse-is head ids e) (listed-retains test ids (rw (sparse-is head ids e) at w))
 
 module _ (h : Header) (rows : List ℕ) (subset : Subset) (c : Constraint) (knows : Bool) (output : List ℕ) (s : Sweep)
     (k : knows ≡ known (h .columns) c) (o : Opened Refine h (length rows) subset knows (length output) s) where
@@ -249,24 +246,16 @@ module _ (head : SubsetHead) (g : Growing) where
 
 module _ (test : ℕ → Bool) (a b : ℕ) where
   abbrev ids-of : List ℕ
-  ids-of = countFrom a (b - a)
-
-  narrowed-all : every test ids-of ≡ true → narrowed test (range a b) ≡ range a b
-  unfolding narrowed
-  narrowed-all e = rw e
-
-  narrowed-some : every test ids-of ≡ false → narrowed test (range a b) ≡ list (keep test ids-of)
-  unfolding narrowed
-  narrowed-some e = rw e
+  ids-of = members (range a b)
 
   module _ (output₀ output : List ℕ) (g : Growing) (grows : Grows output₀ output g (keep test ids-of)) where
     all-kept : g .count ≡ b - a → every test ids-of ≡ true
-    all-kept n = keep-length-every test ids-of (sym (grows .number) ∙ n ∙ sym (length-countFrom a (b - a)))
+    all-kept n = keep-length-every test ids-of (sym (grows .number) ∙ n ∙ sym (length-range a b))
 
     not-all : (g .count ≡ b - a → ⊥) → every test ids-of ≡ false
     not-all f =
         elim (split (every test ids-of)) [
-          | inl q ↦ absurd (f (grows .number ∙ ap length (keep-every test ids-of q) ∙ length-countFrom a (b - a)))
+          | inl q ↦ absurd (f (grows .number ∙ ap length (keep-every test ids-of q) ∙ length-range a b))
           | inr q ↦ q
         ]
 
@@ -278,11 +267,11 @@ module _ (test : ℕ → Bool) (a b : ℕ) where
           | no e ↦ absurd
               (let l = grows .as-list e in
               let k : keep test ids-of ≡ ids-of = keep-every test ids-of q in
-              let n : length ids-of ≡ b - a = length-countFrom a (b - a) in
+              let n : length ids-of ≡ b - a = length-range a b in
               let some : g .written ≡ length ids-of = rw k at (l .wrote .number) in
               let gap : getD ids-of 0 0 + length ids-of ≤ getD ids-of (length ids-of - 1) 0 = rw k at (l .gap) in
-              let first = getD-countFrom a (b - a) 0 0 (omega (arith, e)) in
-              let last = getD-countFrom a (b - a) (length ids-of - 1) 0 (omega (arith, e)) in
+              let first = getD-range a b 0 0 (omega (arith, e)) in
+              let last = getD-range a b (length ids-of - 1) 0 (omega (arith, e)) in
               omega (arith, e))
         ]
 
@@ -291,7 +280,6 @@ module _ (head : SubsetHead) (s : Sweep) (output : List ℕ) where
   closed-refused n = record { refuses = λ _. (refl, refl); narrows = λ z. absurd (n z) }
 
   pub closed-whole : s .refused ≡ 0 → whole head (s .found) ≡ true → RefineClosed head s output (Range (head .start) (head .end)) output
-  unfolding members
   closed-whole z e =
       record {
         refuses = λ n. absurd (n z);
@@ -303,7 +291,6 @@ module _ (head : SubsetHead) (s : Sweep) (output : List ℕ) where
       }
 
   pub closed-list : (n : ℕ) (output′ : List ℕ) → s .refused ≡ 0 → whole head (s .found) ≡ false → Writes output (s .found) n output′ → RefineClosed head s output (Ids n) output′
-  unfolding members
   closed-list n output′ z e w =
       record {
         refuses = λ n. absurd (n z);
@@ -318,8 +305,8 @@ module _ (head : SubsetHead) (s : Sweep) (output : List ℕ) where
             ];
       }
     where
-      listed : (ids : List ℕ) (test : ℕ → Bool) (output₀ : List ℕ) → Grows output₀ output (s .found) (keep test ids) → Answered (accepted (narrowed test (list ids))) output₀ (Ids n) output′
-      listed ids test output₀ grows = unfold narrowed in answered-list _ output₀ n output′ (w .writes output₀ _ grows)
+      listed : (ids : List ℕ) (test : ℕ → Bool) (output₀ : List ℕ) → Grows output₀ output (s .found) (keep test (members (list ids))) → Answered (accepted (narrowed test (list ids))) output₀ (Ids n) output′
+      listed ids test output₀ grows = rw (narrowed-list test ids) (answered-list _ output₀ n output′ (w .writes output₀ _ grows))
 
 module _ (h : Header) (rows : List ℕ) (head : SubsetHead) (ids : List ℕ) (conditions : List Constraint) (output : List ℕ) (s : Sweep) (output′ : List ℕ)
     (a : Asked Refine h rows (subsetOf head ids) conditions output s output′) where

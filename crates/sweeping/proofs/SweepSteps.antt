@@ -10,14 +10,15 @@ use lib.ListN.{length, take, drop, getD}
 use borrow.Author.Tests.{ltb-false}
 use Rattle.lists.specs.Lists.{putAt, keep, count, every, countFrom, rising, rowAt}
 use Rattle.lists.specs.Laws.Keep.{split, keep-append}
-use Rattle.lists.specs.Laws.Rising.{getD-countFrom, rising-keep, rising-take, rising-drop}
+use Rattle.lists.specs.Laws.Rising.{rising-keep, rising-take, rising-drop}
 use Rattle.lists.specs.Laws.Rows.{row-in}
 use Rattle.offsets.specs.declared.SubsetHead.{SubsetHead}
 use Rattle.retain.specs.declared.Growing.{Growing}
-use Rattle.offsets.specs.Subsets.{Subset, range, list, members, size, endOf, bounds}
+use Rattle.offsets.specs.Subsets.{Subset, range, list, members, size, endOf}
 use Rattle.offsets.specs.Answers.{subsetOf}
 use Rattle.retain.specs.inner.Growing.{NextId}
 use Rattle.offsets.specs.Laws.Subsets.{dense-is, sparse-is, rising-members, members-below, formed-short}
+use Rattle.offsets.specs.Laws.Forms.{size-range, end-range, getD-range, size-list, members-list}
 use Rattle.constraints.specs.declared.Constraint.{Constraint}
 use Rattle.constraints.specs.Constraints.{isLive, met, meets}
 use Rattle.table.specs.declared.Header.{Header}
@@ -33,20 +34,16 @@ use Rattle.sweeping.proofs.Visits.{upTo-nil, upTo-hit, upTo-miss, visit
 
 module _ (head : SubsetHead) (ids : List ℕ) where
   pub size-dense : head .dense ≡ true → size (subsetOf head ids) ≡ head .end - head .start
-  unfolding size
-  size-dense e = rw (dense-is head ids e)
+  size-dense e = rw (dense-is head ids e) (size-range (head .start) (head .end))
 
   pub size-sparse : head .dense ≡ false → size (subsetOf head ids) ≡ length ids
-  unfolding size
-  size-sparse e = rw (sparse-is head ids e)
+  size-sparse e = rw (sparse-is head ids e) (size-list ids)
 
   pub id-dense : (place : ℕ) → head .dense ≡ true → place < size (subsetOf head ids) → head .start + place ≡ getD (members (subsetOf head ids)) place 0
-  unfolding members
-  id-dense place e h = rw (dense-is head ids e) (sym (getD-countFrom (head .start) (head .end - head .start) place 0 (rw (size-dense e) at h)))
+  id-dense place e h = rw (dense-is head ids e) (sym (getD-range (head .start) (head .end) place 0 (rw (size-dense e) at h)))
 
   pub id-sparse : (place : ℕ) → head .dense ≡ false → getD ids place 0 ≡ getD (members (subsetOf head ids)) place 0
-  unfolding members
-  id-sparse place e = rw (sparse-is head ids e)
+  id-sparse place e = rw (sparse-is head ids e, members-list ids)
 
 -- ---- a row's cells
 
@@ -82,13 +79,11 @@ module _ (h : Header) (rows : ℕ) (subset : Subset) (a : Askable h rows subset)
         omega (arith, long-of h rows (a .long))
 
 pub size-few : (h : Header) (rows : ℕ) (subset : Subset) → Askable h rows subset → size subset ≤ 65536
-unfolding size
 size-few h rows (range a b) q =
     let i = outside-inside h (q .inside) in
     let e : endOf (range a b) ≤ h .rows = below-of h (range a b) (q .below) in
-    let f : endOf (range a b) ≡ b = unfold endOf bounds in refl in
-    omega (arith, i .rows-fit, i .bounds .capacity-few)
-size-few h rows (list ids) q = formed-short ids (q .formed)
+    omega (arith, i .rows-fit, i .bounds .capacity-few, size-range a b, end-range a b)
+size-few h rows (list ids) q = rw (size-list ids) (formed-short ids (q .formed))
 
 -- ---- one row
 

@@ -9,7 +9,7 @@ use Rattle.lists.specs.Lists.{putAt}
 use Rattle.refusals.specs.Refusals.{first, reply}
 use Rattle.offsets.specs.declared.SubsetAnswer.{SubsetAnswer}
 use Rattle.offsets.specs.Subsets.{Subset, size}
-use Rattle.offsets.specs.Answers.{written}
+use Rattle.offsets.specs.Laws.Answers.{written-none}
 use Rattle.constraints.specs.declared.Constraint.{Constraint}
 use Rattle.table.specs.declared.Header.{Header}
 use Rattle.table.specs.Refusing.{outside}
@@ -50,8 +50,8 @@ put-nothing output = refl
 -- the output of a question that is turned away
 module _ {h : Header} {rows : List ℕ} {subset : Subset} {conditions : List Constraint} {output output′ : List ℕ} (out : outside h ≡ true) where
   pub list-kept : {answer : SubsetAnswer} → RefinedList h rows subset conditions output answer output′ → output′ ≡ output
-  unfolding refineListReply refineRefusal tests first reply written
-  list-kept p = p .answered .writes ∙ rw out (put-nothing output)
+  unfolding refineListReply refineRefusal tests first reply
+  list-kept p = p .answered .writes ∙ rw (out, written-none 1) (put-nothing output)
 
   pub page-kept : {start n : ℕ} {answer : PageAnswer} → PageRead h rows subset start n conditions output answer output′ → output′ ≡ output
   unfolding pageReply pageRefusal tests first reply pageWrites

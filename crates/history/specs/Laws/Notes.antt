@@ -11,8 +11,9 @@ use native.Mathlib.Omega.{arith}
 use lib.ListN.{length, drop}
 use Rattle.lists.specs.Lists.{keep, has}
 use Rattle.lists.specs.Laws.Keep.{split}
-use Rattle.lists.specs.Laws.Rising.{within-of, within-below, has-countFrom}
+use Rattle.lists.specs.Laws.Rising.{within-of, within-below}
 use Rattle.offsets.specs.Subsets.{Subset, range, members}
+use Rattle.offsets.specs.Laws.Forms.{has-range}
 use Rattle.constraints.specs.Constraints.{isLive}
 use Rattle.plain.specs.Plain.{Row, Plain, liveFrom, liveRows, opened}
 use Rattle.plain.specs.Proper.{rowOf}
@@ -33,12 +34,10 @@ generation-shown r = ap (λ (h : Header). h .generation) (r .shown .header)
 
 -- the members of a range, one by one
 range-no : (a b i : ℕ) → i < a → has i (members (range a b)) ≡ false
-unfolding members
-range-no a b i h = has-countFrom i a (b - a) ∙ within-below a (a + (b - a)) i h
+range-no a b i h = has-range a b i ∙ within-below a (a + (b - a)) i h
 
 range-yes : (a b i : ℕ) → a ≤ i → i < b → has i (members (range a b)) ≡ true
-unfolding members
-range-yes a b i h k = has-countFrom i a (b - a) ∙ within-of a (a + (b - a)) i h (omega arith)
+range-yes a b i h k = has-range a b i ∙ within-of a (a + (b - a)) i h (omega arith)
 
 module _ {p q : Plain} {then now : Stores} (r : Represents p then) (s : Represents q now) (f : Follows (p .rows) (q .rows)) where
   -- a stored row is live where the plain table's is

@@ -15,7 +15,7 @@ use Rattle.plain.specs.Plain.{Plain, liveFrom, liveRows, lookup, dead, opened, 
 use Rattle.plain.specs.Calls.{pendingShort, refusal, done, after}
 use Rattle.table.specs.Stores.{entries}
 use Rattle.levels_text.specs.Lines.{fields, valueFrom, isDecimal, isLine, letter, numbers, isBare, isForm, accepted}
-use Rattle.levels_text.specs.Written.{digitsIn, decimal, field, written}
+use Rattle.levels_text.specs.Written.{digitsIn, decimal, field, textLine}
 use Rattle.levels_said.specs.Said.{replied, openNumber, opens, calls, asks, mergeText, fastOf, rangeText, versionText, listText, served, onTable, turn, answered}
 
 -- "over a row store of 8,192 cells and 2,048 pending words", and the other stores for 1,024 rows
@@ -54,5 +54,5 @@ output =
     ∷ []
 
 pub example : session none input ≡ output
-unfolding session input output flat every same count keep countFrom firstOf first isDead ruledColumn signed signedLess smaller larger taken madeCell madeFrom changesFrom ruled known last push pushAll rebuilt firstRow position rangeAt fastRange openable wordsOf wordsAll keyRemovals rowRemovals inserts hasKey skipped due storesShort wordsShort wrongWidth noSuchRow overfull openRefusal stageLadder mergeLadder liveFrom liveRows lookup dead opened stage liveWithKey killIf withoutKey withoutKeys withoutRow withoutRows below stop raised append put insertion insertAll applied compacted unstaged compacts merged pendingShort refusal done after entries fields valueFrom isDecimal isLine letter numbers isBare isForm accepted digitsIn decimal field written replied openNumber opens calls asks mergeText fastOf rangeText versionText listText served onTable turn answered
+unfolding session input output flat every same count keep countFrom firstOf first isDead ruledColumn signed signedLess smaller larger taken madeCell madeFrom changesFrom ruled known last push pushAll rebuilt firstRow position rangeAt fastRange openable wordsOf wordsAll keyRemovals rowRemovals inserts hasKey skipped due storesShort wordsShort wrongWidth noSuchRow overfull openRefusal stageLadder mergeLadder liveFrom liveRows lookup dead opened stage liveWithKey killIf withoutKey withoutKeys withoutRow withoutRows below stop raised append put insertion insertAll applied compacted unstaged compacts merged pendingShort refusal done after entries fields valueFrom isDecimal isLine letter numbers isBare isForm accepted digitsIn decimal field textLine replied openNumber opens calls asks mergeText fastOf rangeText versionText listText served onTable turn answered
 example = refl

@@ -28,7 +28,7 @@ use Rattle.table.specs.Laws.Shown.{represents-inside, represents-long, rows-cou
 use Rattle.table.specs.Laws.Sound.{represents-sound}
 use Rattle.table.specs.Laws.Live.{live-shown}
 use Rattle.table.specs.Laws.Replies.{reply-accepted}
-use Rattle.levels_text.specs.Written.{written}
+use Rattle.levels_text.specs.Written.{textLine}
 use Rattle.levels_said.specs.declared.Said.{Said}
 use Rattle.levels_said.specs.declared.Said.the-variants.{Listing}
 use Rattle.levels_said.specs.Said.{asks, rangeText, fastOf, versionText, listText}
@@ -117,7 +117,7 @@ version-does same m = version-asked saysVersion versionText (λ p r. version-sho
 
 -- the lines of the live rows
 live-lines : (n : ℕ) (cells : List (List ℕ))
-    → map (λ row. written 68 (row .cells)) (liveFrom n (map (λ c. record { live = isLive c; cells = c }) cells)) ≡ map (written 68) (keep isLive cells)
+    → map (λ row. textLine 68 (row .cells)) (liveFrom n (map (λ c. record { live = isLive c; cells = c }) cells)) ≡ map (textLine 68) (keep isLive cells)
 unfolding liveFrom keep
 live-lines n [] = refl
 live-lines n (c ∷ cells) = elim (split (isLive c)) [ inl e ↦ rw (e, live-lines (suc n) cells) | inr e ↦ rw (e, live-lines (suc n) cells) ]

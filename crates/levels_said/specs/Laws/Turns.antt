@@ -17,7 +17,7 @@ use Rattle.table.specs.declared.Header.{Header}
 use Rattle.table.specs.Refusing.{outside}
 use Rattle.table.specs.Promises.{Stores, Represents}
 use Rattle.table.specs.Laws.Shown.{represents-inside}
-use Rattle.levels_text.specs.Written.{written}
+use Rattle.levels_text.specs.Written.{textLine}
 use Rattle.levels_said.specs.declared.Said.{Said}
 use Rattle.levels_said.specs.declared.Said.the-variants.{Refused}
 use Rattle.levels_said.specs.Said.{Turn, turned, replied, calls, asks, onTable}
@@ -43,7 +43,7 @@ nothing-said h rows (refused m) n e z = absurd (let f = rw z at e in let y : _�
 
 -- ---- what is told
 
-replied-refused : (n : ℕ) (text : List ℕ) → 0 < n → replied n text ≡ written 88 (n ∷ [])
+replied-refused : (n : ℕ) (text : List ℕ) → 0 < n → replied n text ≡ textLine 88 (n ∷ [])
 unfolding replied
 replied-refused n text more = rw (ne-eqb n 0 (λ z. omega arith))
 
@@ -51,7 +51,7 @@ replied-accepted : (n : ℕ) (text : List ℕ) → n ≡ 0 → replied n text �
 unfolding replied
 replied-accepted n text zero = rw (eq-eqb n 0 zero)
 
-refused-text : (h : Header) (rows : List ℕ) (n : ℕ) → textOf h rows (Refused n) ≡ written 88 (n ∷ [])
+refused-text : (h : Header) (rows : List ℕ) (n : ℕ) → textOf h rows (Refused n) ≡ textLine 88 (n ∷ [])
 unfolding textOf
 refused-text h rows n = refl
 

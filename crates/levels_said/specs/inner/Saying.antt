@@ -15,7 +15,7 @@ use Rattle.table.specs.declared.Merge.{Merge}
 use Rattle.table.specs.declared.Version.{Version as Versioned}
 use Rattle.table.specs.Refusing.{outside}
 use Rattle.table.specs.Promises.{Stores}
-use Rattle.levels_text.specs.Written.{written}
+use Rattle.levels_text.specs.Written.{textLine}
 use Rattle.levels_said.specs.declared.Said.{Said}
 use Rattle.levels_said.specs.declared.Said.the-variants.{Nothing, Refused, Merged, NoRange, Range, Version, Listing}
 use Rattle.levels_said.specs.declared.Served.{Served}
@@ -26,21 +26,21 @@ use Rattle.levels_said.specs.Answers.{Held, lent}
 
 -- a listing of a header and a row store: the head line, then the live rows among the first of the store
 unfoldable pub headLine : Header → List ℕ
-headLine h = written 84 (h .columns ∷ h .keys ∷ h .sort ∷ h .rule ∷ h .generation ∷ [])
+headLine h = textLine 84 (h .columns ∷ h .keys ∷ h .sort ∷ h .rule ∷ h .generation ∷ [])
 
 unfoldable pub rowLines : ℕ → ℕ → List ℕ → List ℕ
-rowLines columns count rows = flat (map (written 68) (keep isLive (rowsOf columns count rows)))
+rowLines columns count rows = flat (map (textLine 68) (keep isLive (rowsOf columns count rows)))
 
 unfoldable pub listing : Header → List ℕ → List ℕ
 listing h rows = headLine h ++ rowLines (h .columns) (h .rows) rows
 
 unfoldable pub textOf : Header → List ℕ → Said → List ℕ
 textOf h rows Nothing = []
-textOf h rows (Refused n) = written 88 (n ∷ [])
-textOf h rows (Merged status added place) = written 77 (status ∷ added ∷ place ∷ [])
+textOf h rows (Refused n) = textLine 88 (n ∷ [])
+textOf h rows (Merged status added place) = textLine 77 (status ∷ added ∷ place ∷ [])
 textOf h rows NoRange = rangeText none
-textOf h rows (Range start end) = written 70 (start ∷ end ∷ [])
-textOf h rows (Version generation count) = written 86 (generation ∷ count ∷ [])
+textOf h rows (Range start end) = textLine 70 (start ∷ end ∷ [])
+textOf h rows (Version generation count) = textLine 86 (generation ∷ count ∷ [])
 textOf h rows Listing = listing h rows
 
 -- what a listing needs: rows that are stored, and a text with room for them

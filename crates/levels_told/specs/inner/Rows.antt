@@ -11,16 +11,16 @@ use lib.Seq.{drop-drop}
 use Rattle.lists.specs.Lists.{keep, rowsOf, flat}
 use Rattle.lists.specs.Laws.Keep.{split}
 use Rattle.constraints.specs.Constraints.{isLive}
-use Rattle.levels_text.specs.Written.{written}
+use Rattle.levels_text.specs.Written.{textLine}
 use Rattle.levels_written.specs.inner.Appending.{Appended, appended-none, appended-then}
 use Rattle.levels_written.specs.Laws.Decimals.{length-written}
 use Rattle.levels_said.specs.inner.Saying.{rowLines}
 
 -- a row's line, if it is live
 unfoldable pub rowLine : List ℕ → List ℕ
-rowLine row = cond (isLive row) (written 68 row) []
+rowLine row = cond (isLive row) (textLine 68 row) []
 
-row-live : (row : List ℕ) → isLive row ≡ true → rowLine row ≡ written 68 row
+row-live : (row : List ℕ) → isLive row ≡ true → rowLine row ≡ textLine 68 row
 unfolding rowLine
 row-live row e = rw e
 
@@ -60,7 +60,7 @@ cells-few rows columns a b = let c = mul-le-mul a b in omega arith
 
 -- ---- one row
 
-pub listed-live : {text text′ : List ℕ} (row : List ℕ) {used end : ℕ} → isLive row ≡ true → Appended text used (written 68 row) text′ end → Appended text used (rowLine row) text′ end
+pub listed-live : {text text′ : List ℕ} (row : List ℕ) {used end : ℕ} → isLive row ≡ true → Appended text used (textLine 68 row) text′ end → Appended text used (rowLine row) text′ end
 listed-live row e a = rw (row-live row e) a
 
 pub listed-dead : {text : List ℕ} (row : List ℕ) {used : ℕ} → isLive row ≡ false → Appended text used (rowLine row) text used

@@ -5,7 +5,7 @@ use mathlib.Core.List.{List, [], _∷_, _++_}
 use native.Mathlib.Omega.{arith}
 use lib.ListN.{length, take}
 use Rattle.table.specs.declared.Header.{Header}
-use Rattle.levels_text.specs.Written.{written}
+use Rattle.levels_text.specs.Written.{textLine}
 use Rattle.levels_written.specs.inner.Appending.{Appended, appended-then, Wrote}
 use Rattle.levels_written.specs.Laws.Decimals.{length-written}
 use Rattle.levels_said.specs.declared.Said.{Said}
@@ -28,7 +28,7 @@ pub length-head : (h : Header) → length (headLine h) ≤ 57
 unfolding headLine
 length-head h = length-written 84 (h .columns ∷ h .keys ∷ h .sort ∷ h .rule ∷ h .generation ∷ [])
 
-pub head-written : {text text′ : List ℕ} {used end : ℕ} (h : Header) → Appended text used (written 84 (h .columns ∷ h .keys ∷ h .sort ∷ h .rule ∷ h .generation ∷ [])) text′ end
+pub head-written : {text text′ : List ℕ} {used end : ℕ} (h : Header) → Appended text used (textLine 84 (h .columns ∷ h .keys ∷ h .sort ∷ h .rule ∷ h .generation ∷ [])) text′ end
     → Appended text used (headLine h) text′ end
 unfolding headLine
 head-written h a = a
@@ -46,11 +46,11 @@ module _ (h : Header) (rows : List ℕ) {said : Said} {text : List ℕ} {used : 
   says-bytes : {bytes : List ℕ} → textOf h rows said ≡ bytes → Wrote bytes text used → Telling h rows said text used
   says-bytes e w = record { inside = w .inside; begins = λ l. rw e (w .begins) }
 
-  pub tells-refused : (n : ℕ) → said ≡ Refused n → Wrote (written 88 (n ∷ [])) text used → Telling h rows said text used
+  pub tells-refused : (n : ℕ) → said ≡ Refused n → Wrote (textLine 88 (n ∷ [])) text used → Telling h rows said text used
   unfolding textOf
   tells-refused n e w = says-bytes (rw e) w
 
-  pub tells-merged : (status added place : ℕ) → said ≡ Merged status added place → Wrote (written 77 (status ∷ added ∷ place ∷ [])) text used → Telling h rows said text used
+  pub tells-merged : (status added place : ℕ) → said ≡ Merged status added place → Wrote (textLine 77 (status ∷ added ∷ place ∷ [])) text used → Telling h rows said text used
   unfolding textOf
   tells-merged status added place e w = says-bytes (rw e) w
 
@@ -58,11 +58,11 @@ module _ (h : Header) (rows : List ℕ) {said : Said} {text : List ℕ} {used : 
   unfolding textOf rangeText
   tells-none e w = says-bytes (rw e) w
 
-  pub tells-range : (start end : ℕ) → said ≡ Range start end → Wrote (written 70 (start ∷ end ∷ [])) text used → Telling h rows said text used
+  pub tells-range : (start end : ℕ) → said ≡ Range start end → Wrote (textLine 70 (start ∷ end ∷ [])) text used → Telling h rows said text used
   unfolding textOf
   tells-range start end e w = says-bytes (rw e) w
 
-  pub tells-version : (generation count : ℕ) → said ≡ Version generation count → Wrote (written 86 (generation ∷ count ∷ [])) text used → Telling h rows said text used
+  pub tells-version : (generation count : ℕ) → said ≡ Version generation count → Wrote (textLine 86 (generation ∷ count ∷ [])) text used → Telling h rows said text used
   unfolding textOf
   tells-version generation count e w = says-bytes (rw e) w
 

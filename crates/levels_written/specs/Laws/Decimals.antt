@@ -12,7 +12,7 @@ use Rattle.lists.specs.Lists.{flat}
 use Rattle.lists.specs.Laws.Keep.{split}
 use Rattle.lists.specs.Laws.Rows.{flat-append}
 use Rattle.io.specs.Digits.{digits, glyph, Fewest}
-use Rattle.levels_text.specs.Written.{digitsIn, decimal, field, written}
+use Rattle.levels_text.specs.Written.{digitsIn, decimal, field, textLine}
 
 -- a digit
 glyph-digit : (d : ℕ) → d < 10 → glyph d ≡ 48 + d
@@ -83,6 +83,6 @@ length-fields [] = omega arith
 length-fields (n ∷ numbers) =
     omega (arith, length-append (field n) (flat (map field numbers)), length-field n, length-fields numbers)
 
-pub length-written : (letter : ℕ) (numbers : List ℕ) → length (written letter numbers) ≤ 11 * length numbers + 2
-unfolding written
+pub length-written : (letter : ℕ) (numbers : List ℕ) → length (textLine letter numbers) ≤ 11 * length numbers + 2
+unfolding textLine
 length-written letter numbers = omega (arith, length-append (flat (map field numbers)) (10 ∷ []), length-fields numbers)

@@ -8,7 +8,7 @@ use lib.ListN.{length, take, getD, set, length-append}
 use lib.Seq.{take-suc, take-all, take-suc-set}
 use Rattle.io.specs.Digits.{digits, Fewest}
 use Rattle.lists.specs.Lists.{flat}
-use Rattle.levels_text.specs.Written.{field, written}
+use Rattle.levels_text.specs.Written.{field, textLine}
 use Rattle.levels_written.specs.Laws.Decimals.{decimal-digits, length-field, fields-more, length-written}
 
 -- the text has these bytes behind its first `used`, up to `end`; what stands behind them is of no meaning
@@ -42,8 +42,8 @@ appended-number {n = n} {count = count} fits f e comma number =
 -- a letter, numbers, and the end of the line
 pub appended-line : {text text₁ text₂ text₃ : List ℕ} (numbers : List ℕ) {used lettered numbered end letter : ℕ}
     → Appended text used (letter ∷ []) text₁ lettered → Appended text₁ lettered (flat (map field numbers)) text₂ numbered
-    → Appended text₂ numbered (10 ∷ []) text₃ end → Appended text used (written letter numbers) text₃ end
-unfolding written
+    → Appended text₂ numbered (10 ∷ []) text₃ end → Appended text used (textLine letter numbers) text₃ end
+unfolding textLine
 appended-line numbers first rest last = appended-then (appended-then first rest) last
 
 -- at the start of a lent text
@@ -59,7 +59,7 @@ pub appended-wrote : {text bytes text′ : List ℕ} {end : ℕ} → length byte
 appended-wrote room a = record { inside = omega (arith, a .counted); begins = a .same }
 
 pub line-wrote : {text text′ : List ℕ} (letter : ℕ) (numbers : List ℕ) {end : ℕ} → 11 * length numbers + 2 ≤ length text′
-    → Appended text 0 (written letter numbers) text′ end → Wrote (written letter numbers) text′ end
+    → Appended text 0 (textLine letter numbers) text′ end → Wrote (textLine letter numbers) text′ end
 line-wrote letter numbers room a = appended-wrote (omega (arith, length-written letter numbers)) a
 
 -- ---- byte by byte

@@ -1,19 +1,31 @@
--- How many ids an answer writes: a refused one none, an accepted one at most those of its subset, and an intersection no more
--- than it has room for. Assumes nothing.
-use Prim.Native.Nat.{ℕ, _≤_}
+-- What an answer writes: a refused one nothing, an accepted one at most the ids of its subset, and an intersection no more than it
+-- has room for. Assumes nothing.
+use Prim.Native.Nat.{ℕ, zero, suc, _≤_}
+use mathlib.Core.Path.{_≡_, refl, sym}
 use mathlib.Core.Bool.{Bool}
 use mathlib.Core.List.{List, [], _∷_}
 use native.Mathlib.Omega.{arith}
 use lib.ListN.{length}
 use Rattle.lists.specs.Lists.{keep, has, within}
+use Rattle.lists.specs.Laws.Parts.{putAt-nil}
 use Rattle.lists.specs.Laws.Keep.{length-keep, count-le}
-use Rattle.refusals.specs.Refusals.{refused, accepted}
+use Rattle.refusals.specs.Refusals.{refused, accepted, reply}
+use Rattle.offsets.specs.declared.SubsetAnswer.{SubsetAnswer}
+use Rattle.offsets.specs.declared.SubsetAnswer.the-variants.{Refused, List as Ids}
 use Rattle.offsets.specs.Subsets.{Subset, range, list, members, listOrNothing, intersect}
-use Rattle.offsets.specs.Answers.{written, room}
+use Rattle.offsets.specs.Answers.{subsetSays, shape, written, room, Answered}
+
+pub written-none : (n : ℕ) → written (refused n) ≡ []
+unfolding written
+written-none n = refl
 
 pub written-refused : (n k : ℕ) → length (written (refused n)) ≤ k
 unfolding written
 written-refused n k = omega arith
+
+pub answered-refused : (n : ℕ) (output : List ℕ) → Answered (refused n) output (Refused n) output
+unfolding subsetSays shape written
+answered-refused n output = record { answers = refl; writes = sym (putAt-nil output 0) }
 
 pub written-members : (v : Subset) → length (written (accepted v)) ≤ length (members v)
 unfolding written members
@@ -34,3 +46,11 @@ written-intersect (range a b) (range c d) = unfold written in omega arith
 written-intersect (range a b) (list ids) = omega (arith, listed-room (keep (within a b) ids), kept-room (within a b) ids)
 written-intersect (list ids) (range a b) = unfold written in kept-room (within a b) ids
 written-intersect (list ids) (list others) = unfold written in kept-room (λ id. has id others) ids
+
+-- an answer that tells of ids has room for them
+pub answered-fits : (n : ℕ) (v : Subset) (output : List ℕ) (answer : SubsetAnswer) (output′ : List ℕ) → Answered (reply n v) output answer output′
+    → (n ≡ 0 → length (written (accepted v)) ≤ length output) → (k : ℕ) → answer ≡ Ids k → k ≤ length output
+unfolding reply subsetSays shape written
+answered-fits zero (range a b) output answer output′ m fit k e = absurd (let f = m .answers in let z : _≡_ {A = ℕ} 0 1 = cc in omega arith)
+answered-fits zero (list ids) output answer output′ m fit k e = let f = m .answers in let n : k ≡ length ids = cc in omega (arith, fit refl)
+answered-fits (suc n) v output answer output′ m fit k e = absurd (let f = m .answers in let z : _≡_ {A = ℕ} 0 1 = cc in omega arith)

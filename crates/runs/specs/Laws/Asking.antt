@@ -15,7 +15,7 @@ use Rattle.offsets.specs.declared.SubsetAnswer.{SubsetAnswer}
 use Rattle.offsets.specs.declared.SubsetAnswer.the-variants.{Refused, Range, List as Ids}
 use Rattle.offsets.specs.Subsets.{Subset, range, list, intersect, retain, narrowed}
 use Rattle.offsets.specs.Answers.{subsetOf, Answered, readOff, subsetSays, shape, written, intersectReply}
-use Rattle.offsets.specs.Laws.Answers.{written-intersect}
+use Rattle.offsets.specs.Laws.Answers.{written-intersect, answered-fits}
 use Rattle.offsets.specs.Laws.Subsets.{members-retain, members-narrowed}
 use Rattle.constraints.specs.declared.Constraint.{Constraint}
 use Rattle.table.specs.declared.Header.{Header}
@@ -43,13 +43,6 @@ gathers (Range from to) output g = and-true (g .refined) ∙ sym (or-false (g .r
 gathers (Ids n) output g = and-true (g .refined) ∙ sym (or-false (g .refined))
 
 -- the ids written lie in the output
-answered-fits : (n : ℕ) (v : Subset) (output : List ℕ) (answer : SubsetAnswer) (output′ : List ℕ) → Answered (reply n v) output answer output′
-    → (n ≡ 0 → length (written (accepted v)) ≤ length output) → (k : ℕ) → answer ≡ Ids k → k ≤ length output
-unfolding reply subsetSays shape written
-answered-fits zero (range a b) output answer output′ m fit k e = absurd (let f = m .answers in let z : _≡_ {A = ℕ} 0 1 = cc in omega arith)
-answered-fits zero (list ids) output answer output′ m fit k e = let f = m .answers in let n : k ≡ length ids = cc in omega (arith, fit refl)
-answered-fits (suc n) v output answer output′ m fit k e = absurd (let f = m .answers in let z : _≡_ {A = ℕ} 0 1 = cc in omega arith)
-
 intersection-fits : (a b : Subset) (output : List ℕ) (answer : SubsetAnswer) (output′ : List ℕ) → Answered (intersectReply a b (length output)) output answer output′
     → (k : ℕ) → answer ≡ Ids k → k ≤ length output
 unfolding intersectReply

@@ -11,8 +11,9 @@ use lib.Seq.{drop-cons}
 use lib.Dec.{leb, ltb, eqb}
 use borrow.Author.Tests.{lt-ltb, le-ltb, le-leb, lt-leb, eq-eqb, ne-eqb}
 use Rattle.lists.specs.Lists.{above, has, within}
-use Rattle.lists.specs.Laws.Rising.{above-head, above-tail, above-cons, above-weaker, has-countFrom, within-of, within-below, within-past}
+use Rattle.lists.specs.Laws.Rising.{above-head, above-tail, above-cons, above-weaker, within-of, within-below, within-past}
 use Rattle.offsets.specs.Subsets.{range, members}
+use Rattle.offsets.specs.Laws.Forms.{has-range as has-any-range}
 use Rattle.constraints.specs.Constraints.{compares}
 use Rattle.sort_entries.specs.Entries.{Entry, entry, firstRow, Position, found, absent, position, rangeAt, fastRange, valueAt, entriesSound}
 use Rattle.sort_entries.specs.Laws.Sound.{valueOf, values, Climb, sound-climb, sound-first, climb-tail, climb-in, climb-above, first-le, first-next}
@@ -139,8 +140,7 @@ placed v (e ∷ es) rows c =
 
 -- the ids of a range, as a test
 pub has-range : (a b i : ℕ) → a ≤ b → has i (members (range a b)) ≡ within a b i
-unfolding members
-has-range a b i h = let e : a + (b - a) ≡ b = omega arith in has-countFrom i a (b - a) ∙ ap (λ (n : ℕ). within a n i) e
+has-range a b i h = let e : a + (b - a) ≡ b = omega arith in has-any-range a b i ∙ ap (λ (n : ℕ). within a n i) e
 
 -- a number i and a value x that cross a place and a value v together
 module _ (x v i : ℕ) where

@@ -1,0 +1,93 @@
+-- Subsets by their two forms, as code tells them apart: size, ends and members of each, and what `retain` and `narrowed` make of
+-- each. With the set laws it is what crates above use of a subset. Assumes nothing.
+use Prim.Native.Nat.{ℕ, _+_, _-_, _≤_, _<_}
+use mathlib.Core.Path.{_≡_, refl, ap, _∙_}
+use mathlib.Core.Bool.{Bool, true, false}
+use mathlib.Core.List.{List, [], _∷_}
+use mathlib.Core.Option.{Option, none, some}
+use lib.ListN.{length, getD}
+use borrow.Author.Tests.{le-leb}
+use Rattle.lists.specs.Lists.{keep, every, has, within}
+use Rattle.lists.specs.Laws.Rising.{getD-countFrom, has-countFrom}
+use Rattle.offsets.specs.Subsets.{Subset, range, list, wellFormed, members, size, Ends, bounds, endOf, shaped, retain, narrowed}
+use Rattle.offsets.specs.Laws.Subsets.{length-members}
+
+-- ---- a range
+
+module _ (a b : ℕ) where
+  pub size-range : size (range a b) ≡ b - a
+  unfolding size
+  size-range = refl
+
+  pub end-range : endOf (range a b) ≡ b
+  unfolding endOf bounds
+  end-range = refl
+
+  pub formed-range : a ≤ b → wellFormed (range a b) ≡ true
+  unfolding wellFormed
+  formed-range h = le-leb a b h
+
+  pub length-range : length (members (range a b)) ≡ b - a
+  length-range = length-members (range a b) ∙ size-range
+
+  pub getD-range : (i d : ℕ) → i < b - a → getD (members (range a b)) i d ≡ a + i
+  unfolding members
+  getD-range i d h = getD-countFrom a (b - a) i d h
+
+  pub has-range : (i : ℕ) → has i (members (range a b)) ≡ within a (a + (b - a)) i
+  unfolding members
+  has-range i = has-countFrom i a (b - a)
+
+-- ---- a list
+
+module _ (ids : List ℕ) where
+  pub size-list : size (list ids) ≡ length ids
+  unfolding size
+  size-list = refl
+
+  pub members-list : members (list ids) ≡ ids
+  unfolding members
+  members-list = refl
+
+-- ---- its end, by its bounds
+
+-- 0 where there are none
+abbrev upper : Option Ends → ℕ
+upper none = 0
+upper (some ends) = ends .end
+
+end-is : (a : Subset) → endOf a ≡ upper (bounds a)
+unfolding endOf bounds
+end-is (range start end) = refl
+end-is (list []) = refl
+end-is (list (x ∷ xs)) = refl
+
+module _ (a : Subset) where
+  pub end-none : bounds a ≡ none → endOf a ≡ 0
+  end-none e = end-is a ∙ ap upper e
+
+  pub end-some : (ends : Ends) → bounds a ≡ some ends → endOf a ≡ ends .end
+  end-some ends e = end-is a ∙ ap upper e
+
+-- ---- `retain` and `narrowed`
+
+module _ (test : ℕ → Bool) where
+  pub retain-range : (a b : ℕ) → retain test (range a b) ≡ shaped (keep test (members (range a b)))
+  unfolding retain members
+  retain-range a b = refl
+
+  pub retain-list : (ids : List ℕ) → retain test (list ids) ≡ list (keep test (members (list ids)))
+  unfolding retain members
+  retain-list ids = refl
+
+  pub narrowed-all : (a b : ℕ) → every test (members (range a b)) ≡ true → narrowed test (range a b) ≡ range a b
+  unfolding narrowed members
+  narrowed-all a b e = rw e
+
+  pub narrowed-some : (a b : ℕ) → every test (members (range a b)) ≡ false → narrowed test (range a b) ≡ list (keep test (members (range a b)))
+  unfolding narrowed members
+  narrowed-some a b e = rw e
+
+  pub narrowed-list : (ids : List ℕ) → narrowed test (list ids) ≡ list (keep test (members (list ids)))
+  unfolding narrowed members
+  narrowed-list ids = refl
