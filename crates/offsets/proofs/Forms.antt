@@ -11,10 +11,10 @@ use borrow.Author.Tests.{le-leb, lt-leb}
 use Rattle.lists.specs.Lists.{rising}
 use Rattle.offsets.specs.declared.SubsetHead.{SubsetHead}
 use Rattle.offsets.specs.declared.BoundsAnswer.the-variants.{None, Ends}
-use Rattle.offsets.specs.Subsets.{list, wellFormed, size, bounds}
+use Rattle.offsets.specs.Subsets.{list, wellFormed, size, endOf}
 use Rattle.offsets.specs.Laws.Subsets.{dense-is, sparse-is}
 use Rattle.offsets.specs.Answers.{subsetOf}
-use Rattle.offsets.specs.inner.Writing.{boundsSays}
+use Rattle.offsets.specs.inner.Writing.{bounds, boundsSays}
 
 module _ (head : SubsetHead) (ids : List ℕ) where
   pub formed-range : head .dense ≡ true → leb (head .start) (head .end) ≡ wellFormed (subsetOf head ids)
@@ -36,7 +36,7 @@ unfolding boundsSays
 said-ends start end = refl
 
 bounds-cons : (x : ℕ) (xs : List ℕ) → some (record { start = x; end = getD (x ∷ xs) (length xs) 0 + 1 }) ≡ bounds (list (x ∷ xs))
-unfolding bounds
+unfolding bounds endOf
 bounds-cons x xs = refl
 
 module _ (head : SubsetHead) (ids : List ℕ) where

@@ -1,9 +1,8 @@
--- Subsets (document 01, "Subsets"): well-formed ones, their members, `bounds`, `intersect` and `retain` with the Rust's
--- forms. Assumes nothing.
+-- Subsets (document 01, "Subsets"): well-formed ones, their members and ends, `intersect` and `retain` with the Rust's forms.
+-- Assumes nothing.
 use Prim.Native.Nat.{ℕ, _+_, _-_, min, max}
 use mathlib.Core.Bool.{Bool, cond, _&&_}
 use mathlib.Core.List.{List, [], _∷_}
-use mathlib.Core.Option.{Option, none, some}
 use lib.ListN.{length, getD}
 use lib.Dec.{leb}
 use Rattle.lists.specs.Lists.{keep, every, countFrom, rising, has, within, same}
@@ -26,19 +25,11 @@ unfoldable pub size : Subset → ℕ
 size (range start end) = end - start
 size (list ids) = length ids
 
--- "`bounds` gives the ends of a subset"; an empty list has none
-pub record Ends : Type 0 where
-  pub start : ℕ
-  pub end : ℕ
-
-unfoldable pub bounds : Subset → Option Ends
-bounds (range start end) = some (record { start = start; end = end })
-bounds (list []) = none
-bounds (list (x ∷ xs)) = some (record { start = x; end = getD (x ∷ xs) (length xs) 0 + 1 })
-
 -- the end that test 5 looks at: "range end or last id plus one"; an empty list has 0
 unfoldable pub endOf : Subset → ℕ
-endOf subset = elim (bounds subset) [ none ↦ 0 | some ends ↦ ends .end ]
+endOf (range start end) = end
+endOf (list []) = 0
+endOf (list (x ∷ xs)) = getD (x ∷ xs) (length xs) 0 + 1
 
 -- "a range with a list gives a list, or 0..0 if nothing is common"
 unfoldable pub listOrNothing : List ℕ → Subset
@@ -66,8 +57,4 @@ retain test (list ids) = list (keep test ids)
 
 -- "a range stays only if all of it is kept, else a list"
 unfoldable pub narrowed : (ℕ → Bool) → Subset → Subset
-narrowed test (range start end) =
-    cond (every test (countFrom start (end - start)))
-    (range start end)
-    (list (keep test (countFrom start (end - start))))
-narrowed test (list ids) = list (keep test ids)
+narrowed test subset = cond (every test (members subset)) subset (list (keep test (members subset)))

@@ -7,6 +7,7 @@ ghost use Rattle.lists.specs.Lists.{rising};
 ghost use Rattle.offsets.specs.Subsets as subsets;
 ghost use Rattle.offsets.specs.Subsets.{wellFormed};
 ghost use Rattle.offsets.specs.Answers.{subsetOf};
+ghost use Rattle.offsets.specs.inner.Writing as ends;
 ghost use Rattle.offsets.specs.inner.Writing.{boundsSays};
 
 // A borrowed subset's kind and two ends. Its list of ids stands beside it; of a dense one the list counts for nothing, of
@@ -96,7 +97,7 @@ fn wide(id: u32) -> u64
 
 // The ends of a subset; an empty list has none.
 pub fn bounds(head: SubsetHead, ids: &[u32]) -> BoundsAnswer
-    ensures { λ r. ⌜ boundsSays r ≡ subsets.bounds (subsetOf head (now (ids .entry))) ⌝ }
+    ensures { λ r. ⌜ boundsSays r ≡ ends.bounds (subsetOf head (now (ids .entry))) ⌝ }
 {
     if head.dense {
         return BoundsAnswer::Ends(wide(head.start), wide(head.end));

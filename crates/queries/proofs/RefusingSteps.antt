@@ -12,9 +12,9 @@ use Rattle.lists.specs.Laws.Keep.{split}
 use Rattle.refusals.specs.Refusals.{rung, first}
 use Rattle.offsets.specs.declared.BoundsAnswer.{BoundsAnswer}
 use Rattle.offsets.specs.declared.BoundsAnswer.the-variants.{None, Ends}
-use Rattle.offsets.specs.Subsets.{Subset, wellFormed, size, bounds, endOf}
+use Rattle.offsets.specs.Subsets.{Subset, wellFormed, size, endOf}
 use Rattle.offsets.specs.Laws.Forms.{end-none, end-some}
-use Rattle.offsets.specs.inner.Writing.{boundsSays}
+use Rattle.offsets.specs.inner.Writing.{bounds, boundsSays}
 use Rattle.constraints.specs.declared.Constraint.{Constraint}
 use Rattle.constraints.specs.Constraints.{known}
 use Rattle.table.specs.declared.Header.{Header}

@@ -9,8 +9,9 @@ use lib.ListN.{length, getD}
 use borrow.Author.Tests.{le-leb}
 use Rattle.lists.specs.Lists.{keep, every, has, within}
 use Rattle.lists.specs.Laws.Rising.{getD-countFrom, has-countFrom}
-use Rattle.offsets.specs.Subsets.{Subset, range, list, wellFormed, members, size, Ends, bounds, endOf, shaped, retain, narrowed}
-use Rattle.offsets.specs.Laws.Subsets.{length-members}
+use Rattle.offsets.specs.Subsets.{Subset, range, list, wellFormed, members, size, endOf, shaped, retain, narrowed}
+use Rattle.offsets.specs.inner.Writing.{Ends, bounds}
+use Rattle.offsets.specs.Laws.Subsets.{length-members, narrowed-list as narrowed-ids}
 
 -- ---- a range
 
@@ -20,7 +21,7 @@ module _ (a b : ℕ) where
   size-range = refl
 
   pub end-range : endOf (range a b) ≡ b
-  unfolding endOf bounds
+  unfolding endOf
   end-range = refl
 
   pub formed-range : a ≤ b → wellFormed (range a b) ≡ true
@@ -89,5 +90,5 @@ module _ (test : ℕ → Bool) where
   narrowed-some a b e = rw e
 
   pub narrowed-list : (ids : List ℕ) → narrowed test (list ids) ≡ list (keep test (members (list ids)))
-  unfolding narrowed members
-  narrowed-list ids = refl
+  unfolding members
+  narrowed-list ids = narrowed-ids test ids

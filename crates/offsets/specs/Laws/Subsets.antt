@@ -19,7 +19,7 @@ use Rattle.refusals.specs.Laws.Determined.{Same}
 use Rattle.offsets.specs.declared.SubsetHead.{SubsetHead}
 use Rattle.offsets.specs.declared.SubsetAnswer.{SubsetAnswer}
 use Rattle.offsets.specs.declared.SubsetAnswer.the-variants.{Refused, Range, List as Ids}
-use Rattle.offsets.specs.Subsets.{Subset, range, list, wellFormed, members, size, bounds, endOf, listOrNothing, intersect, shaped, retain, narrowed}
+use Rattle.offsets.specs.Subsets.{Subset, range, list, wellFormed, members, size, endOf, listOrNothing, intersect, shaped, retain, narrowed}
 use Rattle.offsets.specs.Answers.{subsetOf, sparse, subsetSays, shape, readOff, written, Answered}
 use Rattle.offsets.specs.inner.Writing.{Wrote}
 
@@ -123,13 +123,13 @@ members-listOrNothing [] = refl
 members-listOrNothing (x ∷ xs) = refl
 
 end-list : (x : ℕ) (xs : List ℕ) → endOf (list (x ∷ xs)) ≡ getD (x ∷ xs) (length xs) 0 + 1
-unfolding endOf bounds
+unfolding endOf
 end-list x xs = refl
 
 -- each id lies below the end that test 5 looks at
 pub members-below : (a : Subset) → wellFormed a ≡ true → (i : ℕ) → i < size a → getD (members a) i 0 < endOf a
 unfolding members size
-members-below (range a b) w i h = unfold endOf bounds in let k = getD-countFrom a (b - a) i 0 h in omega arith
+members-below (range a b) w i h = unfold endOf in let k = getD-countFrom a (b - a) i 0 h in omega arith
 members-below (list []) w i h = absurd (omega arith)
 members-below (list (x ∷ xs)) w i h =
     let e = end-list x xs in
@@ -192,13 +192,18 @@ members-retain test (range a b) =
 members-retain test (list ids) = members-list (keep test ids) ∙ ap (keep test) (sym (members-list ids))
 
 pub members-narrowed : (test : ℕ → Bool) (a : Subset) → members (narrowed test a) ≡ keep test (members a)
-unfolding members narrowed
-members-narrowed test (range a b) =
-    elim (split (every test (countFrom a (b - a)))) [
-      | inl e ↦ rw e (sym (keep-every test (countFrom a (b - a)) e))
-      | inr e ↦ rw e
+unfolding narrowed
+members-narrowed test a =
+    elim (split (every test (members a))) [
+      | inl e ↦ rw e (sym (keep-every test (members a) e))
+      | inr e ↦ rw e (members-list (keep test (members a)))
     ]
-members-narrowed test (list ids) = refl
+
+-- a list stays one
+pub narrowed-list : (test : ℕ → Bool) (ids : List ℕ) → narrowed test (list ids) ≡ list (keep test ids)
+unfolding narrowed members
+narrowed-list test ids =
+    elim (split (every test ids)) [ inl e ↦ rw (e, keep-every test ids e) | inr e ↦ rw e ]
 
 -- The kept ids of a range may become a list, and a list has at most 65,536 ids: so the range must have no more. A
 -- well-formed list never has.
@@ -216,14 +221,14 @@ wellFormed-retain test (range a b) p h =
 wellFormed-retain test (list ids) p h = formed-keep test ids p
 
 pub wellFormed-narrowed : (test : ℕ → Bool) (a : Subset) → wellFormed a ≡ true → size a ≤ 65536 → wellFormed (narrowed test a) ≡ true
-unfolding narrowed
+unfolding narrowed members
 wellFormed-narrowed test (range a b) p h =
     let l = countFrom a (b - a) in
     elim (split (every test (countFrom a (b - a)))) [
       | inl e ↦ rw e p
       | inr e ↦ rw e (formed-of (keep test l) (rising-keep test l (rising-countFrom a (b - a))) (short-keep test a b h))
     ]
-wellFormed-narrowed test (list ids) p h = formed-keep test ids p
+wellFormed-narrowed test (list ids) p h = rw (narrowed-list test ids) (formed-keep test ids p)
 
 -- ---- answers
 

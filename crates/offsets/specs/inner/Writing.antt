@@ -1,20 +1,30 @@
 -- Ids written to an output, and the ends of a subset as they are answered. Assumes nothing.
 use Prim.Native.Nat.{ℕ}
 use mathlib.Core.Path.{_≡_}
-use mathlib.Core.List.{List}
+use mathlib.Core.List.{List, [], _∷_}
 use lib.ListN.{length}
 use Rattle.lists.specs.Lists.{putAt}
 use mathlib.Core.Option.{Option, none, some}
 use Rattle.offsets.specs.declared.BoundsAnswer.{BoundsAnswer}
 use Rattle.offsets.specs.declared.BoundsAnswer.the-variants.{None as NoEnds, Ends as BothEnds}
-use Rattle.offsets.specs.Subsets.{Ends}
+use Rattle.offsets.specs.Subsets.{Subset, range, list, endOf}
 
 -- ids written from the start of an output, and how many
 pub record Wrote (output ids : List ℕ) (n : ℕ) (output′ : List ℕ) : Type 0 where
   pub number : n ≡ length ids
   pub cells : output′ ≡ putAt output 0 ids
 
--- the ends of a subset as they are answered
+-- "`bounds` gives the ends of a subset"; an empty list has none
+pub record Ends : Type 0 where
+  pub start : ℕ
+  pub end : ℕ
+
+unfoldable pub bounds : Subset → Option Ends
+bounds (range start end) = some (record { start = start; end = end })
+bounds (list []) = none
+bounds (list (x ∷ xs)) = some (record { start = x; end = endOf (list (x ∷ xs)) })
+
+-- as they are answered
 unfoldable pub boundsSays : BoundsAnswer → Option Ends
 boundsSays NoEnds = none
 boundsSays (BothEnds start end) = some (record { start = start; end = end })
