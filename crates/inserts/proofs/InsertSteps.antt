@@ -2,7 +2,8 @@
 -- nothing.
 use Prim.Native.Nat.{ℕ, _+_, _-_, _*_, _≤_, _<_}
 use mathlib.Core.Path.{_≡_, refl, sym, ap, ap₂, _∙_}
-use mathlib.Core.Bool.{Bool, true, false, false≢true}
+use mathlib.Core.Logic.{inl, inr}
+use mathlib.Core.Bool.{Bool, true, false, cond, false≢true}
 use mathlib.Core.List.{List}
 use native.Mathlib.Nat.{add-zero}
 use native.Mathlib.Omega.{arith}
@@ -13,9 +14,9 @@ use Rattle.lists.specs.Lists.{putAt, rowAt}
 use Rattle.lists.specs.Laws.Parts.{part-putAt}
 use Rattle.lists.specs.Laws.Rows.{row-in}
 use Rattle.cells.specs.Cells.{isDead}
+use Rattle.lists.specs.Laws.Keep.{split}
 use Rattle.merge_rules.specs.Rules.{changesFrom, madeFrom}
 use Rattle.merge_rules.specs.Survivor.{survivor}
-use Rattle.merge_rules.specs.Laws.Rules.{survivor-length}
 use Rattle.key_index.specs.declared.Keyed.{Keyed}
 use Rattle.key_index.specs.declared.Found.{Found}
 use Rattle.key_index.specs.declared.Found.the-variants.{None, At}
@@ -39,13 +40,13 @@ part-width l at width = let e : at + width - at ≡ width = omega arith in rw e
 
 module _ (h : Header) (rows pending out : List ℕ) (old from : ℕ) where
   -- the surviving row has a place
-  pub survivor-fits : Makeable h rows pending out old from → (row : List ℕ)
-      → row ≡ survivor (h .rule) (h .keys) (h .sort) (take (h .columns) (drop (old * h .columns) rows)) (take (h .columns) (drop from pending))
+  pub survivor-fits : Makeable h rows pending out old from → (b : Bool) (row : List ℕ)
+      → row ≡ cond b (take (h .columns) (drop from pending)) (take (h .columns) (drop (old * h .columns) rows))
       → 0 + length row ≤ length out
-  survivor-fits m row e =
-      let a : length (take (h .columns) (drop (old * h .columns) rows)) ≡ h .columns = simp (length-take, length-drop) (omega (arith, m .old-in)) in
-      let b : length (take (h .columns) (drop from pending)) ≡ h .columns = simp (length-take, length-drop) (omega (arith, m .new-in)) in
-      let n = ap length e ∙ survivor-length (h .rule) (h .keys) (h .sort) _ _ (a ∙ sym b) ∙ a in
+  survivor-fits m b row e =
+      let o : length (take (h .columns) (drop (old * h .columns) rows)) ≡ h .columns = simp (length-take, length-drop) (omega (arith, m .old-in)) in
+      let p : length (take (h .columns) (drop from pending)) ≡ h .columns = simp (length-take, length-drop) (omega (arith, m .new-in)) in
+      let n : length row ≡ h .columns = ap length e ∙ elim (split b) [ inl q ↦ rw q p | inr q ↦ rw q o ] in
       omega (arith, m .few-columns, m .out-long)
 
   module _ (b : Bool)
@@ -61,10 +62,10 @@ module _ (h : Header) (rows pending out : List ℕ) (old from : ℕ) where
 
     -- one of the two survives
     pub made-survivor : b ≡ true → h .rule ≤ 1 → (row out′ : List ℕ)
-        → row ≡ survivor (h .rule) (h .keys) (h .sort) (take (h .columns) (drop (old * h .columns) rows)) (take (h .columns) (drop from pending))
+        → row ≡ cond b (take (h .columns) (drop from pending)) (take (h .columns) (drop (old * h .columns) rows))
         → out′ ≡ putAt out 0 row → MadeIs h rows pending out old from true out′
-    unfolding rowMade rowAt
-    made-survivor q l row out′ s k = record { answer = sym q ∙ answer; row = λ t. rw (le-leb _ _ l) (k ∙ ap (putAt out 0) s) }
+    unfolding rowMade rowAt survivor
+    made-survivor q l row out′ s k = record { answer = sym q ∙ answer; row = λ t. rw (le-leb _ _ l, ← answer) (k ∙ ap (putAt out 0) s) }
 
     -- the rule makes a third
     pub made-third : b ≡ true → 1 < h .rule → (out′ : List ℕ)

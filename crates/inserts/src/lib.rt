@@ -30,20 +30,12 @@ fn make_row<'a>(
     let new_at = from as usize;
     let old_row = &rows[old_at..old_at + width];
     let new_row = &pending[new_at..new_at + width];
-    if !merge_rules::changes(h.rule, h.keys, h.sort, old_row, new_row) {
+    let changed = merge_rules::changes(h.rule, h.keys, h.sort, old_row, new_row);
+    if !changed {
         return false;
     }
     if h.rule <= 1 {
-        let row = merge_rules::surviving_row(
-            h.rule,
-            h.keys,
-            h.sort,
-            width,
-            rows,
-            old_at,
-            pending,
-            new_at,
-        );
+        let row = merge_rules::surviving_row(changed, width, rows, old_at, pending, new_at);
         row_buffer::write_row(out, 0, row);
         return true;
     }

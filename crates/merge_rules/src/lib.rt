@@ -2,12 +2,11 @@
 // number chooses. Each contract cites its definition in specs/.
 ghost use mathlib.Core.Path.{_≡_};
 ghost use Prim.Native.Nat.{_+_, _%_, _≤_};
-ghost use mathlib.Core.Bool.{not, _&&_};
+ghost use mathlib.Core.Bool.{cond, not, _&&_};
 ghost use lib.ListN.{length, take, drop};
 ghost use lib.Dec.{eqb};
 ghost use Rattle.lists.specs.Lists.{putAt};
 ghost use Rattle.merge_rules.specs.Rules as rules;
-ghost use Rattle.merge_rules.specs.Survivor.{survivor};
 
 // A column that is neither a key nor the sort column: only there does a rule choose.
 fn ruled_column(keys: u32, sort: u32, column: usize) -> bool
@@ -117,27 +116,23 @@ pub fn make(rule: u32, keys: u32, sort: u32, old: &[u32], new: &[u32], out: &mut
     }
 }
 
-// For rules 0 and 1 the row that survives is one of the two: it is handed back as that part of the row store, where the old
-// row stands, or of the pending store, where the new one does.
+// For rules 0 and 1 the row that survives is one of the two, by whether a cell changes: it is handed back as that part of the
+// row store, where the old row stands, or of the pending store, where the new one does.
 pub fn surviving_row<'a>(
-    rule: u32,
-    keys: u32,
-    sort: u32,
+    changed: bool,
     width: usize,
     rows: &'a [u32],
     old: usize,
     pending: &'a [u32],
     new: usize,
 ) -> &'a [u32]
-    requires { ⌜ (old + width ≤ length (now rows)) × (new + width ≤ length (now pending)) × (rule ≤ 1) ⌝ }
-    ensures { λ r. ⌜ now r ≡ survivor rule keys sort (take width (drop old (now (rows .entry)))) (take width (drop new (now (pending .entry)))) ⌝ }
+    requires { ⌜ (old + width ≤ length (now rows)) × (new + width ≤ length (now pending)) ⌝ }
+    ensures { λ r. ⌜ now r ≡ cond changed (take width (drop new (now (pending .entry)))) (take width (drop old (now (rows .entry)))) ⌝ }
 {
     let old_end = old + width;
     let new_end = new + width;
-    let old_row = &rows[old..old_end];
-    let new_row = &pending[new..new_end];
-    if changes(rule, keys, sort, old_row, new_row) {
-        return new_row;
+    if changed {
+        return &pending[new..new_end];
     }
-    old_row
+    &rows[old..old_end]
 }

@@ -143,7 +143,10 @@ fn copy_survivor<'a>(
     requires { ⌜ (old + width ≤ length (now rows)) × (new + width ≤ length (now pending)) × (width ≤ length (now out)) × (rule ≤ 1) ⌝ }
     ensures { λ _. ⌜ now (out .exit) ≡ putAt (now (out .entry)) 0 (survivor rule keys sort (take width (drop old (now (rows .entry)))) (take width (drop new (now (pending .entry))))) ⌝ }
 {
-    let row = merge_rules::surviving_row(rule, keys, sort, width, rows, old, pending, new);
+    let old_row = &rows[old..old + width];
+    let new_row = &pending[new..new + width];
+    let changed = merge_rules::changes(rule, keys, sort, old_row, new_row);
+    let row = merge_rules::surviving_row(changed, width, rows, old, pending, new);
     row_buffer::write_row(out, 0, row);
 }
 

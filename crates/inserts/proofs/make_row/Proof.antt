@@ -57,7 +57,7 @@ surviving-row-requires : tie.Need-surviving-row-requires
 surviving-row-requires c κs = search needs
 
 write-row-requires : tie.Need-write-row-requires
-write-row-requires c κs = survivor-fits _ _ _ _ _ _ (c .before .before .before .before .before .before .before .before .before .before .before .before .before .pre) _ (c .before .surviving-row .ensures)
+write-row-requires c κs = survivor-fits _ _ _ _ _ _ (c .before .before .before .before .before .before .before .before .before .before .before .before .before .pre) (c .before .before .before .before .before .changes .result) _ (c .before .surviving-row .ensures)
 
 same-length : tie.Need-same-length
 same-length c = search needs

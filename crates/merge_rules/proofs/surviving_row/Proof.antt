@@ -10,44 +10,39 @@ add-old-end c = search needs
 add-new-end : tie.Need-add-new-end
 add-new-end c = search needs
 
-mul-old-row : tie.Need-mul-old-row
-mul-old-row c = search needs
+mul-result : tie.Need-mul-result
+mul-result c = search needs
 
-sub-old-row : tie.Need-sub-old-row
-sub-old-row c = search needs
+sub-result : tie.Need-sub-result
+sub-result c = search needs
 
-part-old-row-start : tie.Need-part-old-row-start
-part-old-row-start c = search needs
+part-result-start : tie.Need-part-result-start
+part-result-start c = search needs
 
-part-old-row-end : tie.Need-part-old-row-end
-part-old-row-end c = search needs
-
-mul-new-row : tie.Need-mul-new-row
-mul-new-row c = search needs
-
-sub-new-row : tie.Need-sub-new-row
-sub-new-row c = search needs
-
-part-new-row-start : tie.Need-part-new-row-start
-part-new-row-start c = search needs
-
-part-new-row-end : tie.Need-part-new-row-end
-part-new-row-end c = search needs
-
-changes-requires : tie.Need-changes-requires
-changes-requires c κs = search needs
+part-result-end : tie.Need-part-result-end
+part-result-end c = search needs
 
 returns : tie.Need-returns
 returns c =
-    let a = c .before .before .before .before .before .before .args in
-    let d = c .before .changes in
-    new-survives _ _ _ (a .width) (a .rows .now) (a .old) (a .pending .now) (a .new) (d .result) (d .ensures) (c .if1 .taken)
+    let a = c .before .before .args in
+    new-survives (a .changed) (a .width) (a .rows .now) (a .old) (a .pending .now) (a .new) (c .before .if1 .taken)
+
+mul-result-2 : tie.Need-mul-result-2
+mul-result-2 c = search needs
+
+sub-result-2 : tie.Need-sub-result-2
+sub-result-2 c = search needs
+
+part-result-start-2 : tie.Need-part-result-start-2
+part-result-start-2 c = search needs
+
+part-result-end-2 : tie.Need-part-result-end-2
+part-result-end-2 c = search needs
 
 returns-2 : tie.Need-returns-2
 returns-2 c =
-    let a = c .before .before .before .before .before .before .args in
-    let d = c .before .changes in
-    old-survives _ _ _ (a .width) (a .rows .now) (a .old) (a .pending .now) (a .new) (d .result) (d .ensures) (c .if1 .left)
+    let a = c .before .before .args in
+    old-survives (a .changed) (a .width) (a .rows .now) (a .old) (a .pending .now) (a .new) (c .before .if1 .left)
 
 pub surviving-row-spec : {M : Type 1} → statement M
 surviving-row-spec =
@@ -55,14 +50,13 @@ surviving-row-spec =
     (tie.spec
     add-old-end
     add-new-end
-    mul-old-row
-    sub-old-row
-    part-old-row-start
-    part-old-row-end
-    mul-new-row
-    sub-new-row
-    part-new-row-start
-    part-new-row-end
-    changes-requires
+    mul-result
+    sub-result
+    part-result-start
+    part-result-end
     returns
+    mul-result-2
+    sub-result-2
+    part-result-start-2
+    part-result-end-2
     returns-2)
