@@ -3,13 +3,13 @@
 // how many agreed. Questions with a list of conditions are left out.
 use libc::STDIN_FILENO;
 use libc::STDOUT_FILENO;
+use recorded_answers::Counts;
+use recorded_answers::judge;
 use recorded_calls::call;
 use recorded_calls::is_call;
 use recorded_lines::Said;
-use recorded_lines::further;
 use recorded_lines::part;
 use recorded_lines::read_line;
-use recorded_questions::UNASKED;
 use recorded_questions::ask;
 use table::Header;
 use table::Largest;
@@ -46,65 +46,6 @@ fn serve(
         return call(h, letter, numbers, rows, keys, sorts, pending);
     }
     ask(h, letter, numbers, rows, keys, sorts, out)
-}
-
-// The answers of the list, those asked for here, and those that agreed.
-struct Counts {
-    answers: u64,
-    asked: u64,
-    agreed: u64,
-}
-
-fn one_more(count: u64) -> u64 {
-    if count < 1000000 {
-        return count + 1;
-    }
-    count
-}
-
-// What was counted, and the place behind the answer's line.
-struct Judged {
-    counts: Counts,
-    place: usize,
-}
-
-fn counted(counts: Counts, is_asked: bool, agrees: bool) -> Counts {
-    let mut after = counts;
-    after.answers = one_more(counts.answers);
-    if is_asked {
-        after.asked = one_more(counts.asked);
-    }
-    if agrees {
-        after.agreed = one_more(counts.agreed);
-    }
-    after
-}
-
-// The numbers of an answer are those of a line.
-fn is_same(said: Said, out: &[u32], numbers: &[u32]) -> bool {
-    let first = [said.first, said.second, said.third, said.fourth, said.fifth];
-    if numbers.len() != further(said.count, said.more) {
-        return false;
-    }
-    if !row_buffer::same_cells(part(&first, 0, said.count), part(numbers, 0, said.count)) {
-        return false;
-    }
-    let more = part(out, 0, further(0, said.more));
-    row_buffer::same_cells(more, part(numbers, said.count, numbers.len()))
-}
-
-// The answer against the list's line at a place.
-fn judge(counts: Counts, said: Said, out: &[u32], text: &[u8], place: usize) -> Judged {
-    let mut numbers = [0u32; 64];
-    let line = read_line(text, place, &mut numbers);
-    let mut agrees = false;
-    if said.letter == line.letter {
-        agrees = is_same(said, out, part(&numbers, 0, line.count));
-    }
-    Judged {
-        counts: counted(counts, said.letter != UNASKED, agrees),
-        place: line.next,
-    }
 }
 
 // The table, the place in the list, and what was counted.

@@ -2,6 +2,9 @@
 // letter and numbers. Nothing is asked of a caller: a number that a line lacks counts as 0.
 use table::Header;
 
+// The letter of an answer that is not asked for: to a question with a list of conditions.
+pub const UNASKED: u8 = b'?';
+
 // An answer: the header that is left, the letter, its first numbers, as many as `count` says, and how many more stand at the start
 // of the lent ones.
 pub struct Said {

@@ -3,6 +3,7 @@ use constraints::Constraint;
 use offsets::SubsetAnswer;
 use offsets::SubsetHead;
 use recorded_lines::Said;
+use recorded_lines::UNASKED;
 use recorded_lines::further;
 use recorded_lines::number_at;
 use recorded_lines::part;
@@ -16,9 +17,6 @@ use table::Header;
 use table::RangeAnswer;
 use table::RowAnswer;
 use table::VersionAnswer;
-
-// The letter of a question that is not put here: those with a list of conditions.
-pub const UNASKED: u8 = b'?';
 
 // The place of a row's first cell: as far on as its number, once for each column.
 fn row_place(row: u32, columns: u32) -> usize {
