@@ -216,7 +216,8 @@ impl Table {
 
     /// Drops what is staged, and all rows. Refused by 10, if there are rows.
     pub fn clear(&mut self) -> Result<(), Refusal> {
-        lent::clear(&mut self.stores.header, &mut self.stores.keys)
+        let s = &mut self.stores;
+        lent::clear(&mut s.header, &s.rows, &mut s.keys)
     }
 
     /// The live row of a key. Refused by 3.

@@ -184,18 +184,18 @@ module _ (h : Header) (b : Body) (w : CompactionWords) (answer : TableAnswer) (b
     pub table : compactRefusal h (lengthsLent (joined h b []) w) ≡ 0
         → (pending : List ℕ) (p : Plain) → Represents p (joined h b pending) → CompactedTable pending p
 
--- *Clear*: lent keys
-module _ (h : Header) (keys : List ℕ) (answer : TableAnswer) (keys′ : List ℕ) where
-  pub record ClearedTable (rows sorts pending : List ℕ) (p : Plain) : Type 0 where
+-- *Clear*: lent rows and keys; rows are lent shared
+module _ (h : Header) (rows keys : List ℕ) (answer : TableAnswer) (keys′ : List ℕ) where
+  pub record ClearedTable (sorts pending : List ℕ) (p : Plain) : Type 0 where
     pub answers : tableSays answer ≡ accepted (headerOf (cleared p))
     pub represents : Represents (cleared p) (stores (headerOf (cleared p)) rows keys′ sorts pending)
 
   pub record Clearing : Type 0 where
-    pub refusal : verdict (tableSays answer) ≡ reply (clearRefusal h (length keys)) tt
-    pub unchanged : 0 < clearRefusal h (length keys) → keys′ ≡ keys
+    pub refusal : verdict (tableSays answer) ≡ reply (clearRefusal h (length rows) (length keys)) tt
+    pub unchanged : 0 < clearRefusal h (length rows) (length keys) → keys′ ≡ keys
     pub past : SlotsPast (h .capacity) keys keys′
-    pub table : clearRefusal h (length keys) ≡ 0
-        → (rows sorts pending : List ℕ) (p : Plain) → Represents p (stores h rows keys sorts pending) → ClearedTable rows sorts pending p
+    pub table : clearRefusal h (length rows) (length keys) ≡ 0
+        → (sorts pending : List ℕ) (p : Plain) → Represents p (stores h rows keys sorts pending) → ClearedTable sorts pending p
 
 -- *Key lookup, one cell*: lent rows and keys, and looked up in those alone, as a plain table of these rows: the key store must
 -- be sound, and live keys differ. "No live row is *none*"

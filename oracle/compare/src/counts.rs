@@ -115,8 +115,9 @@ const RULES: [&str; 4] = [
 ];
 
 /// What a gate's run must have seen besides; the recorded list is too small for it.
-const GATE: [&str; 20] = [
+const GATE: [&str; 21] = [
     "merge: compacts more than 64 rows",
+    "clear: few rows of a large capacity",
     "full size: filled",
     "full size: stop 8",
     "full size: half of the rows dead",
@@ -474,7 +475,12 @@ impl Counts {
             }
             (Call::Compact, _) if before.dead > 0 => self.feature("compact: with dead rows"),
             (Call::Compact, _) => self.feature("compact: without dead rows"),
-            (Call::Clear, _) if before.rows > 0 => self.feature("clear: with rows"),
+            (Call::Clear, _) if before.rows > 0 => {
+                self.feature("clear: with rows");
+                if 64 * before.rows <= o.capacity {
+                    self.feature("clear: few rows of a large capacity");
+                }
+            }
             (Call::Clear, _) => self.feature("clear: without rows"),
             _ => {}
         }

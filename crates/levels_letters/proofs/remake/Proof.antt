@@ -28,7 +28,7 @@ same-length-4 : tie.Need-same-length-4
 same-length-4 c = c .before .keys2 .given
 
 returns-2 : tie.Need-returns-2
-returns-2 c = as-letter (c .before .before .before .before .if2 .taken) (c .before .before .clear .ensures .serving _ _ _ _)
+returns-2 c = as-letter (c .before .before .before .before .if2 .taken) (c .before .before .clear .ensures .serving _ _ _)
 
 compact-requires : tie.Need-compact-requires
 compact-requires c κs = search needs

@@ -55,7 +55,7 @@ module _ {h h′ : Header} {rows keys sorts pending rows′ keys′ sorts′ : L
       rw (e, same) (one-made (lengths rows keys sorts pending live base) (compacted (compactionWords live base) answer (body rows′ keys′ sorts′) (compactionWords live′ base′) m))
 
 pub clearing-made : {h h′ : Header} {rows keys sorts pending keys′ : List ℕ} (live base : List ℕ) {calls : List Call} {answer : TableAnswer} → calls ≡ clearing ∷ []
-    → Clearing h keys answer keys′ → h′ ≡ headerAfter h (tableSays answer)
+    → Clearing h rows keys answer keys′ → h′ ≡ headerAfter h (tableSays answer)
     → Made calls (lengths rows keys sorts pending live base) (stores h rows keys sorts pending) (stores h′ rows keys′ sorts pending)
 unfolding lengthsFor
 clearing-made {h} {h′} {rows} {keys} {sorts} {pending} {keys′} live base {calls} {answer} e m same =

@@ -170,29 +170,29 @@ module _ (h : Header) (b : Body) (w : CompactionWords) (x y : Left TableAnswer) 
 
 -- ---- *Clear*
 
-module _ (h : Header) (keys : List ℕ) (a : TableAnswer) (keys₁ : List ℕ) (b : TableAnswer) (keys₂ : List ℕ) where
+module _ (h : Header) (rows keys : List ℕ) (a : TableAnswer) (keys₁ : List ℕ) (b : TableAnswer) (keys₂ : List ℕ) where
   pub record SameClear : Type 0 where
     -- of any stores: refused by the same number, or both accepted
     pub verdicts : verdict (tableSays a) ≡ verdict (tableSays b)
-    pub refused : 0 < clearRefusal h (length keys) → Same a b keys₁ keys₂
+    pub refused : 0 < clearRefusal h (length rows) (length keys) → Same a b keys₁ keys₂
     -- and what is never written
     pub slots-past : SlotsPast (h .capacity) keys₁ keys₂
     -- of a table, all: no row is left, so that every slot is free
-    pub table : (rows sorts pending : List ℕ) (p : Plain) → Represents p (stores h rows keys sorts pending) → Same a b keys₁ keys₂
+    pub table : (sorts pending : List ℕ) (p : Plain) → Represents p (stores h rows keys sorts pending) → Same a b keys₁ keys₂
 
-  pub clearing-determined : Clearing h keys a keys₁ → Clearing h keys b keys₂ → SameClear
+  pub clearing-determined : Clearing h rows keys a keys₁ → Clearing h rows keys b keys₂ → SameClear
   clearing-determined u v =
-      let alike : 0 < clearRefusal h (length keys) → Same a b keys₁ keys₂ =
+      let alike : 0 < clearRefusal h (length rows) (length keys) → Same a b keys₁ keys₂ =
       λ some. record { answer = refused-same table-said (u .refusal) (v .refusal) some; cells = u .unchanged some ∙ sym (v .unchanged some) } in
       record {
         verdicts = u .refusal ∙ sym (v .refusal);
         refused = alike;
         slots-past = v .past ∙ sym (u .past);
-        table = λ rows sorts pending p t.
+        table = λ sorts pending p t.
             ⊎-elim
             (λ none.
-            let e = u .table none rows sorts pending p t in
-            let f = v .table none rows sorts pending p t in
+            let e = u .table none sorts pending p t in
+            let f = v .table none sorts pending p t in
             let c : h .capacity ≡ cleared p .opening .capacity =
             ap (λ (g : Header). g .capacity) (t .shown .header) ∙ ap (λ (o : Opening). o .capacity) (sym (cleared-opening p)) in
             record {
@@ -200,7 +200,7 @@ module _ (h : Header) (keys : List ℕ) (a : TableAnswer) (keys₁ : List ℕ) (
               cells = empty-keys (cleared p) _ rows sorts pending keys₁ keys₂ (cleared-rows p) (e .represents) (f .represents) (rw c at (v .past ∙ sym (u .past)));
             })
             alike
-            (some-number (clearRefusal h (length keys)));
+            (some-number (clearRefusal h (length rows) (length keys)));
       }
 
 -- ---- *Key lookup*, *one cell*, *Fast range*

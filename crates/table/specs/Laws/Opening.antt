@@ -13,6 +13,7 @@ use Rattle.lists.specs.Laws.Parts.{length-putAt}
 use Rattle.refusals.specs.Refusals.{accepted, reply, verdict}
 use Rattle.refusals.specs.Laws.Replies.{some-number}
 use Rattle.sort_entries.specs.Entries.{entriesOf, rebuilt, pushAll}
+use Rattle.key_index.specs.Slots.{KeysSound}
 use Rattle.key_index.specs.inner.Index.{zeros, EmptyIs}
 use Rattle.key_index.specs.Laws.Index.{emptied, empty-sound}
 use Rattle.plain.specs.Staged.{Opening, openable, wordsAll}
@@ -26,7 +27,8 @@ use Rattle.table.specs.declared.TableAnswer.the-variants.{Refused, Table
 use Rattle.table.specs.Numbers.{openingOf, largestOf, tableSays}
 use Rattle.table.specs.Refusing.{clearRefusal}
 use Rattle.table.specs.Stores.{entries, headerOf, stored}
-use Rattle.table.specs.Promises.{Stores, stores, lengths, Represents, Opened, withPending, Clearing, body}
+use Rattle.table.specs.Sound.{keyedOf}
+use Rattle.table.specs.Promises.{Stores, stores, lengths, Represents, SlotsPast, Opened, withPending, Clearing, body}
 use Rattle.table.specs.Laws.Shown.{stores-long, long-stores, rows-counted}
 use Rattle.table.specs.Laws.Refusals.{clear-accepted}
 
@@ -147,9 +149,9 @@ unstaged-represents {p} {s} t =
 pub next-fits : (generation rows : ℕ) → generation ≤ 4294967295 → (generation ≡ 4294967295 → rows ≡ 0) → 0 < rows → generation + 1 ≤ 4294967295
 next-fits generation rows fits last some = elim (ℕ-discrete generation 4294967295) [ yes e ↦ absurd (omega (arith, last e)) | no ne ↦ omega arith ]
 
-module _ (h : Header) (keys : List ℕ) where
+module _ (h : Header) (rows keys : List ℕ) where
   -- one that is turned away
-  pub clear-refused : (n : ℕ) → n ≡ clearRefusal h (length keys) → (n ≡ 0 → ⊥) → Clearing h keys (Refused n) keys
+  pub clear-refused : (n : ℕ) → n ≡ clearRefusal h (length rows) (length keys) → (n ≡ 0 → ⊥) → Clearing h rows keys (Refused n) keys
   unfolding tableSays verdict reply
   clear-refused zero e ne = absurd (ne refl)
   clear-refused (suc n) e ne =
@@ -157,34 +159,35 @@ module _ (h : Header) (keys : List ℕ) where
         refusal = rw (← e);
         unchanged = λ k. refl;
         past = refl;
-        table = λ z rows sorts pending p t. absurd (omega arith);
+        table = λ z sorts pending p t. absurd (omega arith);
       }
 
   -- one of a table without rows
-  pub clear-pending : clearRefusal h (length keys) ≡ 0 → h .rows ≡ 0 → Clearing h keys (Table (withPending h 0)) keys
+  pub clear-pending : clearRefusal h (length rows) (length keys) ≡ 0 → h .rows ≡ 0 → Clearing h rows keys (Table (withPending h 0)) keys
   unfolding tableSays verdict reply
   clear-pending e none =
       record {
         refusal = rw e;
         unchanged = λ k. refl;
         past = refl;
-        table = λ z rows sorts pending p t.
+        table = λ z sorts pending p t.
             let q : cleared p ≡ unstaged p = cleared-none p (sym (rows-counted t) ∙ none) in
             let u = unstaged-represents t in
             record { answers = rw q (ap accepted (u .shown .header)); represents = rw (q, ← (u .shown .header)) u };
       }
 
   -- one of a table with rows
-  pub clear-all : (keys′ : List ℕ) → clearRefusal h (length keys) ≡ 0 → 0 < h .rows → EmptyIs (h .capacity) keys keys′
-      → Clearing h keys (Table (emptyHeader (openingOf h) (h .generation + 1))) keys′
+  pub clear-all : (keys′ : List ℕ) → clearRefusal h (length rows) (length keys) ≡ 0 → 0 < h .rows → SlotsPast (h .capacity) keys keys′
+      → (KeysSound (keyedOf h) rows keys → EmptyIs (h .capacity) keys keys′)
+      → Clearing h rows keys (Table (emptyHeader (openingOf h) (h .generation + 1))) keys′
   unfolding tableSays verdict reply
-  clear-all keys′ e some free =
-      let a = clear-accepted h (length keys) e in
+  clear-all keys′ e some past free =
+      let a = clear-accepted h (length rows) (length keys) e in
       record {
         refusal = rw e;
         unchanged = λ k. absurd (omega arith);
-        past = free .tail;
-        table = λ z rows sorts pending p t.
+        past = past;
+        table = λ z sorts pending p t.
             let q : cleared p ≡ opened (p .opening) (p .generation + 1) = cleared-some p (omega (arith, rows-counted t)) in
             let g : h .generation ≡ p .generation = ap (λ (x : Header). x .generation) (t .shown .header) in
             let o : openingOf h ≡ p .opening = ap openingOf (t .shown .header) in
@@ -192,6 +195,6 @@ module _ (h : Header) (keys : List ℕ) where
             let fits : p .generation + 1 ≤ 4294967295 = next-fits (p .generation) (h .rows) (t .proper .generation-fits) (rw g at (a .last-empty)) some in
             record {
               answers = rw (q, o, g) (ap accepted (header-opened (p .opening) (p .generation + 1)));
-              represents = rw q (empty-represents (p .opening) (p .generation + 1) rows keys keys′ sorts pending (t .proper .numbers) fits (t .long-enough) (rw k at free));
+              represents = rw q (empty-represents (p .opening) (p .generation + 1) rows keys keys′ sorts pending (t .proper .numbers) fits (t .long-enough) (rw k at (free (t .keyed))));
             };
       }

@@ -149,18 +149,21 @@ compact-accepted h l e =
 
 -- ---- *Clear*
 
-pub record Clearable (h : Header) (keys : ℕ) : Type 0 where
+pub record Clearable (h : Header) (rows keys : ℕ) : Type 0 where
   pub inside : Inside h
+  pub rows-long : h .capacity * h .columns ≤ rows
   pub keys-long : 2 * h .capacity ≤ keys
   pub last-empty : h .generation ≡ 4294967295 → h .rows ≡ 0
 
-pub clear-accepted : (h : Header) (keys : ℕ) → clearRefusal h keys ≡ 0 → Clearable h keys
-unfolding clearRefusal clearLadder pairsShort
-clear-accepted h keys e =
+pub clear-accepted : (h : Header) (rows keys : ℕ) → clearRefusal h rows keys ≡ 0 → Clearable h rows keys
+unfolding clearRefusal clearLadder rowsShort pairsShort
+clear-accepted h rows keys e =
     let rest = first-rest _ 0 _ e in
+    let b = first-no (rowsShort h rows || pairsShort h keys) 1 _ rest in
     record {
       inside = outside-inside h (first-no _ 0 _ e);
-      keys-long = pairs-long-of h keys (first-no _ 1 _ rest);
+      rows-long = rows-long-of h rows (or-no-left (rowsShort h rows) _ b);
+      keys-long = pairs-long-of h keys (or-no-right (rowsShort h rows) _ b);
       last-empty = λ last. empty (eq-eqb _ _ last) (first-no _ 9 _ (first-rest _ 1 _ rest));
     }
   where
