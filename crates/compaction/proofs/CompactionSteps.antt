@@ -15,7 +15,7 @@ use Rattle.lists.specs.Laws.Keep.{length-keep}
 use Rattle.lists.specs.Laws.Rows.{row-in}
 use Rattle.cells.specs.Cells.{isDead}
 use Rattle.constraints.specs.Constraints.{isLive}
-use Rattle.sort_entries.specs.Entries.{Entry, words, push, pushAll, rebuilt}
+use Rattle.sort_entries.specs.Entries.{Entry, entryWords, push, pushAll, rebuilt}
 use Rattle.sort_entries.specs.inner.Append.{Append}
 use Rattle.sort_entries.specs.Laws.Push.{push-few}
 use Rattle.row_buffer.specs.Ranks.{liveAt, liveWord, marks, newNumber}
@@ -81,7 +81,7 @@ module _ {h : Header} {rows sorts : List ℕ} {row : ℕ} {kept : Kept} (k : Kee
 
 module _ {h : Header} {rows₀ sorts₀ : List ℕ} where
   pub close-begin : Closing h rows₀ sorts₀ rows₀ sorts₀ (record { rows = 0; entries = 0 }) 0
-  unfolding liveStored entriesFor rowsOf keep flat rebuilt pushAll words
+  unfolding liveStored entriesFor rowsOf keep flat rebuilt pushAll entryWords
   close-begin =
       record {
         row-in = omega arith;
@@ -112,7 +112,7 @@ module _ {h : Header} {rows₀ sorts₀ : List ℕ} where
           counted = s .counted ∙ ap length same;
           closed = s .closed ∙ ap (λ (l : List (List ℕ)). putAt rows₀ 0 (flat l)) same;
           entered = s .entered ∙ ap (λ (l : List (List ℕ)). length (entriesFor (h .sort) l)) same;
-          recorded = s .recorded ∙ ap (λ (l : List (List ℕ)). putAt sorts₀ 0 (words (entriesFor (h .sort) l))) same;
+          recorded = s .recorded ∙ ap (λ (l : List (List ℕ)). putAt sorts₀ 0 (entryWords (entriesFor (h .sort) l))) same;
         }
 
     module _ (m : Movable h rows₀ sorts₀) where
@@ -158,7 +158,7 @@ module _ {h : Header} {rows₀ sorts₀ : List ℕ} where
           entries-grown : push cell (kept .rows) (entriesFor (h .sort) lv) ≡ entriesFor (h .sort) (liveStored (h .columns) (row + 1) rows₀)
           entries-grown = rw (grown, s .counted) (sym (entries-one (h .sort) lv (rowAt (h .columns) row rows₀)))
 
-          entries-after : (r ≡ length (push cell (kept .rows) (entriesFor (h .sort) lv))) × (sorts′ ≡ putAt sorts₀ 0 (words (push cell (kept .rows) (entriesFor (h .sort) lv))))
+          entries-after : (r ≡ length (push cell (kept .rows) (entriesFor (h .sort) lv))) × (sorts′ ≡ putAt sorts₀ 0 (entryWords (push cell (kept .rows) (entriesFor (h .sort) lv))))
           entries-after =
               let fits : 2 * length (entriesFor (h .sort) lv) + 2 ≤ length sorts₀ = omega (arith, s .entered, s .entries-few, s .kept-few, more, m .within .count, m .sorts-long) in
               rebuild-one sorts₀ (entriesFor (h .sort) lv) fits cell (kept .rows) (kept .entries) r sorts′ (s .entered) (rw (s .recorded, next-same) at (k .recorded))
@@ -182,7 +182,7 @@ module _ {h : Header} {rows₀ sorts₀ : List ℕ} where
                 counted = ap (λ (n : ℕ). n + 1) (s .counted) ∙ sym (ap length grown ∙ length-append lv (rowAt (h .columns) row rows₀ ∷ []));
                 closed = rows-after;
                 entered = entries-after .0 ∙ ap length entries-grown;
-                recorded = entries-after .1 ∙ ap (λ (l : List Entry). putAt sorts₀ 0 (words l)) entries-grown;
+                recorded = entries-after .1 ∙ ap (λ (l : List Entry). putAt sorts₀ 0 (entryWords l)) entries-grown;
               }
 
 -- ---- the rows that a word marks

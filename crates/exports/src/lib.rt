@@ -2,7 +2,7 @@
 ghost use mathlib.Core.Path.{_≡_};
 ghost use Rattle.plain.specs.Staged.{insert, removeKey, removeRow};
 ghost use Rattle.table.specs.Promises.{stores, body, compactionWords, opening, Opened, Staging, Merging, Compacting, Clearing, Checked};
-ghost use Rattle.words.specs.Words.{headerIn, soundNumber, soundWords, Called, MergeCalled, Asked};
+ghost use Rattle.words.specs.Words.{headerIn, soundNumber, soundWords, CallInWords, MergeInWords, QuestionInWords};
 use words::header_of;
 use words::write_merge;
 use words::write_sound;
@@ -22,7 +22,7 @@ pub extern "C" fn mouldgrey_open_table(
     sorts: &[u32],
     pending: &[u32],
 ) -> u32
-    ensures { λ r. ⌜ Called (λ answer. Opened (opening columns «key_columns» sort rule capacity) generation (body (now (rows .entry)) (now (keys .entry)) (now (sorts .entry))) (now (pending .entry)) answer (now (keys .exit))) (now (keys .exit) ≡ now (keys .entry)) (now (header .entry)) r (now (header .exit)) ⌝ }
+    ensures { λ r. ⌜ CallInWords (λ answer. Opened (opening columns «key_columns» sort rule capacity) generation (body (now (rows .entry)) (now (keys .entry)) (now (sorts .entry))) (now (pending .entry)) answer (now (keys .exit))) (now (keys .exit) ≡ now (keys .entry)) (now (header .entry)) r (now (header .exit)) ⌝ }
 {
     if header.len() != 12 {
         return 1;
@@ -48,7 +48,7 @@ pub extern "C" fn mouldgrey_stage_insert(
     pending: &mut [u32],
     cells: &[u32],
 ) -> u32
-    ensures { λ r. ⌜ Called (λ answer. Staging (headerIn (now (header .entry))) (now (pending .entry)) (insert (now (cells .entry))) answer (now (pending .exit))) (now (pending .exit) ≡ now (pending .entry)) (now (header .entry)) r (now (header .exit)) ⌝ }
+    ensures { λ r. ⌜ CallInWords (λ answer. Staging (headerIn (now (header .entry))) (now (pending .entry)) (insert (now (cells .entry))) answer (now (pending .exit))) (now (pending .exit) ≡ now (pending .entry)) (now (header .entry)) r (now (header .exit)) ⌝ }
 {
     if header.len() != 12 {
         return 1;
@@ -63,7 +63,7 @@ pub extern "C" fn mouldgrey_stage_remove(
     pending: &mut [u32],
     key: &[u32],
 ) -> u32
-    ensures { λ r. ⌜ Called (λ answer. Staging (headerIn (now (header .entry))) (now (pending .entry)) (removeKey (now (key .entry))) answer (now (pending .exit))) (now (pending .exit) ≡ now (pending .entry)) (now (header .entry)) r (now (header .exit)) ⌝ }
+    ensures { λ r. ⌜ CallInWords (λ answer. Staging (headerIn (now (header .entry))) (now (pending .entry)) (removeKey (now (key .entry))) answer (now (pending .exit))) (now (pending .exit) ≡ now (pending .entry)) (now (header .entry)) r (now (header .exit)) ⌝ }
 {
     if header.len() != 12 {
         return 1;
@@ -79,7 +79,7 @@ pub extern "C" fn mouldgrey_stage_remove_row(
     row: u32,
     key: &[u32],
 ) -> u32
-    ensures { λ r. ⌜ Called (λ answer. Staging (headerIn (now (header .entry))) (now (pending .entry)) (removeRow row (now (key .entry))) answer (now (pending .exit))) (now (pending .exit) ≡ now (pending .entry)) (now (header .entry)) r (now (header .exit)) ⌝ }
+    ensures { λ r. ⌜ CallInWords (λ answer. Staging (headerIn (now (header .entry))) (now (pending .entry)) (removeRow row (now (key .entry))) answer (now (pending .exit))) (now (pending .exit) ≡ now (pending .entry)) (now (header .entry)) r (now (header .exit)) ⌝ }
 {
     if header.len() != 12 {
         return 1;
@@ -101,7 +101,7 @@ pub extern "C" fn mouldgrey_merge(
     base: &mut [u32],
     words: &mut [u32],
 ) -> u32
-    ensures { λ r. ⌜ MergeCalled (λ answer. Merging (stores (headerIn (now (header .entry))) (now (rows .entry)) (now (keys .entry)) (now (sorts .entry)) (now (pending .entry))) (compactionWords (now (live .entry)) (now (base .entry))) answer (body (now (rows .exit)) (now (keys .exit)) (now (sorts .exit))) (compactionWords (now (live .exit)) (now (base .exit)))) ((now (rows .exit) ≡ now (rows .entry)) × (now (keys .exit) ≡ now (keys .entry)) × (now (sorts .exit) ≡ now (sorts .entry)) × (now (live .exit) ≡ now (live .entry)) × (now (base .exit) ≡ now (base .entry))) (now (header .entry)) (now (words .entry)) r (now (header .exit)) (now (words .exit)) ⌝ }
+    ensures { λ r. ⌜ MergeInWords (λ answer. Merging (stores (headerIn (now (header .entry))) (now (rows .entry)) (now (keys .entry)) (now (sorts .entry)) (now (pending .entry))) (compactionWords (now (live .entry)) (now (base .entry))) answer (body (now (rows .exit)) (now (keys .exit)) (now (sorts .exit))) (compactionWords (now (live .exit)) (now (base .exit)))) ((now (rows .exit) ≡ now (rows .entry)) × (now (keys .exit) ≡ now (keys .entry)) × (now (sorts .exit) ≡ now (sorts .entry)) × (now (live .exit) ≡ now (live .entry)) × (now (base .exit) ≡ now (base .entry))) (now (header .entry)) (now (words .entry)) r (now (header .exit)) (now (words .exit)) ⌝ }
 {
     if header.len() != 12 {
         return 1;
@@ -122,7 +122,7 @@ pub extern "C" fn mouldgrey_compact(
     live: &mut [u64],
     base: &mut [u32],
 ) -> u32
-    ensures { λ r. ⌜ Called (λ answer. Compacting (headerIn (now (header .entry))) (body (now (rows .entry)) (now (keys .entry)) (now (sorts .entry))) (compactionWords (now (live .entry)) (now (base .entry))) answer (body (now (rows .exit)) (now (keys .exit)) (now (sorts .exit))) (compactionWords (now (live .exit)) (now (base .exit)))) ((now (rows .exit) ≡ now (rows .entry)) × (now (keys .exit) ≡ now (keys .entry)) × (now (sorts .exit) ≡ now (sorts .entry)) × (now (live .exit) ≡ now (live .entry)) × (now (base .exit) ≡ now (base .entry))) (now (header .entry)) r (now (header .exit)) ⌝ }
+    ensures { λ r. ⌜ CallInWords (λ answer. Compacting (headerIn (now (header .entry))) (body (now (rows .entry)) (now (keys .entry)) (now (sorts .entry))) (compactionWords (now (live .entry)) (now (base .entry))) answer (body (now (rows .exit)) (now (keys .exit)) (now (sorts .exit))) (compactionWords (now (live .exit)) (now (base .exit)))) ((now (rows .exit) ≡ now (rows .entry)) × (now (keys .exit) ≡ now (keys .entry)) × (now (sorts .exit) ≡ now (sorts .entry)) × (now (live .exit) ≡ now (live .entry)) × (now (base .exit) ≡ now (base .entry))) (now (header .entry)) r (now (header .exit)) ⌝ }
 {
     if header.len() != 12 {
         return 1;
@@ -133,7 +133,7 @@ pub extern "C" fn mouldgrey_compact(
 
 #[no_mangle]
 pub extern "C" fn mouldgrey_clear(header: &mut [u32], rows: &[u32], keys: &mut [u32]) -> u32
-    ensures { λ r. ⌜ Called (λ answer. Clearing (headerIn (now (header .entry))) (now (rows .entry)) (now (keys .entry)) answer (now (keys .exit))) (now (keys .exit) ≡ now (keys .entry)) (now (header .entry)) r (now (header .exit)) ⌝ }
+    ensures { λ r. ⌜ CallInWords (λ answer. Clearing (headerIn (now (header .entry))) (now (rows .entry)) (now (keys .entry)) answer (now (keys .exit))) (now (keys .exit) ≡ now (keys .entry)) (now (header .entry)) r (now (header .exit)) ⌝ }
 {
     if header.len() != 12 {
         return 1;
@@ -152,7 +152,7 @@ pub extern "C" fn mouldgrey_is_sound(
     pending: &[u32],
     words: &mut [u32],
 ) -> u32
-    ensures { λ r. ⌜ Asked (λ answer. Checked (headerIn (now (header .entry))) (now (rows .entry)) (now (keys .entry)) (now (sorts .entry)) (now (pending .entry)) answer) soundNumber soundWords 1 (now (header .entry)) (now (words .entry)) r (now (words .exit)) ⌝ }
+    ensures { λ r. ⌜ QuestionInWords (λ answer. Checked (headerIn (now (header .entry))) (now (rows .entry)) (now (keys .entry)) (now (sorts .entry)) (now (pending .entry)) answer) soundNumber soundWords 1 (now (header .entry)) (now (words .entry)) r (now (words .exit)) ⌝ }
 {
     if header.len() != 12 {
         return 1;

@@ -4,7 +4,7 @@ ghost use mathlib.Core.Path.{_≡_};
 ghost use lib.ListN.{length};
 ghost use Rattle.offsets.specs.Answers.{subsetOf};
 ghost use Rattle.queries.specs.Queries.{RefinedList, Matched, PageRead};
-ghost use Rattle.words.specs.Words.{headerIn, Asked, subsetNumber, subsetWords};
+ghost use Rattle.words.specs.Words.{headerIn, QuestionInWords, subsetNumber, subsetWords};
 ghost use Rattle.asking.specs.Asking.{matchNumber, matchWords, pageNumber, pageWords};
 use asking::header_asked;
 use asking::tell_match;
@@ -26,7 +26,7 @@ pub extern "C" fn mouldgrey_refine_ref(
     output: &mut [u32],
     words: &mut [u32],
 ) -> u32
-    ensures { λ r. ⌜ Asked (λ answer. RefinedList (headerIn (now (header .entry))) (now (rows .entry)) (subsetOf (record { dense = dense; start = start; end = end }) (now (ids .entry))) (now (conditions .entry)) (now (output .entry)) answer (now (output .exit))) subsetNumber subsetWords 3 (now (header .entry)) (now (words .entry)) r (now (words .exit)) × (((length (now (header .entry)) ≡ 12) × (length (now (words .entry)) ≡ 3) → ⊥) → now (output .exit) ≡ now (output .entry)) ⌝ }
+    ensures { λ r. ⌜ QuestionInWords (λ answer. RefinedList (headerIn (now (header .entry))) (now (rows .entry)) (subsetOf (record { dense = dense; start = start; end = end }) (now (ids .entry))) (now (conditions .entry)) (now (output .entry)) answer (now (output .exit))) subsetNumber subsetWords 3 (now (header .entry)) (now (words .entry)) r (now (words .exit)) × (((length (now (header .entry)) ≡ 12) × (length (now (words .entry)) ≡ 3) → ⊥) → now (output .exit) ≡ now (output .entry)) ⌝ }
 {
     let h = header_asked(header, words.len(), 3);
     let head = SubsetHead { dense, start, end };
@@ -46,7 +46,7 @@ pub extern "C" fn mouldgrey_contains_match(
     conditions: &[Constraint],
     words: &mut [u32],
 ) -> u32
-    ensures { λ r. ⌜ Asked (Matched (headerIn (now (header .entry))) (now (rows .entry)) (subsetOf (record { dense = dense; start = start; end = end }) (now (ids .entry))) (now (conditions .entry))) matchNumber matchWords 1 (now (header .entry)) (now (words .entry)) r (now (words .exit)) ⌝ }
+    ensures { λ r. ⌜ QuestionInWords (Matched (headerIn (now (header .entry))) (now (rows .entry)) (subsetOf (record { dense = dense; start = start; end = end }) (now (ids .entry))) (now (conditions .entry))) matchNumber matchWords 1 (now (header .entry)) (now (words .entry)) r (now (words .exit)) ⌝ }
 {
     let h = header_asked(header, words.len(), 1);
     let head = SubsetHead { dense, start, end };
@@ -70,7 +70,7 @@ pub extern "C" fn mouldgrey_read_page(
     output: &mut [u32],
     words: &mut [u32],
 ) -> u32
-    ensures { λ r. ⌜ Asked (λ answer. PageRead (headerIn (now (header .entry))) (now (rows .entry)) (subsetOf (record { dense = dense; start = start; end = end }) (now (ids .entry))) place n (now (conditions .entry)) (now (output .entry)) answer (now (output .exit))) pageNumber pageWords 4 (now (header .entry)) (now (words .entry)) r (now (words .exit)) × (((length (now (header .entry)) ≡ 12) × (length (now (words .entry)) ≡ 4) → ⊥) → now (output .exit) ≡ now (output .entry)) ⌝ }
+    ensures { λ r. ⌜ QuestionInWords (λ answer. PageRead (headerIn (now (header .entry))) (now (rows .entry)) (subsetOf (record { dense = dense; start = start; end = end }) (now (ids .entry))) place n (now (conditions .entry)) (now (output .entry)) answer (now (output .exit))) pageNumber pageWords 4 (now (header .entry)) (now (words .entry)) r (now (words .exit)) × (((length (now (header .entry)) ≡ 12) × (length (now (words .entry)) ≡ 4) → ⊥) → now (output .exit) ≡ now (output .entry)) ⌝ }
 {
     let h = header_asked(header, words.len(), 4);
     let head = SubsetHead { dense, start, end };

@@ -2,10 +2,10 @@
 ghost use mathlib.Core.Path.{_≡_};
 ghost use lib.ListN.{length};
 ghost use Rattle.table.specs.Promises.{LookedUp, CellRead, RangeRead, RowsSince, NotedRows, VersionRead};
-ghost use Rattle.words.specs.Words.{headerIn, rowNumber, rowWords, cellNumber, cellWords, rangeNumber, rangeWords, versionNumber, versionWords, Asked, subsetNumber, subsetWords};
+ghost use Rattle.words.specs.Words.{headerIn, rowNumber, rowWords, cellNumber, cellWords, rangeNumber, rangeWords, versionNumber, versionWords, QuestionInWords, subsetNumber, subsetWords};
 ghost use Rattle.offsets.specs.Answers.{subsetOf};
 ghost use Rattle.queries.specs.Queries.{RefinedOne};
-ghost use Rattle.exports_questions.specs.Intersecting.{Intersected};
+ghost use Rattle.exports_questions.specs.Intersecting.{IntersectInWords};
 use constraints::Constraint;
 use offsets::SubsetHead;
 use words::header_of;
@@ -23,7 +23,7 @@ pub extern "C" fn mouldgrey_get_row(
     key: &[u32],
     words: &mut [u32],
 ) -> u32
-    ensures { λ r. ⌜ Asked (λ answer. LookedUp (headerIn (now (header .entry))) (now (rows .entry)) (now (keys .entry)) (now (key .entry)) answer) rowNumber rowWords 2 (now (header .entry)) (now (words .entry)) r (now (words .exit)) ⌝ }
+    ensures { λ r. ⌜ QuestionInWords (λ answer. LookedUp (headerIn (now (header .entry))) (now (rows .entry)) (now (keys .entry)) (now (key .entry)) answer) rowNumber rowWords 2 (now (header .entry)) (now (words .entry)) r (now (words .exit)) ⌝ }
 {
     if header.len() != 12 {
         return 1;
@@ -44,7 +44,7 @@ pub extern "C" fn mouldgrey_get_row_column(
     column: u32,
     words: &mut [u32],
 ) -> u32
-    ensures { λ r. ⌜ Asked (λ answer. CellRead (headerIn (now (header .entry))) (now (rows .entry)) (now (keys .entry)) (now (key .entry)) column answer) cellNumber cellWords 2 (now (header .entry)) (now (words .entry)) r (now (words .exit)) ⌝ }
+    ensures { λ r. ⌜ QuestionInWords (λ answer. CellRead (headerIn (now (header .entry))) (now (rows .entry)) (now (keys .entry)) (now (key .entry)) column answer) cellNumber cellWords 2 (now (header .entry)) (now (words .entry)) r (now (words .exit)) ⌝ }
 {
     if header.len() != 12 {
         return 1;
@@ -65,7 +65,7 @@ pub extern "C" fn mouldgrey_fast_subset(
     value: u32,
     words: &mut [u32],
 ) -> u32
-    ensures { λ r. ⌜ Asked (λ answer. RangeRead (headerIn (now (header .entry))) (now (sorts .entry)) (record { kind = kind; column = column; value = value }) answer) rangeNumber rangeWords 3 (now (header .entry)) (now (words .entry)) r (now (words .exit)) ⌝ }
+    ensures { λ r. ⌜ QuestionInWords (λ answer. RangeRead (headerIn (now (header .entry))) (now (sorts .entry)) (record { kind = kind; column = column; value = value }) answer) rangeNumber rangeWords 3 (now (header .entry)) (now (words .entry)) r (now (words .exit)) ⌝ }
 {
     if header.len() != 12 {
         return 1;
@@ -84,7 +84,7 @@ pub extern "C" fn mouldgrey_fast_subset(
 
 #[no_mangle]
 pub extern "C" fn mouldgrey_updates_since(header: &[u32], row: u32, words: &mut [u32]) -> u32
-    ensures { λ r. ⌜ Asked (λ answer. RowsSince (headerIn (now (header .entry))) row answer) rangeNumber rangeWords 3 (now (header .entry)) (now (words .entry)) r (now (words .exit)) ⌝ }
+    ensures { λ r. ⌜ QuestionInWords (λ answer. RowsSince (headerIn (now (header .entry))) row answer) rangeNumber rangeWords 3 (now (header .entry)) (now (words .entry)) r (now (words .exit)) ⌝ }
 {
     if header.len() != 12 {
         return 1;
@@ -103,7 +103,7 @@ pub extern "C" fn mouldgrey_rows_since(
     count: u32,
     words: &mut [u32],
 ) -> u32
-    ensures { λ r. ⌜ Asked (λ answer. NotedRows (headerIn (now (header .entry))) generation count answer) rangeNumber rangeWords 3 (now (header .entry)) (now (words .entry)) r (now (words .exit)) ⌝ }
+    ensures { λ r. ⌜ QuestionInWords (λ answer. NotedRows (headerIn (now (header .entry))) generation count answer) rangeNumber rangeWords 3 (now (header .entry)) (now (words .entry)) r (now (words .exit)) ⌝ }
 {
     if header.len() != 12 {
         return 1;
@@ -118,7 +118,7 @@ pub extern "C" fn mouldgrey_rows_since(
 // The answer goes into two words: generation and row count.
 #[no_mangle]
 pub extern "C" fn mouldgrey_version(header: &[u32], words: &mut [u32]) -> u32
-    ensures { λ r. ⌜ Asked (λ answer. VersionRead (headerIn (now (header .entry))) answer) versionNumber versionWords 2 (now (header .entry)) (now (words .entry)) r (now (words .exit)) ⌝ }
+    ensures { λ r. ⌜ QuestionInWords (λ answer. VersionRead (headerIn (now (header .entry))) answer) versionNumber versionWords 2 (now (header .entry)) (now (words .entry)) r (now (words .exit)) ⌝ }
 {
     if header.len() != 12 {
         return 1;
@@ -146,7 +146,7 @@ pub extern "C" fn mouldgrey_refine_one(
     output: &mut [u32],
     words: &mut [u32],
 ) -> u32
-    ensures { λ r. ⌜ Asked (λ answer. RefinedOne (headerIn (now (header .entry))) (now (rows .entry)) (subsetOf (record { dense = dense; start = start; end = end }) (now (ids .entry))) (record { kind = kind; column = column; value = value }) (now (output .entry)) answer (now (output .exit))) subsetNumber subsetWords 3 (now (header .entry)) (now (words .entry)) r (now (words .exit)) × (((length (now (header .entry)) ≡ 12) × (length (now (words .entry)) ≡ 3) → ⊥) → now (output .exit) ≡ now (output .entry)) ⌝ }
+    ensures { λ r. ⌜ QuestionInWords (λ answer. RefinedOne (headerIn (now (header .entry))) (now (rows .entry)) (subsetOf (record { dense = dense; start = start; end = end }) (now (ids .entry))) (record { kind = kind; column = column; value = value }) (now (output .entry)) answer (now (output .exit))) subsetNumber subsetWords 3 (now (header .entry)) (now (words .entry)) r (now (words .exit)) × (((length (now (header .entry)) ≡ 12) × (length (now (words .entry)) ≡ 3) → ⊥) → now (output .exit) ≡ now (output .entry)) ⌝ }
 {
     if header.len() != 12 {
         return 1;
@@ -178,7 +178,7 @@ pub extern "C" fn mouldgrey_intersect(
     output: &mut [u32],
     words: &mut [u32],
 ) -> u32
-    ensures { λ r. ⌜ Intersected (subsetOf (record { dense = dense; start = start; end = end }) (now (ids .entry))) (subsetOf (record { dense = «other_dense»; start = «other_start»; end = «other_end» }) (now («other_ids» .entry))) (now (output .entry)) (now (words .entry)) r (now (output .exit)) (now (words .exit)) ⌝ }
+    ensures { λ r. ⌜ IntersectInWords (subsetOf (record { dense = dense; start = start; end = end }) (now (ids .entry))) (subsetOf (record { dense = «other_dense»; start = «other_start»; end = «other_end» }) (now («other_ids» .entry))) (now (output .entry)) (now (words .entry)) r (now (output .exit)) (now (words .exit)) ⌝ }
 {
     if words.len() != 3 {
         return 2;

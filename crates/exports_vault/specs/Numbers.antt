@@ -10,7 +10,7 @@ unfoldable pub columnsNumber : ColumnsAnswer → ℕ
 columnsNumber (Refused n) = n
 columnsNumber Written = 0
 
-pub record Numbered (promise : ColumnsAnswer → Type 0) (r : ℕ) : Type 0 where
+pub record AnswerNumbered (promise : ColumnsAnswer → Type 0) (r : ℕ) : Type 0 where
   pub answer : ColumnsAnswer
   pub promised : promise answer
   pub numbered : r ≡ columnsNumber answer

@@ -9,22 +9,22 @@ use mathlib.Core.List.{List, [], _∷_, _++_, map}
 use Rattle.refusals.specs.Refusals.{Reply, refused, accepted, verdict}
 use Rattle.plain.specs.Staged.{insert}
 use Rattle.plain.specs.Refusing.{Lengths}
-use Rattle.plain.specs.Calls.{staging, merging, Lent}
+use Rattle.plain.specs.Calls.{staging, merging, LentCall}
 use Rattle.table.specs.declared.Merge.{Merge}
 use Rattle.table.specs.Numbers.{tableSays, mergeSays}
 use Rattle.table.specs.Sound.{Sound}
 use Rattle.table.specs.Promises.{Stores}
-use Rattle.history.specs.Histories.{Called, staged, merged, compacted, cleared, Step, called}
+use Rattle.history.specs.Histories.{Called, stages, merges, compacts, clears, Step, called}
 use Rattle.history.specs.Claim.{liveIn}
 
 -- whether a call was refused, by its answer
-unfoldable pub verdictIn : {s t : Stores} {c : Lent} → Called s c t → Reply (Unit {0})
-verdictIn (staged r answer pending′ promise) = verdict (tableSays answer)
-verdictIn (merged w answer b′ w′ promise) = verdict (mergeSays answer)
-verdictIn (compacted w answer b′ w′ promise) = verdict (tableSays answer)
-verdictIn (cleared answer keys′ promise) = verdict (tableSays answer)
+unfoldable pub verdictIn : {s t : Stores} {c : LentCall} → Called s c t → Reply (Unit {0})
+verdictIn (stages r answer pending′ promise) = verdict (tableSays answer)
+verdictIn (merges w answer b′ w′ promise) = verdict (mergeSays answer)
+verdictIn (compacts w answer b′ w′ promise) = verdict (tableSays answer)
+verdictIn (clears answer keys′ promise) = verdict (tableSays answer)
 
-unfoldable pub verdictOf : {s t : Stores} {c : Lent} → Step s c t → Reply (Unit {0})
+unfoldable pub verdictOf : {s t : Stores} {c : LentCall} → Step s c t → Reply (Unit {0})
 verdictOf (called rest pending call) = verdictIn call
 
 -- the number that a merge answered it had stopped with, 0 if it had not
@@ -32,13 +32,13 @@ unfoldable pub statusTold : Reply Merge → ℕ
 statusTold (refused n) = 0
 statusTold (accepted m) = m .status
 
-unfoldable pub statusIn : {s t : Stores} {c : Lent} → Called s c t → ℕ
-statusIn (staged r answer pending′ promise) = 0
-statusIn (merged w answer b′ w′ promise) = statusTold (mergeSays answer)
-statusIn (compacted w answer b′ w′ promise) = 0
-statusIn (cleared answer keys′ promise) = 0
+unfoldable pub statusIn : {s t : Stores} {c : LentCall} → Called s c t → ℕ
+statusIn (stages r answer pending′ promise) = 0
+statusIn (merges w answer b′ w′ promise) = statusTold (mergeSays answer)
+statusIn (compacts w answer b′ w′ promise) = 0
+statusIn (clears answer keys′ promise) = 0
 
-unfoldable pub statusOf : {s t : Stores} {c : Lent} → Step s c t → ℕ
+unfoldable pub statusOf : {s t : Stores} {c : LentCall} → Step s c t → ℕ
 statusOf (called rest pending call) = statusIn call
 
 -- a batch of inserts alone: its rows staged in turn, then a merge; "no call is refused and none of the .. merges stops"

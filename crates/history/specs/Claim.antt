@@ -9,7 +9,7 @@ use Rattle.offsets.specs.Subsets.{Subset, members}
 use Rattle.constraints.specs.Constraints.{isLive, met}
 use Rattle.plain.specs.Staged.{Opening}
 use Rattle.plain.specs.Plain.{Numbered, liveFrom, liveRows, opened}
-use Rattle.plain.specs.Calls.{Lent, afterAll}
+use Rattle.plain.specs.Calls.{LentCall, afterAll}
 use Rattle.table.specs.Stores.{rowsIn}
 use Rattle.table.specs.Promises.{Stores}
 use Rattle.history.specs.Histories.{History}
@@ -27,7 +27,7 @@ wanted s g id =
     && every (λ subset. has id (members subset)) (g .subsets)
     && every (met (rowAt (s .header .columns) id (s .rows))) (g .conditions)
 
-pub record Claimed (o : Opening) (generation : ℕ) (calls : List Lent) (s : Stores) : Type 0 where
+pub record Claimed (o : Opening) (generation : ℕ) (calls : List LentCall) (s : Stores) : Type 0 where
   -- "the live rows, numbers and cells, are those of document 01's plain table after the same calls"
   pub live-rows : liveIn s ≡ liveRows (afterAll (opened o generation) calls)
   -- "If some accepted step refines, the ids left .. are exactly the live rows of the starting subset that ..", "rising,
@@ -36,4 +36,4 @@ pub record Claimed (o : Opening) (generation : ℕ) (calls : List Lent) (s : Sto
       → g .refined ≡ true → (members end ≡ keep (wanted s g) (members start)) × (rising (members end) ≡ true)
 
 abbrev pub Claim : Type 0
-Claim = (o : Opening) (generation : ℕ) (calls : List Lent) (s : Stores) → History o generation calls s → Claimed o generation calls s
+Claim = (o : Opening) (generation : ℕ) (calls : List LentCall) (s : Stores) → History o generation calls s → Claimed o generation calls s

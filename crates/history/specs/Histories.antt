@@ -4,7 +4,7 @@
 use Prim.Native.Nat.{ℕ}
 use mathlib.Core.List.{List, [], _∷_, _++_}
 use Rattle.plain.specs.Staged.{Opening, Staged}
-use Rattle.plain.specs.Calls.{staging, merging, compacting, clearing, Lent}
+use Rattle.plain.specs.Calls.{staging, merging, compacting, clearing, LentCall}
 use Rattle.table.specs.declared.TableAnswer.{TableAnswer}
 use Rattle.table.specs.declared.TableAnswer.the-variants.{Table}
 use Rattle.table.specs.declared.MergeAnswer.{MergeAnswer}
@@ -16,20 +16,20 @@ noWords = compactionWords [] []
 
 -- one call: from what it is lent to what it leaves there, by the promise of its entry point, with the lengths of what it is
 -- lent. A store that it is not lent is as it was
-pub data Called (s : Stores) : Lent → Stores → Type 0 where
-  staged : (r : Staged) (answer : TableAnswer) (pending′ : List ℕ) → Staging (s .header) (s .pending) r answer pending′
+pub data Called (s : Stores) : LentCall → Stores → Type 0 where
+  stages : (r : Staged) (answer : TableAnswer) (pending′ : List ℕ) → Staging (s .header) (s .pending) r answer pending′
       → Called s
       (record { call = staging r; lengths = lengthsLent s noWords })
       (joined (headerAfter (s .header) (tableSays answer)) (bodyOf s) pending′)
-  merged : (w : CompactionWords) (answer : MergeAnswer) (b′ : Body) (w′ : CompactionWords) → Merging s w answer b′ w′
+  merges : (w : CompactionWords) (answer : MergeAnswer) (b′ : Body) (w′ : CompactionWords) → Merging s w answer b′ w′
       → Called s
       (record { call = merging; lengths = lengthsLent s w })
       (joined (headerMerged (s .header) (mergeSays answer)) b′ (s .pending))
-  compacted : (w : CompactionWords) (answer : TableAnswer) (b′ : Body) (w′ : CompactionWords) → Compacting (s .header) (bodyOf s) w answer b′ w′
+  compacts : (w : CompactionWords) (answer : TableAnswer) (b′ : Body) (w′ : CompactionWords) → Compacting (s .header) (bodyOf s) w answer b′ w′
       → Called s
       (record { call = compacting; lengths = lengthsLent s w })
       (joined (headerAfter (s .header) (tableSays answer)) b′ (s .pending))
-  cleared : (answer : TableAnswer) (keys′ : List ℕ) → Clearing (s .header) (s .rows) (s .keys) answer keys′
+  clears : (answer : TableAnswer) (keys′ : List ℕ) → Clearing (s .header) (s .rows) (s .keys) answer keys′
       → Called s
       (record { call = clearing; lengths = lengthsLent s noWords })
       (joined (headerAfter (s .header) (tableSays answer)) (body (s .rows) keys′ (s .sorts)) (s .pending))
@@ -41,16 +41,16 @@ behind s rest pending =
 
 -- A step lends a first part of each store to its call, for each call any part, so that a call may be refused for a store
 -- that the next one is lent more of. The cells behind it stay as they are.
-pub data Step : Stores → Lent → Stores → Type 0 where
-  called : {s t : Stores} {c : Lent} (rest : Body) (pending : List ℕ) → Called s c t → Step (behind s rest pending) c (behind t rest pending)
+pub data Step : Stores → LentCall → Stores → Type 0 where
+  called : {s t : Stores} {c : LentCall} (rest : Body) (pending : List ℕ) → Called s c t → Step (behind s rest pending) c (behind t rest pending)
 
 -- the calls one after another, the first one first
-pub data Steps : Stores → List Lent → Stores → Type 0 where
+pub data Steps : Stores → List LentCall → Stores → Type 0 where
   end : (s : Stores) → Steps s [] s
-  next : {s t u : Stores} {c : Lent} {cs : List Lent} → Step s c t → Steps t cs u → Steps s (c ∷ cs) u
+  next : {s t u : Stores} {c : LentCall} {cs : List LentCall} → Step s c t → Steps t cs u → Steps s (c ∷ cs) u
 
 -- from an accepted opening on, which is lent a first part of each store too
-pub record History (o : Opening) (generation : ℕ) (calls : List Lent) (s : Stores) : Type 0 where
+pub record History (o : Opening) (generation : ℕ) (calls : List LentCall) (s : Stores) : Type 0 where
   pub start : Stores
   pub keys-before : List ℕ
   pub opened : Opened o generation (body (start .rows) keys-before (start .sorts)) (start .pending) (Table (start .header)) (start .keys)

@@ -5,7 +5,7 @@ pub mod Narrowing
 pub mod Questions
 pub mod Theorem
 pub mod Batches
-pub mod Lent
+pub mod LentLengths
 pub mod Stamps
 pub mod Notes
 pub mod Price

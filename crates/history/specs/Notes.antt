@@ -14,7 +14,7 @@ use Rattle.refusals.specs.Refusals.{accepted}
 use Rattle.offsets.specs.Subsets.{Subset, members}
 use Rattle.constraints.specs.Constraints.{isLive}
 use Rattle.plain.specs.Staged.{Opening}
-use Rattle.plain.specs.Calls.{Lent}
+use Rattle.plain.specs.Calls.{LentCall}
 use Rattle.table.specs.declared.RangeAnswer.{RangeAnswer}
 use Rattle.table.specs.Numbers.{rangeSays}
 use Rattle.table.specs.Promises.{Stores, NotedRows}
@@ -39,7 +39,7 @@ pub record Guaranteed (then now : Stores) (since : Subset) : Type 0 where
 -- any later moment of it
 abbrev pub OldNote : Type 0
 OldNote =
-    (o : Opening) (generation : ℕ) (earlier later : List Lent) (then now : Stores) (answer : RangeAnswer) (since : Subset)
+    (o : Opening) (generation : ℕ) (earlier later : List LentCall) (then now : Stores) (answer : RangeAnswer) (since : Subset)
     → History o generation earlier then → Steps then later now
     → NotedRows (now .header) (then .header .generation) (then .header .rows) answer → rangeSays answer ≡ accepted (some since)
     → Guaranteed then now since

@@ -8,11 +8,11 @@ use lib.Dec.{ltb}
 use Rattle.refusals.specs.Refusals.{Reply, refused, accepted}
 use Rattle.plain.specs.Staged.{Opening}
 use Rattle.plain.specs.Plain.{opened}
-use Rattle.plain.specs.Calls.{Lent}
+use Rattle.plain.specs.Calls.{LentCall}
 use Rattle.plain.specs.Appending.{appendedAll}
 use Rattle.table.specs.Numbers.{tableSays, mergeSays}
 use Rattle.table.specs.Promises.{Stores}
-use Rattle.history.specs.Histories.{Called, staged, merged, compacted, cleared, called, Steps, end, next, History}
+use Rattle.history.specs.Histories.{Called, stages, merges, compacts, clears, called, Steps, end, next, History}
 
 -- what is counted of calls
 pub record Wear : Type 0 where
@@ -34,14 +34,14 @@ counted (refused n) f = wear 0 0 0 0
 counted (accepted a) f = f a
 
 -- of one call: a merge has compacted if it dropped rows; the caller's compaction drops all dead rows, a clear all rows
-unfoldable pub ofCall : {s t : Stores} {c : Lent} → Called s c t → Wear
-ofCall (staged r answer pending′ m) = wear 0 0 0 0
-ofCall (merged w answer b′ w′ m) = counted (mergeSays answer) (λ a. wear (a .kept) (cond (ltb 0 (a .dropped)) 1 0) (a .dropped) 0)
-ofCall {s} (compacted w answer b′ w′ m) = counted (tableSays answer) (λ h. wear 0 0 (s .header .dead) 0)
-ofCall {s} (cleared answer keys′ m) = counted (tableSays answer) (λ h. wear 0 0 0 (s .header .rows))
+unfoldable pub ofCall : {s t : Stores} {c : LentCall} → Called s c t → Wear
+ofCall (stages r answer pending′ m) = wear 0 0 0 0
+ofCall (merges w answer b′ w′ m) = counted (mergeSays answer) (λ a. wear (a .kept) (cond (ltb 0 (a .dropped)) 1 0) (a .dropped) 0)
+ofCall {s} (compacts w answer b′ w′ m) = counted (tableSays answer) (λ h. wear 0 0 (s .header .dead) 0)
+ofCall {s} (clears answer keys′ m) = counted (tableSays answer) (λ h. wear 0 0 0 (s .header .rows))
 
 -- of all the calls
-unfoldable pub ofSteps : {s t : Stores} {cs : List Lent} → Steps s cs t → Wear
+unfoldable pub ofSteps : {s t : Stores} {cs : List LentCall} → Steps s cs t → Wear
 ofSteps (end s) = wear 0 0 0 0
 ofSteps (next (called rest pending c) steps) =
     let a = ofCall c in
@@ -60,5 +60,5 @@ pub record Priced (appended : ℕ) (w : Wear) (rows : ℕ) : Type 0 where
 -- "Over any history of demand 3"
 abbrev pub PriceOfCompaction : Type 0
 PriceOfCompaction =
-    (o : Opening) (generation : ℕ) (calls : List Lent) (s : Stores) (h : History o generation calls s)
+    (o : Opening) (generation : ℕ) (calls : List LentCall) (s : Stores) (h : History o generation calls s)
     → Priced (appendedAll (opened o generation) calls) (ofSteps (h .steps)) (s .header .rows)

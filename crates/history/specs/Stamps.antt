@@ -5,17 +5,17 @@ use mathlib.Core.List.{List, []}
 use lib.ListN.{length, getD}
 use Rattle.plain.specs.Staged.{Opening}
 use Rattle.plain.specs.Plain.{opened}
-use Rattle.plain.specs.Calls.{Lent}
+use Rattle.plain.specs.Calls.{LentCall}
 use Rattle.plain.specs.Appending.{stampsSince, greatest}
 use Rattle.table.specs.Numbers.{largestSays}
 use Rattle.table.specs.Promises.{Stores}
 use Rattle.history.specs.Histories.{History}
 
 -- the sort values that a history has appended "since opening or the last clear that emptied rows", in order
-abbrev pub stamps : Opening → ℕ → List Lent → List ℕ
+abbrev pub stamps : Opening → ℕ → List LentCall → List ℕ
 stamps o generation calls = stampsSince [] (opened o generation) calls
 
-pub record StampsKept (o : Opening) (generation : ℕ) (calls : List Lent) (s : Stores) : Type 0 where
+pub record StampsKept (o : Opening) (generation : ℕ) (calls : List LentCall) (s : Stores) : Type 0 where
   -- "The header shall keep the largest" of them, "and whether there is one"
   pub largest-kept : largestSays (s .header .largest) ≡ greatest (stamps o generation calls)
   -- and they never fall
@@ -23,4 +23,4 @@ pub record StampsKept (o : Opening) (generation : ℕ) (calls : List Lent) (s : 
       → getD (stamps o generation calls) i 0 ≤ getD (stamps o generation calls) j 0
 
 abbrev pub OldStampsStayOut : Type 0
-OldStampsStayOut = (o : Opening) (generation : ℕ) (calls : List Lent) (s : Stores) → History o generation calls s → StampsKept o generation calls s
+OldStampsStayOut = (o : Opening) (generation : ℕ) (calls : List LentCall) (s : Stores) → History o generation calls s → StampsKept o generation calls s

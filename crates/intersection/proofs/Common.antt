@@ -9,12 +9,13 @@ use native.Mathlib.Numerals.{add-one}
 use native.Mathlib.Omega.{arith}
 use lib.ListN.{length, take, drop, getD, set, length-append, length-drop, length-set}
 use lib.Seq.{take-suc, take-all, length-take-le}
-use Rattle.lists.specs.Lists.{putAt, keep, rising, has, within, place}
+use Rattle.lists.specs.Lists.{putAt, keep, rising, has, within}
+use Rattle.lists.specs.inner.Searching.{firstNotBelow}
 use Rattle.lists.specs.Laws.Parts.{putAt-nil}
 use Rattle.lists.specs.Laws.Keep.{split, keep-step, keep-skip}
 use Rattle.lists.specs.Laws.Rising.{rising-at, keep-has-comm}
-use Rattle.lists.specs.Laws.Search.{place-le, place-past, place-upto, place-mono, has-place, has-not-place, has-in-place, keep-within-places, keep-stop, put-more}
-use Rattle.offset_search.specs.declared.Scan.the-variants.{Found, Next}
+use Rattle.lists.specs.Laws.Search.{notBelow-le, notBelow-past, notBelow-upto, notBelow-mono, has-notBelow, has-not-notBelow, has-in-notBelow, keep-within-places, keep-stop, put-more}
+use Rattle.offset_search.specs.declared.Scan.the-variants.{Hit, Next}
 use Rattle.offset_search.specs.inner.Search.{scanPlace, scan, Scanned}
 use Rattle.intersection.specs.inner.Common.{Fitting, Searchable, common}
 use Rattle.offsets.specs.inner.Writing.{Wrote}
@@ -46,12 +47,12 @@ copied-end ids output₀ output i s h = s .cells ∙ ap (putAt output₀ 0) (tak
 
 -- ---- what lies within
 
-pub wrote-within : (ids output : List ℕ) (start end low high : ℕ) (output′ : List ℕ) → rising ids ≡ true → start ≤ end → low ≡ place start ids → high ≡ place end ids
+pub wrote-within : (ids output : List ℕ) (start end low high : ℕ) (output′ : List ℕ) → rising ids ≡ true → start ≤ end → low ≡ firstNotBelow start ids → high ≡ firstNotBelow end ids
     → output′ ≡ putAt output 0 (take (high - low) (drop low ids)) → Wrote output (keep (within start end) ids) (high - low) output′
 wrote-within ids output start end low high output′ e h p q r =
     let k : keep (within start end) ids ≡ take (high - low) (drop low ids) = rw (p, q) (keep-within-places ids start end e h) in
     let n : length (take (high - low) (drop low ids)) ≡ high - low =
-    length-take-le (high - low) (drop low ids) (let a = place-le end ids in simp length-drop (omega arith)) in
+    length-take-le (high - low) (drop low ids) (let a = notBelow-le end ids in simp length-drop (omega arith)) in
     record { number = sym n ∙ ap length (sym k); cells = r ∙ ap (putAt output 0) (sym k) }
 
 -- ---- what two lists have in common
@@ -73,7 +74,7 @@ common-stop ids others i f = keep-stop (λ id. has id others) 0 ids i f
 pub record Meets (ids others output₀ output : List ℕ) (i o n : ℕ) : Type 0 where
   pub at : i ≤ length ids
   pub few : n ≤ i
-  pub past : i < length ids → o ≤ place (getD ids i 0) others
+  pub past : i < length ids → o ≤ firstNotBelow (getD ids i 0) others
   pub same : length output ≡ length output₀
   pub number : n ≡ length (common (take i ids) others)
   pub cells : output ≡ putAt output₀ 0 (common (take i ids) others)
@@ -91,23 +92,23 @@ meets-begin ids others output₀ =
 
 module _ (ids others output₀ output : List ℕ) (i o n : ℕ) (f : Fitting ids output₀) (g : Searchable others) (s : Meets ids others output₀ output i o n) (h : i < length ids) where
   -- the next id is larger, so its place is no earlier
-  later : (p : ℕ) → p ≤ place (getD ids i 0) others → i + 1 < length ids → p ≤ place (getD ids (i + 1) 0) others
+  later : (p : ℕ) → p ≤ firstNotBelow (getD ids i 0) others → i + 1 < length ids → p ≤ firstNotBelow (getD ids (i + 1) 0) others
   later p k m =
       let a : getD ids i 0 < getD ids (i + 1) 0 = rising-at ids (f .up) i (i + 1) (omega arith) m in
-      let b = place-mono (getD ids i 0) (getD ids (i + 1) 0) others (g .up) (omega arith) in
+      let b = notBelow-mono (getD ids i 0) (getD ids (i + 1) 0) others (g .up) (omega arith) in
       omega arith
 
   -- and it lies past an other that equals this id
-  past-equal : (p : ℕ) → p < length others → getD others p 0 ≡ getD ids i 0 → i + 1 < length ids → p + 1 ≤ place (getD ids (i + 1) 0) others
+  past-equal : (p : ℕ) → p < length others → getD others p 0 ≡ getD ids i 0 → i + 1 < length ids → p + 1 ≤ firstNotBelow (getD ids (i + 1) 0) others
   past-equal p k q m =
       let a : getD ids i 0 < getD ids (i + 1) 0 = rising-at ids (f .up) i (i + 1) (omega arith) m in
-      let b = place-past (getD ids (i + 1) 0) others (g .up) p k (omega arith) in
+      let b = notBelow-past (getD ids (i + 1) 0) others (g .up) p k (omega arith) in
       omega arith
 
   -- this id is one of the others
   hit : (p : ℕ) → p < length others → getD others p 0 ≡ getD ids i 0 → Meets ids others output₀ (set output n (getD ids i 0)) (i + 1) (p + 1) (n + 1)
   hit p k q =
-      let e : has (getD ids i 0) others ≡ true = has-place (getD ids i 0) others p k q in
+      let e : has (getD ids i 0) others ≡ true = has-notBelow (getD ids i 0) others p k q in
       let m = common-more ids others i h e in
       record {
         at = omega arith;
@@ -122,7 +123,7 @@ module _ (ids others output₀ output : List ℕ) (i o n : ℕ) (f : Fitting ids
       }
 
   -- it is not
-  miss : (p : ℕ) → has (getD ids i 0) others ≡ false → p ≤ place (getD ids i 0) others → Meets ids others output₀ output (i + 1) p n
+  miss : (p : ℕ) → has (getD ids i 0) others ≡ false → p ≤ firstNotBelow (getD ids i 0) others → Meets ids others output₀ output (i + 1) p n
   miss p e k =
       let m = common-skip ids others i h e in
       record {
@@ -140,7 +141,7 @@ module _ (ids others output₀ output : List ℕ) (i o n : ℕ) (f : Fitting ids
       record {
         at = s .at;
         few = s .few;
-        past = λ m. (let a = place-past (getD ids i 0) others (g .up) o k q in omega arith);
+        past = λ m. (let a = notBelow-past (getD ids i 0) others (g .up) o k q in omega arith);
         same = s .same;
         number = s .number;
         cells = s .cells;
@@ -152,23 +153,23 @@ module _ (ids others output₀ output : List ℕ) (i o n : ℕ) (f : Fitting ids
   pub walk-miss : o < length others → getD ids i 0 ≤ getD others o 0 → (getD ids i 0 ≡ getD others o 0 → ⊥) → Meets ids others output₀ output (i + 1) o n
   walk-miss k q d =
       let a = s .past h in
-      let b = place-upto (getD ids i 0) others (g .up) o k q in
-      let e : place (getD ids i 0) others ≡ o = omega arith in
-      miss o (has-not-place (getD ids i 0) others (g .up) (λ m r. d (sym (rw e at r)))) a
+      let b = notBelow-upto (getD ids i 0) others (g .up) o k q in
+      let e : firstNotBelow (getD ids i 0) others ≡ o = omega arith in
+      miss o (has-not-notBelow (getD ids i 0) others (g .up) (λ m r. d (sym (rw e at r)))) a
 
   -- the scan's two ways round
-  pub scan-hit : (p : ℕ) → Scanned others o (getD ids i 0) (Found p) → Meets ids others output₀ (set output n (getD ids i 0)) (i + 1) (p + 1) (n + 1)
+  pub scan-hit : (p : ℕ) → Scanned others o (getD ids i 0) (Hit p) → Meets ids others output₀ (set output n (getD ids i 0)) (i + 1) (p + 1) (n + 1)
   unfolding scan scanPlace
   scan-hit p r =
       let t = getD ids i 0 in
-      let z : Found p ≡ scan t others = r .finds (g .up) (s .past h) in
+      let z : Hit p ≡ scan t others = r .finds (g .up) (s .past h) in
       elim (split (has t others)) [
         | inl e ↦
-            let y : Found p ≡ Found (place t others) = rw e at z in
-            let x : p ≡ place t others = ap scanPlace y in
-            let a = has-in-place t others (g .up) e in
+            let y : Hit p ≡ Hit (firstNotBelow t others) = rw e at z in
+            let x : p ≡ firstNotBelow t others = ap scanPlace y in
+            let a = has-in-notBelow t others (g .up) e in
             hit p (rw x (a .0)) (rw x (a .1))
-        | inr e ↦ let y : Found p ≡ Next (place t others) = rw e at z in absurd (let w : _≡_ {A = ℕ} 0 1 = cc in omega arith)
+        | inr e ↦ let y : Hit p ≡ Next (firstNotBelow t others) = rw e at z in absurd (let w : _≡_ {A = ℕ} 0 1 = cc in omega arith)
       ]
 
   pub scan-miss : (p : ℕ) → Scanned others o (getD ids i 0) (Next p) → Meets ids others output₀ output (i + 1) p n
@@ -177,10 +178,10 @@ module _ (ids others output₀ output : List ℕ) (i o n : ℕ) (f : Fitting ids
       let t = getD ids i 0 in
       let z : Next p ≡ scan t others = r .finds (g .up) (s .past h) in
       elim (split (has t others)) [
-        | inl e ↦ let y : Next p ≡ Found (place t others) = rw e at z in absurd (let w : _≡_ {A = ℕ} 0 1 = cc in omega arith)
+        | inl e ↦ let y : Next p ≡ Hit (firstNotBelow t others) = rw e at z in absurd (let w : _≡_ {A = ℕ} 0 1 = cc in omega arith)
         | inr e ↦
-            let y : Next p ≡ Next (place t others) = rw e at z in
-            let x : p ≡ place t others = ap scanPlace y in
+            let y : Next p ≡ Next (firstNotBelow t others) = rw e at z in
+            let x : p ≡ firstNotBelow t others = ap scanPlace y in
             miss p e (omega arith)
       ]
 
@@ -190,15 +191,15 @@ module _ (ids others output₀ output : List ℕ) (i o n : ℕ) (f : Fitting ids
       let e = common-stop ids others i none in
       record { number = s .number ∙ ap length e; cells = s .cells ∙ ap (putAt output₀ 0) e }
     where
-      grows : (j : ℕ) → i ≤ j → j < length ids → place (getD ids i 0) others ≤ place (getD ids j 0) others
+      grows : (j : ℕ) → i ≤ j → j < length ids → firstNotBelow (getD ids i 0) others ≤ firstNotBelow (getD ids j 0) others
       grows j a b =
           elim (decLt i j) [
-            | yes c ↦ let d = rising-at ids (f .up) i j c b in place-mono (getD ids i 0) (getD ids j 0) others (g .up) (omega arith)
+            | yes c ↦ let d = rising-at ids (f .up) i j c b in notBelow-mono (getD ids i 0) (getD ids j 0) others (g .up) (omega arith)
             | no c ↦ let e : i ≡ j = omega arith in rw e (omega arith)
           ]
 
       none : (j : ℕ) → i ≤ j → j < length ids → has (getD ids j 0) others ≡ false
-      none j a b = has-not-place (getD ids j 0) others (g .up) (λ m r. let c = grows j a b in let d = s .past h in omega arith)
+      none j a b = has-not-notBelow (getD ids j 0) others (g .up) (λ m r. let c = grows j a b in let d = s .past h in omega arith)
 
 pub meets-end : (ids others output₀ output : List ℕ) (i o n : ℕ) → Meets ids others output₀ output i o n → length ids ≤ i → Wrote output₀ (common ids others) n output
 meets-end ids others output₀ output i o n s h =

@@ -87,7 +87,7 @@ fn gallop_along(ids: &[u32], others: &[u32], output: &mut [u32]) -> usize
         let id = ids[i as usize];
         i += 1;
         match scan_for_offset(others, o, id) {
-            Scan::Found(p) => {
+            Scan::Hit(p) => {
                 output[n as usize] = id;
                 n += 1;
                 o = p + 1;

@@ -23,7 +23,7 @@ use Rattle.key_index.specs.Laws.Unrolled.{away, slot-zero, line}
 use Rattle.key_index.specs.inner.Index.{Fits, homeOf}
 use Rattle.key_index.specs.Laws.Lines.{small, Stored, lineHome, unroll, roll}
 use Rattle.key_index.specs.Laws.Index.{free-slot}
-use Rattle.key_check.specs.inner.Check.{RowsLie, liveRow, tally, liveRows, FreeIs, named, Stands, StandsIs, RoundFits, KeysChecked}
+use Rattle.key_check.specs.inner.Check.{RowsLie, isLiveRow, tally, liveCount, FreeIs, named, Stands, StandsIs, RoundFits, KeysChecked}
 use Rattle.key_check.specs.Laws.Check.{tally-yes, tally-no, tally-le, without, without-other, tally-without, matched, Front, Joins, front-none, front-more, front-all, Run, run-none, run-more, near-line, far-line}
 
 -- ---- rows
@@ -43,8 +43,8 @@ inside t rows row s h =
     record { in-store = omega (arith, s .cells); small = omega (arith, mul-le-mul (s .most) (s .most-columns)) }
 
 -- the part of the store that is lent is the row, or its key
-pub row-part : (t : Keyed) (rows : List ℕ) (row : ℕ) → isLive (take (row * t .columns + t .columns - row * t .columns) (drop (row * t .columns) rows)) ≡ liveRow t rows row
-unfolding rowAt liveRow
+pub row-part : (t : Keyed) (rows : List ℕ) (row : ℕ) → isLive (take (row * t .columns + t .columns - row * t .columns) (drop (row * t .columns) rows)) ≡ isLiveRow t rows row
+unfolding rowAt isLiveRow
 row-part t rows row = let k : row * t .columns + t .columns - row * t .columns ≡ t .columns = omega arith in rw k
 
 pub key-part : (t : Keyed) (rows : List ℕ) (row : ℕ) → t .keys ≤ t .columns → take (row * t .columns + t .keys - row * t .columns) (drop (row * t .columns) rows) ≡ keyAt t rows row
@@ -53,12 +53,12 @@ key-part t rows row h =
     let k : row * t .columns + t .keys - row * t .columns ≡ t .keys = omega arith in
     rw k (sym (take-take (t .keys) (t .columns) (drop (row * t .columns) rows) h))
 
-live-is : (t : Keyed) (rows : List ℕ) (row : ℕ) → row < t .rows → liveRow t rows row ≡ true → LiveAt t rows row
-unfolding liveRow
+live-is : (t : Keyed) (rows : List ℕ) (row : ℕ) → row < t .rows → isLiveRow t rows row ≡ true → LiveAt t rows row
+unfolding isLiveRow
 live-is t rows row h e = (h, e)
 
-is-live : (t : Keyed) (rows : List ℕ) (row : ℕ) → LiveAt t rows row → liveRow t rows row ≡ true
-unfolding liveRow
+is-live : (t : Keyed) (rows : List ℕ) (row : ℕ) → LiveAt t rows row → isLiveRow t rows row ≡ true
+unfolding isLiveRow
 is-live t rows row s = s .1
 
 -- ---- a slot's word
@@ -72,7 +72,7 @@ module _ (t : Keyed) (rows : List ℕ) (w at run : ℕ) where
   stands-past h = record { yes = λ q. absurd (false≢true q); no = λ q s. omega (arith, s .live .0) }
 
   -- a dead row's
-  pub stands-dead : liveRow t rows (named w) ≡ false → StandsIs t rows w at run false
+  pub stands-dead : isLiveRow t rows (named w) ≡ false → StandsIs t rows w at run false
   stands-dead e = record { yes = λ q. absurd (false≢true q); no = λ q s. false≢true (sym e ∙ is-live t rows (named w) (s .live)) }
 
   module _ (hash : ℕ) (h : hash ≡ compact (keyHash (keyAt t rows (named w)))) where
@@ -81,7 +81,7 @@ module _ (t : Keyed) (rows : List ℕ) (w at run : ℕ) where
     stands-bits ne = record { yes = λ q. absurd (false≢true q); no = λ q s. ne (s .word-is ∙ sym (word-tagged hash (named w) _ h)) }
 
     -- and by the distance to the home
-    pub stands-by : 0 < w % 2 ^ 17 → w % 2 ^ 17 ≤ t .rows → liveRow t rows (named w) ≡ true → w ≡ tagged hash (named w) → (home′ : ℕ) → home′ ≡ spread (slots t) hash
+    pub stands-by : 0 < w % 2 ^ 17 → w % 2 ^ 17 ≤ t .rows → isLiveRow t rows (named w) ≡ true → w ≡ tagged hash (named w) → (home′ : ℕ) → home′ ≡ spread (slots t) hash
         → StandsIs t rows w at run (ltb ((at + (slots t - home′)) % slots t) run)
     unfolding away
     stands-by p b l e home′ f =
@@ -256,7 +256,7 @@ module _ (t : Keyed) (rows store : List ℕ) (z : ℕ) (f : Fits t rows store) (
       Has q r = l q ≡ word (keyAt t rows r) r
 
       -- a live row that was not seen would leave fewer rows than places
-      all : taken ≡ liveRows t rows → (w : ℕ) → Stored t rows w → (q : ℕ) × (q < slots t) × (l q ≡ w)
+      all : taken ≡ liveCount t rows → (w : ℕ) → Stored t rows w → (q : ℕ) × (q < slots t) × (l q ≡ w)
       unfolding Has
       all e w m =
           elim (s .marked (m .0) (m .1 .0)) [
@@ -266,28 +266,28 @@ module _ (t : Keyed) (rows store : List ℕ) (z : ℕ) (f : Fits t rows store) (
                 let i : o .0 ≡ m .0 = omega (arith, u .3) in
                 (u .0, omega (arith, u .1), o .2 ∙ ap (λ (r : ℕ). word (keyAt t rows r) r) i ∙ sym (m .2))
             | inl u ↦
-                let x = matched Has (λ q. ltb 0 (l q)) p (without (liveRow t rows) (m .0)) (t .rows)
+                let x = matched Has (λ q. ltb 0 (l q)) p (without (isLiveRow t rows) (m .0)) (t .rows)
                 (λ q h d.
                 let c = ltb-true 0 (l q) d in
                 let o = s .front .only q h c in
                 let n = held-row t rows store f (l q) (o .0) (o .1 .0) (o .2) in
                 let ne : o .0 ≡ m .0 → ⊥ = λ v. s .clear (m .0) u q h c (omega arith) in
-                (o .0, o .1 .0, without-other (liveRow t rows) (m .0) (o .0) ne ∙ is-live t rows (o .0) (o .1), o .2))
+                (o .0, o .1 .0, without-other (isLiveRow t rows) (m .0) (o .0) ne ∙ is-live t rows (o .0) (o .1), o .2))
                 (λ q q′ r h k y y′. s .front .once q q′ h k (rw y (word-some (keyAt t rows r) r)) (y ∙ sym y′)) in
-                absurd (omega (arith, s .count, tally-without (liveRow t rows) (m .0) (t .rows) (m .1 .0) (is-live t rows (m .0) (m .1))))
+                absurd (omega (arith, s .count, tally-without (isLiveRow t rows) (m .0) (t .rows) (m .1 .0) (is-live t rows (m .0) (m .1))))
           ]
 
-      finish-yes : taken ≡ liveRows t rows → KeysSound t rows store
+      finish-yes : taken ≡ liveCount t rows → KeysSound t rows store
       finish-yes e = roll t (small t rows store f) rows z b store (front-all (lineHome t rows z) (Stored t rows) l (slots t) first (rw whole at (s .front)) (all e))
 
-      finish-no : KeysSound t rows store → taken ≡ liveRows t rows
+      finish-no : KeysSound t rows store → taken ≡ liveCount t rows
       unfolding Has
       finish-no k =
           let u = unroll t (small t rows store f) rows z b store k free in
-          let x = matched Has (λ q. ltb 0 (l q)) p (liveRow t rows) (t .rows)
+          let x = matched Has (λ q. ltb 0 (l q)) p (isLiveRow t rows) (t .rows)
           (λ q h d. let o = s .front .only q h (ltb-true 0 (l q) d) in (o .0, o .1 .0, is-live t rows (o .0) (o .1), o .2))
           (λ q q′ r h j y y′. s .front .once q q′ h j (rw y (word-some (keyAt t rows r) r)) (y ∙ sym y′)) in
-          let y = matched (λ r q. Has q r) (liveRow t rows) (t .rows) (λ q. ltb 0 (l q)) p
+          let y = matched (λ r q. Has q r) (isLiveRow t rows) (t .rows) (λ q. ltb 0 (l q)) p
           (λ r h d.
           let a = u .all (word (keyAt t rows r) r) (r, live-is t rows r h d, refl) in
           (a .0, omega (arith, a .1), lt-ltb 0 (l (a .0)) (rw (a .2) (word-some (keyAt t rows r) r)), a .2))
@@ -306,7 +306,7 @@ compared : (t : Keyed) (rows store : List ℕ) (a b : ℕ) → (a ≡ b → Keys
 compared t rows store a b y n = record { yes = λ e. y (eqb-true a b e); no = λ e k. eqb-false a b e (n k) }
 
 -- no row is marked yet
-pub round-fits : (t : Keyed) (rows store : List ℕ) (z live n : ℕ) → Fits t rows store → FreeIs (slots t) store z → z < slots t → live ≡ liveRows t rows → t .rows ≤ n
+pub round-fits : (t : Keyed) (rows store : List ℕ) (z live n : ℕ) → Fits t rows store → FreeIs (slots t) store z → z < slots t → live ≡ liveCount t rows → t .rows ≤ n
     → RoundFits t rows store z live (replicate n 0)
 round-fits t rows store z live n f s h e k =
     record {

@@ -6,7 +6,7 @@ ghost use Prim.Native.Nat.{_<_, _≤_};
 ghost use lib.ListN.{length};
 ghost use Rattle.key_index.specs.Slots.{slots};
 ghost use Rattle.key_index.specs.inner.Index.{Fits};
-ghost use Rattle.key_check.specs.inner.Check.{RowsLie, liveRow, liveRows, StandsIs, FreeIs, RoundFits, KeysChecked};
+ghost use Rattle.key_check.specs.inner.Check.{RowsLie, isLiveRow, liveCount, StandsIs, FreeIs, RoundFits, KeysChecked};
 use key_index::Keyed;
 use key_index::ROW_RANGE;
 use key_index::home_slot;
@@ -15,7 +15,7 @@ use key_index::slot_word;
 // Whether a row is live.
 fn row_live(t: Keyed, rows: &[u32], row: u32) -> bool
     requires { ⌜ RowsLie t (now rows) × (row < t .rows) ⌝ }
-    ensures { λ r. ⌜ r ≡ liveRow t (now (rows .entry)) row ⌝ }
+    ensures { λ r. ⌜ r ≡ isLiveRow t (now (rows .entry)) row ⌝ }
 {
     let from = (row * t.columns) as usize;
     let to = from + t.columns as usize;
@@ -25,7 +25,7 @@ fn row_live(t: Keyed, rows: &[u32], row: u32) -> bool
 // How many rows are live.
 fn count_live(t: Keyed, rows: &[u32]) -> u32
     requires { ⌜ RowsLie t (now rows) ⌝ }
-    ensures { λ r. ⌜ r ≡ liveRows t (now (rows .entry)) ⌝ }
+    ensures { λ r. ⌜ r ≡ liveCount t (now (rows .entry)) ⌝ }
 {
     let mut live: u32 = 0;
     let mut row: u32 = 0;

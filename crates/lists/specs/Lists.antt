@@ -50,12 +50,6 @@ module _ {A : Type 0} where
   flat [] = []
   flat (row ∷ rows) = row ++ flat rows
 
-  -- the first n mapped, the others as they are
-  unfoldable pub mapFront : (A → A) → ℕ → List A → List A
-  mapFront f zero l = l
-  mapFront f (suc n) [] = []
-  mapFront f (suc n) (x ∷ xs) = f x ∷ mapFront f n xs
-
 -- n numbers from s on, one by one
 unfoldable pub countFrom : ℕ → ℕ → List ℕ
 countFrom s zero = []
@@ -75,11 +69,6 @@ rising (x ∷ xs) = above x xs
 unfoldable pub has : ℕ → List ℕ → Bool
 has x [] = false
 has x (y ∷ ys) = eqb x y || has x ys
-
--- the first place whose number is not below x
-unfoldable pub place : ℕ → List ℕ → ℕ
-place x [] = 0
-place x (y ∷ ys) = cond (ltb y x) (suc (place x ys)) 0
 
 -- a ≤ x < b
 unfoldable pub within : ℕ → ℕ → ℕ → Bool

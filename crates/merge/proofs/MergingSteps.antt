@@ -13,7 +13,7 @@ use Rattle.refusals.specs.Laws.Replies.{verdict-refused, verdict-accepted}
 use Rattle.key_index.specs.declared.Keyed.{Keyed}
 use Rattle.key_index.specs.inner.Index.{Fits}
 use Rattle.plain.specs.Staged.{due}
-use Rattle.plain.specs.Plain.{live as liveCount, compacts, Plain, applied, unstaged, dead}
+use Rattle.plain.specs.Plain.{live as liveCount, compactsAfter, Plain, applied, unstaged, dead}
 use Rattle.table.specs.declared.Header.{Header}
 use Rattle.table.specs.declared.Merge.{Merge}
 use Rattle.merge.specs.declared.Passed.{Passed}
@@ -25,7 +25,7 @@ use Rattle.pending.specs.inner.Becoming.{withCounts, withDead, Ready}
 use Rattle.merge.specs.inner.Insertions.{Insertions}
 use Rattle.removals.specs.inner.Removals.{Removable, Removals}
 use Rattle.compaction.specs.inner.Compaction.{Lendable, Compaction}
-use Rattle.merge.specs.inner.Parts.{Applying, finished, finishedAs, Finishing}
+use Rattle.merge.specs.inner.Parts.{Applying, finishedAs, Finishing}
 use Rattle.table.specs.Laws.Refusals.{inside-fits, Mergeable, merge-accepted}
 use Rattle.table.specs.Laws.Opening.{unstaged-represents}
 use Rattle.pending.specs.Laws.Steps.{steps-refl}
@@ -121,7 +121,7 @@ lendable-emptied l =
     record { fits = l .fits; sort-column = l .sort-column; sorts-long = l .sorts-long; live-long = l .live-long; base-long = l .base-long }
 
 module _ (m : Passed) (rows keys sorts live base : List ℕ) where
-  finish-same : ((pending : List ℕ) (p : Plain) → Represents p (stores (m .header) rows keys sorts pending) → compacts (m .status) p ≡ false)
+  finish-same : ((pending : List ℕ) (p : Plain) → Represents p (stores (m .header) rows keys sorts pending) → compactsAfter (m .status) p ≡ false)
       → Finishing m rows keys sorts live base (finishedAs m (withPending (m .header) 0) 0 0) rows keys sorts live base
   finish-same same =
       record {

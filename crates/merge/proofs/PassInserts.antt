@@ -15,7 +15,7 @@ use Rattle.appending.specs.declared.Insertion.{Insertion}
 use Rattle.appending.specs.declared.Insertion.the-variants.{Kept, Appended, Stopped}
 use Rattle.table.specs.Numbers.{openingOf}
 use Rattle.table.specs.Promises.{Stores, stores, Represents, SlotsPast}
-use Rattle.pending.specs.inner.Becoming.{Steps, Recounted, Ready, Waiting, kindOf, RecordLength}
+use Rattle.pending.specs.inner.Becoming.{Becomes, Recounted, Ready, Waiting, kindOf, RecordLength}
 use Rattle.merge.specs.inner.Insertions.{InsertedTable, Insertions, InsertNext, InsertGoes, InsertedNext}
 use Rattle.inserts.specs.inner.Inserting.{Comes, Inserting}
 use Rattle.pending.specs.Laws.Steps.{steps-refl, steps-then, waiting-start, words-some, waiting-next, waiting-kind, waiting-hash, waiting-cells, recounted-refl, recounted-capacity, recounted-then, recounted-waiting}
@@ -78,7 +78,7 @@ module _ {m : Passed} {rows keys sorts pending : List ℕ} {at : ℕ} (a : Inser
     an-insert r f (removeKey key) rest w p t = let e : getD pending at 0 ≡ 1 = unfold kindOf in waiting-kind w in absurd (omega arith)
     an-insert r f (removeRow row key) rest w p t = let e : getD pending at 0 ≡ 2 = unfold kindOf in waiting-kind w in absurd (omega arith)
 
-    same-steps : ((h′ : Header) → one ≡ Appended h′ → ⊥) → (p : Plain) → Represents p Before → Steps p p Before (stores (m .header) rows′ keys′ sorts′ pending)
+    same-steps : ((h′ : Header) → one ≡ Appended h′ → ⊥) → (p : Plain) → Represents p Before → Becomes p p Before (stores (m .header) rows′ keys′ sorts′ pending)
     same-steps f p t = let u = i .unchanged f in rw (u .0, u .1, u .2) (steps-refl t)
 
     -- it is kept
@@ -151,7 +151,7 @@ pub record Inserts (at : ℕ) (m : Passed) (p : Plain) (s s′ : Stores) : Type 
   pub rest : List Staged
   pub waiting : Waiting (openingOf (s .header)) (s .pending) (s .header .pending) at rest
   pub same : insertAll (inserts (p .staged)) 0 false p ≡ insertAll (inserts rest) (m .place) (m .added) now
-  pub steps : Steps p now s s′
+  pub steps : Becomes p now s s′
 
 -- the loop's invariant
 pub record Filling (h : Header) (rows keys sorts pending rows′ keys′ sorts′ : List ℕ) (m : Passed) (at words : ℕ) : Type 0 where
@@ -239,7 +239,7 @@ module _ {h : Header} {rows keys sorts pending : List ℕ} (a : Ready h rows key
           pub rest : List Staged
           pub next : Plain
           pub waiting : Waiting (openingOf h) pending (h .pending) (at + words) rest
-          pub steps : Steps p next Start (stores (r .header) rows″ keys″ sorts″ pending)
+          pub steps : Becomes p next Start (stores (r .header) rows″ keys″ sorts″ pending)
           pub goes-on : r .status ≡ 0 → insertAll (inserts (p .staged)) 0 false p ≡ insertAll (inserts rest) (r .place) (r .added) next
           pub stops : (r .status ≡ 0 → ⊥) → insertAll (inserts (p .staged)) 0 false p ≡ inserted next (r .status) (r .place) (r .added)
 

@@ -53,9 +53,9 @@ changesFrom rule keys sort column (a ∷ old) (b ∷ new) =
 
 -- "the old row is kept", or a row is made
 pub data Ruled : Type 0 where
-  kept : Ruled
-  made : List ℕ → Ruled
+  keepsOld : Ruled
+  makesRow : List ℕ → Ruled
 
 unfoldable pub ruled : ℕ → ℕ → ℕ → List ℕ → List ℕ → Ruled
 ruled rule keys sort old new =
-    cond (changesFrom rule keys sort 0 old new) (made (madeFrom rule keys sort 0 old new)) kept
+    cond (changesFrom rule keys sort 0 old new) (makesRow (madeFrom rule keys sort 0 old new)) keepsOld

@@ -5,10 +5,11 @@ use mathlib.Core.Bool.{true, false}
 use mathlib.Core.List.{List}
 use native.Mathlib.Omega.{arith}
 use lib.ListN.{length, getD}
-use Rattle.lists.specs.Lists.{rising, has, place}
-use Rattle.lists.specs.Laws.Search.{place-le, place-past, place-upto, place-at, has-place, has-not-place}
+use Rattle.lists.specs.Lists.{rising, has}
+use Rattle.lists.specs.inner.Searching.{firstNotBelow}
+use Rattle.lists.specs.Laws.Search.{notBelow-le, notBelow-past, notBelow-upto, notBelow-at, has-notBelow, has-not-notBelow}
 use Rattle.offset_search.specs.declared.Scan.{Scan}
-use Rattle.offset_search.specs.declared.Scan.the-variants.{Found, Next}
+use Rattle.offset_search.specs.declared.Scan.the-variants.{Hit, Next}
 use Rattle.offset_search.specs.Laws.Strides.{stride-bound}
 use Rattle.offset_search.specs.inner.Search.{SearchedPart, ReachedBetween, scanPlace, scan, ScannedAt, Scanned}
 
@@ -19,8 +20,8 @@ pub record Halved (ids : List ℕ) (start end target low high : ℕ) : Type 0 wh
   pub from : start ≤ low
   pub order : low ≤ high
   pub upto : high ≤ end
-  pub after : rising ids ≡ true → start ≤ place target ids → low ≤ place target ids
-  pub before : rising ids ≡ true → place target ids ≤ end → place target ids ≤ high
+  pub after : rising ids ≡ true → start ≤ firstNotBelow target ids → low ≤ firstNotBelow target ids
+  pub before : rising ids ≡ true → firstNotBelow target ids ≤ end → firstNotBelow target ids ≤ high
 
 pub halved-begin : (ids : List ℕ) (start end target : ℕ) → start ≤ end → Halved ids start end target start end
 halved-begin ids start end target h = record { from = omega arith; order = h; upto = omega arith; after = λ e k. k; before = λ e k. k }
@@ -32,7 +33,7 @@ module _ (ids : List ℕ) (start end target low high mid : ℕ) (s : Halved ids 
         from = omega (arith, s .from);
         order = omega arith;
         upto = s .upto;
-        after = λ e k. let p = place-past target ids e mid (omega (arith, s .upto)) h in omega arith;
+        after = λ e k. let p = notBelow-past target ids e mid (omega (arith, s .upto)) h in omega arith;
         before = s .before;
       }
 
@@ -43,7 +44,7 @@ module _ (ids : List ℕ) (start end target low high mid : ℕ) (s : Halved ids 
         order = a;
         upto = omega (arith, s .upto);
         after = s .after;
-        before = λ e k. place-upto target ids e mid (omega (arith, s .upto)) h;
+        before = λ e k. notBelow-upto target ids e mid (omega (arith, s .upto)) h;
       }
 
 pub halved-end : (ids : List ℕ) (start end target low high : ℕ) → Halved ids start end target low high → high ≤ low → SearchedPart ids start end target low
@@ -63,7 +64,7 @@ pub record Strides (ids : List ℕ) (target low left step : ℕ) : Type 0 where
   pub inside : 1 ≤ left
   pub on : 1 ≤ step
   pub bound : step ≤ 131072
-  pub behind : rising ids ≡ true → low < place target ids
+  pub behind : rising ids ≡ true → low < firstNotBelow target ids
 
 module _ (ids : List ℕ) (target low left step : ℕ) (s : Strides ids target low left step) where
   pub stride-more : step < left → getD ids (low + step) 0 < target → Strides ids target (low + step) (left - step) (step * 2)
@@ -74,7 +75,7 @@ module _ (ids : List ℕ) (target low left step : ℕ) (s : Strides ids target l
         inside = omega arith;
         on = omega (arith, s .on);
         bound = stride-bound left step (omega (arith, s .few, s .whole)) h;
-        behind = λ e. place-past target ids e (low + step) (omega (arith, s .whole)) k;
+        behind = λ e. notBelow-past target ids e (low + step) (omega (arith, s .whole)) k;
       }
 
   pub stride-over : step < left → target ≤ getD ids (low + step) 0 → ReachedBetween ids target (low + 1) (low + step)
@@ -83,7 +84,7 @@ module _ (ids : List ℕ) (target low left step : ℕ) (s : Strides ids target l
         order = omega (arith, s .on);
         within = omega (arith, s .whole);
         after = λ e. (let p = s .behind e in omega arith);
-        upto = λ e. place-upto target ids e (low + step) (omega (arith, s .whole)) k;
+        upto = λ e. notBelow-upto target ids e (low + step) (omega (arith, s .whole)) k;
       }
 
   pub stride-end : ReachedBetween ids target (low + 1) (low + left)
@@ -92,26 +93,26 @@ module _ (ids : List ℕ) (target low left step : ℕ) (s : Strides ids target l
         order = omega (arith, s .inside);
         within = omega (arith, s .whole);
         after = λ e. (let p = s .behind e in omega arith);
-        upto = λ e. rw (s .whole) (place-le target ids);
+        upto = λ e. rw (s .whole) (notBelow-le target ids);
       }
 
 -- ---- what a scan says
 
-scan-hit : (ids : List ℕ) (target p : ℕ) → rising ids ≡ true → p < length ids → getD ids p 0 ≡ target → Found p ≡ scan target ids
+scan-hit : (ids : List ℕ) (target p : ℕ) → rising ids ≡ true → p < length ids → getD ids p 0 ≡ target → Hit p ≡ scan target ids
 unfolding scan
-scan-hit ids target p e h k = rw (has-place target ids p h k) (ap Found (sym (place-at target ids e p h k)))
+scan-hit ids target p e h k = rw (has-notBelow target ids p h k) (ap Hit (sym (notBelow-at target ids e p h k)))
 
-scan-miss : (ids : List ℕ) (target p : ℕ) → rising ids ≡ true → p ≡ place target ids → (p < length ids → getD ids p 0 ≡ target → ⊥) → Next p ≡ scan target ids
+scan-miss : (ids : List ℕ) (target p : ℕ) → rising ids ≡ true → p ≡ firstNotBelow target ids → (p < length ids → getD ids p 0 ≡ target → ⊥) → Next p ≡ scan target ids
 unfolding scan
 scan-miss ids target p e q f =
-    let n : has target ids ≡ false = has-not-place target ids e (rw q at f) in
+    let n : has target ids ≡ false = has-not-notBelow target ids e (rw q at f) in
     rw n (ap Next q)
 
 pub at-end : (ids : List ℕ) (at target : ℕ) → at ≤ length ids → length ids ≤ at → ScannedAt ids at target (Next at)
 unfolding scanPlace
 at-end ids at target h k = record { within = h; finds = λ e q. scan-miss ids target at e q (λ a b. omega arith) }
 
-pub at-hit : (ids : List ℕ) (at target : ℕ) → at < length ids → getD ids at 0 ≡ target → ScannedAt ids at target (Found at)
+pub at-hit : (ids : List ℕ) (at target : ℕ) → at < length ids → getD ids at 0 ≡ target → ScannedAt ids at target (Hit at)
 unfolding scanPlace
 at-hit ids at target h k = record { within = omega arith; finds = λ e q. scan-hit ids target at e h k }
 
@@ -122,9 +123,9 @@ at-miss ids at target h k = record { within = h; finds = λ e q. scan-miss ids t
 pub scanned-end : (ids : List ℕ) (start target : ℕ) → length ids ≤ start → Scanned ids start target (Next (length ids))
 unfolding scanPlace
 scanned-end ids start target h =
-    record { within = omega arith; finds = λ e q. scan-miss ids target (length ids) e (let p = place-le target ids in omega arith) (λ a b. omega arith) }
+    record { within = omega arith; finds = λ e q. scan-miss ids target (length ids) e (let p = notBelow-le target ids in omega arith) (λ a b. omega arith) }
 
-pub scanned-hit : (ids : List ℕ) (start target p : ℕ) → p < length ids → getD ids p 0 ≡ target → Scanned ids start target (Found p)
+pub scanned-hit : (ids : List ℕ) (start target p : ℕ) → p < length ids → getD ids p 0 ≡ target → Scanned ids start target (Hit p)
 unfolding scanPlace
 scanned-hit ids start target p h k = record { within = omega arith; finds = λ e q. scan-hit ids target p e h k }
 
@@ -133,7 +134,7 @@ unfolding scanPlace
 scanned-before ids start target h k =
     record {
       within = omega arith;
-      finds = λ e q. scan-miss ids target start e (let p = place-upto target ids e start h (omega arith) in omega arith) (λ a b. omega arith);
+      finds = λ e q. scan-miss ids target start e (let p = notBelow-upto target ids e start h (omega arith) in omega arith) (λ a b. omega arith);
     }
 
 -- after the strides: the binary search gives the place, and the last look what stands there

@@ -4,7 +4,8 @@ ghost use mathlib.Core.Path.{_≡_};
 ghost use Prim.Native.Nat.{_≤_, _<_};
 ghost use mathlib.Core.Bool.{true};
 ghost use lib.ListN.{length};
-ghost use Rattle.lists.specs.Lists.{rising, place};
+ghost use Rattle.lists.specs.Lists.{rising};
+ghost use Rattle.lists.specs.inner.Searching.{firstNotBelow};
 ghost use Rattle.offset_search.specs.inner.Search.{Searched, SearchedFrom, SearchedPart, Reached, ScannedAt, Scanned};
 
 // The binary search of `binary_search_from` in the part of the list between two places.
@@ -45,7 +46,7 @@ pub fn binary_search_by_id(ids: &[u32], target: u32) -> u32
 
 // Where a list has the target, or the place at which it would stand.
 pub enum Scan {
-    Found(u32),
+    Hit(u32),
     Next(u32),
 }
 
@@ -57,7 +58,7 @@ enum Reach {
 
 // Strides from `start`, whose id is below the target, each twice as long as the one before, until one is too long.
 fn gallop(ids: &[u32], start: u32, target: u32) -> Reach
-    requires { ⌜ (length (now ids) ≤ 65536) × (start < length (now ids)) × (rising (now ids) ≡ true → start < place target (now ids)) ⌝ }
+    requires { ⌜ (length (now ids) ≤ 65536) × (start < length (now ids)) × (rising (now ids) ≡ true → start < firstNotBelow target (now ids)) ⌝ }
     ensures { λ r. ⌜ Reached (now (ids .entry)) target r ⌝ }
 {
     let mut low = start;
@@ -88,7 +89,7 @@ fn scan_at(ids: &[u32], at: u32, target: u32) -> Scan
         return Scan::Next(at);
     }
     if ids[at as usize] == target {
-        return Scan::Found(at);
+        return Scan::Hit(at);
     }
     Scan::Next(at)
 }
@@ -104,13 +105,13 @@ pub fn scan_for_offset(ids: &[u32], start: u32, target: u32) -> Scan
     }
     let id = ids[start as usize];
     if id == target {
-        return Scan::Found(start);
+        return Scan::Hit(start);
     }
     if target < id {
         return Scan::Next(start);
     }
     match gallop(ids, start, target) {
-        Reach::At(p) => Scan::Found(p),
+        Reach::At(p) => Scan::Hit(p),
         Reach::Between(low, high) => {
             let p = binary_search_part(ids, low, high, target);
             scan_at(ids, p, target)

@@ -8,7 +8,7 @@ use lib.ListN.{length, getD}
 use lib.Dec.{ltb, eqb}
 use Rattle.plain.specs.Staged.{inserts}
 use Rattle.plain.specs.Plain.{Plain, Insertion, unchanged, appended, stopped, insertion, removed, raised}
-use Rattle.plain.specs.Calls.{Call, staging, merging, compacting, clearing, Lent, refusal, after}
+use Rattle.plain.specs.Calls.{Call, staging, merging, compacting, clearing, LentCall, refusal, after}
 use Rattle.plain.specs.Proper.{rowOf}
 
 -- what an insert adds to the rows appended, and what those after it do: the row appended is the one after the rows there were
@@ -26,18 +26,19 @@ insertsAppend (cells ∷ rest) p = appendsOn (insertion cells p) p (insertsAppen
 unfoldable pub mergeAppends : Plain → List (List ℕ)
 mergeAppends p = insertsAppend (inserts (p .staged)) (removed p)
 
--- "The rows appended are taken from the definition of each merge's steps": how many a call appends, 0 if it is refused
+-- "The rows appended are taken from the definition of each merge's steps": how many a call appends if it is not refused
 unfoldable pub appendedDone : Plain → Call → ℕ
 appendedDone p (staging r) = 0
 appendedDone p merging = length (mergeAppends p)
 appendedDone p compacting = 0
 appendedDone p clearing = 0
 
-unfoldable pub appendedBy : Plain → Lent → ℕ
+-- and 0 if it is
+unfoldable pub appendedBy : Plain → LentCall → ℕ
 appendedBy p c = cond (eqb (refusal p (c .lengths) (c .call)) 0) (appendedDone p (c .call)) 0
 
 -- all the calls together
-unfoldable pub appendedAll : Plain → List Lent → ℕ
+unfoldable pub appendedAll : Plain → List LentCall → ℕ
 appendedAll p [] = 0
 appendedAll p (c ∷ cs) = appendedBy p c + appendedAll (after p (c .lengths) (c .call)) cs
 
@@ -52,11 +53,11 @@ stampsDone before p merging = before ++ stampsOf p (mergeAppends p)
 stampsDone before p compacting = before
 stampsDone before p clearing = cond (ltb 0 (length (p .rows))) [] before
 
-unfoldable pub stampsAfter : List ℕ → Plain → Lent → List ℕ
+unfoldable pub stampsAfter : List ℕ → Plain → LentCall → List ℕ
 stampsAfter before p c = cond (eqb (refusal p (c .lengths) (c .call)) 0) (stampsDone before p (c .call)) before
 
 -- after all the calls, the first one first
-unfoldable pub stampsSince : List ℕ → Plain → List Lent → List ℕ
+unfoldable pub stampsSince : List ℕ → Plain → List LentCall → List ℕ
 stampsSince before p [] = before
 stampsSince before p (c ∷ cs) = stampsSince (stampsAfter before p c) (after p (c .lengths) (c .call)) cs
 

@@ -39,11 +39,11 @@ unfoldable pub after : Plain → Lengths → Call → Plain
 after p l c = cond (eqb (refusal p l c) 0) (done p c) p
 
 -- a call and the lengths of the stores that it is lent
-pub record Lent : Type 0 where
+pub record LentCall : Type 0 where
   pub call : Call
   pub lengths : Lengths
 
 -- all the calls, the first one first
-unfoldable pub afterAll : Plain → List Lent → Plain
+unfoldable pub afterAll : Plain → List LentCall → Plain
 afterAll p [] = p
 afterAll p (c ∷ cs) = afterAll (after p (c .lengths) (c .call)) cs

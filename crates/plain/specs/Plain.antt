@@ -8,7 +8,7 @@ use lib.ListN.{length, take, getD}
 use lib.Dec.{leb, ltb, eqb}
 use Rattle.lists.specs.Lists.{keep, count, firstOf}
 use Rattle.refusals.specs.Refusals.{rung, first}
-use Rattle.merge_rules.specs.Rules.{kept, made, ruled}
+use Rattle.merge_rules.specs.Rules.{keepsOld, makesRow, ruled}
 use Rattle.plain.specs.Staged.{Opening, Staged, keyRemovals, RowRemoval, rowRemovals, inserts, hasKey, skipped, due}
 
 -- "rows live or dead": "dead rows keep their cells until compaction drops them"
@@ -146,8 +146,8 @@ unfoldable pub put : List ℕ → Option Numbered → Plain → Insertion
 put cells none p = append cells p (p .rows)
 put cells (some old) p =
     elim (ruled (p .opening .rule) (p .opening .keys) (p .opening .sort) (old .cells) cells) [
-      | kept ↦ unchanged
-      | made row ↦ append row p (killIf (liveWithKey (p .opening .keys) (take (p .opening .keys) cells)) (p .rows))
+      | keepsOld ↦ unchanged
+      | makesRow row ↦ append row p (killIf (liveWithKey (p .opening .keys) (take (p .opening .keys) cells)) (p .rows))
     ]
 
 unfoldable pub insertion : List ℕ → Plain → Insertion
@@ -190,22 +190,22 @@ unfoldable pub unstaged : Plain → Plain
 unstaged p = with p (p .generation) (p .rows) []
 
 -- whether a merge whose inserts leave this compacts: if it stopped, "no compaction follows"
-unfoldable pub compacts : ℕ → Plain → Bool
-compacts status p = eqb status 0 && due (dead p) (length (p .rows)) (p .generation)
+unfoldable pub compactsAfter : ℕ → Plain → Bool
+compactsAfter status p = eqb status 0 && due (dead p) (length (p .rows)) (p .generation)
 
 -- what a merge leaves: stopped or not, "pending is emptied"
 unfoldable pub merged : Plain → Inserted
 merged p =
     let m = applied p in
-    inserted (cond (compacts (m .status) (m .table)) (compacted (unstaged (m .table))) (unstaged (m .table))) (m .status) (m .place) (m .added)
+    inserted (cond (compactsAfter (m .status) (m .table)) (compacted (unstaged (m .table))) (unstaged (m .table))) (m .status) (m .place) (m .added)
 
 -- (change 9) "how many rows its own compaction kept, 0 if there was none, and how many it dropped": those live and those dead
 -- at that moment
 unfoldable pub mergeKeeps : Plain → ℕ
-mergeKeeps p = let m = applied p in cond (compacts (m .status) (m .table)) (live (m .table)) 0
+mergeKeeps p = let m = applied p in cond (compactsAfter (m .status) (m .table)) (live (m .table)) 0
 
 unfoldable pub mergeDrops : Plain → ℕ
-mergeDrops p = let m = applied p in cond (compacts (m .status) (m .table)) (dead (m .table)) 0
+mergeDrops p = let m = applied p in cond (compactsAfter (m .status) (m .table)) (dead (m .table)) 0
 
 -- Clear: "Unless refused, empties pending; with rows, the rest too, and the generation rises by one". With rows nothing is
 -- left but the opening's numbers; without, the largest value stays

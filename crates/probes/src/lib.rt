@@ -10,7 +10,7 @@ ghost use Rattle.merge_rules.specs.Survivor.{survivor};
 ghost use Rattle.cells.specs.Cells.{isDead, compact, probed, keyHash};
 ghost use Rattle.constraints.specs.Constraints.{known, meets};
 ghost use Rattle.merge_rules.specs.Rules.{changesFrom};
-ghost use Rattle.probes.specs.inner.Parts.{Made, Survives, Sized};
+ghost use Rattle.probes.specs.inner.Parts.{MadeInto, Survives, Sized};
 ghost use mathlib.Core.Bool.{true};
 use constraints::Constraint;
 use key_index::Found;
@@ -103,7 +103,7 @@ pub extern "C" fn mouldgrey_make(
     new: &[u32],
     out: &mut [u32],
 ) -> bool
-    ensures { λ r. ⌜ Made rule keys sort (now (old .entry)) (now (new .entry)) (now (out .entry)) r (now (out .exit)) ⌝ }
+    ensures { λ r. ⌜ MadeInto rule keys sort (now (old .entry)) (now (new .entry)) (now (out .entry)) r (now (out .exit)) ⌝ }
 {
     if old.len() != new.len() {
         return false;

@@ -17,7 +17,7 @@ use Rattle.table.specs.declared.Header.{Header}
 use Rattle.table.specs.Numbers.{openingOf}
 use Rattle.table.specs.Sound.{keyedOf}
 use Rattle.table.specs.Promises.{Stores, stores, Represents, SlotsPast}
-use Rattle.pending.specs.inner.Becoming.{Steps, withDead, Waiting, kindOf, RecordLength}
+use Rattle.pending.specs.inner.Becoming.{Becomes, withDead, Waiting, kindOf, RecordLength}
 use Rattle.removals.specs.inner.Removals.{removed, removedAll, died, Removal, RemovalAt, Removed, Removable, Removals, RemovalNext, RemovedNext}
 use Rattle.pending.specs.Laws.Steps.{steps-refl, steps-then, waiting-start, words-some, waiting-next, waiting-kind, waiting-hash, waiting-key, waiting-row, waiting-row-key}
 use Rattle.pending.proofs.PassRecords.{Next, record-long}
@@ -37,7 +37,7 @@ module _ {h : Header} {rows keys pending : List ℕ} {at : ℕ} {r : Bool} {rows
     where
       table : (removal : Staged) (rest : List Staged) → Next h pending at removal rest → (kindOf removal ≡ 0 → ⊥)
           → (dead : ℕ) (sorts : List ℕ) (p : Plain) → Represents p (stores (withDead h dead) rows keys sorts pending)
-          → Steps p (removed removal p) (stores (withDead h dead) rows keys sorts pending) (stores (withDead h (dead + died r)) rows′ keys′ sorts pending)
+          → Becomes p (removed removal p) (stores (withDead h dead) rows keys sorts pending) (stores (withDead h (dead + died r)) rows′ keys′ sorts pending)
       table (insert cells) rest w ne dead sorts p t = absurd (ne (unfold kindOf in refl))
       table (removeKey key) rest w ne dead sorts p t =
           let q : at + 2 + h .keys - (at + 2) ≡ h .keys = omega arith in
@@ -52,7 +52,7 @@ module _ {h : Header} {rows keys pending : List ℕ} {at : ℕ} {r : Bool} {rows
     where
       table : (removal : Staged) (rest : List Staged) → Next h pending at removal rest → (kindOf removal ≡ 0 → ⊥)
           → (dead : ℕ) (sorts : List ℕ) (p : Plain) → Represents p (stores (withDead h dead) rows keys sorts pending)
-          → Steps p (removed removal p) (stores (withDead h dead) rows keys sorts pending) (stores (withDead h (dead + died r)) rows′ keys′ sorts pending)
+          → Becomes p (removed removal p) (stores (withDead h dead) rows keys sorts pending) (stores (withDead h (dead + died r)) rows′ keys′ sorts pending)
       table (insert cells) rest w ne dead sorts p t = absurd (ne (unfold kindOf in refl))
       table (removeKey key) rest w ne dead sorts p t = absurd (k (unfold kindOf in waiting-kind w))
       table (removeRow row key) rest w ne dead sorts p t =
@@ -91,7 +91,7 @@ pub record Removes (kind at : ℕ) (p : Plain) (s s′ : Stores) : Type 0 where
   pub rest : List Staged
   pub waiting : Waiting (openingOf (s .header)) (s .pending) (s .header .pending) at rest
   pub same : removedAll kind (p .staged) p ≡ removedAll kind rest now
-  pub steps : Steps p now s s′
+  pub steps : Becomes p now s s′
 
 -- the loop's invariant
 pub record Removing (h : Header) (rows keys pending : List ℕ) (kind : ℕ) (rows′ keys′ : List ℕ) (dead at words : ℕ) : Type 0 where
@@ -193,7 +193,7 @@ module _ {h : Header} {rows keys pending : List ℕ} {kind : ℕ} (a : Removable
         }
       where
         done : (sorts : List ℕ) (p : Plain) (t : Represents p (stores h rows keys sorts pending)) (rest : List Staged) → v .table sorts p t .rest ≡ rest
-            → Steps p (removedAll kind (p .staged) p) (stores h rows keys sorts pending) (stores (withDead h dead) rows′ keys′ sorts pending)
+            → Becomes p (removedAll kind (p .staged) p) (stores h rows keys sorts pending) (stores (withDead h dead) rows′ keys′ sorts pending)
         done sorts p t [] e =
             let g = v .table sorts p t in
             let q : removedAll kind (p .staged) p ≡ g .now = g .same ∙ rw e (unfold removedAll in refl) in

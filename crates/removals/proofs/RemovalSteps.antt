@@ -22,7 +22,7 @@ use Rattle.plain.specs.Plain.{Plain}
 use Rattle.table.specs.declared.Header.{Header}
 use Rattle.table.specs.Sound.{keyedOf}
 use Rattle.table.specs.Promises.{stores, Represents}
-use Rattle.pending.specs.inner.Becoming.{Steps, withDead, hashOf}
+use Rattle.pending.specs.inner.Becoming.{Becomes, withDead, hashOf}
 use Rattle.removals.specs.inner.Removals.{Kills, Removal, died, removed}
 use Rattle.table.specs.Laws.Shown.{in-live}
 use Rattle.pending.specs.Laws.Steps.{steps-refl}
@@ -68,7 +68,7 @@ found-same e q = rw e at q
 
 -- nothing changes
 unchanged : {p p′ : Plain} (h : Header) {rows keys sorts pending : List ℕ} (dead : ℕ) → p′ ≡ p → Represents p (stores (withDead h dead) rows keys sorts pending)
-    → Steps p p′ (stores (withDead h dead) rows keys sorts pending) (stores (withDead h (dead + died false)) rows keys sorts pending)
+    → Becomes p p′ (stores (withDead h dead) rows keys sorts pending) (stores (withDead h (dead + died false)) rows keys sorts pending)
 unfolding died
 unchanged h dead e r = rw (e, add-zero dead) (steps-refl r)
 
@@ -111,7 +111,7 @@ module _ (h : Header) (rows keys key : List ℕ) (hash : ℕ) (t : Keyed) (numbe
     module _ (r : Bool) (rows′ keys′ : List ℕ) (long : 2 * h .capacity ≤ length keys′) (kills : Kills t rows keys at slot r rows′ keys′) where
       -- the live row of the key dies
       dead-now : {p : Plain} (dead : ℕ) (sorts pending : List ℕ) → hash ≡ compact (keyHash key) → Represents p (stores (withDead h dead) rows keys sorts pending)
-          → Steps p (dying p at) (stores (withDead h dead) rows keys sorts pending) (stores (withDead h (dead + died r)) rows′ keys′ sorts pending)
+          → Becomes p (dying p at) (stores (withDead h dead) rows keys sorts pending) (stores (withDead h (dead + died r)) rows′ keys′ sorts pending)
       unfolding died
       dead-now dead sorts pending e s =
           let k : Kills (keyedOf h) rows keys at slot r rows′ keys′ = rw numbers at kills in

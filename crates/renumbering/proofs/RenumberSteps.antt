@@ -10,7 +10,7 @@ use lib.Count.{trailingZeros}
 use lib.ListN.{length, getD, set, length-set}
 use lib.Seq.{set-getD}
 use borrow.Author.Tests.{le-leb, lt-leb, eqb-true, not-false}
-use Rattle.lists.specs.Lists.{mapFront}
+use Rattle.lists.specs.inner.Searching.{mapFront}
 use Rattle.lists.specs.Laws.Front.{length-mapFront, getD-mapFront-past, mapFront-step}
 use Rattle.row_buffer.specs.Ranks.{setBelow, marks}
 use Rattle.marks.specs.inner.Marking.{otherAt}

@@ -4,7 +4,7 @@
 ghost use mathlib.Core.Path.{_≡_};
 ghost use Prim.Native.Nat.{_≤_, _<_};
 ghost use lib.ListN.{length};
-ghost use Rattle.lists.specs.Lists.{mapFront};
+ghost use Rattle.lists.specs.inner.Searching.{mapFront};
 ghost use Rattle.key_index.specs.Slots.{slots};
 ghost use Rattle.key_index.specs.inner.Index.{Fits};
 ghost use Rattle.renumbering.specs.inner.Renumbering.{renumbered, Ranked, Block, BlockRenumbered, Rest, SlotOf, Renumbered, RowRenumbered, FewRenumbered};

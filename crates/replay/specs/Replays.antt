@@ -6,7 +6,7 @@ use mathlib.Core.List.{List, [], map}
 use Rattle.refusals.specs.Refusals.{accepted, reply, verdict}
 use Rattle.plain.specs.Staged.{Opening}
 use Rattle.plain.specs.Refusing.{Lengths, openRefusal}
-use Rattle.plain.specs.Calls.{Call, staging, merging, compacting, clearing, Lent}
+use Rattle.plain.specs.Calls.{Call, staging, merging, compacting, clearing, LentCall}
 use Rattle.table.specs.declared.Header.{Header}
 use Rattle.table.specs.declared.TableAnswer.{TableAnswer}
 use Rattle.table.specs.Numbers.{tableSays}
@@ -25,15 +25,15 @@ lengthsFor l merging = l
 lengthsFor l compacting = l
 lengthsFor l clearing = withoutWords l
 
-abbrev pub lentTo : Lengths → Call → Lent
+abbrev pub lentTo : Lengths → Call → LentCall
 lentTo l c = record { call = c; lengths = lengthsFor l c }
 
-abbrev pub lentAll : Lengths → List Call → List Lent
+abbrev pub lentAll : Lengths → List Call → List LentCall
 lentAll l calls = map (lentTo l) calls
 
 module _ (o : Opening) (generation : ℕ) (calls : List Call) (b : Body) (pending : List ℕ) (w : CompactionWords) (answer : TableAnswer)
     (b′ : Body) (pending′ : List ℕ) (w′ : CompactionWords) where
-  abbrev pub made : List Lent
+  abbrev pub made : List LentCall
   made = lentAll (lengths (b .rows) (b .keys) (b .sorts) pending (w .live) (w .base)) calls
 
   pub record Replayed : Type 0 where

@@ -17,7 +17,7 @@ use Rattle.retain.specs.declared.Growing.{Growing}
 use Rattle.offsets.specs.declared.SubsetAnswer.the-variants.{Range, List as Ids}
 use Rattle.offsets.specs.Subsets.{range, list, shaped}
 use Rattle.offsets.specs.Answers.{Answered}
-use Rattle.retain.specs.inner.Growing.{pushed, Grows, NextId, CanAdd, Adds, Begins, Ends}
+use Rattle.retain.specs.inner.Growing.{pushed, Grows, NextId, CanAdd, Adds, GrowthBegins, GrowthEnds}
 use Rattle.offsets.specs.Laws.Subsets.{answered-range, answered-list, shaped-list, shaped-countFrom}
 
 -- ---- neighbouring ids
@@ -82,7 +82,7 @@ shaped-nil = refl
 
 -- ---- the states
 
-pub begun : Begins (record { start = 0; count = 0; written = 0 })
+pub begun : GrowthBegins (record { start = 0; count = 0; written = 0 })
 unfolding rising countFrom
 begun =
     record {
@@ -220,7 +220,7 @@ module _ (output : List ℕ) (g : Growing) (id : ℕ) where
 
 -- ---- the answer
 
-pub ended-range : (g : Growing) → g .written ≡ 0 → Ends g (Range (g .start) (g .start + g .count))
+pub ended-range : (g : Growing) → g .written ≡ 0 → GrowthEnds g (Range (g .start) (g .start + g .count))
 ended-range g d =
     record {
       ends = λ output₀ output kept s.
@@ -234,7 +234,7 @@ ended-range g d =
           rw (e, r .unwritten) (answered-range (g .start) (g .start + g .count) output₀);
     }
 
-pub ended-list : (g : Growing) → (g .written ≡ 0 → ⊥) → Ends g (Ids (g .count))
+pub ended-list : (g : Growing) → (g .written ≡ 0 → ⊥) → GrowthEnds g (Ids (g .count))
 ended-list g d = record { ends = ended }
   where
     ended : (output₀ output kept : List ℕ) → Grows output₀ output g kept → Answered (accepted (shaped kept)) output₀ (Ids (g .count)) output

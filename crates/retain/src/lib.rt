@@ -4,7 +4,7 @@ ghost use mathlib.Core.Path.{_≡_};
 ghost use Prim.Native.Nat.{_+_, _≤_, _<_};
 ghost use lib.ListN.{length, set};
 ghost use Rattle.lists.specs.Lists.{putAt, countFrom};
-ghost use Rattle.retain.specs.inner.Growing.{pushed, CanAdd, Adds, Begins, Ends};
+ghost use Rattle.retain.specs.inner.Growing.{pushed, CanAdd, Adds, GrowthBegins, GrowthEnds};
 use offsets::SubsetAnswer;
 
 // The answer of `retain` over a range as it grows: how many ids are kept, the first of them, and how many are written. None is
@@ -17,7 +17,7 @@ pub struct Growing {
 
 // Nothing is kept yet.
 pub fn empty() -> Growing
-    ensures { λ r. ⌜ Begins r ⌝ }
+    ensures { λ r. ⌜ GrowthBegins r ⌝ }
 {
     Growing {
         start: 0,
@@ -77,7 +77,7 @@ pub fn add_row_sorted(g: Growing, output: &mut [u32], id: u32) -> Growing
 // The answer, when no more is kept.
 pub fn grown(g: Growing) -> SubsetAnswer
     requires { ⌜ (g .written ≡ 0 → g .start + g .count < 4294967296) ⌝ }
-    ensures { λ r. ⌜ Ends g r ⌝ }
+    ensures { λ r. ⌜ GrowthEnds g r ⌝ }
 {
     if g.written == 0 {
         return SubsetAnswer::Range(g.start, g.start + g.count);

@@ -9,7 +9,7 @@ use lib.Dec.{eqb}
 use Rattle.lists.specs.Lists.{keep, rising}
 use Rattle.offsets.specs.Subsets.{Subset, range, list, members}
 use Rattle.plain.specs.Staged.{Opening}
-use Rattle.plain.specs.Calls.{Lent}
+use Rattle.plain.specs.Calls.{LentCall}
 use Rattle.table.specs.declared.Header.{Header}
 use Rattle.table.specs.Promises.{stores}
 use Rattle.history.specs.Histories.{History}
@@ -33,6 +33,6 @@ module _ (h : Header) (rows sorts : List ℕ) (start : Subset) (questions : List
     pub told : refined ≡ gathered .refined
     -- "If some accepted step refines, the ids left .. are exactly the live rows of the starting subset that ..", "rising,
     -- each once"
-    pub ids-left : (o : Opening) (generation : ℕ) (calls : List Lent) (keys pending : List ℕ)
+    pub ids-left : (o : Opening) (generation : ℕ) (calls : List LentCall) (keys pending : List ℕ)
         → History o generation calls (stores h rows keys sorts pending) → refined ≡ true
         → (members end ≡ keep (wanted (stores h rows keys sorts pending) gathered) (members start)) × (rising (members end) ≡ true)

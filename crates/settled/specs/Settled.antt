@@ -17,7 +17,7 @@ use Rattle.sort_entries.specs.Entries.{Entry, entry, fastRange}
 use Rattle.plain.specs.Staged.{Opening, insert}
 use Rattle.plain.specs.Plain.{Inserted, Row, Plain, Numbered, liveRows, opened, merged, compacted}
 use Rattle.plain.specs.Refusing.{Lengths}
-use Rattle.plain.specs.Calls.{staging, merging, Lent, afterAll}
+use Rattle.plain.specs.Calls.{staging, merging, LentCall, afterAll}
 use Rattle.table.specs.declared.Header.{Header}
 use Rattle.table.specs.declared.Largest.the-variants.{None as NoLargest}
 use Rattle.queries.specs.Queries.{refineOneReply, refineListReply, PageReply, pageReply}
@@ -124,10 +124,10 @@ levels = record { columns = 3; keys = 1; sort = 2; rule = 1; capacity = 100 }
 abbrev pub ample : Lengths
 ample = record { rows = 300; keys = 200; sorts = 200; pending = 100; liveWords = 2; baseWords = 2 }
 
-abbrev pub stagings : List (List ℕ) → List Lent
+abbrev pub stagings : List (List ℕ) → List LentCall
 stagings inserts = map (λ cells. record { call = staging (insert cells); lengths = ample }) inserts
 
-abbrev pub mergeCall : List Lent
+abbrev pub mergeCall : List LentCall
 mergeCall = record { call = merging; lengths = ample } ∷ []
 
 abbrev pub isSeven : Constraint

@@ -18,17 +18,17 @@ use Rattle.cells.specs.Cells.{isDead}
 use Rattle.constraints.specs.Constraints.{isLive}
 use Rattle.sort_entries.specs.Entries.{Entry, entry, entriesOf, firstRow, valueAt, entriesSound}
 use Rattle.sort_entries.specs.Laws.Stores.{length-entriesOf}
-use Rattle.sort_entries.specs.Laws.Sound.{valueOf, rowOf, value-word, row-word, sound-first, sound-facts, sound-of}
-use Rattle.sort_entries.specs.inner.Checks.{Told, told-yes, told-no, Follows, Advanced, headValue, cellSound, cellsSound}
+use Rattle.sort_entries.specs.Laws.Sound.{valueOf, entryRow, value-word, row-word, sound-first, sound-facts, sound-of}
+use Rattle.sort_entries.specs.inner.Checks.{Decides, decides-yes, decides-no, Follows, Advanced, headValue, cellSound, cellsSound}
 
 -- ---- one entry
 
 module _ (store : List ℕ) (rows i : ℕ) where
-  pub past-rows : rows ≤ getD store (2 * i + 1) 0 → Told (Follows store rows i) false
-  past-rows h = told-no (λ f. let a = f .inside in omega arith)
+  pub past-rows : rows ≤ getD store (2 * i + 1) 0 → Decides (Follows store rows i) false
+  past-rows h = decides-no (λ f. let a = f .inside in omega arith)
 
-  pub first-entry : getD store (2 * i + 1) 0 < rows → i ≡ 0 → Told (Follows store rows i) true
-  first-entry h z = told-yes (record { inside = h; value = λ k e. absurd (omega arith); row = λ k e. absurd (omega arith) })
+  pub first-entry : getD store (2 * i + 1) 0 < rows → i ≡ 0 → Decides (Follows store rows i) true
+  first-entry h z = decides-yes (record { inside = h; value = λ k e. absurd (omega arith); row = λ k e. absurd (omega arith) })
 
   -- the entry before, as the code reads it
   before-value : (k : ℕ) → k + 1 ≡ i → getD store (2 * k) 0 ≡ getD store (2 * i - 2) 0
@@ -37,14 +37,14 @@ module _ (store : List ℕ) (rows i : ℕ) where
   before-row : (k : ℕ) → k + 1 ≡ i → getD store (2 * k + 1) 0 ≡ getD store (2 * i - 1) 0
   before-row k e = let z : 2 * k + 1 ≡ 2 * i - 1 = omega arith in rw z
 
-  pub no-rise : (i ≡ 0 → ⊥) → getD store (2 * i) 0 ≤ getD store (2 * i - 2) 0 → Told (Follows store rows i) false
+  pub no-rise : (i ≡ 0 → ⊥) → getD store (2 * i) 0 ≤ getD store (2 * i - 2) 0 → Decides (Follows store rows i) false
   no-rise ne h =
       let z : i - 1 + 1 ≡ i = omega arith in
       let e = before-value (i - 1) z in
-      told-no (λ f. let a = f .value (i - 1) z in omega arith)
+      decides-no (λ f. let a = f .value (i - 1) z in omega arith)
 
   pub next-entry : getD store (2 * i + 1) 0 < rows → (i ≡ 0 → ⊥) → getD store (2 * i - 2) 0 < getD store (2 * i) 0
-      → Told (Follows store rows i) (ltb (getD store (2 * i - 1) 0) (getD store (2 * i + 1) 0))
+      → Decides (Follows store rows i) (ltb (getD store (2 * i - 1) 0) (getD store (2 * i + 1) 0))
   next-entry h ne up =
       record {
         yes = λ t.
@@ -105,7 +105,7 @@ module _ (store : List ℕ) (n rows : ℕ) where
           let c = value-word store n (i + 1) q in
           omega arith
 
-      on : (i : ℕ) → i + 1 < length (entriesOf n store) → rowOf (entriesOf n store) i < rowOf (entriesOf n store) (i + 1)
+      on : (i : ℕ) → i + 1 < length (entriesOf n store) → entryRow (entriesOf n store) i < entryRow (entriesOf n store) (i + 1)
       on i k =
           let q : i + 1 < n = rw (length-entriesOf n store) at k in
           let a = f (i + 1) q .row i refl in
@@ -113,7 +113,7 @@ module _ (store : List ℕ) (n rows : ℕ) where
           let c = row-word store n (i + 1) q in
           omega arith
 
-      inside : (i : ℕ) → i < n → rowOf (entriesOf n store) i < rows
+      inside : (i : ℕ) → i < n → entryRow (entriesOf n store) i < rows
       inside i h =
           let a = f i h .inside in
           let b = row-word store n i h in
@@ -141,13 +141,13 @@ one-less es at h =
     drop-cons es (at + 1) (entry 0 0) h ∙ rw y
 
 -- the entry after is reached, is not, or there is none
-passed : (es : List Entry) (at j : ℕ) → at + 1 < length es → rowOf es (at + 1) ≤ j → valueAt j (drop at es) ≡ valueAt j (drop (at + 1) es)
+passed : (es : List Entry) (at j : ℕ) → at + 1 < length es → entryRow es (at + 1) ≤ j → valueAt j (drop at es) ≡ valueAt j (drop (at + 1) es)
 passed es at j h k = ap (valueAt j) (two es at h) ∙ over ∙ ap (valueAt j) (sym (one-less es at h))
   where
     over : valueAt j (getD es at (entry 0 0) ∷ getD es (at + 1) (entry 0 0) ∷ drop (at + 2) es) ≡ valueAt j (getD es (at + 1) (entry 0 0) ∷ drop (at + 2) es)
     over = unfold valueAt in rw (le-leb _ _ k)
 
-ahead : (es : List Entry) (at j : ℕ) → at + 1 < length es → j < rowOf es (at + 1) → valueAt j (drop at es) ≡ headValue (drop at es)
+ahead : (es : List Entry) (at j : ℕ) → at + 1 < length es → j < entryRow es (at + 1) → valueAt j (drop at es) ≡ headValue (drop at es)
 ahead es at j h k = ap (valueAt j) (two es at h) ∙ shown ∙ ap headValue (sym (two es at h))
   where
     shown : valueAt j (getD es at (entry 0 0) ∷ getD es (at + 1) (entry 0 0) ∷ drop (at + 2) es) ≡ headValue (getD es at (entry 0 0) ∷ getD es (at + 1) (entry 0 0) ∷ drop (at + 2) es)
@@ -165,7 +165,7 @@ module _ (store : List ℕ) (n from row : ℕ) where
 
   module _ (at : ℕ) (s : Advancing store n from row at) where
     -- the row of the entry after, as the code reads it
-    row-after : at + 1 < n → rowOf (entriesOf n store) (at + 1) ≡ getD store (2 * at + 3) 0
+    row-after : at + 1 < n → entryRow (entriesOf n store) (at + 1) ≡ getD store (2 * at + 3) 0
     row-after h = let z : 2 * (at + 1) + 1 ≡ 2 * at + 3 = omega arith in row-word store n (at + 1) h ∙ ap (λ (k : ℕ). getD store k 0) z
 
     pub steps : at + 1 < n → getD store (2 * at + 3) 0 ≤ row → Advancing store n from row (at + 1)

@@ -20,9 +20,9 @@ unfoldable pub entriesOf : ℕ → List ℕ → List Entry
 entriesOf zero store = []
 entriesOf (suc n) store = entry (getD store 0 0) (getD store 1 0) ∷ entriesOf n (drop 2 store)
 
-unfoldable pub words : List Entry → List ℕ
-words [] = []
-words (e ∷ es) = e .value ∷ e .row ∷ words es
+unfoldable pub entryWords : List Entry → List ℕ
+entryWords [] = []
+entryWords (e ∷ es) = e .value ∷ e .row ∷ entryWords es
 
 -- there is no entry, or the last one's value passes the test
 unfoldable pub last : (ℕ → Bool) → List Entry → Bool

@@ -5,7 +5,7 @@ ghost use lib.ListN.{drop};
 ghost use Rattle.sort_entries.specs.Entries.{entriesOf, firstRow, rangeAt, entriesSound};
 ghost use Rattle.sort_entries.specs.inner.Append.{Room, Append};
 ghost use Rattle.sort_entries.specs.inner.Search.{Held, Located, Stands, Ranged, standsAt, rangeOf};
-ghost use Rattle.sort_entries.specs.inner.Checks.{Told, Follows, Advanced, headValue, Cells, cellSound, cellsSound};
+ghost use Rattle.sort_entries.specs.inner.Checks.{Decides, Follows, Advanced, headValue, Cells, cellSound, cellsSound};
 
 // A row that is appended, or kept by a compaction: its entry, if its value rises. Gives the new number of entries.
 pub fn append_entry(sorts: &mut [u32], entries: u32, value: u32, row: u32) -> u32
@@ -147,7 +147,7 @@ pub fn fast_range(sorts: &[u32], entries: u32, rows: u32, kind: u32, value: u32)
 fn entry_sound(sorts: &[u32], entries: u32, rows: u32, i: u32) -> bool
     requires { ⌜ Held (now sorts) entries ⌝ }
     requires { ⌜ i < entries ⌝ }
-    ensures { λ r. ⌜ Told (Follows (now (sorts .entry)) rows i) r ⌝ }
+    ensures { λ r. ⌜ Decides (Follows (now (sorts .entry)) rows i) r ⌝ }
 {
     let at = (2 * i) as usize;
     let value = sorts[at];

@@ -26,7 +26,7 @@ use Rattle.key_index.specs.declared.Found.the-variants.{None, At}
 use Rattle.key_index.specs.Slots.{LiveAt, keyAt, KeysSound}
 use Rattle.key_index.specs.inner.Index.{Fits, FoundIs, KeysDiffer}
 use Rattle.sort_entries.specs.Entries.{entriesOf, entriesSound}
-use Rattle.sort_entries.specs.inner.Checks.{Told, told-yes, told-no, cellsSound}
+use Rattle.sort_entries.specs.inner.Checks.{Decides, decides-yes, decides-no, cellsSound}
 use Rattle.sort_entries.specs.Laws.Cells.{cells-live, cells-of}
 use Rattle.sort_entries.specs.Laws.Stores.{last-entriesOf, last-none}
 use Rattle.sort_entries.specs.Laws.Sound.{sound-climb}
@@ -117,19 +117,19 @@ module _ (h : Header) (sorts : List ℕ) where
 
 -- the answers of `rows_sound`
 module _ (h : Header) (rows sorts : List ℕ) where
-  pub rows-miscounted : (h .dead ≡ deadRows h rows → ⊥) → Told (RowsSound h rows sorts) false
-  rows-miscounted f = told-no (λ s. f (s .dead-counted))
+  pub rows-miscounted : (h .dead ≡ deadRows h rows → ⊥) → Decides (RowsSound h rows sorts) false
+  rows-miscounted f = decides-no (λ s. f (s .dead-counted))
 
-  pub rows-unsorted : false ≡ entriesSound (entriesOf (h .entries) sorts) (h .rows) → Told (RowsSound h rows sorts) false
-  rows-unsorted e = told-no (λ s. false≢true (e ∙ s .entries-rise))
+  pub rows-unsorted : false ≡ entriesSound (entriesOf (h .entries) sorts) (h .rows) → Decides (RowsSound h rows sorts) false
+  rows-unsorted e = decides-no (λ s. false≢true (e ∙ s .entries-rise))
 
   pub rows-exceeding : true ≡ entriesSound (entriesOf (h .entries) sorts) (h .rows)
-      → false ≡ lastKept h sorts → Told (RowsSound h rows sorts) false
-  rows-exceeding e f = told-no (λ s. false≢true (f ∙ kept-last h sorts e ∙ s .largest-kept))
+      → false ≡ lastKept h sorts → Decides (RowsSound h rows sorts) false
+  rows-exceeding e f = decides-no (λ s. false≢true (f ∙ kept-last h sorts e ∙ s .largest-kept))
 
   pub rows-told : h .dead ≡ deadRows h rows → true ≡ entriesSound (entriesOf (h .entries) sorts) (h .rows)
       → true ≡ lastKept h sorts
-      → (r : Bool) → r ≡ cellsSound rows (h .columns) (h .sort) (h .rows) (entriesOf (h .entries) sorts) → Told (RowsSound h rows sorts) r
+      → (r : Bool) → r ≡ cellsSound rows (h .columns) (h .sort) (h .rows) (entriesOf (h .entries) sorts) → Decides (RowsSound h rows sorts) r
   rows-told d e m r f =
       record {
         yes = λ q.
@@ -174,10 +174,10 @@ module _ (t : Keyed) (rows keys : List ℕ) (row : ℕ) (fits : Fits t rows keys
 
 -- the answers of `index_sound`
 module _ (t : Keyed) (rows keys : List ℕ) where
-  pub index-astray : (KeysSound t rows keys → ⊥) → Told (IndexSound t rows keys) false
-  index-astray f = told-no (λ s. f (s .keyed))
+  pub index-astray : (KeysSound t rows keys → ⊥) → Decides (IndexSound t rows keys) false
+  index-astray f = decides-no (λ s. f (s .keyed))
 
-  pub index-told : KeysSound t rows keys → (r : Bool) → Told (KeysDiffer t rows) r → Told (IndexSound t rows keys) r
+  pub index-told : KeysSound t rows keys → (r : Bool) → Decides (KeysDiffer t rows) r → Decides (IndexSound t rows keys) r
   index-told k r d = record { yes = λ q. record { keyed = k; keys-differ = d .yes q }; no = λ q s. d .no q (s .keys-differ) }
 
 -- ---- pending records
@@ -274,8 +274,8 @@ module _ (o : Opening) (pending : List ℕ) (end at : ℕ) (reached : Reached o 
           (staged, rw n at (holds-tail o pending end at q staged s))
 
 module _ (h : Header) (pending : List ℕ) (at : ℕ) (reached : Reached (openingOf h) pending (h .pending) at) where
-  pub reach-broken : at < h .pending → RecordRead (openingOf h) pending (h .pending) at 0 → Told (PendingWhole h pending) false
-  reach-broken k read = told-no (λ w. let g = reached .on (w .0) (pending-holds h pending (w .0) (w .1)) in none (g .0) (g .1))
+  pub reach-broken : at < h .pending → RecordRead (openingOf h) pending (h .pending) at 0 → Decides (PendingWhole h pending) false
+  reach-broken k read = decides-no (λ w. let g = reached .on (w .0) (pending-holds h pending (w .0) (w .1)) in none (g .0) (g .1))
     where
       none : (staged : List Staged) → HoldsFrom (openingOf h) pending (h .pending) at staged → ⊥
       none [] s = omega (arith, holds-some (openingOf h) pending (h .pending) at s)
@@ -283,23 +283,23 @@ module _ (h : Header) (pending : List ℕ) (at : ℕ) (reached : Reached (openin
           let t = holds-tail (openingOf h) pending (h .pending) at q staged s in
           read .no refl q (holds-head (openingOf h) pending (h .pending) at q staged s) (omega (arith, t .counted))
 
-  pub reach-end : h .pending ≤ at → Told (PendingWhole h pending) true
+  pub reach-end : h .pending ≤ at → Decides (PendingWhole h pending) true
   reach-end k =
       let g = reached .back [] (holds-none (openingOf h) pending (h .pending) at (omega (arith, reached .inside))) in
-      told-yes (g .0, holds-pending h pending (g .0) (g .1))
+      decides-yes (g .0, holds-pending h pending (g .0) (g .1))
 
 -- ---- all parts
 
 module _ (h : Header) (rows keys sorts pending : List ℕ) where
-  pub stores-rows : (RowsSound h rows sorts → ⊥) → Told (SoundStores h rows keys sorts pending) false
-  stores-rows f = told-no (λ s. f (sound-rows h rows keys sorts pending (s .0) (s .1)))
+  pub stores-rows : (RowsSound h rows sorts → ⊥) → Decides (SoundStores h rows keys sorts pending) false
+  stores-rows f = decides-no (λ s. f (sound-rows h rows keys sorts pending (s .0) (s .1)))
 
   module _ (t : Keyed) (e : t ≡ keyedOf h) where
-    pub stores-index : (IndexSound t rows keys → ⊥) → Told (SoundStores h rows keys sorts pending) false
-    stores-index f = told-no (λ s. f (rw e (sound-index h rows keys sorts pending (s .0) (s .1))))
+    pub stores-index : (IndexSound t rows keys → ⊥) → Decides (SoundStores h rows keys sorts pending) false
+    stores-index f = decides-no (λ s. f (rw e (sound-index h rows keys sorts pending (s .0) (s .1))))
 
     pub stores-told : soundRefusal h (length rows) (length keys) (length sorts) (length pending) ≡ 0 → RowsSound h rows sorts → IndexSound t rows keys
-        → (r : Bool) → Told (PendingWhole h pending) r → Told (SoundStores h rows keys sorts pending) r
+        → (r : Bool) → Decides (PendingWhole h pending) r → Decides (SoundStores h rows keys sorts pending) r
     stores-told tested a b r w =
         record {
           yes = λ q. let p = w .yes q in (p .0, parts-sound h rows keys sorts pending (p .0) tested a (rw e at b) (p .1));
@@ -317,7 +317,7 @@ module _ (h : Header) (rows keys sorts pending : List ℕ) where
       }
 
   pub checked-answered : (n : ℕ) → n ≡ soundRefusal h (length rows) (length keys) (length sorts) (length pending) → n ≡ 0 → (r : Bool)
-      → Told (SoundStores h rows keys sorts pending) r → Checked h rows keys sorts pending (IsSound r)
+      → Decides (SoundStores h rows keys sorts pending) r → Checked h rows keys sorts pending (IsSound r)
   unfolding soundSays verdict reply
   checked-answered n e z r w =
       record {

@@ -7,7 +7,7 @@ ghost use lib.ListN.{length};
 ghost use Rattle.key_index.specs.Slots.{KeysSound};
 ghost use Rattle.key_index.specs.inner.Index.{Fits, KeysDiffer};
 ghost use Rattle.sort_entries.specs.inner.Search.{Held};
-ghost use Rattle.sort_entries.specs.inner.Checks.{Told, Cells};
+ghost use Rattle.sort_entries.specs.inner.Checks.{Decides, Cells};
 ghost use Rattle.table.specs.Numbers.{openingOf};
 ghost use Rattle.table.specs.Refusing.{soundRefusal};
 ghost use Rattle.table.specs.Promises.{Checked};
@@ -63,7 +63,7 @@ fn largest_sound(h: Header, sorts: &[u32]) -> bool
 fn rows_sound(h: Header, rows: &[u32], sorts: &[u32]) -> bool
     requires { ⌜ Cells (now rows) (h .columns) (h .sort) (h .rows) ⌝ }
     requires { ⌜ Held (now sorts) (h .entries) ⌝ }
-    ensures { λ r. ⌜ Told (RowsSound h (now (rows .entry)) (now (sorts .entry))) r ⌝ }
+    ensures { λ r. ⌜ Decides (RowsSound h (now (rows .entry)) (now (sorts .entry))) r ⌝ }
 {
     if h.dead != dead_rows(h, rows) {
         return false;
@@ -98,7 +98,7 @@ fn finds_itself(t: Keyed, rows: &[u32], keys: &[u32], row: u32) -> bool
 // Whether the keys of live rows differ, where the key store is sound.
 fn keys_differ(t: Keyed, rows: &[u32], keys: &[u32]) -> bool
     requires { ⌜ (Fits t (now rows) (now keys)) × (KeysSound t (now rows) (now keys)) ⌝ }
-    ensures { λ r. ⌜ Told (KeysDiffer t (now (rows .entry))) r ⌝ }
+    ensures { λ r. ⌜ Decides (KeysDiffer t (now (rows .entry))) r ⌝ }
 {
     let mut row: u32 = 0;
     while row < t.rows {
@@ -113,7 +113,7 @@ fn keys_differ(t: Keyed, rows: &[u32], keys: &[u32]) -> bool
 // Whether the key store leads to exactly the live rows, and their keys differ.
 fn index_sound(t: Keyed, rows: &[u32], keys: &[u32]) -> bool
     requires { ⌜ Fits t (now rows) (now keys) ⌝ }
-    ensures { λ r. ⌜ Told (IndexSound t (now (rows .entry)) (now (keys .entry))) r ⌝ }
+    ensures { λ r. ⌜ Decides (IndexSound t (now (rows .entry)) (now (keys .entry))) r ⌝ }
 {
     if !key_check::keys_sound(t, rows, keys) {
         return false;
@@ -173,7 +173,7 @@ fn record_words(h: Header, pending: &[u32], at: u32) -> u32
 // Whether the pending words in use are whole records.
 fn pending_whole(h: Header, pending: &[u32]) -> bool
     requires { ⌜ PendingIn h (now pending) ⌝ }
-    ensures { λ r. ⌜ Told (PendingWhole h (now (pending .entry))) r ⌝ }
+    ensures { λ r. ⌜ Decides (PendingWhole h (now (pending .entry))) r ⌝ }
 {
     let mut at: u32 = 0;
     while at < h.pending {
@@ -189,7 +189,7 @@ fn pending_whole(h: Header, pending: &[u32]) -> bool
 // Whether a header and stores that passed tests 1 and 2 are sound.
 fn stores_sound(h: Header, rows: &[u32], keys: &[u32], sorts: &[u32], pending: &[u32]) -> bool
     requires { ⌜ soundRefusal h (length (now rows)) (length (now keys)) (length (now sorts)) (length (now pending)) ≡ 0 ⌝ }
-    ensures { λ r. ⌜ Told (SoundStores h (now (rows .entry)) (now (keys .entry)) (now (sorts .entry)) (now (pending .entry))) r ⌝ }
+    ensures { λ r. ⌜ Decides (SoundStores h (now (rows .entry)) (now (keys .entry)) (now (sorts .entry)) (now (pending .entry))) r ⌝ }
 {
     if !rows_sound(h, rows, sorts) {
         return false;

@@ -20,7 +20,7 @@ use Rattle.offsets.specs.declared.SubsetAnswer.the-variants.{Refused, Range, Li
 use Rattle.offsets.specs.Subsets.{Subset, range, list, members, size, retain, narrowed}
 use Rattle.offsets.specs.Answers.{subsetOf, Answered}
 use Rattle.offsets.specs.inner.Writing.{Wrote}
-use Rattle.retain.specs.inner.Growing.{Grows, Ends}
+use Rattle.retain.specs.inner.Growing.{Grows, GrowthEnds}
 use Rattle.offsets.specs.Laws.Subsets.{dense-is, sparse-is, formed-order, length-members, answered-range, answered-list}
 use Rattle.offsets.specs.Laws.Forms.{length-range, getD-range, narrowed-all, narrowed-some, narrowed-list}
 use Rattle.offsets.specs.Laws.Answers.{answered-refused as refused-answered}
@@ -33,7 +33,7 @@ use Rattle.queries.specs.inner.Tests.{Askable, RefineRefused, MatchRefused, Pag
 use Rattle.sweeping.specs.declared.Sweep.{Sweep}
 use Rattle.sweeping.specs.declared.Question.{Question}
 use Rattle.sweeping.specs.declared.Question.the-variants.{Refine, Match, Page}
-use Rattle.sweeping.specs.inner.Sweeping.{upTo, places, visits, firstPlace, roomFor, refusalOf, Placed, Finished, Opened, Asked, CanWrite, Writes, whole, CanClose, RefineClosed}
+use Rattle.sweeping.specs.inner.Sweeping.{upTo, places, visits, firstPlace, roomFor, refusalOf, BeginsAt, Finished, SweepBegins, SweepAnswered, CanWrite, Writes, whole, CanClose, RefineClosed}
 use Rattle.sweeping.proofs.Visits.{upTo-nil, upTo-all, visited-none, length-visited, visited-all, visited-end}
 
 -- ---- replies
@@ -53,7 +53,7 @@ module _ (number : ℕ) (value : Subset) (output : List ℕ) where
 module _ (question : Question) (h : Header) (rows : ℕ) (subset : Subset) (knows : Bool) (output number : ℕ)
     (numbered : (conditions : List Constraint) → knows ≡ every (known (h .columns)) conditions → number ≡ refusalOf question h rows subset conditions output) (s : Sweep) where
   -- a refused question has no places
-  opened-refused : (number ≡ 0 → ⊥) → Placed subset number 0 0 0 s → Opened question h rows subset knows output s
+  opened-refused : (number ≡ 0 → ⊥) → BeginsAt subset number 0 0 0 s → SweepBegins question h rows subset knows output s
   opened-refused n p =
       record {
         number-is = λ conditions k. p .refused-is ∙ numbered conditions k;
@@ -75,9 +75,9 @@ module _ (question : Question) (h : Header) (rows : ℕ) (subset : Subset) (know
         no-places = λ _. p .next-is ∙ sym (p .end-is);
       }
 
-  module _ (z : number ≡ 0) (a : Askable h rows subset) (next end most : ℕ) (p : Placed subset 0 next end most s) where
+  module _ (z : number ≡ 0) (a : Askable h rows subset) (next end most : ℕ) (p : BeginsAt subset 0 next end most s) where
     opened-over : next ≤ end → end ≤ size subset → (next < end → 0 < most) → (1 < most → end - next ≤ output) → next ≡ firstPlace question
-        → ((test : ℕ → Bool) → upTo most test (visited subset next (end - next)) ≡ visits question test subset) → roomFor question subset ≤ output → Opened question h rows subset knows output s
+        → ((test : ℕ → Bool) → upTo most test (visited subset next (end - next)) ≡ visits question test subset) → roomFor question subset ≤ output → SweepBegins question h rows subset knows output s
     unfolding places
     opened-over o w m r f v u =
         record {
@@ -104,32 +104,32 @@ all-places : (subset : Subset) → visited subset 0 (size subset - 0) ≡ member
 all-places subset = let k : size subset - 0 ≡ size subset = omega arith in ap (visited subset 0) k ∙ visited-all subset
 
 module _ (h : Header) (rows : ℕ) (subset : Subset) (knows : Bool) (s : Sweep) where
-  pub refine-stopped : (output number : ℕ) → RefineRefused h rows subset knows output number → (number ≡ 0 → ⊥) → Placed subset number 0 0 0 s → Opened Refine h rows subset knows output s
+  pub refine-stopped : (output number : ℕ) → RefineRefused h rows subset knows output number → (number ≡ 0 → ⊥) → BeginsAt subset number 0 0 0 s → SweepBegins Refine h rows subset knows output s
   unfolding refusalOf
   refine-stopped output number r n p = opened-refused Refine h rows subset knows output number (r .number-is) s n p
 
-  pub match-stopped : (number : ℕ) → MatchRefused h rows subset knows number → (number ≡ 0 → ⊥) → Placed subset number 0 0 0 s → (output : ℕ) → Opened Match h rows subset knows output s
+  pub match-stopped : (number : ℕ) → MatchRefused h rows subset knows number → (number ≡ 0 → ⊥) → BeginsAt subset number 0 0 0 s → (output : ℕ) → SweepBegins Match h rows subset knows output s
   unfolding refusalOf
   match-stopped number r n p output = opened-refused Match h rows subset knows output number (r .number-is) s n p
 
-  pub page-stopped : (start n output number : ℕ) → PageRefused h rows subset start n knows output number → (number ≡ 0 → ⊥) → Placed subset number 0 0 0 s → Opened (Page start n) h rows subset knows output s
+  pub page-stopped : (start n output number : ℕ) → PageRefused h rows subset start n knows output number → (number ≡ 0 → ⊥) → BeginsAt subset number 0 0 0 s → SweepBegins (Page start n) h rows subset knows output s
   unfolding refusalOf
   page-stopped start n output number r m p = opened-refused (Page start n) h rows subset knows output number (r .number-is) s m p
 
-  pub refine-opened : (output number : ℕ) → RefineRefused h rows subset knows output number → number ≡ 0 → Placed subset 0 0 (size subset) (size subset) s → Opened Refine h rows subset knows output s
+  pub refine-opened : (output number : ℕ) → RefineRefused h rows subset knows output number → number ≡ 0 → BeginsAt subset 0 0 (size subset) (size subset) s → SweepBegins Refine h rows subset knows output s
   unfolding refusalOf visits firstPlace roomFor
   refine-opened output number r z p =
       opened-over Refine h rows subset knows output number (r .number-is) s z (r .askable z) 0 (size subset) (size subset) p (omega arith) (omega arith) (λ q. q) (λ _. omega (arith, r .room z)) refl
       (λ test. rw (all-places subset) (upTo-all test (size subset) (members subset) (omega (arith, length-members subset)))) (r .room z)
 
-  pub match-opened : (number : ℕ) → MatchRefused h rows subset knows number → number ≡ 0 → Placed subset 0 0 (size subset) 1 s → (output : ℕ) → Opened Match h rows subset knows output s
+  pub match-opened : (number : ℕ) → MatchRefused h rows subset knows number → number ≡ 0 → BeginsAt subset 0 0 (size subset) 1 s → (output : ℕ) → SweepBegins Match h rows subset knows output s
   unfolding refusalOf visits firstPlace roomFor
   match-opened number r z p output =
       opened-over Match h rows subset knows output number (r .number-is) s z (r .askable z) 0 (size subset) 1 p (omega arith) (omega arith) (λ _. omega arith) (λ q. absurd (omega (arith, q))) refl
       (λ test. rw (all-places subset)) (omega arith)
 
   pub page-opened : (start n output number : ℕ) → PageRefused h rows subset start n knows output number → number ≡ 0
-      → Placed subset 0 start (start + min n (size subset - start)) (min n (size subset - start)) s → Opened (Page start n) h rows subset knows output s
+      → BeginsAt subset 0 start (start + min n (size subset - start)) (min n (size subset - start)) s → SweepBegins (Page start n) h rows subset knows output s
   unfolding refusalOf visits firstPlace roomFor
   page-opened start n output number r z p =
       let few = min n (size subset - start) in
@@ -150,7 +150,7 @@ nothing-kept test ids output output′ g e w =
 
 -- a question over its places, or refused
 module _ (question : Question) (h : Header) (rows : List ℕ) (subset : Subset) (conditions : List Constraint) (knows : Bool) (output : List ℕ) (s : Sweep) (k : knows ≡ every (known (h .columns)) conditions)
-    (o : Opened question h (length rows) subset knows (length output) s) (s′ : Sweep) (output′ : List ℕ) (f : Finished h rows subset (matches h rows conditions) s output s′ output′) where
+    (o : SweepBegins question h (length rows) subset knows (length output) s) (s′ : Sweep) (output′ : List ℕ) (f : Finished h rows subset (matches h rows conditions) s output s′ output′) where
   abbrev wanted : ℕ → Bool
   wanted = matches h rows conditions
 
@@ -163,7 +163,7 @@ module _ (question : Question) (h : Header) (rows : List ℕ) (subset : Subset) 
       let e : visited subset (s .next) (s .end - s .next) ≡ [] = visited-none subset (s .next) (s .end - s .next) (omega (arith, o .no-places (λ z. n (f .refused-is ∙ z)))) in
       ap (upTo (s .most) wanted) e ∙ upTo-nil wanted (s .most)
 
-  pub asked-all : Asked question h rows subset conditions output s′ output′
+  pub asked-all : SweepAnswered question h rows subset conditions output s′ output′
   asked-all =
       record {
         number-is = f .refused-is ∙ o .number-is conditions k;
@@ -178,7 +178,7 @@ module _ (question : Question) (h : Header) (rows : List ℕ) (subset : Subset) 
 
 -- ---- refine
 
-module _ (h : Header) (rows : List ℕ) (subset : Subset) (conditions : List Constraint) (output : List ℕ) (s : Sweep) (output′ : List ℕ) (a : Asked Refine h rows subset conditions output s output′) (z : s .refused ≡ 0) where
+module _ (h : Header) (rows : List ℕ) (subset : Subset) (conditions : List Constraint) (output : List ℕ) (s : Sweep) (output′ : List ℕ) (a : SweepAnswered Refine h rows subset conditions output s output′) (z : s .refused ≡ 0) where
   abbrev test : ℕ → Bool
   test = matches h rows conditions
 
@@ -193,7 +193,7 @@ module _ (h : Header) (rows : List ℕ) (subset : Subset) (conditions : List Con
 -- ---- refine by one
 
 module _ (head : SubsetHead) (ids : List ℕ) (test : ℕ → Bool) (output output′ : List ℕ) where
-  pub retained-range : (g : Growing) (answer : SubsetAnswer) → head .dense ≡ true → Grows output output′ g (keep test (members (subsetOf head ids))) → Ends g answer
+  pub retained-range : (g : Growing) (answer : SubsetAnswer) → head .dense ≡ true → Grows output output′ g (keep test (members (subsetOf head ids))) → GrowthEnds g answer
       → Answered (accepted (retain test (subsetOf head ids))) output answer output′
   retained-range g answer e grows ends = rw (dense-is head ids e) (grown-retains test (head .start) (head .end) (rw (dense-is head ids e) at grows) ends)
 
@@ -201,7 +201,7 @@ module _ (head : SubsetHead) (ids : List ℕ) (test : ℕ → Bool) (output outp
   retained-list n e w = rw (sparse-is head ids e) (listed-retains test ids (rw (sparse-is head ids e) at w))
 
 module _ (h : Header) (rows : List ℕ) (subset : Subset) (c : Constraint) (knows : Bool) (output : List ℕ) (s : Sweep)
-    (k : knows ≡ known (h .columns) c) (o : Opened Refine h (length rows) subset knows (length output) s) where
+    (k : knows ≡ known (h .columns) c) (o : SweepBegins Refine h (length rows) subset knows (length output) s) where
   one-known : knows ≡ every (known (h .columns)) (c ∷ [])
   unfolding every
   one-known = k ∙ sym (and-true (known (h .columns) c))
@@ -210,7 +210,7 @@ module _ (h : Header) (rows : List ℕ) (subset : Subset) (c : Constraint) (know
   unfolding refusalOf
   one-number = o .number-is (c ∷ []) one-known
 
-  pub one-asked : (s′ : Sweep) (output′ : List ℕ) → Finished h rows subset (matches h rows (c ∷ [])) s output s′ output′ → Asked Refine h rows subset (c ∷ []) output s′ output′
+  pub one-asked : (s′ : Sweep) (output′ : List ℕ) → Finished h rows subset (matches h rows (c ∷ [])) s output s′ output′ → SweepAnswered Refine h rows subset (c ∷ []) output s′ output′
   one-asked s′ output′ f = asked-all Refine h rows subset (c ∷ []) knows output s one-known o s′ output′ f
 
   pub one-refused : (s .refused ≡ 0 → ⊥) → RefinedOne h rows subset c output (Refused (s .refused)) output
@@ -309,7 +309,7 @@ module _ (head : SubsetHead) (s : Sweep) (output : List ℕ) where
       listed ids test output₀ grows = rw (narrowed-list test ids) (answered-list _ output₀ n output′ (w .writes output₀ _ grows))
 
 module _ (h : Header) (rows : List ℕ) (head : SubsetHead) (ids : List ℕ) (conditions : List Constraint) (output : List ℕ) (s : Sweep) (output′ : List ℕ)
-    (a : Asked Refine h rows (subsetOf head ids) conditions output s output′) where
+    (a : SweepAnswered Refine h rows (subsetOf head ids) conditions output s output′) where
   -- what the end of a refine by a list asks
   pub can-close : s .refused ≡ 0 → CanClose head s output′
   can-close z =

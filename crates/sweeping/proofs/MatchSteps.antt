@@ -17,7 +17,7 @@ use Rattle.queries.specs.declared.MatchAnswer.the-variants.{Refused as MatchIsR
 use Rattle.sweeping.specs.declared.Sweep.{Sweep}
 use Rattle.sweeping.specs.declared.Question.the-variants.{Match}
 use Rattle.queries.specs.Queries.{matches, matchRefusal, matchReply, matchSays, Matched}
-use Rattle.sweeping.specs.inner.Sweeping.{visits, refusalOf, Asked, MatchClosed}
+use Rattle.sweeping.specs.inner.Sweeping.{visits, refusalOf, SweepAnswered, MatchClosed}
 use Rattle.sweeping.proofs.Visits.{first-tells}
 
 module _ (s : Sweep) where
@@ -27,7 +27,7 @@ module _ (s : Sweep) where
   pub match-told : s .refused ≡ 0 → MatchClosed s (Matches (not (eqb (s .found .count) 0)))
   match-told z = record { refuses = λ n. absurd (n z); tells = λ _. refl }
 
-module _ (h : Header) (rows : List ℕ) (subset : Subset) (conditions : List Constraint) (output : List ℕ) (s : Sweep) (output′ : List ℕ) (a : Asked Match h rows subset conditions output s output′) where
+module _ (h : Header) (rows : List ℕ) (subset : Subset) (conditions : List Constraint) (output : List ℕ) (s : Sweep) (output′ : List ℕ) (a : SweepAnswered Match h rows subset conditions output s output′) where
   abbrev test : ℕ → Bool
   test = matches h rows conditions
 

@@ -24,7 +24,7 @@ use Rattle.queries.specs.declared.PageAnswer.the-variants.{Refused as PageIsRef
 use Rattle.sweeping.specs.declared.Sweep.{Sweep}
 use Rattle.sweeping.specs.declared.Question.the-variants.{Page}
 use Rattle.queries.specs.Queries.{matches, deadAmong, pageRefusal, visited, nextPlace, PageReply, nextSays, pageSays, pageTold, pageReply, pageWrites, PageRead}
-use Rattle.sweeping.specs.inner.Sweeping.{visits, firstPlace, roomFor, refusalOf, Asked, CanWrite, Writes, nextOf, nextAt, PageClosed}
+use Rattle.sweeping.specs.inner.Sweeping.{visits, firstPlace, roomFor, refusalOf, SweepAnswered, CanWrite, Writes, nextOf, nextAt, PageClosed}
 use Rattle.sweeping.proofs.Visits.{length-visited, visited-end, kept-few}
 
 -- ---- the end
@@ -70,7 +70,7 @@ next-is subset start n next l e =
     ]
 
 module _ (h : Header) (rows : List ℕ) (subset : Subset) (start n : ℕ) (conditions : List Constraint) (output : List ℕ) (s : Sweep) (output′ : List ℕ)
-    (a : Asked (Page start n) h rows subset conditions output s output′) where
+    (a : SweepAnswered (Page start n) h rows subset conditions output s output′) where
   abbrev keeps : ℕ → Bool
   keeps = matches h rows conditions
 

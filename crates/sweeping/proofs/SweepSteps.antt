@@ -26,7 +26,7 @@ use Rattle.table.specs.Refusing.{rowsShort}
 use Rattle.table.specs.Laws.Refusals.{outside-inside}
 use Rattle.sweeping.specs.declared.Sweep.{Sweep}
 use Rattle.queries.specs.Queries.{matches, pastRows, deadAmong, visited}
-use Rattle.sweeping.specs.inner.Sweeping.{RowLies, upTo, places, done, Sweepable, Swept, Keeps, CanMove, Moves, CanStep, Steps, Finished, CanWrite, Writes}
+use Rattle.sweeping.specs.inner.Sweeping.{RowLies, upTo, places, sweptIds, Sweepable, Swept, Keeps, CanMove, Moves, CanStep, SweepSteps, Finished, CanWrite, Writes}
 use Rattle.queries.specs.inner.Tests.{Askable}
 use Rattle.sweeping.proofs.Visits.{upTo-nil, upTo-hit, upTo-miss, visited-none, length-visited, visited-more, visited-first, kept-few, dead-more, dead-few}
 
@@ -116,7 +116,7 @@ module _ (h : Header) (rows : List ℕ) (subset : Subset) (s : Sweep) (output : 
   abbrev counted : Sweep
   counted = record { refused = s .refused; next = s .next; end = s .end; id = s .id; most = s .most; dead = s .dead + n; found = s .found }
 
-  pub steps-miss : (hit : Bool) → hit ≡ false → (s′ : Sweep) → Moves subset counted s′ → Steps h rows subset s hit output s′ output
+  pub steps-miss : (hit : Bool) → hit ≡ false → (s′ : Sweep) → Moves subset counted s′ → SweepSteps h rows subset s hit output s′ output
   steps-miss hit z s′ m =
       record {
         refused-is = m .refused-is;
@@ -130,7 +130,7 @@ module _ (h : Header) (rows : List ℕ) (subset : Subset) (s : Sweep) (output : 
         skips = λ _. (m .found-is, refl, m .end-is);
       }
 
-  pub steps-hit : (hit : Bool) → hit ≡ true → (t s′ : Sweep) (output′ : List ℕ) → Keeps counted output t output′ → Moves subset t s′ → Steps h rows subset s hit output s′ output′
+  pub steps-hit : (hit : Bool) → hit ≡ true → (t s′ : Sweep) (output′ : List ℕ) → Keeps counted output t output′ → Moves subset t s′ → SweepSteps h rows subset s hit output s′ output′
   steps-hit hit z t s′ output′ k m =
       record {
         refused-is = m .refused-is ∙ k .refused-is;
@@ -168,7 +168,7 @@ keep-none test xs x e = keep-append test xs (x ∷ []) ∙ rw e (append-nil (kee
 
 -- the beginning
 pub swept-begin : (h : Header) (rows : List ℕ) (subset : Subset) (test : ℕ → Bool) (s : Sweep) (output : List ℕ) → Sweepable h (length rows) subset s output → Swept h rows subset test s output s output
-unfolding keep deadAmong count done
+unfolding keep deadAmong count sweptIds
 swept-begin h rows subset test s output w =
     let e : visited subset (s .next) (s .next - s .next) ≡ [] = visited-none subset (s .next) (s .next - s .next) (omega arith) in
     let n = w .none-found .nothing in
@@ -189,10 +189,10 @@ swept-begin h rows subset test s output w =
 module _ (h : Header) (rows : List ℕ) (subset : Subset) (test : ℕ → Bool) (s₀ : Sweep) (output₀ : List ℕ) (w : Sweepable h (length rows) subset s₀ output₀)
     (s : Sweep) (output : List ℕ) (v : Swept h rows subset test s₀ output₀ s output) where
   abbrev so-far : List ℕ
-  so-far = done subset s₀ s
+  so-far = sweptIds subset s₀ s
 
   long : length so-far ≡ s .next - s₀ .next
-  unfolding done
+  unfolding sweptIds
   long = length-visited subset (s₀ .next) (s .next - s₀ .next) (omega (arith, v .from, v .upto, v .within, w .within))
 
   module _ (m : s .next < s .end) where
@@ -203,8 +203,8 @@ module _ (h : Header) (rows : List ℕ) (subset : Subset) (test : ℕ → Bool) 
     place-in = omega (arith, w .within, v .within)
 
     -- the id at the next place comes after those visited
-    with-next : (s′ : Sweep) → s′ .next ≡ s .next + 1 → done subset s₀ s′ ≡ so-far ++ (s .id ∷ [])
-    unfolding done
+    with-next : (s′ : Sweep) → s′ .next ≡ s .next + 1 → sweptIds subset s₀ s′ ≡ so-far ++ (s .id ∷ [])
+    unfolding sweptIds
     with-next s′ e =
         let n : s′ .next - s₀ .next ≡ s .next - s₀ .next + 1 = omega (arith, e, v .from) in
         let sum : s₀ .next + (s .next - s₀ .next) ≡ s .next = omega (arith, v .from) in
@@ -223,9 +223,9 @@ module _ (h : Header) (rows : List ℕ) (subset : Subset) (test : ℕ → Bool) 
     next-id : test (s .id) ≡ true → NextId output₀ (keep test so-far) (s .id)
     next-id e =
         record {
-          up = rw (← keep-one test so-far (s .id) e, ← with-next after refl) (unfold done in kept-rising subset test (s₀ .next) (after .next - s₀ .next) (rising-members subset (asked .formed)));
+          up = rw (← keep-one test so-far (s .id) e, ← with-next after refl) (unfold sweptIds in kept-rising subset test (s₀ .next) (after .next - s₀ .next) (rising-members subset (asked .formed)));
           room = λ l.
-              let few : length (keep test so-far) ≤ s .next - s₀ .next = unfold done in kept-few subset test (s₀ .next) (s .next - s₀ .next) in
+              let few : length (keep test so-far) ≤ s .next - s₀ .next = unfold sweptIds in kept-few subset test (s₀ .next) (s .next - s₀ .next) in
               let wants = v .wants m in
               omega (arith, w .room (omega (arith, v .grows .number, v .most-is)), v .within, v .from);
           small = rw (v .id-is m) (omega (arith, id-small h (length rows) subset asked (s .next) place-in));
@@ -243,12 +243,12 @@ module _ (h : Header) (rows : List ℕ) (subset : Subset) (test : ℕ → Bool) 
           can-add = λ q. record { output₀ = output₀; kept = keep test so-far; grows = v .grows; next = next-id (sym e ∙ q) };
         }
 
-    module _ (hit : Bool) (e : hit ≡ test (s .id)) (s′ : Sweep) (output′ : List ℕ) (t : Steps h rows subset s hit output s′ output′) where
-      dead-next : s′ .dead ≡ deadAmong h rows (done subset s₀ s′)
+    module _ (hit : Bool) (e : hit ≡ test (s .id)) (s′ : Sweep) (output′ : List ℕ) (t : SweepSteps h rows subset s hit output s′ output′) where
+      dead-next : s′ .dead ≡ deadAmong h rows (sweptIds subset s₀ s′)
       dead-next = rw (with-next s′ (t .next-is)) (t .dead-is ∙ ap (λ (n : ℕ). n + deadAmong h rows (s .id ∷ [])) (v .dead-is) ∙ sym (dead-more h rows so-far (s .id ∷ [])))
 
       -- what is left to visit, once the next place is
-      left : (n n′ : ℕ) (rest : List ℕ) → upTo n test (places subset s) ≡ s .id ∷ rest → rest ≡ upTo n′ test (places subset s′) → so-far ++ upTo n test (places subset s) ≡ done subset s₀ s′ ++ upTo n′ test (places subset s′)
+      left : (n n′ : ℕ) (rest : List ℕ) → upTo n test (places subset s) ≡ s .id ∷ rest → rest ≡ upTo n′ test (places subset s′) → so-far ++ upTo n test (places subset s) ≡ sweptIds subset s₀ s′ ++ upTo n′ test (places subset s′)
       left n n′ rest p q = rw (p, with-next s′ (t .next-is), q) (sym (append-assoc so-far (s .id ∷ []) _))
 
       same-places : s′ .end ≡ s .end → visited subset (s .next + 1) (s .end - (s .next + 1)) ≡ places subset s′
@@ -334,7 +334,7 @@ module _ (h : Header) (rows : List ℕ) (subset : Subset) (test : ℕ → Bool) 
       }
 
 -- fewer places are left
-pub steps-less : (h : Header) (rows : List ℕ) (subset : Subset) (s : Sweep) (hit : Bool) (output : List ℕ) (s′ : Sweep) (output′ : List ℕ) → s .next < s .end → Steps h rows subset s hit output s′ output′
+pub steps-less : (h : Header) (rows : List ℕ) (subset : Subset) (s : Sweep) (hit : Bool) (output : List ℕ) (s′ : Sweep) (output′ : List ℕ) → s .next < s .end → SweepSteps h rows subset s hit output s′ output′
     → s′ .end - s′ .next < s .end - s .next
 steps-less h rows subset s hit output s′ output′ m t =
     elim (split hit) [

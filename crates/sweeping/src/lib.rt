@@ -13,7 +13,7 @@ ghost use Rattle.offsets.specs.Subsets as subsets;
 ghost use Rattle.offsets.specs.Subsets.{members};
 ghost use Rattle.retain.specs.inner.Growing.{CanAdd};
 ghost use Rattle.queries.specs.Queries.{matches, deadAmong};
-ghost use Rattle.sweeping.specs.inner.Sweeping.{RowLies, RowNeeded, starts, passes, Placed, CanMove, Moves, Keeps, CanStep, Steps, Sweepable, Finished, Opened, CanWrite, Writes, whole, CanClose, RefineClosed, nextOf, nextAt, PageClosed, MatchClosed};
+ghost use Rattle.sweeping.specs.inner.Sweeping.{RowLies, RowNeeded, starts, passes, BeginsAt, CanMove, Moves, Keeps, CanStep, SweepSteps, Sweepable, Finished, SweepBegins, CanWrite, Writes, whole, CanClose, RefineClosed, nextOf, nextAt, PageClosed, MatchClosed};
 use constraints::Constraint;
 use offsets::SubsetAnswer;
 use offsets::SubsetHead;
@@ -138,7 +138,7 @@ fn id_at(head: SubsetHead, ids: &[u32], place: u32) -> u32
 // A sweep that begins. Without places it has no id.
 fn at_place(head: SubsetHead, ids: &[u32], refused: u32, next: u32, end: u32, most: u32) -> Sweep
     requires { ⌜ end ≤ subsets.size (subsetOf head (now ids)) ⌝ }
-    ensures { λ r. ⌜ Placed (subsetOf head (now (ids .entry))) refused next end most r ⌝ }
+    ensures { λ r. ⌜ BeginsAt (subsetOf head (now (ids .entry))) refused next end most r ⌝ }
 {
     let mut s = Sweep {
         refused: refused,
@@ -193,7 +193,7 @@ pub fn step(
     out: &mut [u32],
 ) -> Sweep
     requires { ⌜ CanStep h (length (now rows)) (subsetOf head (now ids)) s hit (now out) ⌝ }
-    ensures { λ r. ⌜ Steps h (now (rows .entry)) (subsetOf head (now (ids .entry))) s hit (now (out .entry)) r (now (out .exit)) ⌝ }
+    ensures { λ r. ⌜ SweepSteps h (now (rows .entry)) (subsetOf head (now (ids .entry))) s hit (now (out .entry)) r (now (out .exit)) ⌝ }
 {
     let mut n = s;
     n.dead = s.dead + dead_at(h, rows, s.id);
@@ -236,7 +236,7 @@ pub fn open_refine(
     known: bool,
     output: usize,
 ) -> Sweep
-    ensures { λ r. ⌜ Opened Question.Refine h rows (subsetOf head (now (ids .entry))) known output r ⌝ }
+    ensures { λ r. ⌜ SweepBegins Question.Refine h rows (subsetOf head (now (ids .entry))) known output r ⌝ }
 {
     let number = refine_refusal(h, rows, head, ids, known, output);
     if number != 0 {
@@ -248,7 +248,7 @@ pub fn open_refine(
 
 // A search for a match: refused, or over all places up to the first match.
 fn open_match(h: Header, rows: usize, head: SubsetHead, ids: &[u32], known: bool) -> Sweep
-    ensures { λ r. ⌜ ((output : ℕ) → Opened Question.Match h rows (subsetOf head (now (ids .entry))) known output r) ⌝ }
+    ensures { λ r. ⌜ ((output : ℕ) → SweepBegins Question.Match h rows (subsetOf head (now (ids .entry))) known output r) ⌝ }
 {
     let number = match_refusal(h, rows, head, ids, known);
     if number != 0 {
@@ -269,7 +269,7 @@ fn open_page(
     known: bool,
     output: usize,
 ) -> Sweep
-    ensures { λ r. ⌜ Opened (Question.Page start n) h rows (subsetOf head (now (ids .entry))) known output r ⌝ }
+    ensures { λ r. ⌜ SweepBegins (Question.Page start n) h rows (subsetOf head (now (ids .entry))) known output r ⌝ }
 {
     let number = page_refusal(h, rows, head, ids, start, n, known, output);
     if number != 0 {
@@ -290,7 +290,7 @@ pub fn opening(
     known: bool,
     output: usize,
 ) -> Sweep
-    ensures { λ r. ⌜ Opened question h rows (subsetOf head (now (ids .entry))) known output r ⌝ }
+    ensures { λ r. ⌜ SweepBegins question h rows (subsetOf head (now (ids .entry))) known output r ⌝ }
 {
     match question {
         Question::Refine => open_refine(h, rows, head, ids, known, output),

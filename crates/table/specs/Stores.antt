@@ -8,7 +8,7 @@ use lib.ListN.{length, take, getD, set}
 use Rattle.lists.specs.Lists.{putAt, every, rowAt, rowsOf, flat}
 use Rattle.cells.specs.Cells.{compact, keyHash}
 use Rattle.constraints.specs.Constraints.{isLive}
-use Rattle.sort_entries.specs.Entries.{Entry, entriesOf, words, rebuilt}
+use Rattle.sort_entries.specs.Entries.{Entry, entriesOf, entryWords, rebuilt}
 use Rattle.plain.specs.Staged.{Opening, Staged, insert, removeKey, removeRow, wordsAll}
 use Rattle.plain.specs.Refusing.{wrongWidth}
 use Rattle.plain.specs.Plain.{Row, Plain, dead}
@@ -44,7 +44,7 @@ rowStore p before store = putAt store 0 (flat (stored (p .rows) before))
 
 -- the sort-entry store likewise
 unfoldable pub sortStore : Plain → List ℕ → List ℕ
-sortStore p store = putAt store 0 (words (entries p))
+sortStore p store = putAt store 0 (entryWords (entries p))
 
 -- a staged record's words in the pending store: a kind, the compact hash of its key, a row where it has one, its cells.
 -- The layout is our choice; "columns plus 2, keys plus 2, keys plus 3" is the paper's

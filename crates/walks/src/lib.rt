@@ -4,7 +4,7 @@ ghost use mathlib.Core.Path.{_≡_};
 ghost use lib.ListN.{length};
 ghost use Rattle.offsets.specs.Answers.{subsetOf};
 ghost use Rattle.queries.specs.Queries.{matches};
-ghost use Rattle.sweeping.specs.inner.Sweeping.{RowNeeded, allPass, Sweepable, Finished, Asked};
+ghost use Rattle.sweeping.specs.inner.Sweeping.{RowNeeded, allPass, Sweepable, Finished, SweepAnswered};
 use constraints::Constraint;
 use offsets::SubsetHead;
 use sweeping::Question;
@@ -61,7 +61,7 @@ pub fn ask(
     conditions: &[Constraint],
     out: &mut [u32],
 ) -> Sweep
-    ensures { λ r. ⌜ Asked question h (now (rows .entry)) (subsetOf head (now (ids .entry))) (now (conditions .entry)) (now (out .entry)) r (now (out .exit)) ⌝ }
+    ensures { λ r. ⌜ SweepAnswered question h (now (rows .entry)) (subsetOf head (now (ids .entry))) (now (conditions .entry)) (now (out .entry)) r (now (out .exit)) ⌝ }
 {
     let known = all_pass(Test::Known, h, rows, conditions);
     let begun = opening(question, h, rows.len(), head, ids, known, out.len());

@@ -178,20 +178,20 @@ pub record MergeTold (answer : MergeAnswer) (header words : List ℕ) (r : ℕ) 
 
 -- A call that leaves a header. Where the header is twelve words, the library's promise holds of an answer that the number and the
 -- header's words tell; else the number is 1 and nothing has changed.
-pub record Called (promise : TableAnswer → Type 0) (unchanged : Type 0) (header : List ℕ) (r : ℕ) (header′ : List ℕ) : Type 0 where
+pub record CallInWords (promise : TableAnswer → Type 0) (unchanged : Type 0) (header : List ℕ) (r : ℕ) (header′ : List ℕ) : Type 0 where
   pub done : length header ≡ 12 → (answer : TableAnswer) × promise answer × (r ≡ tableNumber answer) × (header′ ≡ tableHeader header answer)
   pub unheaded : (length header ≡ 12 → ⊥) → unchanged × (r ≡ 1) × (header′ ≡ header)
 
 -- A merge, whose answer goes into five words. Where the header is not twelve words, the number is 1; where it is, but these are
 -- not five, it is 2; and nothing has changed.
-pub record MergeCalled (promise : MergeAnswer → Type 0) (unchanged : Type 0) (header words : List ℕ) (r : ℕ) (header′ words′ : List ℕ) : Type 0 where
+pub record MergeInWords (promise : MergeAnswer → Type 0) (unchanged : Type 0) (header words : List ℕ) (r : ℕ) (header′ words′ : List ℕ) : Type 0 where
   pub done : length header ≡ 12 → length words ≡ 5
       → (answer : MergeAnswer) × promise answer × (r ≡ mergeNumber answer) × (header′ ≡ mergeHeader header answer) × (words′ ≡ mergeWords words answer)
   pub unheaded : (length header ≡ 12 → ⊥) → unchanged × (r ≡ 1) × (header′ ≡ header) × (words′ ≡ words)
   pub unworded : length header ≡ 12 → (length words ≡ 5 → ⊥) → unchanged × (r ≡ 2) × (header′ ≡ header) × (words′ ≡ words)
 
 -- A question, whose answer goes into so many words; 1 and 2 as for a merge.
-pub record Asked {A : Type 0} (promise : A → Type 0) (number : A → ℕ) (told : List ℕ → A → List ℕ) (count : ℕ) (header words : List ℕ) (r : ℕ) (words′ : List ℕ) : Type 0 where
+pub record QuestionInWords {A : Type 0} (promise : A → Type 0) (number : A → ℕ) (told : List ℕ → A → List ℕ) (count : ℕ) (header words : List ℕ) (r : ℕ) (words′ : List ℕ) : Type 0 where
   pub done : length header ≡ 12 → length words ≡ count → (answer : A) × promise answer × (r ≡ number answer) × (words′ ≡ told words answer)
   pub unheaded : (length header ≡ 12 → ⊥) → (r ≡ 1) × (words′ ≡ words)
   pub unworded : length header ≡ 12 → (length words ≡ count → ⊥) → (r ≡ 2) × (words′ ≡ words)

@@ -13,7 +13,7 @@ use Rattle.lists.specs.Lists.{putAt}
 use Rattle.lists.specs.Laws.Keep.{split}
 use Rattle.lists.specs.Laws.Parts.{length-putAt, putAt-alike}
 use Rattle.refusals.specs.Refusals.{first}
-use Rattle.sort_entries.specs.Entries.{entriesOf, words, last, push}
+use Rattle.sort_entries.specs.Entries.{entriesOf, entryWords, last, push}
 use Rattle.sort_entries.specs.inner.Append.{Room, Append, append-few}
 use Rattle.sort_entries.specs.Laws.Stores.{words-entriesOf}
 use Rattle.plain.specs.Plain.{Plain, stop, below}
@@ -63,8 +63,8 @@ module _ (h : Header) (sorts : List ℕ) (value : ℕ) where
     admit-entered e =
         let few : n ≤ h .entries + 1 = append-few sorts (h .entries) value (h .rows) n sorts′ a in
         let long : 2 * n ≤ length sorts′ = omega (arith, room-of fits room .words, length-after) in
-        let put : sorts′ ≡ putAt sorts 0 (words (push value (h .rows) (entriesOf (h .entries) sorts))) =
-        sym (ap (putAt sorts 0) (ap words (sym (a .entries)) ∙ words-entriesOf n sorts′ long) ∙ putAt-alike sorts sorts′ (2 * n) long (sym (a .past))) in
+        let put : sorts′ ≡ putAt sorts 0 (entryWords (push value (h .rows) (entriesOf (h .entries) sorts))) =
+        sym (ap (putAt sorts 0) (ap entryWords (sym (a .entries)) ∙ words-entriesOf n sorts′ long) ∙ putAt-alike sorts sorts′ (2 * n) long (sym (a .past))) in
         record {
           free = stops-not h value room e;
           room = room;

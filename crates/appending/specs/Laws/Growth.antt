@@ -15,7 +15,7 @@ use Rattle.lists.specs.Laws.Parts.{length-putAt, putAt-start}
 use Rattle.lists.specs.Laws.Rows.{row-in, length-rowsOf, getD-rowsOf, rowsOf-appended, flat-rowsOf, flat-append}
 use Rattle.key_index.specs.Slots.{KeysSound}
 use Rattle.row_buffer.specs.Laws.Rows.{stale-rows}
-use Rattle.sort_entries.specs.Entries.{Entry, entriesOf, words, push, rebuilt}
+use Rattle.sort_entries.specs.Entries.{Entry, entriesOf, entryWords, push, rebuilt}
 use Rattle.sort_entries.specs.Laws.Push.{rebuilt-snoc}
 use Rattle.sort_entries.specs.Laws.Stores.{length-entriesOf}
 use Rattle.plain.specs.Plain.{Row, Plain, liveRow, withRows, withRow, dead, raised}
@@ -29,7 +29,7 @@ use Rattle.table.specs.Numbers.{largestOf}
 use Rattle.table.specs.Stores.{entries, headerOf, marked, stored, rowStore, sortStore}
 use Rattle.table.specs.Sound.{keyedOf}
 use Rattle.table.specs.Promises.{Stores, stores, lengths, Represents}
-use Rattle.pending.specs.inner.Becoming.{Later, Steps, withCounts}
+use Rattle.pending.specs.inner.Becoming.{Later, Becomes, withCounts}
 use Rattle.appending.specs.inner.Appending.{Entered, grownTo}
 use Rattle.appending.specs.Laws.Admission.{free-above}
 use Rattle.table.specs.Laws.Sound.{says-of}
@@ -212,7 +212,7 @@ module _ {p : Plain} {s : Stores} (r : Represents p s) {kept : List Row} {base :
     pub grown-steps : Proper (withRow p kept cells) → (d : ℕ) → d ≡ dead (withRows p kept) → (rows′ : List ℕ)
         → rows′ ≡ putAt base (s .header .rows * s .header .columns) cells
         → (keys′ : List ℕ) → length keys′ ≡ length (s .keys) → KeysSound (keyedOf (grownTo (s .header) d n (getD cells (s .header .sort) 0))) rows′ keys′
-        → Steps p (withRow p kept cells) s (stores (grownTo (s .header) d n (getD cells (s .header .sort) 0)) rows′ keys′ sorts′ (s .pending))
+        → Becomes p (withRow p kept cells) s (stores (grownTo (s .header) d n (getD cells (s .header .sort) 0)) rows′ keys′ sorts′ (s .pending))
     unfolding sortStore
     grown-steps proper d dead-is rows′ rows-is keys′ keys-same sound =
         let long = represents-long r in
@@ -221,7 +221,7 @@ module _ {p : Plain} {s : Stores} (r : Represents p s) {kept : List Row} {base :
         record {
           later = grown-later;
           rows-after = rows-is ∙ sym grown-store;
-          sorts-after = entered .cells ∙ ap (λ (es : List Entry). putAt (s .sorts) 0 (words es)) (sym grown-entries);
+          sorts-after = entered .cells ∙ ap (λ (es : List Entry). putAt (s .sorts) 0 (entryWords es)) (sym grown-entries);
           represents =
               record {
                 proper = proper;

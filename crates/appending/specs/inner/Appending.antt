@@ -8,7 +8,7 @@ use lib.Dec.{leb}
 use lib.ListN.{length, getD, set}
 use Rattle.lists.specs.Lists.{putAt}
 use Rattle.refusals.specs.Refusals.{rung, first}
-use Rattle.sort_entries.specs.Entries.{entriesOf, words, push}
+use Rattle.sort_entries.specs.Entries.{entriesOf, entryWords, push}
 use Rattle.key_index.specs.Slots.{tagged}
 use Rattle.key_index.specs.inner.Index.{Fits, PutIs}
 use Rattle.plain.specs.Plain.{below}
@@ -46,7 +46,7 @@ pub record Entered (h : Header) (sorts : List ℕ) (value n : ℕ) (sorts′ : L
   pub room : h .rows < h .capacity
   pub few : n ≤ h .entries + 1
   pub entries : entriesOf n sorts′ ≡ push value (h .rows) (entriesOf (h .entries) sorts)
-  pub cells : sorts′ ≡ putAt sorts 0 (words (push value (h .rows) (entriesOf (h .entries) sorts)))
+  pub cells : sorts′ ≡ putAt sorts 0 (entryWords (push value (h .rows) (entriesOf (h .entries) sorts)))
   pub same : length sorts′ ≡ length sorts
 
 -- a stop writes nothing

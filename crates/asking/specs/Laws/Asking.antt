@@ -15,7 +15,7 @@ use Rattle.table.specs.declared.Header.{Header}
 use Rattle.table.specs.Refusing.{outside}
 use Rattle.queries.specs.declared.PageAnswer.{PageAnswer}
 use Rattle.queries.specs.Queries.{tests, refineRefusal, pageRefusal, refineListReply, pageReply, pageWrites, RefinedList, PageRead}
-use Rattle.words.specs.Words.{headerIn, Told, Asked}
+use Rattle.words.specs.Words.{headerIn, Told, QuestionInWords}
 use Rattle.asking.specs.inner.Steps.{HeaderAsked, Tells}
 
 module _ {A : Type 0} {number : A → ℕ} {told : List ℕ → A → List ℕ} {count : ℕ} where
@@ -35,7 +35,7 @@ module _ {A : Type 0} {number : A → ℕ} {told : List ℕ → A → List ℕ} 
   -- a question asked with the header of its words, and its answer told
   pub asked-told : (promise : Header → A → Type 0) {header words : List ℕ} {h : Header} {answer : A} {r : ℕ} {words′ : List ℕ}
       → HeaderAsked header (length words) count h → promise h answer → Tells number told count (length header) answer words r words′
-      → Asked (promise (headerIn header)) number told count header words r words′
+      → QuestionInWords (promise (headerIn header)) number told count header words r words′
   asked-told promise {answer = answer} a p t =
       record {
         done = λ e d. (answer, subst (λ h. promise h answer) (a .held e d) p, t .done e d .numbered, t .done e d .worded);

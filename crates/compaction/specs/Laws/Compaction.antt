@@ -17,7 +17,7 @@ use Rattle.lists.specs.Laws.Keep.{split, keep-append, length-keep, count-le, ev
 use Rattle.lists.specs.Laws.Parts.{length-putAt, putAt-then, part-after}
 use Rattle.lists.specs.Laws.Rows.{widths, length-rowsOf, length-rowAt, rowsOf-snoc, rowsOf-widths, widths-keep, length-flat, flat-append, getD-rowAt, getD-rowsOf, rowsOf-put-flat}
 use Rattle.constraints.specs.Constraints.{isLive}
-use Rattle.sort_entries.specs.Entries.{Entry, entry, entriesOf, words, last, push, rebuilt}
+use Rattle.sort_entries.specs.Entries.{Entry, entry, entriesOf, entryWords, last, push, rebuilt}
 use Rattle.sort_entries.specs.inner.Append.{Append}
 use Rattle.sort_entries.specs.Laws.Push.{push-new, push-same, rebuilt-snoc}
 use Rattle.sort_entries.specs.Laws.Rebuilt.{rebuilt-few}
@@ -128,17 +128,17 @@ entries-at-most sort rows = omega (arith, rebuilt-few (map (λ (r : List ℕ). g
 -- a store of rebuilt entries, one row later
 module _ (sorts : List ℕ) (es : List Entry) (fits : 2 * length es + 2 ≤ length sorts) (value row : ℕ) where
   rebuilt-words : (b : Bool) → last (λ v. ltb v value) es ≡ b
-      → cond b (putAt (putAt sorts 0 (words es)) (2 * length es) (value ∷ row ∷ [])) (putAt sorts 0 (words es)) ≡ putAt sorts 0 (words (push value row es))
+      → cond b (putAt (putAt sorts 0 (entryWords es)) (2 * length es) (value ∷ row ∷ [])) (putAt sorts 0 (entryWords es)) ≡ putAt sorts 0 (entryWords (push value row es))
   rebuilt-words true e =
-      let end : 2 * length es ≡ 0 + length (words es) = omega (arith, length-words es) in
+      let end : 2 * length es ≡ 0 + length (entryWords es) = omega (arith, length-words es) in
       rw (end, push-new value row es e, words-snoc es (entry value row))
-      (putAt-then sorts (words es) (value ∷ row ∷ []) 0 (omega (arith, length-words es)))
+      (putAt-then sorts (entryWords es) (value ∷ row ∷ []) 0 (omega (arith, length-words es)))
   rebuilt-words false e = rw (push-same value row es e)
 
-  pub rebuild-one : (n r : ℕ) (after : List ℕ) → n ≡ length es → Append (putAt sorts 0 (words es)) n value row r after
-      → (r ≡ length (push value row es)) × (after ≡ putAt sorts 0 (words (push value row es)))
+  pub rebuild-one : (n r : ℕ) (after : List ℕ) → n ≡ length es → Append (putAt sorts 0 (entryWords es)) n value row r after
+      → (r ≡ length (push value row es)) × (after ≡ putAt sorts 0 (entryWords (push value row es)))
   rebuild-one n r after e b =
-      let held : entriesOf n (putAt sorts 0 (words es)) ≡ es = entriesOf-put es sorts n e in
+      let held : entriesOf n (putAt sorts 0 (entryWords es)) ≡ es = entriesOf-put es sorts n e in
       (b .count ∙ ap (λ (l : List Entry). length (push value row l)) held, rw (held, e) at (b .cells) ∙ rebuilt-words (last (λ v. ltb v value) es) refl)
 
 -- ---- the words that number the rows
@@ -244,7 +244,7 @@ module _ (h : Header) (rows keys sorts live base : List ℕ) (lent : Lendable h 
   same-sorts =
       let es = entriesFor (h .sort) (closedRows h rows) in
       rw (c .sorts-after)
-      (length-putAt sorts (words es) 0
+      (length-putAt sorts (entryWords es) 0
       (omega (arith, length-words es, entries-at-most (h .sort) (closedRows h rows), length-live (h .columns) (h .rows) rows, lent .fits .count, lent .sorts-long)))
 
   module _ (pending : List ℕ) (p : Plain) (r : Represents p (stores h rows keys sorts pending)) (g : h .generation < 4294967295) where
@@ -309,7 +309,7 @@ module _ (h : Header) (rows keys sorts live base : List ℕ) (lent : Lendable h 
         record {
           header = header-after;
           rows-after = c .rows-after ∙ ap (λ (l : List (List ℕ)). putAt rows 0 (flat l)) (sym (kept-stored []));
-          sorts-after = c .sorts-after ∙ ap (λ (es : List Entry). putAt sorts 0 (words es)) kept-entries;
+          sorts-after = c .sorts-after ∙ ap (λ (es : List Entry). putAt sorts 0 (entryWords es)) kept-entries;
           represents = represents-after;
         }
 

@@ -7,7 +7,7 @@ use lib.ListN.{length, getD}
 use Rattle.lists.specs.Lists.{putAt, keep, rowAt, rowsOf, flat}
 use Rattle.constraints.specs.Constraints.{isLive}
 use Rattle.row_buffer.specs.Ranks.{liveWord}
-use Rattle.sort_entries.specs.Entries.{Entry, words, rebuilt}
+use Rattle.sort_entries.specs.Entries.{Entry, entryWords, rebuilt}
 use Rattle.sort_entries.specs.inner.Append.{Room, Append}
 use Rattle.key_index.specs.Slots.{LiveAt}
 use Rattle.key_index.specs.inner.Index.{RowsIn}
@@ -64,7 +64,7 @@ pub record Closing (h : Header) (rows₀ sorts₀ rows sorts : List ℕ) (kept :
   pub counted : kept .rows ≡ length (liveStored (h .columns) row rows₀)
   pub closed : rows ≡ putAt rows₀ 0 (flat (liveStored (h .columns) row rows₀))
   pub entered : kept .entries ≡ length (entriesFor (h .sort) (liveStored (h .columns) row rows₀))
-  pub recorded : sorts ≡ putAt sorts₀ 0 (words (entriesFor (h .sort) (liveStored (h .columns) row rows₀)))
+  pub recorded : sorts ≡ putAt sorts₀ 0 (entryWords (entriesFor (h .sort) (liveStored (h .columns) row rows₀)))
 
 -- the word that marks the live ones of up to 64 rows
 abbrev pub blockWord : Header → List ℕ → ℕ → ℕ → ℕ
@@ -90,7 +90,7 @@ pub record Closed (h : Header) (rows sorts live base : List ℕ) (kept : Kept) (
   pub rows-counted : kept .rows ≡ length (closedRows h rows)
   pub rows-after : rows′ ≡ putAt rows 0 (flat (closedRows h rows))
   pub entries-counted : kept .entries ≡ length (entriesFor (h .sort) (closedRows h rows))
-  pub sorts-after : sorts′ ≡ putAt sorts 0 (words (entriesFor (h .sort) (closedRows h rows)))
+  pub sorts-after : sorts′ ≡ putAt sorts 0 (entryWords (entriesFor (h .sort) (closedRows h rows)))
   pub numbered : (i : ℕ) → LiveAt (keyedOf h) rows i → newRow live′ base′ i ≡ liveBelow (keyedOf h) rows i
   pub words-past : PastNeeded (h .capacity) live live′ × PastNeeded (h .capacity) base base′
 

@@ -56,7 +56,7 @@ use Rattle.queries.specs.declared.MatchAnswer.{MatchAnswer}
 use Rattle.queries.proofs.MatchAnswer as AT
 use Rattle.queries.proofs.MatchAnswer.Laws as AT′
 use Rattle.queries.specs.Queries.{Matched}
-use Rattle.words.specs.Words.{headerIn, Asked}
+use Rattle.words.specs.Words.{headerIn, QuestionInWords}
 use Rattle.asking.specs.Asking.{matchNumber, matchWords}
 use Rattle.asking.specs.inner.Steps.{HeaderAsked, Tells}
 use Rattle.asking.specs.Laws.Asking.{asked-told}
@@ -195,7 +195,7 @@ module _ {M : Type 1} (𝓤 : URA M) (H : Heap 𝓤) (A : Atoms 𝓤) (W : Given
     said-question : (h : Header) (r : MatchAnswer) → ent 𝓤 (ensured 𝓤 H A ask.ended (ask.clauses 𝓤 H A mem run) (κ₁, (κ₂, (κ₃, tt))) (to-ask h .0 .3) tt r) (fact 𝓤 (Asks h r))
     said-question h r = exE 𝓤 _ (λ ws. snd∗ 𝓤 (sem 𝓤 H A (lasts ask.ended (κ₁, (κ₂, (κ₃, tt))) (to-ask h .0 .3) ws)) (fact 𝓤 (Asks h r)))
 
-    exits : (t : ℕ) (w : Val) (zs : List ℕ) → Asked (Asks (headerIn (now e))) matchNumber matchWords 1 (now e) (now z) t zs → length zs ≡ length (z .now)
+    exits : (t : ℕ) (w : Val) (zs : List ℕ) → QuestionInWords (Asks (headerIn (now e))) matchNumber matchWords 1 (now e) (now z) t zs → length zs ≡ length (z .now)
         → ent 𝓤 (⋆ 𝓤 H A (‵ (flft κ₀ q₀) ∷ ‵ (flft κ₁ q₁) ∷ ‵ (flft κ₂ q₂) ∷ ‵ (flft κ₃ q₃) ∷ (‵ (flft κ₄ q₄) ⊛ ‵ ftrue) ∷ ‵ OwnE ∷ ‵ OwnX ∷ ‵ OwnI ∷ ‵ OwnY ∷ ‵ (finally u32 (z .name) zs) ∷ ‵ (u32 .own t (w ∷ [])) ∷ [])) (Post w)
     exits t w zs said lz =
         qed W (‵ (flft κ₀ q₀) ∷ ‵ (flft κ₁ q₁) ∷ ‵ (flft κ₂ q₂) ∷ ‵ (flft κ₃ q₃) ∷ (‵ (flft κ₄ q₄) ⊛ ‵ ftrue) ∷ ‵ OwnE ∷ ‵ OwnX ∷ ‵ OwnI ∷ ‵ OwnY ∷ ‵ (finally u32 (z .name) zs) ∷ ‵ (u32 .own t (w ∷ [])) ∷ []) ∵

@@ -56,7 +56,7 @@ use Rattle.queries.specs.declared.PageAnswer.{PageAnswer}
 use Rattle.queries.proofs.PageAnswer as AT
 use Rattle.queries.proofs.PageAnswer.Laws as AT′
 use Rattle.queries.specs.Queries.{PageRead}
-use Rattle.words.specs.Words.{headerIn, Asked}
+use Rattle.words.specs.Words.{headerIn, QuestionInWords}
 use Rattle.asking.specs.Asking.{pageNumber, pageWords}
 use Rattle.asking.specs.inner.Steps.{HeaderAsked, Tells}
 use Rattle.asking.specs.Laws.Asking.{asked-told, page-kept}
@@ -201,7 +201,7 @@ module _ {M : Type 1} (𝓤 : URA M) (H : Heap 𝓤) (A : Atoms 𝓤) (W : Given
     asks-tell r v is-r =
         qed W (‵ (flft κ₅ q₅) ∷ ‵ OwnZ ∷ []) ∵ nothing ! $ move ! (2 ∷ 0 ∷ []) $ fjoin ! $ owned ! AT.the-row (Is AT.the-row) (EL.makes AT.the-type AT′.the-plain 𝓤 H A) r _ is-r $ fjoin ! $ owned ! usize (Is usize) (uint-makes 𝓤 H A W w64) (length (e .now)) _ (refl, roomE .0) $ fjoin ! $ nothing ! $ move ! (2 ∷ 0 ∷ []) $ join ! $ join ! $ frame ! $ done !
 
-    exits : (t : ℕ) (w : Val) (os : List ℕ) (zs : List ℕ) → Asked ((λ (r : PageAnswer). Asks (headerIn (now e)) r os)) pageNumber pageWords 4 (now e) (now z) t zs × (((length (now e) ≡ 12) × (length (now z) ≡ 4) → ⊥) → os ≡ now o) → length os ≡ length (o .now) → length zs ≡ length (z .now)
+    exits : (t : ℕ) (w : Val) (os : List ℕ) (zs : List ℕ) → QuestionInWords ((λ (r : PageAnswer). Asks (headerIn (now e)) r os)) pageNumber pageWords 4 (now e) (now z) t zs × (((length (now e) ≡ 12) × (length (now z) ≡ 4) → ⊥) → os ≡ now o) → length os ≡ length (o .now) → length zs ≡ length (z .now)
         → ent 𝓤 (⋆ 𝓤 H A (‵ (flft κ₀ q₀) ∷ ‵ (flft κ₁ q₁) ∷ ‵ (flft κ₂ q₂) ∷ ‵ (flft κ₃ q₃) ∷ ‵ (flft κ₄ q₄) ∷ (‵ (flft κ₅ q₅) ⊛ ‵ ftrue) ∷ ‵ OwnE ∷ ‵ OwnX ∷ ‵ OwnI ∷ ‵ OwnY ∷ ‵ (finally u32 (o .name) os) ∷ ‵ (finally u32 (z .name) zs) ∷ ‵ (u32 .own t (w ∷ [])) ∷ [])) (Post w)
     exits t w os zs said lo lz =
         qed W (‵ (flft κ₀ q₀) ∷ ‵ (flft κ₁ q₁) ∷ ‵ (flft κ₂ q₂) ∷ ‵ (flft κ₃ q₃) ∷ ‵ (flft κ₄ q₄) ∷ (‵ (flft κ₅ q₅) ⊛ ‵ ftrue) ∷ ‵ OwnE ∷ ‵ OwnX ∷ ‵ OwnI ∷ ‵ OwnY ∷ ‵ (finally u32 (o .name) os) ∷ ‵ (finally u32 (z .name) zs) ∷ ‵ (u32 .own t (w ∷ [])) ∷ []) ∵

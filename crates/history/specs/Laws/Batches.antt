@@ -15,7 +15,7 @@ use Rattle.table.specs.Laws.Ladders.{stage-ladders, merge-ladders}
 use Rattle.table.specs.Laws.Refusals.{merge-accepted}
 use Rattle.table.specs.Laws.Fronts.{pending-part, body-part}
 use Rattle.table.specs.Laws.Sound.{sound-represents}
-use Rattle.history.specs.Histories.{staged, merged, Step, called}
+use Rattle.history.specs.Histories.{stages, merges, Step, called}
 use Rattle.history.specs.Claim.{liveIn}
 use Rattle.history.specs.Batches.{verdictIn, verdictOf, statusTold, statusIn, statusOf, Batch, merge, stage, cellsIn, CutAnywhere}
 use Rattle.table.specs.Laws.Live.{live-shown}
@@ -38,19 +38,19 @@ verdict-again (suc n) = refl
 stage-represents : {p : Plain} {s t : Stores} → Represents p s → {row : List ℕ} {l : Lengths} (step : Step s (record { call = staging (insert row); lengths = l }) t)
     → verdictOf step ≡ accepted tt → Represents (stagePlain p (insert row)) t
 unfolding verdictOf verdictIn done
-stage-represents {p} r {row} {l} (called {s} rest more (staged q answer pending′ m)) v =
+stage-represents {p} r {row} {l} (called {s} rest more (stages q answer pending′ m)) v =
     let n = replied-accepts _ _ (rw (m .answers) at v) in
-    rw (accepted-done p l (staging q) (sym (stage-ladders r l q) ∙ n)) at (step-represents r (called {s = s} rest more (staged q answer pending′ m)))
+    rw (accepted-done p l (staging q) (sym (stage-ladders r l q) ∙ n)) at (step-represents r (called {s = s} rest more (stages q answer pending′ m)))
 
 -- an accepted merge, and its stop
 merge-represents : {p : Plain} {s t : Stores} → Represents p s → {l : Lengths} (step : Step s (record { call = merging; lengths = l }) t)
     → verdictOf step ≡ accepted tt → Represents (mergedPlain p .table) t × (statusOf step ≡ mergedPlain p .status)
 unfolding verdictOf verdictIn statusOf statusIn statusTold done
-merge-represents {p} r {l} (called {s} rest more (merged w answer b′ w′ m)) v =
+merge-represents {p} r {l} (called {s} rest more (merges w answer b′ w′ m)) v =
     let n = replied-accepts {A = Unit {0}} _ tt (verdict-again _ ∙ sym (m .refusal) ∙ v) in
     let k = merge-accepted (s .header) l n in
     let lent = body-part rest (pending-part more r (k .pending-fits)) (k .long) in (
-      rw (accepted-done p l merging (sym (merge-ladders r l) ∙ n)) at (step-represents r (called {s = s} rest more (merged w answer b′ w′ m))),
+      rw (accepted-done p l merging (sym (merge-ladders r l) ∙ n)) at (step-represents r (called {s = s} rest more (merges w answer b′ w′ m))),
       ap statusTold (m .table n p lent .answers),
     )
 

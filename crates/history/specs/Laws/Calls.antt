@@ -10,7 +10,7 @@ use Rattle.refusals.specs.Laws.Replies.{some-number}
 use Rattle.plain.specs.Staged.{Opening, Staged}
 use Rattle.plain.specs.Plain.{Plain, opened}
 use Rattle.plain.specs.Refusing.{Lengths, storesShort, wordsShort, compactLadder}
-use Rattle.plain.specs.Calls.{Call, staging, merging, compacting, clearing, refusal, done, after, Lent, afterAll}
+use Rattle.plain.specs.Calls.{Call, staging, merging, compacting, clearing, refusal, done, after, LentCall, afterAll}
 use Rattle.plain.specs.Laws.Calls.{refused-nothing, accepted-done}
 use Rattle.table.specs.declared.TableAnswer.{TableAnswer}
 use Rattle.table.specs.declared.MergeAnswer.{MergeAnswer}
@@ -22,7 +22,7 @@ use Rattle.table.specs.Laws.Staging.{stage-accepted}
 use Rattle.table.specs.Laws.Refusals.{merge-accepted, compact-accepted, clear-accepted}
 use Rattle.table.specs.Laws.Keeps.{opening-done, staging-done, staging-refused, merging-done, merging-refused, compacting-done, compacting-refused, clearing-done, clearing-refused}
 use Rattle.table.specs.Laws.Fronts.{pending-part, pending-more, keyed-part, keyed-more, body-part, body-more}
-use Rattle.history.specs.Histories.{noWords, Called, staged, merged, compacted, cleared, behind, Step, called, Steps, end, next, History}
+use Rattle.history.specs.Histories.{noWords, Called, stages, merges, compacts, clears, behind, Step, called, Steps, end, next, History}
 
 -- ---- the four calls
 
@@ -94,29 +94,29 @@ module _ {p : Plain} (s : Stores) (rest : Body) (more : List ℕ) (r : Represent
         | inr h ↦ stays l clearing _ (rw same at h) (clearing-refused m h)
       ]
 
-  called-represents : {c : Lent} {t : Stores} → Called s c t → Represents (after p (c .lengths) (c .call)) (behind t rest more)
-  called-represents (staged q answer pending′ m) = staged-represents q answer pending′ m
-  called-represents (merged w answer b′ w′ m) = merged-represents w answer b′ w′ m
-  called-represents (compacted w answer b′ w′ m) = compacted-represents w answer b′ w′ m
-  called-represents (cleared answer keys′ m) = cleared-represents answer keys′ m
+  called-represents : {c : LentCall} {t : Stores} → Called s c t → Represents (after p (c .lengths) (c .call)) (behind t rest more)
+  called-represents (stages q answer pending′ m) = staged-represents q answer pending′ m
+  called-represents (merges w answer b′ w′ m) = merged-represents w answer b′ w′ m
+  called-represents (compacts w answer b′ w′ m) = compacted-represents w answer b′ w′ m
+  called-represents (clears answer keys′ m) = cleared-represents answer keys′ m
 
 -- ---- histories
 
 -- one call
-pub step-represents : {p : Plain} {s t : Stores} {c : Lent} → Represents p s → Step s c t → Represents (after p (c .lengths) (c .call)) t
+pub step-represents : {p : Plain} {s t : Stores} {c : LentCall} → Represents p s → Step s c t → Represents (after p (c .lengths) (c .call)) t
 step-represents r (called {s} rest more call) = called-represents s rest more r call
 
 -- one after another
-pub steps-represents : {p : Plain} {s t : Stores} {cs : List Lent} → Represents p s → Steps s cs t → Represents (afterAll p cs) t
+pub steps-represents : {p : Plain} {s t : Stores} {cs : List LentCall} → Represents p s → Steps s cs t → Represents (afterAll p cs) t
 unfolding afterAll
 steps-represents r (end s) = r
 steps-represents r (next step steps) = steps-represents (step-represents r step) steps
 
 -- an accepted opening
-pub opened-represents : {o : Opening} {generation : ℕ} {calls : List Lent} {s : Stores} (h : History o generation calls s) → Represents (opened o generation) (behind (h .start) (h .rest) (h .pending))
+pub opened-represents : {o : Opening} {generation : ℕ} {calls : List LentCall} {s : Stores} (h : History o generation calls s) → Represents (opened o generation) (behind (h .start) (h .rest) (h .pending))
 unfolding tableSays
 opened-represents h = pending-more (h .pending) (body-more (h .rest) (opening-done (h .opened) (h .start .header) refl))
 
 -- "each on the header and the .. stores as the last left them": the stores show the plain table after the same calls
-pub history-represents : {o : Opening} {generation : ℕ} {calls : List Lent} {s : Stores} → History o generation calls s → Represents (afterAll (opened o generation) calls) s
+pub history-represents : {o : Opening} {generation : ℕ} {calls : List LentCall} {s : Stores} → History o generation calls s → Represents (afterAll (opened o generation) calls) s
 history-represents h = steps-represents (opened-represents h) (h .steps)

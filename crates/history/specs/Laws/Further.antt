@@ -4,7 +4,7 @@ use Prim.Native.Nat.{ℕ}
 use mathlib.Core.Path.{_≡_}
 use mathlib.Core.List.{List, [], _++_, append-nil}
 use Rattle.plain.specs.Staged.{Opening}
-use Rattle.plain.specs.Calls.{Lent}
+use Rattle.plain.specs.Calls.{LentCall}
 use Rattle.table.specs.declared.TableAnswer.the-variants.{Table}
 use Rattle.table.specs.Promises.{Stores, stores, body, Opened}
 use Rattle.history.specs.Histories.{Called, behind, Step, called, Steps, end, next, History}
@@ -14,22 +14,22 @@ pub behind-nothing : (s : Stores) → behind s (body [] [] []) [] ≡ s
 behind-nothing s =
     λ i. stores (s .header) (append-nil (s .rows) i) (append-nil (s .keys) i) (append-nil (s .sorts) i) (append-nil (s .pending) i)
 
-pub whole-step : {s t : Stores} {c : Lent} → Called s c t → Step s c t
+pub whole-step : {s t : Stores} {c : LentCall} → Called s c t → Step s c t
 whole-step {s} {t} {c} call = go (behind-nothing s) (behind-nothing t)
   where
     go : {a b : Stores} → behind s (body [] [] []) [] ≡ a → behind t (body [] [] []) [] ≡ b → Step a c b
     go e f = rw (← e, ← f) (called (body [] [] []) [] call)
 
-pub steps-then : {s t u : Stores} {cs ds : List Lent} → Steps s cs t → Steps t ds u → Steps s (cs ++ ds) u
+pub steps-then : {s t u : Stores} {cs ds : List LentCall} → Steps s cs t → Steps t ds u → Steps s (cs ++ ds) u
 steps-then (end s) more = more
 steps-then (next step steps) more = next step (steps-then steps more)
 
-pub history-then : {o : Opening} {generation : ℕ} {calls more : List Lent} {s t : Stores} → History o generation calls s → Steps s more t → History o generation (calls ++ more) t
+pub history-then : {o : Opening} {generation : ℕ} {calls more : List LentCall} {s t : Stores} → History o generation calls s → Steps s more t → History o generation (calls ++ more) t
 history-then h steps =
     record { start = h .start; keys-before = h .keys-before; opened = h .opened; rest = h .rest; pending = h .pending; steps = steps-then (h .steps) steps }
 
 -- an opening that is lent the stores whole, and the calls behind it
-pub history-whole : {o : Opening} {generation : ℕ} {calls : List Lent} {start s : Stores} (keys-before : List ℕ)
+pub history-whole : {o : Opening} {generation : ℕ} {calls : List LentCall} {start s : Stores} (keys-before : List ℕ)
     → Opened o generation (body (start .rows) keys-before (start .sorts)) (start .pending) (Table (start .header)) (start .keys)
     → Steps start calls s → History o generation calls s
 history-whole {start = start} keys-before opened steps =

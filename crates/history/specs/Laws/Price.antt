@@ -13,7 +13,7 @@ use Rattle.refusals.specs.Laws.Replies.{some-number, ruled-refused}
 use Rattle.plain.specs.Staged.{Staged}
 use Rattle.plain.specs.Plain.{Plain, opened, stage, dead}
 use Rattle.plain.specs.Refusing.{storesShort, wordsShort, compactLadder}
-use Rattle.plain.specs.Calls.{staging, merging, compacting, clearing, refusal, done, after, Lent, afterAll}
+use Rattle.plain.specs.Calls.{staging, merging, compacting, clearing, refusal, done, after, LentCall, afterAll}
 use Rattle.plain.specs.Appending.{appendedDone, appendedBy, appendedAll}
 use Rattle.plain.specs.Laws.Calls.{refused-nothing, accepted-done}
 use Rattle.plain.specs.Laws.Price.{live-dead, compacted-live, merged-rows, merged-price}
@@ -29,25 +29,25 @@ use Rattle.table.specs.Laws.Refusals.{merge-accepted, compact-accepted, clear-a
 use Rattle.table.specs.Laws.Fronts.{pending-part, keyed-part, body-part}
 use Rattle.table.specs.Laws.Opening.{cleared-rows}
 use Rattle.table.specs.Laws.Shown.{rows-counted}
-use Rattle.history.specs.Histories.{noWords, Called, staged, merged, compacted, cleared, behind, called, Steps, end, next}
+use Rattle.history.specs.Histories.{noWords, Called, stages, merges, compacts, clears, behind, called, Steps, end, next}
 use Rattle.history.specs.Price.{Wear, wear, counted, ofCall, ofSteps, PriceOfCompaction}
 use Rattle.history.specs.Laws.Calls.{step-represents, opened-represents, history-represents}
 
 -- ---- one call
 
 -- the rows that a call finds and appends are left, dropped, or emptied, and its merge's compaction keeps fewer than it drops
-record Balanced (p : Plain) (c : Lent) (w : Wear) : Type 0 where
+record Balanced (p : Plain) (c : LentCall) (w : Wear) : Type 0 where
   rows : length (p .rows) + appendedBy p c ≡ length (after p (c .lengths) (c .call) .rows) + w .dropped + w .emptied
   fewer : w .kept + w .compactions ≤ w .dropped
 
 -- a refused one counts nothing
-refused-balanced : (p : Plain) (c : Lent) → 0 < refusal p (c .lengths) (c .call) → Balanced p c (wear 0 0 0 0)
+refused-balanced : (p : Plain) (c : LentCall) → 0 < refusal p (c .lengths) (c .call) → Balanced p c (wear 0 0 0 0)
 unfolding appendedBy
 refused-balanced p c h =
     let e = ne-eqb (refusal p (c .lengths) (c .call)) 0 (λ q. omega arith) in
     record { rows = rw (refused-nothing p (c .lengths) (c .call) h, e) (omega arith); fewer = omega arith }
 
-done-balanced : (p : Plain) (c : Lent) (w : Wear) → refusal p (c .lengths) (c .call) ≡ 0
+done-balanced : (p : Plain) (c : LentCall) (w : Wear) → refusal p (c .lengths) (c .call) ≡ 0
     → length (p .rows) + appendedDone p (c .call) ≡ length (done p (c .call) .rows) + w .dropped + w .emptied → w .kept + w .compactions ≤ w .dropped → Balanced p c w
 unfolding appendedBy
 done-balanced p c w z q f =
@@ -77,7 +77,7 @@ module _ {p : Plain} (s : Stores) (rest : Body) (more : List ℕ) (r : Represent
   staged-balanced : (q : Staged) → Balanced p (record { call = staging q; lengths = lengthsLent s noWords }) (wear 0 0 0 0)
   unfolding done appendedDone stage
   staged-balanced q =
-      let c : Lent = record { call = staging q; lengths = lengthsLent s noWords } in
+      let c : LentCall = record { call = staging q; lengths = lengthsLent s noWords } in
       elim (some-number (refusal p (c .lengths) (c .call))) [
         | inl z ↦ done-balanced p c (wear 0 0 0 0) z (omega arith) (omega arith)
         | inr h ↦ refused-balanced p c h
@@ -87,7 +87,7 @@ module _ {p : Plain} (s : Stores) (rest : Body) (more : List ℕ) (r : Represent
       → Balanced p (record { call = merging; lengths = lengthsLent s w }) (counted (mergeSays answer) merging-wears)
   unfolding done appendedDone
   merged-balanced w answer b′ w′ m =
-      let c : Lent = record { call = merging; lengths = lengthsLent s w } in
+      let c : LentCall = record { call = merging; lengths = lengthsLent s w } in
       let n : ℕ = mergeRefusal (s .header) (lengthsLent s w) in
       let same : n ≡ refusal p (lengthsLent s w) merging = merge-ladders r (lengthsLent s w) in
       elim (some-number n) [
@@ -103,7 +103,7 @@ module _ {p : Plain} (s : Stores) (rest : Body) (more : List ℕ) (r : Represent
       → Balanced p (record { call = compacting; lengths = lengthsLent s w }) (counted (tableSays answer) (compacting-wears s))
   unfolding done appendedDone
   compacted-balanced w answer b′ w′ m =
-      let c : Lent = record { call = compacting; lengths = lengthsLent s w } in
+      let c : LentCall = record { call = compacting; lengths = lengthsLent s w } in
       -- the pending store is not lent, and the ladder does not look at it
       let k = lengthsLent (joined (s .header) (bodyOf s) []) w in
       let n : ℕ = compactRefusal (s .header) k in
@@ -121,7 +121,7 @@ module _ {p : Plain} (s : Stores) (rest : Body) (more : List ℕ) (r : Represent
   unfolding done appendedDone
   cleared-balanced answer keys′ m =
       let l = lengthsLent s noWords in
-      let c : Lent = record { call = clearing; lengths = l } in
+      let c : LentCall = record { call = clearing; lengths = l } in
       let n : ℕ = clearRefusal (s .header) (length (s .rows)) (length (s .keys)) in
       let same : n ≡ refusal p l clearing = clear-ladders r l in
       elim (some-number n) [
@@ -133,20 +133,20 @@ module _ {p : Plain} (s : Stores) (rest : Body) (more : List ℕ) (r : Represent
         | inr h ↦ rw (counted-refused (tableSays answer) n (clearing-wears s) (ruled-refused (tableSays answer) n (m .refusal) h)) (refused-balanced p c (rw same at h))
       ]
 
-  called-balanced : {c : Lent} {t : Stores} (call : Called s c t) → Balanced p c (ofCall call)
+  called-balanced : {c : LentCall} {t : Stores} (call : Called s c t) → Balanced p c (ofCall call)
   unfolding ofCall
-  called-balanced (staged q answer pending′ m) = staged-balanced q
-  called-balanced (merged w answer b′ w′ m) = merged-balanced w answer b′ w′ m
-  called-balanced (compacted w answer b′ w′ m) = compacted-balanced w answer b′ w′ m
-  called-balanced (cleared answer keys′ m) = cleared-balanced answer keys′ m
+  called-balanced (stages q answer pending′ m) = staged-balanced q
+  called-balanced (merges w answer b′ w′ m) = merged-balanced w answer b′ w′ m
+  called-balanced (compacts w answer b′ w′ m) = compacted-balanced w answer b′ w′ m
+  called-balanced (clears answer keys′ m) = cleared-balanced answer keys′ m
 
 -- ---- all the calls
 
-record Accounted (p : Plain) (cs : List Lent) (w : Wear) : Type 0 where
+record Accounted (p : Plain) (cs : List LentCall) (w : Wear) : Type 0 where
   rows : length (p .rows) + appendedAll p cs ≡ length (afterAll p cs .rows) + w .dropped + w .emptied
   fewer : w .kept + w .compactions ≤ w .dropped
 
-steps-accounted : {p : Plain} {s t : Stores} {cs : List Lent} → Represents p s → (steps : Steps s cs t) → Accounted p cs (ofSteps steps)
+steps-accounted : {p : Plain} {s t : Stores} {cs : List LentCall} → Represents p s → (steps : Steps s cs t) → Accounted p cs (ofSteps steps)
 unfolding ofSteps appendedAll afterAll
 steps-accounted r (end s) = record { rows = omega arith; fewer = omega arith }
 steps-accounted r (next (called {s} rest more call) steps) =

@@ -18,7 +18,7 @@ use Rattle.lists.specs.Laws.Parts.{part-before, part-putAt}
 use Rattle.lists.specs.Laws.Rows.{row-in, length-rowAt, rowAt-set-same, rowAt-set-other}
 use Rattle.cells.specs.Cells.{isDead, compact, keyHash}
 use Rattle.constraints.specs.Constraints.{isLive}
-use Rattle.merge_rules.specs.Rules.{changesFrom, madeFrom, Ruled, kept as ruleKept, made, ruled}
+use Rattle.merge_rules.specs.Rules.{changesFrom, madeFrom, Ruled, keepsOld as ruleKept, makesRow, ruled}
 use Rattle.merge_rules.specs.Survivor.{survivor}
 use Rattle.merge_rules.specs.Laws.Rules.{made-length, made-keys, made-first, kept-of, made-of, survives, survivor-length, ruled-made}
 use Rattle.key_index.specs.declared.Found.{Found}
@@ -70,11 +70,11 @@ module _ (cells : List ℕ) (p : Plain) where
   module _ (e : skipped cells ≡ false) (number : ℕ) (old : List ℕ) (f : lookup p (take (p .opening .keys) cells) ≡ some (record { number = number; cells = old })) where
     put-ruled : (x : Ruled) → ruled (p .opening .rule) (p .opening .keys) (p .opening .sort) old cells ≡ x
         → put cells (some (record { number = number; cells = old })) p
-        ≡ elim x [ ruleKept ↦ unchanged | made row ↦ append row p (killIf (liveWithKey (p .opening .keys) (take (p .opening .keys) cells)) (p .rows)) ]
+        ≡ elim x [ ruleKept ↦ unchanged | makesRow row ↦ append row p (killIf (liveWithKey (p .opening .keys) (take (p .opening .keys) cells)) (p .rows)) ]
     unfolding put
     put-ruled x g =
         ap
-        (λ (y : Ruled). elim y [ ruleKept ↦ unchanged | made row ↦ append row p (killIf (liveWithKey (p .opening .keys) (take (p .opening .keys) cells)) (p .rows)) ])
+        (λ (y : Ruled). elim y [ ruleKept ↦ unchanged | makesRow row ↦ append row p (killIf (liveWithKey (p .opening .keys) (take (p .opening .keys) cells)) (p .rows)) ])
         g
 
     insertion-keeps : changesFrom (p .opening .rule) (p .opening .keys) (p .opening .sort) 0 old cells ≡ false → insertion cells p ≡ unchanged
@@ -85,7 +85,7 @@ module _ (cells : List ℕ) (p : Plain) where
         → insertion cells p
         ≡ append (madeFrom (p .opening .rule) (p .opening .keys) (p .opening .sort) 0 old cells) p (killIf (liveWithKey (p .opening .keys) (take (p .opening .keys) cells)) (p .rows))
     unfolding insertion
-    insertion-makes g = rw (e, f) (put-ruled (made _) (made-of (p .opening .rule) (p .opening .keys) (p .opening .sort) old cells g))
+    insertion-makes g = rw (e, f) (put-ruled (makesRow _) (made-of (p .opening .rule) (p .opening .keys) (p .opening .sort) old cells g))
 
 module _ (cells : List ℕ) (p : Plain) (rows : List Row) where
   append-stops : (n : ℕ) → stop cells p ≡ n → 0 < n → append cells p rows ≡ stopped n

@@ -8,13 +8,13 @@ use Rattle.table.specs.declared.Header.{Header}
 use Rattle.appending.specs.declared.Insertion.{Insertion}
 use Rattle.appending.specs.declared.Insertion.the-variants.{Kept, Appended, Stopped}
 use Rattle.table.specs.Promises.{Stores, stores, Represents, SlotsPast}
-use Rattle.pending.specs.inner.Becoming.{Steps, Recounted, hashOf}
+use Rattle.pending.specs.inner.Becoming.{Becomes, Recounted, hashOf}
 
 -- what an insert's answer says of the plain table's insert
 abbrev pub Comes : Plain → List ℕ → Stores → List ℕ → List ℕ → List ℕ → Insertion → Type 0
 Comes p cells s rows′ keys′ sorts′ Kept = insertion cells p ≡ unchanged
 Comes p cells s rows′ keys′ sorts′ (Appended h′) =
-    (p′ : Plain) × (insertion cells p ≡ appended p′) × Steps p p′ s (stores h′ rows′ keys′ sorts′ (s .pending))
+    (p′ : Plain) × (insertion cells p ≡ appended p′) × Becomes p p′ s (stores h′ rows′ keys′ sorts′ (s .pending))
 Comes p cells s rows′ keys′ sorts′ (Stopped n) = (insertion cells p ≡ stopped n) × (0 < n)
 
 -- one insert, with its key's hash

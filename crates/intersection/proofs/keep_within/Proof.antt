@@ -1,7 +1,7 @@
 -- `offsets::keep_within` meets its contract. Assumes nothing.
 use native.Mathlib.Omega.{arith}
 use borrow.Author.Needs.{needs}
-use Rattle.lists.specs.Laws.Search.{place-mono}
+use Rattle.lists.specs.Laws.Search.{notBelow-mono}
 use Rattle.intersection.proofs.Common.{wrote-within}
 use Rattle.intersection.proofs.keep_within.Statement.{statement}
 use Rattle.intersection.proofs.keep_within.Tie as tie
@@ -42,7 +42,7 @@ same-length c = search needs
 returns : tie.Need-returns
 returns c = let p = c .before .before .before .before .before .before .before .before .before .pre in
     let l = c .before .before .before .before .before .before .binary-search-by-id .ensures .first (p .0 .up) in
-    let m = place-mono _ _ _ (p .0 .up) (p .1) in
+    let m = notBelow-mono _ _ _ (p .0 .up) (p .1) in
     let h = c .before .before .before .before .before .binary-search-from .ensures .first (p .0 .up) (omega arith) in
     wrote-within _ _ _ _ _ _ _ (p .0 .up) (p .1) l h (c .before .before .write-ids .ensures)
 

@@ -2,13 +2,13 @@
 use Prim.Native.Nat.{ℕ, _+_, _-_, _≤_}
 use mathlib.Core.Path.{_≡_, refl, sym, ap, _∙_}
 use native.Mathlib.Omega.{arith}
-use Rattle.key_check.specs.inner.Check.{liveRow, tally}
+use Rattle.key_check.specs.inner.Check.{isLiveRow, tally}
 use Rattle.key_check.specs.Laws.Check.{tally-yes, tally-no, tally-le}
 use Rattle.key_check.proofs.count_live.Statement.{statement}
 use Rattle.key_check.proofs.count_live.Tie as tie
 
 abbrev Inv-loop : tie.InvT-loop
-Inv-loop t rows live₀ row₀ live row = (row ≤ t .rows) × (live ≡ tally (liveRow t rows) row)
+Inv-loop t rows live₀ row₀ live row = (row ≤ t .rows) × (live ≡ tally (isLiveRow t rows) row)
 
 abbrev μ-loop : tie.MeasureT-loop
 μ-loop t rows live₀ row₀ live row = t .rows - row
@@ -26,7 +26,7 @@ add-live : tie.Need-add-live Inv-loop μ-loop
 add-live c =
     let s = c .before .before .before .before in
     let a = s .before .before .args in
-    omega (arith, s .loop .inv .1, tally-le (liveRow (a .t) (a .rows .now)) (s .loop .row), c .before .before .if1 .taken)
+    omega (arith, s .loop .inv .1, tally-le (isLiveRow (a .t) (a .rows .now)) (s .loop .row), c .before .before .if1 .taken)
 
 loop-less : tie.Need-loop-less Inv-loop μ-loop
 loop-less c = omega arith

@@ -24,16 +24,16 @@ pub record RowsLie (t : Keyed) (rows : List ℕ) : Type 0 where
   pub count : t .rows ≤ t .capacity
   pub cells : t .capacity * t .columns ≤ length rows
 
-unfoldable pub liveRow : Keyed → List ℕ → ℕ → Bool
-liveRow t rows i = isLive (rowAt (t .columns) i rows)
+unfoldable pub isLiveRow : Keyed → List ℕ → ℕ → Bool
+isLiveRow t rows i = isLive (rowAt (t .columns) i rows)
 
 -- how many of the numbers below n pass a test
 unfoldable pub tally : (ℕ → Bool) → ℕ → ℕ
 tally test zero = 0
 tally test (suc n) = cond (test n) (suc (tally test n)) (tally test n)
 
-abbrev pub liveRows : Keyed → List ℕ → ℕ
-liveRows t rows = tally (liveRow t rows) (t .rows)
+abbrev pub liveCount : Keyed → List ℕ → ℕ
+liveCount t rows = tally (isLiveRow t rows) (t .rows)
 
 -- a slot is free, or n for none
 pub record FreeIs (n : ℕ) (store : List ℕ) (r : ℕ) : Type 0 where
@@ -60,7 +60,7 @@ pub record RoundFits (t : Keyed) (rows store : List ℕ) (z live : ℕ) (seen : 
   pub fits : Fits t rows store
   pub slot : z < slots t
   pub free : getD store z 0 ≡ 0
-  pub count : live ≡ liveRows t rows
+  pub count : live ≡ liveCount t rows
   pub marks : t .rows ≤ length seen
   pub clear : (i : ℕ) → i < t .rows → getD seen i 0 ≡ 0
 

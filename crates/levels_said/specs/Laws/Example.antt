@@ -11,7 +11,7 @@ use Rattle.constraints.specs.Constraints.{known}
 use Rattle.sort_entries.specs.Entries.{last, push, pushAll, rebuilt, firstRow, position, rangeAt, fastRange}
 use Rattle.plain.specs.Staged.{openable, wordsOf, wordsAll, keyRemovals, rowRemovals, inserts, hasKey, skipped, due}
 use Rattle.plain.specs.Refusing.{Lengths, storesShort, wordsShort, wrongWidth, noSuchRow, overfull, openRefusal, stageLadder, mergeLadder}
-use Rattle.plain.specs.Plain.{Plain, liveFrom, liveRows, lookup, dead, opened, stage, liveWithKey, killIf, withoutKey, withoutKeys, withoutRow, withoutRows, below, stop, raised, append, put, insertion, insertAll, applied, compacted, unstaged, compacts, merged}
+use Rattle.plain.specs.Plain.{Plain, liveFrom, liveRows, lookup, dead, opened, stage, liveWithKey, killIf, withoutKey, withoutKeys, withoutRow, withoutRows, below, stop, raised, append, put, insertion, insertAll, applied, compacted, unstaged, compactsAfter, merged}
 use Rattle.plain.specs.Calls.{pendingShort, refusal, done, after}
 use Rattle.table.specs.Stores.{entries}
 use Rattle.levels_text.specs.Lines.{fields, valueFrom, isDecimal, isLine, letter, numbers, isBare, isForm, accepted}
@@ -54,5 +54,5 @@ output =
     ∷ []
 
 pub example : session none input ≡ output
-unfolding session input output flat every same count keep countFrom firstOf first isDead ruledColumn signed signedLess smaller larger taken madeCell madeFrom changesFrom ruled known last push pushAll rebuilt firstRow position rangeAt fastRange openable wordsOf wordsAll keyRemovals rowRemovals inserts hasKey skipped due storesShort wordsShort wrongWidth noSuchRow overfull openRefusal stageLadder mergeLadder liveFrom liveRows lookup dead opened stage liveWithKey killIf withoutKey withoutKeys withoutRow withoutRows below stop raised append put insertion insertAll applied compacted unstaged compacts merged pendingShort refusal done after entries fields valueFrom isDecimal isLine letter numbers isBare isForm accepted digitsIn decimal field textLine replied openNumber opens calls asks mergeText fastOf rangeText versionText listText served onTable turn answered
+unfolding session input output flat every same count keep countFrom firstOf first isDead ruledColumn signed signedLess smaller larger taken madeCell madeFrom changesFrom ruled known last push pushAll rebuilt firstRow position rangeAt fastRange openable wordsOf wordsAll keyRemovals rowRemovals inserts hasKey skipped due storesShort wordsShort wrongWidth noSuchRow overfull openRefusal stageLadder mergeLadder liveFrom liveRows lookup dead opened stage liveWithKey killIf withoutKey withoutKeys withoutRow withoutRows below stop raised append put insertion insertAll applied compacted unstaged compactsAfter merged pendingShort refusal done after entries fields valueFrom isDecimal isLine letter numbers isBare isForm accepted digitsIn decimal field textLine replied openNumber opens calls asks mergeText fastOf rangeText versionText listText served onTable turn answered
 example = refl

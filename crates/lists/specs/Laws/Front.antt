@@ -5,7 +5,7 @@ use mathlib.Core.List.{List, [], _∷_}
 use native.Mathlib.Numerals.{add-one}
 use native.Mathlib.Omega.{arith}
 use lib.ListN.{length, drop, getD, set}
-use Rattle.lists.specs.Lists.{mapFront}
+use Rattle.lists.specs.inner.Searching.{mapFront}
 
 module _ {A : Type 0} where
   module _ (f : A → A) where

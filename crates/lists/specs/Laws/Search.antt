@@ -11,110 +11,111 @@ use lib.Dec.{ltb}
 use lib.ListN.{length, take, drop, getD, set, length-drop, take-append-drop}
 use lib.Seq.{getD-drop, take-append-seam}
 use borrow.Author.Tests.{lt-ltb, le-ltb}
-use Rattle.lists.specs.Lists.{putAt, keep, count, rising, has, within, place}
+use Rattle.lists.specs.Lists.{putAt, keep, count, rising, has, within}
+use Rattle.lists.specs.inner.Searching.{firstNotBelow}
 use Rattle.lists.specs.Laws.Parts.{length-putAt, putAt-then, set-putAt}
 use Rattle.lists.specs.Laws.Keep.{split, keep-no, keep-append}
 use Rattle.lists.specs.Laws.Rising.{above-at, rising-tail, rising-at, rising-count-lt, keep-within-part, has-at, has-of}
 
-place-yes : (t x : ℕ) (xs : List ℕ) → x < t → place t (x ∷ xs) ≡ suc (place t xs)
-unfolding place
-place-yes t x xs h = rw (lt-ltb x t h)
+notBelow-yes : (t x : ℕ) (xs : List ℕ) → x < t → firstNotBelow t (x ∷ xs) ≡ suc (firstNotBelow t xs)
+unfolding firstNotBelow
+notBelow-yes t x xs h = rw (lt-ltb x t h)
 
-place-no : (t x : ℕ) (xs : List ℕ) → t ≤ x → place t (x ∷ xs) ≡ 0
-unfolding place
-place-no t x xs h = rw (le-ltb x t h)
+notBelow-no : (t x : ℕ) (xs : List ℕ) → t ≤ x → firstNotBelow t (x ∷ xs) ≡ 0
+unfolding firstNotBelow
+notBelow-no t x xs h = rw (le-ltb x t h)
 
-pub place-le : (t : ℕ) (l : List ℕ) → place t l ≤ length l
-place-le t [] = unfold place in omega arith
-place-le t (x ∷ xs) =
+pub notBelow-le : (t : ℕ) (l : List ℕ) → firstNotBelow t l ≤ length l
+notBelow-le t [] = unfold firstNotBelow in omega arith
+notBelow-le t (x ∷ xs) =
     elim (decLt x t) [
-      | yes a ↦ rw (place-yes t x xs a) (suc-le-suc (place-le t xs))
-      | no a ↦ rw (place-no t x xs (omega arith)) (omega arith)
+      | yes a ↦ rw (notBelow-yes t x xs a) (suc-le-suc (notBelow-le t xs))
+      | no a ↦ rw (notBelow-no t x xs (omega arith)) (omega arith)
     ]
 
 -- a number below t stands before it
-pub place-past : (t : ℕ) (l : List ℕ) → rising l ≡ true → (i : ℕ) → i < length l → getD l i 0 < t → i < place t l
-place-past t [] e i h k = absurd (omega arith)
-place-past t (x ∷ xs) e zero h k = rw (place-yes t x xs k) (omega arith)
-place-past t (x ∷ xs) e (suc i) h k =
+pub notBelow-past : (t : ℕ) (l : List ℕ) → rising l ≡ true → (i : ℕ) → i < length l → getD l i 0 < t → i < firstNotBelow t l
+notBelow-past t [] e i h k = absurd (omega arith)
+notBelow-past t (x ∷ xs) e zero h k = rw (notBelow-yes t x xs k) (omega arith)
+notBelow-past t (x ∷ xs) e (suc i) h k =
     let a : x < getD xs i 0 = rising-at (x ∷ xs) e 0 (suc i) (omega arith) h in
-    rw (place-yes t x xs (omega arith)) (suc-le-suc (place-past t xs (rising-tail x xs e) i (omega arith) k))
+    rw (notBelow-yes t x xs (omega arith)) (suc-le-suc (notBelow-past t xs (rising-tail x xs e) i (omega arith) k))
 
 -- any other at it or after it
-pub place-upto : (t : ℕ) (l : List ℕ) → rising l ≡ true → (i : ℕ) → i < length l → t ≤ getD l i 0 → place t l ≤ i
-place-upto t [] e i h k = absurd (omega arith)
-place-upto t (x ∷ xs) e zero h k = rw (place-no t x xs k) (omega arith)
-place-upto t (x ∷ xs) e (suc i) h k =
+pub notBelow-upto : (t : ℕ) (l : List ℕ) → rising l ≡ true → (i : ℕ) → i < length l → t ≤ getD l i 0 → firstNotBelow t l ≤ i
+notBelow-upto t [] e i h k = absurd (omega arith)
+notBelow-upto t (x ∷ xs) e zero h k = rw (notBelow-no t x xs k) (omega arith)
+notBelow-upto t (x ∷ xs) e (suc i) h k =
     elim (decLt x t) [
-      | yes a ↦ rw (place-yes t x xs a) (suc-le-suc (place-upto t xs (rising-tail x xs e) i (omega arith) k))
-      | no a ↦ rw (place-no t x xs (omega arith)) (omega arith)
+      | yes a ↦ rw (notBelow-yes t x xs a) (suc-le-suc (notBelow-upto t xs (rising-tail x xs e) i (omega arith) k))
+      | no a ↦ rw (notBelow-no t x xs (omega arith)) (omega arith)
     ]
 
 -- and the other way round
-pub place-below : (t : ℕ) (l : List ℕ) → rising l ≡ true → (i : ℕ) → i < place t l → getD l i 0 < t
-place-below t l e i h =
-    let n = place-le t l in
+pub notBelow-below : (t : ℕ) (l : List ℕ) → rising l ≡ true → (i : ℕ) → i < firstNotBelow t l → getD l i 0 < t
+notBelow-below t l e i h =
+    let n = notBelow-le t l in
     elim (decLt (getD l i 0) t) [
       | yes a ↦ a
-      | no a ↦ absurd (let b = place-upto t l e i (omega arith) (omega arith) in omega arith)
+      | no a ↦ absurd (let b = notBelow-upto t l e i (omega arith) (omega arith) in omega arith)
     ]
 
-pub place-above : (t : ℕ) (l : List ℕ) → rising l ≡ true → (i : ℕ) → place t l ≤ i → i < length l → t ≤ getD l i 0
-place-above t l e i h k =
+pub notBelow-above : (t : ℕ) (l : List ℕ) → rising l ≡ true → (i : ℕ) → firstNotBelow t l ≤ i → i < length l → t ≤ getD l i 0
+notBelow-above t l e i h k =
     elim (decLt (getD l i 0) t) [
-      | yes a ↦ absurd (let b = place-past t l e i k a in omega arith)
+      | yes a ↦ absurd (let b = notBelow-past t l e i k a in omega arith)
       | no a ↦ omega arith
     ]
 
 -- where the first n are below t, it is not among them
-pub place-from : (t : ℕ) (l : List ℕ) → rising l ≡ true → (n : ℕ) → n ≤ length l → ((i : ℕ) → i < n → getD l i 0 < t) → n ≤ place t l
-place-from t l e zero h f = omega arith
-place-from t l e (suc n) h f = place-past t l e n (omega arith) (f n (omega arith))
+pub notBelow-from : (t : ℕ) (l : List ℕ) → rising l ≡ true → (n : ℕ) → n ≤ length l → ((i : ℕ) → i < n → getD l i 0 < t) → n ≤ firstNotBelow t l
+notBelow-from t l e zero h f = omega arith
+notBelow-from t l e (suc n) h f = notBelow-past t l e n (omega arith) (f n (omega arith))
 
 -- a larger number's place is no earlier
-pub place-mono : (s t : ℕ) (l : List ℕ) → rising l ≡ true → s ≤ t → place s l ≤ place t l
-place-mono s t l e h = place-from t l e (place s l) (place-le s l) (λ i k. let a = place-below s l e i k in omega arith)
+pub notBelow-mono : (s t : ℕ) (l : List ℕ) → rising l ≡ true → s ≤ t → firstNotBelow s l ≤ firstNotBelow t l
+notBelow-mono s t l e h = notBelow-from t l e (firstNotBelow s l) (notBelow-le s l) (λ i k. let a = notBelow-below s l e i k in omega arith)
 
 -- where t itself stands is its place
-pub place-at : (t : ℕ) (l : List ℕ) → rising l ≡ true → (i : ℕ) → i < length l → getD l i 0 ≡ t → place t l ≡ i
-place-at t l e i h q =
-    let a = place-upto t l e i h (omega arith) in
-    elim (decLt (place t l) i) [
+pub notBelow-at : (t : ℕ) (l : List ℕ) → rising l ≡ true → (i : ℕ) → i < length l → getD l i 0 ≡ t → firstNotBelow t l ≡ i
+notBelow-at t l e i h q =
+    let a = notBelow-upto t l e i h (omega arith) in
+    elim (decLt (firstNotBelow t l) i) [
       | yes b ↦
           absurd
-          (let c = place-above t l e (place t l) (omega arith) (omega arith) in
-          let d = rising-at l e (place t l) i b h in
+          (let c = notBelow-above t l e (firstNotBelow t l) (omega arith) (omega arith) in
+          let d = rising-at l e (firstNotBelow t l) i b h in
           omega arith)
       | no b ↦ omega arith
     ]
 
 -- t is a member if it stands at its place, and only then
-pub has-place : (t : ℕ) (l : List ℕ) (i : ℕ) → i < length l → getD l i 0 ≡ t → has t l ≡ true
-has-place t l i h q = rw (← q) (has-of l i h)
+pub has-notBelow : (t : ℕ) (l : List ℕ) (i : ℕ) → i < length l → getD l i 0 ≡ t → has t l ≡ true
+has-notBelow t l i h q = rw (← q) (has-of l i h)
 
-pub has-not-place : (t : ℕ) (l : List ℕ) → rising l ≡ true → (place t l < length l → getD l (place t l) 0 ≡ t → ⊥) → has t l ≡ false
-has-not-place t l e f =
+pub has-not-notBelow : (t : ℕ) (l : List ℕ) → rising l ≡ true → (firstNotBelow t l < length l → getD l (firstNotBelow t l) 0 ≡ t → ⊥) → has t l ≡ false
+has-not-notBelow t l e f =
     elim (split (has t l)) [
       | inl q ↦
           let a = has-at t l q in
-          let b : place t l ≡ a .0 = place-at t l e (a .0) (a .1) (a .2) in
+          let b : firstNotBelow t l ≡ a .0 = notBelow-at t l e (a .0) (a .1) (a .2) in
           absurd (f (rw b (a .1)) (rw b (a .2)))
       | inr q ↦ q
     ]
 
-pub has-in-place : (t : ℕ) (l : List ℕ) → rising l ≡ true → has t l ≡ true → (place t l < length l) × (getD l (place t l) 0 ≡ t)
-has-in-place t l e q =
+pub has-in-notBelow : (t : ℕ) (l : List ℕ) → rising l ≡ true → has t l ≡ true → (firstNotBelow t l < length l) × (getD l (firstNotBelow t l) 0 ≡ t)
+has-in-notBelow t l e q =
     let a = has-at t l q in
-    let b : place t l ≡ a .0 = place-at t l e (a .0) (a .1) (a .2) in
+    let b : firstNotBelow t l ≡ a .0 = notBelow-at t l e (a .0) (a .1) (a .2) in
     (rw b (a .1), rw b (a .2))
 
 -- in a rising list it is how many are below
-place-count : (t : ℕ) (l : List ℕ) → rising l ≡ true → count (λ x. ltb x t) l ≡ place t l
-place-count t l e = rising-count-lt l t (place t l) (place-le t l) (λ i h. place-below t l e i h) (λ i h k. place-above t l e i h k)
+notBelow-count : (t : ℕ) (l : List ℕ) → rising l ≡ true → count (λ x. ltb x t) l ≡ firstNotBelow t l
+notBelow-count t l e = rising-count-lt l t (firstNotBelow t l) (notBelow-le t l) (λ i h. notBelow-below t l e i h) (λ i h k. notBelow-above t l e i h k)
 
 -- the ids kept are those between two places
-pub keep-within-places : (l : List ℕ) (a b : ℕ) → rising l ≡ true → a ≤ b → keep (within a b) l ≡ take (place b l - place a l) (drop (place a l) l)
-keep-within-places l a b e h = rw (← place-count a l e, ← place-count b l e) (keep-within-part l a b e h)
+pub keep-within-places : (l : List ℕ) (a b : ℕ) → rising l ≡ true → a ≤ b → keep (within a b) l ≡ take (firstNotBelow b l - firstNotBelow a l) (drop (firstNotBelow a l) l)
+keep-within-places l a b e h = rw (← notBelow-count a l e, ← notBelow-count b l e) (keep-within-part l a b e h)
 
 -- ---- what is kept from a place on
 

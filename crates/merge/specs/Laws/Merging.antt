@@ -11,7 +11,7 @@ use Rattle.refusals.specs.Refusals.{accepted}
 use Rattle.lists.specs.Lists.{putAt, flat}
 use Rattle.lists.specs.Laws.Keep.{every-keep}
 use Rattle.plain.specs.Staged.{Staged, due, rowRemovals, inserts}
-use Rattle.plain.specs.Plain.{Inserted, insertAll, Plain, dead, withoutRows, insertion, applied, live as liveCount, compacted, unstaged, compacts, merged, mergeKeeps, mergeDrops}
+use Rattle.plain.specs.Plain.{Inserted, insertAll, Plain, dead, withoutRows, insertion, applied, live as liveCount, compacted, unstaged, compactsAfter, merged, mergeKeeps, mergeDrops}
 use Rattle.table.specs.declared.Header.{Header}
 use Rattle.plain.specs.Laws.Price.{compacted-live}
 use Rattle.table.specs.declared.Merge.{Merge}
@@ -20,7 +20,7 @@ use Rattle.table.specs.declared.MergeAnswer.the-variants.{Merged}
 use Rattle.table.specs.Numbers.{mergeSays}
 use Rattle.table.specs.Stores.{headerOf, rowStore}
 use Rattle.table.specs.Promises.{Stores, stores, body, compactionWords, Represents, mergeOf, mergedRows, mergedSorts, MergedTable}
-use Rattle.pending.specs.inner.Becoming.{Steps}
+use Rattle.pending.specs.inner.Becoming.{Becomes}
 use Rattle.merge.specs.inner.Insertions.{InsertedTable}
 use Rattle.removals.specs.inner.Removals.{removedAll}
 use Rattle.merge.specs.inner.Parts.{AppliedTable, finished, FinishedTable}
@@ -42,7 +42,7 @@ passes-applied p p₁ p₂ a b c d =
 
 -- what the three leave
 pub passes-table : {p p₁ p₂ : Plain} {s s₁ s₂ s₃ : Stores} {m : Passed} → Represents p s
-    → p₁ ≡ removedAll 1 (p .staged) p → Steps p p₁ s s₁ → p₂ ≡ removedAll 2 (p₁ .staged) p₁ → Steps p₁ p₂ s₁ s₂ → InsertedTable p₂ s₂ s₃ m
+    → p₁ ≡ removedAll 1 (p .staged) p → Becomes p p₁ s s₁ → p₂ ≡ removedAll 2 (p₁ .staged) p₁ → Becomes p₁ p₂ s₁ s₂ → InsertedTable p₂ s₂ s₃ m
     → AppliedTable p s s₃ m
 passes-table {p} {p₁} {p₂} {s} {s₁} {s₂} {s₃} {m} r a f b g i =
     let e = passes-applied p p₁ p₂ a (f .later .staged) b (g .later .staged) in
@@ -57,18 +57,18 @@ passes-table {p} {p₁} {p₂} {s} {s₁} {s₂} {s₃} {m} r a f b g i =
 -- ---- what follows the passes
 
 -- a merge that stopped does not compact
-pub stopped-not : (status : ℕ) (p : Plain) → (status ≡ 0 → ⊥) → compacts status p ≡ false
-unfolding compacts
+pub stopped-not : (status : ℕ) (p : Plain) → (status ≡ 0 → ⊥) → compactsAfter status p ≡ false
+unfolding compactsAfter
 stopped-not status p e = rw (ne-eqb status 0 e)
 
 -- nor does one that did not, with too few dead rows or no generation left
-pub due-not : (status : ℕ) (p : Plain) → status ≡ 0 → due (dead p) (length (p .rows)) (p .generation) ≡ false → compacts status p ≡ false
-unfolding compacts
+pub due-not : (status : ℕ) (p : Plain) → status ≡ 0 → due (dead p) (length (p .rows)) (p .generation) ≡ false → compactsAfter status p ≡ false
+unfolding compactsAfter
 due-not status p e d = rw (eq-eqb status 0 e, d)
 
 -- with more it does
-pub due-compacts : (status : ℕ) (p : Plain) → status ≡ 0 → due (dead p) (length (p .rows)) (p .generation) ≡ true → compacts status p ≡ true
-unfolding compacts
+pub due-compacts : (status : ℕ) (p : Plain) → status ≡ 0 → due (dead p) (length (p .rows)) (p .generation) ≡ true → compactsAfter status p ≡ true
+unfolding compactsAfter
 due-compacts status p e d = rw (eq-eqb status 0 e, d)
 
 -- as many rows as were live are left
@@ -104,8 +104,8 @@ module _ {h : Header} {rows keys sorts pending live base : List ℕ} {m : Passed
   merged-answer =
       let q : Plain = applied p .table in
       let e = ap headerOf merged-finished in
-      let k = ap (λ (status : ℕ). cond (compacts status q) (liveCount q) 0) (a .status) in
-      let d = ap (λ (status : ℕ). cond (compacts status q) (dead q) 0) (a .status) in
+      let k = ap (λ (status : ℕ). cond (compactsAfter status q) (liveCount q) 0) (a .status) in
+      let d = ap (λ (status : ℕ). cond (compactsAfter status q) (dead q) 0) (a .status) in
       f .answer ∙ (λ i. record { header = e i; status = a .status i; place = a .place i; added = a .added i; kept = k i; dropped = d i })
 
   -- the two halves are a merge

@@ -10,11 +10,11 @@ use Rattle.table.specs.declared.Header.{Header}
 use Rattle.merge.specs.declared.Passed.{Passed}
 use Rattle.table.specs.Numbers.{openingOf}
 use Rattle.table.specs.Promises.{Stores, stores, Represents, SlotsPast}
-use Rattle.pending.specs.inner.Becoming.{Steps, Recounted, Ready, Waiting}
+use Rattle.pending.specs.inner.Becoming.{Becomes, Recounted, Ready, Waiting}
 
 -- all inserts
 pub record InsertedTable (p : Plain) (s s′ : Stores) (m : Passed) : Type 0 where
-  pub steps : Steps p (insertAll (inserts (p .staged)) 0 false p .table) s s′
+  pub steps : Becomes p (insertAll (inserts (p .staged)) 0 false p .table) s s′
   pub status : m .status ≡ insertAll (inserts (p .staged)) 0 false p .status
   pub place : m .place ≡ insertAll (inserts (p .staged)) 0 false p .place
   pub added : m .added ≡ insertAll (inserts (p .staged)) 0 false p .added
@@ -35,7 +35,7 @@ pub record InsertNext (m : Passed) (rows keys sorts pending : List ℕ) (at : �
 -- what the inserts from a place on come to is what those after it come to, if it does not stop the merge
 pub record InsertGoes (m : Passed) (r : Passed) (one : Staged) (rest : List Staged) (p : Plain) (s s′ : Stores) : Type 0 where
   pub next : Plain
-  pub steps : Steps p next s s′
+  pub steps : Becomes p next s s′
   pub goes-on : r .status ≡ 0
       → insertAll (inserts (one ∷ rest)) (m .place) (m .added) p ≡ insertAll (inserts rest) (r .place) (r .added) next
   pub stops : (r .status ≡ 0 → ⊥)

@@ -5,19 +5,19 @@ use mathlib.Core.Path.{_≡_}
 use mathlib.Core.Bool.{cond}
 use mathlib.Core.List.{List}
 use Rattle.lists.specs.Lists.{rowsOf}
-use Rattle.plain.specs.Plain.{Plain, applied, live, dead, compacted, unstaged, compacts}
+use Rattle.plain.specs.Plain.{Plain, applied, live, dead, compacted, unstaged, compactsAfter}
 use Rattle.table.specs.declared.Header.{Header}
 use Rattle.table.specs.declared.Merge.{Merge}
 use Rattle.merge.specs.declared.Passed.{Passed}
 use Rattle.table.specs.Stores.{headerOf, rowStore, sortStore}
 use Rattle.table.specs.Promises.{Stores, stores, Represents, SlotsPast, PastNeeded}
-use Rattle.pending.specs.inner.Becoming.{Steps, withCounts}
+use Rattle.pending.specs.inner.Becoming.{Becomes, withCounts}
 
 -- ---- the passes over the pending records
 
 -- the table they leave, and what they answer
 pub record AppliedTable (p : Plain) (s s′ : Stores) (m : Passed) : Type 0 where
-  pub steps : Steps p (applied p .table) s s′
+  pub steps : Becomes p (applied p .table) s s′
   pub status : m .status ≡ applied p .status
   pub place : m .place ≡ applied p .place
   pub added : m .added ≡ applied p .added
@@ -33,7 +33,7 @@ pub record Applying (h : Header) (rows keys sorts pending : List ℕ) (m : Passe
 
 -- pending is emptied; if the merge did not stop, rows are dropped if that is due
 abbrev pub finished : ℕ → Plain → Plain
-finished status p = cond (compacts status p) (compacted (unstaged p)) (unstaged p)
+finished status p = cond (compactsAfter status p) (compacted (unstaged p)) (unstaged p)
 
 -- what the passes came to, with the header that is left, and what was kept and dropped
 abbrev pub finishedAs : Passed → Header → ℕ → ℕ → Merge
@@ -43,7 +43,7 @@ finishedAs m h kept dropped =
 -- the same of a plain table
 abbrev pub answerOf : Passed → Plain → Merge
 answerOf m p =
-    finishedAs m (headerOf (finished (m .status) p)) (cond (compacts (m .status) p) (live p) 0) (cond (compacts (m .status) p) (dead p) 0)
+    finishedAs m (headerOf (finished (m .status) p)) (cond (compactsAfter (m .status) p) (live p) 0) (cond (compactsAfter (m .status) p) (dead p) 0)
 
 module _ (m : Passed) (rows keys sorts live-words base : List ℕ) (r : Merge) (rows′ keys′ sorts′ live-words′ base′ : List ℕ) where
   pub record FinishedTable (pending : List ℕ) (p : Plain) : Type 0 where

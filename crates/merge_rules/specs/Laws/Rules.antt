@@ -12,7 +12,7 @@ use lib.ListN.{length, take, getD, length-take}
 use lib.Seq.{getD-take, ext-getD}
 use borrow.Author.Tests.{eq-eqb, ne-eqb, le-leb, lt-leb}
 use Rattle.lists.specs.Laws.Keep.{split}
-use Rattle.merge_rules.specs.Rules.{ruledColumn, taken, madeCell, madeFrom, changesFrom, kept, made, ruled}
+use Rattle.merge_rules.specs.Rules.{ruledColumn, taken, madeCell, madeFrom, changesFrom, keepsOld, makesRow, ruled}
 use Rattle.merge_rules.specs.Survivor.{survivor}
 
 and-false : (b : Bool) → (b && false) ≡ false
@@ -95,11 +95,11 @@ module _ (rule keys sort : ℕ) where
           ∙ sym (getD-take keys old i 0 k)
 
   -- "the old row is kept", or a row is made
-  pub kept-of : (old new : List ℕ) → changesFrom rule keys sort 0 old new ≡ false → ruled rule keys sort old new ≡ kept
+  pub kept-of : (old new : List ℕ) → changesFrom rule keys sort 0 old new ≡ false → ruled rule keys sort old new ≡ keepsOld
   unfolding ruled
   kept-of old new e = rw e
 
-  pub made-of : (old new : List ℕ) → changesFrom rule keys sort 0 old new ≡ true → ruled rule keys sort old new ≡ made (madeFrom rule keys sort 0 old new)
+  pub made-of : (old new : List ℕ) → changesFrom rule keys sort 0 old new ≡ true → ruled rule keys sort old new ≡ makesRow (madeFrom rule keys sort 0 old new)
   unfolding ruled
   made-of old new e = rw e
 
@@ -117,7 +117,7 @@ changes-zero keys sort column (a ∷ old) (b ∷ new) =
     rw (taken-zero a b, eq-eqb a a refl, and-false (ruledColumn keys sort column), changes-zero keys sort (suc column) old new)
 
 -- "Rule 0 keeps the old row"
-pub rule-zero : (keys sort : ℕ) (old new : List ℕ) → ruled 0 keys sort old new ≡ kept
+pub rule-zero : (keys sort : ℕ) (old new : List ℕ) → ruled 0 keys sort old new ≡ keepsOld
 rule-zero keys sort old new = kept-of 0 keys sort old new (changes-zero keys sort 0 old new)
 
 -- ---- rule 1
@@ -147,12 +147,12 @@ module _ (keys sort : ℕ) (old new : List ℕ) (n : length old ≡ length new) 
       (λ i h. made-at 1 keys sort old new i (omega (arith, made-length 1 keys sort old new n)) (omega (arith, made-length 1 keys sort old new n)) ∙ one-cell i)
 
   -- "Rule 1 takes the new row if a cell outside keys and sort column differs, else keeps the old"
-  pub rule-one : ruled 1 keys sort old new ≡ cond (changesFrom 1 keys sort 0 old new) (made new) kept
+  pub rule-one : ruled 1 keys sort old new ≡ cond (changesFrom 1 keys sort 0 old new) (makesRow new) keepsOld
   unfolding ruled
   rule-one = rw made-one
 
   -- what survives under rules 0 and 1 is what the rule makes or keeps
-  pub survives : (rule : ℕ) → rule ≤ 1 → ruled rule keys sort old new ≡ cond (changesFrom rule keys sort 0 old new) (made (survivor rule keys sort old new)) kept
+  pub survives : (rule : ℕ) → rule ≤ 1 → ruled rule keys sort old new ≡ cond (changesFrom rule keys sort 0 old new) (makesRow (survivor rule keys sort old new)) keepsOld
   unfolding survivor
   survives zero h = rule-zero keys sort old new ∙ rw (changes-zero keys sort 0 old new)
   survives (suc zero) h = rule-one ∙ elim (split (changesFrom 1 keys sort 0 old new)) [ inl q ↦ rw q | inr q ↦ rw q ]
@@ -175,12 +175,12 @@ module _ (rule keys sort : ℕ) where
       ∙ getD-take keys new 0 0 h
 
   -- it is the rule's, and a ruled cell changes
-  pub ruled-made : (old new row : List ℕ) → ruled rule keys sort old new ≡ made row
+  pub ruled-made : (old new row : List ℕ) → ruled rule keys sort old new ≡ makesRow row
       → (changesFrom rule keys sort 0 old new ≡ true) × (madeFrom rule keys sort 0 old new ≡ row)
   unfolding ruled
   ruled-made old new row e = go (changesFrom rule keys sort 0 old new) refl e
     where
-      go : (b : Bool) → changesFrom rule keys sort 0 old new ≡ b → cond b (made (madeFrom rule keys sort 0 old new)) kept ≡ made row
+      go : (b : Bool) → changesFrom rule keys sort 0 old new ≡ b → cond b (makesRow (madeFrom rule keys sort 0 old new)) keepsOld ≡ makesRow row
           → (changesFrom rule keys sort 0 old new ≡ true) × (madeFrom rule keys sort 0 old new ≡ row)
       go true q f = (q, cc)
       go false q f = absurd (let z : _≡_ {A = ℕ} 0 1 = cc in omega arith)

@@ -1,6 +1,6 @@
 -- `offsets::binary_search_from` meets its contract. Assumes nothing.
 use borrow.Author.Needs.{needs}
-use Rattle.lists.specs.Laws.Search.{place-le}
+use Rattle.lists.specs.Laws.Search.{notBelow-le}
 use Rattle.offset_search.proofs.binary_search_from.Statement.{statement}
 use Rattle.offset_search.proofs.binary_search_from.Tie as tie
 
@@ -12,7 +12,7 @@ binary-search-part-requires c κs = search needs
 
 returns : tie.Need-returns
 returns c = let s = c .binary-search-part .ensures in
-    record { from = s .from; within = s .upto; first = λ e h. s .first e h (place-le _ _) }
+    record { from = s .from; within = s .upto; first = λ e h. s .first e h (notBelow-le _ _) }
 
 pub binary-search-from-spec : {M : Type 1} → statement M
 binary-search-from-spec = tie.close (tie.spec cast-end binary-search-part-requires returns)

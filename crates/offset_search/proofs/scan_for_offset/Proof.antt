@@ -1,7 +1,7 @@
 -- `offsets::scan_for_offset` meets its contract. Assumes nothing.
 use native.Mathlib.Omega.{arith}
 use borrow.Author.Needs.{needs}
-use Rattle.lists.specs.Laws.Search.{place-past}
+use Rattle.lists.specs.Laws.Search.{notBelow-past}
 use Rattle.offset_search.specs.inner.Search.{Reached}
 use Rattle.offset_search.proofs.Search.{scanned-end, scanned-hit, scanned-before, scanned-part}
 use Rattle.offset_search.proofs.scan_for_offset.Statement.{statement}
@@ -26,7 +26,7 @@ returns-3 : tie.Need-returns-3
 returns-3 c = scanned-before _ _ _ (c .before .before .before .if1 .left) (c .if3 .taken)
 
 gallop-requires : tie.Need-gallop-requires
-gallop-requires c κs = (c .before .before .before .before .before .pre, c .before .before .before .if1 .left, λ e. place-past _ _ e _ (c .before .before .before .if1 .left) (omega arith))
+gallop-requires c κs = (c .before .before .before .before .before .pre, c .before .before .before .if1 .left, λ e. notBelow-past _ _ e _ (c .before .before .before .if1 .left) (omega arith))
 
 enum-known-p : tie.Need-enum-known-p
 enum-known-p c = search needs

@@ -4,28 +4,29 @@ use mathlib.Core.Path.{_≡_}
 use mathlib.Core.Bool.{true, cond}
 use mathlib.Core.List.{List}
 use lib.ListN.{length, getD}
-use Rattle.lists.specs.Lists.{rising, has, place}
+use Rattle.lists.specs.Lists.{rising, has}
+use Rattle.lists.specs.inner.Searching.{firstNotBelow}
 use Rattle.offset_search.specs.declared.Scan.{Scan}
-use Rattle.offset_search.specs.declared.Scan.the-variants.{Found, Next}
+use Rattle.offset_search.specs.declared.Scan.the-variants.{Hit, Next}
 use Rattle.offset_search.specs.declared.Reach.{Reach}
 use Rattle.offset_search.specs.declared.Reach.the-variants.{At, Between}
 
 -- "`binary_search_by_id` gives the first place whose id is not below"
 pub record Searched (ids : List ℕ) (target r : ℕ) : Type 0 where
   pub within : r ≤ length ids
-  pub first : rising ids ≡ true → r ≡ place target ids
+  pub first : rising ids ≡ true → r ≡ firstNotBelow target ids
 
 -- the same from a start: the ids before it are below the target, so its place is no earlier
 pub record SearchedFrom (ids : List ℕ) (start target r : ℕ) : Type 0 where
   pub from : start ≤ r
   pub within : r ≤ length ids
-  pub first : rising ids ≡ true → start ≤ place target ids → r ≡ place target ids
+  pub first : rising ids ≡ true → start ≤ firstNotBelow target ids → r ≡ firstNotBelow target ids
 
 -- the same between two places
 pub record SearchedPart (ids : List ℕ) (start end target r : ℕ) : Type 0 where
   pub from : start ≤ r
   pub upto : r ≤ end
-  pub first : rising ids ≡ true → start ≤ place target ids → place target ids ≤ end → r ≡ place target ids
+  pub first : rising ids ≡ true → start ≤ firstNotBelow target ids → firstNotBelow target ids ≤ end → r ≡ firstNotBelow target ids
 
 -- where strides stop: at the target
 pub record ReachedAt (ids : List ℕ) (target p : ℕ) : Type 0 where
@@ -36,8 +37,8 @@ pub record ReachedAt (ids : List ℕ) (target p : ℕ) : Type 0 where
 pub record ReachedBetween (ids : List ℕ) (target low high : ℕ) : Type 0 where
   pub order : low ≤ high
   pub within : high ≤ length ids
-  pub after : rising ids ≡ true → low ≤ place target ids
-  pub upto : rising ids ≡ true → place target ids ≤ high
+  pub after : rising ids ≡ true → low ≤ firstNotBelow target ids
+  pub upto : rising ids ≡ true → firstNotBelow target ids ≤ high
 
 unfoldable pub Reached : List ℕ → ℕ → Reach → Type 0
 Reached ids target (At p) = ReachedAt ids target p
@@ -45,17 +46,17 @@ Reached ids target (Between low high) = ReachedBetween ids target low high
 
 -- a scan's place
 unfoldable pub scanPlace : Scan → ℕ
-scanPlace (Found p) = p
+scanPlace (Hit p) = p
 scanPlace (Next p) = p
 
 -- what a scan finds: the target at its place, or where it would stand
 unfoldable pub scan : ℕ → List ℕ → Scan
-scan target ids = cond (has target ids) (Found (place target ids)) (Next (place target ids))
+scan target ids = cond (has target ids) (Hit (firstNotBelow target ids)) (Next (firstNotBelow target ids))
 
 pub record ScannedAt (ids : List ℕ) (at target : ℕ) (r : Scan) : Type 0 where
   pub within : scanPlace r ≤ length ids
-  pub finds : rising ids ≡ true → at ≡ place target ids → r ≡ scan target ids
+  pub finds : rising ids ≡ true → at ≡ firstNotBelow target ids → r ≡ scan target ids
 
 pub record Scanned (ids : List ℕ) (start target : ℕ) (r : Scan) : Type 0 where
   pub within : scanPlace r ≤ length ids
-  pub finds : rising ids ≡ true → start ≤ place target ids → r ≡ scan target ids
+  pub finds : rising ids ≡ true → start ≤ firstNotBelow target ids → r ≡ scan target ids

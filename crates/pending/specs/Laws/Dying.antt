@@ -17,7 +17,7 @@ use Rattle.lists.specs.Laws.Parts.{putAt-front}
 use Rattle.lists.specs.Laws.Rows.{row-in, flat-rowsOf, getD-rowsOf, length-rowsOf}
 use Rattle.key_index.specs.Slots.{LiveAt, keyAt, KeysSound}
 use Rattle.row_buffer.specs.Laws.Rows.{stale-rows}
-use Rattle.sort_entries.specs.Entries.{Entry, words, rebuilt}
+use Rattle.sort_entries.specs.Entries.{Entry, entryWords, rebuilt}
 use Rattle.plain.specs.Plain.{Row, Plain, deadRow, withRows, dead, liveWithKey, killIf, withoutKey, dies, withoutRow}
 use Rattle.plain.specs.Proper.{Proper, rowOf}
 use Rattle.plain.specs.Laws.Rows.{noRow, Thinned, empty, same-row, died, thinned-same, freeRow, apart, apart-of, apart-head, apart-tail, live-below, liveWithKey-live, liveWithKey-key}
@@ -26,7 +26,7 @@ use Rattle.table.specs.declared.Header.{Header}
 use Rattle.table.specs.Stores.{entries, headerOf, marked, stored, rowStore, sortStore}
 use Rattle.table.specs.Sound.{keyedOf}
 use Rattle.table.specs.Promises.{Stores, stores, lengths, Represents}
-use Rattle.pending.specs.inner.Becoming.{Later, Steps, withCounts, withDead}
+use Rattle.pending.specs.inner.Becoming.{Later, Becomes, withCounts, withDead}
 use Rattle.table.specs.Laws.Stored.{stored-again}
 use Rattle.table.specs.Laws.Shown.{rows-in, long-stores, stored-rows, represents-long, rows-stored, rows-counted}
 use Rattle.table.specs.Laws.Lookup.{passes-live, live-passes}
@@ -212,7 +212,7 @@ module _ {p : Plain} {s : Stores} (r : Represents p s) (i : ℕ) (live : rowOf p
   -- of the sort-entry store none
   pub dying-sorts : sortStore (dying p i) (s .sorts) ≡ s .sorts
   unfolding sortStore
-  dying-sorts = ap (λ (es : List Entry). putAt (s .sorts) 0 (words es)) (entries-killAt p i) ∙ sym (steps-refl r .sorts-after)
+  dying-sorts = ap (λ (es : List Entry). putAt (s .sorts) 0 (entryWords es)) (entries-killAt p i) ∙ sym (steps-refl r .sorts-after)
 
   -- the rows are shown
   pub dying-shown : stored (killAt i (p .rows)) (rowsOf (s .header .columns) (s .header .rows) (set (s .rows) (i * s .header .columns) 4294967295))
@@ -248,7 +248,7 @@ module _ {p : Plain} {s : Stores} (r : Represents p s) (i : ℕ) (live : rowOf p
 
   pub dying-steps : (keys : List ℕ) → 2 * s .header .capacity ≤ length keys
       → KeysSound (keyedOf (s .header)) (set (s .rows) (i * s .header .columns) 4294967295) keys
-      → Steps p (dying p i) s (stores (withDead (s .header) (s .header .dead + 1)) (set (s .rows) (i * s .header .columns) 4294967295) keys (s .sorts) (s .pending))
+      → Becomes p (dying p i) s (stores (withDead (s .header) (s .header .dead + 1)) (set (s .rows) (i * s .header .columns) 4294967295) keys (s .sorts) (s .pending))
   dying-steps keys long sound =
       record {
         later = dying-later p i;

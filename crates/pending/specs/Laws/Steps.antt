@@ -16,7 +16,7 @@ use Rattle.lists.specs.Laws.Keep.{split}
 use Rattle.lists.specs.Laws.Every.{every-head, every-tail}
 use Rattle.lists.specs.Laws.Parts.{take-drop, putAt-over, putAt-front}
 use Rattle.lists.specs.Laws.Rows.{widths, length-rowsOf, getD-rowsOf, length-flat, rowsOf-put-flat, flat-rowsOf}
-use Rattle.sort_entries.specs.Entries.{words}
+use Rattle.sort_entries.specs.Entries.{entryWords}
 use Rattle.sort_entries.specs.Laws.Stores.{length-words, words-entriesOf}
 use Rattle.sort_entries.specs.Laws.Rebuilt.{rebuilt-front}
 use Rattle.plain.specs.Staged.{Opening, Staged, insert, removeKey, removeRow, wordsOf, wordsAll}
@@ -28,7 +28,7 @@ use Rattle.table.specs.declared.Header.{Header}
 use Rattle.table.specs.Numbers.{openingOf}
 use Rattle.table.specs.Stores.{entries, marked, stored, rowStore, sortStore, recordWords}
 use Rattle.table.specs.Promises.{Stores, Represents}
-use Rattle.pending.specs.inner.Becoming.{Later, Steps, withCounts, Recounted, Waiting, kindOf, hashOf}
+use Rattle.pending.specs.inner.Becoming.{Later, Becomes, withCounts, Recounted, Waiting, kindOf, hashOf}
 use Rattle.table.specs.Laws.Stored.{length-stored, stored-widths, stored-at-live, stored-at-dead, stored-at-new}
 use Rattle.table.specs.Laws.Shown.{entries-few, rows-in, wide-rows, represents-long, rows-stored, rows-counted, live-cells}
 use Rattle.table.specs.Laws.Pending.{length-recordWords}
@@ -143,11 +143,11 @@ module _ {p : Plain} {s : Stores} (r : Represents p s) where
   cells-in = rows-in (r .proper) (length (s .rows)) (represents-long r .rows-long)
 
   -- the words of the entries fit
-  pub words-fit : length (words (entries p)) ≤ length (s .sorts)
+  pub words-fit : length (entryWords (entries p)) ≤ length (s .sorts)
   words-fit = omega (arith, length-words (entries p), entries-few p, r .proper .rows-fit, represents-long r .sorts-long)
 
   -- nothing is done
-  pub steps-refl : Steps p p s s
+  pub steps-refl : Becomes p p s s
   unfolding rowStore sortStore
   steps-refl =
       let w : ℕ = s .header .columns in
@@ -165,7 +165,7 @@ module _ {p : Plain} {s : Stores} (r : Represents p s) where
 abbrev rowsBefore : Stores → List (List ℕ)
 rowsBefore s = rowsOf (s .header .columns) (s .header .rows) (s .rows)
 
-module _ {p p₁ p₂ : Plain} {s s₁ s₂ : Stores} (r : Represents p s) (a : Steps p p₁ s s₁) (b : Steps p₁ p₂ s₁ s₂) where
+module _ {p p₁ p₂ : Plain} {s s₁ s₂ : Stores} (r : Represents p s) (a : Becomes p p₁ s s₁) (b : Becomes p₁ p₂ s₁ s₂) where
   before-wide : widths (p .opening .columns) (rowsBefore s) ≡ true
   before-wide = rw (columns-shown r, rows-counted r) (wide-rows (r .proper) (s .rows) (represents-long r .rows-long))
 
@@ -192,7 +192,7 @@ module _ {p p₁ p₂ : Plain} {s s₁ s₂ : Stores} (r : Represents p s) (a : 
       (length-rowsOf (s .header .columns) (s .header .rows) (s .rows) ∙ rows-counted r) old-cells
 
   -- one step after another
-  pub steps-then : Steps p p₂ s s₂
+  pub steps-then : Becomes p p₂ s s₂
   unfolding rowStore sortStore
   steps-then =
       let v : List (List ℕ) = stored (p₁ .rows) (rowsBefore s) in
@@ -213,7 +213,7 @@ module _ {p p₁ p₂ : Plain} {s s₁ s₂ : Stores} (r : Represents p s) (a : 
         sorts-after =
             b .sorts-after
             ∙ rw (a .sorts-after)
-            (putAt-over (s .sorts) (words (entries p₁)) (words (entries p₂)) 0
+            (putAt-over (s .sorts) (entryWords (entries p₁)) (entryWords (entries p₂)) 0
             (omega (arith, length-words (entries p₁), entries-few p₁, c, represents-long r .sorts-long))
             (omega (arith, length-words (entries p₁), length-words (entries p₂), entries-grow (b .later))));
         represents = b .represents;

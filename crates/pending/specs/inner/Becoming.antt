@@ -30,7 +30,7 @@ pub record Later (p p′ : Plain) : Type 0 where
   pub dies : (i : ℕ) → i < length (p .rows) → rowOf p′ i .live ≡ true → rowOf p i .live ≡ true
 
 -- the stores of p have become those of p′
-pub record Steps (p p′ : Plain) (s s′ : Stores) : Type 0 where
+pub record Becomes (p p′ : Plain) (s s′ : Stores) : Type 0 where
   pub later : Later p p′
   pub rows-after : s′ .rows ≡ rowStore p′ (rowsOf (s .header .columns) (s .header .rows) (s .rows)) (s .rows)
   pub sorts-after : s′ .sorts ≡ sortStore p′ (s .sorts)

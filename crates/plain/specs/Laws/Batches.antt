@@ -12,9 +12,9 @@ use lib.ListN.{take}
 use borrow.Author.Tests.{eqb-false}
 use Rattle.lists.specs.Lists.{keep, firstOf}
 use Rattle.lists.specs.Laws.Keep.{split, keep-append}
-use Rattle.merge_rules.specs.Rules.{Ruled, kept, made, ruled}
+use Rattle.merge_rules.specs.Rules.{Ruled, keepsOld, makesRow, ruled}
 use Rattle.plain.specs.Staged.{Opening, Staged, insert, keyRemovals, rowRemovals, inserts, hasKey, skipped}
-use Rattle.plain.specs.Plain.{Row, liveRow, Plain, withRow, Numbered, liveRows, lookup, stage, liveWithKey, killIf, withoutKeys, withoutRows, stop, Insertion, unchanged, appended, stopped, append, put, insertion, goOn, Inserted, insertAll, applied, compacted, unstaged, compacts, merged}
+use Rattle.plain.specs.Plain.{Row, liveRow, Plain, withRow, Numbered, liveRows, lookup, stage, liveWithKey, killIf, withoutKeys, withoutRows, stop, Insertion, unchanged, appended, stopped, append, put, insertion, goOn, Inserted, insertAll, applied, compacted, unstaged, compactsAfter, merged}
 use Rattle.plain.specs.Laws.Counts.{insertion-alike, applied-alike}
 use Rattle.plain.specs.Laws.Live.{cells-liveFrom, liveRows-compacted}
 
@@ -64,8 +64,8 @@ unfoldable placed : Opening → List ℕ → Option (List ℕ) → List (List �
 placed o cells none live = live ++ (cells ∷ [])
 placed o cells (some old) live =
     elim (ruled (o .rule) (o .keys) (o .sort) old cells) [
-      | kept ↦ live
-      | made row ↦ keep (λ other. not (hasKey (o .keys) (take (o .keys) cells) other)) live ++ (row ∷ [])
+      | keepsOld ↦ live
+      | makesRow row ↦ keep (λ other. not (hasKey (o .keys) (take (o .keys) cells) other)) live ++ (row ∷ [])
     ]
 
 unfoldable arrived : Opening → List ℕ → List (List ℕ) → List (List ℕ)
@@ -106,10 +106,10 @@ put-leaves cells (some old) p = go (ruled (p .opening .rule) (p .opening .keys) 
 
     go : (r : Ruled)
         → Leaves p
-        (elim r [ kept ↦ liveCells p | made row ↦ keep (λ other. not (hasKey (p .opening .keys) key other)) (liveCells p) ++ (row ∷ []) ])
-        (elim r [ kept ↦ unchanged | made row ↦ append row p (killIf (liveWithKey (p .opening .keys) key) (p .rows)) ])
-    go kept = refl
-    go (made row) =
+        (elim r [ keepsOld ↦ liveCells p | makesRow row ↦ keep (λ other. not (hasKey (p .opening .keys) key other)) (liveCells p) ++ (row ∷ []) ])
+        (elim r [ keepsOld ↦ unchanged | makesRow row ↦ append row p (killIf (liveWithKey (p .opening .keys) key) (p .rows)) ])
+    go keepsOld = refl
+    go (makesRow row) =
         rw (live-cells-of p, ← cells-of-killed (p .opening .keys) key (p .rows))
         (append-leaves row p (killIf (liveWithKey (p .opening .keys) key) (p .rows)))
 
@@ -203,7 +203,7 @@ module _ (rows : List (List ℕ)) (p : Plain) (e : p .staged ≡ []) where
       let rest = batch-rest rows p in
       let k : insertAll rows 0 false (batch rows p) .status ≡ 0 = rw applied-batch at q in
       let t : Inserted = applied (batch rows p) in
-      live-cells-finished (compacts (t .status) (t .table)) (t .table)
+      live-cells-finished (compactsAfter (t .status) (t .table)) (t .table)
       ∙ ap (λ (x : Inserted). liveCells (x .table)) applied-batch
       ∙ insert-all-leaves rows 0 false (batch rows p) k
       ∙ ap₂ (λ (o : Opening) (live : List (List ℕ)). allArrived o rows live) (rest .0) (rest .1)
@@ -213,7 +213,7 @@ module _ (rows : List (List ℕ)) (p : Plain) (e : p .staged ≡ []) where
   unfolding merged
   merged-rest q =
       let t : Inserted = applied (batch rows p) in
-      let f = finished-rest (compacts (t .status) (t .table)) (t .table) in
+      let f = finished-rest (compactsAfter (t .status) (t .table)) (t .table) in
       (f .0 ∙ applied-alike (batch rows p) .opening ∙ batch-rest rows p .0, f .1)
 
 -- "merging one batch and then another shall leave the same live rows in the same order as merging both as one"

@@ -11,7 +11,7 @@ use lib.ListN.{length, take, length-append, length-map}
 use borrow.Author.Tests.{eqb-true}
 use Rattle.lists.specs.Lists.{every}
 use Rattle.lists.specs.Laws.Every.{every-head, every-tail}
-use Rattle.merge_rules.specs.Rules.{Ruled, kept, made, ruled, madeFrom, changesFrom}
+use Rattle.merge_rules.specs.Rules.{Ruled, keepsOld, makesRow, ruled, madeFrom, changesFrom}
 use Rattle.plain.specs.Staged.{RowRemoval, keyRemovals, rowRemovals, inserts, skipped}
 use Rattle.plain.specs.Plain.{Row, Plain, withRows, withRow, liveWithKey, killIf, withoutKey, withoutKeys, dies, withoutRow, withoutRows, stop, append, put, insertion, applied, Numbered, lookup, Insertion, unchanged, appended, stopped, goOn, insertAll}
 use Rattle.merge_rules.specs.Laws.Rules.{ruled-made}
@@ -124,10 +124,10 @@ insertion-appended cells p p′ e = skip (skipped cells) refl e
         → skipped cells ≡ false
         → lookup p (take (p .opening .keys) cells) ≡ some old
         → ruled (p .opening .rule) (p .opening .keys) (p .opening .sort) (old .cells) cells ≡ r
-        → elim r [ kept ↦ unchanged | made row ↦ append row p (killIf (liveWithKey (p .opening .keys) (take (p .opening .keys) cells)) (p .rows)) ] ≡ appended p′
+        → elim r [ keepsOld ↦ unchanged | makesRow row ↦ append row p (killIf (liveWithKey (p .opening .keys) (take (p .opening .keys) cells)) (p .rows)) ] ≡ appended p′
         → Appended cells p p′
-    rule old kept s l q f = absurd (let z : _≡_ {A = ℕ} 0 1 = cc in omega arith)
-    rule old (made row) s l q f =
+    rule old keepsOld s l q f = absurd (let z : _≡_ {A = ℕ} 0 1 = cc in omega arith)
+    rule old (makesRow row) s l q f =
         let a = append-appended row p p′ (killIf (liveWithKey (p .opening .keys) (take (p .opening .keys) cells)) (p .rows)) f in
         let m = ruled-made (p .opening .rule) (p .opening .keys) (p .opening .sort) (old .cells) cells row q in
         rw (← a .1) (again old row s l (m .0) (m .1) (a .0))

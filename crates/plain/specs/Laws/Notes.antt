@@ -13,8 +13,8 @@ use Rattle.lists.specs.Lists.{keep}
 use Rattle.lists.specs.Laws.Keep.{split}
 use Rattle.plain.specs.Staged.{RowRemoval, keyRemovals, rowRemovals, inserts}
 use Rattle.plain.specs.Refusing.{Lengths}
-use Rattle.plain.specs.Plain.{Row, deadRow, Plain, liveFrom, stage, liveWithKey, killIf, withoutKey, withoutKeys, dies, withoutRow, withoutRows, insertAll, applied, compacted, unstaged, compacts, merged, cleared, opened}
-use Rattle.plain.specs.Calls.{Call, staging, merging, compacting, clearing, refusal, done, after, Lent, afterAll}
+use Rattle.plain.specs.Plain.{Row, deadRow, Plain, liveFrom, stage, liveWithKey, killIf, withoutKey, withoutKeys, dies, withoutRow, withoutRows, insertAll, applied, compacted, unstaged, compactsAfter, merged, cleared, opened}
+use Rattle.plain.specs.Calls.{Call, staging, merging, compacting, clearing, refusal, done, after, LentCall, afterAll}
 use Rattle.plain.specs.Laws.Rows.{noRow}
 use Rattle.plain.specs.Laws.Calls.{refused-nothing, accepted-done}
 use Rattle.plain.specs.Laws.Counts.{Appended, new, again, insertion-appended, every-true, insertAll-keeps, applied-alike}
@@ -114,7 +114,7 @@ onward-merged p =
     let t : Plain = applied p .table in
     let a : Onward p t = follows (applied-alike p .generation) (applied-follows p) in
     let u = onward-then a (onward-unstaged t) in
-    elim (split (compacts (applied p .status) t)) [ inl e ↦ rw e (onward-then u (onward-compacted (unstaged t))) | inr e ↦ rw e u ]
+    elim (split (compactsAfter (applied p .status) t)) [ inl e ↦ rw e (onward-then u (onward-compacted (unstaged t))) | inr e ↦ rw e u ]
 
 onward-cleared : (p : Plain) → Onward p (cleared p)
 unfolding cleared opened
@@ -134,13 +134,13 @@ onward-after p l c =
       | no e ↦ rw (refused-nothing p l c (omega arith)) (onward-same p)
     ]
 
-onward-all : (p : Plain) (cs : List Lent) → Onward p (afterAll p cs)
+onward-all : (p : Plain) (cs : List LentCall) → Onward p (afterAll p cs)
 unfolding afterAll
 onward-all p [] = onward-same p
 onward-all p (c ∷ cs) = onward-then (onward-after p (c .lengths) (c .call)) (onward-all (after p (c .lengths) (c .call)) cs)
 
 -- calls that leave the generation as it was, refused and stopped ones and clears of an empty table among them
-pub calls-follow : (p : Plain) (cs : List Lent) → afterAll p cs .generation ≡ p .generation → Follows (p .rows) (afterAll p cs .rows)
+pub calls-follow : (p : Plain) (cs : List LentCall) → afterAll p cs .generation ≡ p .generation → Follows (p .rows) (afterAll p cs .rows)
 calls-follow p cs e = elim (onward-all p cs) [ risen h ↦ absurd (omega arith) | follows g f ↦ f ]
 
 -- ---- the rows that were there

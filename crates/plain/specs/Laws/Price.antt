@@ -1,6 +1,6 @@
 -- What a merge appends, keeps and drops adds up, and its compaction drops more rows than it keeps. Assumes nothing.
-use Prim.Native.Nat.{ℕ, zero, suc, _+_, _*_, _/_, _≤_, _<_, max}
-use mathlib.Core.Path.{_≡_, refl, sym, ap, _∙_}
+use Prim.Native.Nat.{ℕ, suc, _+_, _/_, _≤_, _<_, max}
+use mathlib.Core.Path.{_≡_, refl, sym}
 use mathlib.Core.Logic.{inl, inr}
 use mathlib.Core.Bool.{Bool, true, false, cond}
 use mathlib.Core.List.{List, [], _∷_}
@@ -11,7 +11,7 @@ use lib.ListN.{length}
 use borrow.Author.Tests.{ltb-true, lt-ltb}
 use Rattle.lists.specs.Laws.Keep.{split, and-left, and-right, count-split, length-keep}
 use Rattle.plain.specs.Staged.{keyRemovals, rowRemovals, inserts, due}
-use Rattle.plain.specs.Plain.{Plain, Insertion, unchanged, appended, stopped, insertion, goOn, insertAll, removed, withoutKeys, applied, live, dead, compacted, unstaged, compacts, merged, mergeKeeps, mergeDrops}
+use Rattle.plain.specs.Plain.{Plain, Insertion, unchanged, appended, stopped, insertion, goOn, insertAll, removed, withoutKeys, applied, live, dead, compacted, unstaged, compactsAfter, merged, mergeKeeps, mergeDrops}
 use Rattle.plain.specs.Appending.{appendsOn, insertsAppend, mergeAppends}
 use Rattle.plain.specs.Laws.Counts.{insertion-count, length-withoutKeys, length-withoutRows}
 
@@ -55,7 +55,7 @@ pub merged-rows : (p : Plain) → length (p .rows) + length (mergeAppends p) ≡
 unfolding merged mergeDrops unstaged
 merged-rows p =
     let q : Plain = applied p .table in
-    elim (split (compacts (applied p .status) q)) [
+    elim (split (compactsAfter (applied p .status) q)) [
       | inl e ↦ rw e (omega (arith, applied-rows p, compacted-live (unstaged q), live-dead q, unstaged-live q))
       | inr e ↦ rw e (omega (arith, applied-rows p))
     ]
@@ -69,10 +69,10 @@ more-dead kept dropped rows e h = (omega (arith, le-max-right 16 (rows / 2)), om
 
 -- a merge's compaction drops more rows than it keeps
 pub merged-price : (p : Plain) → mergeKeeps p + cond (ltb 0 (mergeDrops p)) 1 0 ≤ mergeDrops p
-unfolding mergeKeeps mergeDrops compacts due
+unfolding mergeKeeps mergeDrops compactsAfter due
 merged-price p =
     let q : Plain = applied p .table in
-    elim (split (compacts (applied p .status) q)) [
+    elim (split (compactsAfter (applied p .status) q)) [
       | inl e ↦
           let h = ltb-true _ _ (and-left _ _ (and-right (eqb (applied p .status) 0) _ e)) in
           let k = more-dead (live q) (dead q) (length (q .rows)) (live-dead q) h in

@@ -15,9 +15,9 @@ use Rattle.lists.specs.Laws.Keep.{split, and-left, and-right, every-getD}
 use Rattle.lists.specs.Laws.Every.{and-both, every-head, every-tail, every-cons, every-snoc}
 use Rattle.cells.specs.Cells.{isDead}
 use Rattle.plain.specs.Staged.{Opening, openable, Staged, insert, removeKey, removeRow, RowRemoval, keyRemovals, rowRemovals, inserts, skipped, due}
-use Rattle.plain.specs.Plain.{Row, Plain, withRows, opened, stage, liveWithKey, killIf, withoutKey, withoutKeys, dies, withoutRow, withoutRows, stop, insertion, applied, dead, compacted, unstaged, compacts, merged, cleared, below, withRow, appended, insertAll}
+use Rattle.plain.specs.Plain.{Row, Plain, withRows, opened, stage, liveWithKey, killIf, withoutKey, withoutKeys, dies, withoutRow, withoutRows, stop, insertion, applied, dead, compacted, unstaged, compactsAfter, merged, cleared, below, withRow, appended, insertAll}
 use Rattle.plain.specs.Refusing.{Lengths, wrongWidth, stageLadder, compactLadder, clearLadder}
-use Rattle.plain.specs.Calls.{Call, staging, merging, compacting, clearing, refusal, done, after, Lent, afterAll, used, pendingShort}
+use Rattle.plain.specs.Calls.{Call, staging, merging, compacting, clearing, refusal, done, after, LentCall, afterAll, used, pendingShort}
 use Rattle.plain.specs.Proper.{rowOf, Proper}
 use Rattle.merge_rules.specs.Laws.Rules.{made-length, made-keys, made-first}
 use Rattle.plain.specs.Laws.Lookup.{lookup-none, lookup-at}
@@ -258,8 +258,8 @@ below-last : (g : ℕ) → g ≤ 4294967295 → eqb g 4294967295 ≡ false → g
 below-last g h e = omega (arith, eqb-false g 4294967295 e)
 
 -- a merge compacts only where a generation is left
-compacts-below : {p : Plain} (status : ℕ) → Proper p → compacts status p ≡ true → p .generation < 4294967295
-unfolding compacts due
+compacts-below : {p : Plain} (status : ℕ) → Proper p → compactsAfter status p ≡ true → p .generation < 4294967295
+unfolding compactsAfter due
 compacts-below {p} status h e =
     below-last (p .generation) (h .generation-fits) (not-true _ (and-right (ltb (max 16 (length (p .rows) / 2)) (dead p)) _ (and-right (eqb status 0) _ e)))
 
@@ -269,7 +269,7 @@ unfolding merged unstaged
 merged-proper {p} h =
     let q : Plain = applied p .table in
     let k = unstaged-proper (applied-proper h) in
-    elim (split (compacts (applied p .status) q)) [ inl e ↦ rw e (compacted-proper k (compacts-below (applied p .status) (applied-proper h) e)) | inr e ↦ rw e k ]
+    elim (split (compactsAfter (applied p .status) q)) [ inl e ↦ rw e (compacted-proper k (compacts-below (applied p .status) (applied-proper h) e)) | inr e ↦ rw e k ]
 
 -- ---- stage and clear
 
@@ -319,11 +319,11 @@ after-proper {p} l c h =
     ]
 
 -- all the calls
-pub afterAll-proper : {p : Plain} (cs : List Lent) → Proper p → Proper (afterAll p cs)
+pub afterAll-proper : {p : Plain} (cs : List LentCall) → Proper p → Proper (afterAll p cs)
 unfolding afterAll
 afterAll-proper [] h = h
 afterAll-proper (c ∷ cs) h = afterAll-proper cs (after-proper (c .lengths) (c .call) h)
 
 -- "every plain table that calls lead to from an opening"
-pub history-proper : (o : Opening) (generation : ℕ) (cs : List Lent) → openable o ≡ true → generation ≤ 4294967295 → Proper (afterAll (opened o generation) cs)
+pub history-proper : (o : Opening) (generation : ℕ) (cs : List LentCall) → openable o ≡ true → generation ≤ 4294967295 → Proper (afterAll (opened o generation) cs)
 history-proper o generation cs e h = afterAll-proper cs (opened-proper o generation e h)

@@ -17,8 +17,8 @@ use Rattle.lists.specs.Lists.{every}
 use Rattle.lists.specs.Laws.Keep.{split, every-getD}
 use Rattle.lists.specs.Laws.Every.{every-head, every-tail, every-cons}
 use Rattle.plain.specs.Staged.{Opening, RowRemoval, keyRemovals, rowRemovals, inserts}
-use Rattle.plain.specs.Plain.{Row, liveRow, Plain, withRow, opened, stage, liveWithKey, killIf, withoutKey, withoutKeys, withoutRow, withoutRows, removed, below, raised, stop, Insertion, unchanged, appended, stopped, insertion, goOn, insertAll, applied, compacted, unstaged, compacts, merged, cleared}
-use Rattle.plain.specs.Calls.{Call, staging, merging, compacting, clearing, refusal, done, after, Lent, afterAll}
+use Rattle.plain.specs.Plain.{Row, liveRow, Plain, withRow, opened, stage, liveWithKey, killIf, withoutKey, withoutKeys, withoutRow, withoutRows, removed, below, raised, stop, Insertion, unchanged, appended, stopped, insertion, goOn, insertAll, applied, compacted, unstaged, compactsAfter, merged, cleared}
+use Rattle.plain.specs.Calls.{Call, staging, merging, compacting, clearing, refusal, done, after, LentCall, afterAll}
 use Rattle.plain.specs.Proper.{rowOf}
 use Rattle.plain.specs.Appending.{appendsOn, insertsAppend, mergeAppends, stampsOf, stampsDone, stampsAfter, stampsSince, greatest}
 use Rattle.plain.specs.Laws.Rows.{noRow, raised-same}
@@ -142,7 +142,7 @@ stamped-same q e s = record { largest-kept = e ∙ s .largest-kept; never-fall =
 
 merged-largest : (p : Plain) → merged p .table .largest ≡ applied p .table .largest
 unfolding merged compacted unstaged
-merged-largest p = elim (split (compacts (applied p .status) (applied p .table))) [ inl e ↦ rw e | inr e ↦ rw e ]
+merged-largest p = elim (split (compactsAfter (applied p .status) (applied p .table))) [ inl e ↦ rw e | inr e ↦ rw e ]
 
 stamped-merge : {p : Plain} {stamps : List ℕ} → Stamped p stamps → Stamped (merged p .table) (stamps ++ stampsOf p (mergeAppends p))
 unfolding applied mergeAppends
@@ -169,15 +169,15 @@ stamped-done {p} clearing s =
       | inr e ↦ rw e (stamped-same (unstaged p) refl s)
     ]
 
-stamped-after : {p : Plain} {stamps : List ℕ} (c : Lent) → Stamped p stamps → Stamped (after p (c .lengths) (c .call)) (stampsAfter stamps p c)
+stamped-after : {p : Plain} {stamps : List ℕ} (c : LentCall) → Stamped p stamps → Stamped (after p (c .lengths) (c .call)) (stampsAfter stamps p c)
 unfolding after stampsAfter
 stamped-after {p} c s = elim (split (eqb (refusal p (c .lengths) (c .call)) 0)) [ inl e ↦ rw e (stamped-done (c .call) s) | inr e ↦ rw e s ]
 
-stamped-all : {p : Plain} {stamps : List ℕ} (cs : List Lent) → Stamped p stamps → Stamped (afterAll p cs) (stampsSince stamps p cs)
+stamped-all : {p : Plain} {stamps : List ℕ} (cs : List LentCall) → Stamped p stamps → Stamped (afterAll p cs) (stampsSince stamps p cs)
 unfolding afterAll stampsSince
 stamped-all [] s = s
 stamped-all (c ∷ cs) s = stamped-all cs (stamped-after c s)
 
 -- from an opening on
-pub stamped-history : (o : Opening) (generation : ℕ) (cs : List Lent) → Stamped (afterAll (opened o generation) cs) (stampsSince [] (opened o generation) cs)
+pub stamped-history : (o : Opening) (generation : ℕ) (cs : List LentCall) → Stamped (afterAll (opened o generation) cs) (stampsSince [] (opened o generation) cs)
 stamped-history o generation cs = stamped-all cs (stamped-opened o generation)

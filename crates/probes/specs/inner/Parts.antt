@@ -10,7 +10,7 @@ use Rattle.merge_rules.specs.Rules.{madeFrom}
 use Rattle.merge_rules.specs.Survivor.{survivor}
 
 -- a row made into a lent one: nothing is done where it does not fit
-pub record Made (rule keys sort : ℕ) (old new out : List ℕ) (r : Bool) (out′ : List ℕ) : Type 0 where
+pub record MadeInto (rule keys sort : ℕ) (old new out : List ℕ) (r : Bool) (out′ : List ℕ) : Type 0 where
   pub done : r ≡ true → (length old ≡ length new) × (out′ ≡ putAt out 0 (madeFrom rule keys sort 0 old new))
   pub nothing : r ≡ false → ((length old ≡ length new) × (length old ≤ length out) → ⊥) × (out′ ≡ out)
 
@@ -21,11 +21,11 @@ pub record Survives (rule keys sort width : ℕ) (rows : List ℕ) (old : ℕ) (
   pub nothing : r ≡ false → ((rule ≤ 1) × (old + width ≤ length rows) × (new + width ≤ length pending) × (width ≤ length out) → ⊥) × (out′ ≡ out)
 
 module _ (rule keys sort : ℕ) (old new out : List ℕ) where
-  pub made-nothing : ((length old ≡ length new) × (length old ≤ length out) → ⊥) → Made rule keys sort old new out false out
+  pub made-nothing : ((length old ≡ length new) × (length old ≤ length out) → ⊥) → MadeInto rule keys sort old new out false out
   made-nothing n = record { done = λ e. absurd (false≢true e); nothing = λ e. (n, refl) }
 
   pub made-done : (out′ : List ℕ) → length old ≡ length new → out′ ≡ putAt out 0 (madeFrom rule keys sort 0 old new)
-      → Made rule keys sort old new out true out′
+      → MadeInto rule keys sort old new out true out′
   made-done out′ l w = record { done = λ e. (l, w); nothing = λ e. absurd (true≢false e) }
 
 module _ (rule keys sort width : ℕ) (rows : List ℕ) (old : ℕ) (pending : List ℕ) (new : ℕ) (out : List ℕ) where

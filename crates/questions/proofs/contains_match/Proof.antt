@@ -57,7 +57,7 @@ use Rattle.table.proofs.Header.Laws as HT′
 use Rattle.sweeping.specs.declared.Sweep.{Sweep}
 use Rattle.sweeping.specs.declared.Question.the-variants.{Match}
 use Rattle.queries.specs.Queries.{Matched}
-use Rattle.sweeping.specs.inner.Sweeping.{Asked, MatchClosed}
+use Rattle.sweeping.specs.inner.Sweeping.{SweepAnswered, MatchClosed}
 use Rattle.sweeping.proofs.MatchSteps.{match-answered}
 use Rattle.sweeping.proofs.Sweep as ST
 use Rattle.sweeping.proofs.Sweep.Laws as ST′
@@ -149,7 +149,7 @@ module _ {M : Type 1} (𝓤 : URA M) (H : Heap 𝓤) (A : Atoms 𝓤) (W : Given
 
   -- what is known of the sweep that has ended
   abbrev Ended : Sweep → Type 0
-  Ended s = (ws : List ℕ) × Asked Match h (now x) subset (now y) [] s ws
+  Ended s = (ws : List ℕ) × SweepAnswered Match h (now x) subset (now y) [] s ws
 
   -- what the callees' triples bind outside
   abbrev to-ask : ℕ → ℕ → GName → Ask 𝓤 H A mem run .Ghost
@@ -162,7 +162,7 @@ module _ {M : Type 1} (𝓤 : URA M) (H : Heap 𝓤) (A : Atoms 𝓤) (W : Given
   Toks ν = ‵ (flft κ₀ q₀) ⊛ ‵ (flft κ₁ q₁) ⊛ ‵ (flft κ₂ q₂) ⊛ ‵ (flft (ν ∷ []) fullShare) ⊛ ‵ ftrue
 
   said-ask : (ν l : ℕ) (δ : GName) (r : Sweep) → ent 𝓤 (ensured 𝓤 H A ask.ended (ask.clauses 𝓤 H A mem run) (κ₀, (κ₁, (κ₂, (ν ∷ [], tt)))) (to-ask ν l δ .0 .3) tt r) (fact 𝓤 (Ended r))
-  said-ask ν l δ r = exE 𝓤 _ (λ ws. via 𝓤 _ (snd∗ 𝓤 (sem 𝓤 H A (lasts ask.ended (κ₀, (κ₁, (κ₂, (ν ∷ [], tt)))) (to-ask ν l δ .0 .3) ws)) _) (fact-use 𝓤 (Asked Match h (now x) subset (now y) [] r (ws .1 .1 .1 .1 .1 .1 .0)) (id⊢ 𝓤 _) (λ p. factI 𝓤 (Ended r) _ (ws .1 .1 .1 .1 .1 .1 .0, p))))
+  said-ask ν l δ r = exE 𝓤 _ (λ ws. via 𝓤 _ (snd∗ 𝓤 (sem 𝓤 H A (lasts ask.ended (κ₀, (κ₁, (κ₂, (ν ∷ [], tt)))) (to-ask ν l δ .0 .3) ws)) _) (fact-use 𝓤 (SweepAnswered Match h (now x) subset (now y) [] r (ws .1 .1 .1 .1 .1 .1 .0)) (id⊢ 𝓤 _) (λ p. factI 𝓤 (Ended r) _ (ws .1 .1 .1 .1 .1 .1 .0, p))))
 
   said-close : (s : Sweep) (r : MatchAnswer) → ent 𝓤 (ensured 𝓤 H A cls.ended (cls.clauses 𝓤 H A mem run) tt (s, tt) tt r) (fact 𝓤 (MatchClosed s r))
   said-close s r = exE 𝓤 _ (λ ws. snd∗ 𝓤 (sem 𝓤 H A (lasts cls.ended tt (s, tt) ws)) (fact 𝓤 (MatchClosed s r)))

@@ -57,7 +57,7 @@ use Rattle.table.proofs.Header.Laws as HT′
 use Rattle.sweeping.specs.declared.Sweep.{Sweep}
 use Rattle.sweeping.specs.declared.Question.the-variants.{Page}
 use Rattle.queries.specs.Queries.{PageRead}
-use Rattle.sweeping.specs.inner.Sweeping.{Asked, PageClosed}
+use Rattle.sweeping.specs.inner.Sweeping.{SweepAnswered, PageClosed}
 use Rattle.walks.proofs.Again.{LentAgain, lends-again, comes-back}
 use Rattle.sweeping.proofs.PageSteps.{can-page, page-answered}
 use Rattle.sweeping.proofs.Sweep as ST
@@ -157,7 +157,7 @@ module _ {M : Type 1} (𝓤 : URA M) (H : Heap 𝓤) (A : Atoms 𝓤) (W : Given
 
   -- what is known of the sweep that has ended, and of the answer
   abbrev Ended : Sweep → List ℕ → Type 0
-  Ended s ws = Asked (Page start n) h (now x) subset (now y) os s ws
+  Ended s ws = SweepAnswered (Page start n) h (now x) subset (now y) os s ws
 
   abbrev Closed : Sweep → List ℕ → PageAnswer → List ℕ → Type 0
   Closed s ws r zs = PageClosed subset s ws r zs

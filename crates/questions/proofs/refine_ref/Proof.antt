@@ -56,7 +56,7 @@ use Rattle.table.proofs.Header.Laws as HT′
 use Rattle.sweeping.specs.declared.Sweep.{Sweep}
 use Rattle.sweeping.specs.declared.Question.the-variants.{Refine}
 use Rattle.queries.specs.Queries.{RefinedList}
-use Rattle.sweeping.specs.inner.Sweeping.{Asked, RefineClosed}
+use Rattle.sweeping.specs.inner.Sweeping.{SweepAnswered, RefineClosed}
 use Rattle.walks.proofs.Again.{LentAgain, lends-again, comes-back}
 use Rattle.sweeping.proofs.AnswerSteps.{can-close, list-answered}
 use Rattle.sweeping.proofs.Sweep as ST
@@ -156,7 +156,7 @@ module _ {M : Type 1} (𝓤 : URA M) (H : Heap 𝓤) (A : Atoms 𝓤) (W : Given
 
   -- what is known of the sweep that has ended, and of the answer
   abbrev Ended : Sweep → List ℕ → Type 0
-  Ended s ws = Asked Refine h (now x) subset (now y) os s ws
+  Ended s ws = SweepAnswered Refine h (now x) subset (now y) os s ws
 
   abbrev Closed : Sweep → List ℕ → SubsetAnswer → List ℕ → Type 0
   Closed s ws r zs = RefineClosed d s ws r zs

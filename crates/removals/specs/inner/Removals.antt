@@ -17,7 +17,7 @@ use Rattle.table.specs.declared.Header.{Header}
 use Rattle.table.specs.Numbers.{openingOf}
 use Rattle.table.specs.Sound.{keyedOf}
 use Rattle.table.specs.Promises.{stores, Represents, SlotsPast}
-use Rattle.pending.specs.inner.Becoming.{Steps, withDead, kindOf, Waiting, hashOf}
+use Rattle.pending.specs.inner.Becoming.{Becomes, withDead, kindOf, Waiting, hashOf}
 
 -- what a removal makes of a table
 unfoldable pub removed : Staged → Plain → Plain
@@ -46,7 +46,7 @@ pub record Removal (h : Header) (rows keys : List ℕ) (removal : Staged) (hash 
   pub past : SlotsPast (h .capacity) keys keys′
   pub table : hash ≡ hashOf (h .keys) removal → (dead : ℕ) (sorts pending : List ℕ) (p : Plain)
       → Represents p (stores (withDead h dead) rows keys sorts pending)
-      → Steps p (removed removal p) (stores (withDead h dead) rows keys sorts pending) (stores (withDead h (dead + died r)) rows′ keys′ sorts pending)
+      → Becomes p (removed removal p) (stores (withDead h dead) rows keys sorts pending) (stores (withDead h (dead + died r)) rows′ keys′ sorts pending)
 
 -- a removal stands whole at a place of the pending store, as its first word says
 pub record RemovalAt (h : Header) (pending : List ℕ) (at : ℕ) : Type 0 where
@@ -58,7 +58,7 @@ pub record Removed (h : Header) (rows keys pending : List ℕ) (at : ℕ) (r : B
   pub past : SlotsPast (h .capacity) keys keys′
   pub table : (removal : Staged) (rest : List Staged) → Waiting (openingOf h) pending (h .pending) at (removal ∷ rest) → (kindOf removal ≡ 0 → ⊥)
       → (dead : ℕ) (sorts : List ℕ) (p : Plain) → Represents p (stores (withDead h dead) rows keys sorts pending)
-      → Steps p (removed removal p) (stores (withDead h dead) rows keys sorts pending) (stores (withDead h (dead + died r)) rows′ keys′ sorts pending)
+      → Becomes p (removed removal p) (stores (withDead h dead) rows keys sorts pending) (stores (withDead h (dead + died r)) rows′ keys′ sorts pending)
 
 -- numbers within their bounds and stores long enough for the removals of a kind
 pub record Removable (h : Header) (rows keys pending : List ℕ) (kind : ℕ) : Type 0 where
@@ -74,7 +74,7 @@ pub record Removals (h : Header) (rows keys pending : List ℕ) (kind : ℕ) (h�
   pub dead-few : 3 * h′ .dead ≤ 3 * h .dead + h .pending
   pub past : SlotsPast (h .capacity) keys keys′
   pub table : (sorts : List ℕ) (p : Plain) → Represents p (stores h rows keys sorts pending)
-      → Steps p (removedAll kind (p .staged) p) (stores h rows keys sorts pending) (stores h′ rows′ keys′ sorts pending)
+      → Becomes p (removedAll kind (p .staged) p) (stores h rows keys sorts pending) (stores h′ rows′ keys′ sorts pending)
 
 -- the record at a place stands whole if it is a removal of this kind
 pub record RemovalNext (h : Header) (rows keys pending : List ℕ) (at kind : ℕ) : Type 0 where
@@ -89,6 +89,6 @@ pub record RemovedNext (h : Header) (rows keys pending : List ℕ) (at kind r : 
   pub few : r ≤ 1
   pub table : (removal : Staged) (rest : List Staged) → Waiting (openingOf h) pending (h .pending) at (removal ∷ rest)
       → (dead : ℕ) (sorts : List ℕ) (p : Plain) → Represents p (stores (withDead h dead) rows keys sorts pending)
-      → Steps p (cond (eqb (kindOf removal) kind) (removed removal p) p)
+      → Becomes p (cond (eqb (kindOf removal) kind) (removed removal p) p)
       (stores (withDead h dead) rows keys sorts pending)
       (stores (withDead h (dead + r)) rows′ keys′ sorts pending)

@@ -10,7 +10,8 @@ use native.Mathlib.Decide.{decLt, ℕ-discrete}
 use native.Mathlib.Omega.{arith}
 use lib.ListN.{length, getD}
 use borrow.Author.Tests.{le-leb}
-use Rattle.lists.specs.Lists.{count, rowAt, rowsOf, mapFront}
+use Rattle.lists.specs.Lists.{count, rowAt, rowsOf}
+use Rattle.lists.specs.inner.Searching.{mapFront}
 use Rattle.lists.specs.Laws.Keep.{split, count-le}
 use Rattle.lists.specs.Laws.Rows.{length-rowsOf, getD-rowsOf, getD-rowAt, rowsOf-take}
 use Rattle.lists.specs.Laws.Front.{getD-mapFront, drop-mapFront}

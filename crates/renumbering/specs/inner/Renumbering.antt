@@ -6,7 +6,8 @@ use mathlib.Core.Bool.{Bool, true, false, cond}
 use mathlib.Core.List.{List}
 use lib.Dec.{leb}
 use lib.ListN.{length, getD, set, drop}
-use Rattle.lists.specs.Lists.{count, rowsOf, mapFront}
+use Rattle.lists.specs.Lists.{count, rowsOf}
+use Rattle.lists.specs.inner.Searching.{mapFront}
 use Rattle.constraints.specs.Constraints.{isLive}
 use Rattle.row_buffer.specs.Ranks.{setBelow}
 use Rattle.key_index.specs.declared.Keyed.{Keyed}

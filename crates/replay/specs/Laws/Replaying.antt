@@ -10,7 +10,7 @@ use Rattle.table.specs.declared.TableAnswer.{TableAnswer}
 use Rattle.table.specs.declared.MergeAnswer.{MergeAnswer}
 use Rattle.table.specs.Numbers.{tableSays, mergeSays}
 use Rattle.table.specs.Promises.{Stores, stores, body, compactionWords, lengths, headerAfter, headerMerged, Staging, Merging, Compacting, Clearing}
-use Rattle.history.specs.Histories.{Called, staged, merged, compacted, cleared, end, next}
+use Rattle.history.specs.Histories.{Called, stages, merges, compacts, clears, end, next}
 use Rattle.history.specs.Laws.Further.{whole-step, steps-then}
 use Rattle.replay.specs.Replays.{lengthsFor, lentTo}
 use Rattle.replay.specs.inner.Replaying.{Made, MadeOnPending}
@@ -37,7 +37,7 @@ module _ {h : Header} {pending : List ℕ} {calls : List Call} where
       → h′ ≡ headerAfter h (tableSays answer) → MadeOnPending calls h pending h′ pending′
   unfolding lengthsFor
   staging-made {h′} {pending′} {q} {answer} e m same =
-      record { made = λ rows keys sorts live base. rw (e, same) (one-made (lengths rows keys sorts pending live base) (staged q answer pending′ m)) }
+      record { made = λ rows keys sorts live base. rw (e, same) (one-made (lengths rows keys sorts pending live base) (stages q answer pending′ m)) }
 
 module _ {h h′ : Header} {rows keys sorts pending rows′ keys′ sorts′ : List ℕ} (live base : List ℕ) {calls : List Call} where
   pub merging-made : {live′ base′ : List ℕ} {answer : MergeAnswer} → calls ≡ merging ∷ [] → Merging (stores h rows keys sorts pending) (compactionWords live base) answer (body rows′ keys′ sorts′) (compactionWords live′ base′)
@@ -45,18 +45,18 @@ module _ {h h′ : Header} {rows keys sorts pending rows′ keys′ sorts′ : L
       → Made calls (lengths rows keys sorts pending live base) (stores h rows keys sorts pending) (stores h′ rows′ keys′ sorts′ pending)
   unfolding lengthsFor
   merging-made {live′} {base′} {answer} e m same =
-      rw (e, same) (one-made (lengths rows keys sorts pending live base) (merged (compactionWords live base) answer (body rows′ keys′ sorts′) (compactionWords live′ base′) m))
+      rw (e, same) (one-made (lengths rows keys sorts pending live base) (merges (compactionWords live base) answer (body rows′ keys′ sorts′) (compactionWords live′ base′) m))
 
   pub compacting-made : {live′ base′ : List ℕ} {answer : TableAnswer} → calls ≡ compacting ∷ [] → Compacting h (body rows keys sorts) (compactionWords live base) answer (body rows′ keys′ sorts′) (compactionWords live′ base′)
       → h′ ≡ headerAfter h (tableSays answer)
       → Made calls (lengths rows keys sorts pending live base) (stores h rows keys sorts pending) (stores h′ rows′ keys′ sorts′ pending)
   unfolding lengthsFor
   compacting-made {live′} {base′} {answer} e m same =
-      rw (e, same) (one-made (lengths rows keys sorts pending live base) (compacted (compactionWords live base) answer (body rows′ keys′ sorts′) (compactionWords live′ base′) m))
+      rw (e, same) (one-made (lengths rows keys sorts pending live base) (compacts (compactionWords live base) answer (body rows′ keys′ sorts′) (compactionWords live′ base′) m))
 
 pub clearing-made : {h h′ : Header} {rows keys sorts pending keys′ : List ℕ} (live base : List ℕ) {calls : List Call} {answer : TableAnswer} → calls ≡ clearing ∷ []
     → Clearing h rows keys answer keys′ → h′ ≡ headerAfter h (tableSays answer)
     → Made calls (lengths rows keys sorts pending live base) (stores h rows keys sorts pending) (stores h′ rows keys′ sorts pending)
 unfolding lengthsFor
 clearing-made {h} {h′} {rows} {keys} {sorts} {pending} {keys′} live base {calls} {answer} e m same =
-    rw (e, same) (one-made (lengths rows keys sorts pending live base) (cleared answer keys′ m))
+    rw (e, same) (one-made (lengths rows keys sorts pending live base) (clears answer keys′ m))

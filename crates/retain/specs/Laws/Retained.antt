@@ -13,10 +13,10 @@ use Rattle.offsets.specs.Answers.{Answered}
 use Rattle.offsets.specs.inner.Writing.{Wrote}
 use Rattle.offsets.specs.Laws.Subsets.{answered-list}
 use Rattle.offsets.specs.Laws.Forms.{retain-range, retain-list}
-use Rattle.retain.specs.inner.Growing.{Grows, Ends}
+use Rattle.retain.specs.inner.Growing.{Grows, GrowthEnds}
 
 module _ (test : ℕ → Bool) where
-  pub grown-retains : (a b : ℕ) {output output′ : List ℕ} {g : Growing} {answer : SubsetAnswer} → Grows output output′ g (keep test (members (range a b))) → Ends g answer
+  pub grown-retains : (a b : ℕ) {output output′ : List ℕ} {g : Growing} {answer : SubsetAnswer} → Grows output output′ g (keep test (members (range a b))) → GrowthEnds g answer
       → Answered (accepted (retain test (range a b))) output answer output′
   grown-retains a b {output} {output′} grows ends = rw (retain-range test a b) (ends .ends output output′ _ grows)
 

@@ -56,10 +56,10 @@ pub record Adds (output : List ℕ) (g : Growing) (id : ℕ) (g′ : Growing) (o
   pub adds : (output₀ kept : List ℕ) → Grows output₀ output g kept → NextId output₀ kept id → Grows output₀ output′ g′ (kept ++ (id ∷ []))
 
 -- the first state
-pub record Begins (g : Growing) : Type 0 where
+pub record GrowthBegins (g : Growing) : Type 0 where
   pub nothing : g .count ≡ 0
   pub begins : (output : List ℕ) → Grows output output g []
 
 -- the answer at the end
-pub record Ends (g : Growing) (r : SubsetAnswer) : Type 0 where
+pub record GrowthEnds (g : Growing) (r : SubsetAnswer) : Type 0 where
   pub ends : (output₀ output kept : List ℕ) → Grows output₀ output g kept → Answered (accepted (shaped kept)) output₀ r output

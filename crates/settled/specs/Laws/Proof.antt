@@ -11,7 +11,7 @@ use Rattle.constraints.specs.Constraints.{known, compares, met, isLive, meets}
 use Rattle.row_buffer.specs.Ranks.{setBelow, marks, liveAt, liveWord, newNumber}
 use Rattle.sort_entries.specs.Entries.{firstRow, position, rangeAt, fastRange}
 use Rattle.plain.specs.Staged.{openable, wordsOf, wordsAll, keyRemovals, rowRemovals, inserts, hasKey, skipped, due}
-use Rattle.plain.specs.Plain.{insertAll, liveFrom, liveRows, lookup, dead, opened, stage, liveWithKey, killIf, withoutKeys, withoutRows, below, stop, raised, append, put, insertion, applied, compacted, unstaged, compacts, merged}
+use Rattle.plain.specs.Plain.{insertAll, liveFrom, liveRows, lookup, dead, opened, stage, liveWithKey, killIf, withoutKeys, withoutRows, below, stop, raised, append, put, insertion, applied, compacted, unstaged, compactsAfter, merged}
 use Rattle.plain.specs.Refusing.{storesShort, wordsShort, wrongWidth, noSuchRow, overfull, stageLadder, mergeLadder}
 use Rattle.plain.specs.Calls.{pendingShort, refusal, done, after, afterAll}
 use Rattle.table.specs.Refusing.{outside, rowsShort}
@@ -19,5 +19,5 @@ use Rattle.queries.specs.Queries.{matches, pastRows, tests, refineRefusal, page
 use Rattle.settled.specs.Settled.{examples, comesOut, areRows, numbered}
 
 pub settled : every comesOut examples ≡ true
-unfolding every keep count rowAt countFrom above rising has within same first reply isDead ruledColumn signed signedLess smaller larger taken madeCell madeFrom changesFrom ruled wellFormed members size endOf listOrNothing intersect shaped retain narrowed room intersectRefusal intersectReply known compares met isLive meets firstRow position rangeAt fastRange openable wordsOf wordsAll keyRemovals rowRemovals inserts hasKey skipped due insertAll dead storesShort wordsShort pendingShort opened wrongWidth noSuchRow overfull stageLadder mergeLadder stage liveWithKey killIf withoutKeys withoutRows lookup firstOf below stop raised append put insertion applied compacted unstaged compacts merged refusal done after afterAll outside rowsShort matches pastRows tests refineRefusal pageRefusal refineOneReply refineListReply visited nextPlace pageReply examples comesOut areRows numbered setBelow marks liveAt liveWord newNumber liveFrom liveRows
+unfolding every keep count rowAt countFrom above rising has within same first reply isDead ruledColumn signed signedLess smaller larger taken madeCell madeFrom changesFrom ruled wellFormed members size endOf listOrNothing intersect shaped retain narrowed room intersectRefusal intersectReply known compares met isLive meets firstRow position rangeAt fastRange openable wordsOf wordsAll keyRemovals rowRemovals inserts hasKey skipped due insertAll dead storesShort wordsShort pendingShort opened wrongWidth noSuchRow overfull stageLadder mergeLadder stage liveWithKey killIf withoutKeys withoutRows lookup firstOf below stop raised append put insertion applied compacted unstaged compactsAfter merged refusal done after afterAll outside rowsShort matches pastRows tests refineRefusal pageRefusal refineOneReply refineListReply visited nextPlace pageReply examples comesOut areRows numbered setBelow marks liveAt liveWord newNumber liveFrom liveRows
 settled = refl

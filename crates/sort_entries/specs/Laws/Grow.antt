@@ -14,7 +14,7 @@ use Rattle.lists.specs.Laws.Rising.{above-head, above-tail, above-cons}
 use Rattle.lists.specs.Laws.Every.{every-snoc, every-weaker}
 use Rattle.sort_entries.specs.Entries.{Entry, entry, last, push, firstRow, valueAt, entriesSound}
 use Rattle.sort_entries.specs.Laws.Push.{push-new, push-same}
-use Rattle.sort_entries.specs.Laws.Sound.{values, rowsIn, Climb, sound-climb, sound-first, sound-join}
+use Rattle.sort_entries.specs.Laws.Sound.{values, entryRows, Climb, sound-climb, sound-first, sound-join}
 
 -- ---- the value at a row, with one entry more
 
@@ -65,15 +65,15 @@ rise-more (a ∷ b ∷ es) v row r l =
     above-cons (a .value) (b .value) (values (es ++ (entry v row ∷ []))) (above-head (a .value) (b .value) (values es) r)
     (rise-more (b ∷ es) v row (above-tail (a .value) (b .value) (values es) r) l)
 
-later-more : (es : List Entry) (v row n : ℕ) → rising (rowsIn es) ≡ true → Below es n → n ≤ row → rising (rowsIn (es ++ (entry v row ∷ []))) ≡ true
+later-more : (es : List Entry) (v row n : ℕ) → rising (entryRows es) ≡ true → Below es n → n ≤ row → rising (entryRows (es ++ (entry v row ∷ []))) ≡ true
 unfolding rising above
 later-more [] v row n r q h = refl
 later-more (a ∷ []) v row n r q h =
     let z = below-head a [] n q in
     above-cons (a .row) row [] (omega arith) refl
 later-more (a ∷ b ∷ es) v row n r q h =
-    above-cons (a .row) (b .row) (rowsIn (es ++ (entry v row ∷ []))) (above-head (a .row) (b .row) (rowsIn es) r)
-    (later-more (b ∷ es) v row n (above-tail (a .row) (b .row) (rowsIn es) r) (below-tail a (b ∷ es) n q) h)
+    above-cons (a .row) (b .row) (entryRows (es ++ (entry v row ∷ []))) (above-head (a .row) (b .row) (entryRows es) r)
+    (later-more (b ∷ es) v row n (above-tail (a .row) (b .row) (entryRows es) r) (below-tail a (b ∷ es) n q) h)
 
 below-more : (es : List Entry) (n m : ℕ) → Below es n → n ≤ m → Below es m
 below-more es n m q h = every-weaker (λ e. ltb (e .row) n) (λ e. ltb (e .row) m) (λ e p. let a = ltb-true (e .row) n p in lt-ltb (e .row) m (omega arith)) es q

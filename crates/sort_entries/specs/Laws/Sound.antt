@@ -18,43 +18,43 @@ use Rattle.sort_entries.specs.Laws.Stores.{pairAt, getD-entriesOf}
 abbrev pub valueOf : List Entry → ℕ → ℕ
 valueOf es i = getD es i (entry 0 0) .value
 
-abbrev pub rowOf : List Entry → ℕ → ℕ
-rowOf es i = getD es i (entry 0 0) .row
+abbrev pub entryRow : List Entry → ℕ → ℕ
+entryRow es i = getD es i (entry 0 0) .row
 
 abbrev pub values : List Entry → List ℕ
 values es = map (λ e. e .value) es
 
-abbrev pub rowsIn : List Entry → List ℕ
-rowsIn es = map (λ e. e .row) es
+abbrev pub entryRows : List Entry → List ℕ
+entryRows es = map (λ e. e .row) es
 
 -- entries that rise and lie below the row count, the first at any row: what an end of sound entries is too
 pub record Climb (es : List Entry) (rows : ℕ) : Type 0 where
   pub rise : rising (values es) ≡ true
-  pub later : rising (rowsIn es) ≡ true
+  pub later : rising (entryRows es) ≡ true
   pub below : every (λ e. ltb (e .row) rows) es ≡ true
 
-pub record Sound (es : List Entry) (rows : ℕ) : Type 0 where
+pub record SoundFacts (es : List Entry) (rows : ℕ) : Type 0 where
   pub rise : (i j : ℕ) → i < j → j < length es → valueOf es i < valueOf es j
-  pub later : (i j : ℕ) → i < j → j < length es → rowOf es i < rowOf es j
-  pub below : (i : ℕ) → i < length es → rowOf es i < rows
+  pub later : (i j : ℕ) → i < j → j < length es → entryRow es i < entryRow es j
+  pub below : (i : ℕ) → i < length es → entryRow es i < rows
   pub first : firstRow es rows ≡ 0
 
 module _ (es : List Entry) (rows : ℕ) where
   pub sound-climb : entriesSound es rows ≡ true → Climb es rows
   unfolding entriesSound
   sound-climb s =
-      let a = and-left (rising (values es) && rising (rowsIn es) && every (λ e. ltb (e .row) rows) es) _ s in
-      let b = and-left (rising (values es) && rising (rowsIn es)) _ a in
+      let a = and-left (rising (values es) && rising (entryRows es) && every (λ e. ltb (e .row) rows) es) _ s in
+      let b = and-left (rising (values es) && rising (entryRows es)) _ a in
       record {
         rise = and-left (rising (values es)) _ b;
         later = and-right (rising (values es)) _ b;
-        below = and-right (rising (values es) && rising (rowsIn es)) _ a;
+        below = and-right (rising (values es) && rising (entryRows es)) _ a;
       }
 
   pub sound-first : entriesSound es rows ≡ true → firstRow es rows ≡ 0
   unfolding entriesSound
   sound-first s =
-      eqb-true _ _ (and-right (rising (values es) && rising (rowsIn es) && every (λ e. ltb (e .row) rows) es) _ s)
+      eqb-true _ _ (and-right (rising (values es) && rising (entryRows es) && every (λ e. ltb (e .row) rows) es) _ s)
 
   pub sound-join : Climb es rows → firstRow es rows ≡ 0 → entriesSound es rows ≡ true
   unfolding entriesSound
@@ -68,26 +68,26 @@ module _ (es : List Entry) (rows : ℕ) where
       let q = List·getD-map (λ (e : Entry). e .value) es j (entry 0 0) in
       omega arith
 
-  climb-later : Climb es rows → (i j : ℕ) → i < j → j < length es → rowOf es i < rowOf es j
+  climb-later : Climb es rows → (i j : ℕ) → i < j → j < length es → entryRow es i < entryRow es j
   climb-later c i j h k =
-      let m : j < length (rowsIn es) = rw (length-map es (λ e. e .row)) k in
-      let a = rising-at (rowsIn es) (c .later) i j h m in
+      let m : j < length (entryRows es) = rw (length-map es (λ e. e .row)) k in
+      let a = rising-at (entryRows es) (c .later) i j h m in
       let p = List·getD-map (λ (e : Entry). e .row) es i (entry 0 0) in
       let q = List·getD-map (λ (e : Entry). e .row) es j (entry 0 0) in
       omega arith
 
-  climb-below : Climb es rows → (i : ℕ) → i < length es → rowOf es i < rows
+  climb-below : Climb es rows → (i : ℕ) → i < length es → entryRow es i < rows
   climb-below c i h = ltb-true _ _ (every-getD (λ e. ltb (e .row) rows) es (c .below) i h (entry 0 0))
 
-  pub sound-facts : entriesSound es rows ≡ true → Sound es rows
+  pub sound-facts : entriesSound es rows ≡ true → SoundFacts es rows
   sound-facts s =
       let c = sound-climb s in
       record { rise = climb-rise c; later = climb-later c; below = climb-below c; first = sound-first s }
 
   -- it is enough to look at neighbours
-  pub sound-of : ((i : ℕ) → i + 1 < length es → valueOf es i < valueOf es (i + 1)) → ((i : ℕ) → i + 1 < length es → rowOf es i < rowOf es (i + 1))
-      → ((i : ℕ) → i < length es → rowOf es i < rows) → firstRow es rows ≡ 0 → entriesSound es rows ≡ true
-  sound-of f g b z = sound-join (record { rise = rising-of (values es) up; later = rising-of (rowsIn es) on; below = every-of (λ e. ltb (e .row) rows) (entry 0 0) es (λ i h. lt-ltb _ _ (b i h)) }) z
+  pub sound-of : ((i : ℕ) → i + 1 < length es → valueOf es i < valueOf es (i + 1)) → ((i : ℕ) → i + 1 < length es → entryRow es i < entryRow es (i + 1))
+      → ((i : ℕ) → i < length es → entryRow es i < rows) → firstRow es rows ≡ 0 → entriesSound es rows ≡ true
+  sound-of f g b z = sound-join (record { rise = rising-of (values es) up; later = rising-of (entryRows es) on; below = every-of (λ e. ltb (e .row) rows) (entry 0 0) es (λ i h. lt-ltb _ _ (b i h)) }) z
     where
       up : (i : ℕ) → i + 1 < length (values es) → getD (values es) i 0 < getD (values es) (i + 1) 0
       up i h =
@@ -97,7 +97,7 @@ module _ (es : List Entry) (rows : ℕ) where
           let q = List·getD-map (λ (e : Entry). e .value) es (i + 1) (entry 0 0) in
           omega arith
 
-      on : (i : ℕ) → i + 1 < length (rowsIn es) → getD (rowsIn es) i 0 < getD (rowsIn es) (i + 1) 0
+      on : (i : ℕ) → i + 1 < length (entryRows es) → getD (entryRows es) i 0 < getD (entryRows es) (i + 1) 0
       on i h =
           let k : i + 1 < length es = rw (length-map es (λ e. e .row)) at h in
           let a = g i k in
@@ -112,7 +112,7 @@ module _ (e : Entry) (es : List Entry) (rows : ℕ) (c : Climb (e ∷ es) rows) 
   climb-tail =
       record {
         rise = rising-tail (e .value) (values es) (c .rise);
-        later = rising-tail (e .row) (rowsIn es) (c .later);
+        later = rising-tail (e .row) (entryRows es) (c .later);
         below = unfold every in and-right (ltb (e .row) rows) _ (c .below);
       }
 
@@ -138,7 +138,7 @@ first-next e [] rows c = let h = climb-in e [] rows c in omega arith
 first-next e (f ∷ es) rows c = let h = climb-next e f es rows c in omega arith
 
 -- the first row from a place on is the row at that place
-pub firstRow-drop : (es : List Entry) (k rows : ℕ) → k < length es → firstRow (drop k es) rows ≡ rowOf es k
+pub firstRow-drop : (es : List Entry) (k rows : ℕ) → k < length es → firstRow (drop k es) rows ≡ entryRow es k
 unfolding firstRow
 firstRow-drop es k rows h = rw (drop-cons es k (entry 0 0) h)
 
@@ -152,6 +152,6 @@ module _ (store : List ℕ) (n i : ℕ) (h : i < n) where
   unfolding pairAt
   value-word = ap (λ (e : Entry). e .value) (getD-entriesOf n store i (entry 0 0) h)
 
-  pub row-word : rowOf (entriesOf n store) i ≡ getD store (2 * i + 1) 0
+  pub row-word : entryRow (entriesOf n store) i ≡ getD store (2 * i + 1) 0
   unfolding pairAt
   row-word = ap (λ (e : Entry). e .row) (getD-entriesOf n store i (entry 0 0) h)

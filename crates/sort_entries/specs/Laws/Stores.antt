@@ -9,20 +9,20 @@ use lib.ListN.{length, take, drop, getD, length-drop}
 use lib.Seq.{getD-drop, getD-take, take-add, ext-getD}
 use Rattle.lists.specs.Lists.{putAt}
 use Rattle.lists.specs.Laws.Parts.{take-putAt, getD-putAt-in}
-use Rattle.sort_entries.specs.Entries.{Entry, entry, entriesOf, words, last}
+use Rattle.sort_entries.specs.Entries.{Entry, entry, entriesOf, entryWords, last}
 
 -- the pair at place i of a store
 unfoldable pub pairAt : ℕ → List ℕ → Entry
 pairAt i store = entry (getD store (2 * i) 0) (getD store (2 * i + 1) 0)
 
-pub length-words : (es : List Entry) → length (words es) ≡ 2 * length es
-unfolding words
+pub length-words : (es : List Entry) → length (entryWords es) ≡ 2 * length es
+unfolding entryWords
 length-words [] = refl
 length-words (e ∷ es) = let h = length-words es in omega arith
 
 -- one pair more
-pub words-snoc : (es : List Entry) (e : Entry) → words (es ++ (e ∷ [])) ≡ words es ++ (e .value ∷ e .row ∷ [])
-unfolding words
+pub words-snoc : (es : List Entry) (e : Entry) → entryWords (es ++ (e ∷ [])) ≡ entryWords es ++ (e .value ∷ e .row ∷ [])
+unfolding entryWords
 words-snoc [] e = refl
 words-snoc (a ∷ es) e = ap (λ (l : List ℕ). a .value ∷ a .row ∷ l) (words-snoc es e)
 
@@ -32,14 +32,14 @@ length-entriesOf zero store = refl
 length-entriesOf (suc n) store = ap suc (length-entriesOf n (drop 2 store))
 
 -- pairs are read back as they were written
-pub entriesOf-words : (es : List Entry) (rest : List ℕ) → entriesOf (length es) (words es ++ rest) ≡ es
-unfolding entriesOf words
+pub entriesOf-words : (es : List Entry) (rest : List ℕ) → entriesOf (length es) (entryWords es ++ rest) ≡ es
+unfolding entriesOf entryWords
 entriesOf-words [] rest = refl
 entriesOf-words (e ∷ es) rest = ap (λ (l : List Entry). e ∷ l) (entriesOf-words es rest)
 
-pub entriesOf-put : (es : List Entry) (store : List ℕ) (n : ℕ) → n ≡ length es → entriesOf n (putAt store 0 (words es)) ≡ es
+pub entriesOf-put : (es : List Entry) (store : List ℕ) (n : ℕ) → n ≡ length es → entriesOf n (putAt store 0 (entryWords es)) ≡ es
 unfolding putAt
-entriesOf-put es store n e = rw e (entriesOf-words es (drop (0 + length (words es)) store))
+entriesOf-put es store n e = rw e (entriesOf-words es (drop (0 + length (entryWords es)) store))
 
 -- two words are taken at a time
 take-two : (n : ℕ) (store : List ℕ) → 2 ≤ length store → getD store 0 0 ∷ getD store 1 0 ∷ take n (drop 2 store) ≡ take (2 + n) store
@@ -47,8 +47,8 @@ take-two n [] h = absurd (omega arith)
 take-two n (x ∷ []) h = absurd (omega arith)
 take-two n (x ∷ y ∷ store) h = sym (take-add 2 n (x ∷ y ∷ store))
 
-pub words-entriesOf : (n : ℕ) (store : List ℕ) → 2 * n ≤ length store → words (entriesOf n store) ≡ take (2 * n) store
-unfolding entriesOf words
+pub words-entriesOf : (n : ℕ) (store : List ℕ) → 2 * n ≤ length store → entryWords (entriesOf n store) ≡ take (2 * n) store
+unfolding entriesOf entryWords
 words-entriesOf zero store h = refl
 words-entriesOf (suc n) store h =
     let k : 2 * n ≤ length (drop 2 store) = simp length-drop (omega arith) in

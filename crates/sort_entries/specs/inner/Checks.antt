@@ -10,15 +10,15 @@ use Rattle.constraints.specs.Constraints.{isLive}
 use Rattle.sort_entries.specs.Entries.{Entry, entriesOf, valueAt}
 
 -- an answer tells whether a claim holds
-pub record Told (claim : Type 0) (r : Bool) : Type 0 where
+pub record Decides (claim : Type 0) (r : Bool) : Type 0 where
   pub yes : r ≡ true → claim
   pub no : r ≡ false → claim → ⊥
 
-pub told-yes : {claim : Type 0} → claim → Told claim true
-told-yes p = record { yes = λ e. p; no = λ e q. absurd (true≢false e) }
+pub decides-yes : {claim : Type 0} → claim → Decides claim true
+decides-yes p = record { yes = λ e. p; no = λ e q. absurd (true≢false e) }
 
-pub told-no : {claim : Type 0} → (claim → ⊥) → Told claim false
-told-no f = record { yes = λ e. absurd (false≢true e); no = λ e. f }
+pub decides-no : {claim : Type 0} → (claim → ⊥) → Decides claim false
+decides-no f = record { yes = λ e. absurd (false≢true e); no = λ e. f }
 
 -- the entry at place i lies below the row count, and above the one before it
 pub record Follows (store : List ℕ) (rows i : ℕ) : Type 0 where

@@ -4,7 +4,7 @@ use native.Mathlib.Omega.{arith}
 use borrow.Author.Count.{below-more}
 use borrow.Author.Tests.{not-true, not-false}
 use Rattle.key_index.specs.Slots.{LiveAt}
-use Rattle.sort_entries.specs.inner.Checks.{told-yes, told-no}
+use Rattle.sort_entries.specs.inner.Checks.{decides-yes, decides-no}
 use Rattle.soundness.specs.inner.Checks.{Own}
 use Rattle.soundness.specs.Laws.Checks.{own-differ}
 use Rattle.soundness.proofs.keys_differ.Statement.{statement}
@@ -23,7 +23,7 @@ finds-itself-requires : tie.Need-finds-itself-requires Inv-loop μ-loop
 finds-itself-requires c κs = let p = c .before .before .before .before .before .pre in (p .0, p .1, c .if1 .taken)
 
 returns : tie.Need-returns Inv-loop μ-loop
-returns c = told-no (c .before .finds-itself .ensures .no (not-true _ (c .if2 .taken)))
+returns c = decides-no (c .before .finds-itself .ensures .no (not-true _ (c .if2 .taken)))
 
 add-row : tie.Need-add-row Inv-loop μ-loop
 add-row c = omega arith
@@ -35,7 +35,7 @@ loop-again : tie.Need-loop-again Inv-loop μ-loop
 loop-again c = (omega arith, below-more _ _ (c .before .before .before .before .loop .inv .1) (c .before .finds-itself .ensures .yes (not-false _ (c .if2 .left))))
 
 returns-2 : tie.Need-returns-2 Inv-loop μ-loop
-returns-2 c = told-yes (own-differ _ _ _ (λ i h. c .before .before .loop .inv .1 i (omega (arith, c .if1 .left))))
+returns-2 c = decides-yes (own-differ _ _ _ (λ i h. c .before .before .loop .inv .1 i (omega (arith, c .if1 .left))))
 
 pub keys-differ-spec : {M : Type 1} → statement M
 keys-differ-spec =

@@ -16,7 +16,7 @@ use Rattle.offsets.specs.declared.SubsetHead.{SubsetHead}
 use Rattle.offsets.specs.Subsets.{Subset, wellFormed, members, size, narrowed}
 use Rattle.offsets.specs.Answers.{subsetOf, Answered}
 use Rattle.offsets.specs.inner.Writing.{Wrote}
-use Rattle.retain.specs.inner.Growing.{Grows, CanAdd, Adds, Begins}
+use Rattle.retain.specs.inner.Growing.{Grows, CanAdd, Adds, GrowthBegins}
 use Rattle.constraints.specs.declared.Constraint.{Constraint}
 use Rattle.constraints.specs.Constraints.{known, met, isLive}
 use Rattle.table.specs.declared.Header.{Header}
@@ -96,17 +96,17 @@ unfoldable pub places : Subset → Sweep → List ℕ
 places subset s = visited subset (s .next) (s .end - s .next)
 
 -- the ids that a sweep which began as s₀ has visited
-unfoldable pub done : Subset → Sweep → Sweep → List ℕ
-done subset s₀ s = visited subset (s₀ .next) (s .next - s₀ .next)
+unfoldable pub sweptIds : Subset → Sweep → Sweep → List ℕ
+sweptIds subset s₀ s = visited subset (s₀ .next) (s .next - s₀ .next)
 
 -- a sweep that begins at a place
-pub record Placed (subset : Subset) (refused next end most : ℕ) (s : Sweep) : Type 0 where
+pub record BeginsAt (subset : Subset) (refused next end most : ℕ) (s : Sweep) : Type 0 where
   pub refused-is : s .refused ≡ refused
   pub next-is : s .next ≡ next
   pub end-is : s .end ≡ end
   pub most-is : s .most ≡ most
   pub none-dead : s .dead ≡ 0
-  pub none-found : Begins (s .found)
+  pub none-found : GrowthBegins (s .found)
   pub id-is : s .next < s .end → s .id ≡ getD (members subset) (s .next) 0
 
 -- a sweep that may begin: it wants an id, and has room for each that it may keep, but for the first, which it may keep
@@ -119,7 +119,7 @@ pub record Sweepable (h : Header) (rows : ℕ) (subset : Subset) (s : Sweep) (ou
   pub room : 1 < s .most → s .end - s .next ≤ length output
   pub id-is : s .next < s .end → s .id ≡ getD (members subset) (s .next) 0
   pub none-dead : s .dead ≡ 0
-  pub none-found : Begins (s .found)
+  pub none-found : GrowthBegins (s .found)
 
 -- a sweep that began as s₀ on output₀: of the ids visited so far it has kept those that pass a test, and counted those
 -- whose rows are dead
@@ -131,9 +131,9 @@ pub record Swept (h : Header) (rows : List ℕ) (subset : Subset) (test : ℕ �
   pub within : s .end ≤ s₀ .end
   pub wants : s .next < s .end → s .found .count < s .most
   pub id-is : s .next < s .end → s .id ≡ getD (members subset) (s .next) 0
-  pub visits-is : upTo (s₀ .most) test (places subset s₀) ≡ done subset s₀ s ++ upTo (s .most - s .found .count) test (places subset s)
-  pub grows : Grows output₀ output (s .found) (keep test (done subset s₀ s))
-  pub dead-is : s .dead ≡ deadAmong h rows (done subset s₀ s)
+  pub visits-is : upTo (s₀ .most) test (places subset s₀) ≡ sweptIds subset s₀ s ++ upTo (s .most - s .found .count) test (places subset s)
+  pub grows : Grows output₀ output (s .found) (keep test (sweptIds subset s₀ s))
+  pub dead-is : s .dead ≡ deadAmong h rows (sweptIds subset s₀ s)
 
 -- an id is kept; with as many as are wanted the sweep ends
 pub record Keeps (s : Sweep) (output : List ℕ) (s′ : Sweep) (output′ : List ℕ) : Type 0 where
@@ -166,7 +166,7 @@ pub record CanStep (h : Header) (rows : ℕ) (subset : Subset) (s : Sweep) (hit 
   pub can-move : CanMove subset s
   pub can-add : hit ≡ true → CanAdd output (s .found) (s .id)
 
-pub record Steps (h : Header) (rows : List ℕ) (subset : Subset) (s : Sweep) (hit : Bool) (output : List ℕ) (s′ : Sweep) (output′ : List ℕ) : Type 0 where
+pub record SweepSteps (h : Header) (rows : List ℕ) (subset : Subset) (s : Sweep) (hit : Bool) (output : List ℕ) (s′ : Sweep) (output′ : List ℕ) : Type 0 where
   pub refused-is : s′ .refused ≡ s .refused
   pub next-is : s′ .next ≡ s .next + 1
   pub most-is : s′ .most ≡ s .most
@@ -187,7 +187,7 @@ pub record Finished (h : Header) (rows : List ℕ) (subset : Subset) (test : ℕ
 -- ---- a question
 
 -- a question that begins, refused or over its places
-pub record Opened (question : Question) (h : Header) (rows : ℕ) (subset : Subset) (knows : Bool) (output : ℕ) (s : Sweep) : Type 0 where
+pub record SweepBegins (question : Question) (h : Header) (rows : ℕ) (subset : Subset) (knows : Bool) (output : ℕ) (s : Sweep) : Type 0 where
   pub number-is : (conditions : List Constraint) → knows ≡ every (known (h .columns)) conditions → s .refused ≡ refusalOf question h rows subset conditions output
   pub askable : s .refused ≡ 0 → Askable h rows subset
   pub sweepable : (output₀ : List ℕ) → length output₀ ≡ output → Sweepable h rows subset s output₀
@@ -198,7 +198,7 @@ pub record Opened (question : Question) (h : Header) (rows : ℕ) (subset : Subs
 
 -- a question that has been asked: refused with nothing written, or its ids visited, those that match kept and the dead ones
 -- counted
-pub record Asked (question : Question) (h : Header) (rows : List ℕ) (subset : Subset) (conditions : List Constraint) (output : List ℕ) (s : Sweep) (output′ : List ℕ) : Type 0 where
+pub record SweepAnswered (question : Question) (h : Header) (rows : List ℕ) (subset : Subset) (conditions : List Constraint) (output : List ℕ) (s : Sweep) (output′ : List ℕ) : Type 0 where
   pub number-is : s .refused ≡ refusalOf question h (length rows) subset conditions (length output)
   pub askable : s .refused ≡ 0 → Askable h (length rows) subset
   pub in-room : s .refused ≡ 0 → roomFor question subset ≤ length output

@@ -206,16 +206,16 @@ module _ (h : Header) (rows keys : List ℕ) (a : TableAnswer) (keys₁ : List �
 -- ---- *Key lookup*, *one cell*, *Fast range*
 
 -- the key store leads to the live rows, whose keys differ
-abbrev pub Keyed : Header → List ℕ → List ℕ → Type 0
-Keyed h rows keys = KeysSound (keyedOf h) rows keys × KeysDiffer h rows
+abbrev pub KnownKeys : Header → List ℕ → List ℕ → Type 0
+KnownKeys h rows keys = KeysSound (keyedOf h) rows keys × KeysDiffer h rows
 
 pub looked-up-determined : {h : Header} {rows keys key : List ℕ} {a b : RowAnswer} → LookedUp h rows keys key a → LookedUp h rows keys key b
-    → SameAnswer rowSays (lookupRefusal h (length rows) (length keys) (length key)) (Keyed h rows keys) a b
+    → SameAnswer rowSays (lookupRefusal h (length rows) (length keys) (length key)) (KnownKeys h rows keys) a b
 looked-up-determined u v =
     answer-same row-said (u .refusal) (v .refusal) (λ none k. u .table none (k .0) (k .1) ∙ sym (v .table none (k .0) (k .1)))
 
 pub cell-read-determined : {h : Header} {rows keys key : List ℕ} {column : ℕ} {a b : CellAnswer} → CellRead h rows keys key column a → CellRead h rows keys key column b
-    → SameAnswer cellSays (cellRefusal h (length rows) (length keys) (length key) column) (Keyed h rows keys) a b
+    → SameAnswer cellSays (cellRefusal h (length rows) (length keys) (length key) column) (KnownKeys h rows keys) a b
 cell-read-determined u v =
     answer-same cell-said (u .refusal) (v .refusal) (λ none k. u .table none (k .0) (k .1) ∙ sym (v .table none (k .0) (k .1)))
 

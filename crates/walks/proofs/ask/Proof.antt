@@ -56,7 +56,7 @@ use Rattle.sweeping.specs.declared.Sweep.{Sweep}
 use Rattle.sweeping.specs.declared.Test.the-variants.{Known}
 use Rattle.sweeping.specs.declared.Question.{Question}
 use Rattle.queries.specs.Queries.{matches}
-use Rattle.sweeping.specs.inner.Sweeping.{allPass, Opened, Finished, Asked}
+use Rattle.sweeping.specs.inner.Sweeping.{allPass, SweepBegins, Finished, SweepAnswered}
 use Rattle.sweeping.proofs.AnswerSteps.{asked-all}
 use Rattle.sweeping.proofs.Sweep as ST
 use Rattle.sweeping.proofs.Sweep.Laws as ST′
@@ -216,7 +216,7 @@ module _ {M : Type 1} (𝓤 : URA M) (H : Heap 𝓤) (A : Atoms 𝓤) (W : Given
 
   -- what is known of the sweep that begins, and of the one that has ended
   abbrev Begun : Sweep → Type 0
-  Begun s = Opened question h m subset knows k s
+  Begun s = SweepBegins question h m subset knows k s
 
   abbrev Ended : Sweep → Sweep → List ℕ → Type 0
   Ended s r ws = Finished h (now x) subset test s os r ws
@@ -257,7 +257,7 @@ module _ {M : Type 1} (𝓤 : URA M) (H : Heap 𝓤) (A : Atoms 𝓤) (W : Given
         owned ! DT.the-row (Is DT.the-row) (LL.makes DT.the-type DT′.the-plain 𝓤 H A) d _ is-d $ fjoin ! $ move ! (5 ∷ 0 ∷ []) $ fjoin ! $ owned ! HT.the-row (Is HT.the-row) (LL.makes HT.the-type HT′.the-plain 𝓤 H A) h _ is-h $ fjoin ! $
         nothing ! $ move ! (5 ∷ 0 ∷ []) $ join ! $ move ! (4 ∷ 0 ∷ []) $ join ! $ move ! (3 ∷ 0 ∷ []) $ join ! $ move ! (2 ∷ 0 ∷ []) $ join ! $ frame ! $ done !
 
-    exits : (r : Sweep) (w : Val) (zs : List ℕ) → Asked question h (now x) subset (now y) os r zs → length zs ≡ k
+    exits : (r : Sweep) (w : Val) (zs : List ℕ) → SweepAnswered question h (now x) subset (now y) os r zs → length zs ≡ k
         → ent 𝓤 (⋆ 𝓤 H A ((‵ (flft κ₀ q₀) ⊛ ‵ (flft κ₁ q₁) ⊛ ‵ (flft κ₂ q₂) ⊛ ‵ (flft κ₃ q₃) ⊛ ‵ ftrue) ∷ ‵ OwnX ∷ ‵ OwnI ∷ ‵ OwnY ∷ ‵ (finally u32 γ zs) ∷ ‵ (ST.the-row .own r (w ∷ [])) ∷ [])) (Post w)
     exits r w zs e l =
         qed W ((‵ (flft κ₀ q₀) ⊛ ‵ (flft κ₁ q₁) ⊛ ‵ (flft κ₂ q₂) ⊛ ‵ (flft κ₃ q₃) ⊛ ‵ ftrue) ∷ ‵ OwnX ∷ ‵ OwnI ∷ ‵ OwnY ∷ ‵ (finally u32 γ zs) ∷ ‵ (ST.the-row .own r (w ∷ [])) ∷ []) ∵

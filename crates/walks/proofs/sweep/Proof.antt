@@ -59,7 +59,7 @@ use Rattle.table.proofs.Header.Laws as HT′
 use Rattle.sweeping.specs.declared.Sweep.{Sweep}
 use Rattle.sweeping.specs.declared.Test.the-variants.{Row}
 use Rattle.queries.specs.Queries.{matches}
-use Rattle.sweeping.specs.inner.Sweeping.{RowLies, allPass, Sweepable, Swept, Steps}
+use Rattle.sweeping.specs.inner.Sweeping.{RowLies, allPass, Sweepable, Swept, SweepSteps}
 use Rattle.walks.proofs.Again.{LentAgain, lends-again, comes-back}
 use Rattle.sweeping.proofs.SweepSteps.{swept-begin, next-lies, can-step, steps-less, stepped, finished}
 use Rattle.walks.proofs.WalkSteps.{Fewer, fewer-wf, row-matches}
@@ -237,7 +237,7 @@ module _ {M : Type 1} (𝓤 : URA M) (H : Heap 𝓤) (A : Atoms 𝓤) (W : Given
   )
 
   abbrev Stepped : Sweep → List ℕ → Sweep → List ℕ → Type 0
-  Stepped s zs r ws = Steps h (now x) subset s (hit s) zs r ws
+  Stepped s zs r ws = SweepSteps h (now x) subset s (hit s) zs r ws
 
   said-all : (s : Sweep) (r : Bool) → ent 𝓤 (ensured 𝓤 H A all.ended (all.clauses 𝓤 H A mem run) (κ₀, (κ₂, tt)) (to-all s .0 .3) tt r) (fact 𝓤 (r ≡ hit s))
   said-all s r = exE 𝓤 _ (λ ws. snd∗ 𝓤 (sem 𝓤 H A (lasts all.ended (κ₀, (κ₂, tt)) (to-all s .0 .3) ws)) (fact 𝓤 (r ≡ hit s)))

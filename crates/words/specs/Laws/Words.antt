@@ -13,7 +13,7 @@ use Rattle.table.specs.declared.Header.{Header}
 use Rattle.table.specs.declared.TableAnswer.{TableAnswer}
 use Rattle.table.specs.declared.MergeAnswer.{MergeAnswer}
 use Rattle.table.specs.Refusing.{outside}
-use Rattle.words.specs.Words.{largestIn, largestFlag, largestWord, columnsIn, headerIn, headerWords, tableNumber, tableHeader, Told, MergeTold, Called, MergeCalled, Asked}
+use Rattle.words.specs.Words.{largestIn, largestFlag, largestWord, columnsIn, headerIn, headerWords, tableNumber, tableHeader, Told, MergeTold, CallInWords, MergeInWords, QuestionInWords}
 
 -- the largest value
 largest-read : (l : Largest) → largestIn (largestFlag l) (largestWord l) ≡ l
@@ -53,27 +53,27 @@ unfolding headerIn columnsIn outside openable
 flag-refused words h = rw (lt-leb (getD words 10 0) 1 h)
 
 module _ {promise : TableAnswer → Type 0} {unchanged : Type 0} {header : List ℕ} where
-  pub called-unheaded : (length header ≡ 12 → ⊥) → unchanged → Called promise unchanged header 1 header
+  pub called-unheaded : (length header ≡ 12 → ⊥) → unchanged → CallInWords promise unchanged header 1 header
   called-unheaded n u = record { done = λ e. absurd (n e); unheaded = λ e. (u, refl, refl) }
 
   pub called-done : {answer : TableAnswer} {r : ℕ} {header′ : List ℕ} → length header ≡ 12 → promise answer
-      → Told tableNumber (tableHeader header) answer r header′ → Called promise unchanged header r header′
+      → Told tableNumber (tableHeader header) answer r header′ → CallInWords promise unchanged header r header′
   called-done {answer} l p t =
       record { done = λ e. (answer, p, t .numbered, t .worded); unheaded = λ n. absurd (n l) }
 
 module _ {promise : MergeAnswer → Type 0} {unchanged : Type 0} {header words : List ℕ} where
-  pub merge-unheaded : (length header ≡ 12 → ⊥) → unchanged → MergeCalled promise unchanged header words 1 header words
+  pub merge-unheaded : (length header ≡ 12 → ⊥) → unchanged → MergeInWords promise unchanged header words 1 header words
   merge-unheaded n u =
       record { done = λ e d. absurd (n e); unheaded = λ m. (u, refl, refl, refl); unworded = λ e m. absurd (n e) }
 
   pub merge-unworded : length header ≡ 12 → (length words ≡ 5 → ⊥) → unchanged
-      → MergeCalled promise unchanged header words 2 header words
+      → MergeInWords promise unchanged header words 2 header words
   merge-unworded l n u =
       record { done = λ e d. absurd (n d); unheaded = λ m. absurd (m l); unworded = λ e m. (u, refl, refl, refl) }
 
   pub merge-done : {answer : MergeAnswer} {r : ℕ} {header′ words′ : List ℕ} → length header ≡ 12 → length words ≡ 5
       → promise answer → MergeTold answer header words r header′ words′
-      → MergeCalled promise unchanged header words r header′ words′
+      → MergeInWords promise unchanged header words r header′ words′
   merge-done {answer} l k p t =
       record {
         done = λ e d. (answer, p, t .numbered, t .headed, t .worded);
@@ -82,16 +82,16 @@ module _ {promise : MergeAnswer → Type 0} {unchanged : Type 0} {header words :
       }
 
 module _ {A : Type 0} {promise : A → Type 0} {number : A → ℕ} {told : List ℕ → A → List ℕ} {count : ℕ} {header words : List ℕ} where
-  pub asked-unheaded : (length header ≡ 12 → ⊥) → Asked promise number told count header words 1 words
+  pub asked-unheaded : (length header ≡ 12 → ⊥) → QuestionInWords promise number told count header words 1 words
   asked-unheaded n =
       record { done = λ e d. absurd (n e); unheaded = λ m. (refl, refl); unworded = λ e m. absurd (n e) }
 
-  pub asked-unworded : length header ≡ 12 → (length words ≡ count → ⊥) → Asked promise number told count header words 2 words
+  pub asked-unworded : length header ≡ 12 → (length words ≡ count → ⊥) → QuestionInWords promise number told count header words 2 words
   asked-unworded l n =
       record { done = λ e d. absurd (n d); unheaded = λ m. absurd (m l); unworded = λ e m. (refl, refl) }
 
   pub asked-done : {answer : A} {r : ℕ} {words′ : List ℕ} → length header ≡ 12 → length words ≡ count → promise answer
-      → Told number (told words) answer r words′ → Asked promise number told count header words r words′
+      → Told number (told words) answer r words′ → QuestionInWords promise number told count header words r words′
   asked-done {answer} l k p t =
       record {
         done = λ e d. (answer, p, t .numbered, t .worded);
