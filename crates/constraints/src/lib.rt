@@ -41,23 +41,18 @@ pub fn known(c: Constraint, columns: u32) -> bool
     c.value < columns
 }
 
-// A cell against a value, by the kinds 1 to 5.
+// A cell against a value, by the kinds 1 to 5. At most is not greater, and at least not less, so that a walk over rows has one
+// comparison to make for either.
 fn compares(kind: u32, cell: u32, value: u32) -> bool
     ensures { λ r. ⌜ r ≡ rules.compares kind cell value ⌝ }
 {
     if kind == 1 {
         return cell == value;
     }
-    if kind == 2 {
-        return cell < value;
+    if (kind == 3) | (kind == 4) {
+        return (value < cell) == (kind == 3);
     }
-    if kind == 3 {
-        return value < cell;
-    }
-    if kind == 4 {
-        return cell <= value;
-    }
-    value <= cell
+    (cell < value) == (kind == 2)
 }
 
 // The cells of a row, dead or live, meet the condition.

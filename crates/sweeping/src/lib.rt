@@ -55,14 +55,13 @@ pub enum Question {
 
 // ---- a row
 
-// The row is live.
+// The row is live: its first cell says so.
 fn is_live_at(h: Header, rows: &[u32], id: u32) -> bool
     requires { ⌜ RowLies h (length (now rows)) id ⌝ }
     ensures { λ r. ⌜ r ≡ rules.isLive (rowAt (h .columns) id (now (rows .entry))) ⌝ }
 {
     let from = (id as usize) * (h.columns as usize);
-    let to = from + h.columns as usize;
-    constraints::is_live(&rows[from..to])
+    !cells::is_stale(rows[from])
 }
 
 // The cells of the row meet the condition.

@@ -1,8 +1,9 @@
--- `queries::sweeping::is_live_at` meets its contract. Assumes nothing.
+-- `sweeping::is_live_at` meets its contract. Assumes nothing.
 use mathlib.Core.Path.{ap, _∙_}
+use mathlib.Core.Bool.{not}
+use native.Mathlib.Omega.{arith}
 use borrow.Author.Needs.{needs}
-use Rattle.constraints.specs.Constraints.{isLive}
-use Rattle.sweeping.proofs.SweepSteps.{row-part}
+use Rattle.sweeping.proofs.SweepSteps.{live-first}
 use Rattle.sweeping.proofs.is_live_at.Statement.{statement}
 use Rattle.sweeping.proofs.is_live_at.Tie as tie
 
@@ -12,29 +13,17 @@ cast-from c = search needs
 mul-from : tie.Need-mul-from
 mul-from c = search needs
 
-cast-to : tie.Need-cast-to
-cast-to c = search needs
+mul-is-stale : tie.Need-mul-is-stale
+mul-is-stale c = search needs
 
-add-to : tie.Need-add-to
-add-to c = search needs
+shared-slice-read-is-stale : tie.Need-shared-slice-read-is-stale
+shared-slice-read-is-stale c = search needs
 
-mul-is-live : tie.Need-mul-is-live
-mul-is-live c = search needs
-
-sub-is-live : tie.Need-sub-is-live
-sub-is-live c = search needs
-
-part-is-live-start : tie.Need-part-is-live-start
-part-is-live-start c = search needs
-
-part-is-live-end : tie.Need-part-is-live-end
-part-is-live-end c = search needs
-
-is-live-requires : tie.Need-is-live-requires
-is-live-requires c κs = search needs
+is-stale-requires : tie.Need-is-stale-requires
+is-stale-requires c κs = search needs
 
 returns : tie.Need-returns
-returns c = c .is-live .ensures ∙ ap isLive (row-part _ _ _)
+returns c = ap not (c .is-stale .ensures) ∙ live-first _ _ _ (omega arith)
 
 pub is-live-at-spec : {M : Type 1} → statement M
 is-live-at-spec =
@@ -42,11 +31,7 @@ is-live-at-spec =
     (tie.spec
     cast-from
     mul-from
-    cast-to
-    add-to
-    mul-is-live
-    sub-is-live
-    part-is-live-start
-    part-is-live-end
-    is-live-requires
+    mul-is-stale
+    shared-slice-read-is-stale
+    is-stale-requires
     returns)

@@ -36,9 +36,9 @@ use Rattle.queries.specs.inner.Tests.{Askable}
 
 -- ---- tests of a list of conditions
 
--- a row lies in the store
+-- a row lies in the store, and has a first cell
 abbrev pub RowLies : Header → ℕ → ℕ → Type 0
-RowLies h rows id = id * h .columns + h .columns ≤ rows
+RowLies h rows id = (0 < h .columns) × (id * h .columns + h .columns ≤ rows)
 
 abbrev pub RowNeeded : Test → Header → ℕ → Type 0
 RowNeeded Known h rows = Unit {0}
