@@ -6,7 +6,8 @@ ghost use Prim.Native.Nat.{_≤_};
 ghost use lib.ListN.{length as len, take};
 ghost use Rattle.table.specs.Refusing.{outside};
 ghost use Rattle.table.specs.Promises.{stores};
-ghost use Rattle.levels.specs.inner.Turning.{Advanced, Turned};
+ghost use Rattle.levels_lines.specs.inner.Taking.{unread};
+ghost use Rattle.levels.specs.inner.Turning.{Replied, Turned};
 use levels_answers::answer;
 use levels_lines::Input;
 use levels_lines::next_line;
@@ -53,7 +54,7 @@ fn write_answer(
     requires { ⌜ length ≤ len (now line) ⌝ }
     requires { ⌜ len (now keys) ≤ 2048 ⌝ }
     requires { ⌜ 92217 ≤ len (now text) ⌝ }
-    ensures { λ r. ⌜ Advanced (take length (now (line .entry))) (stores h (now (rows .entry)) (now (keys .entry)) (now (sorts .entry)) (now (pending .entry))) (stores r (now (rows .exit)) (now (keys .exit)) (now (sorts .exit)) (now (pending .exit))) ⌝ }
+    ensures { λ r. ⌜ Replied (take length (now (line .entry))) (stores h (now (rows .entry)) (now (keys .entry)) (now (sorts .entry)) (now (pending .entry))) (stores r (now (rows .exit)) (now (keys .exit)) (now (sorts .exit)) (now (pending .exit))) (now (text .exit)) ⌝ }
 {
     let answered = answer(h, &line[..length], rows, keys, sorts, pending, text);
     let used = answered.used;
@@ -79,7 +80,8 @@ fn turn(
     pending: &mut [u32; 2048],
     text: &mut [u8; MOST_TEXT],
 ) -> State
-    ensures { λ r. ⌜ Turned (stores (state .header) (now (rows .entry)) (now (keys .entry)) (now (sorts .entry)) (now (pending .entry))) (r .«is_over») (stores (r .header) (now (rows .exit)) (now (keys .exit)) (now (sorts .exit)) (now (pending .exit))) ⌝ }
+    requires { ⌜ state .input .end ≤ len (now chunk) ⌝ }
+    ensures { λ r. ⌜ Turned (unread (now (chunk .entry)) (state .input)) (stores (state .header) (now (rows .entry)) (now (keys .entry)) (now (sorts .entry)) (now (pending .entry))) (r .«is_over») (now (chunk .exit)) (r .input) (stores (r .header) (now (rows .exit)) (now (keys .exit)) (now (sorts .exit)) (now (pending .exit))) (now (text .exit)) ⌝ }
 {
     let header = state.header;
     let from = state.input;

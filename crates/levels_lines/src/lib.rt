@@ -2,7 +2,8 @@
 ghost use Prim.Native.Nat.{_-_, _≤_};
 ghost use mathlib.Core.List.{[], _∷_};
 ghost use lib.ListN.{length as len, take, drop};
-ghost use Rattle.levels_lines.specs.inner.Scanning.{Kept, Scanned, Taken};
+ghost use Rattle.levels_lines.specs.inner.Scanning.{Kept, Scanned};
+ghost use Rattle.levels_lines.specs.inner.Taking.{unread, Refilled, Took};
 use libc::STDIN_FILENO;
 
 // One byte more, if it has room.
@@ -67,12 +68,11 @@ pub struct Line {
 
 // Waits for more bytes if none is left. None comes at the end of the input, or where it cannot be read.
 fn refill(chunk: &mut [u8], input: Input) -> Input
-    ensures { λ r. ⌜ r .end ≤ len (now (chunk .exit)) ⌝ }
+    requires { ⌜ input .end ≤ len (now chunk) ⌝ }
+    ensures { λ r. ⌜ Refilled (now (chunk .entry)) input (now (chunk .exit)) r ⌝ }
 {
     if input.next < input.end {
-        if input.end <= chunk.len() {
-            return input;
-        }
+        return input;
     }
     let got = libc::read(STDIN_FILENO, chunk);
     Input {
@@ -83,7 +83,8 @@ fn refill(chunk: &mut [u8], input: Input) -> Input
 
 // The next line, of which as many bytes are kept as the lent store has.
 pub fn next_line(line: &mut [u8], chunk: &mut [u8], from: Input) -> Line
-    ensures { λ r. ⌜ Taken (now (line .exit)) (r .length) ⌝ }
+    requires { ⌜ from .end ≤ len (now chunk) ⌝ }
+    ensures { λ r. ⌜ Took (unread (now (chunk .entry)) from) (now (line .exit)) (now (chunk .exit)) r ⌝ }
 {
     let mut input = from;
     let mut length = 0;

@@ -1,5 +1,5 @@
-//! Histories of the largest tables: filled with 65,536 rows, with half of them dead, compacted, filled again and stopped; and
-//! on the way refined, paged and intersected with lists of 65,536 ids, which are refused with one more.
+//! Histories of the largest tables: cleared of few rows, filled with 65,536 rows, with half of them dead, compacted, filled
+//! again and stopped; and on the way refined, paged and intersected with lists of 65,536 ids, which are refused with one more.
 
 use crate::history::{Act, Step, needed, with_exact_output, with_output};
 use calls::{Call, Condition, Lengths, Opening, Question, Subset};
@@ -9,6 +9,7 @@ use chance::Rng;
 pub const COUNT: u64 = 4;
 
 const ROWS: u32 = 65_536;
+const FEW: u32 = 1_000;
 
 /// A table's numbers and how its rows are made.
 struct Shape {
@@ -57,6 +58,13 @@ pub fn history(number: u64) -> Vec<Step> {
     };
     let w = &mut writer;
     w.call(Call::Open(w.shape.opening));
+    // Few rows among many slots, some of which meet, are cleared; the last generations are kept for later.
+    if number != 2 {
+        w.insert(0..FEW);
+        w.merge_and_ask();
+        w.call(Call::Clear);
+        w.ask();
+    }
     // Filled at once, or in two batches.
     match number {
         0 => w.insert(0..ROWS),

@@ -1,11 +1,14 @@
--- `levels::main` is safe, and ends by its count of turns. Nothing has to hold from turn to turn. Assumes nothing.
+-- `levels::main` is safe, and ends by its count of turns. From turn to turn the input lies within its chunk. Assumes nothing.
+use Prim.Native.Nat.{_≤_}
+use native.Mathlib.Omega.{arith}
+use lib.ListN.{length}
 use borrow.Author.Needs.{needs}
 use Rattle.levels.proofs.main.Statement.{statement}
 use Rattle.levels.proofs.main.Tie as tie
 
 abbrev Inv-loop : tie.InvT-loop
 Inv-loop line₀ chunk₀ rows₀ keys₀ sorts₀ pending₀ text₀ state₀ turns₀ line chunk rows keys sorts pending text state turns =
-    Unit {0}
+    state .input .end ≤ length chunk
 
 abbrev μ-loop : tie.MeasureT-loop
 μ-loop line₀ chunk₀ rows₀ keys₀ sorts₀ pending₀ text₀ state₀ turns₀ line chunk rows keys sorts pending text state turns =
@@ -15,7 +18,7 @@ no-table-requires : tie.Need-no-table-requires Inv-loop μ-loop
 no-table-requires c κs = search needs
 
 loop-holds : tie.Need-loop-holds Inv-loop μ-loop
-loop-holds c = search needs
+loop-holds c = omega arith
 
 turn-requires : tie.Need-turn-requires Inv-loop μ-loop
 turn-requires c κs = search needs
@@ -30,7 +33,7 @@ loop-less : tie.Need-loop-less Inv-loop μ-loop
 loop-less c = search needs
 
 loop-again : tie.Need-loop-again Inv-loop μ-loop
-loop-again c = search needs
+loop-again c = c .before .turn .ensures .inside
 
 returns-2 : tie.Need-returns-2 Inv-loop μ-loop
 returns-2 c = search needs

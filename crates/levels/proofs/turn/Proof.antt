@@ -9,13 +9,13 @@ next-line-requires : tie.Need-next-line-requires
 next-line-requires c κs = search needs
 
 returns : tie.Need-returns
-returns c = turned-over _
+returns c = turned-over (c .before .before .next-line .ensures) _ _
 
 write-answer-requires : tie.Need-write-answer-requires
-write-answer-requires c κs = (omega (arith, c .before .before .before .before .before .before .before .before .before .next-line .ensures .counted), (search needs, search needs))
+write-answer-requires c κs = (omega (arith, c .before .before .before .before .before .before .before .before .before .next-line .ensures .goes-on (c .before .before .before .before .before .before .before .if1 .left) .counted), (search needs, search needs))
 
 returns-2 : tie.Need-returns-2
-returns-2 c = turned-line (search needs) (c .before .before .before .before .before .before .before .before .before .before .next-line .ensures) (c .write-answer .ensures)
+returns-2 c = turned-line (c .before .before .before .before .before .before .before .before .before .before .next-line .ensures) (search needs) (c .before .before .before .before .before .before .before .before .if1 .left) (c .write-answer .ensures)
 
 pub turn-spec : {M : Type 1} → statement M
 turn-spec =

@@ -1,7 +1,6 @@
 -- `levels::write_answer` meets its contract. Assumes nothing.
 use native.Mathlib.Omega.{arith}
 use lib.ListN.{length-take}
-use Rattle.levels.specs.inner.Turning.{answering-advances}
 use borrow.Author.Needs.{needs}
 use Rattle.levels.proofs.write_answer.Statement.{statement}
 use Rattle.levels.proofs.write_answer.Tie as tie
@@ -37,7 +36,7 @@ same-length-5 : tie.Need-same-length-5
 same-length-5 c = c .before .before .before .before .text .given
 
 returns : tie.Need-returns
-returns c = answering-advances (c .before .before .before .before .before .before .before .before .before .before .before .before .before .answer .ensures)
+returns c = record { used = _; answering = c .before .before .before .before .before .before .before .before .before .before .before .before .before .answer .ensures }
 
 pub write-answer-spec : {M : Type 1} → statement M
 write-answer-spec =

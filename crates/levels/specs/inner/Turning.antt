@@ -1,48 +1,65 @@
--- What a turn of the program's loop leaves: the table after the line that it read. Which line that was, and what becomes of the
--- text that it writes, no contract of read and write can say. Assumes nothing.
-use Prim.Native.Nat.{ℕ}
+-- What a turn of the program's loop leaves: the table after the line that it read, and the bytes that are still to be read. Which
+-- bytes a read brings, and what becomes of the text that is written, no contract of read and write can say. Assumes nothing.
+use Prim.Native.Nat.{ℕ, _≤_}
 use mathlib.Core.Path.{_≡_, refl, sym}
-use mathlib.Core.Bool.{Bool, true, false, false≢true}
-use mathlib.Core.List.{List}
-use mathlib.Core.Option.{Option}
+use mathlib.Core.Bool.{Bool, true, false, cond, false≢true}
+use mathlib.Core.List.{List, [], _∷_, _++_}
 use lib.ListN.{length, take}
 use Rattle.lists.specs.Lists.{has}
-use Rattle.plain.specs.Plain.{Plain}
 use Rattle.table.specs.Promises.{Stores}
-use Rattle.levels_said.specs.Said.{answered}
-use Rattle.levels_said.specs.Answers.{Held, lent, Answering}
+use Rattle.levels_said.specs.Answers.{lent, Answering}
 use Rattle.levels_said.specs.Laws.Kept.{answered-kept}
-use Rattle.levels_lines.specs.inner.Scanning.{Taken}
+use Rattle.levels_lines.specs.declared.Input.{Input}
+use Rattle.levels_lines.specs.declared.Line.{Line}
+use Rattle.levels_lines.specs.inner.Taking.{unread, Took}
 
--- the stores hold the table after a line
-pub record Advanced (line : List ℕ) (s s′ : Stores) : Type 0 where
-  pub held : (t : Option Plain) → Held t s → Held (answered (lent s) t line .table) s′
+-- a line is answered; the bytes of the text that are used are those that are handed to write
+pub record Replied (line : List ℕ) (s s′ : Stores) (text : List ℕ) : Type 0 where
+  pub used : ℕ
+  pub answering : Answering line s s′ text used
 
-pub answering-advances : {line : List ℕ} {s s′ : Stores} {text : List ℕ} {used : ℕ} → Answering line s s′ text used → Advanced line s s′
-answering-advances m = record { held = λ t h. m .answers t h .held }
-
--- a line without a newline (10) was read
-pub record LineDone (s s′ : Stores) : Type 0 where
+-- A line was read and answered: the bytes before, and those that reads brought, are the line, its newline (10), unless the input
+-- ended it, and the bytes that are left.
+pub record LineDone (before : List ℕ) (s : Stores) (rest : List ℕ) (s′ : Stores) (text : List ℕ) : Type 0 where
   pub line : List ℕ
   pub no-newline : has 10 line ≡ false
-  pub advanced : Advanced line s s′
+  pub brought : List ℕ
+  pub ended : Bool
+  pub balance : before ++ brought ≡ line ++ cond ended (10 ∷ rest) rest
+  pub last : ended ≡ false → rest ≡ []
+  pub replied : Replied line s s′ text
 
 -- or the input is over
-pub record Turned (s : Stores) (over : Bool) (s′ : Stores) : Type 0 where
-  pub goes-on : over ≡ false → LineDone s s′
+pub record Turned (before : List ℕ) (s : Stores) (over : Bool) (chunk : List ℕ) (input : Input) (s′ : Stores) (text : List ℕ) : Type 0 where
+  pub inside : input .end ≤ length chunk
+  pub goes-on : over ≡ false → LineDone before s (unread chunk input) s′ text
   pub stays : over ≡ true → s′ ≡ s
 
-pub turned-over : (s : Stores) → Turned s true s
-turned-over s = record { goes-on = λ e. absurd (false≢true (sym e)); stays = λ e. refl }
+module _ {before line chunk : List ℕ} {r : Line} (k : Took before line chunk r) where
+  pub turned-over : (s : Stores) (text : List ℕ) → Turned before s true chunk (r .input) s text
+  turned-over s text = record { inside = k .inside; goes-on = λ e. absurd (false≢true (sym e)); stays = λ e. refl }
 
--- of a line more than 121 bytes are not kept, which change nothing
-pub turned-line : {line : List ℕ} {count : ℕ} {s s′ : Stores} → length line ≡ 121 → Taken line count → Advanced (take count line) s s′ → Turned s false s′
-turned-line {line} {count} {s} wide k m =
-    record {
-      goes-on = λ e. record {
-        line = k .bytes;
-        no-newline = k .no-newline;
-        advanced = record { held = λ t h. rw (rw wide at (k .kept), answered-kept (lent s) t (k .bytes)) at (m .held t h) };
-      };
-      stays = λ e. absurd (false≢true e);
-    }
+  -- of a line no more than 121 bytes are kept, which changes no answer
+  pub turned-line : {s s′ : Stores} {text : List ℕ} → length line ≡ 121 → r .«is_over» ≡ false → Replied (take (r .length) line) s s′ text
+      → Turned before s false chunk (r .input) s′ text
+  turned-line {s} wide on m =
+      let t = k .goes-on on in
+      record {
+        inside = k .inside;
+        goes-on = λ e. record {
+          line = t .bytes;
+          no-newline = t .no-newline;
+          brought = t .brought;
+          ended = t .ended;
+          balance = t .balance;
+          last = t .last;
+          replied = record {
+            used = m .used;
+            answering = record {
+              inside = m .answering .inside;
+              answers = λ p h. rw (rw wide at (t .kept), answered-kept (lent s) p (t .bytes)) at (m .answering .answers p h);
+            };
+          };
+        };
+        stays = λ e. absurd (false≢true e);
+      }

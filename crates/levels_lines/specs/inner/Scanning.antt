@@ -31,16 +31,9 @@ pub record Scanned (line : List ℕ) (count : ℕ) (bytes : List ℕ) (from : �
   pub whole : r .«is_whole» ≡ has 10 bytes
   pub next : r .next ≡ from + length (before-newline bytes) + cond (has 10 bytes) 1 0
 
--- Whatever was read: a line without a newline, of which the first bytes are kept.
-pub record Taken (line : List ℕ) (count : ℕ) : Type 0 where
-  pub bytes : List ℕ
-  pub no-newline : has 10 bytes ≡ false
-  pub counted : count ≡ min (length line) (length bytes)
-  pub kept : take count line ≡ take (length line) bytes
-
 -- ---- bytes kept
 
-take-in : (m : ℕ) (x y : List ℕ) → take m (take m x ++ y) ≡ take m (x ++ y)
+pub take-in : (m : ℕ) (x y : List ℕ) → take m (take m x ++ y) ≡ take m (x ++ y)
 take-in zero x y = refl
 take-in (suc m) [] y = refl
 take-in (suc m) (a ∷ x) y = ap (λ l. a ∷ l) (take-in m x y)
@@ -106,7 +99,7 @@ left-more chunk at end some inside =
     let there : at < length chunk = omega arith in
     rw (more, drop-cons chunk at 0 there) (rw add-one)
 
-left-none : (chunk : List ℕ) (at end : ℕ) → end ≤ at → left chunk at end ≡ []
+pub left-none : (chunk : List ℕ) (at end : ℕ) → end ≤ at → left chunk at end ≡ []
 left-none chunk at end none = let z : end - at ≡ 0 = omega arith in rw z
 
 -- before the byte at a place: what is to come from here is what was to come from the start
@@ -165,28 +158,3 @@ module _ {line : List ℕ} {count : ℕ} {bytes : List ℕ} {from : ℕ} {line�
         whole = sym there;
         next = rw there (omega (arith, v .next, ap length none));
       }
-
--- ---- a line of several chunks
-
-no-newline-before : (bytes : List ℕ) → has 10 (before-newline bytes) ≡ false
-unfolding before-newline has
-no-newline-before [] = refl
-no-newline-before (byte ∷ bytes) =
-    elim (split (eqb byte 10)) [
-      | inl e ↦ rw e
-      | inr e ↦ rw (e, ne-eqb 10 byte (λ f. eqb-false byte 10 e (sym f))) (no-newline-before bytes)
-    ]
-
-pub taken-begin : (line : List ℕ) → Taken line 0
-unfolding has
-taken-begin line = record { bytes = []; no-newline = refl; counted = omega arith; kept = sym (take-nil (length line)) }
-
-pub taken-more : {line line′ : List ℕ} (bytes : List ℕ) {count count′ : ℕ} → Taken line count → length line′ ≡ length line → Kept line count (before-newline bytes) line′ count′
-    → Taken line′ count′
-taken-more {line} bytes v lent k =
-    record {
-      bytes = v .bytes ++ before-newline bytes;
-      no-newline = rw (has-append 10 (v .bytes) (before-newline bytes), v .no-newline) (no-newline-before bytes);
-      counted = omega (arith, k .counted, v .counted, length-append (v .bytes) (before-newline bytes));
-      kept = k .same ∙ rw (v .kept, lent, take-in (length line) (v .bytes) (before-newline bytes));
-    }

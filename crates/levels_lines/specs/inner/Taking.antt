@@ -1,0 +1,196 @@
+-- What reading a line promises: the bytes that were there and those that reads brought are the line, its newline, and the bytes
+-- that are left. Assumes nothing.
+use Prim.Native.Nat.{ℕ, suc, _+_, _-_, _≤_, _<_, min}
+use mathlib.Core.Path.{_≡_, refl, sym, ap, _∙_}
+use mathlib.Core.Logic.{inl, inr}
+use mathlib.Core.Bool.{Bool, true, false, cond, false≢true}
+use mathlib.Core.List.{List, [], _∷_, _++_, append-nil, append-assoc}
+use native.Mathlib.Omega.{arith}
+use lib.ListN.{length, take, drop, length-append, length-take, length-drop}
+use lib.Dec.{eqb}
+use lib.Seq.{take-nil, drop-drop}
+use borrow.Author.Tests.{ne-eqb, eqb-true, eqb-false}
+use Rattle.lists.specs.Lists.{has}
+use Rattle.lists.specs.Laws.Keep.{split}
+use Rattle.lists.specs.Laws.Parts.{take-drop}
+use Rattle.lists.specs.Laws.Rising.{has-append}
+use Rattle.levels_lines.specs.declared.Input.{Input}
+use Rattle.levels_lines.specs.declared.Line.{Line}
+use Rattle.levels_lines.specs.declared.Scan.{Scan}
+use Rattle.levels_lines.specs.inner.Scanning.{Kept, before-newline, Scanned, take-in, left, left-none}
+
+-- the bytes of a chunk that are not read yet
+abbrev pub unread : List ℕ → Input → List ℕ
+unread chunk input = left chunk (input .next) (input .end)
+
+-- the bytes that a read brought come behind those that were there
+pub record Refilled (chunk : List ℕ) (input : Input) (chunk′ : List ℕ) (r : Input) : Type 0 where
+  pub inside : r .end ≤ length chunk′
+  pub brought : List ℕ
+  pub there : unread chunk′ r ≡ unread chunk input ++ brought
+
+-- a line of which so many bytes are kept in a store
+pub record LineTaken (before line : List ℕ) (count : ℕ) (rest : List ℕ) : Type 0 where
+  pub bytes : List ℕ
+  pub no-newline : has 10 bytes ≡ false
+  pub counted : count ≡ min (length line) (length bytes)
+  pub kept : take count line ≡ take (length line) bytes
+  -- ended by a newline, or by the end of the input
+  pub brought : List ℕ
+  pub ended : Bool
+  pub balance : before ++ brought ≡ bytes ++ cond ended (10 ∷ rest) rest
+  pub last : ended ≡ false → rest ≡ []
+
+pub record Took (before line chunk : List ℕ) (r : Line) : Type 0 where
+  pub inside : r .input .end ≤ length chunk
+  pub goes-on : r .«is_over» ≡ false → LineTaken before line (r .length) (unread chunk (r .input))
+
+-- ---- a read
+
+pub refilled-same : (chunk : List ℕ) (input : Input) → input .end ≤ length chunk → Refilled chunk input chunk input
+refilled-same chunk input inside = record { inside = inside; brought = []; there = sym (append-nil (unread chunk input)) }
+
+pub refilled-read : (chunk : List ℕ) (input : Input) (chunk′ : List ℕ) (end : ℕ) → input .end ≤ input .next → end ≤ length chunk′
+    → Refilled chunk input chunk′ (record { next = 0; end = end })
+refilled-read chunk input chunk′ end none inside =
+    record { inside = inside; brought = left chunk′ 0 end; there = rw (left-none chunk (input .next) (input .end) none) }
+
+-- ---- a newline, or none
+
+no-newline-before : (bytes : List ℕ) → has 10 (before-newline bytes) ≡ false
+unfolding before-newline has
+no-newline-before [] = refl
+no-newline-before (byte ∷ bytes) =
+    elim (split (eqb byte 10)) [
+      | inl e ↦ rw e
+      | inr e ↦ rw (e, ne-eqb 10 byte (λ f. eqb-false byte 10 e (sym f))) (no-newline-before bytes)
+    ]
+
+newline-first : (bytes : List ℕ) → has 10 bytes ≡ true → bytes ≡ before-newline bytes ++ (10 ∷ drop (suc (length (before-newline bytes))) bytes)
+unfolding before-newline has
+newline-first [] e = absurd (false≢true e)
+newline-first (byte ∷ bytes) e =
+    elim (split (eqb byte 10)) [
+      | inl f ↦ rw f (ap (λ (x : ℕ). x ∷ bytes) (eqb-true byte 10 f))
+      | inr f ↦
+          let more : has 10 bytes ≡ true = rw (ne-eqb 10 byte (λ g. eqb-false byte 10 f (sym g))) at e in
+          rw f (ap (λ (x : List ℕ). byte ∷ x) (newline-first bytes more))
+    ]
+
+no-newline-whole : (bytes : List ℕ) → has 10 bytes ≡ false → before-newline bytes ≡ bytes
+unfolding before-newline has
+no-newline-whole [] e = refl
+no-newline-whole (byte ∷ bytes) e =
+    elim (split (eqb 10 byte)) [
+      | inl f ↦ absurd (false≢true (sym (rw f at e)))
+      | inr f ↦ rw (ne-eqb byte 10 (λ g. eqb-false 10 byte f (sym g))) (ap (λ (x : List ℕ). byte ∷ x) (no-newline-whole bytes (rw f at e)))
+    ]
+
+-- what is left behind some of the bytes
+left-drop : (chunk : List ℕ) (at end k : ℕ) → at + k ≤ end → left chunk (at + k) end ≡ drop k (left chunk at end)
+left-drop chunk at end k inside =
+    let n : k + (end - (at + k)) ≡ end - at = omega arith in
+    rw (← drop-drop k at chunk, take-drop k (end - (at + k)) (drop at chunk), n)
+
+length-left : (chunk : List ℕ) (at end : ℕ) → end ≤ length chunk → length (left chunk at end) ≡ end - at
+length-left chunk at end inside = rw (length-take, length-drop) (omega arith)
+
+-- ---- a line of several chunks
+
+-- what was taken of a line so far, and what is not read yet
+pub record Taking (before line : List ℕ) (count : ℕ) (rest : List ℕ) : Type 0 where
+  pub bytes : List ℕ
+  pub no-newline : has 10 bytes ≡ false
+  pub counted : count ≡ min (length line) (length bytes)
+  pub kept : take count line ≡ take (length line) bytes
+  pub brought : List ℕ
+  pub balance : before ++ brought ≡ bytes ++ rest
+
+pub taking-begin : (before line : List ℕ) → Taking before line 0 before
+unfolding has
+taking-begin before line =
+    record { bytes = []; no-newline = refl; counted = omega arith; kept = sym (take-nil (length line)); brought = []; balance = append-nil before }
+
+pub taking-refill : {before line chunk chunk′ : List ℕ} {count : ℕ} {input input′ : Input} → Taking before line count (unread chunk input) → Refilled chunk input chunk′ input′
+    → Taking before line count (unread chunk′ input′)
+taking-refill {before} {line} {chunk} {chunk′} {count} {input} {input′} v f =
+    record {
+      bytes = v .bytes;
+      no-newline = v .no-newline;
+      counted = v .counted;
+      kept = v .kept;
+      brought = v .brought ++ f .brought;
+      balance =
+          sym (append-assoc before (v .brought) (f .brought))
+          ∙ ap (λ (x : List ℕ). x ++ f .brought) (v .balance)
+          ∙ append-assoc (v .bytes) (unread chunk input) (f .brought)
+          ∙ ap (λ (x : List ℕ). v .bytes ++ x) (sym (f .there));
+    }
+
+-- the input is over
+pub taking-over : {before line : List ℕ} {count : ℕ} (chunk : List ℕ) (input : Input) → Taking before line count (unread chunk input) → input .end ≤ input .next
+    → LineTaken before line count (unread chunk input)
+taking-over chunk input v none =
+    record {
+      bytes = v .bytes;
+      no-newline = v .no-newline;
+      counted = v .counted;
+      kept = v .kept;
+      brought = v .brought;
+      ended = false;
+      balance = v .balance;
+      last = λ e. left-none chunk (input .next) (input .end) none;
+    }
+
+module _ {before line line′ : List ℕ} {count : ℕ} {r : Scan} (chunk : List ℕ) (at end : ℕ) (inside : end ≤ length chunk) (some : at < end) (v : Taking before line count (left chunk at end))
+    (same : length line′ ≡ length line) (k : Scanned line count (left chunk at end) at line′ r) where
+  -- the bytes so far
+  abbrev here : List ℕ
+  here = v .bytes ++ before-newline (left chunk at end)
+
+  here-no-newline : has 10 here ≡ false
+  here-no-newline = rw (has-append 10 (v .bytes) (before-newline (left chunk at end)), v .no-newline) (no-newline-before (left chunk at end))
+
+  here-counted : r .length ≡ min (length line′) (length here)
+  here-counted = omega (arith, k .kept .counted, v .counted, length-append (v .bytes) (before-newline (left chunk at end)))
+
+  here-kept : take (r .length) line′ ≡ take (length line′) here
+  here-kept = k .kept .same ∙ rw (v .kept, same, take-in (length line) (v .bytes) (before-newline (left chunk at end)))
+
+  -- no newline among them
+  pub taking-more : r .«is_whole» ≡ false → Taking before line′ (r .length) (left chunk (r .next) end)
+  taking-more e =
+      let none : has 10 (left chunk at end) ≡ false = sym (k .whole) ∙ e in
+      let all : before-newline (left chunk at end) ≡ left chunk at end = no-newline-whole (left chunk at end) none in
+      let past : end ≤ r .next = omega (arith, rw (none, all) at (k .next), length-left chunk at end inside) in
+      record {
+        bytes = here;
+        no-newline = here-no-newline;
+        counted = here-counted;
+        kept = here-kept;
+        brought = v .brought;
+        balance = v .balance ∙ rw (left-none chunk (r .next) end past, append-nil here, all);
+      }
+
+  -- the line ends
+  pub taking-line : r .«is_whole» ≡ true → LineTaken before line′ (r .length) (left chunk (r .next) end)
+  taking-line e =
+      let there : has 10 (left chunk at end) ≡ true = sym (k .whole) ∙ e in
+      let n : ℕ = length (before-newline (left chunk at end)) in
+      let parts = newline-first (left chunk at end) there in
+      let fits : suc n ≤ end - at = omega (arith, ap length parts, length-append (before-newline (left chunk at end)) (10 ∷ drop (suc n) (left chunk at end)), length-left chunk at end inside) in
+      let next : r .next ≡ at + (suc n) = omega (arith, rw there at (k .next)) in
+      record {
+        bytes = here;
+        no-newline = here-no-newline;
+        counted = here-counted;
+        kept = here-kept;
+        brought = v .brought;
+        ended = true;
+        balance =
+            v .balance
+            ∙ ap (λ (x : List ℕ). v .bytes ++ x) parts
+            ∙ sym (append-assoc (v .bytes) (before-newline (left chunk at end)) (10 ∷ drop (suc n) (left chunk at end)))
+            ∙ rw (next, left-drop chunk at end (suc n) (omega arith));
+        last = λ f. absurd (false≢true (sym f));
+      }
