@@ -1,2 +1,1 @@
 pub mod MergingSteps
-pub mod PassInserts

@@ -2,19 +2,16 @@
 // compaction that may be due.
 ghost use Prim.Native.Nat.{_≤_};
 ghost use Rattle.pending.specs.inner.Becoming.{Ready};
-ghost use Rattle.merge.specs.inner.Insertions.{Insertions, InsertNext, InsertedNext};
 ghost use mathlib.Core.Path.{_≡_};
 ghost use Rattle.plain.specs.Staged.{due};
 ghost use Rattle.table.specs.Promises.{stores, body, compactionWords, Merging};
 ghost use Rattle.compaction.specs.inner.Compaction.{Lendable};
 ghost use Rattle.merge.specs.inner.Parts.{Applying, Finishing};
-use appending::Insertion;
 use compaction::compact_rows;
-use inserts::insert_row;
-use pending::record_length;
+use insertions::Passed;
+use insertions::insert_all;
 use removals::remove_all;
 use table::Header;
-use table::INSERT;
 use table::Lent;
 use table::Merge;
 use table::MergeAnswer;
@@ -22,86 +19,6 @@ use table::REMOVE_KEY;
 use table::REMOVE_ROW;
 use table::refusing::LAST_GENERATION;
 use table::refusing::merge_refusal;
-
-// What the passes over the pending records have come to: a merge's answer, before the compaction that may follow.
-pub struct Passed {
-    pub header: Header,
-    pub status: u32,
-    pub place: u32,
-    pub added: bool,
-}
-
-// The record at a place, if it is an insert. Takes what the inserts before it have come to, and answers with what it comes
-// to: `place` is that of the next insert, unless this one stops the merge.
-fn insert_next(
-    m: Passed,
-    rows: &mut [u32],
-    keys: &mut [u32],
-    sorts: &mut [u32],
-    pending: &[u32],
-    at: u32,
-) -> Passed
-    requires { ⌜ InsertNext m (now rows) (now keys) (now sorts) (now pending) at ⌝ }
-    ensures { λ r. ⌜ InsertedNext m (now (rows .entry)) (now (keys .entry)) (now (sorts .entry)) (now (pending .entry)) at r (now (rows .exit)) (now (keys .exit)) (now (sorts .exit)) ⌝ }
-{
-    let start = at as usize;
-    if pending[start] != INSERT {
-        return m;
-    }
-    let n = m.header;
-    let hash = pending[start + 1];
-    let one = insert_row(n, rows, keys, sorts, pending, at + 2, hash);
-    let mut r = m;
-    match one {
-        Insertion::Kept => {
-            r.status = 0;
-            r.place = m.place + 1;
-            r
-        }
-        Insertion::Appended(next) => {
-            r.header = next;
-            r.status = 0;
-            r.place = m.place + 1;
-            r.added = true;
-            r
-        }
-        Insertion::Stopped(number) => {
-            r.status = number;
-            r
-        }
-    }
-}
-
-// All inserts, in staging order, until one must be appended and cannot be.
-fn insert_all(
-    h: Header,
-    rows: &mut [u32],
-    keys: &mut [u32],
-    sorts: &mut [u32],
-    pending: &[u32],
-) -> Passed
-    requires { ⌜ Ready h (now rows) (now keys) (now sorts) (now pending) ⌝ }
-    ensures { λ r. ⌜ Insertions h (now (rows .entry)) (now (keys .entry)) (now (sorts .entry)) (now (pending .entry)) r (now (rows .exit)) (now (keys .exit)) (now (sorts .exit)) ⌝ }
-{
-    let mut done = Passed {
-        header: h,
-        status: 0,
-        place: 0,
-        added: false,
-    };
-    let mut at: u32 = 0;
-    let mut words = record_length(h, pending, at);
-    while words != 0 {
-        done = insert_next(done, rows, keys, sorts, pending, at);
-        if done.status != 0 {
-            return done;
-        }
-        at += words;
-        words = record_length(h, pending, at);
-    }
-    done.place = 0;
-    done
-}
 
 // Dead rows call for a compaction, and the generation has room for it.
 fn is_due(h: Header) -> bool

@@ -15,13 +15,13 @@ use Rattle.plain.specs.Plain.{Inserted, insertAll, Plain, dead, withoutRows, in
 use Rattle.table.specs.declared.Header.{Header}
 use Rattle.plain.specs.Laws.Price.{compacted-live}
 use Rattle.table.specs.declared.Merge.{Merge}
-use Rattle.merge.specs.declared.Passed.{Passed}
+use Rattle.insertions.specs.declared.Passed.{Passed}
 use Rattle.table.specs.declared.MergeAnswer.the-variants.{Merged}
 use Rattle.table.specs.Numbers.{mergeSays}
 use Rattle.table.specs.Stores.{headerOf, rowStore}
 use Rattle.table.specs.Promises.{Stores, stores, body, compactionWords, Represents, mergeOf, mergedRows, mergedSorts, MergedTable}
 use Rattle.pending.specs.inner.Becoming.{Becomes}
-use Rattle.merge.specs.inner.Insertions.{InsertedTable}
+use Rattle.insertions.specs.inner.Insertions.{InsertedTable}
 use Rattle.removals.specs.inner.Removals.{removedAll}
 use Rattle.merge.specs.inner.Parts.{AppliedTable, finished, FinishedTable}
 use Rattle.table.specs.Laws.Stored.{stored-live}

@@ -8,7 +8,7 @@ use Rattle.lists.specs.Lists.{rowsOf}
 use Rattle.plain.specs.Plain.{Plain, applied, live, dead, compacted, unstaged, compactsAfter}
 use Rattle.table.specs.declared.Header.{Header}
 use Rattle.table.specs.declared.Merge.{Merge}
-use Rattle.merge.specs.declared.Passed.{Passed}
+use Rattle.insertions.specs.declared.Passed.{Passed}
 use Rattle.table.specs.Stores.{headerOf, rowStore, sortStore}
 use Rattle.table.specs.Promises.{Stores, stores, Represents, SlotsPast, PastNeeded}
 use Rattle.pending.specs.inner.Becoming.{Becomes, withCounts}

@@ -10,13 +10,13 @@ use lib.ListN.{length, take, drop, getD}
 use Rattle.plain.specs.Staged.{Staged, insert, removeKey, removeRow, wordsOf, inserts}
 use Rattle.plain.specs.Plain.{unchanged, appended, stopped, Inserted, inserted, insertAll, Plain, insertion}
 use Rattle.table.specs.declared.Header.{Header}
-use Rattle.merge.specs.declared.Passed.{Passed}
+use Rattle.insertions.specs.declared.Passed.{Passed}
 use Rattle.appending.specs.declared.Insertion.{Insertion}
 use Rattle.appending.specs.declared.Insertion.the-variants.{Kept, Appended, Stopped}
 use Rattle.table.specs.Numbers.{openingOf}
 use Rattle.table.specs.Promises.{Stores, stores, Represents, SlotsPast}
 use Rattle.pending.specs.inner.Becoming.{Becomes, Recounted, Ready, Waiting, kindOf, RecordLength}
-use Rattle.merge.specs.inner.Insertions.{InsertedTable, Insertions, InsertNext, InsertGoes, InsertedNext}
+use Rattle.insertions.specs.inner.Insertions.{InsertedTable, Insertions, InsertNext, InsertGoes, InsertedNext}
 use Rattle.inserts.specs.inner.Inserting.{Comes, Inserting}
 use Rattle.pending.specs.Laws.Steps.{steps-refl, steps-then, waiting-start, words-some, waiting-next, waiting-kind, waiting-hash, waiting-cells, recounted-refl, recounted-capacity, recounted-then, recounted-waiting}
 use Rattle.pending.proofs.PassRecords.{Next, record-long}

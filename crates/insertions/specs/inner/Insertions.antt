@@ -7,7 +7,7 @@ use lib.ListN.{getD}
 use Rattle.plain.specs.Staged.{Staged, inserts}
 use Rattle.plain.specs.Plain.{insertAll, inserted, Plain, insertion}
 use Rattle.table.specs.declared.Header.{Header}
-use Rattle.merge.specs.declared.Passed.{Passed}
+use Rattle.insertions.specs.declared.Passed.{Passed}
 use Rattle.table.specs.Numbers.{openingOf}
 use Rattle.table.specs.Promises.{Stores, stores, Represents, SlotsPast}
 use Rattle.pending.specs.inner.Becoming.{Becomes, Recounted, Ready, Waiting}

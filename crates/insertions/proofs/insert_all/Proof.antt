@@ -2,10 +2,10 @@
 -- still to come do from here. Assumes nothing.
 use Prim.Native.Nat.{_-_}
 use native.Mathlib.Omega.{arith}
-use Rattle.merge.proofs.PassInserts.{Filling, filling-begin, filling-long, filling-inside, filling-requires, filling-again, filling-stop, filling-end}
+use Rattle.insertions.proofs.PassInserts.{Filling, filling-begin, filling-long, filling-inside, filling-requires, filling-again, filling-stop, filling-end}
 use borrow.Author.Needs.{needs}
-use Rattle.merge.proofs.insert_all.Statement.{statement}
-use Rattle.merge.proofs.insert_all.Tie as tie
+use Rattle.insertions.proofs.insert_all.Statement.{statement}
+use Rattle.insertions.proofs.insert_all.Tie as tie
 
 abbrev Inv-loop : tie.InvT-loop
 Inv-loop h rows₀ keys₀ sorts₀ pending done₀ at₀ words₀ rows keys sorts done at words = Filling h rows₀ keys₀ sorts₀ pending rows keys sorts done at words

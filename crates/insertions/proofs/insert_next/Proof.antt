@@ -1,9 +1,9 @@
 -- `merge::passes::insert_next` meets its contract. Assumes nothing.
 use native.Mathlib.Omega.{arith}
-use Rattle.merge.proofs.PassInserts.{inserted-other, inserted-kept, inserted-appended, inserted-stopped}
+use Rattle.insertions.proofs.PassInserts.{inserted-other, inserted-kept, inserted-appended, inserted-stopped}
 use borrow.Author.Needs.{needs}
-use Rattle.merge.proofs.insert_next.Statement.{statement}
-use Rattle.merge.proofs.insert_next.Tie as tie
+use Rattle.insertions.proofs.insert_next.Statement.{statement}
+use Rattle.insertions.proofs.insert_next.Tie as tie
 
 mul-if1 : tie.Need-mul-if1
 mul-if1 c = search needs
