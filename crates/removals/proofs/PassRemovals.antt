@@ -1,7 +1,7 @@
 -- The removals of a pass: one record's turn, and what holds at each turn of the loop over the pending records. Assumes
 -- nothing.
 use Prim.Native.Nat.{ℕ, _+_, _*_, _-_, _≤_, _<_}
-use mathlib.Core.Path.{_≡_, refl, sym, _∙_}
+use mathlib.Core.Path.{_≡_, refl, sym, ap, _∙_}
 use mathlib.Core.Bool.{Bool, true, false, cond}
 use mathlib.Core.List.{List, [], _∷_}
 use native.Mathlib.Decide.{ℕ-discrete}
@@ -10,16 +10,19 @@ use native.Mathlib.Omega.{arith}
 use lib.Dec.{eqb}
 use lib.ListN.{length, take, drop, getD}
 use borrow.Author.Tests.{eq-eqb, ne-eqb}
+use mathlib.Core.Logic.{inl, inr}
+use Rattle.lists.specs.Lists.{keep}
+use Rattle.lists.specs.Laws.Keep.{split}
 use Rattle.key_index.specs.inner.Index.{Fits}
-use Rattle.plain.specs.Staged.{Staged, insert, removeKey, removeRow, wordsOf}
+use Rattle.plain.specs.Staged.{Staged, insert, removeKey, removeRow}
 use Rattle.plain.specs.Plain.{Plain}
 use Rattle.table.specs.declared.Header.{Header}
 use Rattle.table.specs.Numbers.{openingOf}
 use Rattle.table.specs.Sound.{keyedOf}
 use Rattle.table.specs.Promises.{Stores, stores, Represents, SlotsPast}
-use Rattle.pending.specs.inner.Becoming.{Becomes, withDead, Waiting, kindOf, RecordLength}
+use Rattle.pending.specs.inner.Becoming.{Becomes, withDead, Waiting, kindOf, RecordLength, ofKind, Left, CanPass, Passed}
 use Rattle.removals.specs.inner.Removals.{removed, removedAll, died, Removal, RemovalAt, Removed, Removable, Removals, RemovalNext, RemovedNext}
-use Rattle.pending.specs.Laws.Steps.{steps-refl, steps-then, waiting-start, words-some, waiting-next, waiting-kind, waiting-hash, waiting-key, waiting-row, waiting-row-key}
+use Rattle.pending.specs.Laws.Steps.{steps-refl, steps-then, waiting-start, words-some, waiting-kind, waiting-hash, waiting-key, waiting-row, waiting-row-key}
 use Rattle.pending.proofs.PassRecords.{Next, record-long}
 
 -- ---- one removal
@@ -82,6 +85,25 @@ removed-other {h} {rows} {keys} {pending} {at} {kind} ne =
           let q : eqb (kindOf removal) kind ≡ false = ne-eqb _ _ (λ e. ne (waiting-kind w ∙ e)) in
           rw (q, add-zero dead) (steps-refl t);
     }
+
+-- the records of other kinds make no difference
+removed-wanted : (kind : ℕ) (records : List Staged) (p : Plain) → removedAll kind records p ≡ removedAll kind (keep (ofKind kind) records) p
+unfolding removedAll keep
+removed-wanted kind [] p = refl
+removed-wanted kind (r ∷ rs) p =
+    elim (split (ofKind kind r)) [
+      | inl e ↦
+          let made : cond (eqb (kindOf r) kind) (removed r p) p ≡ removed r p = rw e refl in
+          let kept : removedAll kind (cond (ofKind kind r) (r ∷ keep (ofKind kind) rs) (keep (ofKind kind) rs)) p ≡ removedAll kind (keep (ofKind kind) rs) (removed r p) =
+          rw e (ap (removedAll kind (keep (ofKind kind) rs)) made) in
+          ap (removedAll kind rs) made ∙ removed-wanted kind rs (removed r p) ∙ sym kept
+      | inr e ↦ rw e (removed-wanted kind rs p)
+    ]
+
+removed-left : {h : Header} {pending : List ℕ} {kind at : ℕ} {records : List Staged} (l : Left h pending kind at records) (p : Plain)
+    → removedAll kind records p ≡ removedAll kind (l .left) p
+removed-left {h} {pending} {kind} {at} {records} l p =
+    removed-wanted kind records p ∙ ap (λ (rs : List Staged). removedAll kind rs p) (l .same) ∙ sym (removed-wanted kind (l .left) p)
 
 -- ---- the loop over the removals
 
@@ -152,14 +174,18 @@ module _ {h : Header} {rows keys pending : List ℕ} {kind : ℕ} (a : Removable
                     record { of-key = omega (arith, a .pending-fits); of-row = λ f. omega (arith, a .pending-fits) }
               ]
 
+      pub removing-passes : CanPass h pending at words
+      removing-passes = record { here = v .here; some = omega arith; fits = a .pending-fits }
+
       -- once more
-      pub removing-again : {r : ℕ} {rows″ keys″ : List ℕ} {next : ℕ} → RemovedNext h rows′ keys′ pending at kind r rows″ keys″ → RecordLength h pending (at + words) next
-          → length rows″ ≡ length rows′ → length keys″ ≡ length keys′ → Removing h rows keys pending kind rows″ keys″ (dead + r) (at + words) next
-      removing-again {r} {rows″} {keys″} one l same-rows same-keys =
+      pub removing-again : {r : ℕ} {rows″ keys″ : List ℕ} {at′ words′ : ℕ} → RemovedNext h rows′ keys′ pending at kind r rows″ keys″ → Passed h pending at words kind at′
+          → RecordLength h pending at′ words′ → length rows″ ≡ length rows′ → length keys″ ≡ length keys′
+          → Removing h rows keys pending kind rows″ keys″ (dead + r) at′ words′
+      removing-again {r} {rows″} {keys″} {at′} one passes l same-rows same-keys =
           record {
             here = l;
-            inside = removing-inside;
-            few = omega (arith, removing-long, v .few, one .few);
+            inside = passes .inside;
+            few = omega (arith, removing-long, v .few, one .few, passes .on);
             fits = omega (arith, v .fits);
             rows-same = same-rows ∙ v .rows-same;
             keys-same = same-keys ∙ v .keys-same;
@@ -168,17 +194,19 @@ module _ {h : Header} {rows keys pending : List ℕ} {kind : ℕ} (a : Removable
           }
         where
           on : (sorts : List ℕ) (p : Plain) (t : Represents p (stores h rows keys sorts pending)) (rest : List Staged) → v .table sorts p t .rest ≡ rest
-              → Removes kind (at + words) p (stores h rows keys sorts pending) (stores (withDead h (dead + r)) rows″ keys″ sorts pending)
+              → Removes kind at′ p (stores h rows keys sorts pending) (stores (withDead h (dead + r)) rows″ keys″ sorts pending)
           on sorts p t [] e = absurd (some (v .here .none (rw e at (v .table sorts p t .waiting))))
           on sorts p t (first ∷ rest) e =
               let g = v .table sorts p t in
               let w : Next h pending at first rest = rw e at (g .waiting) in
-              let n : words ≡ wordsOf (openingOf h) first = v .here .next first rest w in
+              let then = cond (eqb (kindOf first) kind) (removed first (g .now)) (g .now) in
+              let left = passes .rest first rest w in
+              let same : removedAll kind (p .staged) p ≡ removedAll kind rest then = g .same ∙ rw e (unfold removedAll in refl) in
               record {
-                now = cond (eqb (kindOf first) kind) (removed first (g .now)) (g .now);
-                rest = rest;
-                waiting = rw n (waiting-next w);
-                same = g .same ∙ rw e (unfold removedAll in refl);
+                now = then;
+                rest = left .left;
+                waiting = left .waiting;
+                same = same ∙ removed-left left then;
                 steps = steps-then t (g .steps) (one .table first rest w dead sorts (g .now) (g .steps .represents));
               }
 

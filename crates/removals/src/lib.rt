@@ -10,6 +10,7 @@ ghost use Rattle.table.specs.Sound.{keyedOf};
 ghost use Rattle.removals.specs.inner.Removals.{Kills, Removal, RemovalAt, Removed, Removable, Removals, RemovalNext, RemovedNext};
 use key_index::Found;
 use key_index::Keyed;
+use pending::next_record;
 use pending::record_length;
 use table::Header;
 use table::REMOVE_KEY;
@@ -103,7 +104,7 @@ fn remove_next(
     0
 }
 
-// All removals of a kind, in staging order.
+// All removals of a kind, in staging order. Runs of other records are passed over.
 pub fn remove_all(
     h: Header,
     rows: &mut [u32],
@@ -119,7 +120,7 @@ pub fn remove_all(
     let mut words = record_length(h, pending, at);
     while words != 0 {
         dead += remove_next(h, rows, keys, pending, at, kind);
-        at += words;
+        at = next_record(h, pending, at, words, kind);
         words = record_length(h, pending, at);
     }
     let mut n = h;

@@ -2,10 +2,11 @@
 -- cell given, and where the records that are still to come stand in the pending store. Assumes nothing.
 use Prim.Native.Nat.{ℕ, _+_, _*_, _≤_, _<_}
 use mathlib.Core.Path.{_≡_}
-use mathlib.Core.Bool.{true}
+use mathlib.Core.Bool.{Bool, true}
 use mathlib.Core.List.{List, [], _∷_}
 use lib.ListN.{length, take, drop, getD}
-use Rattle.lists.specs.Lists.{rowsOf}
+use lib.Dec.{eqb}
+use Rattle.lists.specs.Lists.{rowsOf, keep}
 use Rattle.cells.specs.Cells.{compact, keyHash}
 use Rattle.key_index.specs.inner.Index.{Fits}
 use Rattle.plain.specs.Staged.{Opening, Staged, insert, removeKey, removeRow, wordsOf, wordsAll}
@@ -85,6 +86,37 @@ pub record RecordLength (h : Header) (pending : List ℕ) (at n : ℕ) : Type 0 
   pub kind : 0 < n → getD pending at 0 ≤ 2
   pub none : Waiting (openingOf h) pending (h .pending) at [] → n ≡ 0
   pub next : (r : Staged) (rest : List Staged) → Waiting (openingOf h) pending (h .pending) at (r ∷ rest) → n ≡ wordsOf (openingOf h) r
+
+-- ---- records that a pass has no use for
+
+-- a record is of a kind
+abbrev pub ofKind : ℕ → Staged → Bool
+ofKind kind r = eqb (kindOf r) kind
+
+-- of these records, those from a place on are left, and none that is wanted was passed over
+pub record Left (h : Header) (pending : List ℕ) (wanted at : ℕ) (records : List Staged) : Type 0 where
+  pub left : List Staged
+  pub same : keep (ofKind wanted) records ≡ keep (ofKind wanted) left
+  pub waiting : Waiting (openingOf h) pending (h .pending) at left
+
+-- from one place to another only records of a kind are passed over, which have so many words each
+pub record RunPassed (h : Header) (pending : List ℕ) (from kind words at : ℕ) : Type 0 where
+  pub on : from ≤ at
+  pub inside : at ≤ h .pending
+  pub rest : ((r : Staged) → kindOf r ≡ kind → wordsOf (openingOf h) r ≡ words) → (wanted : ℕ) → (kind ≡ wanted → ⊥)
+      → (records : List Staged) → Waiting (openingOf h) pending (h .pending) from records → Left h pending wanted at records
+
+-- a record stands whole at a place
+pub record CanPass (h : Header) (pending : List ℕ) (at words : ℕ) : Type 0 where
+  pub here : RecordLength h pending at words
+  pub some : 0 < words
+  pub fits : h .pending ≤ length pending
+
+-- it is passed, with any that follow it and are not wanted
+pub record Passed (h : Header) (pending : List ℕ) (at words wanted next : ℕ) : Type 0 where
+  pub on : at + words ≤ next
+  pub inside : next ≤ h .pending
+  pub rest : (first : Staged) (rest : List Staged) → Waiting (openingOf h) pending (h .pending) at (first ∷ rest) → Left h pending wanted next rest
 
 -- the compact hash of a record's key
 unfoldable pub hashOf : ℕ → Staged → ℕ

@@ -1,8 +1,8 @@
--- `merge::passes::remove_all` meets its contract. The loop's invariant: the removals so far and those of the records still to
+-- `removals::remove_all` meets its contract. The loop's invariant: the removals so far and those of the records still to
 -- come are the removals of all records. Assumes nothing.
 use Prim.Native.Nat.{_-_}
 use native.Mathlib.Omega.{arith}
-use Rattle.removals.proofs.PassRemovals.{Removing, removing-begin, removing-long, removing-inside, removing-requires, removing-again, removing-end}
+use Rattle.removals.proofs.PassRemovals.{Removing, removing-begin, removing-long, removing-inside, removing-requires, removing-passes, removing-again, removing-end}
 use borrow.Author.Needs.{needs}
 use Rattle.removals.proofs.remove_all.Statement.{statement}
 use Rattle.removals.proofs.remove_all.Tie as tie
@@ -33,29 +33,33 @@ add-dead c =
     let v = l .before .loop .inv in
     omega (arith, p .dead-few, v .few, removing-long p v (l .loop-test .taken), removing-inside p v (l .loop-test .taken), c .before .before .before .before .remove-next .ensures .few)
 
-add-at : tie.Need-add-at Inv-loop μ-loop
-add-at c = omega (arith, c .before .before .before .before .before .before .before .before .loop .inv .here .fits)
-
-record-length-requires-2 : tie.Need-record-length-requires-2 Inv-loop μ-loop
-record-length-requires-2 c κs =
+next-record-requires : tie.Need-next-record-requires Inv-loop μ-loop
+next-record-requires c κs =
     let l = c .before .before .before .before .before .before .before in
     let p = l .before .before .before .before .before .before .pre in
     let v = l .before .loop .inv in
-    omega (arith, p .fits, removing-inside p v (l .loop-test .taken))
+    removing-passes p v (l .loop-test .taken)
+
+record-length-requires-2 : tie.Need-record-length-requires-2 Inv-loop μ-loop
+record-length-requires-2 c κs =
+    let l = c .before .before .before .before .before .before .before .before in
+    let p = l .before .before .before .before .before .before .pre in
+    omega (arith, p .fits, p .pending-fits, c .next-record .ensures .inside)
 
 loop-less : tie.Need-loop-less Inv-loop μ-loop
 loop-less c =
-    let l = c .before .before .before .before .before .before .before .before in
+    let l = c .before .before .before .before .before .before .before .before .before in
     let p = l .before .before .before .before .before .before .pre in
     let v = l .before .loop .inv in
-    omega (arith, removing-long p v (l .loop-test .taken), removing-inside p v (l .loop-test .taken))
+    let n = c .before .next-record .ensures in
+    omega (arith, removing-long p v (l .loop-test .taken), n .on, n .inside)
 
 loop-again : tie.Need-loop-again Inv-loop μ-loop
 loop-again c =
-    let l = c .before .before .before .before .before .before .before .before in
+    let l = c .before .before .before .before .before .before .before .before .before in
     let p = l .before .before .before .before .before .before .pre in
     let v = l .before .loop .inv in
-    removing-again p v (l .loop-test .taken) (c .before .before .before .before .before .remove-next .ensures) (c .record-length2 .ensures) (search needs) (search needs)
+    removing-again p v (l .loop-test .taken) (c .before .before .before .before .before .before .remove-next .ensures) (c .before .next-record .ensures) (c .record-length2 .ensures) (search needs) (search needs)
 
 same-length : tie.Need-same-length Inv-loop μ-loop
 same-length c = c .before .loop .inv .rows-same
@@ -76,7 +80,7 @@ remove-all-spec =
     loop-holds
     remove-next-requires
     add-dead
-    add-at
+    next-record-requires
     record-length-requires-2
     loop-less
     loop-again
