@@ -336,6 +336,46 @@ uint32_t mouldgrey_to_columns(uint32_t width, const uint32_t *cells, size_t cell
 uint32_t mouldgrey_from_columns(uint32_t width, const uint32_t *cells, size_t cells_len,
                                 uint32_t *output, size_t output_len);
 
+/*
+ * Lists, from the library exports_replay. A list of calls or of questions goes as words: for each a
+ * kind, a count and so many words. What is no call or no question is passed over; one that is cut
+ * off ends the list.
+ */
+
+/*
+ * Opens a table as mouldgrey_open_table does and makes the calls on it, in order, each lent the
+ * stores whole. Kinds: 0 stages an insert of its words, the cells; 1 a removal by key, its words; 2
+ * a removal by row, its words the row and then the key; 3 merges, 4 compacts, 5 clears. The next
+ * call is made also after one that is refused, which changes nothing, and after a merge that stops.
+ * header_len must be 12, else 1. Refuses as mouldgrey_open_table: 1, 2; no call is made then.
+ */
+uint32_t mouldgrey_replay(uint32_t columns, uint32_t key_columns, uint32_t sort, uint32_t rule,
+                          uint32_t capacity, uint32_t generation, uint32_t *header,
+                          size_t header_len, const uint32_t *calls, size_t calls_len,
+                          uint32_t *rows, size_t rows_len, uint32_t *keys, size_t keys_len,
+                          uint32_t *sorts, size_t sorts_len, uint32_t *pending, size_t pending_len,
+                          uint64_t *live, size_t live_len, uint32_t *base, size_t base_len);
+
+/*
+ * Puts the questions, in order, on a subset, each on the ids that the last accepted one left; one
+ * that is refused counts for nothing. Kinds: 0 refines by a condition, its words kind, column and
+ * value; 1 refines by a list of at most 16 conditions, of three words each; 2 intersects with the
+ * list of its words, 3 with the range of its two words, 4 with the range that mouldgrey_fast_subset
+ * answers for the condition of its three words, if it answers one. Each writes to the one of the
+ * lists first and second that the ids left do not lie in, to first where they lie in neither; where
+ * that is too short the question is refused. words, 6, the ids left: 1 if they are a range, and its
+ * start and end; else 0 and two words of no meaning; how many they are and which list they are the
+ * first ids of, 1 first, 2 second, or 0 and 0 if they are all of ids; and in the last word 1 if some
+ * accepted question refined. header_len must be 12, else 1; words_len 6, else 2; nothing is written
+ * then. Nothing else is refused.
+ */
+uint32_t mouldgrey_ask(const uint32_t *header, size_t header_len, const uint32_t *rows,
+                       size_t rows_len, const uint32_t *sorts, size_t sorts_len, bool dense,
+                       uint32_t start, uint32_t end, const uint32_t *ids, size_t ids_len,
+                       const uint32_t *questions, size_t questions_len, uint32_t *first,
+                       size_t first_len, uint32_t *second, size_t second_len, uint32_t *words,
+                       size_t words_len);
+
 #ifdef __cplusplus
 }
 #endif

@@ -4,11 +4,12 @@
 use std::env;
 use std::path::{Path, PathBuf};
 
-const LIBRARIES: [&str; 4] = [
+const LIBRARIES: [&str; 5] = [
     "exports",
     "exports_questions",
     "exports_lists",
     "exports_vault",
+    "exports_replay",
 ];
 
 fn folder() -> PathBuf {

@@ -8,7 +8,8 @@
 
 use crate::header::HEADER_WORDS;
 use crate::{
-    Constraint, Header, Merge, Opening, Page, Refusal, Stop, SubsetRef, Version, Written, raw,
+    Constraint, Header, Left, LeftIn, Merge, Opening, Page, Refusal, Stop, SubsetRef, Version,
+    Written, raw,
 };
 
 /// The words of a header to write to.
@@ -587,4 +588,97 @@ pub fn from_columns(width: u32, cells: &[u32], output: &mut [u32]) -> Result<(),
             output.len(),
         )
     })
+}
+
+/// Makes an empty table of the stores and makes the calls on it, in order, also after one that is refused. They go as words, each
+/// a kind, a count and so many words, as include/mouldgrey.h says. Refused by 1 and 2, as [`open_table`].
+#[allow(clippy::too_many_arguments)]
+pub fn replay(
+    opening: &Opening,
+    header: &mut Header,
+    calls: &[u32],
+    rows: &mut [u32],
+    keys: &mut [u32],
+    sorts: &mut [u32],
+    pending: &mut [u32],
+    live: &mut [u64],
+    base: &mut [u32],
+) -> Result<(), Refusal> {
+    verdict(unsafe {
+        raw::mouldgrey_replay(
+            opening.columns,
+            opening.keys,
+            opening.sort,
+            opening.rule,
+            opening.capacity,
+            opening.generation,
+            words_of(header),
+            HEADER_WORDS,
+            calls.as_ptr(),
+            calls.len(),
+            rows.as_mut_ptr(),
+            rows.len(),
+            keys.as_mut_ptr(),
+            keys.len(),
+            sorts.as_mut_ptr(),
+            sorts.len(),
+            pending.as_mut_ptr(),
+            pending.len(),
+            live.as_mut_ptr(),
+            live.len(),
+            base.as_mut_ptr(),
+            base.len(),
+        )
+    })
+}
+
+/// Puts the questions, in order, on a subset, each on the ids that the last accepted one left. They go as words, as those of
+/// [`replay`]. The ids left are a range, or the first ids of one of the two lent lists. Never refused; a question that is refused
+/// counts for nothing.
+pub fn ask(
+    header: &Header,
+    rows: &[u32],
+    sorts: &[u32],
+    subset: SubsetRef<'_>,
+    questions: &[u32],
+    first: &mut [u32],
+    second: &mut [u32],
+) -> Left {
+    let (dense, start, end, ids) = parts(subset);
+    let mut words = [0; 6];
+    let number = unsafe {
+        raw::mouldgrey_ask(
+            words_in(header),
+            HEADER_WORDS,
+            rows.as_ptr(),
+            rows.len(),
+            sorts.as_ptr(),
+            sorts.len(),
+            dense,
+            start,
+            end,
+            ids.as_ptr(),
+            ids.len(),
+            questions.as_ptr(),
+            questions.len(),
+            first.as_mut_ptr(),
+            first.len(),
+            second.as_mut_ptr(),
+            second.len(),
+            words.as_mut_ptr(),
+            words.len(),
+        )
+    };
+    debug_assert_eq!(number, 0, "twelve words and six are enough");
+    let [dense, start, end, count, place, refined] = words;
+    let ids = match (dense, place) {
+        (1, _) => LeftIn::Range(start, end),
+        (_, 1) => LeftIn::First(count as usize),
+        (_, 2) => LeftIn::Second(count as usize),
+        _ => LeftIn::Start,
+    };
+    Left {
+        ids,
+        refined: refined == 1,
+    }
 }

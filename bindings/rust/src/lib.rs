@@ -3,14 +3,15 @@
 //!
 //! - [`Table`] keeps its stores and is all that most callers need.
 //! - [`lent`] has the same calls over stores that the caller keeps, such as those of a mapped file.
+//! - [`lent::replay`] makes a list of calls, [`lent::ask`] puts a list of questions, each in one call of the library.
 //! - [`to_columns`] and [`from_columns`] put rows into column order, for the vault, and back.
 //! - [`raw`] has the C functions themselves.
 //!
 //! Calls that the library turns away answer a [`Refusal`] with the paper's number, and have changed nothing.
 //!
 //! The static libraries are looked for in target/staticlib of the repository, where `rt staticlib exports`, `rt staticlib
-//! exports_questions`, `rt staticlib exports_lists` and `rt staticlib exports_vault` leave them, or in the folder that the
-//! environment variable MOULDGREY_LIBRARIES names.
+//! exports_questions`, `rt staticlib exports_lists`, `rt staticlib exports_vault` and `rt staticlib exports_replay` leave them,
+//! or in the folder that the environment variable MOULDGREY_LIBRARIES names.
 
 mod header;
 pub mod lent;
@@ -24,6 +25,6 @@ mod vault;
 
 pub use header::{DEAD, Header, Lengths, Merge, Opening, Version};
 pub use refusal::{Refusal, Stop};
-pub use subset::{Constraint, Page, Subset, SubsetRef, Written};
+pub use subset::{Constraint, Left, LeftIn, Page, Subset, SubsetRef, Written};
 pub use table::{NoTable, Row, Rows, Stores, Table, intersect};
 pub use vault::{from_columns, to_columns};

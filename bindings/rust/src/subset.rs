@@ -116,3 +116,20 @@ impl Constraint {
         Constraint::new(5, column, value)
     }
 }
+
+/// Where the ids lie that a run of questions left: in a range; or in the starting list, all of it; or they are the first so many
+/// words of the first or the second lent list.
+#[derive(Clone, Copy, Debug, PartialEq, Eq)]
+pub enum LeftIn {
+    Range(u32, u32),
+    Start,
+    First(usize),
+    Second(usize),
+}
+
+/// The ids left by a run of questions, and whether some accepted question refined.
+#[derive(Clone, Copy, Debug, PartialEq, Eq)]
+pub struct Left {
+    pub ids: LeftIn,
+    pub refined: bool,
+}

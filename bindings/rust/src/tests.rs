@@ -415,3 +415,59 @@ fn column_order_and_back() {
     assert_eq!(lent::to_columns(2, &rows, &mut output), Ok(()));
     assert_eq!((&output[..6], &output[6..]), (&columns[..], &[1, 1][..]));
 }
+
+/// A kind, a count and so many words.
+fn item(words: &mut Vec<u32>, kind: u32, cells: &[u32]) {
+    words.extend([kind, cells.len() as u32]);
+    words.extend(cells);
+}
+
+#[test]
+fn lists_of_calls_and_of_questions() {
+    let table = twenty();
+    let stores = table.stores();
+    let mut calls = Vec::new();
+    for key in 0..20 {
+        item(&mut calls, 0, &[key, key % 3, key / 2]);
+    }
+    item(&mut calls, 3, &[]);
+    let lengths = stores.header.lengths();
+    let mut header = Header::default();
+    let mut rows = vec![0; lengths.rows];
+    let mut sorts = vec![0; lengths.sorts];
+    lent::replay(
+        &OPENING,
+        &mut header,
+        &calls,
+        &mut rows,
+        &mut vec![0; lengths.keys],
+        &mut sorts,
+        &mut [0; 200],
+        &mut vec![0; lengths.live],
+        &mut vec![0; lengths.base],
+    )
+    .expect("a list of calls");
+    assert_eq!(header, stores.header);
+    assert_eq!((&rows, &sorts), (&stores.rows, &stores.sorts));
+
+    // Rows 4 to 13 by their sort values, the keys of them that are 1 modulo 3, and of these the ids 7 and 10.
+    let mut questions = Vec::new();
+    item(&mut questions, 4, &[5, 2, 2]);
+    item(&mut questions, 1, &[4, 2, 6, 1, 1, 1]);
+    item(&mut questions, 2, &[7, 8, 10]);
+    let (mut first, mut second) = ([0; 20], [0; 20]);
+    let left = lent::ask(
+        &header,
+        &rows,
+        &sorts,
+        SubsetRef::Range(0, 20),
+        &questions,
+        &mut first,
+        &mut second,
+    );
+    let expected = Left {
+        ids: LeftIn::Second(2),
+        refined: true,
+    };
+    assert_eq!((left, &second[..2]), (expected, &[7, 10][..]));
+}

@@ -143,6 +143,7 @@ fn shipped() -> Vec<Exported> {
     functions.extend(exported("crates/exports_questions/src/lib.rt"));
     functions.extend(exported("crates/exports_lists/src/lib.rt"));
     functions.extend(exported("crates/exports_vault/src/lib.rt"));
+    functions.extend(exported("crates/exports_replay/src/lib.rt"));
     functions
 }
 

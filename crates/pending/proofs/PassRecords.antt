@@ -11,7 +11,7 @@ use Rattle.lists.specs.Lists.{keep}
 use Rattle.plain.specs.Staged.{Staged, insert, removeKey, removeRow, wordsOf, wordsAll}
 use Rattle.table.specs.declared.Header.{Header}
 use Rattle.table.specs.Numbers.{openingOf}
-use Rattle.pending.specs.inner.Becoming.{Waiting, kindOf, RecordLength, ofKind, Left, RunPassed, CanPass, Passed}
+use Rattle.pending.specs.inner.Becoming.{Waiting, kindOf, RecordLength, ofKind, Left, RunPassed, CanPass, NextRecord}
 use Rattle.pending.specs.Laws.Steps.{words-some, waiting-inside, waiting-kind, waiting-next}
 
 most-kind : (r : Staged) → kindOf r ≤ 2
@@ -139,7 +139,7 @@ module _ {h : Header} {pending : List ℕ} {at words : ℕ} (a : CanPass h pendi
   same-words (removeRow row key) e = sym (a .here .of-row (a .some) (sym e))
 
   -- it is wanted itself
-  pub passed-one : {wanted : ℕ} → Passed h pending at words wanted (at + words)
+  pub passed-one : {wanted : ℕ} → NextRecord h pending at words wanted (at + words)
   passed-one =
       record {
         on = omega arith;
@@ -148,7 +148,7 @@ module _ {h : Header} {pending : List ℕ} {at words : ℕ} (a : CanPass h pendi
       }
 
   -- it is not
-  pub passed-run : {wanted next : ℕ} → (getD pending at 0 ≡ wanted → ⊥) → RunPassed h pending (at + words) (getD pending at 0) words next → Passed h pending at words wanted next
+  pub passed-run : {wanted next : ℕ} → (getD pending at 0 ≡ wanted → ⊥) → RunPassed h pending (at + words) (getD pending at 0) words next → NextRecord h pending at words wanted next
   passed-run {wanted} ne v =
       record {
         on = v .on;

@@ -2,7 +2,7 @@
 // length are tested before it is read.
 ghost use Prim.Native.Nat.{_≤_, _<_};
 ghost use lib.ListN.{length};
-ghost use Rattle.pending.specs.inner.Becoming.{RecordLength, RunPassed, CanPass, Passed};
+ghost use Rattle.pending.specs.inner.Becoming.{RecordLength, RunPassed, CanPass, NextRecord};
 use table::Header;
 use table::INSERT;
 use table::REMOVE_ROW;
@@ -48,7 +48,7 @@ fn after_run(h: Header, pending: &[u32], from: u32, kind: u32, words: u32) -> u3
 // behind all of its kind that follow it.
 pub fn next_record(h: Header, pending: &[u32], at: u32, words: u32, wanted: u32) -> u32
     requires { ⌜ CanPass h (now pending) at words ⌝ }
-    ensures { λ r. ⌜ Passed h (now (pending .entry)) at words wanted r ⌝ }
+    ensures { λ r. ⌜ NextRecord h (now (pending .entry)) at words wanted r ⌝ }
 {
     let kind = pending[at as usize];
     let next = at + words;

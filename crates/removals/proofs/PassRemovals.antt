@@ -20,7 +20,7 @@ use Rattle.table.specs.declared.Header.{Header}
 use Rattle.table.specs.Numbers.{openingOf}
 use Rattle.table.specs.Sound.{keyedOf}
 use Rattle.table.specs.Promises.{Stores, stores, Represents, SlotsPast}
-use Rattle.pending.specs.inner.Becoming.{Becomes, withDead, Waiting, kindOf, RecordLength, ofKind, Left, CanPass, Passed}
+use Rattle.pending.specs.inner.Becoming.{Becomes, withDead, Waiting, kindOf, RecordLength, ofKind, Left, CanPass, NextRecord}
 use Rattle.removals.specs.inner.Removals.{removed, removedAll, died, Removal, RemovalAt, Removed, Removable, Removals, RemovalNext, RemovedNext}
 use Rattle.pending.specs.Laws.Steps.{steps-refl, steps-then, waiting-start, words-some, waiting-kind, waiting-hash, waiting-key, waiting-row, waiting-row-key}
 use Rattle.pending.proofs.PassRecords.{Next, record-long}
@@ -178,7 +178,7 @@ module _ {h : Header} {rows keys pending : List ℕ} {kind : ℕ} (a : Removable
       removing-passes = record { here = v .here; some = omega arith; fits = a .pending-fits }
 
       -- once more
-      pub removing-again : {r : ℕ} {rows″ keys″ : List ℕ} {at′ words′ : ℕ} → RemovedNext h rows′ keys′ pending at kind r rows″ keys″ → Passed h pending at words kind at′
+      pub removing-again : {r : ℕ} {rows″ keys″ : List ℕ} {at′ words′ : ℕ} → RemovedNext h rows′ keys′ pending at kind r rows″ keys″ → NextRecord h pending at words kind at′
           → RecordLength h pending at′ words′ → length rows″ ≡ length rows′ → length keys″ ≡ length keys′
           → Removing h rows keys pending kind rows″ keys″ (dead + r) at′ words′
       removing-again {r} {rows″} {keys″} {at′} one passes l same-rows same-keys =

@@ -12,6 +12,7 @@ mod known;
 mod lists;
 mod questions;
 mod record;
+mod replays;
 mod run;
 mod short;
 mod shrink;
@@ -29,6 +30,7 @@ usage: oracle                   the gate's run: all short histories, many by cha
        oracle run COUNT [SEED]  any number of histories by chance
        oracle proved COUNT SEED the same for the proved table beside the plain one
        oracle full              histories of the largest tables, for the Rust and the proved table
+       oracle lists N SEED      lists of calls and of questions, each by one call of the proved library
        oracle batches N SEED    so many batches of inserts, each cut at every place
        oracle hostile           the gate's calls on stores that nobody made, a part of its run
        oracle hostile N SEED    at least N calls of all C functions on stores that nobody made
@@ -78,6 +80,7 @@ fn command(arguments: &[&str]) -> Result<(), String> {
         ["run", count] => run::run(&RUST, number(count)?, 0),
         ["run", count, seed] => run::run(&RUST, number(count)?, number(seed)?),
         ["proved", count, seed] => run::run(&PROVED, number(count)?, number(seed)?),
+        ["lists", count, seed] => print(replays::run(number(count)?, number(seed)?)?),
         ["full"] => {
             run::full(&RUST)?;
             run::full(&PROVED)
@@ -102,6 +105,10 @@ fn gate() -> Result<(), String> {
     run::gate(&RUST)?;
     println!("the proved library and the plain table:");
     println!("  {}", run::gate_proved(&PROVED)?);
+    println!(
+        "lists of calls and of questions, each by one call of the proved library, and the plain table:"
+    );
+    print(replays::gate()?)?;
     println!("batches of inserts cut anywhere:");
     println!("  {}", batches::gate(BATCHES, BATCH_SEED)?);
     println!("the proved library and the Rust:");

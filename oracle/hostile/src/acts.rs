@@ -30,7 +30,7 @@ pub fn good_opening(rng: &mut Rng) -> Opening {
 }
 
 /// An opening's numbers, one of them anything now and then.
-fn opening(rng: &mut Rng, image: &Image) -> Opening {
+pub fn opening(rng: &mut Rng, image: &Image) -> Opening {
     let h = image.numbers();
     // Of a table that the stores at hand are long enough for, mostly.
     let mut o = match rng.percent(60) {
@@ -128,7 +128,7 @@ fn ids(rng: &mut Rng, bound: u32) -> Vec<u32> {
         .collect()
 }
 
-fn subset(rng: &mut Rng, image: &Image) -> Subset {
+pub fn subset(rng: &mut Rng, image: &Image) -> Subset {
     let rows = image.numbers().rows;
     if rng.percent(50) {
         let end = rng.below(rows.saturating_add(1));

@@ -22,7 +22,7 @@ pub fn calls(session: &mut Session, rng: &mut Rng) -> Result<(), String> {
 }
 
 /// Stores of no meaning, of which slots and entries nearly have some.
-fn stores(rng: &mut Rng) -> Image {
+pub fn stores(rng: &mut Rng) -> Image {
     let opening = good_opening(rng);
     let rows = rng.below(opening.capacity + 1);
     let h = Header {

@@ -7,7 +7,7 @@ use std::collections::BTreeMap;
 /// not fit".
 type Kind = (&'static str, &'static [usize]);
 
-pub const SHIPPED: [Kind; 21] = [
+pub const SHIPPED: [Kind; 23] = [
     ("mouldgrey_open_table", &[1, 2]),
     ("mouldgrey_stage_insert", &[1, 3, 7]),
     ("mouldgrey_stage_remove", &[1, 3, 7]),
@@ -29,6 +29,8 @@ pub const SHIPPED: [Kind; 21] = [
     ("mouldgrey_intersect", &[2, 4]),
     ("mouldgrey_to_columns", &[1, 2, 13]),
     ("mouldgrey_from_columns", &[1, 2, 13]),
+    ("mouldgrey_replay", &[1, 2]),
+    ("mouldgrey_ask", &[1, 2]),
 ];
 
 pub const PROBES: [Kind; 17] = [

@@ -113,7 +113,7 @@ pub record CanPass (h : Header) (pending : List ℕ) (at words : ℕ) : Type 0 w
   pub fits : h .pending ≤ length pending
 
 -- it is passed, with any that follow it and are not wanted
-pub record Passed (h : Header) (pending : List ℕ) (at words wanted next : ℕ) : Type 0 where
+pub record NextRecord (h : Header) (pending : List ℕ) (at words wanted next : ℕ) : Type 0 where
   pub on : at + words ≤ next
   pub inside : next ≤ h .pending
   pub rest : (first : Staged) (rest : List Staged) → Waiting (openingOf h) pending (h .pending) at (first ∷ rest) → Left h pending wanted next rest

@@ -1,0 +1,233 @@
+//! Lists of calls and of questions on any numbers and stores, their words anything too. What an accepted opening and the calls
+//! behind it leave is compared whole with the plain table, since it is promised whatever the stores held.
+
+use crate::acts::{opening, subset};
+use crate::image::{Image, hostile_number};
+use crate::parts;
+use crate::session::{Session, Slot};
+use crate::watch;
+use calls::{Answer, Call, HEADER_WORDS, Judge, Subset};
+use chance::Rng;
+use mouldgrey::raw;
+use plain::Plain;
+
+pub fn calls(session: &mut Session, rng: &mut Rng) -> Result<(), String> {
+    let image = parts::stores(rng);
+    for _ in 0..rng.within(4, 12) {
+        let mut image = image.clone();
+        match rng.below(30) {
+            0 => image.header.truncate(HEADER_WORDS - 1),
+            1 => image.header.push(3),
+            _ => {}
+        }
+        let told = |why: String| format!("{why}\n  at {}", watch::place());
+        match rng.percent(50) {
+            true => replay(session, rng, &image).map_err(told)?,
+            false => ask(session, rng, &image).map_err(told)?,
+        }
+    }
+    Ok(())
+}
+
+/// Words of frames, mostly whole.
+fn words(rng: &mut Rng, image: &Image, kinds: u32, cells: &[usize]) -> Vec<u32> {
+    let mut words = Vec::new();
+    for _ in 0..rng.below(12) {
+        let kind = match rng.percent(95) {
+            true => rng.below(kinds + 1),
+            false => hostile_number(rng, &image.header),
+        };
+        let count = match rng.percent(80) {
+            true => cells.get(kind as usize).copied().unwrap_or(0),
+            false => rng.place(6),
+        };
+        words.extend([kind, count as u32]);
+        for _ in 0..count {
+            words.push(match rng.percent(70) {
+                true => rng.below(6),
+                false => hostile_number(rng, &image.header),
+            });
+        }
+    }
+    if rng.percent(15) {
+        words.truncate(rng.place(words.len() + 1));
+    }
+    if rng.percent(5) && !words.is_empty() {
+        let place = rng.place(words.len());
+        words[place] = hostile_number(rng, &image.header);
+    }
+    words
+}
+
+/// The calls that the words tell, as include/mouldgrey.h says.
+fn told(mut words: &[u32]) -> Vec<Call> {
+    let mut calls = Vec::new();
+    while let [kind, count, rest @ ..] = words {
+        let Some((cells, behind)) = rest.split_at_checked(*count as usize) else {
+            break;
+        };
+        match (kind, cells) {
+            (0, _) => calls.push(Call::Insert(cells.to_vec())),
+            (1, _) => calls.push(Call::RemoveKey(cells.to_vec())),
+            (2, [row, key @ ..]) => calls.push(Call::RemoveRow(*row, key.to_vec())),
+            (3, _) => calls.push(Call::Merge),
+            (4, _) => calls.push(Call::Compact),
+            (5, _) => calls.push(Call::Clear),
+            _ => {}
+        }
+        words = behind;
+    }
+    calls
+}
+
+fn replay(session: &mut Session, rng: &mut Rng, image: &Image) -> Result<(), String> {
+    const NAME: &str = "mouldgrey_replay";
+    let o = opening(rng, image);
+    let (columns, keys) = (o.columns.min(9) as usize, o.keys.min(9) as usize);
+    let list = words(rng, image, 6, &[columns, keys, keys + 1]);
+    let mut plain = Plain::new();
+    let lent = image.lengths();
+    let expected = match plain.call(&lent, &Call::Open(o)) {
+        _ if image.header.len() != HEADER_WORDS => 1,
+        Answer::Refused(number) => number,
+        _ => 0,
+    };
+    watch::call(NAME);
+    let header = session.write(rng, Slot::Header, &image.header);
+    let calls = session.read(rng, Slot::Cells, &list);
+    let rows = session.write(rng, Slot::Rows, &image.rows);
+    let keys = session.write(rng, Slot::Keys, &image.keys);
+    let sorts = session.write(rng, Slot::Sorts, &image.sorts);
+    let pending = session.write(rng, Slot::Pending, &image.pending);
+    let live = session.write(rng, Slot::Live, &image.live);
+    let base = session.write(rng, Slot::Base, &image.base);
+    // SAFETY: each pointer goes with the length of what was lent, which lies in an area of its own.
+    let number = unsafe {
+        raw::mouldgrey_replay(
+            o.columns,
+            o.keys,
+            o.sort,
+            o.rule,
+            o.capacity,
+            o.generation,
+            header.0,
+            header.1,
+            calls.0,
+            calls.1,
+            rows.0,
+            rows.1,
+            keys.0,
+            keys.1,
+            sorts.0,
+            sorts.1,
+            pending.0,
+            pending.1,
+            live.0.cast(),
+            live.1 / 2,
+            base.0,
+            base.1,
+        )
+    };
+    if number != expected {
+        return Err(format!("{NAME} gives {number}, not {expected}"));
+    }
+    if number == 0 {
+        for call in told(&list) {
+            plain.call(&lent, &call);
+        }
+        same(session, image, &plain)?;
+        session.report.compared += 1;
+    }
+    session.close(NAME, number)
+}
+
+/// Header, rows, sort entries and pending are the plain table's, and past what it wrote as they were.
+fn same(session: &Session, before: &Image, plain: &Plain) -> Result<(), String> {
+    let expected = plain.expected();
+    if session.left(Slot::Header) != Some(&expected.header.words()[..]) {
+        return Err(format!(
+            "mouldgrey_replay: header, not {:?}",
+            expected.header
+        ));
+    }
+    for (slot, was, cells) in [
+        (Slot::Rows, &before.rows, expected.rows),
+        (Slot::Sorts, &before.sorts, expected.sorts),
+        (Slot::Pending, &before.pending, expected.pending),
+    ] {
+        let is = session.left(slot).unwrap_or(&[]);
+        if is.get(..cells.len()) != Some(cells) || is[cells.len()..] != was[cells.len()..] {
+            return Err(format!("mouldgrey_replay: cells of {slot:?}"));
+        }
+    }
+    Ok(())
+}
+
+fn ask(session: &mut Session, rng: &mut Rng, image: &Image) -> Result<(), String> {
+    const NAME: &str = "mouldgrey_ask";
+    let conditions = 3 * rng.pick(&[0, 1, 2, 3, 16, 17]);
+    let list = words(rng, image, 5, &[3, conditions, 4, 2, 3]);
+    let subset = subset(rng, image);
+    let count = if rng.percent(5) { rng.place(9) } else { 6 };
+    let expected = match (image.header.len(), count) {
+        (HEADER_WORDS, 6) => 0,
+        (HEADER_WORDS, _) => 2,
+        _ => 1,
+    };
+    watch::call(NAME);
+    let header = session.read(rng, Slot::Header, &image.header);
+    let rows = session.read(rng, Slot::Rows, &image.rows);
+    let sorts = session.read(rng, Slot::Sorts, &image.sorts);
+    let (dense, start, end, ids) = match &subset {
+        Subset::Range(start, end) => (true, *start, *end, &[][..]),
+        Subset::List(ids) => (false, 0, 0, ids.as_slice()),
+    };
+    let ids = session.read(rng, Slot::Ids, ids);
+    let questions = session.read(rng, Slot::Cells, &list);
+    let lengths = [rng.place(300), rng.place(300)];
+    let first = session.write(rng, Slot::Output, &vec![7; lengths[0]]);
+    let second = session.write(rng, Slot::OtherIds, &vec![7; lengths[1]]);
+    let words = session.write(rng, Slot::Words, &vec![7; count]);
+    // SAFETY: as above.
+    let number = unsafe {
+        raw::mouldgrey_ask(
+            header.0,
+            header.1,
+            rows.0,
+            rows.1,
+            sorts.0,
+            sorts.1,
+            dense,
+            start,
+            end,
+            ids.0,
+            ids.1,
+            questions.0,
+            questions.1,
+            first.0,
+            first.1,
+            second.0,
+            second.1,
+            words.0,
+            words.1,
+        )
+    };
+    if number != expected {
+        return Err(format!("{NAME} gives {number}, not {expected}"));
+    }
+    if number == 0 {
+        let left = session.left(Slot::Words).unwrap_or(&[]);
+        let fits = match left {
+            [1, _, _, 0, 0, 0 | 1] => true,
+            [0, 0, 0, count, 1, 0 | 1] => *count as usize <= lengths[0],
+            [0, 0, 0, count, 2, 0 | 1] => *count as usize <= lengths[1],
+            // Nothing was accepted: the starting list.
+            [0, _, _, 0, 0, 0] => !dense,
+            _ => false,
+        };
+        if !fits {
+            return Err(format!("{NAME} leaves {left:?}"));
+        }
+    }
+    session.close(NAME, number)
+}
