@@ -3,7 +3,7 @@
 
 use crate::offsets::size;
 use crate::report::Report;
-use calls::{Call, Condition, Judge, Subset};
+use calls::{Call, Condition, Subset};
 use chance::Rng;
 use mouldgrey::{Constraint, Opening, SubsetRef, Table, lent};
 use proved_table::{borrowed, constraint};
@@ -288,17 +288,24 @@ fn walks(report: &mut Report, both: &Both) {
         || lent::contains_match(&s.header, &s.rows, range, &none).expect("a fit question"),
         || both.theirs.contains_match(&same, &nowhere),
     );
-    let mut ids = Vec::with_capacity(60_000);
+    let mut ids = Vec::with_capacity(1_000);
+    let places = || (0..60).map(|page| 1_000 * page);
     report.compare(
-        "page of 1,000: half by chance written",
-        1,
+        "pages of 1,000 through 60,000: half by chance written, each page",
+        60,
         || {
-            let page = lent::read_page(&s.header, &s.rows, range, 500, 1_000, &ours, &mut output);
-            page.expect("a fit question").next
+            places()
+                .map(|at| lent::read_page(&s.header, &s.rows, range, at, 1_000, &ours, &mut output))
+                .map(|page| page.expect("a fit question").written)
+                .sum::<usize>()
         },
         || {
-            ids.clear();
-            both.theirs.page(&same, 500, 1_000, &conditions, &mut ids)
+            let mut page = |at: u32| {
+                ids.clear();
+                both.theirs.page(&same, at, 1_000, &conditions, &mut ids);
+                ids.len()
+            };
+            places().map(&mut page).sum::<usize>()
         },
     );
 }
