@@ -84,7 +84,7 @@ pub extern "C" fn mouldgrey_ask(
     second: &mut [u32],
     words: &mut [u32],
 ) -> u32
-    ensures { λ r. ⌜ QuestionInWords (λ answer. RunMade (headerIn (now (header .entry))) (now (rows .entry)) (now (sorts .entry)) (subsetOf (record { dense = dense; start = start; end = end }) (now (ids .entry))) (questionsIn (now (questions .entry))) (subsetLeft answer (now (ids .entry)) (now (first .exit)) (now (second .exit))) (answer .refined)) leftNumber leftWords 6 (now (header .entry)) (now (words .entry)) r (now (words .exit)) × (((length (now (header .entry)) ≡ 12) × (length (now (words .entry)) ≡ 6) → ⊥) → (now (first .exit) ≡ now (first .entry)) × (now (second .exit) ≡ now (second .entry))) ⌝ }
+    ensures { λ r. ⌜ QuestionInWords (λ answer. RunMade (headerIn (now (header .entry))) (now (rows .entry)) (now (sorts .entry)) (length (now (first .entry))) (length (now (second .entry))) (subsetOf (record { dense = dense; start = start; end = end }) (now (ids .entry))) (questionsIn (now (questions .entry))) (subsetLeft answer (now (ids .entry)) (now (first .exit)) (now (second .exit))) (answer .refined)) leftNumber leftWords 6 (now (header .entry)) (now (words .entry)) r (now (words .exit)) × (((length (now (header .entry)) ≡ 12) × (length (now (words .entry)) ≡ 6) → ⊥) → (now (first .exit) ≡ now (first .entry)) × (now (second .exit) ≡ now (second .entry))) ⌝ }
 {
     if header.len() != 12 {
         return 1;

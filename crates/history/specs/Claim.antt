@@ -32,8 +32,8 @@ pub record Claimed (o : Opening) (generation : ℕ) (calls : List LentCall) (s :
   pub live-rows : liveIn s ≡ liveRows (afterAll (opened o generation) calls)
   -- "If some accepted step refines, the ids left .. are exactly the live rows of the starting subset that ..", "rising,
   -- each once"
-  pub ids-left : (start : Subset) (questions : List Question) (end : Subset) (g : Gathered) → Run s start questions end g
-      → g .refined ≡ true → (members end ≡ keep (wanted s g) (members start)) × (rising (members end) ≡ true)
+  pub ids-left : (fit : ℕ → Bool) (start : Subset) (questions : List Question) (end : Subset) (g : Gathered)
+      → Run s fit start questions end g → g .refined ≡ true → (members end ≡ keep (wanted s g) (members start)) × (rising (members end) ≡ true)
 
 abbrev pub Claim : Type 0
 Claim = (o : Opening) (generation : ℕ) (calls : List LentCall) (s : Stores) → History o generation calls s → Claimed o generation calls s

@@ -1,5 +1,5 @@
--- Change 9, "Flash wears by rows rewritten": what the calls of a history kept and dropped, by their answers, beside the rows
--- appended. Assumes nothing.
+-- Change 9, "Flash wears by rows rewritten": what the calls of a history kept and dropped, beside the rows appended: merges by
+-- their answers, the caller's compactions and clears by the header that they found. Assumes nothing.
 use Prim.Native.Nat.{ℕ, _+_, _≤_}
 use mathlib.Core.Path.{_≡_}
 use mathlib.Core.Bool.{cond}

@@ -61,30 +61,30 @@ Intersected a b output answer output′ =
     Answered (intersectReply a b (length output)) output answer output′
     ⊎ Answered (intersectReply b a (length output)) output answer output′
 
--- one question on a table, on the ids that are left, each with an output of its own. A range step gathers its condition, not
--- the range: the ids left are to meet it as if it had been refined by. "where [the fast range] is *none*, the
--- step and its condition count for nothing", as where it is refused
-pub data Asked (s : Stores) (a : Subset) : Question → Subset → Gathered → Type 0 where
+-- one question on a table, on the ids that are left, each with an output of its own, of a length that `fit` lets through. A range
+-- step gathers its condition, not the range: the ids left are to meet it as if it had been refined by. "where [the fast range] is
+-- *none*, the step and its condition count for nothing", as where it is refused
+pub data Asked (s : Stores) (fit : ℕ → Bool) (a : Subset) : Question → Subset → Gathered → Type 0 where
   one-refined : (c : Constraint) (output output′ : List ℕ) (answer : SubsetAnswer)
-      → RefinedOne (s .header) (s .rows) a c output answer output′
-      → Asked s a (refineOne c) (left a (readOff answer output′)) (gathered (readOff answer output′) (byRefining (c ∷ [])))
+      → fit (length output) ≡ true → RefinedOne (s .header) (s .rows) a c output answer output′
+      → Asked s fit a (refineOne c) (left a (readOff answer output′)) (gathered (readOff answer output′) (byRefining (c ∷ [])))
   list-refined : (cs : List Constraint) (output output′ : List ℕ) (answer : SubsetAnswer)
-      → RefinedList (s .header) (s .rows) a cs output answer output′
-      → Asked s a (refineList cs) (left a (readOff answer output′)) (gathered (readOff answer output′) (byRefining cs))
+      → fit (length output) ≡ true → RefinedList (s .header) (s .rows) a cs output answer output′
+      → Asked s fit a (refineList cs) (left a (readOff answer output′)) (gathered (readOff answer output′) (byRefining cs))
   intersected : (b : Subset) (output output′ : List ℕ) (answer : SubsetAnswer)
-      → Intersected a b output answer output′
-      → Asked s a (intersectWith b) (left a (readOff answer output′)) (gathered (readOff answer output′) (bySubset b))
+      → fit (length output) ≡ true → Intersected a b output answer output′
+      → Asked s fit a (intersectWith b) (left a (readOff answer output′)) (gathered (readOff answer output′) (bySubset b))
   range-intersected : (b : Subset) (c : Constraint) (range : RangeAnswer) (output output′ : List ℕ) (answer : SubsetAnswer)
       → RangeRead (s .header) (s .sorts) c range → rangeSays range ≡ accepted (some b)
-      → Intersected a b output answer output′
-      → Asked s a (intersectRange c) (left a (readOff answer output′)) (gathered (readOff answer output′) (byRange c))
+      → fit (length output) ≡ true → Intersected a b output answer output′
+      → Asked s fit a (intersectRange c) (left a (readOff answer output′)) (gathered (readOff answer output′) (byRange c))
   range-nothing : (c : Constraint) (range : RangeAnswer)
       → RangeRead (s .header) (s .sorts) c range → ((b : Subset) → rangeSays range ≡ accepted (some b) → ⊥)
-      → Asked s a (intersectRange c) a nothing
+      → Asked s fit a (intersectRange c) a nothing
 
 -- the questions one after another; each may be put on any subset that has the ids left, a range or a list: a caller may copy
 -- the ids of one form into the other
-pub data Run (s : Stores) : Subset → List Question → Subset → Gathered → Type 0 where
-  end : (a : Subset) → Run s a [] a nothing
+pub data Run (s : Stores) (fit : ℕ → Bool) : Subset → List Question → Subset → Gathered → Type 0 where
+  end : (a : Subset) → Run s fit a [] a nothing
   next : {a b b′ c : Subset} {q : Question} {qs : List Question} {g h : Gathered}
-      → Asked s a q b g → members b′ ≡ members b → Run s b′ qs c h → Run s a (q ∷ qs) c (together g h)
+      → Asked s fit a q b g → members b′ ≡ members b → Run s fit b′ qs c h → Run s fit a (q ∷ qs) c (together g h)

@@ -1,4 +1,4 @@
--- What is true of every plain table that calls lead to from an opening. Assumes nothing.
+-- What is true of every plain table that calls lead to from an opening whose generation is a u32. Assumes nothing.
 use Prim.Native.Nat.{ℕ, _≤_, _<_}
 use mathlib.Core.Path.{_≡_}
 use mathlib.Core.Bool.{Bool, true, false, not, _||_}

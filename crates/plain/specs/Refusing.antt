@@ -49,11 +49,11 @@ openRefusal o l = first (rung (not (openable o)) 1 ∷ rung (storesShort o l) 2 
 
 -- *Stage*: 1, 3, 5, 7
 unfoldable pub stageLadder : Bool → Opening → ℕ → ℕ → ℕ → Staged → ℕ
-stageLadder outside o rows used pending r =
+stageLadder outside o count used pending r =
     first
     (rung outside 1
     ∷ rung (wrongWidth o r) 3
-    ∷ rung (noSuchRow rows r) 5
+    ∷ rung (noSuchRow count r) 5
     ∷ rung (overfull used pending (wordsOf o r)) 7
     ∷ [])
 

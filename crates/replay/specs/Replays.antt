@@ -9,9 +9,10 @@ use Rattle.plain.specs.Refusing.{Lengths, openRefusal}
 use Rattle.plain.specs.Calls.{Call, staging, merging, compacting, clearing, LentCall}
 use Rattle.table.specs.declared.Header.{Header}
 use Rattle.table.specs.declared.TableAnswer.{TableAnswer}
+use Rattle.table.specs.declared.TableAnswer.the-variants.{Table}
 use Rattle.table.specs.Numbers.{tableSays}
-use Rattle.table.specs.Promises.{Body, joined, CompactionWords, lengths}
-use Rattle.history.specs.Histories.{History}
+use Rattle.table.specs.Promises.{Stores, Body, stores, joined, CompactionWords, lengths, Opened}
+use Rattle.history.specs.Histories.{Steps}
 use Rattle.history.specs.Claim.{Claimed}
 
 -- the compaction words go to a merge and a compaction alone
@@ -31,15 +32,23 @@ lentTo l c = record { call = c; lengths = lengthsFor l c }
 abbrev pub lentAll : Lengths → List Call → List LentCall
 lentAll l calls = map (lentTo l) calls
 
-module _ (o : Opening) (generation : ℕ) (calls : List Call) (b : Body) (pending : List ℕ) (w : CompactionWords) (answer : TableAnswer)
-    (b′ : Body) (pending′ : List ℕ) (w′ : CompactionWords) where
-  abbrev pub made : List LentCall
-  made = lentAll (lengths (b .rows) (b .keys) (b .sorts) pending (w .live) (w .base)) calls
+-- the calls, each lent the stores whole
+abbrev pub callsLent : List Call → Body → List ℕ → CompactionWords → List LentCall
+callsLent calls b pending w = lentAll (lengths (b .rows) (b .keys) (b .sorts) pending (w .live) (w .base)) calls
 
-  pub record Replayed : Type 0 where
+module _ (o : Opening) (generation : ℕ) (calls : List Call) (b : Body) (pending : List ℕ) (w : CompactionWords) where
+  -- an accepted opening on these very stores, and the calls from there on
+  pub record MadeFrom (s : Stores) : Type 0 where
+    pub header : Header
+    pub keys : List ℕ
+    pub opened : Opened o generation b pending (Table header) keys
+    pub steps : Steps (stores header (b .rows) keys (b .sorts) pending) (callsLent calls b pending w) s
+
+  pub record Replayed (answer : TableAnswer) (b′ : Body) (pending′ : List ℕ) (w′ : CompactionWords) : Type 0 where
     -- where the opening is refused, no call is made and nothing changes
     pub refusal : verdict (tableSays answer) ≡ reply (openRefusal o (lengths (b .rows) (b .keys) (b .sorts) pending [] [])) tt
     pub unchanged : 0 < openRefusal o (lengths (b .rows) (b .keys) (b .sorts) pending [] []) → (b′ ≡ b) × (pending′ ≡ pending) × (w′ ≡ w)
-    -- else they are made, and "the live rows, numbers and cells, are those of document 01's plain table after the same calls"
-    pub history : (h : Header) → tableSays answer ≡ accepted h → History o generation made (joined h b′ pending′)
-    pub claimed : (h : Header) → tableSays answer ≡ accepted h → Claimed o generation made (joined h b′ pending′)
+    -- else they are made, and "the live rows, numbers and cells, are those of document 01's plain table after the same calls". Of
+    -- compaction words nothing is promised then
+    pub calls-made : (h : Header) → tableSays answer ≡ accepted h → MadeFrom (joined h b′ pending′)
+    pub claimed : (h : Header) → tableSays answer ≡ accepted h → Claimed o generation (callsLent calls b pending w) (joined h b′ pending′)

@@ -29,7 +29,7 @@ use Rattle.history.specs.Runs.{Question, Gathered, nothing, together, Run, end}
 use Rattle.history.specs.Laws.Theorem.{term-three}
 use Rattle.runs.specs.declared.Left.{Left}
 use Rattle.runs.specs.Encoding.{questionOf, questionsIn}
-use Rattle.runs.specs.Asking.{subsetLeft, RunMade}
+use Rattle.runs.specs.Asking.{subsetLeft, oneOf, RunMade}
 use Rattle.runs.specs.inner.Asking.{Put, ListPut, RangePut, leftBy, Held, Turned}
 use Rattle.runs.specs.Laws.Encoding.{list-whole, list-cut, list-long, ask-one, ask-list, ask-ids, ask-ends, ask-range, no-one, no-ends, no-range, no-kind}
 use Rattle.runs.specs.Laws.Asking.{put-nothing, put-no-range, put-refined, put-refined-list, put-intersected, put-ranged, turned, into-second, into-first, into-first-too, headOf, lent-first, lent-second, lent-neither, together-assoc, together-nothing, run-then}
@@ -161,8 +161,9 @@ pub record Going (h : Header) (rows sorts ids words first₀ second₀ : List �
   pub held : Held l (length first) (length second)
   pub gathered : Gathered
   pub told : l .refined ≡ gathered .refined
-  pub rest : (keys pending : List ℕ) (last : Subset) (g : Gathered) → Run (stores h rows keys sorts pending) (subsetLeft l ids first second) (questionsIn (drop at words)) last g
-      → Run (stores h rows keys sorts pending) (subsetLeft l₀ ids first₀ second₀) (questionsIn words) last (together gathered g)
+  pub rest : (keys pending : List ℕ) (last : Subset) (g : Gathered)
+      → Run (stores h rows keys sorts pending) (oneOf (length first₀) (length second₀)) (subsetLeft l ids first second) (questionsIn (drop at words)) last g
+      → Run (stores h rows keys sorts pending) (oneOf (length first₀) (length second₀)) (subsetLeft l₀ ids first₀ second₀) (questionsIn words) last (together gathered g)
 
 module _ {h : Header} {rows sorts ids words first₀ second₀ : List ℕ} {l₀ : Left} where
   pub going-begin : {count : ℕ} → FrameLength words 0 count → l₀ .place ≡ 0 → l₀ .refined ≡ false → Going h rows sorts ids words first₀ second₀ l₀ first₀ second₀ l₀ 0 count
@@ -195,28 +196,28 @@ module _ {h : Header} {rows sorts ids words first₀ second₀ : List ℕ} {l₀
           told = t .told ∙ ap (λ (r : Bool). r || t .gathered .refined) (v .told);
           rest = λ keys pending last g run.
               rw (together-assoc (v .gathered) (t .gathered) g)
-              (v .rest keys pending last (together (t .gathered) g) (rw (framed-next questionOf (v .here) left) (run-then (t .run keys pending) run)));
+              (v .rest keys pending last (together (t .gathered) g) (rw (framed-next questionOf (v .here) left) (run-then (rw (v .first-long, v .second-long) at (t .run keys pending)) run)));
         }
 
     -- no question is left
-    pub going-end : count ≡ 0 → RunMade h rows sorts (subsetLeft l₀ ids first₀ second₀) (questionsIn words) (subsetLeft l ids first second) (l .refined)
+    pub going-end : count ≡ 0 → RunMade h rows sorts (length first₀) (length second₀) (subsetLeft l₀ ids first₀ second₀) (questionsIn words) (subsetLeft l ids first second) (l .refined)
     going-end none =
         record {
           gathered = v .gathered;
           run = all;
           told = v .told;
           ids-left = λ o generation calls keys pending history refined.
-              term-three o generation calls _ history .ids-left (subsetLeft l₀ ids first₀ second₀) (questionsIn words) (subsetLeft l ids first second) (v .gathered) (all keys pending) (sym (v .told) ∙ refined);
+              term-three o generation calls _ history .ids-left (oneOf (length first₀) (length second₀)) (subsetLeft l₀ ids first₀ second₀) (questionsIn words) (subsetLeft l ids first second) (v .gathered) (all keys pending) (sym (v .told) ∙ refined);
         }
       where
-        all : (keys pending : List ℕ) → Run (stores h rows keys sorts pending) (subsetLeft l₀ ids first₀ second₀) (questionsIn words) (subsetLeft l ids first second) (v .gathered)
+        all : (keys pending : List ℕ) → Run (stores h rows keys sorts pending) (oneOf (length first₀) (length second₀)) (subsetLeft l₀ ids first₀ second₀) (questionsIn words) (subsetLeft l ids first second) (v .gathered)
         all keys pending =
             rw (together-nothing (v .gathered)) at
             (v .rest keys pending (subsetLeft l ids first second) nothing (rw (framed-end questionOf (v .here) none) (end (subsetLeft l ids first second))))
 
 -- from the starting subset
 pub made-from : {h : Header} {rows sorts : List ℕ} {questions : List Question} {last : Subset} {refined : Bool} (head : SubsetHead) (ids first second : List ℕ)
-    → RunMade h rows sorts (subsetLeft (record { dense = head .dense; start = head .start; end = head .end; count = 0; place = 0; refined = false }) ids first second) questions last refined
-    → RunMade h rows sorts (subsetOf head ids) questions last refined
+    → RunMade h rows sorts (length first) (length second) (subsetLeft (record { dense = head .dense; start = head .start; end = head .end; count = 0; place = 0; refined = false }) ids first second) questions last refined
+    → RunMade h rows sorts (length first) (length second) (subsetOf head ids) questions last refined
 unfolding subsetLeft subsetOf
 made-from head ids first second m = m

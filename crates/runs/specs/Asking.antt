@@ -2,7 +2,7 @@
 -- the claim of the order's term 3 holds of the ids left. Assumes nothing.
 use Prim.Native.Nat.{ℕ}
 use mathlib.Core.Path.{_≡_}
-use mathlib.Core.Bool.{Bool, true, cond}
+use mathlib.Core.Bool.{Bool, true, cond, _||_}
 use mathlib.Core.List.{List}
 use lib.ListN.{take}
 use lib.Dec.{eqb}
@@ -24,12 +24,16 @@ subsetLeft l ids first second =
     (range (l .start) (l .end))
     (list (cond (eqb (l .place) 1) (take (l .count) first) (cond (eqb (l .place) 2) (take (l .count) second) ids)))
 
--- on a header, its row store and sort entries, whatever the other stores hold
-module _ (h : Header) (rows sorts : List ℕ) (start : Subset) (questions : List Question) (end : Subset) (refined : Bool) where
+-- each question has one of the two lent lists as its output
+unfoldable pub oneOf : ℕ → ℕ → ℕ → Bool
+oneOf first second n = eqb n first || eqb n second
+
+-- on a header, its row store and sort entries, whatever the other stores hold, with two lists of these lengths
+module _ (h : Header) (rows sorts : List ℕ) (first second : ℕ) (start : Subset) (questions : List Question) (end : Subset) (refined : Bool) where
   pub record RunMade : Type 0 where
     -- what was accepted
     pub gathered : Gathered
-    pub run : (keys pending : List ℕ) → Run (stores h rows keys sorts pending) start questions end gathered
+    pub run : (keys pending : List ℕ) → Run (stores h rows keys sorts pending) (oneOf first second) start questions end gathered
     pub told : refined ≡ gathered .refined
     -- "If some accepted step refines, the ids left .. are exactly the live rows of the starting subset that ..", "rising,
     -- each once"

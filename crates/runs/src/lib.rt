@@ -209,7 +209,7 @@ pub fn ask(
     first: &mut [u32],
     second: &mut [u32],
 ) -> Left
-    ensures { λ r. ⌜ RunMade h (now (rows .entry)) (now (sorts .entry)) (subsetOf head (now (ids .entry))) (questionsIn (now (questions .entry))) (subsetLeft r (now (ids .entry)) (now (first .exit)) (now (second .exit))) (r .refined) ⌝ }
+    ensures { λ r. ⌜ RunMade h (now (rows .entry)) (now (sorts .entry)) (length (now (first .entry))) (length (now (second .entry))) (subsetOf head (now (ids .entry))) (questionsIn (now (questions .entry))) (subsetLeft r (now (ids .entry)) (now (first .exit)) (now (second .exit))) (r .refined) ⌝ }
 {
     let mut l = Left {
         dense: head.dense,

@@ -76,7 +76,8 @@ lengthsLent s w = lengths (s .rows) (s .keys) (s .sorts) (s .pending) (w .live) 
 
 -- The header and stores are those of a plain table: they show it cell by cell (`Shows`), it is one that calls lead to
 -- (`Proper`), and the key store leads to its live rows (`KeysSound`). `Sound` is the paper's word, of stores alone; the two are
--- one: stores are sound exactly if they are those of some plain table (Laws/Sound).
+-- one: stores whose generation is a u32, as a header's always is, are sound exactly if they are those of some plain table
+-- (Laws/Sound).
 pub record Represents (p : Plain) (s : Stores) : Type 0 where
   pub proper : Proper p
   pub long-enough : storesShort (p .opening) (lengths (s .rows) (s .keys) (s .sorts) (s .pending) [] []) ≡ false

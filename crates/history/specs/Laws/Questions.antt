@@ -178,24 +178,24 @@ module _ {p : Plain} {s : Stores} (r : Represents p s) (c : Constraint) (answer 
 -- ---- the questions
 
 module _ {p : Plain} {s : Stores} (r : Represents p s) where
-  pub asked-narrows : {a b : Subset} {q : Question} {g : Gathered} → Asked s a q b g → Narrows s (members a) (members b) g
+  pub asked-narrows : {fit : ℕ → Bool} {a b : Subset} {q : Question} {g : Gathered} → Asked s fit a q b g → Narrows s (members a) (members b) g
   unfolding refineOneReply refineListReply
-  asked-narrows {a} (one-refined c output output′ answer m) =
+  asked-narrows {a = a} (one-refined c output output′ answer fit m) =
       let f = refinable (s .header) (length (s .rows)) a (c ∷ []) (length output) in
       let is = members-retain (matches (s .header) (s .rows) (c ∷ [])) a in
       answered-narrows a _ (retain (matches (s .header) (s .rows) (c ∷ [])) a) output answer output′ (m .answered)
       (λ e. refined-fit s a (c ∷ []) (length output) (f e) _ is) (λ e. refined-narrows s a (c ∷ []) (length output) (f e) _ is)
-  asked-narrows {a} (list-refined cs output output′ answer m) =
+  asked-narrows {a = a} (list-refined cs output output′ answer fit m) =
       let f = refinable (s .header) (length (s .rows)) a cs (length output) in
       let is = members-narrowed (matches (s .header) (s .rows) cs) a in
       answered-narrows a _ (narrowed (matches (s .header) (s .rows) cs) a) output answer output′ (m .answered)
       (λ e. refined-fit s a cs (length output) (f e) _ is) (λ e. refined-narrows s a cs (length output) (f e) _ is)
-  asked-narrows {a} (intersected b output output′ answer m) =
+  asked-narrows {a = a} (intersected b output output′ answer fit m) =
       intersected-narrows a b output answer output′ m
       (λ v up is.
       narrows-keep (λ id. has id (members b)) up is (λ id _. unfold fits every in sym (and-true _ ∙ and-true _)) (λ z. absurd (false≢true z)))
-  asked-narrows {a} (range-intersected b c found output output′ answer read is m) =
+  asked-narrows {a = a} (range-intersected b c found output output′ answer read is fit m) =
       intersected-narrows a b output answer output′ m
       (λ v up same.
       narrows-keep (λ id. has id (members b)) up same (λ id l. range-met r c found b read is id l ∙ (unfold fits every in sym (and-true _))) (λ z. absurd (false≢true z)))
-  asked-narrows {a} (range-nothing c found read is) = narrows-not s (members a)
+  asked-narrows {a = a} (range-nothing c found read is) = narrows-not s (members a)

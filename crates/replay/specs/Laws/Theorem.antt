@@ -20,7 +20,7 @@ use Rattle.table.specs.Laws.Replies.{accepted-number}
 use Rattle.history.specs.Histories.{History}
 use Rattle.history.specs.Laws.Further.{history-whole}
 use Rattle.history.specs.Laws.Theorem.{term-three}
-use Rattle.replay.specs.Replays.{lentAll, Replayed}
+use Rattle.replay.specs.Replays.{lentAll, MadeFrom, Replayed}
 use Rattle.replay.specs.inner.Replaying.{Made}
 
 -- a refused reply was turned away, by its number
@@ -40,7 +40,7 @@ module _ {o : Opening} {generation : ℕ} {b : Body} {pending keys′ : List ℕ
       record {
         refusal = says .1;
         unchanged = λ some. (rw (m .unchanged some), refl, refl);
-        history = λ h said. absurd (let z : _≡_ {A = ℕ} 0 1 = cc in omega arith);
+        calls-made = λ h said. absurd (let z : _≡_ {A = ℕ} 0 1 = cc in omega arith);
         claimed = λ h said. absurd (let z : _≡_ {A = ℕ} 0 1 = cc in omega arith);
       }
 
@@ -53,9 +53,10 @@ module _ {o : Opening} {generation : ℕ} {b : Body} {pending keys′ : List ℕ
       let none = accepted-number (openRefusal o (lengths (b .rows) (b .keys) (b .sorts) pending [] [])) h (headerOf (opened o generation)) (rw (ap tableSays e) at (m .answers)) in
       let whole : History o generation (lentAll (lengths (b .rows) (b .keys) (b .sorts) pending (w .live) (w .base)) calls) (joined h′ b′ pending′) =
       history-whole (b .keys) (rw e at m) (rw same at (made .steps)) in
+      let from : MadeFrom o generation calls b pending w (joined h′ b′ pending′) = record { header = h; keys = keys′; opened = rw e at m; steps = rw same at (made .steps) } in
       record {
         refusal = rw none;
         unchanged = λ some. absurd (omega arith);
-        history = λ g said. let is : h′ ≡ g = cc in rw (← is) whole;
+        calls-made = λ g said. let is : h′ ≡ g = cc in rw (← is) from;
         claimed = λ g said. let is : h′ ≡ g = cc in rw (← is) (term-three _ _ _ _ whole);
       }

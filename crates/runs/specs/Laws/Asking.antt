@@ -8,7 +8,7 @@ use mathlib.Core.List.{List, [], _∷_, _++_, append-assoc, append-nil}
 use native.Mathlib.Omega.{arith}
 use lib.ListN.{length, take}
 use lib.Dec.{eqb}
-use borrow.Author.Tests.{ne-eqb}
+use borrow.Author.Tests.{eq-eqb, ne-eqb}
 use Rattle.refusals.specs.Refusals.{accepted, reply}
 use Rattle.offsets.specs.declared.SubsetHead.{SubsetHead}
 use Rattle.offsets.specs.declared.SubsetAnswer.{SubsetAnswer}
@@ -26,7 +26,7 @@ use Rattle.queries.specs.Queries.{matches, refineOneReply, refineListReply, Ref
 use Rattle.history.specs.Runs.{Question, refineOne, refineList, intersectWith, intersectRange, Gathered, nothing, bySubset, byRange, byRefining, together, left, gathered, one-refined, list-refined, intersected, range-intersected, range-nothing, Run, end, next}
 use Rattle.history.specs.Laws.Questions.{refinable, refined-fit, intersectable}
 use Rattle.runs.specs.declared.Left.{Left}
-use Rattle.runs.specs.Asking.{subsetLeft}
+use Rattle.runs.specs.Asking.{subsetLeft, oneOf}
 use Rattle.runs.specs.inner.Asking.{accepts, Put, leftBy, Held, Turned}
 
 -- ---- one question
@@ -56,7 +56,7 @@ module _ {h : Header} {rows sorts : List ℕ} {a : Subset} {questions : List Que
   put-nothing refining n e =
       record {
         gathered = nothing;
-        run = λ keys pending. rw e (end a);
+        run = λ fit lets keys pending. rw e (end a);
         refines = and-false refining;
         fits = λ k q. absurd (let z : _≡_ {A = ℕ} 0 1 = cc in omega arith);
       }
@@ -68,7 +68,7 @@ module _ {h : Header} {rows sorts : List ℕ} {a : Subset} {questions : List Que
   put-no-range n {c} {found} e read nowhere =
       record {
         gathered = together nothing nothing;
-        run = λ keys pending. rw e (next (range-nothing c found read nowhere) refl (end a));
+        run = λ fit lets keys pending. rw e (next (range-nothing c found read nowhere) refl (end a));
         refines = refl;
         fits = λ k q. absurd (let z : _≡_ {A = ℕ} 0 1 = cc in omega arith);
       }
@@ -81,7 +81,7 @@ module _ {h : Header} {rows sorts : List ℕ} {a : Subset} {questions : List Que
         let f = refinable h (length rows) a (c ∷ []) (length output) in
         record {
           gathered = together (gathered (readOff answer output′) (byRefining (c ∷ []))) nothing;
-          run = λ keys pending. rw e (next (one-refined c output output′ answer m) refl (end _));
+          run = λ fit lets keys pending. rw e (next (one-refined c output output′ answer lets m) refl (end _));
           refines = gathers answer output′ (byRefining (c ∷ []));
           fits = answered-fits _ (retain (matches h rows (c ∷ [])) a) output answer output′ (m .answered)
               (λ z. refined-fit s a (c ∷ []) (length output) (f z) _ (members-retain (matches h rows (c ∷ [])) a));
@@ -95,7 +95,7 @@ module _ {h : Header} {rows sorts : List ℕ} {a : Subset} {questions : List Que
         let f = refinable h (length rows) a cs (length output) in
         record {
           gathered = together (gathered (readOff answer output′) (byRefining cs)) nothing;
-          run = λ keys pending. rw e (next (list-refined cs output output′ answer m) refl (end _));
+          run = λ fit lets keys pending. rw e (next (list-refined cs output output′ answer lets m) refl (end _));
           refines = gathers answer output′ (byRefining cs);
           fits = answered-fits _ (narrowed (matches h rows cs) a) output answer output′ (m .answered)
               (λ z. refined-fit s a cs (length output) (f z) _ (members-narrowed (matches h rows cs) a));
@@ -106,7 +106,7 @@ module _ {h : Header} {rows sorts : List ℕ} {a : Subset} {questions : List Que
     put-intersected b e m =
         record {
           gathered = together (gathered (readOff answer output′) (bySubset b)) nothing;
-          run = λ keys pending. rw e (next (intersected b output output′ answer (inl m)) refl (end _));
+          run = λ fit lets keys pending. rw e (next (intersected b output output′ answer lets (inl m)) refl (end _));
           refines = gathers answer output′ (bySubset b);
           fits = intersection-fits a b output answer output′ m;
         }
@@ -117,7 +117,7 @@ module _ {h : Header} {rows sorts : List ℕ} {a : Subset} {questions : List Que
     put-ranged b {c} {found} e read is m =
         record {
           gathered = together (gathered (readOff answer output′) (byRange c)) nothing;
-          run = λ keys pending. rw e (next (range-intersected b c found output output′ answer read is (inl m)) refl (end _));
+          run = λ fit lets keys pending. rw e (next (range-intersected b c found output output′ answer read is lets (inl m)) refl (end _));
           refines = gathers answer output′ (byRange c);
           fits = intersection-fits a b output answer output′ m;
         }
@@ -136,6 +136,19 @@ refined-by l place refining (Refused n) = sym (ap (λ (b : Bool). l .refined || 
 refined-by l place refining (Range from to) = swapped refining (l .refined)
 refined-by l place refining (Ids n) = swapped refining (l .refined)
 
+or-true : (b : Bool) → (b || true) ≡ true
+or-true true = refl
+or-true false = refl
+
+module _ (first second : ℕ) where
+  first-lent : oneOf first second first ≡ true
+  unfolding oneOf
+  first-lent = rw (eq-eqb first first refl)
+
+  second-lent : oneOf first second second ≡ true
+  unfolding oneOf
+  second-lent = rw (eq-eqb second second refl) (or-true (eqb second first))
+
 -- an answer that went into the list of a place: what is read off it is left there
 pub record Into (l : Left) (ids first second : List ℕ) (place : ℕ) (output output′ first′ second′ : List ℕ) : Type 0 where
   -- the ids that it was asked on are as they were
@@ -143,6 +156,7 @@ pub record Into (l : Left) (ids first second : List ℕ) (place : ℕ) (output o
   pub there : (n : ℕ) → cond (eqb place 1) (take n first′) (cond (eqb place 2) (take n second′) ids) ≡ take n output′
   pub in-first : place ≡ 1 → length output ≡ length first
   pub in-second : place ≡ 2 → length output ≡ length second
+  pub lets : oneOf (length first) (length second) (length output) ≡ true
 
 left-there : (l : Left) (ids first second : List ℕ) (place : ℕ) (output output′ first′ second′ : List ℕ) (refining : Bool) (answer : SubsetAnswer)
     → Into l ids first second place output output′ first′ second′
@@ -167,7 +181,7 @@ pub turned : {h : Header} {rows sorts ids : List ℕ} {questions : List Question
 turned {ids = ids} {l = l} {first = first} {second = second} {first′ = first′} {second′ = second′} place {refining} {output} {output′} {answer} p held into e =
     record {
       gathered = p .gathered;
-      run = λ keys pending. rw (e, left-there l ids first second place output output′ first′ second′ refining answer into) (p .run keys pending);
+      run = λ keys pending. rw (e, left-there l ids first second place output output′ first′ second′ refining answer into) (p .run (oneOf (length first) (length second)) (into .lets) keys pending);
       told = rw (e, ← (p .refines)) (refined-by l place refining answer);
       held = rw e (left-held l (length first) (length second) place (length output) refining answer held (p .fits) (into .in-first) (into .in-second));
     }
@@ -188,15 +202,15 @@ module _ (l : Left) (ids first second : List ℕ) where
 
   pub into-second : (second′ : List ℕ) → l .place ≡ 1 → Into l ids first second 2 second second′ first second′
   into-second second′ e =
-      record { kept = at-first second′ e; there = λ n. refl; in-first = λ z. absurd (omega arith); in-second = λ z. refl }
+      record { kept = at-first second′ e; there = λ n. refl; in-first = λ z. absurd (omega arith); in-second = λ z. refl; lets = second-lent (length first) (length second) }
 
   pub into-first : (first′ : List ℕ) → l .place ≡ 2 → Into l ids first second 1 first first′ first′ second
   into-first first′ e =
-      record { kept = at-second first′ e; there = λ n. refl; in-first = λ z. refl; in-second = λ z. absurd (omega arith) }
+      record { kept = at-second first′ e; there = λ n. refl; in-first = λ z. refl; in-second = λ z. absurd (omega arith); lets = first-lent (length first) (length second) }
 
   pub into-first-too : (first′ : List ℕ) → (l .place ≡ 1 → ⊥) → (l .place ≡ 2 → ⊥) → Into l ids first second 1 first first′ first′ second
   into-first-too first′ a b =
-      record { kept = at-neither first′ a b; there = λ n. refl; in-first = λ z. refl; in-second = λ z. absurd (omega arith) }
+      record { kept = at-neither first′ a b; there = λ n. refl; in-first = λ z. refl; in-second = λ z. absurd (omega arith); lets = first-lent (length first) (length second) }
 
 -- the ids left as they are lent to a question
 module _ (l : Left) (ids first second : List ℕ) where
@@ -234,6 +248,6 @@ pub together-nothing : (a : Gathered) → together a nothing ≡ a
 together-nothing a =
     λ i. record { refined = or-false (a .refined) i; subsets = append-nil (a .subsets) i; conditions = append-nil (a .conditions) i }
 
-pub run-then : {s : Stores} {a b c : Subset} {qs rs : List Question} {g k : Gathered} → Run s a qs b g → Run s b rs c k → Run s a (qs ++ rs) c (together g k)
+pub run-then : {s : Stores} {fit : ℕ → Bool} {a b c : Subset} {qs rs : List Question} {g k : Gathered} → Run s fit a qs b g → Run s fit b rs c k → Run s fit a (qs ++ rs) c (together g k)
 run-then (end a) more = more
 run-then {k = k} (next {g = g} {h = h} asked same rest) more = rw (together-assoc g h k) (next asked same (run-then rest more))

@@ -14,7 +14,7 @@ use Rattle.table.specs.Promises.{stores}
 use Rattle.history.specs.Runs.{Question, intersectRange, Gathered, left, Run}
 use Rattle.runs.specs.declared.Left.{Left}
 use Rattle.runs.specs.Encoding.{listOf}
-use Rattle.runs.specs.Asking.{subsetLeft}
+use Rattle.runs.specs.Asking.{subsetLeft, oneOf}
 
 -- an answer accepts its question
 unfoldable pub accepts : SubsetAnswer → Bool
@@ -25,7 +25,8 @@ accepts (Ids n) = true
 -- no question or one, its answer in an output
 pub record Put (h : Header) (rows sorts : List ℕ) (a : Subset) (questions : List Question) (refining : Bool) (output : List ℕ) (answer : SubsetAnswer) (output′ : List ℕ) : Type 0 where
   pub gathered : Gathered
-  pub run : (keys pending : List ℕ) → Run (stores h rows keys sorts pending) a questions (left a (readOff answer output′)) gathered
+  pub run : (fit : ℕ → Bool) → fit (length output) ≡ true → (keys pending : List ℕ)
+      → Run (stores h rows keys sorts pending) fit a questions (left a (readOff answer output′)) gathered
   pub refines : (refining && accepts answer) ≡ gathered .refined
   -- the ids written lie in the output
   pub fits : (n : ℕ) → answer ≡ Ids n → n ≤ length output
@@ -54,6 +55,7 @@ pub record Held (l : Left) (first second : ℕ) : Type 0 where
 -- no question or one, put on the ids left
 pub record Turned (h : Header) (rows sorts ids : List ℕ) (questions : List Question) (l : Left) (first second : List ℕ) (l′ : Left) (first′ second′ : List ℕ) : Type 0 where
   pub gathered : Gathered
-  pub run : (keys pending : List ℕ) → Run (stores h rows keys sorts pending) (subsetLeft l ids first second) questions (subsetLeft l′ ids first′ second′) gathered
+  pub run : (keys pending : List ℕ)
+      → Run (stores h rows keys sorts pending) (oneOf (length first) (length second)) (subsetLeft l ids first second) questions (subsetLeft l′ ids first′ second′) gathered
   pub told : l′ .refined ≡ (l .refined || gathered .refined)
   pub held : Held l′ (length first) (length second)
