@@ -115,6 +115,6 @@ pub fn next_line(line: &mut [u8], chunk: &mut [u8], from: Input) -> Line
     Line {
         input: input,
         length: length,
-        is_over: true,
+        is_over: length == 0,
     }
 }

@@ -6,4 +6,5 @@ pub mod Opening
 pub mod Calls
 pub mod Questions
 pub mod Determined
+pub mod Session
 pub mod Example

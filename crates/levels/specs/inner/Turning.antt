@@ -1,13 +1,15 @@
 -- What a turn of the program's loop leaves: the table after the line that it read, and the bytes that are still to be read. Which
 -- bytes a read brings, and what becomes of the text that is written, no contract of read and write can say. Assumes nothing.
-use Prim.Native.Nat.{ℕ, _≤_}
+use Prim.Native.Nat.{ℕ, _≤_, _<_}
 use mathlib.Core.Path.{_≡_, refl, sym}
 use mathlib.Core.Bool.{Bool, true, false, cond, false≢true}
 use mathlib.Core.List.{List, [], _∷_, _++_}
+use native.Mathlib.Omega.{arith}
 use lib.ListN.{length, take}
 use Rattle.lists.specs.Lists.{has}
 use Rattle.table.specs.Promises.{Stores}
 use Rattle.levels_said.specs.Answers.{lent, Answering}
+use Rattle.levels_said.specs.Session.{programLengths}
 use Rattle.levels_said.specs.Laws.Kept.{answered-kept}
 use Rattle.levels_lines.specs.declared.Input.{Input}
 use Rattle.levels_lines.specs.declared.Line.{Line}
@@ -26,23 +28,34 @@ pub record LineDone (before : List ℕ) (s : Stores) (rest : List ℕ) (s′ : S
   pub brought : List ℕ
   pub ended : Bool
   pub balance : before ++ brought ≡ line ++ cond ended (10 ∷ rest) rest
-  pub last : ended ≡ false → rest ≡ []
+  pub last : ended ≡ false → (rest ≡ []) × (0 < length line)
+  pub stores-lent : lent s ≡ programLengths
   pub replied : Replied line s s′ text
 
--- or the input is over
+-- or the input is over, which it is only where no byte is left
 pub record Turned (before : List ℕ) (s : Stores) (over : Bool) (chunk : List ℕ) (input : Input) (s′ : Stores) (text : List ℕ) : Type 0 where
   pub inside : input .end ≤ length chunk
   pub goes-on : over ≡ false → LineDone before s (unread chunk input) s′ text
-  pub stays : over ≡ true → s′ ≡ s
+  pub stays : over ≡ true → (s′ ≡ s) × (before ≡ [])
 
-module _ {before line chunk : List ℕ} {r : Line} (k : Took before line chunk r) where
-  pub turned-over : (s : Stores) (text : List ℕ) → Turned before s true chunk (r .input) s text
-  turned-over s text = record { inside = k .inside; goes-on = λ e. absurd (false≢true (sym e)); stays = λ e. refl }
+-- the program's stores
+pub lent-program : (s : Stores) → length (s .rows) ≡ 8192 → length (s .keys) ≡ 2048 → length (s .sorts) ≡ 2048 → length (s .pending) ≡ 2048
+    → lent s ≡ programLengths
+lent-program s rows keys sorts pending = rw (rows, keys, sorts, pending)
+
+module _ {before line chunk : List ℕ} {r : Line} {s : Stores} (k : Took before line chunk r) (wide : length line ≡ 121) where
+  pub turned-over : (text : List ℕ) → r .«is_over» ≡ true → Turned before s true chunk (r .input) s text
+  turned-over text over =
+      record {
+        inside = k .inside;
+        goes-on = λ e. absurd (false≢true (sym e));
+        stays = λ e. (refl, k .over over (omega (arith, wide)));
+      }
 
   -- of a line no more than 121 bytes are kept, which changes no answer
-  pub turned-line : {s s′ : Stores} {text : List ℕ} → length line ≡ 121 → r .«is_over» ≡ false → Replied (take (r .length) line) s s′ text
+  pub turned-line : {s′ : Stores} {text : List ℕ} → lent s ≡ programLengths → r .«is_over» ≡ false → Replied (take (r .length) line) s s′ text
       → Turned before s false chunk (r .input) s′ text
-  turned-line {s} wide on m =
+  turned-line l on m =
       let t = k .goes-on on in
       record {
         inside = k .inside;
@@ -53,6 +66,7 @@ module _ {before line chunk : List ℕ} {r : Line} (k : Took before line chunk r
           ended = t .ended;
           balance = t .balance;
           last = t .last;
+          stores-lent = l;
           replied = record {
             used = m .used;
             answering = record {

@@ -39,11 +39,13 @@ pub record LineTaken (before line : List ℕ) (count : ℕ) (rest : List ℕ) : 
   pub brought : List ℕ
   pub ended : Bool
   pub balance : before ++ brought ≡ bytes ++ cond ended (10 ∷ rest) rest
-  pub last : ended ≡ false → rest ≡ []
+  pub last : ended ≡ false → (rest ≡ []) × (0 < length bytes)
 
 pub record Took (before line chunk : List ℕ) (r : Line) : Type 0 where
   pub inside : r .input .end ≤ length chunk
   pub goes-on : r .«is_over» ≡ false → LineTaken before line (r .length) (unread chunk (r .input))
+  -- the input is over only where no byte is left
+  pub over : r .«is_over» ≡ true → 0 < length line → before ≡ []
 
 -- ---- a read
 
@@ -127,20 +129,34 @@ taking-refill {before} {line} {chunk} {chunk′} {count} {input} {input′} v f 
           ∙ ap (λ (x : List ℕ). v .bytes ++ x) (sym (f .there));
     }
 
--- the input is over
-pub taking-over : {before line : List ℕ} {count : ℕ} (chunk : List ℕ) (input : Input) → Taking before line count (unread chunk input) → input .end ≤ input .next
-    → LineTaken before line count (unread chunk input)
-taking-over chunk input v none =
-    record {
-      bytes = v .bytes;
-      no-newline = v .no-newline;
-      counted = v .counted;
-      kept = v .kept;
-      brought = v .brought;
-      ended = false;
-      balance = v .balance;
-      last = λ e. left-none chunk (input .next) (input .end) none;
-    }
+none-before : (a b : List ℕ) → length (a ++ b) ≡ 0 → a ≡ []
+none-before [] b e = refl
+none-before (x ∷ a) b e = absurd (omega (arith, e))
+
+-- the input has ended: with a line, if there is a byte of it, else it is over
+module _ {before line : List ℕ} {count : ℕ} (chunk : List ℕ) (input : Input) (v : Taking before line count (unread chunk input)) (none : input .end ≤ input .next) where
+  taking-last : (eqb count 0 ≡ false) → LineTaken before line count (unread chunk input)
+  taking-last e =
+      let some : 0 < count = omega (arith, eqb-false count 0 e) in
+      record {
+        bytes = v .bytes;
+        no-newline = v .no-newline;
+        counted = v .counted;
+        kept = v .kept;
+        brought = v .brought;
+        ended = false;
+        balance = v .balance;
+        last = λ f. (left-none chunk (input .next) (input .end) none, omega (arith, v .counted, some));
+      }
+
+  taking-nothing : (eqb count 0 ≡ true) → 0 < length line → before ≡ []
+  taking-nothing e wide =
+      let no-bytes : length (v .bytes) ≡ 0 = omega (arith, v .counted, eqb-true count 0 e, wide) in
+      let no-rest : length (unread chunk input) ≡ 0 = ap length (left-none chunk (input .next) (input .end) none) in
+      none-before before (v .brought) (omega (arith, ap length (v .balance), length-append (v .bytes) (unread chunk input), no-bytes, no-rest))
+
+  pub taking-over : input .end ≤ length chunk → Took before line chunk (record { input = input; length = count; «is_over» = eqb count 0 })
+  taking-over inside = record { inside = inside; goes-on = taking-last; over = taking-nothing }
 
 module _ {before line line′ : List ℕ} {count : ℕ} {r : Scan} (chunk : List ℕ) (at end : ℕ) (inside : end ≤ length chunk) (some : at < end) (v : Taking before line count (left chunk at end))
     (same : length line′ ≡ length line) (k : Scanned line count (left chunk at end) at line′ r) where
@@ -157,19 +173,22 @@ module _ {before line line′ : List ℕ} {count : ℕ} {r : Scan} (chunk : List
   here-kept : take (r .length) line′ ≡ take (length line′) here
   here-kept = k .kept .same ∙ rw (v .kept, same, take-in (length line) (v .bytes) (before-newline (left chunk at end)))
 
-  -- no newline among them
+  -- no newline among them: all are read
+  pub taken-all : r .«is_whole» ≡ false → end ≤ r .next
+  taken-all e =
+      let none : has 10 (left chunk at end) ≡ false = sym (k .whole) ∙ e in
+      omega (arith, rw (none, no-newline-whole (left chunk at end) none) at (k .next), length-left chunk at end inside)
+
   pub taking-more : r .«is_whole» ≡ false → Taking before line′ (r .length) (left chunk (r .next) end)
   taking-more e =
-      let none : has 10 (left chunk at end) ≡ false = sym (k .whole) ∙ e in
-      let all : before-newline (left chunk at end) ≡ left chunk at end = no-newline-whole (left chunk at end) none in
-      let past : end ≤ r .next = omega (arith, rw (none, all) at (k .next), length-left chunk at end inside) in
+      let all : before-newline (left chunk at end) ≡ left chunk at end = no-newline-whole (left chunk at end) (sym (k .whole) ∙ e) in
       record {
         bytes = here;
         no-newline = here-no-newline;
         counted = here-counted;
         kept = here-kept;
         brought = v .brought;
-        balance = v .balance ∙ rw (left-none chunk (r .next) end past, append-nil here, all);
+        balance = v .balance ∙ rw (left-none chunk (r .next) end (taken-all e), append-nil here, all);
       }
 
   -- the line ends

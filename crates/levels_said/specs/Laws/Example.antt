@@ -16,33 +16,25 @@ use Rattle.plain.specs.Calls.{pendingShort, refusal, done, after}
 use Rattle.table.specs.Stores.{entries}
 use Rattle.levels_text.specs.Lines.{fields, valueFrom, isDecimal, isLine, letter, numbers, isBare, isForm, accepted}
 use Rattle.levels_text.specs.Written.{digitsIn, decimal, field, textLine}
+use Rattle.levels_said.specs.Session.{begun, linesIn, session, printed}
 use Rattle.levels_said.specs.Said.{replied, openNumber, opens, calls, asks, mergeText, fastOf, rangeText, versionText, listText, served, onTable, turn, answered}
 
--- "over a row store of 8,192 cells and 2,048 pending words", and the other stores for 1,024 rows
-abbrev lengths : Lengths
-lengths = record { rows = 8192; keys = 2048; sorts = 2048; pending = 2048; liveWords = 16; baseWords = 16 }
-
--- all that lines print, the first one first
-unfoldable pub session : Option Plain → List (List ℕ) → List ℕ
-session t [] = []
-session t (line ∷ lines) = answered lengths t line .text ++ session (answered lengths t line .table) lines
-
--- `O,4,2,3,1,100,0` `I,7,1,160,10` `I,7,2,148,10` `M` `I,7,1,163,12` `R,7,2` `M` `F,1,3,10` `V` `L`
-unfoldable pub input : List (List ℕ)
+-- a line each: `O,4,2,3,1,100,0` `I,7,1,160,10` `I,7,2,148,10` `M` `I,7,1,163,12` `R,7,2` `M` `F,1,3,10` `V` `L`
+unfoldable pub input : List ℕ
 input =
-    (79 ∷ 44 ∷ 52 ∷ 44 ∷ 50 ∷ 44 ∷ 51 ∷ 44 ∷ 49 ∷ 44 ∷ 49 ∷ 48 ∷ 48 ∷ 44 ∷ 48 ∷ [])
-    ∷ (73 ∷ 44 ∷ 55 ∷ 44 ∷ 49 ∷ 44 ∷ 49 ∷ 54 ∷ 48 ∷ 44 ∷ 49 ∷ 48 ∷ [])
-    ∷ (73 ∷ 44 ∷ 55 ∷ 44 ∷ 50 ∷ 44 ∷ 49 ∷ 52 ∷ 56 ∷ 44 ∷ 49 ∷ 48 ∷ [])
-    ∷ (77 ∷ [])
-    ∷ (73 ∷ 44 ∷ 55 ∷ 44 ∷ 49 ∷ 44 ∷ 49 ∷ 54 ∷ 51 ∷ 44 ∷ 49 ∷ 50 ∷ [])
-    ∷ (82 ∷ 44 ∷ 55 ∷ 44 ∷ 50 ∷ [])
-    ∷ (77 ∷ [])
-    ∷ (70 ∷ 44 ∷ 49 ∷ 44 ∷ 51 ∷ 44 ∷ 49 ∷ 48 ∷ [])
-    ∷ (86 ∷ [])
-    ∷ (76 ∷ [])
+    79 ∷ 44 ∷ 52 ∷ 44 ∷ 50 ∷ 44 ∷ 51 ∷ 44 ∷ 49 ∷ 44 ∷ 49 ∷ 48 ∷ 48 ∷ 44 ∷ 48 ∷ 10
+    ∷ 73 ∷ 44 ∷ 55 ∷ 44 ∷ 49 ∷ 44 ∷ 49 ∷ 54 ∷ 48 ∷ 44 ∷ 49 ∷ 48 ∷ 10
+    ∷ 73 ∷ 44 ∷ 55 ∷ 44 ∷ 50 ∷ 44 ∷ 49 ∷ 52 ∷ 56 ∷ 44 ∷ 49 ∷ 48 ∷ 10
+    ∷ 77 ∷ 10
+    ∷ 73 ∷ 44 ∷ 55 ∷ 44 ∷ 49 ∷ 44 ∷ 49 ∷ 54 ∷ 51 ∷ 44 ∷ 49 ∷ 50 ∷ 10
+    ∷ 82 ∷ 44 ∷ 55 ∷ 44 ∷ 50 ∷ 10
+    ∷ 77 ∷ 10
+    ∷ 70 ∷ 44 ∷ 49 ∷ 44 ∷ 51 ∷ 44 ∷ 49 ∷ 48 ∷ 10
+    ∷ 86 ∷ 10
+    ∷ 76 ∷ 10
     ∷ []
 
--- `M,0,1,0` `M,0,1,0` `F,0,2` `V,0,3` `T,4,2,3,1,0` `D,7,1,163,12`
+-- a line each: `M,0,1,0` `M,0,1,0` `F,0,2` `V,0,3` `T,4,2,3,1,0` `D,7,1,163,12`
 unfoldable pub output : List ℕ
 output =
     77 ∷ 44 ∷ 48 ∷ 44 ∷ 49 ∷ 44 ∷ 48 ∷ 10
@@ -53,6 +45,6 @@ output =
     ∷ 68 ∷ 44 ∷ 55 ∷ 44 ∷ 49 ∷ 44 ∷ 49 ∷ 54 ∷ 51 ∷ 44 ∷ 49 ∷ 50 ∷ 10
     ∷ []
 
-pub example : session none input ≡ output
-unfolding session input output flat every same count keep countFrom firstOf first isDead ruledColumn signed signedLess smaller larger taken madeCell madeFrom changesFrom ruled known last push pushAll rebuilt firstRow position rangeAt fastRange openable wordsOf wordsAll keyRemovals rowRemovals inserts hasKey skipped due storesShort wordsShort wrongWidth noSuchRow overfull openRefusal stageLadder mergeLadder liveFrom liveRows lookup dead opened stage liveWithKey killIf withoutKey withoutKeys withoutRow withoutRows below stop raised append put insertion insertAll applied compacted unstaged compactsAfter merged pendingShort refusal done after entries fields valueFrom isDecimal isLine letter numbers isBare isForm accepted digitsIn decimal field textLine replied openNumber opens calls asks mergeText fastOf rangeText versionText listText served onTable turn answered
+pub example : printed input ≡ output
+unfolding printed session linesIn begun input output flat every same count keep countFrom firstOf first isDead ruledColumn signed signedLess smaller larger taken madeCell madeFrom changesFrom ruled known last push pushAll rebuilt firstRow position rangeAt fastRange openable wordsOf wordsAll keyRemovals rowRemovals inserts hasKey skipped due storesShort wordsShort wrongWidth noSuchRow overfull openRefusal stageLadder mergeLadder liveFrom liveRows lookup dead opened stage liveWithKey killIf withoutKey withoutKeys withoutRow withoutRows below stop raised append put insertion insertAll applied compacted unstaged compactsAfter merged pendingShort refusal done after entries fields valueFrom isDecimal isLine letter numbers isBare isForm accepted digitsIn decimal field textLine replied openNumber opens calls asks mergeText fastOf rangeText versionText listText served onTable turn answered
 example = refl
