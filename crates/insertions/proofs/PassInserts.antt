@@ -7,7 +7,8 @@ use mathlib.Core.List.{List, [], _∷_}
 use native.Mathlib.Numerals.{add-one}
 use native.Mathlib.Omega.{arith}
 use lib.ListN.{length, take, drop, getD}
-use Rattle.plain.specs.Staged.{Staged, insert, removeKey, removeRow, wordsOf, inserts}
+use Rattle.lists.specs.Lists.{keep}
+use Rattle.plain.specs.Staged.{Staged, insert, removeKey, removeRow, inserts}
 use Rattle.plain.specs.Plain.{unchanged, appended, stopped, Inserted, inserted, insertAll, Plain, insertion}
 use Rattle.table.specs.declared.Header.{Header}
 use Rattle.insertions.specs.declared.Passed.{Passed}
@@ -15,10 +16,10 @@ use Rattle.appending.specs.declared.Insertion.{Insertion}
 use Rattle.appending.specs.declared.Insertion.the-variants.{Kept, Appended, Stopped}
 use Rattle.table.specs.Numbers.{openingOf}
 use Rattle.table.specs.Promises.{Stores, stores, Represents, SlotsPast}
-use Rattle.pending.specs.inner.Becoming.{Becomes, Recounted, Ready, Waiting, kindOf, RecordLength}
+use Rattle.pending.specs.inner.Becoming.{Becomes, Recounted, Ready, Waiting, kindOf, RecordLength, ofKind, Left, CanPass, NextRecord}
 use Rattle.insertions.specs.inner.Insertions.{InsertedTable, Insertions, InsertNext, InsertGoes, InsertedNext}
 use Rattle.inserts.specs.inner.Inserting.{Comes, Inserting}
-use Rattle.pending.specs.Laws.Steps.{steps-refl, steps-then, waiting-start, words-some, waiting-next, waiting-kind, waiting-hash, waiting-cells, recounted-refl, recounted-capacity, recounted-then, recounted-waiting}
+use Rattle.pending.specs.Laws.Steps.{steps-refl, steps-then, waiting-start, words-some, waiting-kind, waiting-hash, waiting-cells, recounted-refl, recounted-capacity, recounted-then, recounted-waiting}
 use Rattle.pending.proofs.PassRecords.{Next, record-long}
 
 -- ---- one insert
@@ -145,6 +146,17 @@ module _ {m : Passed} {rows keys sorts pending : List ℕ} {at : ℕ} (a : Inser
 
 -- ---- the loop over the inserts
 
+-- removals make no difference
+inserts-wanted : (records : List Staged) → inserts records ≡ inserts (keep (ofKind 0) records)
+unfolding inserts keep kindOf
+inserts-wanted [] = refl
+inserts-wanted (insert cells ∷ rest) = ap (λ (l : List (List ℕ)). cells ∷ l) (inserts-wanted rest)
+inserts-wanted (removeKey key ∷ rest) = inserts-wanted rest
+inserts-wanted (removeRow row key ∷ rest) = inserts-wanted rest
+
+inserts-left : {h : Header} {pending : List ℕ} {at : ℕ} {records : List Staged} (l : Left h pending 0 at records) → inserts records ≡ inserts (l .left)
+inserts-left {h} {pending} {at} {records} l = inserts-wanted records ∙ ap inserts (l .same) ∙ sym (inserts-wanted (l .left))
+
 -- what the inserts so far have come to, and the records still to come
 pub record Inserts (at : ℕ) (m : Passed) (p : Plain) (s s′ : Stores) : Type 0 where
   pub now : Plain
@@ -211,6 +223,9 @@ module _ {h : Header} {rows keys sorts pending : List ℕ} (a : Ready h rows key
       pub filling-inside : at + words ≤ h .pending
       filling-inside = v .here .inside (omega arith)
 
+      pub filling-passes : CanPass h pending at words
+      filling-passes = record { here = v .here; some = omega arith; fits = a .pending-fits }
+
       -- the record at the place stands whole
       pub filling-requires : InsertNext m rows′ keys′ sorts′ pending at
       filling-requires =
@@ -236,9 +251,10 @@ module _ {h : Header} {rows keys sorts pending : List ℕ} (a : Ready h rows key
 
         -- the turn of a table's next record
         pub record Turn (p : Plain) : Type 0 where
+          pub first : Staged
           pub rest : List Staged
           pub next : Plain
-          pub waiting : Waiting (openingOf h) pending (h .pending) (at + words) rest
+          pub waiting : Next h pending at first rest
           pub steps : Becomes p next Start (stores (r .header) rows″ keys″ sorts″ pending)
           pub goes-on : r .status ≡ 0 → insertAll (inserts (p .staged)) 0 false p ≡ insertAll (inserts rest) (r .place) (r .added) next
           pub stops : (r .status ≡ 0 → ⊥) → insertAll (inserts (p .staged)) 0 false p ≡ inserted next (r .status) (r .place) (r .added)
@@ -251,27 +267,28 @@ module _ {h : Header} {rows keys sorts pending : List ℕ} (a : Ready h rows key
             go (first ∷ rest) e =
                 let g = v .table p t in
                 let w : Next h pending at first rest = rw e at (g .waiting) in
-                let n : words ≡ wordsOf (openingOf h) first = v .here .next first rest w in
                 let x = one .table (v .going) first rest (recounted-waiting (v .header) w) (g .now) (g .steps .represents) in
                 let q : insertAll (inserts (p .staged)) 0 false p ≡ insertAll (inserts (first ∷ rest)) (m .place) (m .added) (g .now) = rw (← e) (g .same) in
                 record {
+                  first = first;
                   rest = rest;
                   next = x .next;
-                  waiting = rw n (waiting-next w);
+                  waiting = w;
                   steps = steps-then t (g .steps) (x .steps);
                   goes-on = λ z. q ∙ x .goes-on z;
                   stops = λ f. q ∙ x .stops f;
                 }
 
         -- once more
-        pub filling-again : {next : ℕ} → r .status ≡ 0 → RecordLength h pending (at + words) next → length rows″ ≡ length rows′ → length keys″ ≡ length keys′ → length sorts″ ≡ length sorts′
-            → Filling h rows keys sorts pending rows″ keys″ sorts″ r (at + words) next
-        filling-again z l same-rows same-keys same-sorts =
+        pub filling-again : {at′ words′ : ℕ} → r .status ≡ 0 → NextRecord h pending at words 0 at′ → RecordLength h pending at′ words′
+            → length rows″ ≡ length rows′ → length keys″ ≡ length keys′ → length sorts″ ≡ length sorts′
+            → Filling h rows keys sorts pending rows″ keys″ sorts″ r at′ words′
+        filling-again z passes l same-rows same-keys same-sorts =
             record {
               here = l;
-              inside = filling-inside;
+              inside = passes .inside;
               going = z;
-              place-fits = omega (arith, filling-long, v .place-fits, one .place-fits);
+              place-fits = omega (arith, filling-long, v .place-fits, one .place-fits, passes .on);
               ready = ready-again (v .ready) (one .header) same-rows same-keys same-sorts;
               header = header-then;
               rows-same = same-rows ∙ v .rows-same;
@@ -280,7 +297,9 @@ module _ {h : Header} {rows keys sorts pending : List ℕ} (a : Ready h rows key
               past = past-then;
               table = λ p t.
                   let x = turn p t in
-                  record { now = x .next; rest = x .rest; waiting = x .waiting; same = x .goes-on z; steps = x .steps };
+                  let left = passes .rest (x .first) (x .rest) (x .waiting) in
+                  let same = ap (λ (cells : List (List ℕ)). insertAll cells (r .place) (r .added) (x .next)) (inserts-left left) in
+                  record { now = x .next; rest = left .left; waiting = left .waiting; same = x .goes-on z ∙ same; steps = x .steps };
             }
 
         -- the insert stopped the merge

@@ -3,6 +3,7 @@ ghost use Rattle.pending.specs.inner.Becoming.{Ready};
 ghost use Rattle.insertions.specs.inner.Insertions.{Insertions, InsertNext, InsertedNext};
 use appending::Insertion;
 use inserts::insert_row;
+use pending::next_record;
 use pending::record_length;
 use table::Header;
 use table::INSERT;
@@ -56,7 +57,7 @@ fn insert_next(
     }
 }
 
-// All inserts, in staging order, until one must be appended and cannot be.
+// All inserts, in staging order, until one must be appended and cannot be. Runs of removals are passed over.
 pub fn insert_all(
     h: Header,
     rows: &mut [u32],
@@ -80,7 +81,7 @@ pub fn insert_all(
         if done.status != 0 {
             return done;
         }
-        at += words;
+        at = next_record(h, pending, at, words, INSERT);
         words = record_length(h, pending, at);
     }
     done.place = 0;

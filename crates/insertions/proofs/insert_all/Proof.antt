@@ -2,7 +2,7 @@
 -- still to come do from here. Assumes nothing.
 use Prim.Native.Nat.{_-_}
 use native.Mathlib.Omega.{arith}
-use Rattle.insertions.proofs.PassInserts.{Filling, filling-begin, filling-long, filling-inside, filling-requires, filling-again, filling-stop, filling-end}
+use Rattle.insertions.proofs.PassInserts.{Filling, filling-begin, filling-long, filling-passes, filling-requires, filling-again, filling-stop, filling-end}
 use borrow.Author.Needs.{needs}
 use Rattle.insertions.proofs.insert_all.Statement.{statement}
 use Rattle.insertions.proofs.insert_all.Tie as tie
@@ -42,29 +42,33 @@ returns c =
     let v = l .before .loop .inv in
     filling-stop p v (l .loop-test .taken) (c .before .before .before .before .before .before .before .before .insert-next .ensures) (c .if1 .taken)
 
-add-at : tie.Need-add-at Inv-loop μ-loop
-add-at c = omega (arith, c .before .before .before .before .before .before .before .before .before .before .before .before .before .loop .inv .here .fits)
-
-record-length-requires-2 : tie.Need-record-length-requires-2 Inv-loop μ-loop
-record-length-requires-2 c κs =
+next-record-requires : tie.Need-next-record-requires Inv-loop μ-loop
+next-record-requires c κs =
     let l = c .before .before .before .before .before .before .before .before .before .before .before .before in
     let p = l .before .before .before .before .before .before .before .pre in
     let v = l .before .loop .inv in
-    omega (arith, p .fits, p .pending-fits, filling-inside p v (l .loop-test .taken))
+    filling-passes p v (l .loop-test .taken)
+
+record-length-requires-2 : tie.Need-record-length-requires-2 Inv-loop μ-loop
+record-length-requires-2 c κs =
+    let l = c .before .before .before .before .before .before .before .before .before .before .before .before .before in
+    let p = l .before .before .before .before .before .before .before .pre in
+    omega (arith, p .fits, p .pending-fits, c .next-record .ensures .inside)
 
 loop-less : tie.Need-loop-less Inv-loop μ-loop
 loop-less c =
-    let l = c .before .before .before .before .before .before .before .before .before .before .before .before .before in
+    let l = c .before .before .before .before .before .before .before .before .before .before .before .before .before .before in
     let p = l .before .before .before .before .before .before .before .pre in
     let v = l .before .loop .inv in
-    omega (arith, filling-long p v (l .loop-test .taken), filling-inside p v (l .loop-test .taken))
+    let n = c .before .next-record .ensures in
+    omega (arith, filling-long p v (l .loop-test .taken), n .on, n .inside)
 
 loop-again : tie.Need-loop-again Inv-loop μ-loop
 loop-again c =
-    let l = c .before .before .before .before .before .before .before .before .before .before .before .before .before in
+    let l = c .before .before .before .before .before .before .before .before .before .before .before .before .before .before in
     let p = l .before .before .before .before .before .before .before .pre in
     let v = l .before .loop .inv in
-    filling-again p v (l .loop-test .taken) (c .before .before .before .before .before .before .before .before .before .insert-next .ensures) (c .before .if1 .left) (c .record-length2 .ensures) (search needs) (search needs) (search needs)
+    filling-again p v (l .loop-test .taken) (c .before .before .before .before .before .before .before .before .before .before .insert-next .ensures) (c .before .before .if1 .left) (c .before .next-record .ensures) (c .record-length2 .ensures) (search needs) (search needs) (search needs)
 
 same-length-4 : tie.Need-same-length-4 Inv-loop μ-loop
 same-length-4 c = c .before .loop .inv .rows-same
@@ -91,7 +95,7 @@ insert-all-spec =
     same-length-2
     same-length-3
     returns
-    add-at
+    next-record-requires
     record-length-requires-2
     loop-less
     loop-again
