@@ -2,7 +2,7 @@
 // passes the gap moves back into it. So a freed slot is free at once, and no mark of a removed row ever piles up. Safe on any
 // store: a word is tested before it is a row.
 ghost use mathlib.Core.Path.{_≡_};
-ghost use mathlib.Core.Bool.{true};
+ghost use mathlib.Core.Bool.{true, cond};
 ghost use Prim.Native.Nat.{_≤_, _<_};
 ghost use Rattle.key_index.specs.Slots.{slots};
 ghost use Rattle.key_index.specs.inner.Ring.{namesRow, away};
@@ -36,13 +36,25 @@ fn home_away(t: Keyed, rows: &[u32], word: u32, at: u32) -> u32
     slots_away(n, home, at)
 }
 
-// Moves back each word whose way passes the hole, which then lies where that word stood, and gives the last hole.
+// One of two numbers, chosen without a branch: which one it is hangs on a hash, and no processor foresees it.
+fn either(first: bool, a: u32, b: u32) -> u32
+    ensures { λ r. ⌜ r ≡ cond first a b ⌝ }
+{
+    if first {
+        return a;
+    }
+    b
+}
+
+// Moves back each word whose way passes the hole, which then lies where that word stood, and gives the last hole. Where a word
+// stays the hole keeps the word that it has.
 fn close_gap(t: Keyed, rows: &[u32], store: &mut [u32], slot: u32) -> u32
     requires { ⌜ (Fits t (now rows) (now store)) × (slot < slots t) ⌝ }
     ensures { λ r. ⌜ Shifted t (now (rows .entry)) (now (store .entry)) slot r (now (store .exit)) ⌝ }
 {
     let n = 2 * t.capacity;
     let mut hole = slot;
+    let mut held = store[slot as usize];
     let mut gap = 0;
     let mut at = slot;
     let mut left = n;
@@ -54,11 +66,11 @@ fn close_gap(t: Keyed, rows: &[u32], store: &mut [u32], slot: u32) -> u32
         }
         gap += 1;
         left -= 1;
-        if gap <= home_away(t, rows, word, at) {
-            store[hole as usize] = word;
-            hole = at;
-            gap = 0;
-        }
+        let moves = gap <= home_away(t, rows, word, at);
+        held = either(moves, word, held);
+        store[hole as usize] = held;
+        hole = either(moves, at, hole);
+        gap = either(moves, 0, gap);
     }
     hole
 }

@@ -4,21 +4,27 @@ use native.Mathlib.Omega.{arith}
 use borrow.Author.Needs.{needs}
 use borrow.Author.Tests.{not-true, not-false}
 use Rattle.key_index.specs.Laws.Index.{rows-in}
-use Rattle.key_gaps.proofs.GapSteps.{Walk, begin, finish, stop, stay, move}
+use Rattle.key_gaps.proofs.GapSteps.{Walk, begin, finish, stop, turn}
 use Rattle.key_gaps.proofs.close_gap.Statement.{statement}
 use Rattle.key_gaps.proofs.close_gap.Tie as tie
 
 abbrev Inv-loop : tie.InvT-loop
-Inv-loop t rows store₀ slot n hole₀ gap₀ at₀ left₀ store hole gap at left = Walk t rows store₀ slot store hole gap at left
+Inv-loop t rows store₀ slot n hole₀ held₀ gap₀ at₀ left₀ store hole held gap at left = Walk t rows store₀ slot store hole held gap at left
 
 abbrev μ-loop : tie.MeasureT-loop
-μ-loop t rows store₀ slot n hole₀ gap₀ at₀ left₀ store hole gap at left = left
+μ-loop t rows store₀ slot n hole₀ held₀ gap₀ at₀ left₀ store hole held gap at left = left
 
 mul-n : tie.Need-mul-n Inv-loop μ-loop
 mul-n c = omega arith
 
+mul-held : tie.Need-mul-held Inv-loop μ-loop
+mul-held c = omega arith
+
+slice-read-held : tie.Need-slice-read-held Inv-loop μ-loop
+slice-read-held c = omega arith
+
 loop-holds : tie.Need-loop-holds Inv-loop μ-loop
-loop-holds c = begin _ _ _ _ (c .before .before .before .pre .1)
+loop-holds c = begin _ _ _ _ (c .before .before .before .before .pre .1)
 
 next-slot-requires : tie.Need-next-slot-requires Inv-loop μ-loop
 next-slot-requires c κs = c .before .loop .inv .at-in
@@ -40,7 +46,7 @@ same-length c = c .before .before .before .before .before .loop .inv .same
 
 returns : tie.Need-returns Inv-loop μ-loop
 returns c =
-    stop _ _ _ _ _ _ _ _ _ (c .before .before .before .before .before .loop .inv) _ (c .before .before .before .next-slot .ensures) (omega (arith, c .before .before .before .before .loop-test .taken)) (sym (c .before .names-row .ensures) ∙ not-true _ (c .if1 .taken))
+    stop _ _ _ _ _ _ _ _ _ _ (c .before .before .before .before .before .loop .inv) _ (c .before .before .before .next-slot .ensures) (omega (arith, c .before .before .before .before .loop-test .taken)) (sym (c .before .names-row .ensures) ∙ not-true _ (c .if1 .taken))
 
 add-gap : tie.Need-add-gap Inv-loop μ-loop
 add-gap c = omega arith
@@ -50,8 +56,11 @@ sub-left c = omega arith
 
 home-away-requires : tie.Need-home-away-requires Inv-loop μ-loop
 home-away-requires c κs =
-    let f = c .before .before .before .before .before .before .before .before .before .pre .0 in
+    let f = c .before .before .before .before .before .before .before .before .before .before .pre .0 in
     (rows-in _ _ _ f, sym (c .before .names-row .ensures) ∙ not-false _ (c .if1 .left), c .before .before .before .next-slot .ensures .1)
+
+either-requires : tie.Need-either-requires Inv-loop μ-loop
+either-requires c κs = tt
 
 cast-store : tie.Need-cast-store Inv-loop μ-loop
 cast-store c = search needs
@@ -62,29 +71,28 @@ mul-store c = omega arith
 slice-write-store : tie.Need-slice-write-store Inv-loop μ-loop
 slice-write-store c = omega arith
 
+either-requires-2 : tie.Need-either-requires-2 Inv-loop μ-loop
+either-requires-2 c κs = tt
+
+either-requires-3 : tie.Need-either-requires-3 Inv-loop μ-loop
+either-requires-3 c κs = tt
+
 loop-less : tie.Need-loop-less Inv-loop μ-loop
 loop-less c = omega arith
 
 loop-again : tie.Need-loop-again Inv-loop μ-loop
 loop-again c =
-    let l = c .before .before .before .before .before .before .before in
-    move _ _ _ _ _ _ _ _ _ (l .loop .inv) _ (c .before .before .before .before .before .next-slot .ensures) (omega (arith, c .before .before .before .before .before .before .loop-test .taken))
-    (sym (c .before .before .before .names-row .ensures) ∙ not-false _ (c .before .before .if1 .left)) (omega (arith, c .before .home-away .ensures))
-
-loop-less-2 : tie.Need-loop-less-2 Inv-loop μ-loop
-loop-less-2 c = omega arith
-
-loop-again-2 : tie.Need-loop-again-2 Inv-loop μ-loop
-loop-again-2 c =
-    let l = c .before .before .before .before .before .before .before in
-    stay _ _ _ _ _ _ _ _ _ (l .loop .inv) _ (c .before .before .before .before .before .next-slot .ensures) (omega (arith, c .before .before .before .before .before .before .loop-test .taken))
-    (sym (c .before .before .before .names-row .ensures) ∙ not-false _ (c .before .before .if1 .left)) (omega (arith, c .before .home-away .ensures))
+    let l = c .before .before .before .before .before .before .before .before .before in
+    let f = l .before .before .before .before .before .pre .0 in
+    turn _ _ _ _ _ _ _ _ _ _ (l .loop .inv) _ (c .before .before .before .before .before .before .before .next-slot .ensures) (omega (arith, c .before .before .before .before .before .before .before .before .loop-test .taken)) (f .long)
+    (sym (c .before .before .before .before .before .names-row .ensures) ∙ not-false _ (c .before .before .before .before .if1 .left)) _ _ _ _ (c .before .before .before .home-away .ensures)
+    (c .before .before .either .ensures) (c .before .either2 .ensures) (c .either3 .ensures)
 
 same-length-2 : tie.Need-same-length-2 Inv-loop μ-loop
 same-length-2 c = c .before .loop .inv .same
 
 returns-2 : tie.Need-returns-2 Inv-loop μ-loop
-returns-2 c = finish _ _ _ _ _ _ _ _ _ (c .before .loop .inv) (omega (arith, c .loop-test .left))
+returns-2 c = finish _ _ _ _ _ _ _ _ _ _ (c .before .loop .inv) (omega (arith, c .loop-test .left))
 
 pub close-gap-spec : {M : Type 1} → statement M
 close-gap-spec =
@@ -93,6 +101,8 @@ close-gap-spec =
     Inv-loop
     μ-loop
     mul-n
+    mul-held
+    slice-read-held
     loop-holds
     next-slot-requires
     cast-word
@@ -104,12 +114,13 @@ close-gap-spec =
     add-gap
     sub-left
     home-away-requires
+    either-requires
     cast-store
     mul-store
     slice-write-store
+    either-requires-2
+    either-requires-3
     loop-less
     loop-again
-    loop-less-2
-    loop-again-2
     same-length-2
     returns-2)
