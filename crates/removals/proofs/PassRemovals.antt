@@ -21,7 +21,7 @@ use Rattle.table.specs.Numbers.{openingOf}
 use Rattle.table.specs.Sound.{keyedOf}
 use Rattle.table.specs.Promises.{Stores, stores, Represents, SlotsPast}
 use Rattle.pending.specs.inner.Becoming.{Becomes, withDead, Waiting, kindOf, RecordLength, ofKind, Left, CanPass, NextRecord}
-use Rattle.removals.specs.inner.Removals.{removed, removedAll, died, Removal, RemovalAt, Removed, Removable, Removals, RemovalNext, RemovedNext}
+use Rattle.removals.specs.inner.Removals.{removed, removedAll, died, removalOf, Removal, RemovalAt, Removed, Removable, Removals, RemovalNext, RemovedNext}
 use Rattle.pending.specs.Laws.Steps.{steps-refl, steps-then, waiting-start, words-some, waiting-kind, waiting-hash, waiting-key, waiting-row, waiting-row-key}
 use Rattle.pending.proofs.PassRecords.{Next, record-long}
 
@@ -32,36 +32,32 @@ unfolding died
 died-few true = omega arith
 died-few false = omega arith
 
-module _ {h : Header} {rows keys pending : List ℕ} {at : ℕ} {r : Bool} {rows′ keys′ : List ℕ} where
-  -- by key
-  pub removed-key : Removal h rows keys (removeKey (take (at + 2 + h .keys - (at + 2)) (drop (at + 2) pending))) (getD pending (at + 1) 0) r rows′ keys′
-      → getD pending at 0 ≡ 1 → Removed h rows keys pending at r rows′ keys′
-  removed-key m k = record { past = m .past; table = table }
-    where
-      table : (removal : Staged) (rest : List Staged) → Next h pending at removal rest → (kindOf removal ≡ 0 → ⊥)
-          → (dead : ℕ) (sorts : List ℕ) (p : Plain) → Represents p (stores (withDead h dead) rows keys sorts pending)
-          → Becomes p (removed removal p) (stores (withDead h dead) rows keys sorts pending) (stores (withDead h (dead + died r)) rows′ keys′ sorts pending)
-      table (insert cells) rest w ne dead sorts p t = absurd (ne (unfold kindOf in refl))
-      table (removeKey key) rest w ne dead sorts p t =
-          let q : at + 2 + h .keys - (at + 2) ≡ h .keys = omega arith in
-          let m′ : Removal h rows keys (removeKey key) (getD pending (at + 1) 0) r rows′ keys′ = rw (q, waiting-key w) at m in
-          m′ .table (waiting-hash w) dead sorts pending p t
-      table (removeRow row key) rest w ne dead sorts p t = let e : getD pending at 0 ≡ 2 = unfold kindOf in waiting-kind w in absurd (omega arith)
+-- the removal that the words at a place say
+read-removal : (h : Header) (pending : List ℕ) (at : ℕ) (removal : Staged) (rest : List Staged) → Next h pending at removal rest → (kindOf removal ≡ 0 → ⊥)
+    → removalOf (getD pending at 0) (getD pending (at + 2) 0) (take (h .keys) (drop (at + 1 + getD pending at 0) pending)) ≡ removal
+unfolding kindOf removalOf
+read-removal h pending at (insert cells) rest w ne = absurd (ne refl)
+read-removal h pending at (removeKey key) rest w ne =
+    let e : getD pending at 0 ≡ 1 = waiting-kind w in
+    let f : at + 1 + getD pending at 0 ≡ at + 2 = omega arith in
+    rw (f, e) (ap removeKey (waiting-key w))
+read-removal h pending at (removeRow row key) rest w ne =
+    let e : getD pending at 0 ≡ 2 = waiting-kind w in
+    let f : at + 1 + getD pending at 0 ≡ at + 3 = omega arith in
+    rw (f, e) (ap (removeRow (getD pending (at + 2) 0)) (waiting-row-key w) ∙ ap (λ (i : ℕ). removeRow i key) (waiting-row w))
 
-  -- by row
-  pub removed-row : Removal h rows keys (removeRow (getD pending (at + 2) 0) (take (at + 3 + h .keys - (at + 3)) (drop (at + 3) pending))) (getD pending (at + 1) 0) r rows′ keys′
-      → (getD pending at 0 ≡ 1 → ⊥) → Removed h rows keys pending at r rows′ keys′
-  removed-row m k = record { past = m .past; table = table }
-    where
-      table : (removal : Staged) (rest : List Staged) → Next h pending at removal rest → (kindOf removal ≡ 0 → ⊥)
-          → (dead : ℕ) (sorts : List ℕ) (p : Plain) → Represents p (stores (withDead h dead) rows keys sorts pending)
-          → Becomes p (removed removal p) (stores (withDead h dead) rows keys sorts pending) (stores (withDead h (dead + died r)) rows′ keys′ sorts pending)
-      table (insert cells) rest w ne dead sorts p t = absurd (ne (unfold kindOf in refl))
-      table (removeKey key) rest w ne dead sorts p t = absurd (k (unfold kindOf in waiting-kind w))
-      table (removeRow row key) rest w ne dead sorts p t =
-          let q : at + 3 + h .keys - (at + 3) ≡ h .keys = omega arith in
-          let m′ : Removal h rows keys (removeRow row key) (getD pending (at + 1) 0) r rows′ keys′ = rw (q, waiting-row w, waiting-row-key w) at m in
-          m′ .table (waiting-hash w) dead sorts pending p t
+module _ {h : Header} {rows keys pending : List ℕ} {at : ℕ} {r : Bool} {rows′ keys′ : List ℕ} where
+  -- that removal is made
+  pub removed-record : Removal h rows keys (removalOf (getD pending at 0) (getD pending (at + 2) 0) (take (at + 1 + getD pending at 0 + h .keys - (at + 1 + getD pending at 0)) (drop (at + 1 + getD pending at 0) pending))) (getD pending (at + 1) 0) r rows′ keys′
+      → Removed h rows keys pending at r rows′ keys′
+  removed-record m =
+      record {
+        past = m .past;
+        table = λ removal rest w ne dead sorts p t.
+            let q : at + 1 + getD pending at 0 + h .keys - (at + 1 + getD pending at 0) ≡ h .keys = omega arith in
+            let m′ : Removal h rows keys removal (getD pending (at + 1) 0) r rows′ keys′ = rw (q, read-removal h pending at removal rest w ne) at m in
+            m′ .table (waiting-hash w) dead sorts pending p t;
+      }
 
   -- a record of the kind is made
   pub removed-kind : {kind : ℕ} (n : ℕ) → getD pending at 0 ≡ kind → 1 ≤ kind → n ≡ died r → Removed h rows keys pending at r rows′ keys′
@@ -161,18 +157,15 @@ module _ {h : Header} {rows keys pending : List ℕ} {kind : ℕ} (a : Removable
         where
           whole : getD pending at 0 ≡ kind → RemovalAt h pending at
           whole e =
-              let z : 0 < words = omega arith in
-              let i = removing-inside in
               let k = a .some-kind in
               let m = a .most-kind in
-              elim (ℕ-discrete (getD pending at 0) 1) [
-                | yes q ↦
-                    let n = v .here .of-key z q in
-                    record { of-key = omega (arith, a .pending-fits); of-row = λ f. absurd (f q) }
-                | no q ↦
-                    let n = v .here .of-row z (omega arith) in
-                    record { of-key = omega (arith, a .pending-fits); of-row = λ f. omega (arith, a .pending-fits) }
-              ]
+              record { some-kind = omega arith; most-kind = omega arith; whole = long (ℕ-discrete (getD pending at 0) 1) }
+            where
+              long : Dec (getD pending at 0 ≡ 1) → at + (h .keys + 1 + getD pending at 0) ≤ length pending
+              long (yes q) = omega (arith, v .here .of-key (omega arith) q, removing-inside, a .pending-fits)
+              long (no q) =
+                  let two : getD pending at 0 ≡ 2 = omega (arith, a .some-kind, a .most-kind) in
+                  omega (arith, v .here .of-row (omega arith) two, removing-inside, a .pending-fits)
 
       pub removing-passes : CanPass h pending at words
       removing-passes = record { here = v .here; some = omega arith; fits = a .pending-fits }

@@ -2,11 +2,15 @@
 -- a key. Assumes nothing.
 use Prim.Native.Nat.{ℕ, _+_, _*_, _≤_, _<_}
 use mathlib.Core.Path.{_≡_, refl, sym, ap, _∙_}
-use mathlib.Core.Bool.{Bool, true, false, not}
+use mathlib.Core.Bool.{Bool, true, false, not, false≢true}
+use mathlib.Core.Logic.{inl, inr}
 use mathlib.Core.List.{List}
 use native.Mathlib.Nat.{add-zero, mul-le-mul}
 use native.Mathlib.Omega.{arith}
+use lib.Dec.{eqb}
 use lib.ListN.{length, getD}
+use borrow.Author.Tests.{eqb-true, eqb-false, eq-eqb, ne-eqb, not-true, not-false}
+use Rattle.lists.specs.Laws.Keep.{split}
 use Rattle.lists.specs.Laws.Rows.{row-in, getD-rowAt}
 use Rattle.cells.specs.Cells.{isDead, compact, keyHash}
 use Rattle.constraints.specs.Constraints.{isLive}
@@ -23,7 +27,7 @@ use Rattle.table.specs.declared.Header.{Header}
 use Rattle.table.specs.Sound.{keyedOf}
 use Rattle.table.specs.Promises.{stores, Represents}
 use Rattle.pending.specs.inner.Becoming.{Becomes, withDead, hashOf}
-use Rattle.removals.specs.inner.Removals.{Kills, Removal, died, removed}
+use Rattle.removals.specs.inner.Removals.{Kills, removalOf, spared, Removal, died, removed}
 use Rattle.table.specs.Laws.Shown.{in-live}
 use Rattle.pending.specs.Laws.Steps.{steps-refl}
 use Rattle.pending.specs.Laws.Dying.{dying, dying-steps, withoutKey-none, withoutKey-one, withoutRow-none, withoutRow-one, withoutRow-other}
@@ -54,6 +58,15 @@ killed t rows keys row slot was rows′ keys′ f taken staled =
 
 -- ---- a removal
 
+-- one by key takes any row, one by row only the one that it names
+pub spared-key : (kind row found : ℕ) → kind ≡ 1 → false ≡ spared kind row found
+unfolding spared
+spared-key kind row found e = rw (eq-eqb kind 1 e)
+
+pub spared-row : (kind row found : ℕ) → (kind ≡ 1 → ⊥) → not (eqb found row) ≡ spared kind row found
+unfolding spared
+spared-row kind row found e = rw (ne-eqb kind 1 e)
+
 -- what a lookup asks, and a kill of the row that it finds
 pub find-fits : {t u : Keyed} {rows keys : List ℕ} {n : ℕ} → t ≡ u → (Fits u rows keys) × (n ≡ u .keys) → (Fits t rows keys) × (n ≡ t .keys)
 find-fits e f = rw e f
@@ -61,10 +74,6 @@ find-fits e f = rw e f
 pub kill-fits : {t u : Keyed} {rows keys key : List ℕ} {hash : ℕ} {found : Found} (row slot : ℕ) → t ≡ u → Fits u rows keys
     → FoundIs t rows keys key hash found → found ≡ At row slot → (Fits t rows keys) × (row < t .rows) × (slot < slots t)
 kill-fits row slot e f finds q = (rw e f, finds .row-in row slot q, finds .slot-in row slot q)
-
--- the row that it finds, by another name
-pub found-same : {found : Found} {at row slot : ℕ} → at ≡ row → found ≡ At at slot → found ≡ At row slot
-found-same e q = rw e at q
 
 -- nothing changes
 unchanged : {p p′ : Plain} (h : Header) {rows keys sorts pending : List ℕ} (dead : ℕ) → p′ ≡ p → Represents p (stores (withDead h dead) rows keys sorts pending)
@@ -77,7 +86,7 @@ module _ (h : Header) (rows keys key : List ℕ) (hash : ℕ) (t : Keyed) (numbe
   nowhere : found ≡ None → hash ≡ compact (keyHash key) → KeysSound (keyedOf h) rows keys → (i : ℕ) → LiveAt (keyedOf h) rows i → keyAt (keyedOf h) rows i ≡ key → ⊥
   nowhere q e sound = (rw numbers at finds) .none e sound q
 
-  pub key-absent : found ≡ None → Removal h rows keys (removeKey key) hash false rows keys
+  key-absent : found ≡ None → Removal h rows keys (removeKey key) hash false rows keys
   unfolding removed hashOf
   key-absent q =
       record {
@@ -85,7 +94,7 @@ module _ (h : Header) (rows keys key : List ℕ) (hash : ℕ) (t : Keyed) (numbe
         table = λ e dead sorts pending p r. unchanged h dead (withoutKey-none r key (nowhere q e (r .keyed))) r;
       }
 
-  pub row-absent : (row : ℕ) → found ≡ None → Removal h rows keys (removeRow row key) hash false rows keys
+  row-absent : (row : ℕ) → found ≡ None → Removal h rows keys (removeRow row key) hash false rows keys
   unfolding removed hashOf
   row-absent row q =
       record {
@@ -93,12 +102,17 @@ module _ (h : Header) (rows keys key : List ℕ) (hash : ℕ) (t : Keyed) (numbe
         table = λ e dead sorts pending p r. unchanged h dead (withoutRow-none r key (nowhere q e (r .keyed)) row) r;
       }
 
+  -- whichever kind it is
+  pub absent : (kind row : ℕ) → found ≡ None → Removal h rows keys (removalOf kind row key) hash false rows keys
+  unfolding removalOf
+  absent kind row q = elim (split (eqb kind 1)) [ inl e ↦ rw e (key-absent q) | inr e ↦ rw e (row-absent row q) ]
+
   module _ (at slot : ℕ) (is : found ≡ At at slot) where
     somewhere : hash ≡ compact (keyHash key) → KeysSound (keyedOf h) rows keys → FoundAt (keyedOf h) rows keys key at slot
     somewhere e sound = (rw numbers at finds) .at e sound at slot is
 
     -- it is another row
-    pub row-other : (row : ℕ) → (at ≡ row → ⊥) → Removal h rows keys (removeRow row key) hash false rows keys
+    row-other : (row : ℕ) → (at ≡ row → ⊥) → Removal h rows keys (removeRow row key) hash false rows keys
     unfolding removed hashOf
     row-other row ne =
         record {
@@ -107,6 +121,14 @@ module _ (h : Header) (rows keys key : List ℕ) (hash : ℕ) (t : Keyed) (numbe
               let f = somewhere e (r .keyed) in
               unchanged h dead (withoutRow-other r key at row (f .live) (f .key-is) ne) r;
         }
+
+    pub left-alone : (kind row : ℕ) → spared kind row at ≡ true → Removal h rows keys (removalOf kind row key) hash false rows keys
+    unfolding removalOf spared
+    left-alone kind row s =
+        elim (split (eqb kind 1)) [
+          | inl e ↦ absurd (false≢true (rw e at s))
+          | inr e ↦ rw e (row-other row (eqb-false at row (not-true _ (rw e at s))))
+        ]
 
     module _ (r : Bool) (rows′ keys′ : List ℕ) (long : 2 * h .capacity ≤ length keys′) (kills : Kills t rows keys at slot r rows′ keys′) where
       -- the live row of the key dies
@@ -120,7 +142,7 @@ module _ (h : Header) (rows keys key : List ℕ) (hash : ℕ) (t : Keyed) (numbe
           let sound : KeysSound (keyedOf h) rows′ keys′ = k .keyed (s .keyed) (f .live) (rw (f .key-is) (f .word-is)) in
           rw (lives, k .marks) (dying-steps s at (in-live s at (f .live)) keys′ long (rw (k .marks) at sound))
 
-      pub key-dead : Removal h rows keys (removeKey key) hash r rows′ keys′
+      key-dead : Removal h rows keys (removeKey key) hash r rows′ keys′
       unfolding removed hashOf
       key-dead =
           record {
@@ -130,7 +152,7 @@ module _ (h : Header) (rows keys key : List ℕ) (hash : ℕ) (t : Keyed) (numbe
                 rw (withoutKey-one s key at (f .live) (f .key-is)) (dead-now dead sorts pending e s);
           }
 
-      pub row-dead : Removal h rows keys (removeRow at key) hash r rows′ keys′
+      row-dead : Removal h rows keys (removeRow at key) hash r rows′ keys′
       unfolding removed hashOf
       row-dead =
           record {
@@ -139,3 +161,11 @@ module _ (h : Header) (rows keys key : List ℕ) (hash : ℕ) (t : Keyed) (numbe
                 let f = somewhere e (s .keyed) in
                 rw (withoutRow-one s key at (f .live) (f .key-is)) (dead-now dead sorts pending e s);
           }
+
+      pub dead-one : (kind row : ℕ) → spared kind row at ≡ false → Removal h rows keys (removalOf kind row key) hash r rows′ keys′
+      unfolding removalOf spared
+      dead-one kind row s =
+          elim (split (eqb kind 1)) [
+            | inl e ↦ rw e key-dead
+            | inr e ↦ rw (e, ← (eqb-true at row (not-false _ (rw e at s)))) row-dead
+          ]

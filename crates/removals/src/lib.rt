@@ -5,9 +5,8 @@ ghost use Prim.Native.Nat.{_<_};
 ghost use lib.ListN.{length};
 ghost use Rattle.key_index.specs.inner.Index.{Fits};
 ghost use Rattle.key_index.specs.Slots.{slots};
-ghost use Rattle.plain.specs.Staged.{removeKey, removeRow};
 ghost use Rattle.table.specs.Sound.{keyedOf};
-ghost use Rattle.removals.specs.inner.Removals.{Kills, Removal, RemovalAt, Removed, Removable, Removals, RemovalNext, RemovedNext};
+ghost use Rattle.removals.specs.inner.Removals.{Kills, removalOf, spared, Removal, RemovalAt, Removed, Removable, Removals, RemovalNext, RemovedNext};
 use key_index::Found;
 use key_index::Keyed;
 use pending::next_record;
@@ -26,61 +25,55 @@ fn kill(t: Keyed, rows: &mut [u32], keys: &mut [u32], row: u32, slot: u32) -> bo
     !row_buffer::set_stale(rows, at)
 }
 
-// The live row of a key dies. Answers whether there was one.
-pub fn remove_key(h: Header, rows: &mut [u32], keys: &mut [u32], key: &[u32], hash: u32) -> bool
-    requires { ⌜ Fits (keyedOf h) (now rows) (now keys) × (length (now key) ≡ h .keys) ⌝ }
-    ensures { λ r. ⌜ Removal h (now (rows .entry)) (now (keys .entry)) (removeKey (now (key .entry))) hash r (now (rows .exit)) (now (keys .exit)) ⌝ }
+// Whether a removal leaves the row that its key leads to: one by row does if it names another.
+fn is_spared(kind: u32, row: u32, found: u32) -> bool
+    ensures { λ r. ⌜ r ≡ spared kind row found ⌝ }
 {
-    let t = keyed(h);
-    let found = key_index::find(t, rows, keys, key, hash);
-    match found {
-        Found::None => false,
-        Found::At(row, slot) => kill(t, rows, keys, row, slot),
+    if kind == REMOVE_KEY {
+        return false;
     }
+    found != row
 }
 
-// A row dies if it is the live row of this key. Answers whether it is.
-pub fn remove_row(
+// The live row of a key dies; where the removal names a row, only if it is that one. Answers whether one died.
+fn remove_one(
     h: Header,
     rows: &mut [u32],
     keys: &mut [u32],
+    kind: u32,
     row: u32,
     key: &[u32],
     hash: u32,
 ) -> bool
     requires { ⌜ Fits (keyedOf h) (now rows) (now keys) × (length (now key) ≡ h .keys) ⌝ }
-    ensures { λ r. ⌜ Removal h (now (rows .entry)) (now (keys .entry)) (removeRow row (now (key .entry))) hash r (now (rows .exit)) (now (keys .exit)) ⌝ }
+    ensures { λ r. ⌜ Removal h (now (rows .entry)) (now (keys .entry)) (removalOf kind row (now (key .entry))) hash r (now (rows .exit)) (now (keys .exit)) ⌝ }
 {
     let t = keyed(h);
     let found = key_index::find(t, rows, keys, key, hash);
     match found {
         Found::None => false,
         Found::At(at, slot) => {
-            if at != row {
+            if is_spared(kind, row, at) {
                 return false;
             }
-            kill(t, rows, keys, row, slot)
+            kill(t, rows, keys, at, slot)
         }
     }
 }
 
-// The removal at a place of the pending store, of kind 1 or 2. Answers whether a row died.
+// The removal at a place of the pending store, of kind 1 or 2. Its key stands behind the hash and, by row, the row's number.
+// Answers whether a row died.
 fn remove_record(h: Header, rows: &mut [u32], keys: &mut [u32], pending: &[u32], at: u32) -> bool
     requires { ⌜ Fits (keyedOf h) (now rows) (now keys) × RemovalAt h (now pending) at ⌝ }
     ensures { λ r. ⌜ Removed h (now (rows .entry)) (now (keys .entry)) (now (pending .entry)) at r (now (rows .exit)) (now (keys .exit)) ⌝ }
 {
     let place = at as usize;
-    let width = h.keys as usize;
+    let kind = pending[place];
     let hash = pending[place + 1];
-    if pending[place] == REMOVE_KEY {
-        let from = place + 2;
-        let to = from + width;
-        return remove_key(h, rows, keys, &pending[from..to], hash);
-    }
     let row = pending[place + 2];
-    let from = place + 3;
-    let to = from + width;
-    remove_row(h, rows, keys, row, &pending[from..to], hash)
+    let from = place + 1 + kind as usize;
+    let to = from + h.keys as usize;
+    remove_one(h, rows, keys, kind, row, &pending[from..to], hash)
 }
 
 // The record at a place, if it is a removal of this kind. Answers how many rows died.

@@ -2,7 +2,7 @@
 -- nothing.
 use Prim.Native.Nat.{ℕ, _+_, _*_, _≤_, _<_}
 use mathlib.Core.Path.{_≡_}
-use mathlib.Core.Bool.{Bool, cond}
+use mathlib.Core.Bool.{Bool, false, cond, not}
 use mathlib.Core.List.{List, [], _∷_}
 use lib.ListN.{length, drop, getD, set}
 use lib.Dec.{eqb}
@@ -41,6 +41,14 @@ pub record Kills (t : Keyed) (rows keys : List ℕ) (row slot : ℕ) (r : Bool) 
   pub past : drop (slots t) keys′ ≡ drop (slots t) keys
   pub keyed : KeysSound t rows keys → LiveAt t rows row → getD keys slot 0 ≡ word (keyAt t rows row) row → KeysSound t rows′ keys′
 
+-- the removal with a kind, a row's number and a key; one by key leaves the number aside
+unfoldable pub removalOf : ℕ → ℕ → List ℕ → Staged
+removalOf kind row key = cond (eqb kind 1) (removeKey key) (removeRow row key)
+
+-- it leaves the live row of its key, which is another than it names
+unfoldable pub spared : ℕ → ℕ → ℕ → Bool
+spared kind row found = cond (eqb kind 1) false (not (eqb found row))
+
 -- one removal, with its key's hash, of a table with any number of dead rows
 pub record Removal (h : Header) (rows keys : List ℕ) (removal : Staged) (hash : ℕ) (r : Bool) (rows′ keys′ : List ℕ) : Type 0 where
   pub past : SlotsPast (h .capacity) keys keys′
@@ -50,8 +58,9 @@ pub record Removal (h : Header) (rows keys : List ℕ) (removal : Staged) (hash 
 
 -- a removal stands whole at a place of the pending store, as its first word says
 pub record RemovalAt (h : Header) (pending : List ℕ) (at : ℕ) : Type 0 where
-  pub of-key : at + (h .keys + 2) ≤ length pending
-  pub of-row : (getD pending at 0 ≡ 1 → ⊥) → at + (h .keys + 3) ≤ length pending
+  pub some-kind : 1 ≤ getD pending at 0
+  pub most-kind : getD pending at 0 ≤ 2
+  pub whole : at + (h .keys + 1 + getD pending at 0) ≤ length pending
 
 -- the removal at a place
 pub record Removed (h : Header) (rows keys pending : List ℕ) (at : ℕ) (r : Bool) (rows′ keys′ : List ℕ) : Type 0 where
