@@ -1,13 +1,15 @@
--- The ways through `known` and `meets`. Assumes nothing.
-use Prim.Native.Nat.{ℕ, _≤_, _<_}
+-- The ways through `met` and `meets`. Assumes nothing.
+use Prim.Native.Nat.{ℕ}
 use mathlib.Core.Path.{_≡_, refl}
-use mathlib.Core.Bool.{Bool, true, false, _&&_}
+use mathlib.Core.Logic.{inl, inr}
+use mathlib.Core.Bool.{Bool, true, false, cond, _&&_}
 use mathlib.Core.List.{List, [], _∷_}
-use lib.Dec.{ltb}
-use borrow.Author.Tests.{eq-eqb, ne-eqb, le-leb, lt-leb, le-ltb, lt-ltb}
+use lib.Dec.{eqb}
+use lib.ListN.{getD}
 use Rattle.lists.specs.Lists.{every}
+use Rattle.lists.specs.Laws.Keep.{split}
 use Rattle.constraints.specs.declared.Constraint.{Constraint}
-use Rattle.constraints.specs.Constraints.{known, met, isLive, meets}
+use Rattle.constraints.specs.Constraints.{compares, met, isLive, meets}
 
 and-true : (b : Bool) → (b && true) ≡ b
 and-true true = refl
@@ -21,20 +23,12 @@ pub meets-dead : (row : List ℕ) (c : Constraint) → isLive row ≡ false → 
 unfolding meets
 meets-dead row c e = rw e
 
-module _ (columns : ℕ) (c : Constraint) where
-  pub kind-unknown : 5 < c .kind → known columns c ≡ false
-  unfolding known
-  kind-unknown h = rw (lt-leb _ _ h)
-
-  module _ (low : c .kind ≤ 5) where
-    pub column-unknown : columns ≤ c .column → known columns c ≡ false
-    unfolding known
-    column-unknown h = rw (le-leb _ _ low, le-ltb _ _ h)
-
-    pub one-column : c .column < columns → (c .kind ≡ 0 → ⊥) → known columns c ≡ true
-    unfolding known
-    one-column h ne = rw (le-leb _ _ low, lt-ltb _ _ h, ne-eqb _ _ ne)
-
-    pub two-columns : c .column < columns → c .kind ≡ 0 → known columns c ≡ ltb (c .value) columns
-    unfolding known
-    two-columns h e = rw (le-leb _ _ low, lt-ltb _ _ h, eq-eqb _ _ e)
+-- kind 0 compares with a cell, the others with the value
+pub met-by : (row : List ℕ) (c : Constraint) (first other : ℕ) → first ≡ getD row (c .column) 0 → other ≡ cond (eqb (c .kind) 0) (getD row (c .value) 0) (c .value)
+    → cond (eqb (c .kind) 0) (eqb first other) (compares (c .kind) first other) ≡ met row c
+unfolding met
+met-by row c first other p q =
+    elim (split (eqb (c .kind) 0)) [
+      | inl e ↦ rw (p, q, e) refl
+      | inr e ↦ rw (p, q, e) refl
+    ]

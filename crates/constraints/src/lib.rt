@@ -1,7 +1,9 @@
 // Conditions: `Constraint` of table_spec.rs. Each contract cites its definition in specs/Constraints.antt; a column that
 // a row does not have reads as 0, there as here.
 ghost use mathlib.Core.Path.{_≡_};
+ghost use mathlib.Core.Bool.{cond};
 ghost use mathlib.Core.List.{_∷_, []};
+ghost use lib.Dec.{eqb};
 ghost use lib.ListN.{getD};
 ghost use Rattle.constraints.specs.Constraints as rules;
 
@@ -29,30 +31,24 @@ fn cell(row: &[u32], column: u32) -> u32
 pub fn known(c: Constraint, columns: u32) -> bool
     ensures { λ r. ⌜ r ≡ rules.known columns c ⌝ }
 {
-    if 5 < c.kind {
-        return false;
-    }
-    if columns <= c.column {
-        return false;
-    }
-    if c.kind != 0 {
-        return true;
-    }
-    c.value < columns
+    (c.kind <= 5) & (c.column < columns) & ((c.kind != 0) | (c.value < columns))
 }
 
-// A cell against a value, by the kinds 1 to 5. At most is not greater, and at least not less, so that a walk over rows has one
-// comparison to make for either.
-fn compares(kind: u32, cell: u32, value: u32) -> bool
-    ensures { λ r. ⌜ r ≡ rules.compares kind cell value ⌝ }
+// A cell against another, by kind 0, or a value, by the kinds 1 to 5. At most is not greater, and at least not less, so that a
+// walk over rows has one comparison to make for these four, its sides exchanged for two of them.
+fn compares(kind: u32, cell: u32, other: u32) -> bool
+    ensures { λ r. ⌜ r ≡ cond (eqb kind 0) (eqb cell other) (rules.compares kind cell other) ⌝ }
 {
-    if kind == 1 {
-        return cell == value;
+    if kind < 2 {
+        return cell == other;
     }
+    let mut low = cell;
+    let mut high = other;
     if (kind == 3) | (kind == 4) {
-        return (value < cell) == (kind == 3);
+        low = other;
+        high = cell;
     }
-    (cell < value) == (kind == 2)
+    (low < high) == (kind < 4)
 }
 
 // The cells of a row, dead or live, meet the condition.
@@ -60,10 +56,11 @@ pub fn met(c: Constraint, row: &[u32]) -> bool
     ensures { λ r. ⌜ r ≡ rules.met (now (row .entry)) c ⌝ }
 {
     let first = cell(row, c.column);
+    let mut other = c.value;
     if c.kind == 0 {
-        return first == cell(row, c.value);
+        other = cell(row, c.value);
     }
-    compares(c.kind, first, c.value)
+    compares(c.kind, first, other)
 }
 
 pub fn is_live(row: &[u32]) -> bool

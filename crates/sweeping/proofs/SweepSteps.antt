@@ -47,6 +47,19 @@ module _ (head : SubsetHead) (ids : List ℕ) where
   pub id-sparse : (place : ℕ) → head .dense ≡ false → getD ids place 0 ≡ getD (members (subsetOf head ids)) place 0
   id-sparse place e = rw (sparse-is head ids e, members-list ids)
 
+  -- in a range the id at the next place is one more, and no more than its end
+  module _ (s : Sweep) (e : head .dense ≡ true) (m : CanMove (subsetOf head ids) s) where
+    pub here-dense : s .id ≡ head .start + s .next
+    here-dense = m .id-is ∙ sym (id-dense (s .next) e (omega (arith, m .more, m .within)))
+
+    pub next-below : s .id + 1 ≤ head .end
+    next-below = omega (arith, here-dense, size-dense e, m .more, m .within)
+
+    pub next-dense : s .next + 1 < s .end → s .id + 1 ≡ getD (members (subsetOf head ids)) (s .next + 1) 0
+    next-dense l =
+        let k : s .id + 1 ≡ head .start + (s .next + 1) = omega (arith, here-dense) in
+        k ∙ id-dense (s .next + 1) e (omega (arith, l, m .within))
+
 -- ---- a row's cells
 
 -- the part of the store that is lent is the row
@@ -152,12 +165,15 @@ module _ (h : Header) (rows : List ℕ) (subset : Subset) (s : Sweep) (output : 
       }
 
 -- after an id is kept there is a place to move on from
-pub keeps-moves : (subset : Subset) (s : Sweep) (output : List ℕ) (s′ : Sweep) (output′ : List ℕ) → s .next < s .end → s .end ≤ size subset → Keeps s output s′ output′ → CanMove subset s′
-keeps-moves subset s output s′ output′ m w k =
+pub keeps-moves : (subset : Subset) (s : Sweep) (output : List ℕ) (s′ : Sweep) (output′ : List ℕ) → CanMove subset s → Keeps s output s′ output′ → CanMove subset s′
+keeps-moves subset s output s′ output′ m k =
     elim (ℕ-discrete (s′ .found .count) (s .most)) [
-      | yes e ↦ let q = k .stops e in record { more = omega (arith, q, k .next-is); within = omega (arith, q) }
-      | no n ↦ let q = k .goes-on n in record { more = omega (arith, q, k .next-is); within = omega (arith, q) }
+      | yes e ↦ let q = k .stops e in record { id-is = here; more = omega (arith, q, k .next-is, m .more); within = omega (arith, q, m .more, m .within) }
+      | no n ↦ let q = k .goes-on n in record { id-is = here; more = omega (arith, q, k .next-is, m .more); within = omega (arith, q, m .within) }
     ]
+  where
+    here : s′ .id ≡ getD (members subset) (s′ .next) 0
+    here = k .id-is ∙ m .id-is ∙ ap (λ (i : ℕ). getD (members subset) i 0) (sym (k .next-is))
 
 -- ---- the sweep
 
@@ -246,7 +262,7 @@ module _ (h : Header) (rows : List ℕ) (subset : Subset) (test : ℕ → Bool) 
         record {
           lies = next-lies;
           few = omega (arith, v .dead-is, dead-few h rows so-far, long, size-few h (length rows) subset asked, place-in);
-          can-move = record { more = m; within = omega (arith, v .within, w .within) };
+          can-move = record { id-is = v .id-is m; more = m; within = omega (arith, v .within, w .within) };
           can-add = λ q. record { output₀ = output₀; kept = keep test so-far; grows = v .grows; next = next-id (sym e ∙ q) };
         }
 

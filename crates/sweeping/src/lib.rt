@@ -168,13 +168,17 @@ fn keep_id(s: Sweep, out: &mut [u32]) -> Sweep
     n
 }
 
-// One place further.
+// One place further. In a range the id is one more, whether or not there is such a place.
 fn move_on(head: SubsetHead, ids: &[u32], s: Sweep) -> Sweep
     requires { ⌜ CanMove (subsetOf head (now ids)) s ⌝ }
     ensures { λ r. ⌜ Moves (subsetOf head (now (ids .entry))) s r ⌝ }
 {
     let mut n = s;
     n.next = s.next + 1;
+    if head.dense {
+        n.id = s.id + 1;
+        return n;
+    }
     if n.next < n.end {
         n.id = id_at(head, ids, n.next);
     }

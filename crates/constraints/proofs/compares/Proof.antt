@@ -1,17 +1,19 @@
 -- `constraints::compares` meets its contract. Assumes nothing.
-use Prim.Native.Nat.{ℕ}
+use Prim.Native.Nat.{ℕ, _≤_, _<_}
 use mathlib.Core.Path.{_≡_, refl, _∙_}
-use mathlib.Core.Logic.{inl, inr}
+use mathlib.Core.Logic.{inl, inr, ⊎-elim}
 use mathlib.Core.Bool.{Bool, true, false, cond, _||_, Bool·beq}
+use native.Mathlib.Decide.{ℕ-discrete}
+use native.Mathlib.Omega.{arith}
 use lib.Dec.{leb, ltb, eqb}
-use borrow.Author.Tests.{ltb-true, ltb-false, eqb-true, le-leb, lt-leb, eq-eqb, ne-eqb}
+use borrow.Author.Tests.{ltb-true, ltb-false, eqb-true, eqb-false, le-leb, lt-leb, le-ltb, ne-eqb}
 use Rattle.lists.specs.Laws.Keep.{split}
 use Rattle.lists.specs.Laws.Every.{or-no-left, or-no-right}
 use Rattle.constraints.specs.Constraints.{compares}
 use Rattle.constraints.proofs.compares.Statement.{statement}
 use Rattle.constraints.proofs.compares.Tie as tie
 
--- a comparison, or, unless the kind is the first of its two, its contrary
+-- a comparison, or, for at most and at least, its contrary
 kept : (a b : ℕ) (first : Bool) → Bool·beq (ltb a b) first ≡ cond first (ltb a b) (leb b a)
 kept a b first =
     elim (split (ltb a b)) [
@@ -27,29 +29,51 @@ kept a b first =
     by-not true = refl
     by-not false = refl
 
--- kinds 3 and 4
-greater : (kind cell value : ℕ) → (eqb kind 3 || eqb kind 4) ≡ true → Bool·beq (ltb value cell) (eqb kind 3) ≡ compares kind cell value
-unfolding compares
-greater kind cell value taken =
-    kept value cell (eqb kind 3) ∙ elim (split (eqb kind 3)) [
-      | inl e ↦ rw (eqb-true kind 3 e) refl
-      | inr e ↦ rw (eqb-true kind 4 (rw e at taken)) refl
-    ]
+module _ (kind cell other : ℕ) where
+  abbrev wanted : Bool
+  wanted = cond (eqb kind 0) (eqb cell other) (compares kind cell other)
 
--- kinds 2 and 5
-less : (kind cell value : ℕ) → eqb kind 1 ≡ false → (eqb kind 3 || eqb kind 4) ≡ false → Bool·beq (ltb cell value) (eqb kind 2) ≡ compares kind cell value
-unfolding compares
-less kind cell value other left = kept cell value (eqb kind 2) ∙ simp (other, or-no-left (eqb kind 3) (eqb kind 4) left, or-no-right (eqb kind 3) (eqb kind 4) left)
+  -- kinds 0 and 1
+  equal : kind < 2 → eqb cell other ≡ wanted
+  unfolding compares
+  equal l =
+      elim (ℕ-discrete kind 0) [
+        | yes e ↦ rw e refl
+        | no n ↦ let one : kind ≡ 1 = omega arith in rw one refl
+      ]
+
+  -- kinds 3 and 4
+  greater : (eqb kind 3 || eqb kind 4) ≡ true → Bool·beq (ltb other cell) (ltb kind 4) ≡ wanted
+  unfolding compares
+  greater taken =
+      kept other cell (ltb kind 4) ∙ elim (split (eqb kind 3)) [
+        | inl e ↦ rw (eqb-true kind 3 e) refl
+        | inr e ↦ rw (eqb-true kind 4 (rw e at taken)) refl
+      ]
+
+  -- kinds 2 and 5
+  less : 2 ≤ kind → (eqb kind 3 || eqb kind 4) ≡ false → Bool·beq (ltb cell other) (ltb kind 4) ≡ wanted
+  unfolding compares
+  less l left =
+      let three = or-no-left (eqb kind 3) (eqb kind 4) left in
+      let four = or-no-right (eqb kind 3) (eqb kind 4) left in
+      kept cell other (ltb kind 4) ∙ elim (ℕ-discrete kind 2) [
+        | yes e ↦ rw e refl
+        | no n ↦
+            let high : 4 ≤ kind = omega (arith, n, eqb-false kind 3 three) in
+            simp (ne-eqb kind 0 (omega arith), ne-eqb kind 1 (omega arith), ne-eqb kind 2 n, three, four, le-ltb kind 4 high)
+      ]
 
 returns : tie.Need-returns
-unfolding compares
-returns c = simp (eq-eqb _ _ (c .if1 .taken))
+returns c = let a = c .before .args in equal (a .kind) (a .cell) (a .other) (c .if1 .taken)
 
 returns-2 : tie.Need-returns-2
-returns-2 c = greater _ _ _ (c .if2 .taken)
-
-returns-3 : tie.Need-returns-3
-returns-3 c = less _ _ _ (ne-eqb _ _ (c .before .if1 .left)) (c .if2 .left)
+returns-2 c =
+    let a = c .before .before .args in
+    ⊎-elim
+    (λ w. rw (w .1, w .2) (greater (a .kind) (a .cell) (a .other) (w .0 .taken)))
+    (λ w. rw (w .1, w .2) (less (a .kind) (a .cell) (a .other) (c .before .if1 .left) (w .0 .left)))
+    (c .if2 .came)
 
 pub compares-spec : {M : Type 1} → statement M
-compares-spec = tie.close (tie.spec returns returns-2 returns-3)
+compares-spec = tie.close (tie.spec returns returns-2)

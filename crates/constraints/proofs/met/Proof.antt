@@ -1,7 +1,9 @@
 -- `constraints::met` meets its contract. Assumes nothing.
+use mathlib.Core.Path.{_∙_}
+use mathlib.Core.Logic.{⊎-elim}
 use borrow.Author.Needs.{needs}
 use borrow.Author.Tests.{eq-eqb, ne-eqb}
-use Rattle.constraints.specs.Constraints.{met}
+use Rattle.constraints.proofs.Laws.{met-by}
 use Rattle.constraints.proofs.met.Statement.{statement}
 use Rattle.constraints.proofs.met.Tie as tie
 
@@ -11,16 +13,17 @@ cell-requires c κs = search needs
 cell-requires-2 : tie.Need-cell-requires-2
 cell-requires-2 c κs = search needs
 
-returns : tie.Need-returns
-unfolding met
-returns c = simp (eq-eqb _ _ (c .before .if1 .taken), c .before .before .before .cell .ensures, c .cell2 .ensures)
-
 compares-requires : tie.Need-compares-requires
 compares-requires c κs = search needs
 
-returns-2 : tie.Need-returns-2
-unfolding met
-returns-2 c = simp (ne-eqb _ _ (c .before .if1 .left), c .compares .ensures, c .before .before .before .cell .ensures)
+returns : tie.Need-returns
+returns c =
+    let a = c .before .before .before .before .before .args in
+    c .compares .ensures ∙ met-by (a .row .now) (a .c) _ _ (c .before .before .before .cell .ensures)
+    (⊎-elim
+    (λ w. rw (eq-eqb _ _ (w .0 .taken)) (w .2 ∙ w .1 .ensures))
+    (λ w. rw (ne-eqb _ _ (w .0 .left)) (w .1))
+    (c .before .if1 .came))
 
 pub met-spec : {M : Type 1} → statement M
-met-spec = tie.close (tie.spec cell-requires cell-requires-2 returns compares-requires returns-2)
+met-spec = tie.close (tie.spec cell-requires cell-requires-2 compares-requires returns)

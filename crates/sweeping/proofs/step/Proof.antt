@@ -22,7 +22,7 @@ keep-id-requires : tie.Need-keep-id-requires
 keep-id-requires c κs = let p = c .before .before .before .before .before .before .before .pre in (p .can-move .more, p .can-add (not-false _ (c .before .if1 .left)))
 
 move-on-requires-2 : tie.Need-move-on-requires-2
-move-on-requires-2 c κs = let p = c .before .before .before .before .before .before .before .before .before .before .pre .can-move in keeps-moves _ _ _ _ _ (p .more) (p .within) (c .before .before .keep-id .ensures)
+move-on-requires-2 c κs = let p = c .before .before .before .before .before .before .before .before .before .before .pre .can-move in keeps-moves _ _ _ _ _ (record { id-is = p .id-is; more = p .more; within = p .within }) (c .before .before .keep-id .ensures)
 
 same-length : tie.Need-same-length
 same-length c = search needs

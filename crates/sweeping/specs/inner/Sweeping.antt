@@ -139,6 +139,7 @@ pub record Swept (h : Header) (rows : List ℕ) (subset : Subset) (test : ℕ �
 pub record Keeps (s : Sweep) (output : List ℕ) (s′ : Sweep) (output′ : List ℕ) : Type 0 where
   pub refused-is : s′ .refused ≡ s .refused
   pub next-is : s′ .next ≡ s .next
+  pub id-is : s′ .id ≡ s .id
   pub most-is : s′ .most ≡ s .most
   pub dead-is : s′ .dead ≡ s .dead
   pub adds : Adds output (s .found) (s .id) (s′ .found) output′
@@ -147,6 +148,7 @@ pub record Keeps (s : Sweep) (output : List ℕ) (s′ : Sweep) (output′ : Lis
 
 -- one place further
 pub record CanMove (subset : Subset) (s : Sweep) : Type 0 where
+  pub id-is : s .id ≡ getD (members subset) (s .next) 0
   pub more : s .next < s .end
   pub within : s .end ≤ size subset
 
