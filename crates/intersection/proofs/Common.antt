@@ -135,28 +135,6 @@ module _ (ids others output₀ output : List ℕ) (i o n : ℕ) (f : Fitting ids
         cells = s .cells ∙ ap (putAt output₀ 0) (sym m);
       }
 
-  -- the walk's three ways round
-  pub walk-other : o < length others → getD others o 0 < getD ids i 0 → Meets ids others output₀ output i (o + 1) n
-  walk-other k q =
-      record {
-        at = s .at;
-        few = s .few;
-        past = λ m. (let a = notBelow-past (getD ids i 0) others (g .up) o k q in omega arith);
-        same = s .same;
-        number = s .number;
-        cells = s .cells;
-      }
-
-  pub walk-hit : o < length others → getD ids i 0 ≡ getD others o 0 → Meets ids others output₀ (set output n (getD ids i 0)) (i + 1) (o + 1) (n + 1)
-  walk-hit k q = hit o k (sym q)
-
-  pub walk-miss : o < length others → getD ids i 0 ≤ getD others o 0 → (getD ids i 0 ≡ getD others o 0 → ⊥) → Meets ids others output₀ output (i + 1) o n
-  walk-miss k q d =
-      let a = s .past h in
-      let b = notBelow-upto (getD ids i 0) others (g .up) o k q in
-      let e : firstNotBelow (getD ids i 0) others ≡ o = omega arith in
-      miss o (has-not-notBelow (getD ids i 0) others (g .up) (λ m r. d (sym (rw e at r)))) a
-
   -- the scan's two ways round
   pub scan-hit : (p : ℕ) → Scanned others o (getD ids i 0) (Hit p) → Meets ids others output₀ (set output n (getD ids i 0)) (i + 1) (p + 1) (n + 1)
   unfolding scan scanPlace
@@ -205,6 +183,45 @@ pub meets-end : (ids others output₀ output : List ℕ) (i o n : ℕ) → Meets
 meets-end ids others output₀ output i o n s h =
     let e : take i ids ≡ ids = take-all i ids h in
     record { number = s .number ∙ ap (λ (l : List ℕ). length (common l others)) e; cells = s .cells ∙ ap (λ (l : List ℕ). putAt output₀ 0 (common l others)) e }
+
+-- ---- the walk in step, with the two ids at hand
+
+pub record Walking (ids others output₀ output : List ℕ) (i o n id other : ℕ) : Type 0 where
+  pub meets : Meets ids others output₀ output i o n
+  pub more : i < length ids
+  pub others-more : o < length others
+  pub here : id ≡ getD ids i 0
+  pub there : other ≡ getD others o 0
+
+module _ (ids others output₀ output : List ℕ) (i o n id other : ℕ) (f : Fitting ids output₀) (g : Searchable others) (w : Walking ids others output₀ output i o n id other) where
+  s : Meets ids others output₀ output i o n
+  s = w .meets
+
+  pub past-other : other < id → Meets ids others output₀ output i (o + 1) n
+  past-other q =
+      record {
+        at = s .at;
+        few = s .few;
+        past = λ m. (let a = notBelow-past (getD ids i 0) others (g .up) o (w .others-more) (omega (arith, q, w .here, w .there)) in omega arith);
+        same = s .same;
+        number = s .number;
+        cells = s .cells;
+      }
+
+  module _ (output′ : List ℕ) (n′ : ℕ) where
+    pub past-hit : id ≡ other → output′ ≡ set output n id → n′ ≡ n + 1 → Meets ids others output₀ output′ (i + 1) o n′
+    past-hit q e k =
+        let m = hit ids others output₀ output i o n f g s (w .more) o (w .others-more) (sym (w .there) ∙ sym q ∙ w .here) in
+        rw (e, k, w .here) (record { at = m .at; few = m .few; past = λ h. (let a = m .past h in omega arith); same = m .same; number = m .number; cells = m .cells })
+
+    pub past-miss : id ≤ other → (id ≡ other → ⊥) → output′ ≡ output → n′ ≡ n → Meets ids others output₀ output′ (i + 1) o n′
+    past-miss q d e k =
+        let a = s .past (w .more) in
+        let b = notBelow-upto (getD ids i 0) others (g .up) o (w .others-more) (omega (arith, q, w .here, w .there)) in
+        let p : firstNotBelow (getD ids i 0) others ≡ o = omega arith in
+        rw (e, k)
+        (miss ids others output₀ output i o n f g s (w .more) o
+        (has-not-notBelow (getD ids i 0) others (g .up) (λ m r. d (w .here ∙ sym (rw p at r) ∙ sym (w .there)))) a)
 
 -- from either side
 pub common-comm : (ids others : List ℕ) → rising ids ≡ true → rising others ≡ true → common ids others ≡ common others ids
