@@ -2,11 +2,14 @@
 // and its ends. `offset_search`, `intersection` and `retain` beside this crate are the rest of the subset layer; specs/Laws
 // has the set laws, by which proofs above it go.
 ghost use mathlib.Core.Path.{_≡_};
+ghost use mathlib.Core.Bool.{true};
+ghost use lib.ListN.{length};
 ghost use Prim.Native.Nat.{_<_};
 ghost use Rattle.lists.specs.Lists.{rising};
 ghost use Rattle.offsets.specs.Subsets as subsets;
 ghost use Rattle.offsets.specs.Subsets.{wellFormed};
 ghost use Rattle.offsets.specs.Answers.{subsetOf};
+ghost use Rattle.offsets.specs.inner.Rising.{Onward};
 ghost use Rattle.offsets.specs.inner.Writing as ends;
 ghost use Rattle.offsets.specs.inner.Writing.{boundsSays};
 
@@ -27,12 +30,61 @@ pub enum SubsetAnswer {
 
 const LONGEST_LIST: usize = 65536;
 
-// How many ids the test for rising goes on by at a time: few enough that the compiler unrolls a block's loop.
-const BLOCK: usize = 64;
+// How many ids the test for rising by small steps goes on by at a time, and half of them: few enough that the compiler unrolls
+// a block's loop.
+const BLOCK: usize = 128;
 
-// The ids of a block rise strictly. All of them are looked at, with no return on the way, so that the test compiles to
-// vector code.
-fn is_block_rising(ids: &[u32]) -> bool
+const HALF: usize = 64;
+
+// A step of at most 2^24 gives no less when the later id is taken from the earlier one, modulo 2^32.
+const SMALL_STEP: u32 = 0xff00_0000;
+
+// From an id below this, 64 small steps stay below 2^32.
+const LOW: u32 = 0x8000_0000;
+
+// The ids of a block and the next one rise strictly by small steps. All of them are looked at, with no return on the way, so
+// that the test compiles to vector code; what it costs are reads, so in the second half each id is kept for the next turn.
+// A difference saves what vector code lacks: a comparison of unsigned numbers.
+fn rises_by_small_steps(ids: &[u32]) -> bool
+    requires { ⌜ length (now ids) ≡ 129 ⌝ }
+    ensures { λ r. ⌜ (r ≡ true → rising (now (ids .entry)) ≡ true) ⌝ }
+{
+    let mut last = ids[HALF];
+    if LOW <= ids[0] {
+        return false;
+    }
+    if LOW <= last {
+        return false;
+    }
+    let mut rises = true;
+    let mut i = 1;
+    while i <= HALF {
+        let id = ids[HALF + i];
+        let step = std::num::wrapping_sub_u32(ids[i - 1], ids[i]);
+        let second = std::num::wrapping_sub_u32(last, id);
+        rises = rises & (SMALL_STEP <= step) & (SMALL_STEP <= second);
+        last = id;
+        i += 1;
+    }
+    rises
+}
+
+// A place up to which the ids rise by small steps, block by block, each from the last id of the one before.
+fn past_small_steps(ids: &[u32]) -> usize
+    ensures { λ r. ⌜ Onward (now (ids .entry)) r ⌝ }
+{
+    let mut at = 0;
+    while BLOCK < ids.len() - at {
+        if !rises_by_small_steps(&ids[at..at + BLOCK + 1]) {
+            return at;
+        }
+        at += BLOCK;
+    }
+    at
+}
+
+// The ids rise strictly, whatever the steps.
+fn rises_pairwise(ids: &[u32]) -> bool
     ensures { λ r. ⌜ r ≡ rising (now (ids .entry)) ⌝ }
 {
     let mut rises = true;
@@ -44,18 +96,12 @@ fn is_block_rising(ids: &[u32]) -> bool
     rises
 }
 
-// The ids rise strictly: block by block up to the first that does not rise, each from the last id of the one before.
+// The ids rise strictly.
 fn is_rising(ids: &[u32]) -> bool
     ensures { λ r. ⌜ r ≡ rising (now (ids .entry)) ⌝ }
 {
-    let mut at = 0;
-    while BLOCK < ids.len() - at {
-        if !is_block_rising(&ids[at..at + BLOCK + 1]) {
-            return false;
-        }
-        at += BLOCK;
-    }
-    is_block_rising(&ids[at..])
+    let at = past_small_steps(ids);
+    rises_pairwise(&ids[at..])
 }
 
 pub fn is_well_formed(head: SubsetHead, ids: &[u32]) -> bool

@@ -1,10 +1,10 @@
--- `offsets::is_block_rising` meets its contract. Assumes nothing.
+-- `offsets::rises_pairwise` meets its contract. Assumes nothing.
 use Prim.Native.Nat.{_-_}
 use lib.ListN.{length}
 use borrow.Author.Needs.{needs}
 use Rattle.offsets.proofs.Rising.{Tested, tested-begin, tested-more, tested-all}
-use Rattle.offsets.proofs.is_block_rising.Statement.{statement}
-use Rattle.offsets.proofs.is_block_rising.Tie as tie
+use Rattle.offsets.proofs.rises_pairwise.Statement.{statement}
+use Rattle.offsets.proofs.rises_pairwise.Tie as tie
 
 abbrev Inv-loop : tie.InvT-loop
 Inv-loop ids rises₀ i₀ rises i = Tested ids rises i
@@ -42,8 +42,8 @@ loop-again c = tested-more _ _ _ (c .before .before .before .loop .inv) (c .befo
 returns : tie.Need-returns Inv-loop μ-loop
 returns c = tested-all _ _ _ (c .before .loop .inv) (c .loop-test .left)
 
-pub is-block-rising-spec : {M : Type 1} → statement M
-is-block-rising-spec =
+pub rises-pairwise-spec : {M : Type 1} → statement M
+rises-pairwise-spec =
     tie.close
     (tie.spec
     Inv-loop
