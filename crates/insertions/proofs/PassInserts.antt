@@ -7,8 +7,9 @@ use mathlib.Core.List.{List, [], _∷_}
 use native.Mathlib.Numerals.{add-one}
 use native.Mathlib.Omega.{arith}
 use lib.ListN.{length, take, drop, getD}
+use borrow.Author.Tests.{ne-eqb}
 use Rattle.lists.specs.Lists.{keep}
-use Rattle.plain.specs.Staged.{Staged, insert, removeKey, removeRow, inserts}
+use Rattle.plain.specs.Staged.{Staged, insert, removeKey, removeRow, wordsOf, inserts}
 use Rattle.plain.specs.Plain.{unchanged, appended, stopped, Inserted, inserted, insertAll, Plain, insertion}
 use Rattle.table.specs.declared.Header.{Header}
 use Rattle.insertions.specs.declared.Passed.{Passed}
@@ -16,10 +17,10 @@ use Rattle.appending.specs.declared.Insertion.{Insertion}
 use Rattle.appending.specs.declared.Insertion.the-variants.{Kept, Appended, Stopped}
 use Rattle.table.specs.Numbers.{openingOf}
 use Rattle.table.specs.Promises.{Stores, stores, Represents, SlotsPast}
-use Rattle.pending.specs.inner.Becoming.{Becomes, Recounted, Ready, Waiting, kindOf, RecordLength, ofKind, Left, CanPass, NextRecord}
-use Rattle.insertions.specs.inner.Insertions.{InsertedTable, Insertions, InsertNext, InsertGoes, InsertedNext}
+use Rattle.pending.specs.inner.Becoming.{Becomes, Recounted, Ready, Waiting, kindOf, RecordLength, ofKind, Left, NextRecord}
+use Rattle.insertions.specs.inner.Insertions.{InsertedTable, Insertions, FirstInsert, InsertNext, InsertGoes, InsertedNext}
 use Rattle.inserts.specs.inner.Inserting.{Comes, Inserting}
-use Rattle.pending.specs.Laws.Steps.{steps-refl, steps-then, waiting-start, words-some, waiting-kind, waiting-hash, waiting-cells, recounted-refl, recounted-capacity, recounted-then, recounted-waiting}
+use Rattle.pending.specs.Laws.Steps.{steps-refl, steps-then, waiting-start, words-some, waiting-next, waiting-kind, waiting-hash, waiting-cells, recounted-refl, recounted-capacity, recounted-then, recounted-waiting}
 use Rattle.pending.proofs.PassRecords.{Next, record-long}
 
 -- ---- one insert
@@ -144,7 +145,27 @@ module _ {m : Passed} {rows keys sorts pending : List ℕ} {at : ℕ} (a : Inser
               stops = λ f. goes-stopped cells rest (m .place) (m .added) p n (x .0);
             }
 
--- ---- the loop over the inserts
+-- ---- where the pass begins
+
+-- at the first record
+pub first-here : {h : Header} {pending : List ℕ} → FirstInsert h pending 0
+first-here = record { inside = omega arith; left = λ records w. record { left = records; same = refl; waiting = w } }
+
+-- it is a removal, and is passed over
+removal-first : (first : Staged) (rest : List Staged) → (kindOf first ≡ 0 → ⊥) → keep (ofKind 0) (first ∷ rest) ≡ keep (ofKind 0) rest
+unfolding keep
+removal-first first rest ne = rw (ne-eqb (kindOf first) 0 ne)
+
+pub first-later : {h : Header} {pending : List ℕ} {words next : ℕ} → RecordLength h pending 0 words → (words ≡ 0 → ⊥) → (getD pending 0 0 ≡ 0 → ⊥)
+    → NextRecord h pending 0 words 0 next → FirstInsert h pending next
+first-later {h} {pending} {words} {next} l some other passes = record { inside = passes .inside; left = left }
+  where
+    left : (records : List Staged) → Waiting (openingOf h) pending (h .pending) 0 records → Left h pending 0 next records
+    left [] w = absurd (some (l .none w))
+    left (first ∷ rest) w =
+        let x = passes .rest first rest w in
+        let e = removal-first first rest (λ z. other (waiting-kind w ∙ z)) in
+        record { left = x .left; same = e ∙ x .same; waiting = x .waiting }
 
 -- removals make no difference
 inserts-wanted : (records : List Staged) → inserts records ≡ inserts (keep (ofKind 0) records)
@@ -156,6 +177,8 @@ inserts-wanted (removeRow row key ∷ rest) = inserts-wanted rest
 
 inserts-left : {h : Header} {pending : List ℕ} {at : ℕ} {records : List Staged} (l : Left h pending 0 at records) → inserts records ≡ inserts (l .left)
 inserts-left {h} {pending} {at} {records} l = inserts-wanted records ∙ ap inserts (l .same) ∙ sym (inserts-wanted (l .left))
+
+-- ---- the loop over the inserts
 
 -- what the inserts so far have come to, and the records still to come
 pub record Inserts (at : ℕ) (m : Passed) (p : Plain) (s s′ : Stores) : Type 0 where
@@ -199,11 +222,11 @@ module _ {h : Header} {rows keys sorts pending : List ℕ} (a : Ready h rows key
   abbrev Start : Stores
   Start = stores h rows keys sorts pending
 
-  pub filling-begin : {words : ℕ} → RecordLength h pending 0 words → Filling h rows keys sorts pending rows keys sorts (passed h 0 0 false) 0 words
-  filling-begin l =
+  pub filling-begin : {at words : ℕ} → FirstInsert h pending at → RecordLength h pending at words → Filling h rows keys sorts pending rows keys sorts (passed h 0 0 false) at words
+  filling-begin f l =
       record {
         here = l;
-        inside = omega arith;
+        inside = f .inside;
         going = refl;
         place-fits = omega arith;
         ready = a;
@@ -212,7 +235,10 @@ module _ {h : Header} {rows keys sorts pending : List ℕ} (a : Ready h rows key
         keys-same = refl;
         sorts-same = refl;
         past = refl;
-        table = λ p t. record { now = p; rest = p .staged; waiting = waiting-start t; same = refl; steps = steps-refl t };
+        table = λ p t.
+            let x = f .left (p .staged) (waiting-start t) in
+            let same = ap (λ (cells : List (List ℕ)). insertAll cells 0 false p) (inserts-left x) in
+            record { now = p; rest = x .left; waiting = x .waiting; same = same; steps = steps-refl t };
       }
 
   module _ {rows′ keys′ sorts′ : List ℕ} {m : Passed} {at words : ℕ} (v : Filling h rows keys sorts pending rows′ keys′ sorts′ m at words) where
@@ -222,9 +248,6 @@ module _ {h : Header} {rows keys sorts pending : List ℕ} (a : Ready h rows key
 
       pub filling-inside : at + words ≤ h .pending
       filling-inside = v .here .inside (omega arith)
-
-      pub filling-passes : CanPass h pending at words
-      filling-passes = record { here = v .here; some = omega arith; fits = a .pending-fits }
 
       -- the record at the place stands whole
       pub filling-requires : InsertNext m rows′ keys′ sorts′ pending at
@@ -251,10 +274,9 @@ module _ {h : Header} {rows keys sorts pending : List ℕ} (a : Ready h rows key
 
         -- the turn of a table's next record
         pub record Turn (p : Plain) : Type 0 where
-          pub first : Staged
           pub rest : List Staged
           pub next : Plain
-          pub waiting : Next h pending at first rest
+          pub waiting : Waiting (openingOf h) pending (h .pending) (at + words) rest
           pub steps : Becomes p next Start (stores (r .header) rows″ keys″ sorts″ pending)
           pub goes-on : r .status ≡ 0 → insertAll (inserts (p .staged)) 0 false p ≡ insertAll (inserts rest) (r .place) (r .added) next
           pub stops : (r .status ≡ 0 → ⊥) → insertAll (inserts (p .staged)) 0 false p ≡ inserted next (r .status) (r .place) (r .added)
@@ -267,28 +289,27 @@ module _ {h : Header} {rows keys sorts pending : List ℕ} (a : Ready h rows key
             go (first ∷ rest) e =
                 let g = v .table p t in
                 let w : Next h pending at first rest = rw e at (g .waiting) in
+                let n : words ≡ wordsOf (openingOf h) first = v .here .next first rest w in
                 let x = one .table (v .going) first rest (recounted-waiting (v .header) w) (g .now) (g .steps .represents) in
                 let q : insertAll (inserts (p .staged)) 0 false p ≡ insertAll (inserts (first ∷ rest)) (m .place) (m .added) (g .now) = rw (← e) (g .same) in
                 record {
-                  first = first;
                   rest = rest;
                   next = x .next;
-                  waiting = w;
+                  waiting = rw n (waiting-next w);
                   steps = steps-then t (g .steps) (x .steps);
                   goes-on = λ z. q ∙ x .goes-on z;
                   stops = λ f. q ∙ x .stops f;
                 }
 
         -- once more
-        pub filling-again : {at′ words′ : ℕ} → r .status ≡ 0 → NextRecord h pending at words 0 at′ → RecordLength h pending at′ words′
-            → length rows″ ≡ length rows′ → length keys″ ≡ length keys′ → length sorts″ ≡ length sorts′
-            → Filling h rows keys sorts pending rows″ keys″ sorts″ r at′ words′
-        filling-again z passes l same-rows same-keys same-sorts =
+        pub filling-again : {next : ℕ} → r .status ≡ 0 → RecordLength h pending (at + words) next → length rows″ ≡ length rows′ → length keys″ ≡ length keys′ → length sorts″ ≡ length sorts′
+            → Filling h rows keys sorts pending rows″ keys″ sorts″ r (at + words) next
+        filling-again z l same-rows same-keys same-sorts =
             record {
               here = l;
-              inside = passes .inside;
+              inside = filling-inside;
               going = z;
-              place-fits = omega (arith, filling-long, v .place-fits, one .place-fits, passes .on);
+              place-fits = omega (arith, filling-long, v .place-fits, one .place-fits);
               ready = ready-again (v .ready) (one .header) same-rows same-keys same-sorts;
               header = header-then;
               rows-same = same-rows ∙ v .rows-same;
@@ -297,9 +318,7 @@ module _ {h : Header} {rows keys sorts pending : List ℕ} (a : Ready h rows key
               past = past-then;
               table = λ p t.
                   let x = turn p t in
-                  let left = passes .rest (x .first) (x .rest) (x .waiting) in
-                  let same = ap (λ (cells : List (List ℕ)). insertAll cells (r .place) (r .added) (x .next)) (inserts-left left) in
-                  record { now = x .next; rest = left .left; waiting = left .waiting; same = x .goes-on z ∙ same; steps = x .steps };
+                  record { now = x .next; rest = x .rest; waiting = x .waiting; same = x .goes-on z; steps = x .steps };
             }
 
         -- the insert stopped the merge

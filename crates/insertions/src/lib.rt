@@ -1,6 +1,8 @@
 // All inserts of a merge, one after another: `do_insert` of table/mod.rs.
 ghost use Rattle.pending.specs.inner.Becoming.{Ready};
-ghost use Rattle.insertions.specs.inner.Insertions.{Insertions, InsertNext, InsertedNext};
+ghost use Prim.Native.Nat.{_≤_};
+ghost use lib.ListN.{length};
+ghost use Rattle.insertions.specs.inner.Insertions.{Insertions, FirstInsert, InsertNext, InsertedNext};
 use appending::Insertion;
 use inserts::insert_row;
 use pending::next_record;
@@ -14,6 +16,21 @@ pub struct Passed {
     pub status: u32,
     pub place: u32,
     pub added: bool,
+}
+
+// Where a pass over the inserts begins: at the first record or, if that is a removal, behind all of its kind that follow it.
+fn first_place(h: Header, pending: &[u32]) -> u32
+    requires { ⌜ (h .columns ≤ 8) × (h .keys ≤ 8) × (h .pending ≤ length (now pending)) ⌝ }
+    ensures { λ r. ⌜ FirstInsert h (now (pending .entry)) r ⌝ }
+{
+    let words = record_length(h, pending, 0);
+    if words == 0 {
+        return 0;
+    }
+    if pending[0] == INSERT {
+        return 0;
+    }
+    next_record(h, pending, 0, words, INSERT)
 }
 
 // The record at a place, if it is an insert. Takes what the inserts before it have come to, and answers with what it comes
@@ -57,7 +74,7 @@ fn insert_next(
     }
 }
 
-// All inserts, in staging order, until one must be appended and cannot be. Runs of removals are passed over.
+// All inserts, in staging order, until one must be appended and cannot be. A run of removals before them is passed over.
 pub fn insert_all(
     h: Header,
     rows: &mut [u32],
@@ -74,14 +91,14 @@ pub fn insert_all(
         place: 0,
         added: false,
     };
-    let mut at: u32 = 0;
+    let mut at = first_place(h, pending);
     let mut words = record_length(h, pending, at);
     while words != 0 {
         done = insert_next(done, rows, keys, sorts, pending, at);
         if done.status != 0 {
             return done;
         }
-        at = next_record(h, pending, at, words, INSERT);
+        at += words;
         words = record_length(h, pending, at);
     }
     done.place = 0;

@@ -2,7 +2,7 @@
 -- still to come do from here. Assumes nothing.
 use Prim.Native.Nat.{_-_}
 use native.Mathlib.Omega.{arith}
-use Rattle.insertions.proofs.PassInserts.{Filling, filling-begin, filling-long, filling-passes, filling-requires, filling-again, filling-stop, filling-end}
+use Rattle.insertions.proofs.PassInserts.{Filling, filling-begin, filling-long, filling-inside, filling-requires, filling-again, filling-stop, filling-end}
 use borrow.Author.Needs.{needs}
 use Rattle.insertions.proofs.insert_all.Statement.{statement}
 use Rattle.insertions.proofs.insert_all.Tie as tie
@@ -13,16 +13,21 @@ Inv-loop h rows₀ keys₀ sorts₀ pending done₀ at₀ words₀ rows keys sor
 abbrev μ-loop : tie.MeasureT-loop
 μ-loop h rows₀ keys₀ sorts₀ pending done₀ at₀ words₀ rows keys sorts done at words = h .pending - at
 
+first-place-requires : tie.Need-first-place-requires Inv-loop μ-loop
+first-place-requires c κs = let p = c .before .before .before .before .pre in omega (arith, p .fits, p .pending-fits)
+
 record-length-requires : tie.Need-record-length-requires Inv-loop μ-loop
-record-length-requires c κs = let p = c .before .before .before .before .pre in omega (arith, p .fits, p .pending-fits)
+record-length-requires c κs =
+    let p = c .before .before .before .before .before .pre in
+    omega (arith, p .fits, p .pending-fits, c .first-place .ensures .inside)
 
 loop-holds : tie.Need-loop-holds Inv-loop μ-loop
-loop-holds c = filling-begin (c .before .before .before .before .before .pre) (c .record-length .ensures)
+loop-holds c = filling-begin (c .before .before .before .before .before .before .pre) (c .before .first-place .ensures) (c .record-length .ensures)
 
 insert-next-requires : tie.Need-insert-next-requires Inv-loop μ-loop
 insert-next-requires c κs =
     let l = c .before .before .before in
-    let p = l .before .before .before .before .before .before .before .pre in
+    let p = l .before .before .before .before .before .before .before .before .pre in
     let v = l .before .loop .inv in
     filling-requires p v (l .loop-test .taken)
 
@@ -38,37 +43,33 @@ same-length-3 c = search needs
 returns : tie.Need-returns Inv-loop μ-loop
 returns c =
     let l = c .before .before .before .before .before .before .before .before .before .before .before .before in
-    let p = l .before .before .before .before .before .before .before .pre in
+    let p = l .before .before .before .before .before .before .before .before .pre in
     let v = l .before .loop .inv in
     filling-stop p v (l .loop-test .taken) (c .before .before .before .before .before .before .before .before .insert-next .ensures) (c .if1 .taken)
 
-next-record-requires : tie.Need-next-record-requires Inv-loop μ-loop
-next-record-requires c κs =
-    let l = c .before .before .before .before .before .before .before .before .before .before .before .before in
-    let p = l .before .before .before .before .before .before .before .pre in
-    let v = l .before .loop .inv in
-    filling-passes p v (l .loop-test .taken)
+add-at : tie.Need-add-at Inv-loop μ-loop
+add-at c = omega (arith, c .before .before .before .before .before .before .before .before .before .before .before .before .before .loop .inv .here .fits)
 
 record-length-requires-2 : tie.Need-record-length-requires-2 Inv-loop μ-loop
 record-length-requires-2 c κs =
-    let l = c .before .before .before .before .before .before .before .before .before .before .before .before .before in
-    let p = l .before .before .before .before .before .before .before .pre in
-    omega (arith, p .fits, p .pending-fits, c .next-record .ensures .inside)
+    let l = c .before .before .before .before .before .before .before .before .before .before .before .before in
+    let p = l .before .before .before .before .before .before .before .before .pre in
+    let v = l .before .loop .inv in
+    omega (arith, p .fits, p .pending-fits, filling-inside p v (l .loop-test .taken))
 
 loop-less : tie.Need-loop-less Inv-loop μ-loop
 loop-less c =
-    let l = c .before .before .before .before .before .before .before .before .before .before .before .before .before .before in
-    let p = l .before .before .before .before .before .before .before .pre in
+    let l = c .before .before .before .before .before .before .before .before .before .before .before .before .before in
+    let p = l .before .before .before .before .before .before .before .before .pre in
     let v = l .before .loop .inv in
-    let n = c .before .next-record .ensures in
-    omega (arith, filling-long p v (l .loop-test .taken), n .on, n .inside)
+    omega (arith, filling-long p v (l .loop-test .taken), filling-inside p v (l .loop-test .taken))
 
 loop-again : tie.Need-loop-again Inv-loop μ-loop
 loop-again c =
-    let l = c .before .before .before .before .before .before .before .before .before .before .before .before .before .before in
-    let p = l .before .before .before .before .before .before .before .pre in
+    let l = c .before .before .before .before .before .before .before .before .before .before .before .before .before in
+    let p = l .before .before .before .before .before .before .before .before .pre in
     let v = l .before .loop .inv in
-    filling-again p v (l .loop-test .taken) (c .before .before .before .before .before .before .before .before .before .before .insert-next .ensures) (c .before .before .if1 .left) (c .before .next-record .ensures) (c .record-length2 .ensures) (search needs) (search needs) (search needs)
+    filling-again p v (l .loop-test .taken) (c .before .before .before .before .before .before .before .before .before .insert-next .ensures) (c .before .if1 .left) (c .record-length2 .ensures) (search needs) (search needs) (search needs)
 
 same-length-4 : tie.Need-same-length-4 Inv-loop μ-loop
 same-length-4 c = c .before .loop .inv .rows-same
@@ -80,7 +81,7 @@ same-length-6 : tie.Need-same-length-6 Inv-loop μ-loop
 same-length-6 c = c .before .loop .inv .sorts-same
 
 returns-2 : tie.Need-returns-2 Inv-loop μ-loop
-returns-2 c = filling-end (c .before .before .before .before .before .before .before .pre) (c .before .loop .inv) (c .loop-test .left)
+returns-2 c = filling-end (c .before .before .before .before .before .before .before .before .pre) (c .before .loop .inv) (c .loop-test .left)
 
 pub insert-all-spec : {M : Type 1} → statement M
 insert-all-spec =
@@ -88,6 +89,7 @@ insert-all-spec =
     (tie.spec
     Inv-loop
     μ-loop
+    first-place-requires
     record-length-requires
     loop-holds
     insert-next-requires
@@ -95,7 +97,7 @@ insert-all-spec =
     same-length-2
     same-length-3
     returns
-    next-record-requires
+    add-at
     record-length-requires-2
     loop-less
     loop-again

@@ -10,7 +10,7 @@ use Rattle.table.specs.declared.Header.{Header}
 use Rattle.insertions.specs.declared.Passed.{Passed}
 use Rattle.table.specs.Numbers.{openingOf}
 use Rattle.table.specs.Promises.{Stores, stores, Represents, SlotsPast}
-use Rattle.pending.specs.inner.Becoming.{Becomes, Recounted, Ready, Waiting}
+use Rattle.pending.specs.inner.Becoming.{Becomes, Recounted, Ready, Waiting, Left}
 
 -- all inserts
 pub record InsertedTable (p : Plain) (s s′ : Stores) (m : Passed) : Type 0 where
@@ -24,6 +24,11 @@ pub record Insertions (h : Header) (rows keys sorts pending : List ℕ) (m : Pas
   pub header : Recounted h (m .header)
   pub table : (p : Plain) → Represents p (stores h rows keys sorts pending)
       → InsertedTable p (stores h rows keys sorts pending) (stores (m .header) rows′ keys′ sorts′ pending) m
+
+-- of the records that wait, those from a place on have all the inserts
+pub record FirstInsert (h : Header) (pending : List ℕ) (at : ℕ) : Type 0 where
+  pub inside : at ≤ h .pending
+  pub left : (records : List Staged) → Waiting (openingOf h) pending (h .pending) 0 records → Left h pending 0 at records
 
 -- numbers within their bounds, and the record at a place whole if it is an insert
 pub record InsertNext (m : Passed) (rows keys sorts pending : List ℕ) (at : ℕ) : Type 0 where
