@@ -3,6 +3,7 @@ use Prim.Native.Nat.{ℕ, _+_, _-_, _*_, _≤_, _<_}
 use mathlib.Core.Path.{_≡_, sym, ap}
 use mathlib.Core.Bool.{true, false}
 use mathlib.Core.List.{List}
+use native.Mathlib.Decide.{decLt}
 use native.Mathlib.Omega.{arith}
 use lib.ListN.{length, getD}
 use Rattle.lists.specs.Lists.{rising, has}
@@ -11,49 +12,63 @@ use Rattle.lists.specs.Laws.Search.{notBelow-le, notBelow-past, notBelow-upto, 
 use Rattle.offset_search.specs.declared.Scan.{Scan}
 use Rattle.offset_search.specs.declared.Scan.the-variants.{Hit, Next}
 use Rattle.offset_search.specs.Laws.Strides.{stride-bound}
-use Rattle.offset_search.specs.inner.Search.{SearchedPart, ReachedBetween, scanPlace, scan, ScannedAt, Scanned}
+use Rattle.offset_search.specs.inner.Search.{Bracketed, SearchedPart, ReachedBetween, scanPlace, scan, ScannedAt, Scanned}
 
 -- ---- the binary search
 
--- the target's place lies between two others
-pub record Halved (ids : List ℕ) (start end target low high : ℕ) : Type 0 where
-  pub from : start ≤ low
-  pub order : low ≤ high
-  pub upto : high ≤ end
-  pub after : rising ids ≡ true → start ≤ firstNotBelow target ids → low ≤ firstNotBelow target ids
-  pub before : rising ids ≡ true → firstNotBelow target ids ≤ end → firstNotBelow target ids ≤ high
+module _ (cells : List ℕ) (width start end target : ℕ) where
+  pub bracket : start ≤ end → Bracketed cells width start end target start end
+  bracket h = record { from = omega arith; order = h; upto = omega arith; below = λ i k e. absurd (omega arith); above = λ k. absurd (omega arith) }
 
-pub halved-begin : (ids : List ℕ) (start end target : ℕ) → start ≤ end → Halved ids start end target start end
-halved-begin ids start end target h = record { from = omega arith; order = h; upto = omega arith; after = λ e k. k; before = λ e k. k }
+  module _ (low high : ℕ) (s : Bracketed cells width start end target low high) where
+    module _ (mid : ℕ) (a : low ≤ mid) (b : mid < high) where
+      pub bracket-up : getD cells (width * mid) 0 < target → Bracketed cells width start end target (mid + 1) high
+      bracket-up h =
+          record {
+            from = omega (arith, s .from);
+            order = omega arith;
+            upto = s .upto;
+            below = λ i k e. let z : i ≡ mid = omega arith in rw z h;
+            above = s .above;
+          }
 
-module _ (ids : List ℕ) (start end target low high mid : ℕ) (s : Halved ids start end target low high) (in-list : end ≤ length ids) (a : low ≤ mid) (b : mid < high) where
-  pub halved-up : getD ids mid 0 < target → Halved ids start end target (mid + 1) high
-  halved-up h =
-      record {
-        from = omega (arith, s .from);
-        order = omega arith;
-        upto = s .upto;
-        after = λ e k. let p = notBelow-past target ids e mid (omega (arith, s .upto)) h in omega arith;
-        before = s .before;
-      }
+      pub bracket-down : target ≤ getD cells (width * mid) 0 → Bracketed cells width start end target low mid
+      bracket-down h = record { from = s .from; order = a; upto = omega (arith, s .upto); below = s .below; above = λ k. h }
 
-  pub halved-down : target ≤ getD ids mid 0 → Halved ids start end target low mid
-  halved-down h =
-      record {
-        from = s .from;
-        order = a;
-        upto = omega (arith, s .upto);
-        after = s .after;
-        before = λ e k. notBelow-upto target ids e mid (omega (arith, s .upto)) h;
-      }
+    pub bracket-end : high ≤ low → Bracketed cells width start end target low low
+    bracket-end h =
+        let z : high ≡ low = omega (arith, s .order) in
+        record { from = s .from; order = omega arith; upto = omega (arith, s .upto, z); below = s .below; above = rw z at (s .above) }
 
-pub halved-end : (ids : List ℕ) (start end target low high : ℕ) → Halved ids start end target low high → high ≤ low → SearchedPart ids start end target low
-halved-end ids start end target low high s h =
+-- in a rising list the place that is bracketed is the target's
+pub bracket-place : (ids : List ℕ) (start end target r : ℕ) → end ≤ length ids → Bracketed ids 1 start end target r r → SearchedPart ids start end target r
+bracket-place ids start end target r inside s =
     record {
       from = s .from;
-      upto = omega (arith, s .order, s .upto);
-      first = λ e a b. let p = s .after e a in let q = s .before e b in omega arith;
+      upto = s .upto;
+      first = λ e a b. let p = after e a in let q = upto e b in omega arith;
     }
+  where
+    after : rising ids ≡ true → start ≤ firstNotBelow target ids → r ≤ firstNotBelow target ids
+    after e a =
+        elim (decLt start r) [
+          | yes k ↦
+              let m : 1 * (r - 1) ≡ r - 1 = omega arith in
+              let h : getD ids (r - 1) 0 < target = rw m at (s .below (r - 1) (omega arith) (omega arith)) in
+              let p = notBelow-past target ids e (r - 1) (omega (arith, s .upto)) h in
+              omega arith
+          | no k ↦ omega (arith, s .from)
+        ]
+
+    upto : rising ids ≡ true → firstNotBelow target ids ≤ end → firstNotBelow target ids ≤ r
+    upto e b =
+        elim (decLt r end) [
+          | yes k ↦
+              let m : 1 * r ≡ r = omega arith in
+              let h : target ≤ getD ids r 0 = rw m at (s .above k) in
+              notBelow-upto target ids e r (omega arith) h
+          | no k ↦ omega arith
+        ]
 
 -- ---- the strides
 

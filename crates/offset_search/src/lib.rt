@@ -6,24 +6,33 @@ ghost use mathlib.Core.Bool.{true};
 ghost use lib.ListN.{length};
 ghost use Rattle.lists.specs.Lists.{rising};
 ghost use Rattle.lists.specs.inner.Searching.{firstNotBelow};
-ghost use Rattle.offset_search.specs.inner.Search.{Searched, SearchedFrom, SearchedPart, Reached, ScannedAt, Scanned};
+ghost use Rattle.offset_search.specs.inner.Search.{Spaced, Bracketed, Searched, SearchedFrom, SearchedPart, Reached, ScannedAt, Scanned};
 
-// The binary search of `binary_search_from` in the part of the list between two places.
-fn binary_search_part(ids: &[u32], start: u32, end: u32, target: u32) -> u32
-    requires { ⌜ (start ≤ end) × (end ≤ length (now ids)) ⌝ }
-    ensures { λ r. ⌜ SearchedPart (now (ids .entry)) start end target r ⌝ }
+// A place between two others such that the number before it is below the target and the one at it is not: a binary search.
+// The numbers stand `width` cells apart. Sort entries, which are pairs, are searched by it too.
+pub fn binary_search_cells(cells: &[u32], width: usize, start: u32, end: u32, target: u32) -> u32
+    requires { ⌜ Spaced (now cells) width end × (start ≤ end) ⌝ }
+    ensures { λ r. ⌜ Bracketed (now (cells .entry)) width start end target r r ⌝ }
 {
     let mut low = start;
     let mut high = end;
     while low < high {
         let mid = low + (high - low) / 2;
-        if ids[mid as usize] < target {
+        if cells[width * mid as usize] < target {
             low = mid + 1;
         } else {
             high = mid;
         }
     }
     low
+}
+
+// The binary search of `binary_search_from` in the part of the list between two places.
+fn binary_search_part(ids: &[u32], start: u32, end: u32, target: u32) -> u32
+    requires { ⌜ (start ≤ end) × (end ≤ length (now ids)) ⌝ }
+    ensures { λ r. ⌜ SearchedPart (now (ids .entry)) start end target r ⌝ }
+{
+    binary_search_cells(ids, 1, start, end, target)
 }
 
 // The first place from `start` on whose id is not below the target, where the ids rise and those before `start` are below

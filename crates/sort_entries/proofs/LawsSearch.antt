@@ -1,4 +1,4 @@
--- The turns of the binary search, and where a value stands by its result. Assumes nothing.
+-- Where a value stands by the result of the binary search. Assumes nothing.
 use Prim.Native.Nat.{ℕ, _+_, _-_, _*_, _≤_, _<_}
 use mathlib.Core.Path.{_≡_, refl, sym, ap, ap₂, _∙_}
 use mathlib.Core.Logic.{_⊎_, inl, inr}
@@ -10,6 +10,7 @@ use lib.ListN.{length, drop, getD}
 use lib.Dec.{eqb}
 use borrow.Author.Tests.{ne-eqb}
 use Rattle.offsets.specs.Subsets.{Subset, range}
+use Rattle.offset_search.specs.inner.Search.{Bracketed}
 use Rattle.sort_entries.specs.Entries.{entriesOf, firstRow, Position, found, absent, rangeAt, fastRange, entriesSound}
 use Rattle.sort_entries.specs.Laws.Stores.{length-entriesOf}
 use Rattle.sort_entries.specs.Laws.Sound.{valueOf, value-word, row-word, sound-facts, firstRow-drop, firstRow-past}
@@ -17,31 +18,7 @@ use Rattle.sort_entries.specs.Laws.Ranges.{place-found, place-absent}
 use Rattle.sort_entries.specs.declared.Standing.the-variants.{Found, Absent}
 use Rattle.sort_entries.specs.declared.Standing.{Standing}
 use Rattle.sort_entries.specs.declared.Range.{Range}
-use Rattle.sort_entries.specs.inner.Search.{Located, Stands, Ranged, standsAt, rangeOf}
-
-pub begin : (store : List ℕ) (n v : ℕ) → Located store n v 0 n
-begin store n v = record { order = omega arith; inside = omega arith; below = λ i e. absurd (omega arith); above = λ h. absurd (omega arith) }
-
-module _ (store : List ℕ) (n v lo hi : ℕ) (s : Located store n v lo hi) where
-  module _ (m : ℕ) (p : lo ≤ m) (q : m < hi) where
-    pub up : getD store (2 * m) 0 < v → Located store n v (m + 1) hi
-    up h =
-        record {
-          order = omega arith;
-          inside = s .inside;
-          below = λ i e. let z : i ≡ m = omega arith in rw z h;
-          above = s .above;
-        }
-
-    pub down : v ≤ getD store (2 * m) 0 → Located store n v lo m
-    down h = let i = s .inside in record { order = p; inside = omega arith; below = s .below; above = λ k. h }
-
-  pub met : hi ≤ lo → Located store n v lo lo
-  met h =
-      let o = s .order in
-      let i = s .inside in
-      let z : hi ≡ lo = omega arith in
-      record { order = omega arith; inside = omega arith; below = s .below; above = rw z at (s .above) }
+use Rattle.sort_entries.specs.inner.Search.{Stands, Ranged, standsAt, rangeOf}
 
 -- ---- the row of the entry at a place
 
@@ -57,17 +34,17 @@ row-past store n rows k h =
 
 -- ---- where the value stands
 
-module _ (store : List ℕ) (n rows v at : ℕ) (l : Located store n v at at) where
+module _ (store : List ℕ) (n rows v at : ℕ) (l : Bracketed store 2 0 n v at at) where
   inside : at ≤ length (entriesOf n store)
-  inside = rw (length-entriesOf n store) (l .inside)
+  inside = rw (length-entriesOf n store) (l .upto)
 
   -- the entries before the place are below the value: the last of them is, and values rise
   before : entriesSound (entriesOf n store) rows ≡ true → (i : ℕ) → i < at → valueOf (entriesOf n store) i < v
   before s i h =
       let r = sound-facts (entriesOf n store) rows s in
       let z : at - 1 + 1 ≡ at = omega arith in
-      let m = l .inside in
-      let a = l .below (at - 1) z in
+      let m = l .upto in
+      let a = l .below (at - 1) (omega arith) z in
       let b = value-word store n (at - 1) (omega arith) in
       elim (ℕ-discrete i (at - 1)) [
         | yes e ↦ rw e (omega arith)

@@ -4,8 +4,9 @@ ghost use Prim.Native.Nat.{_≤_, _<_};
 ghost use lib.ListN.{drop};
 ghost use Rattle.sort_entries.specs.Entries.{entriesOf, firstRow, rangeAt, entriesSound};
 ghost use Rattle.sort_entries.specs.inner.Append.{Room, Append};
-ghost use Rattle.sort_entries.specs.inner.Search.{Held, Located, Stands, Ranged, standsAt, rangeOf};
+ghost use Rattle.sort_entries.specs.inner.Search.{Held, Stands, Ranged, standsAt, rangeOf};
 ghost use Rattle.sort_entries.specs.inner.Checks.{Decides, Follows, Advanced, headValue, Cells, cellSound, cellsSound};
+use offset_search::binary_search_cells;
 
 // A row that is appended, or kept by a compaction: its entry, if its value rises. Gives the new number of entries.
 pub fn append_entry(sorts: &mut [u32], entries: u32, value: u32, row: u32) -> u32
@@ -37,26 +38,6 @@ pub struct Range {
     pub end: u32,
 }
 
-// The place of the first entry whose value is not below `value`: a binary search. Values that do not rise give a place
-// between an entry below and one not below.
-fn locate(sorts: &[u32], entries: u32, value: u32) -> u32
-    requires { ⌜ Held (now sorts) entries ⌝ }
-    ensures { λ r. ⌜ Located (now (sorts .entry)) entries value r r ⌝ }
-{
-    let mut lo: u32 = 0;
-    let mut hi = entries;
-    while lo < hi {
-        let mid = lo + (hi - lo) / 2;
-        let at = (2 * mid) as usize;
-        if sorts[at] < value {
-            lo = mid + 1;
-        } else {
-            hi = mid;
-        }
-    }
-    lo
-}
-
 // The row of the entry at a place, or the row count.
 fn row_from(sorts: &[u32], entries: u32, rows: u32, at: u32) -> u32
     requires { ⌜ Held (now sorts) entries ⌝ }
@@ -74,7 +55,7 @@ fn stand(sorts: &[u32], entries: u32, rows: u32, value: u32) -> Standing
     requires { ⌜ Held (now sorts) entries ⌝ }
     ensures { λ r. ⌜ Stands (now (sorts .entry)) entries rows value r ⌝ }
 {
-    let at = locate(sorts, entries, value);
+    let at = binary_search_cells(sorts, 2, 0, entries, value);
     let first = row_from(sorts, entries, rows, at);
     if at < entries {
         let word = (2 * at) as usize;

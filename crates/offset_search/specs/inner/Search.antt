@@ -1,5 +1,5 @@
 -- What the searches in a list of ids answer. Assumes nothing.
-use Prim.Native.Nat.{ℕ, _≤_, _<_}
+use Prim.Native.Nat.{ℕ, _+_, _*_, _≤_, _<_}
 use mathlib.Core.Path.{_≡_}
 use mathlib.Core.Bool.{true, cond}
 use mathlib.Core.List.{List}
@@ -10,6 +10,18 @@ use Rattle.offset_search.specs.declared.Scan.{Scan}
 use Rattle.offset_search.specs.declared.Scan.the-variants.{Hit, Next}
 use Rattle.offset_search.specs.declared.Reach.{Reach}
 use Rattle.offset_search.specs.declared.Reach.the-variants.{At, Between}
+
+-- numbers that stand `width` cells apart, so many of them in a store
+pub record Spaced (cells : List ℕ) (width n : ℕ) : Type 0 where
+  pub inside : (i : ℕ) → i < n → width * i < length cells
+
+-- of the numbers between two places the one before `low` is below the target, and the one at `high` is not
+pub record Bracketed (cells : List ℕ) (width start end target low high : ℕ) : Type 0 where
+  pub from : start ≤ low
+  pub order : low ≤ high
+  pub upto : high ≤ end
+  pub below : (i : ℕ) → start ≤ i → i + 1 ≡ low → getD cells (width * i) 0 < target
+  pub above : high < end → target ≤ getD cells (width * high) 0
 
 -- "`binary_search_by_id` gives the first place whose id is not below"
 pub record Searched (ids : List ℕ) (target r : ℕ) : Type 0 where

@@ -1,9 +1,9 @@
 -- What the search for a value and the fast range promise. Assumes nothing.
-use Prim.Native.Nat.{ℕ, _+_, _*_, _≤_, _<_}
+use Prim.Native.Nat.{ℕ, _*_, _≤_}
 use mathlib.Core.Path.{_≡_}
 use mathlib.Core.Bool.{true}
 use mathlib.Core.List.{List}
-use lib.ListN.{length, getD}
+use lib.ListN.{length}
 use Rattle.offsets.specs.Subsets.{Subset, range}
 use Rattle.sort_entries.specs.declared.Standing.{Standing}
 use Rattle.sort_entries.specs.declared.Standing.the-variants.{Found, Absent}
@@ -14,13 +14,6 @@ use Rattle.sort_entries.specs.Entries.{Position, found, absent, position
 pub record Held (store : List ℕ) (n : ℕ) : Type 0 where
   pub few : n ≤ 65536
   pub words : 2 * n ≤ length store
-
--- the entry before place lo is below the value, the one at place hi is not
-pub record Located (store : List ℕ) (n v lo hi : ℕ) : Type 0 where
-  pub order : lo ≤ hi
-  pub inside : hi ≤ n
-  pub below : (i : ℕ) → i + 1 ≡ lo → getD store (2 * i) 0 < v
-  pub above : hi < n → v ≤ getD store (2 * hi) 0
 
 -- the place that an answer names
 abbrev pub standsAt : Standing → Position
