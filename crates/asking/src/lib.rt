@@ -1,5 +1,5 @@
-// What a function under a C name that is lent a list of conditions does before and after its question: the header is read, and
-// the answer told. The function itself, proved by hand, has no test of its own.
+// What a function under a C name that asks over a subset does before and after its question: the header is read, and the answer
+// told. The function itself, proved by hand, has no test of its own.
 ghost use mathlib.Core.Path.{_≡_};
 ghost use mathlib.Core.List.{[], _∷_};
 ghost use lib.ListN.{length};

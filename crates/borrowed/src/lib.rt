@@ -1,10 +1,11 @@
 // Questions over a borrowed subset: each takes it apart, and asks the function with plain parameters.
 ghost use Rattle.offsets.specs.Answers.{subsetOf};
-ghost use Rattle.queries.specs.Queries.{RefinedOne, RefinedList, PageRead};
+ghost use Rattle.queries.specs.Queries.{RefinedOne, RefinedList, Matched, PageRead};
 ghost use Rattle.borrowed.specs.Borrowed.{headOf};
 use constraints::Constraint;
 use offsets::SubsetAnswer;
 use offsets::SubsetHead;
+use queries::MatchAnswer;
 use queries::PageAnswer;
 use table::Header;
 
@@ -49,6 +50,22 @@ pub fn refine_ref<'a>(
         end: subset.end,
     };
     questions::refine_ref(h, rows, head, subset.ids, conditions, out)
+}
+
+pub fn contains_match<'a>(
+    h: Header,
+    rows: &[u32],
+    subset: SubsetRef<'a>,
+    conditions: &[Constraint],
+) -> MatchAnswer
+    ensures { λ r. ⌜ Matched h (now (rows .entry)) (subsetOf (headOf (subset .entry)) (now (subset .entry .ids))) (now (conditions .entry)) r ⌝ }
+{
+    let head = SubsetHead {
+        dense: subset.dense,
+        start: subset.start,
+        end: subset.end,
+    };
+    questions::contains_match(h, rows, head, subset.ids, conditions)
 }
 
 pub fn read_page<'a>(

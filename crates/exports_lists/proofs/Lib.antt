@@ -1,1 +1,2 @@
 pub mod HeaderSteps
+pub mod SubsetSteps

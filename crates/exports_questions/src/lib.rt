@@ -1,10 +1,7 @@
-// The questions under C names: lookups, fast range, versions, refining, intersect.
-ghost use mathlib.Core.Path.{_≡_};
-ghost use lib.ListN.{length};
+// The questions without a subset under C names: lookups, fast range, versions; and intersect.
 ghost use Rattle.table.specs.Promises.{LookedUp, CellRead, RangeRead, RowsSince, NotedRows, VersionRead};
 ghost use Rattle.words.specs.Words.{headerIn, rowNumber, rowWords, cellNumber, cellWords, rangeNumber, rangeWords, versionNumber, versionWords, QuestionInWords, subsetNumber, subsetWords};
 ghost use Rattle.offsets.specs.Answers.{subsetOf};
-ghost use Rattle.queries.specs.Queries.{RefinedOne};
 ghost use Rattle.exports_questions.specs.Intersecting.{IntersectInWords};
 use constraints::Constraint;
 use offsets::SubsetHead;
@@ -128,40 +125,6 @@ pub extern "C" fn mouldgrey_version(header: &[u32], words: &mut [u32]) -> u32
     }
     let answer = reading::version(header_of(header));
     write_version(answer, words)
-}
-
-// The answer goes into three words, as that of `mouldgrey_intersect`. Nothing is written to the output where the header is not
-// twelve words or the answer's words not three.
-#[no_mangle]
-pub extern "C" fn mouldgrey_refine_one(
-    header: &[u32],
-    rows: &[u32],
-    dense: bool,
-    start: u32,
-    end: u32,
-    ids: &[u32],
-    kind: u32,
-    column: u32,
-    value: u32,
-    output: &mut [u32],
-    words: &mut [u32],
-) -> u32
-    ensures { λ r. ⌜ QuestionInWords (λ answer. RefinedOne (headerIn (now (header .entry))) (now (rows .entry)) (subsetOf (record { dense = dense; start = start; end = end }) (now (ids .entry))) (record { kind = kind; column = column; value = value }) (now (output .entry)) answer (now (output .exit))) subsetNumber subsetWords 3 (now (header .entry)) (now (words .entry)) r (now (words .exit)) × (((length (now (header .entry)) ≡ 12) × (length (now (words .entry)) ≡ 3) → ⊥) → now (output .exit) ≡ now (output .entry)) ⌝ }
-{
-    if header.len() != 12 {
-        return 1;
-    }
-    if words.len() != 3 {
-        return 2;
-    }
-    let head = SubsetHead { dense, start, end };
-    let c = Constraint {
-        kind,
-        column,
-        value,
-    };
-    let answer = questions::refine_one(header_of(header), rows, head, ids, c, output);
-    write_subset(answer, words)
 }
 
 // The common ids of two subsets. The answer goes into three words; 2, and nothing done, where those are not three.

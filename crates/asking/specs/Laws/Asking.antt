@@ -14,7 +14,7 @@ use Rattle.constraints.specs.declared.Constraint.{Constraint}
 use Rattle.table.specs.declared.Header.{Header}
 use Rattle.table.specs.Refusing.{outside}
 use Rattle.queries.specs.declared.PageAnswer.{PageAnswer}
-use Rattle.queries.specs.Queries.{tests, refineRefusal, pageRefusal, refineListReply, pageReply, pageWrites, RefinedList, PageRead}
+use Rattle.queries.specs.Queries.{tests, refineRefusal, pageRefusal, refineOneReply, refineListReply, pageReply, pageWrites, RefinedOne, RefinedList, PageRead}
 use Rattle.words.specs.Words.{headerIn, Told, QuestionInWords}
 use Rattle.asking.specs.inner.Steps.{HeaderAsked, Tells}
 
@@ -48,11 +48,15 @@ unfolding putAt
 put-nothing output = refl
 
 -- the output of a question that is turned away
-module _ {h : Header} {rows : List ℕ} {subset : Subset} {conditions : List Constraint} {output output′ : List ℕ} (out : outside h ≡ true) where
-  pub list-kept : {answer : SubsetAnswer} → RefinedList h rows subset conditions output answer output′ → output′ ≡ output
+module _ {h : Header} {rows : List ℕ} {subset : Subset} {output output′ : List ℕ} (out : outside h ≡ true) where
+  pub one-kept : {c : Constraint} {answer : SubsetAnswer} → RefinedOne h rows subset c output answer output′ → output′ ≡ output
+  unfolding refineOneReply refineRefusal tests first reply
+  one-kept p = p .answered .writes ∙ rw (out, written-none 1) (put-nothing output)
+
+  pub list-kept : {conditions : List Constraint} {answer : SubsetAnswer} → RefinedList h rows subset conditions output answer output′ → output′ ≡ output
   unfolding refineListReply refineRefusal tests first reply
   list-kept p = p .answered .writes ∙ rw (out, written-none 1) (put-nothing output)
 
-  pub page-kept : {start n : ℕ} {answer : PageAnswer} → PageRead h rows subset start n conditions output answer output′ → output′ ≡ output
+  pub page-kept : {start n : ℕ} {conditions : List Constraint} {answer : PageAnswer} → PageRead h rows subset start n conditions output answer output′ → output′ ≡ output
   unfolding pageReply pageRefusal tests first reply pageWrites
   page-kept p = p .writes ∙ rw out (put-nothing output)
