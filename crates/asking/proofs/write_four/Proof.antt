@@ -1,5 +1,5 @@
 -- `asking::write_four` meets its contract. Assumes nothing.
-use Rattle.asking.proofs.Written.{four}
+use Rattle.words.specs.Laws.Written.{written}
 use borrow.Author.Needs.{needs}
 use Rattle.asking.proofs.write_four.Statement.{statement}
 use Rattle.asking.proofs.write_four.Tie as tie
@@ -20,7 +20,7 @@ same-length : tie.Need-same-length
 same-length c = search needs
 
 returns : tie.Need-returns
-returns c = four (c .args .words .now) _ _ _ _ (c .pre)
+returns c = written (c .args .words .now) _ (c .pre)
 
 pub write-four-spec : {M : Type 1} → statement M
 write-four-spec =

@@ -1,7 +1,6 @@
 -- `asking::write_match` meets its contract. Assumes nothing.
-use mathlib.Core.Path.{refl, ap, _∙_}
-use mathlib.Core.List.{[], _∷_}
-use Rattle.words.proofs.Written.{alone}
+use mathlib.Core.Path.{refl}
+use Rattle.words.specs.Laws.Written.{written}
 use Rattle.asking.specs.Asking.{matchNumber, matchWords}
 use borrow.Author.Needs.{needs}
 use Rattle.asking.proofs.write_match.Statement.{statement}
@@ -30,7 +29,7 @@ returns-2 : tie.Need-returns-2
 unfolding matchNumber matchWords
 returns-2 c =
     let s = c .before .before .before .before .before in
-    rw (c .before .before .answer2 .given .1) record { numbered = refl; worded = alone (s .args .words .now) _ (s .pre) ∙ ap (λ b. b ∷ []) (c .bit-of .ensures) }
+    rw (c .before .before .answer2 .given .1, c .bit-of .ensures) record { numbered = refl; worded = written (s .args .words .now) _ (s .pre) }
 
 pub write-match-spec : {M : Type 1} → statement M
 write-match-spec =

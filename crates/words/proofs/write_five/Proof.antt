@@ -1,7 +1,7 @@
 -- `write_five` meets its contract. Assumes nothing.
 use native.Mathlib.Omega.{arith}
 use lib.ListN.{length-set}
-use Rattle.words.proofs.Written.{five}
+use Rattle.words.specs.Laws.Written.{written}
 use borrow.Author.Needs.{needs}
 use Rattle.words.proofs.write_five.Statement.{statement}
 use Rattle.words.proofs.write_five.Tie as tie
@@ -25,7 +25,7 @@ same-length : tie.Need-same-length
 same-length c = search needs
 
 returns : tie.Need-returns
-returns c = five (c .args .words .now) _ _ _ _ _ (c .pre)
+returns c = written (c .args .words .now) _ (c .pre)
 
 pub write-five-spec : {M : Type 1} → statement M
 write-five-spec =

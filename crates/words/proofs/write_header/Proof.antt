@@ -1,5 +1,5 @@
 -- `write_header` meets its contract. Assumes nothing.
-use Rattle.words.proofs.Written.{twelve}
+use Rattle.words.specs.Laws.Written.{written}
 use Rattle.words.specs.Words.{headerWords}
 use native.Mathlib.Omega.{arith}
 use lib.ListN.{length-set}
@@ -56,7 +56,7 @@ returns : tie.Need-returns
 unfolding headerWords
 returns c =
     let s = c .before .before .before in
-    rw (c .before .largest-flag .ensures, c .largest-word .ensures) (twelve (s .args .words .now) _ _ _ _ _ _ _ _ _ _ _ _ (s .pre))
+    rw (c .before .largest-flag .ensures, c .largest-word .ensures) (written (s .args .words .now) _ (s .pre))
 
 pub write-header-spec : {M : Type 1} → statement M
 write-header-spec =

@@ -1,5 +1,5 @@
 -- `exports::tables::write_three` meets its contract. Assumes nothing.
-use Rattle.words.proofs.Written.{three}
+use Rattle.words.specs.Laws.Written.{written}
 use borrow.Author.Needs.{needs}
 use Rattle.words.proofs.write_three.Statement.{statement}
 use Rattle.words.proofs.write_three.Tie as tie
@@ -17,7 +17,7 @@ same-length : tie.Need-same-length
 same-length c = search needs
 
 returns : tie.Need-returns
-returns c = three (c .args .words .now) _ _ _ (c .pre)
+returns c = written (c .args .words .now) _ (c .pre)
 
 pub write-three-spec : {M : Type 1} → statement M
 write-three-spec =

@@ -1,5 +1,5 @@
 -- `exports::tables::write_two` meets its contract. Assumes nothing.
-use Rattle.words.proofs.Written.{two}
+use Rattle.words.specs.Laws.Written.{written}
 use borrow.Author.Needs.{needs}
 use Rattle.words.proofs.write_two.Statement.{statement}
 use Rattle.words.proofs.write_two.Tie as tie
@@ -14,7 +14,7 @@ same-length : tie.Need-same-length
 same-length c = search needs
 
 returns : tie.Need-returns
-returns c = two (c .args .words .now) _ _ (c .pre)
+returns c = written (c .args .words .now) _ (c .pre)
 
 pub write-two-spec : {M : Type 1} → statement M
 write-two-spec = tie.close (tie.spec slice-write-words slice-write-words-2 same-length returns)
