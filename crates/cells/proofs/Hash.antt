@@ -1,21 +1,19 @@
 -- The turns of `key_hash`. Assumes nothing.
 use Prim.Native.Nat.{ℕ, _+_, _*_, _^_, _≤_, _<_}
 use mathlib.Core.Path.{_≡_}
-use mathlib.Core.List.{List}
+use mathlib.Core.List.{List, foldl}
 use native.Mathlib.Numerals.{add-one}
 use native.Mathlib.Nat.{mul-le-mul}
 use native.Mathlib.Omega.{arith}
 use lib.ListN.{length, drop, getD, drop-of-length-le}
 use lib.Seq.{drop-cons}
-use Rattle.cells.specs.Cells.{mixed, mixedAll}
+use Rattle.cells.specs.Cells.{mixed}
 
 pub hash-step : (key : List ℕ) (i hash : ℕ) → i < length key
-    → mixedAll hash (drop i key) ≡ mixedAll (mixed hash (getD key i 0)) (drop (i + 1) key)
-unfolding mixedAll
+    → foldl mixed hash (drop i key) ≡ foldl mixed (mixed hash (getD key i 0)) (drop (i + 1) key)
 hash-step key i hash h = rw (add-one, drop-cons key i 0 h)
 
-pub hash-end : (key : List ℕ) (i hash : ℕ) → length key ≤ i → mixedAll hash (drop i key) ≡ hash
-unfolding mixedAll
+pub hash-end : (key : List ℕ) (i hash : ℕ) → length key ≤ i → foldl mixed hash (drop i key) ≡ hash
 hash-end key i hash h = rw (drop-of-length-le key h)
 
 -- a product of two cells fits 64 bits

@@ -2,7 +2,7 @@
 -- number below 2 ^ 32. Assumes nothing.
 use Prim.Native.Nat.{ℕ, _+_, _*_, _/_, _%_, _^_}
 use mathlib.Core.Bool.{Bool}
-use mathlib.Core.List.{List, [], _∷_}
+use mathlib.Core.List.{List, foldl}
 use lib.Dec.{eqb}
 
 -- "a row whose first cell is 4294967295 is dead"
@@ -21,24 +21,13 @@ probed hash = hash + hash / 2 ^ 25 * 2 ^ 57
 -- multiplied by itself with its halves exchanged, and the product's upper part, one bit wider than its lower half, is added
 -- to that half. A product with itself tends to spread keys at even distances, which a product with a constant does not; the
 -- odd bit tends to keep multiples of a divisor of 2 ^ 32 - 1 apart.
-abbrev pub turned : ℕ → ℕ
-turned sum = sum % 2 ^ 16 * 2 ^ 16 + sum / 2 ^ 16
-
-abbrev pub folded : ℕ → ℕ
-folded product = (product / 2 ^ 31 + product % 2 ^ 32) % 2 ^ 32
-
-abbrev pub sumOf : ℕ → ℕ → ℕ
-sumOf hash cell = (hash + cell + 2654435761) % 2 ^ 32
-
 unfoldable pub mixed : ℕ → ℕ → ℕ
-mixed hash cell = folded (sumOf hash cell * turned (sumOf hash cell))
-
--- the hash of the cells after those that gave `hash`
-unfoldable pub mixedAll : ℕ → List ℕ → ℕ
-mixedAll hash [] = hash
-mixedAll hash (cell ∷ cells) = mixedAll (mixed hash cell) cells
+mixed hash cell =
+    let sum = (hash + cell + 2654435761) % 2 ^ 32 in
+    let product = sum * (sum % 2 ^ 16 * 2 ^ 16 + sum / 2 ^ 16) in
+    (product / 2 ^ 31 + product % 2 ^ 32) % 2 ^ 32
 
 -- "any hash of the key cells alone will do": ours is a number of 32 bits, in both halves of the 64, so that the compact
 -- hash keeps all of it
 unfoldable pub keyHash : List ℕ → ℕ
-keyHash key = mixedAll 0 key * (2 ^ 32 + 1)
+keyHash key = foldl mixed 0 key * (2 ^ 32 + 1)

@@ -4,13 +4,15 @@ use Prim.Native.Nat.{ℕ, _+_, _≤_}
 use mathlib.Core.Path.{_≡_, refl, sym, ap, _∙_}
 use mathlib.Core.Bool.{Bool, true, false}
 use mathlib.Core.List.{List, [], _∷_}
+use mathlib.Core.Option.{none, some}
 use native.Mathlib.Numerals.{add-one}
 use native.Mathlib.Omega.{arith}
 use lib.ListN.{length, take, drop, getD}
 use borrow.Author.Tests.{ne-eqb}
 use Rattle.lists.specs.Lists.{keep}
+use Rattle.refusals.specs.Refusals.{refused, accepted}
 use Rattle.plain.specs.Staged.{Staged, insert, removeKey, removeRow, wordsOf, inserts}
-use Rattle.plain.specs.Plain.{unchanged, appended, stopped, Inserted, inserted, insertAll, Plain, insertion}
+use Rattle.plain.specs.Plain.{Inserted, inserted, insertAll, Plain, insertion}
 use Rattle.table.specs.declared.Header.{Header}
 use Rattle.insertions.specs.declared.Passed.{Passed}
 use Rattle.appending.specs.declared.Insertion.{Insertion}
@@ -26,17 +28,17 @@ use Rattle.pending.proofs.PassRecords.{Next, record-long}
 -- ---- one insert
 
 -- what the inserts come to goes on after one that is kept or appended, and ends at one that stops
-goes-kept : (cells : List ℕ) (rest : List Staged) (place : ℕ) (added : Bool) (p : Plain) → insertion cells p ≡ unchanged
+goes-kept : (cells : List ℕ) (rest : List Staged) (place : ℕ) (added : Bool) (p : Plain) → insertion cells p ≡ accepted none
     → insertAll (inserts (insert cells ∷ rest)) place added p ≡ insertAll (inserts rest) (place + 1) added p
 unfolding insertAll inserts
 goes-kept cells rest place added p e = rw (e, add-one place)
 
-goes-appended : (cells : List ℕ) (rest : List Staged) (place : ℕ) (added : Bool) (p p′ : Plain) → insertion cells p ≡ appended p′
+goes-appended : (cells : List ℕ) (rest : List Staged) (place : ℕ) (added : Bool) (p p′ : Plain) → insertion cells p ≡ accepted (some p′)
     → insertAll (inserts (insert cells ∷ rest)) place added p ≡ insertAll (inserts rest) (place + 1) true p′
 unfolding insertAll inserts
 goes-appended cells rest place added p p′ e = rw (e, add-one place)
 
-goes-stopped : (cells : List ℕ) (rest : List Staged) (place : ℕ) (added : Bool) (p : Plain) (n : ℕ) → insertion cells p ≡ stopped n
+goes-stopped : (cells : List ℕ) (rest : List Staged) (place : ℕ) (added : Bool) (p : Plain) (n : ℕ) → insertion cells p ≡ refused n
     → insertAll (inserts (insert cells ∷ rest)) place added p ≡ inserted p n place added
 unfolding insertAll inserts
 goes-stopped cells rest place added p n e = rw e

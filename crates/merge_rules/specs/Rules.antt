@@ -3,6 +3,7 @@
 use Prim.Native.Nat.{ℕ, suc, _-_}
 use mathlib.Core.Bool.{Bool, false, cond, not, _&&_, _||_}
 use mathlib.Core.List.{List, [], _∷_}
+use mathlib.Core.Option.{Option, none, some}
 use lib.Dec.{leb, ltb, eqb}
 use lib.IntN.{ℤ, pos, negsuc}
 use lib.Signed.{ltZ}
@@ -51,11 +52,7 @@ changesFrom rule keys sort column (a ∷ old) [] = false
 changesFrom rule keys sort column (a ∷ old) (b ∷ new) =
     (ruledColumn keys sort column && not (eqb (taken rule a b) a)) || changesFrom rule keys sort (suc column) old new
 
--- "the old row is kept", or a row is made
-pub data Ruled : Type 0 where
-  keepsOld : Ruled
-  makesRow : List ℕ → Ruled
-
-unfoldable pub ruled : ℕ → ℕ → ℕ → List ℕ → List ℕ → Ruled
+-- the row made, or none: "the old row is kept"
+unfoldable pub ruled : ℕ → ℕ → ℕ → List ℕ → List ℕ → Option (List ℕ)
 ruled rule keys sort old new =
-    cond (changesFrom rule keys sort 0 old new) (makesRow (madeFrom rule keys sort 0 old new)) keepsOld
+    cond (changesFrom rule keys sort 0 old new) (some (madeFrom rule keys sort 0 old new)) none

@@ -6,16 +6,17 @@ use mathlib.Core.List.{List, [], _∷_, _++_, map}
 use mathlib.Core.Option.{Option, none, some}
 use lib.ListN.{length, getD}
 use lib.Dec.{ltb, eqb}
+use Rattle.refusals.specs.Refusals.{Reply, refused, accepted}
 use Rattle.plain.specs.Staged.{inserts}
-use Rattle.plain.specs.Plain.{Plain, Insertion, unchanged, appended, stopped, insertion, removed, raised}
+use Rattle.plain.specs.Plain.{Plain, insertion, removed, raised}
 use Rattle.plain.specs.Calls.{Call, staging, merging, compacting, clearing, LentCall, refusal, after}
 use Rattle.plain.specs.Proper.{rowOf}
 
 -- what an insert adds to the rows appended, and what those after it do: the row appended is the one after the rows there were
-abbrev pub appendsOn : Insertion → Plain → (Plain → List (List ℕ)) → List (List ℕ)
-appendsOn unchanged p rest = rest p
-appendsOn (appended p′) p rest = rowOf p′ (length (p .rows)) .cells ∷ rest p′
-appendsOn (stopped number) p rest = []
+abbrev pub appendsOn : Reply (Option Plain) → Plain → (Plain → List (List ℕ)) → List (List ℕ)
+appendsOn (refused number) p rest = []
+appendsOn (accepted none) p rest = rest p
+appendsOn (accepted (some p′)) p rest = rowOf p′ (length (p .rows)) .cells ∷ rest p′
 
 -- the rows that these inserts append, in order, until one stops the merge
 unfoldable pub insertsAppend : List (List ℕ) → Plain → List (List ℕ)

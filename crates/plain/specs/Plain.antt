@@ -2,22 +2,19 @@
 -- nothing.
 use Prim.Native.Nat.{ℕ, zero, suc, _+_, max}
 use mathlib.Core.Bool.{Bool, true, false, cond, not, _&&_}
-use mathlib.Core.List.{List, [], _∷_, _++_, map}
+use mathlib.Core.List.{List, [], _∷_, _++_, map, foldl}
 use mathlib.Core.Option.{Option, none, some}
 use lib.ListN.{length, take, getD}
 use lib.Dec.{leb, ltb, eqb}
 use Rattle.lists.specs.Lists.{keep, count, firstOf}
-use Rattle.refusals.specs.Refusals.{rung, first}
-use Rattle.merge_rules.specs.Rules.{keepsOld, makesRow, ruled}
-use Rattle.plain.specs.Staged.{Opening, Staged, keyRemovals, RowRemoval, rowRemovals, inserts, hasKey, skipped, due}
+use Rattle.refusals.specs.Refusals.{rung, first, Reply, refused, accepted, reply}
+use Rattle.merge_rules.specs.Rules.{ruled}
+use Rattle.plain.specs.Staged.{Opening, Staged, insert, removeKey, removeRow, inserts, hasKey, skipped, due}
 
 -- "rows live or dead": "dead rows keep their cells until compaction drops them"
 pub record Row : Type 0 where
   pub live : Bool
   pub cells : List ℕ
-
-abbrev pub liveRow : List ℕ → Row
-liveRow cells = record { live = true; cells = cells }
 
 abbrev pub deadRow : Row → Row
 deadRow row = record { live = false; cells = row .cells }
@@ -31,13 +28,13 @@ pub record Plain : Type 0 where
   pub staged : List Staged
   pub largest : Option ℕ
 
--- the same opening and largest value, with other parts
-abbrev pub with : Plain → ℕ → List Row → List Staged → Plain
-with p generation rows staged =
-    record { opening = p .opening; generation = generation; rows = rows; staged = staged; largest = p .largest }
+-- the same opening, with other parts
+abbrev pub with : Plain → ℕ → List Row → List Staged → Option ℕ → Plain
+with p generation rows staged largest =
+    record { opening = p .opening; generation = generation; rows = rows; staged = staged; largest = largest }
 
 abbrev pub withRows : Plain → List Row → Plain
-withRows p rows = with p (p .generation) rows (p .staged)
+withRows p rows = with p (p .generation) rows (p .staged) (p .largest)
 
 -- what is asked of it: the live rows, numbers and cells, rising
 pub record Numbered : Type 0 where
@@ -68,7 +65,7 @@ opened o generation = record { opening = o; generation = generation; rows = []; 
 
 -- Stage insert, removal by key, removal by row
 unfoldable pub stage : Plain → Staged → Plain
-stage p r = with p (p .generation) (p .rows) (p .staged ++ (r ∷ []))
+stage p r = with p (p .generation) (p .rows) (p .staged ++ (r ∷ [])) (p .largest)
 
 -- Merge
 
@@ -80,13 +77,11 @@ liveWithKey keys key row = row .live && hasKey keys key (row .cells)
 unfoldable pub killIf : (Row → Bool) → List Row → List Row
 killIf test rows = map (λ row. cond (test row) (deadRow row) row) rows
 
--- "removals by key"
-unfoldable pub withoutKey : List ℕ → Plain → Plain
-withoutKey key p = withRows p (killIf (liveWithKey (p .opening .keys) key) (p .rows))
-
-unfoldable pub withoutKeys : List (List ℕ) → Plain → Plain
-withoutKeys [] p = p
-withoutKeys (key ∷ keys) p = withoutKeys keys (withoutKey key p)
+-- what a staged record does where removals by key are taken
+unfoldable pub withoutKey : Plain → Staged → Plain
+withoutKey p (insert cells) = p
+withoutKey p (removeKey key) = withRows p (killIf (liveWithKey (p .opening .keys) key) (p .rows))
+withoutKey p (removeRow row key) = p
 
 -- "A removal by row works if that row still exists, is live and has that key"
 unfoldable pub dies : ℕ → List ℕ → ℕ → List Row → List Row
@@ -94,12 +89,16 @@ dies keys key number [] = []
 dies keys key zero (row ∷ rows) = cond (liveWithKey keys key row) (deadRow row) row ∷ rows
 dies keys key (suc number) (row ∷ rows) = row ∷ dies keys key number rows
 
-unfoldable pub withoutRow : RowRemoval → Plain → Plain
-withoutRow r p = withRows p (dies (p .opening .keys) (r .key) (r .row) (p .rows))
+-- what it does where removals by row are taken
+unfoldable pub withoutRow : Plain → Staged → Plain
+withoutRow p (insert cells) = p
+withoutRow p (removeKey key) = p
+withoutRow p (removeRow row key) = withRows p (dies (p .opening .keys) key row (p .rows))
 
-unfoldable pub withoutRows : List RowRemoval → Plain → Plain
-withoutRows [] p = p
-withoutRows (r ∷ rs) p = withoutRows rs (withoutRow r p)
+-- "takes removals by key, then removals by row, .. each in staging order": `foldl` takes the records one after another, from the
+-- first on
+unfoldable pub removed : Plain → Plain
+removed p = foldl withoutRow (foldl withoutKey p (p .staged)) (p .staged)
 
 -- "a sort value below that kept value", if there is one
 unfoldable pub below : ℕ → Option ℕ → Bool
@@ -114,12 +113,6 @@ stop cells p =
     ∷ rung (below (getD cells (p .opening .sort) 0) (p .largest)) 9
     ∷ [])
 
--- what an insert does: nothing, a row appended, or a stop with its number
-pub data Insertion : Type 0 where
-  unchanged : Insertion
-  appended : Plain → Insertion
-  stopped : ℕ → Insertion
-
 -- the largest value, once this one is appended too
 unfoldable pub raised : ℕ → Option ℕ → ℕ
 raised value none = value
@@ -128,30 +121,26 @@ raised value (some largest) = max value largest
 -- the table with this row after these
 abbrev pub withRow : Plain → List Row → List ℕ → Plain
 withRow p rows cells =
-    record {
-      opening = p .opening;
-      generation = p .generation;
-      rows = rows ++ (liveRow cells ∷ []);
-      staged = p .staged;
-      largest = some (raised (getD cells (p .opening .sort) 0) (p .largest));
-    }
+    with p (p .generation) (rows ++ (record { live = true; cells = cells } ∷ [])) (p .staged) (some (raised (getD cells (p .opening .sort) 0) (p .largest)))
+
+-- What an insert does: refused, it stops the merge with that number; accepted, it leaves a table with a row more, or none where
+-- nothing changes.
 
 -- a row that must be appended, and the rows that it is appended to
-unfoldable pub append : List ℕ → Plain → List Row → Insertion
-append cells p rows =
-    cond (eqb (stop cells p) 0) (appended (withRow p rows cells)) (stopped (stop cells p))
+unfoldable pub append : List ℕ → Plain → List Row → Reply (Option Plain)
+append cells p rows = reply (stop cells p) (some (withRow p rows cells))
 
 -- "A new key is appended. A known key goes through the rule; a row so made is appended and the old row dies"
-unfoldable pub put : List ℕ → Option Numbered → Plain → Insertion
+unfoldable pub put : List ℕ → Option Numbered → Plain → Reply (Option Plain)
 put cells none p = append cells p (p .rows)
 put cells (some old) p =
     elim (ruled (p .opening .rule) (p .opening .keys) (p .opening .sort) (old .cells) cells) [
-      | keepsOld ↦ unchanged
-      | makesRow row ↦ append row p (killIf (liveWithKey (p .opening .keys) (take (p .opening .keys) cells)) (p .rows))
+      | none ↦ accepted none
+      | some row ↦ append row p (killIf (liveWithKey (p .opening .keys) (take (p .opening .keys) cells)) (p .rows))
     ]
 
-unfoldable pub insertion : List ℕ → Plain → Insertion
-insertion cells p = cond (skipped cells) unchanged (put cells (lookup p (take (p .opening .keys) cells)) p)
+unfoldable pub insertion : List ℕ → Plain → Reply (Option Plain)
+insertion cells p = cond (skipped cells) (accepted none) (put cells (lookup p (take (p .opening .keys) cells)) p)
 
 -- what the inserts of a merge leave: the table, the stop's number and place ("both 0 if not stopped"), and "*added*: a row
 -- was appended"
@@ -165,29 +154,26 @@ abbrev pub inserted : Plain → ℕ → ℕ → Bool → Inserted
 inserted p status place added = record { table = p; status = status; place = place; added = added }
 
 -- what comes of an insert at a place: the rest goes on, or the merge stops there
-abbrev pub goOn : Insertion → ℕ → Bool → Plain → (Bool → Plain → Inserted) → Inserted
-goOn unchanged place added p rest = rest added p
-goOn (appended p′) place added p rest = rest true p′
-goOn (stopped number) place added p rest = inserted p number place added
+abbrev pub goOn : Reply (Option Plain) → ℕ → Bool → Plain → (Bool → Plain → Inserted) → Inserted
+goOn (refused number) place added p rest = inserted p number place added
+goOn (accepted none) place added p rest = rest added p
+goOn (accepted (some p′)) place added p rest = rest true p′
 
 -- the inserts from this place on, "among all staged inserts from 0", until one must be appended and cannot be
 unfoldable pub insertAll : List (List ℕ) → ℕ → Bool → Plain → Inserted
 insertAll [] place added p = inserted p 0 0 added
 insertAll (cells ∷ rest) place added p = goOn (insertion cells p) place added p (insertAll rest (suc place))
 
--- "takes removals by key, then removals by row, then inserts"
-abbrev pub removed : Plain → Plain
-removed p = withoutRows (rowRemovals (p .staged)) (withoutKeys (keyRemovals (p .staged)) p)
-
+-- ".. then inserts"
 unfoldable pub applied : Plain → Inserted
 applied p = insertAll (inserts (p .staged)) 0 false (removed p)
 
 -- Compaction: "drops them and the others close up in order", "the generation rises by one"
 unfoldable pub compacted : Plain → Plain
-compacted p = with p (p .generation + 1) (keep (λ row. row .live) (p .rows)) (p .staged)
+compacted p = with p (p .generation + 1) (keep (λ row. row .live) (p .rows)) (p .staged) (p .largest)
 
 unfoldable pub unstaged : Plain → Plain
-unstaged p = with p (p .generation) (p .rows) []
+unstaged p = with p (p .generation) (p .rows) [] (p .largest)
 
 -- whether a merge whose inserts leave this compacts: if it stopped, "no compaction follows"
 unfoldable pub compactsAfter : ℕ → Plain → Bool

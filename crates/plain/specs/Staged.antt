@@ -44,24 +44,7 @@ unfoldable pub wordsAll : Opening → List Staged → ℕ
 wordsAll o [] = 0
 wordsAll o (r ∷ rs) = wordsOf o r + wordsAll o rs
 
--- "removals by key, then removals by row, then inserts, each in staging order"
-unfoldable pub keyRemovals : List Staged → List (List ℕ)
-keyRemovals [] = []
-keyRemovals (insert cells ∷ rs) = keyRemovals rs
-keyRemovals (removeKey key ∷ rs) = key ∷ keyRemovals rs
-keyRemovals (removeRow row key ∷ rs) = keyRemovals rs
-
--- a removal by row
-pub record RowRemoval : Type 0 where
-  pub row : ℕ
-  pub key : List ℕ
-
-unfoldable pub rowRemovals : List Staged → List RowRemoval
-rowRemovals [] = []
-rowRemovals (insert cells ∷ rs) = rowRemovals rs
-rowRemovals (removeKey key ∷ rs) = rowRemovals rs
-rowRemovals (removeRow row key ∷ rs) = record { row = row; key = key } ∷ rowRemovals rs
-
+-- the inserts among staged records, in staging order
 unfoldable pub inserts : List Staged → List (List ℕ)
 inserts [] = []
 inserts (insert cells ∷ rs) = cells ∷ inserts rs

@@ -1,6 +1,6 @@
 -- Questions on rows (document 01, "Operations": refine by one and by a list, any match, page). They go by the header and
 -- the row store alone, so each is promised of any table. Assumes nothing.
-use Prim.Native.Nat.{ℕ, _+_, _-_, min}
+use Prim.Native.Nat.{ℕ, _+_, _-_, _<_, min}
 use mathlib.Core.Path.{_≡_}
 use mathlib.Core.Bool.{Bool, cond, not, _||_}
 use mathlib.Core.List.{List, [], _∷_, _++_}
@@ -70,20 +70,21 @@ unfoldable pub refineListReply : Header → List ℕ → Subset → List Constra
 refineListReply h rows subset conditions output =
     reply (refineRefusal h (length rows) subset conditions output) (narrowed (matches h rows conditions) subset)
 
-unfoldable pub matchReply : Header → List ℕ → Subset → List Constraint → Reply Bool
-matchReply h rows subset conditions =
-    reply (matchRefusal h (length rows) subset conditions) (any (matches h rows conditions) (members subset))
-
--- "Visits n ids from the start place, writes the live matching ones"
+-- "Visits n ids from the start place ..
 unfoldable pub visited : Subset → ℕ → ℕ → List ℕ
 visited subset start n = take n (drop start (members subset))
+
+-- .. writes the live matching ones"
+unfoldable pub pageIds : Header → List ℕ → Subset → ℕ → ℕ → List Constraint → List ℕ
+pageIds h rows subset start n conditions = keep (matches h rows conditions) (visited subset start n)
 
 -- "the next place or *none*. n = 0 gives the start place back unless nothing remains"
 unfoldable pub nextPlace : Subset → ℕ → ℕ → Option ℕ
 nextPlace subset start n = cond (ltb (start + n) (size subset)) (some (start + n)) none
 
+-- a page answers how many ids were written, how many of those visited have a dead row, and the next place
 pub record PageReply : Type 0 where
-  pub ids : List ℕ
+  pub written : ℕ
   pub dead : ℕ
   pub next : Option ℕ
 
@@ -92,7 +93,7 @@ pageReply h rows subset start n conditions output =
     reply
     (pageRefusal h (length rows) subset start n conditions output)
     (record {
-      ids = keep (matches h rows conditions) (visited subset start n);
+      written = length (pageIds h rows subset start n conditions);
       dead = deadAmong h rows (visited subset start n);
       next = nextPlace subset start n;
     })
@@ -106,24 +107,9 @@ unfoldable pub nextSays : NextPlace → Option ℕ
 nextSays None = none
 nextSays (At place) = some place
 
--- of a page: how many ids were written, how many of those visited have a dead row, and the next place
-pub record PageTold : Type 0 where
-  pub written : ℕ
-  pub dead : ℕ
-  pub next : Option ℕ
-
-unfoldable pub pageSays : PageAnswer → Reply PageTold
+unfoldable pub pageSays : PageAnswer → Reply PageReply
 pageSays (PageRefused n) = refused n
 pageSays (Paged page) = accepted (record { written = page .written; dead = page .dead; next = nextSays (page .next) })
-
--- what is told of a reply, and the ids that it writes
-unfoldable pub pageTold : Reply PageReply → Reply PageTold
-pageTold (refused n) = refused n
-pageTold (accepted page) = accepted (record { written = length (page .ids); dead = page .dead; next = page .next })
-
-unfoldable pub pageWrites : Reply PageReply → List ℕ
-pageWrites (refused n) = []
-pageWrites (accepted page) = page .ids
 
 -- the promises
 
@@ -134,8 +120,10 @@ pub record RefinedList (h : Header) (rows : List ℕ) (subset : Subset) (conditi
   pub answered : Answered (refineListReply h rows subset conditions (length output)) output answer output′
 
 pub record Matched (h : Header) (rows : List ℕ) (subset : Subset) (conditions : List Constraint) (answer : MatchAnswer) : Type 0 where
-  pub answers : matchSays answer ≡ matchReply h rows subset conditions
+  pub answers : matchSays answer ≡ reply (matchRefusal h (length rows) subset conditions) (any (matches h rows conditions) (members subset))
 
 pub record PageRead (h : Header) (rows : List ℕ) (subset : Subset) (start n : ℕ) (conditions : List Constraint) (output : List ℕ) (answer : PageAnswer) (output′ : List ℕ) : Type 0 where
-  pub answers : pageSays answer ≡ pageTold (pageReply h rows subset start n conditions (length output))
-  pub writes : output′ ≡ putAt output 0 (pageWrites (pageReply h rows subset start n conditions (length output)))
+  pub answers : pageSays answer ≡ pageReply h rows subset start n conditions (length output)
+  pub unchanged : 0 < pageRefusal h (length rows) subset start n conditions (length output) → output′ ≡ output
+  pub written : pageRefusal h (length rows) subset start n conditions (length output) ≡ 0
+      → output′ ≡ putAt output 0 (pageIds h rows subset start n conditions)

@@ -20,7 +20,7 @@ use Rattle.plain.specs.Refusing.{Lengths}
 use Rattle.plain.specs.Calls.{staging, merging, LentCall, afterAll}
 use Rattle.table.specs.declared.Header.{Header}
 use Rattle.table.specs.declared.Largest.the-variants.{None as NoLargest}
-use Rattle.queries.specs.Queries.{refineOneReply, refineListReply, PageReply, pageReply}
+use Rattle.queries.specs.Queries.{refineOneReply, refineListReply, pageIds, PageReply, pageReply}
 
 pub data Example : Type 0 where
   -- a hash and its compact hash
@@ -93,9 +93,9 @@ sameNext none (some b) = false
 sameNext (some a) none = false
 sameNext (some a) (some b) = eqb a b
 
-abbrev pub isPage : Reply PageReply → List ℕ → Option ℕ → Bool
-isPage (refused n) ids next = false
-isPage (accepted page) ids next = same (page .ids) ids && sameNext (page .next) next
+abbrev pub isPage : Reply PageReply → ℕ → Option ℕ → Bool
+isPage (refused n) written next = false
+isPage (accepted page) written next = eqb (page .written) written && sameNext (page .next) next
 
 -- live rows with these cells, numbered from n
 unfoldable pub areRows : ℕ → List Numbered → List (List ℕ) → Bool
@@ -160,7 +160,8 @@ comesOut (refines cells subset byOne byList) =
     isSubset (refineOneReply (oneColumn (length cells)) (padded cells) subset isSeven 100) byOne
     && isSubset (refineListReply (oneColumn (length cells)) (padded cells) subset (isSeven ∷ []) 100) byList
 comesOut (pages rows subset start n ids next) =
-    isPage (pageReply (oneColumn rows) (padded []) subset start n [] 100) ids next
+    same (pageIds (oneColumn rows) (padded []) subset start n []) ids
+    && isPage (pageReply (oneColumn rows) (padded []) subset start n [] 100) (length ids) next
 comesOut (goes dead rows answer) = Bool·beq (eqb (merged (tableOf (numbered 0 (lives dead rows))) .table .generation) 1) answer
 comesOut (renumbers lives old new) =
     same (cellsAt (compacted (tableOf (numbered 0 lives))) new) (old ∷ [])

@@ -11,9 +11,10 @@ use lib.Dec.{eqb}
 use borrow.Author.Tests.{ne-eqb}
 use Rattle.offsets.specs.Subsets.{Subset, range}
 use Rattle.offset_search.specs.inner.Search.{Bracketed}
-use Rattle.sort_entries.specs.Entries.{entriesOf, firstRow, Position, found, absent, rangeAt, fastRange, entriesSound}
+use Rattle.sort_entries.specs.Entries.{entriesOf, firstRow, entriesSound}
 use Rattle.sort_entries.specs.Laws.Stores.{length-entriesOf}
-use Rattle.sort_entries.specs.Laws.Sound.{valueOf, value-word, row-word, sound-facts, firstRow-drop, firstRow-past}
+use Rattle.sort_entries.specs.Laws.Sound.{valueOf, value-word, row-word, sound-climb, sound-facts, firstRow-drop, firstRow-past}
+use Rattle.sort_entries.specs.Laws.Positions.{Position, found, absent, rangeAt, fast-range-at}
 use Rattle.sort_entries.specs.Laws.Ranges.{place-found, place-absent}
 use Rattle.sort_entries.specs.declared.Standing.the-variants.{Found, Absent}
 use Rattle.sort_entries.specs.declared.Standing.{Standing}
@@ -91,6 +92,9 @@ absent-rest kind g rows a b =
 -- ---- the fast range
 
 pub ranged : (store : List ℕ) (n rows kind v : ℕ) (s t : Standing) (r : Range) → Stands store n rows v s → s ≡ t → rangeOf r ≡ rangeAt kind (standsAt t) rows → Ranged store n rows kind v r
-unfolding fastRange
 ranged store n rows kind v s t r p q e =
-    record { is = λ sound. e ∙ ap (λ (x : Standing). rangeAt kind (standsAt x) rows) (sym q) ∙ ap (λ (x : Position). rangeAt kind x rows) (p .is sound) }
+    record {
+      is = λ sound.
+          e ∙ ap (λ (x : Standing). rangeAt kind (standsAt x) rows) (sym q) ∙ ap (λ (x : Position). rangeAt kind x rows) (p .is sound)
+          ∙ sym (fast-range-at kind v (entriesOf n store) rows (sound-climb (entriesOf n store) rows sound));
+    }

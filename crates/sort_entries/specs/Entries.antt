@@ -4,7 +4,7 @@ use mathlib.Core.Bool.{Bool, true, cond, _&&_}
 use mathlib.Core.List.{List, [], _∷_, _++_, map}
 use lib.ListN.{drop, getD}
 use lib.Dec.{leb, ltb, eqb}
-use Rattle.lists.specs.Lists.{every, rising}
+use Rattle.lists.specs.Lists.{keep, every, any, rising}
 use Rattle.offsets.specs.Subsets.{Subset, range}
 
 -- "Pairs of value and first row"
@@ -48,29 +48,15 @@ unfoldable pub firstRow : List Entry → ℕ → ℕ
 firstRow [] rows = rows
 firstRow (e ∷ es) rows = e .row
 
--- where a value stands: "f the row of an entry of value v, b the next entry's row or the row count", or, without such an
--- entry, "g the row of the first entry above v or the row count"
-pub data Position : Type 0 where
-  found : ℕ → ℕ → Position
-  absent : ℕ → Position
-
-unfoldable pub position : ℕ → List Entry → ℕ → Position
-position v [] rows = absent rows
-position v (e ∷ es) rows =
-    cond (ltb (e .value) v) (position v es rows) (cond (eqb (e .value) v) (found (e .row) (firstRow es rows)) (absent (e .row)))
-
--- kinds 1 to 5: equal, less, greater, at most, at least
-unfoldable pub rangeAt : ℕ → Position → ℕ → Subset
-rangeAt kind (found f b) rows =
-    cond (eqb kind 1) (range f b)
-    (cond (eqb kind 2) (range 0 f) (cond (eqb kind 3) (range b rows) (cond (eqb kind 4) (range 0 b) (range f rows))))
-rangeAt kind (absent g) rows =
-    cond (eqb kind 1) (range 0 0)
-    (cond (eqb kind 2) (range 0 g) (cond (eqb kind 3) (range g rows) (cond (eqb kind 4) (range 0 g) (range g rows))))
-
--- the rows of a condition of kind 1 to 5 on the sort column
+-- The rows of a condition of kind 1 to 5 on the sort column: equal, less, greater, at most, at least. "With f the row of an entry
+-- of value v, b the next entry's row or the row count": f is the row of the first entry not below v, b that of the first above v.
+-- "Without such an entry" both are the paper's g, and equal gives 0..0.
 unfoldable pub fastRange : ℕ → ℕ → List Entry → ℕ → Subset
-fastRange kind value es rows = rangeAt kind (position value es rows) rows
+fastRange kind v es rows =
+    let f = firstRow (keep (λ e. leb v (e .value)) es) rows in
+    let b = firstRow (keep (λ e. ltb v (e .value)) es) rows in
+    cond (eqb kind 1) (cond (any (λ e. eqb (e .value) v) es) (range f b) (range 0 0))
+    (cond (eqb kind 2) (range 0 f) (cond (eqb kind 3) (range b rows) (cond (eqb kind 4) (range 0 b) (range f rows))))
 
 -- the value of the last entry at or below a row
 unfoldable pub valueAt : ℕ → List Entry → ℕ

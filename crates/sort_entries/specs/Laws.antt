@@ -2,6 +2,7 @@
 pub mod Stores
 pub mod Push
 pub mod Sound
+pub mod Positions
 pub mod Ranges
 pub mod Grow
 pub mod Rebuilt

@@ -2,7 +2,8 @@
 ghost use mathlib.Core.Path.{_≡_};
 ghost use Prim.Native.Nat.{_≤_, _<_};
 ghost use lib.ListN.{drop};
-ghost use Rattle.sort_entries.specs.Entries.{entriesOf, firstRow, rangeAt, entriesSound};
+ghost use Rattle.sort_entries.specs.Entries.{entriesOf, firstRow, entriesSound};
+ghost use Rattle.sort_entries.specs.Laws.Positions.{rangeAt};
 ghost use Rattle.sort_entries.specs.inner.Append.{Room, Append};
 ghost use Rattle.sort_entries.specs.inner.Search.{Held, Stands, Ranged, standsAt, rangeOf};
 ghost use Rattle.sort_entries.specs.inner.Checks.{Decides, Follows, Advanced, headValue, Cells, cellSound, cellsSound};

@@ -16,7 +16,7 @@ use Rattle.queries.specs.declared.MatchAnswer.{MatchAnswer}
 use Rattle.queries.specs.declared.MatchAnswer.the-variants.{Refused as MatchIsRefused, Match as Matches}
 use Rattle.sweeping.specs.declared.Sweep.{Sweep}
 use Rattle.sweeping.specs.declared.Question.the-variants.{Match}
-use Rattle.queries.specs.Queries.{matches, matchRefusal, matchReply, matchSays, Matched}
+use Rattle.queries.specs.Queries.{matches, matchRefusal, matchSays, Matched}
 use Rattle.sweeping.specs.inner.Sweeping.{visits, refusalOf, SweepAnswered, MatchClosed}
 use Rattle.sweeping.proofs.Visits.{first-tells}
 
@@ -36,7 +36,7 @@ module _ (h : Header) (rows : List ℕ) (subset : Subset) (conditions : List Con
   found z = ap (λ (n : ℕ). not (eqb n 0)) (a .grows z .number) ∙ first-tells test (members subset)
 
   pub match-answered : (answer : MatchAnswer) → MatchClosed s answer → Matched h rows subset conditions answer
-  unfolding matchReply matchSays refusalOf
+  unfolding matchSays refusalOf
   match-answered answer c =
       record {
         answers =

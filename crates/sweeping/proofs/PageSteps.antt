@@ -10,8 +10,7 @@ use lib.Dec.{ltb}
 use lib.ListN.{length}
 use borrow.Author.Tests.{lt-ltb, le-ltb}
 use Rattle.lists.specs.Lists.{putAt, keep}
-use Rattle.lists.specs.Laws.Parts.{putAt-nil}
-use Rattle.refusals.specs.Refusals.{Reply, refused, accepted}
+use Rattle.refusals.specs.Refusals.{refused, accepted}
 use Rattle.refusals.specs.Laws.Replies.{reply-refused, reply-accepted}
 use Rattle.offsets.specs.Subsets.{Subset, size}
 use Rattle.retain.specs.inner.Growing.{Grows}
@@ -23,7 +22,7 @@ use Rattle.queries.specs.declared.PageAnswer.{PageAnswer}
 use Rattle.queries.specs.declared.PageAnswer.the-variants.{Refused as PageIsRefused, Page as Paged}
 use Rattle.sweeping.specs.declared.Sweep.{Sweep}
 use Rattle.sweeping.specs.declared.Question.the-variants.{Page}
-use Rattle.queries.specs.Queries.{matches, deadAmong, pageRefusal, visited, nextPlace, PageReply, nextSays, pageSays, pageTold, pageReply, pageWrites, PageRead}
+use Rattle.queries.specs.Queries.{matches, deadAmong, pageRefusal, visited, nextPlace, pageIds, PageReply, nextSays, pageSays, pageReply, PageRead}
 use Rattle.sweeping.specs.inner.Sweeping.{visits, firstPlace, roomFor, refusalOf, SweepAnswered, CanWrite, Writes, nextOf, nextAt, PageClosed}
 use Rattle.sweeping.proofs.Visits.{length-visited, visited-end, kept-few}
 
@@ -96,8 +95,11 @@ module _ (h : Header) (rows : List ℕ) (subset : Subset) (start n : ℕ) (condi
       number : s .refused ≡ pageRefusal h (length rows) subset start n conditions (length output)
       number = unfold refusalOf in a .number-is
 
+      ids : List ℕ
+      ids = keep keeps (visited subset start n)
+
       read : PageReply
-      read = record { ids = keep keeps (visited subset start n); dead = deadAmong h rows (visited subset start n); next = nextPlace subset start n }
+      read = record { written = length ids; dead = deadAmong h rows (visited subset start n); next = nextPlace subset start n }
 
       dead-is : s .refused ≡ 0 → s .dead ≡ read .dead
       dead-is z = unfold visits in a .dead-is z
@@ -108,16 +110,21 @@ module _ (h : Header) (rows : List ℕ) (subset : Subset) (start n : ℕ) (condi
           let k : length (visited subset start n) ≡ min n (size subset - start) = rw (← visited-end subset start n) (length-visited subset start (min n (size subset - start)) (omega arith)) in
           next-back _ ∙ next-is subset start n (s .next) l (a .next-is z ∙ ap (λ (i : ℕ). start + i) k)
 
-      accepts : s .refused ≡ 0 → pageRefusal h (length rows) subset start n conditions (length output) ≡ 0 → answer ≡ Paged (record { written = length (read .ids); dead = s .dead; next = nextOf (nextAt subset (s .next)) })
-          → output″ ≡ putAt output 0 (read .ids) → PageRead h rows subset start n conditions output answer output″
-      accepts y z p q = unfold pageReply pageSays pageTold pageWrites in
-          let e = reply-accepted (accepted read) (pageRefusal h (length rows) subset start n conditions (length output)) read refl z in
+      accepts : s .refused ≡ 0 → pageRefusal h (length rows) subset start n conditions (length output) ≡ 0 → answer ≡ Paged (record { written = length ids; dead = s .dead; next = nextOf (nextAt subset (s .next)) })
+          → output″ ≡ putAt output 0 ids → PageRead h rows subset start n conditions output answer output″
+      accepts y z p q = unfold pageReply pageIds pageSays in
           record {
-            answers = ap pageSays p ∙ ap₂ (λ (d : ℕ) (m : Option ℕ). accepted (record { written = length (read .ids); dead = d; next = m })) (dead-is y) (goes-on y) ∙ ap pageTold e;
-            writes = q ∙ ap (λ (r : Reply PageReply). putAt output 0 (pageWrites r)) e;
+            answers =
+                ap pageSays p ∙ ap₂ (λ (d : ℕ) (m : Option ℕ). accepted (record { written = length ids; dead = d; next = m })) (dead-is y) (goes-on y)
+                ∙ reply-accepted (accepted read) (pageRefusal h (length rows) subset start n conditions (length output)) read refl z;
+            unchanged = λ m. absurd (omega (arith, z, m));
+            written = λ _. q;
           }
 
       refuses : (m : ℕ) → m ≡ pageRefusal h (length rows) subset start n conditions (length output) → (m ≡ 0 → ⊥) → answer ≡ PageIsRefused m → output″ ≡ output → PageRead h rows subset start n conditions output answer output″
-      refuses m z l p q = unfold pageReply pageSays pageTold pageWrites in
-          let e = reply-refused (refused m) (pageRefusal h (length rows) subset start n conditions (length output)) m read refl z l in
-          record { answers = ap pageSays p ∙ ap pageTold e; writes = q ∙ sym (putAt-nil output 0) ∙ ap (λ (r : Reply PageReply). putAt output 0 (pageWrites r)) e }
+      refuses m z l p q = unfold pageReply pageIds pageSays in
+          record {
+            answers = ap pageSays p ∙ reply-refused (refused m) (pageRefusal h (length rows) subset start n conditions (length output)) m read refl z l;
+            unchanged = λ _. q;
+            written = λ e. absurd (l (z ∙ e));
+          }

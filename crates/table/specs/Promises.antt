@@ -101,9 +101,6 @@ SlotsPast capacity keys keys′ = drop (2 * capacity) keys′ ≡ drop (2 * capa
 abbrev pub PastNeeded : ℕ → List ℕ → List ℕ → Type 0
 PastNeeded capacity words words′ = drop ((capacity + 63) / 64) words′ ≡ drop ((capacity + 63) / 64) words
 
-abbrev pub WordsPast : ℕ → CompactionWords → CompactionWords → Type 0
-WordsPast capacity w w′ = PastNeeded capacity (w .live) (w′ .live) × PastNeeded capacity (w .base) (w′ .base)
-
 -- Where the choice is the program's: of the key store only soundness is promised, and that no slot past it is written; of
 -- the compaction words needed, after a compaction, nothing.
 
@@ -150,14 +147,11 @@ unfoldable pub mergedRows : Plain → List (List ℕ) → List ℕ → List ℕ
 mergedRows p before store =
     rowStore (merged p .table) (stored (applied p .table .rows) before) (rowStore (applied p .table) before store)
 
-unfoldable pub mergedSorts : Plain → List ℕ → List ℕ
-mergedSorts p store = sortStore (merged p .table) (sortStore (applied p .table) store)
-
 module _ (s : Stores) (w : CompactionWords) (answer : MergeAnswer) (b′ : Body) (w′ : CompactionWords) where
   pub record MergedTable (p : Plain) : Type 0 where
     pub answers : mergeSays answer ≡ accepted (mergeOf p)
     pub rows-after : b′ .rows ≡ mergedRows p (rowsOf (s .header .columns) (s .header .rows) (s .rows)) (s .rows)
-    pub sorts-after : b′ .sorts ≡ mergedSorts p (s .sorts)
+    pub sorts-after : b′ .sorts ≡ sortStore (merged p .table) (sortStore (applied p .table) (s .sorts))
     pub represents : Represents (merged p .table) (joined (headerOf (merged p .table)) b′ (s .pending))
     -- compaction words are "unchanged where nothing is compacted"
     pub words : merged p .table .generation ≡ p .generation → w′ ≡ w
@@ -166,7 +160,7 @@ module _ (s : Stores) (w : CompactionWords) (answer : MergeAnswer) (b′ : Body)
     pub refusal : verdict (mergeSays answer) ≡ reply (mergeRefusal (s .header) (lengthsLent s w)) tt
     pub unchanged : 0 < mergeRefusal (s .header) (lengthsLent s w) → (b′ ≡ bodyOf s) × (w′ ≡ w)
     pub past : SlotsPast (s .header .capacity) (s .keys) (b′ .keys)
-    pub words-past : WordsPast (s .header .capacity) w w′
+    pub words-past : PastNeeded (s .header .capacity) (w .live) (w′ .live) × PastNeeded (s .header .capacity) (w .base) (w′ .base)
     pub table : mergeRefusal (s .header) (lengthsLent s w) ≡ 0 → (p : Plain) → Represents p s → MergedTable p
 
 -- *Compact*: lent rows, keys, sort entries and compaction words
@@ -181,7 +175,7 @@ module _ (h : Header) (b : Body) (w : CompactionWords) (answer : TableAnswer) (b
     pub refusal : verdict (tableSays answer) ≡ reply (compactRefusal h (lengthsLent (joined h b []) w)) tt
     pub unchanged : 0 < compactRefusal h (lengthsLent (joined h b []) w) → (b′ ≡ b) × (w′ ≡ w)
     pub past : SlotsPast (h .capacity) (b .keys) (b′ .keys)
-    pub words-past : WordsPast (h .capacity) w w′
+    pub words-past : PastNeeded (h .capacity) (w .live) (w′ .live) × PastNeeded (h .capacity) (w .base) (w′ .base)
     pub table : compactRefusal h (lengthsLent (joined h b []) w) ≡ 0
         → (pending : List ℕ) (p : Plain) → Represents p (joined h b pending) → CompactedTable pending p
 

@@ -3,6 +3,7 @@ use Prim.Native.Nat.{ℕ}
 use mathlib.Core.Path.{_≡_, refl, subst, _∙_, ap}
 use mathlib.Core.Bool.{true, _||_}
 use mathlib.Core.List.{List, []}
+use native.Mathlib.Omega.{arith}
 use lib.ListN.{length}
 use lib.Dec.{ltb}
 use Rattle.lists.specs.Lists.{putAt}
@@ -14,7 +15,7 @@ use Rattle.constraints.specs.declared.Constraint.{Constraint}
 use Rattle.table.specs.declared.Header.{Header}
 use Rattle.table.specs.Refusing.{outside}
 use Rattle.queries.specs.declared.PageAnswer.{PageAnswer}
-use Rattle.queries.specs.Queries.{tests, refineRefusal, pageRefusal, refineOneReply, refineListReply, pageReply, pageWrites, RefinedOne, RefinedList, PageRead}
+use Rattle.queries.specs.Queries.{tests, refineRefusal, pageRefusal, refineOneReply, refineListReply, RefinedOne, RefinedList, PageRead}
 use Rattle.words.specs.Words.{headerIn, Told, QuestionInWords}
 use Rattle.asking.specs.inner.Steps.{HeaderAsked, Tells}
 
@@ -58,5 +59,5 @@ module _ {h : Header} {rows : List ℕ} {subset : Subset} {output output′ : Li
   list-kept p = p .answered .writes ∙ rw (out, written-none 1) (put-nothing output)
 
   pub page-kept : {start n : ℕ} {conditions : List Constraint} {answer : PageAnswer} → PageRead h rows subset start n conditions output answer output′ → output′ ≡ output
-  unfolding pageReply pageRefusal tests first reply pageWrites
-  page-kept p = p .writes ∙ rw out (put-nothing output)
+  unfolding pageRefusal tests first
+  page-kept p = p .unchanged (rw out (omega arith))

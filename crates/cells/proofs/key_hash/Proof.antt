@@ -2,16 +2,17 @@
 -- key's. Assumes nothing.
 use Prim.Native.Nat.{ℕ, _+_, _-_, _*_, _^_, _≤_, _<_}
 use mathlib.Core.Path.{_≡_, refl, sym, ap, _∙_}
+use mathlib.Core.List.{foldl}
 use borrow.Author.Needs.{needs}
 use native.Mathlib.Omega.{arith}
 use lib.ListN.{length, drop}
-use Rattle.cells.specs.Cells.{keyHash, mixedAll}
+use Rattle.cells.specs.Cells.{mixed, keyHash}
 use Rattle.cells.proofs.Hash.{hash-step, hash-end}
 use Rattle.cells.proofs.key_hash.Statement.{statement}
 use Rattle.cells.proofs.key_hash.Tie as tie
 
 abbrev Inv-loop : tie.InvT-loop
-Inv-loop key hash₀ i₀ hash i = (i ≤ length key) × (hash < 2 ^ 32) × (mixedAll 0 key ≡ mixedAll hash (drop i key))
+Inv-loop key hash₀ i₀ hash i = (i ≤ length key) × (hash < 2 ^ 32) × (foldl mixed 0 key ≡ foldl mixed hash (drop i key))
 
 abbrev μ-loop : tie.MeasureT-loop
 μ-loop key hash₀ i₀ hash i = length key - i

@@ -1,15 +1,15 @@
 -- `cells::mix` meets its contract. Assumes nothing.
-use Prim.Native.Nat.{ℕ, _*_, _^_, _<_}
+use Prim.Native.Nat.{ℕ, _+_, _*_, _/_, _%_, _^_, _<_}
 use mathlib.Core.Path.{refl}
 use borrow.Author.Needs.{needs}
 use native.Mathlib.Omega.{arith}
-use Rattle.cells.specs.Cells.{sumOf, turned, mixed}
+use Rattle.cells.specs.Cells.{mixed}
 use Rattle.cells.proofs.Hash.{product-fits}
 use Rattle.cells.proofs.mix.Statement.{statement}
 use Rattle.cells.proofs.mix.Tie as tie
 
 -- a sum times itself with its halves exchanged fits
-fits : (hash cell : ℕ) → sumOf hash cell * turned (sumOf hash cell) < 2 ^ 64
+fits : (hash cell : ℕ) → let sum = (hash + cell + 2654435761) % 2 ^ 32 in sum * (sum % 2 ^ 16 * 2 ^ 16 + sum / 2 ^ 16) < 2 ^ 64
 fits hash cell = product-fits _ _ (omega arith) (omega arith)
 
 add-sum : tie.Need-add-sum

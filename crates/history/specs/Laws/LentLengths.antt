@@ -9,9 +9,9 @@ use lib.ListN.{length}
 use Rattle.lists.specs.Lists.{putAt, count, rowsOf, flat}
 use Rattle.refusals.specs.Refusals.{first, reply, verdict}
 use Rattle.sort_entries.specs.Entries.{entryWords, rebuilt, pushAll}
-use Rattle.plain.specs.Staged.{Opening, openable, Staged, insert, removeKey, removeRow, wordsOf, wordsAll, keyRemovals, rowRemovals, inserts, due}
+use Rattle.plain.specs.Staged.{Opening, openable, Staged, insert, removeKey, removeRow, wordsOf, wordsAll, inserts, due}
 use Rattle.plain.specs.Refusing.{Lengths, storesShort, wordsShort, openRefusal, compactLadder, mergeLadder}
-use Rattle.plain.specs.Plain.{Plain, Row, dead, opened, withoutKeys, withoutRows, insertAll, applied, unstaged, compactsAfter, merged}
+use Rattle.plain.specs.Plain.{Plain, Row, dead, opened, removed, insertAll, applied, unstaged, compactsAfter, merged}
 use Rattle.plain.specs.Calls.{merging, compacting}
 use Rattle.table.specs.declared.Largest.the-variants.{None as NoLargest}
 use Rattle.table.specs.declared.Header.{Header}
@@ -21,7 +21,7 @@ use Rattle.table.specs.declared.MergeAnswer.the-variants.{Merged}
 use Rattle.table.specs.Numbers.{openingOf, largestOf, tableSays, mergeSays}
 use Rattle.table.specs.Refusing.{outside, pendingOutside, mergeRefusal, compactRefusal}
 use Rattle.table.specs.Stores.{entries, stored, rowStore, sortStore}
-use Rattle.table.specs.Promises.{Stores, stores, Represents, body, CompactionWords, compactionWords, headerAfter, headerMerged, mergeOf, mergedRows, mergedSorts, Opened, Merging, MergedTable, Compacting}
+use Rattle.table.specs.Promises.{Stores, stores, Represents, body, CompactionWords, compactionWords, headerAfter, headerMerged, mergeOf, mergedRows, Opened, Merging, MergedTable, Compacting}
 use Rattle.table.specs.Laws.Opening.{emptyHeader, empty-represents, opened-done}
 use Rattle.history.specs.Histories.{merges as merge-called, compacts as compact-called, called, end, next, History}
 
@@ -90,7 +90,7 @@ unmoved = mergeOf (opened example 0)
 
 -- accepted: nothing to do
 example-stays : MergedTable exampleStores oneWord (Merged unmoved) (body (0 ∷ eleven) eight eight) oneWord (opened example 0)
-unfolding mergeSays mergedRows mergedSorts opened merged applied keyRemovals rowRemovals inserts withoutKeys withoutRows insertAll unstaged compactsAfter due dead count entries rebuilt pushAll stored rowStore sortStore rowsOf flat entryWords putAt wordsAll openable storesShort
+unfolding mergeSays mergedRows opened merged applied inserts removed insertAll unstaged compactsAfter due dead count entries rebuilt pushAll stored rowStore sortStore rowsOf flat entryWords putAt wordsAll openable storesShort
 example-stays =
     record {
       answers = refl;
@@ -114,7 +114,7 @@ example-merged =
 pub lengths-differ : History example 0
     (record { call = compacting; lengths = lentRows 11 } ∷ record { call = merging; lengths = lentRows 12 } ∷ [])
     exampleStores
-unfolding headerAfter headerMerged tableSays mergeSays opened merged applied keyRemovals rowRemovals inserts withoutKeys withoutRows insertAll unstaged compactsAfter due dead count entries rebuilt pushAll wordsAll largestOf
+unfolding headerAfter headerMerged tableSays mergeSays opened merged applied inserts removed insertAll unstaged compactsAfter due dead count entries rebuilt pushAll wordsAll largestOf
 lengths-differ =
     record {
       start = exampleStores;

@@ -4,21 +4,22 @@ use Prim.Native.Nat.{ℕ, zero, suc, _+_, _*_, _≤_, _<_}
 use mathlib.Core.Path.{_≡_, refl, sym, ap, ap₂, _∙_}
 use mathlib.Core.Logic.{inl, inr}
 use mathlib.Core.Bool.{Bool, true, false, false≢true}
-use mathlib.Core.Option.{none, some}
+use mathlib.Core.Option.{Option, none, some}
 use mathlib.Core.List.{List}
 use native.Mathlib.Nat.{add-zero, suc-mul}
 use native.Mathlib.Numerals.{add-one}
 use native.Mathlib.Omega.{arith}
 use lib.Dec.{leb}
 use lib.ListN.{length, take, drop, getD, set, length-set}
-use borrow.Author.Tests.{leb-true, ne-eqb}
+use borrow.Author.Tests.{leb-true}
 use Rattle.lists.specs.Lists.{putAt, rowAt}
 use Rattle.lists.specs.Laws.Keep.{split}
 use Rattle.lists.specs.Laws.Parts.{part-before, part-putAt}
 use Rattle.lists.specs.Laws.Rows.{row-in, length-rowAt, rowAt-set-same, rowAt-set-other}
 use Rattle.cells.specs.Cells.{isDead, compact, keyHash}
 use Rattle.constraints.specs.Constraints.{isLive}
-use Rattle.merge_rules.specs.Rules.{changesFrom, madeFrom, Ruled, keepsOld as ruleKept, makesRow, ruled}
+use Rattle.refusals.specs.Refusals.{refused, accepted, reply}
+use Rattle.merge_rules.specs.Rules.{changesFrom, madeFrom, ruled}
 use Rattle.merge_rules.specs.Survivor.{survivor}
 use Rattle.merge_rules.specs.Laws.Rules.{made-length, made-keys, made-first, kept-of, made-of, survives, survivor-length, ruled-made}
 use Rattle.key_index.specs.declared.Found.{Found}
@@ -28,7 +29,7 @@ use Rattle.key_index.specs.inner.Index.{Fits, FoundAt, FoundIs, PutIs}
 use Rattle.key_index.specs.Laws.Index.{put-sound, replace-sound, replace-tail}
 use Rattle.key_index.specs.Laws.Rows.{WithRows, grown-rows, swapped-rows}
 use Rattle.plain.specs.Staged.{insert, skipped}
-use Rattle.plain.specs.Plain.{unchanged, appended, stopped, Row, Plain, withRows, withRow, lookup, dead, liveWithKey, killIf, stop, append, put, insertion}
+use Rattle.plain.specs.Plain.{Row, Plain, withRows, withRow, lookup, dead, liveWithKey, killIf, stop, append, put, insertion}
 use Rattle.plain.specs.Proper.{rowOf}
 use Rattle.plain.specs.Laws.Rows.{noRow, liveWithKey-live, apart-of}
 use Rattle.plain.specs.Laws.Proper.{insertion-proper}
@@ -56,7 +57,7 @@ keys-same r = ap (λ (h : Header). h .keys) (r .shown .header)
 
 module _ (cells : List ℕ) (p : Plain) where
   -- "An insert with a dead first cell is skipped"
-  pub insertion-skips : skipped cells ≡ true → insertion cells p ≡ unchanged
+  pub insertion-skips : skipped cells ≡ true → insertion cells p ≡ accepted none
   unfolding insertion
   insertion-skips e = rw e
 
@@ -68,32 +69,33 @@ module _ (cells : List ℕ) (p : Plain) where
 
   -- "A known key goes through the rule"
   module _ (e : skipped cells ≡ false) (number : ℕ) (old : List ℕ) (f : lookup p (take (p .opening .keys) cells) ≡ some (record { number = number; cells = old })) where
-    put-ruled : (x : Ruled) → ruled (p .opening .rule) (p .opening .keys) (p .opening .sort) old cells ≡ x
+    put-ruled : (x : Option (List ℕ)) → ruled (p .opening .rule) (p .opening .keys) (p .opening .sort) old cells ≡ x
         → put cells (some (record { number = number; cells = old })) p
-        ≡ elim x [ ruleKept ↦ unchanged | makesRow row ↦ append row p (killIf (liveWithKey (p .opening .keys) (take (p .opening .keys) cells)) (p .rows)) ]
+        ≡ elim x [ none ↦ accepted none | some row ↦ append row p (killIf (liveWithKey (p .opening .keys) (take (p .opening .keys) cells)) (p .rows)) ]
     unfolding put
     put-ruled x g =
         ap
-        (λ (y : Ruled). elim y [ ruleKept ↦ unchanged | makesRow row ↦ append row p (killIf (liveWithKey (p .opening .keys) (take (p .opening .keys) cells)) (p .rows)) ])
+        (λ (y : Option (List ℕ)). elim y [ none ↦ accepted none | some row ↦ append row p (killIf (liveWithKey (p .opening .keys) (take (p .opening .keys) cells)) (p .rows)) ])
         g
 
-    insertion-keeps : changesFrom (p .opening .rule) (p .opening .keys) (p .opening .sort) 0 old cells ≡ false → insertion cells p ≡ unchanged
+    insertion-keeps : changesFrom (p .opening .rule) (p .opening .keys) (p .opening .sort) 0 old cells ≡ false → insertion cells p ≡ accepted none
     unfolding insertion
-    insertion-keeps g = rw (e, f) (put-ruled ruleKept (kept-of (p .opening .rule) (p .opening .keys) (p .opening .sort) old cells g))
+    insertion-keeps g = rw (e, f) (put-ruled none (kept-of (p .opening .rule) (p .opening .keys) (p .opening .sort) old cells g))
 
     insertion-makes : changesFrom (p .opening .rule) (p .opening .keys) (p .opening .sort) 0 old cells ≡ true
         → insertion cells p
         ≡ append (madeFrom (p .opening .rule) (p .opening .keys) (p .opening .sort) 0 old cells) p (killIf (liveWithKey (p .opening .keys) (take (p .opening .keys) cells)) (p .rows))
     unfolding insertion
-    insertion-makes g = rw (e, f) (put-ruled (makesRow _) (made-of (p .opening .rule) (p .opening .keys) (p .opening .sort) old cells g))
+    insertion-makes g = rw (e, f) (put-ruled (some _) (made-of (p .opening .rule) (p .opening .keys) (p .opening .sort) old cells g))
 
 module _ (cells : List ℕ) (p : Plain) (rows : List Row) where
-  append-stops : (n : ℕ) → stop cells p ≡ n → 0 < n → append cells p rows ≡ stopped n
-  unfolding append
-  append-stops n e h = rw (e, ne-eqb n 0 (λ q. omega arith))
+  append-stops : (n : ℕ) → stop cells p ≡ n → 0 < n → append cells p rows ≡ refused n
+  unfolding append reply
+  append-stops zero e h = absurd (omega arith)
+  append-stops (suc n) e h = rw e
 
-  append-goes : stop cells p ≡ 0 → append cells p rows ≡ appended (withRow p rows cells)
-  unfolding append
+  append-goes : stop cells p ≡ 0 → append cells p rows ≡ accepted (some (withRow p rows cells))
+  unfolding append reply
   append-goes e = rw e
 
 -- ---- the row made
@@ -273,7 +275,7 @@ module _ (h : Header) (rows keys sorts cells : List ℕ) (hash : ℕ) where
         changes-same = rw (← rule-same, ← keys-same r, ← sort-same)
 
         -- the old row is kept
-        keep-way : Changes h (rowAt (h .columns) old rows) cells ≡ false → insertion cells p ≡ unchanged
+        keep-way : Changes h (rowAt (h .columns) old rows) cells ≡ false → insertion cells p ≡ accepted none
         unfolding skipped
         keep-way c = insertion-keeps cells p live old (rowAt (h .columns) old rows) old-is (changes-same ∙ c)
 
@@ -307,7 +309,7 @@ module _ (h : Header) (rows keys sorts cells : List ℕ) (hash : ℕ) where
               → Comes p cells (stores h rows keys sorts pending) rows′ keys′ sorts′ (Appended h′)
           replaced-steps h′ rows′ keys′ sorts′ g =
               let row : List ℕ = rowMade h (rowAt (h .columns) old rows) cells in
-              let goes : insertion cells p ≡ appended (withRow p (killAt old (p .rows)) row) =
+              let goes : insertion cells p ≡ accepted (some (withRow p (killAt old (p .rows)) row)) =
               make-way ∙ append-goes row p (killAt old (p .rows)) (stop-same r row ∙ g .entered .free) in
               let died : h .dead + 1 ≡ dead (withRows p (killAt old (p .rows))) = ap (λ (n : ℕ). n + 1) dead-same ∙ sym (dead-killAt p old old-live) in (
                 withRow p (killAt old (p .rows)) row,
@@ -324,7 +326,7 @@ module _ (h : Header) (rows keys sorts cells : List ℕ) (hash : ℕ) where
       grew-steps : f ≡ None → (h′ : Header) (rows′ keys′ sorts′ : List ℕ) → Grew h rows keys sorts cells hash h′ rows′ keys′ sorts′
           → Comes p cells (stores h rows keys sorts pending) rows′ keys′ sorts′ (Appended h′)
       grew-steps e h′ rows′ keys′ sorts′ g =
-          let goes : insertion cells p ≡ appended (withRow p (p .rows) cells) =
+          let goes : insertion cells p ≡ accepted (some (withRow p (p .rows) cells)) =
           new-way e ∙ append-goes cells p (p .rows) (stop-same r cells ∙ g .entered .free) in (
             withRow p (p .rows) cells,
             goes,

@@ -2,8 +2,10 @@
 use Prim.Native.Nat.{ℕ, _<_}
 use mathlib.Core.Path.{_≡_}
 use mathlib.Core.List.{List}
+use mathlib.Core.Option.{none, some}
+use Rattle.refusals.specs.Refusals.{refused, accepted}
 use Rattle.plain.specs.Staged.{insert}
-use Rattle.plain.specs.Plain.{unchanged, appended, stopped, Plain, insertion}
+use Rattle.plain.specs.Plain.{Plain, insertion}
 use Rattle.table.specs.declared.Header.{Header}
 use Rattle.appending.specs.declared.Insertion.{Insertion}
 use Rattle.appending.specs.declared.Insertion.the-variants.{Kept, Appended, Stopped}
@@ -12,10 +14,10 @@ use Rattle.pending.specs.inner.Becoming.{Becomes, Recounted, hashOf}
 
 -- what an insert's answer says of the plain table's insert
 abbrev pub Comes : Plain → List ℕ → Stores → List ℕ → List ℕ → List ℕ → Insertion → Type 0
-Comes p cells s rows′ keys′ sorts′ Kept = insertion cells p ≡ unchanged
+Comes p cells s rows′ keys′ sorts′ Kept = insertion cells p ≡ accepted none
 Comes p cells s rows′ keys′ sorts′ (Appended h′) =
-    (p′ : Plain) × (insertion cells p ≡ appended p′) × Becomes p p′ s (stores h′ rows′ keys′ sorts′ (s .pending))
-Comes p cells s rows′ keys′ sorts′ (Stopped n) = (insertion cells p ≡ stopped n) × (0 < n)
+    (p′ : Plain) × (insertion cells p ≡ accepted (some p′)) × Becomes p p′ s (stores h′ rows′ keys′ sorts′ (s .pending))
+Comes p cells s rows′ keys′ sorts′ (Stopped n) = (insertion cells p ≡ refused n) × (0 < n)
 
 -- one insert, with its key's hash
 pub record Inserting (h : Header) (rows keys sorts cells : List ℕ) (hash : ℕ) (r : Insertion) (rows′ keys′ sorts′ : List ℕ) : Type 0 where

@@ -3,15 +3,15 @@ use Prim.Native.Nat.{ℕ}
 use mathlib.Core.Path.{_≡_, refl}
 use mathlib.Core.List.{List, [], _∷_, _++_}
 use mathlib.Core.Option.{Option, none}
-use Rattle.lists.specs.Lists.{flat, every, same, count, keep, countFrom, firstOf}
-use Rattle.refusals.specs.Refusals.{first}
+use Rattle.lists.specs.Lists.{flat, every, any, same, count, keep, countFrom, firstOf}
+use Rattle.refusals.specs.Refusals.{first, reply}
 use Rattle.cells.specs.Cells.{isDead}
 use Rattle.merge_rules.specs.Rules.{ruledColumn, signed, signedLess, smaller, larger, taken, madeCell, madeFrom, changesFrom, ruled}
 use Rattle.constraints.specs.Constraints.{known}
-use Rattle.sort_entries.specs.Entries.{last, push, pushAll, rebuilt, firstRow, position, rangeAt, fastRange}
-use Rattle.plain.specs.Staged.{openable, wordsOf, wordsAll, keyRemovals, rowRemovals, inserts, hasKey, skipped, due}
+use Rattle.sort_entries.specs.Entries.{last, push, pushAll, rebuilt, firstRow, fastRange}
+use Rattle.plain.specs.Staged.{openable, wordsOf, wordsAll, inserts, hasKey, skipped, due}
 use Rattle.plain.specs.Refusing.{Lengths, storesShort, wordsShort, wrongWidth, noSuchRow, overfull, openRefusal, stageLadder, mergeLadder}
-use Rattle.plain.specs.Plain.{Plain, liveFrom, liveRows, lookup, dead, opened, stage, liveWithKey, killIf, withoutKey, withoutKeys, withoutRow, withoutRows, below, stop, raised, append, put, insertion, insertAll, applied, compacted, unstaged, compactsAfter, merged}
+use Rattle.plain.specs.Plain.{Plain, liveFrom, liveRows, lookup, dead, opened, stage, liveWithKey, killIf, withoutKey, withoutRow, removed, below, stop, raised, append, put, insertion, insertAll, applied, compacted, unstaged, compactsAfter, merged}
 use Rattle.plain.specs.Calls.{pendingShort, refusal, done, after}
 use Rattle.table.specs.Stores.{entries}
 use Rattle.levels_text.specs.Lines.{fields, valueFrom, isDecimal, isLine, letter, numbers, isBare, isForm, accepted}
@@ -46,5 +46,5 @@ output =
     ∷ []
 
 pub example : printed input ≡ output
-unfolding printed session linesIn begun input output flat every same count keep countFrom firstOf first isDead ruledColumn signed signedLess smaller larger taken madeCell madeFrom changesFrom ruled known last push pushAll rebuilt firstRow position rangeAt fastRange openable wordsOf wordsAll keyRemovals rowRemovals inserts hasKey skipped due storesShort wordsShort wrongWidth noSuchRow overfull openRefusal stageLadder mergeLadder liveFrom liveRows lookup dead opened stage liveWithKey killIf withoutKey withoutKeys withoutRow withoutRows below stop raised append put insertion insertAll applied compacted unstaged compactsAfter merged pendingShort refusal done after entries fields valueFrom isDecimal isLine letter numbers isBare isForm accepted digitsIn decimal field textLine replied openNumber opens calls asks mergeText fastOf rangeText versionText listText served onTable turn answered
+unfolding printed session linesIn begun input output flat every same count keep countFrom firstOf first reply isDead ruledColumn signed signedLess smaller larger taken madeCell madeFrom changesFrom ruled known last push pushAll rebuilt any firstRow fastRange openable wordsOf wordsAll inserts hasKey skipped due storesShort wordsShort wrongWidth noSuchRow overfull openRefusal stageLadder mergeLadder liveFrom liveRows lookup dead opened stage liveWithKey killIf withoutKey withoutRow removed below stop raised append put insertion insertAll applied compacted unstaged compactsAfter merged pendingShort refusal done after entries fields valueFrom isDecimal isLine letter numbers isBare isForm accepted digitsIn decimal field textLine replied openNumber opens calls asks mergeText fastOf rangeText versionText listText served onTable turn answered
 example = refl

@@ -3,15 +3,15 @@
 use Prim.Native.Nat.{ℕ}
 use mathlib.Core.Path.{_≡_, sym, ap, ap₂, _∙_}
 use mathlib.Core.Bool.{true, false, cond}
-use mathlib.Core.List.{List, []}
+use mathlib.Core.List.{List, [], foldl}
 use native.Mathlib.Omega.{arith}
 use lib.ListN.{length}
 use borrow.Author.Tests.{eq-eqb, ne-eqb}
 use Rattle.refusals.specs.Refusals.{accepted}
 use Rattle.lists.specs.Lists.{putAt, flat}
 use Rattle.lists.specs.Laws.Keep.{every-keep}
-use Rattle.plain.specs.Staged.{Staged, due, rowRemovals, inserts}
-use Rattle.plain.specs.Plain.{Inserted, insertAll, Plain, dead, withoutRows, insertion, applied, live as liveCount, compacted, unstaged, compactsAfter, merged, mergeKeeps, mergeDrops}
+use Rattle.plain.specs.Staged.{Staged, due, inserts}
+use Rattle.plain.specs.Plain.{Inserted, insertAll, Plain, dead, withoutRow, removed, insertion, applied, live as liveCount, compacted, unstaged, compactsAfter, merged, mergeKeeps, mergeDrops}
 use Rattle.table.specs.declared.Header.{Header}
 use Rattle.plain.specs.Laws.Price.{compacted-live}
 use Rattle.table.specs.declared.Merge.{Merge}
@@ -19,7 +19,7 @@ use Rattle.insertions.specs.declared.Passed.{Passed}
 use Rattle.table.specs.declared.MergeAnswer.the-variants.{Merged}
 use Rattle.table.specs.Numbers.{mergeSays}
 use Rattle.table.specs.Stores.{headerOf, rowStore}
-use Rattle.table.specs.Promises.{Stores, stores, body, compactionWords, Represents, mergeOf, mergedRows, mergedSorts, MergedTable}
+use Rattle.table.specs.Promises.{Stores, stores, body, compactionWords, Represents, mergeOf, mergedRows, MergedTable}
 use Rattle.pending.specs.inner.Becoming.{Becomes}
 use Rattle.insertions.specs.inner.Insertions.{InsertedTable}
 use Rattle.removals.specs.inner.Removals.{removedAll}
@@ -33,12 +33,12 @@ use Rattle.removals.specs.Laws.Removals.{removedAll-keys, removedAll-rows}
 -- removals by key, then removals by row, then inserts
 pub passes-applied : (p p₁ p₂ : Plain) → p₁ ≡ removedAll 1 (p .staged) p → p₁ .staged ≡ p .staged
     → p₂ ≡ removedAll 2 (p₁ .staged) p₁ → p₂ .staged ≡ p₁ .staged → insertAll (inserts (p₂ .staged)) 0 false p₂ ≡ applied p
-unfolding applied
+unfolding applied removed
 passes-applied p p₁ p₂ a b c d =
     ap₂ (λ (staged : List Staged) (q : Plain). insertAll (inserts staged) 0 false q) (d ∙ b)
     (c
     ∙ removedAll-rows (p₁ .staged) p₁
-    ∙ ap₂ (λ (staged : List Staged) (q : Plain). withoutRows (rowRemovals staged) q) b (a ∙ removedAll-keys (p .staged) p))
+    ∙ ap₂ (λ (staged : List Staged) (q : Plain). foldl withoutRow q staged) b (a ∙ removedAll-keys (p .staged) p))
 
 -- what the three leave
 pub passes-table : {p p₁ p₂ : Plain} {s s₁ s₂ s₃ : Stores} {m : Passed} → Represents p s
@@ -110,7 +110,7 @@ module _ {h : Header} {rows keys sorts pending live base : List ℕ} {m : Passed
 
   -- the two halves are a merge
   pub merged-table : MergedTable (stores h rows keys sorts pending) (compactionWords live base) (Merged r) (body rows′ keys′ sorts′) (compactionWords live′ base′) p
-  unfolding mergeSays mergedRows mergedSorts
+  unfolding mergeSays mergedRows
   merged-table =
       let before = first-stored shown (a .steps) (steps-refl (a .steps .represents)) in
       record {

@@ -4,6 +4,7 @@ use mathlib.Core.Path.{_≡_, refl, sym, ap, _∙_}
 use mathlib.Core.Logic.{inl, inr}
 use mathlib.Core.Bool.{Bool, true, false, cond, not, _&&_}
 use mathlib.Core.List.{List, [], _∷_}
+use mathlib.Core.Option.{none, some}
 use native.Mathlib.Nat.{add-zero}
 use native.Mathlib.Decide.{decLt, ℕ-discrete}
 use native.Mathlib.Omega.{arith}
@@ -12,7 +13,7 @@ use lib.ListN.{length, take, getD, length-take}
 use lib.Seq.{getD-take, ext-getD}
 use borrow.Author.Tests.{eq-eqb, ne-eqb, le-leb, lt-leb}
 use Rattle.lists.specs.Laws.Keep.{split}
-use Rattle.merge_rules.specs.Rules.{ruledColumn, taken, madeCell, madeFrom, changesFrom, keepsOld, makesRow, ruled}
+use Rattle.merge_rules.specs.Rules.{ruledColumn, taken, madeCell, madeFrom, changesFrom, ruled}
 use Rattle.merge_rules.specs.Survivor.{survivor}
 
 and-false : (b : Bool) → (b && false) ≡ false
@@ -95,11 +96,11 @@ module _ (rule keys sort : ℕ) where
           ∙ sym (getD-take keys old i 0 k)
 
   -- "the old row is kept", or a row is made
-  pub kept-of : (old new : List ℕ) → changesFrom rule keys sort 0 old new ≡ false → ruled rule keys sort old new ≡ keepsOld
+  pub kept-of : (old new : List ℕ) → changesFrom rule keys sort 0 old new ≡ false → ruled rule keys sort old new ≡ none
   unfolding ruled
   kept-of old new e = rw e
 
-  pub made-of : (old new : List ℕ) → changesFrom rule keys sort 0 old new ≡ true → ruled rule keys sort old new ≡ makesRow (madeFrom rule keys sort 0 old new)
+  pub made-of : (old new : List ℕ) → changesFrom rule keys sort 0 old new ≡ true → ruled rule keys sort old new ≡ some (madeFrom rule keys sort 0 old new)
   unfolding ruled
   made-of old new e = rw e
 
@@ -117,7 +118,7 @@ changes-zero keys sort column (a ∷ old) (b ∷ new) =
     rw (taken-zero a b, eq-eqb a a refl, and-false (ruledColumn keys sort column), changes-zero keys sort (suc column) old new)
 
 -- "Rule 0 keeps the old row"
-pub rule-zero : (keys sort : ℕ) (old new : List ℕ) → ruled 0 keys sort old new ≡ keepsOld
+pub rule-zero : (keys sort : ℕ) (old new : List ℕ) → ruled 0 keys sort old new ≡ none
 rule-zero keys sort old new = kept-of 0 keys sort old new (changes-zero keys sort 0 old new)
 
 -- ---- rule 1
@@ -147,12 +148,12 @@ module _ (keys sort : ℕ) (old new : List ℕ) (n : length old ≡ length new) 
       (λ i h. made-at 1 keys sort old new i (omega (arith, made-length 1 keys sort old new n)) (omega (arith, made-length 1 keys sort old new n)) ∙ one-cell i)
 
   -- "Rule 1 takes the new row if a cell outside keys and sort column differs, else keeps the old"
-  pub rule-one : ruled 1 keys sort old new ≡ cond (changesFrom 1 keys sort 0 old new) (makesRow new) keepsOld
+  pub rule-one : ruled 1 keys sort old new ≡ cond (changesFrom 1 keys sort 0 old new) (some new) none
   unfolding ruled
   rule-one = rw made-one
 
   -- what survives under rules 0 and 1 is what the rule makes or keeps
-  pub survives : (rule : ℕ) → rule ≤ 1 → ruled rule keys sort old new ≡ cond (changesFrom rule keys sort 0 old new) (makesRow (survivor rule keys sort old new)) keepsOld
+  pub survives : (rule : ℕ) → rule ≤ 1 → ruled rule keys sort old new ≡ cond (changesFrom rule keys sort 0 old new) (some (survivor rule keys sort old new)) none
   unfolding survivor
   survives zero h = rule-zero keys sort old new ∙ rw (changes-zero keys sort 0 old new)
   survives (suc zero) h = rule-one ∙ elim (split (changesFrom 1 keys sort 0 old new)) [ inl q ↦ rw q | inr q ↦ rw q ]
@@ -175,12 +176,12 @@ module _ (rule keys sort : ℕ) where
       ∙ getD-take keys new 0 0 h
 
   -- it is the rule's, and a ruled cell changes
-  pub ruled-made : (old new row : List ℕ) → ruled rule keys sort old new ≡ makesRow row
+  pub ruled-made : (old new row : List ℕ) → ruled rule keys sort old new ≡ some row
       → (changesFrom rule keys sort 0 old new ≡ true) × (madeFrom rule keys sort 0 old new ≡ row)
   unfolding ruled
   ruled-made old new row e = go (changesFrom rule keys sort 0 old new) refl e
     where
-      go : (b : Bool) → changesFrom rule keys sort 0 old new ≡ b → cond b (makesRow (madeFrom rule keys sort 0 old new)) keepsOld ≡ makesRow row
+      go : (b : Bool) → changesFrom rule keys sort 0 old new ≡ b → cond b (some (madeFrom rule keys sort 0 old new)) none ≡ some row
           → (changesFrom rule keys sort 0 old new ≡ true) × (madeFrom rule keys sort 0 old new ≡ row)
       go true q f = (q, cc)
       go false q f = absurd (let z : _≡_ {A = ℕ} 0 1 = cc in omega arith)

@@ -18,6 +18,7 @@ use Rattle.lists.specs.Laws.Rows.{row-in, flat-rowsOf, getD-rowsOf, length-rows
 use Rattle.key_index.specs.Slots.{LiveAt, keyAt, KeysSound}
 use Rattle.row_buffer.specs.Laws.Rows.{stale-rows}
 use Rattle.sort_entries.specs.Entries.{Entry, entryWords, rebuilt}
+use Rattle.plain.specs.Staged.{removeKey, removeRow}
 use Rattle.plain.specs.Plain.{Row, Plain, deadRow, withRows, dead, liveWithKey, killIf, withoutKey, dies, withoutRow}
 use Rattle.plain.specs.Proper.{Proper, rowOf}
 use Rattle.plain.specs.Laws.Rows.{noRow, Thinned, empty, same-row, died, thinned-same, freeRow, apart, apart-of, apart-head, apart-tail, live-below, liveWithKey-live, liveWithKey-key}
@@ -261,18 +262,18 @@ module _ {p : Plain} {s : Stores} (r : Represents p s) (i : ℕ) (live : rowOf p
 
 module _ {p : Plain} {s : Stores} (r : Represents p s) (key : List ℕ) where
   -- a removal by key takes it
-  pub withoutKey-one : (i : ℕ) → LiveAt (keyedOf (s .header)) (s .rows) i → keyAt (keyedOf (s .header)) (s .rows) i ≡ key → withoutKey key p ≡ dying p i
+  pub withoutKey-one : (i : ℕ) → LiveAt (keyedOf (s .header)) (s .rows) i → keyAt (keyedOf (s .header)) (s .rows) i ≡ key → withoutKey p (removeKey key) ≡ dying p i
   unfolding withoutKey
   withoutKey-one i l e = ap (withRows p) (killIf-one (p .opening .keys) key (p .rows) i (apart-of (p .opening .keys) (p .rows) (r .proper .keys-differ)) (live-passes r key i l e))
 
   -- and so does a removal by its row
-  pub withoutRow-one : (i : ℕ) → LiveAt (keyedOf (s .header)) (s .rows) i → keyAt (keyedOf (s .header)) (s .rows) i ≡ key → withoutRow (record { row = i; key = key }) p ≡ dying p i
+  pub withoutRow-one : (i : ℕ) → LiveAt (keyedOf (s .header)) (s .rows) i → keyAt (keyedOf (s .header)) (s .rows) i ≡ key → withoutRow p (removeRow i key) ≡ dying p i
   unfolding withoutRow
   withoutRow-one i l e = ap (withRows p) (dies-one (p .opening .keys) key i (p .rows) (live-passes r key i l e))
 
   -- one by another row takes nothing
   pub withoutRow-other : (i j : ℕ) → LiveAt (keyedOf (s .header)) (s .rows) i → keyAt (keyedOf (s .header)) (s .rows) i ≡ key → (i ≡ j → ⊥)
-      → withoutRow (record { row = j; key = key }) p ≡ p
+      → withoutRow p (removeRow j key) ≡ p
   unfolding withoutRow
   withoutRow-other i j l e ne =
       let k : ℕ = p .opening .keys in
@@ -297,10 +298,10 @@ module _ {p : Plain} {s : Stores} (r : Represents p s) (key : List ℕ) where
         ]
 
     -- and a removal takes nothing, by key or by row
-    pub withoutKey-none : withoutKey key p ≡ p
+    pub withoutKey-none : withoutKey p (removeKey key) ≡ p
     unfolding withoutKey
     withoutKey-none = ap (withRows p) (killIf-none (p .opening .keys) key (p .rows) (every-of (freeRow (p .opening .keys) key) noRow (p .rows) (λ i h. rw (key-free i))))
 
-    pub withoutRow-none : (i : ℕ) → withoutRow (record { row = i; key = key }) p ≡ p
+    pub withoutRow-none : (i : ℕ) → withoutRow p (removeRow i key) ≡ p
     unfolding withoutRow
     withoutRow-none i = ap (withRows p) (dies-none (p .opening .keys) key i (p .rows) (key-free i))

@@ -1,10 +1,10 @@
 -- Batches of inserts: what a merge that does not stop leaves of the live rows depends on the live rows alone, one insert after
 -- another, so that a batch may be cut anywhere. Why and when an insert stops plays no part. Assumes nothing.
-use Prim.Native.Nat.{ℕ, suc, _<_}
+use Prim.Native.Nat.{ℕ, zero, suc, _<_}
 use mathlib.Core.Path.{_≡_, refl, sym, ap, ap₂, _∙_}
 use mathlib.Core.Logic.{inl, inr}
 use mathlib.Core.Bool.{Bool, true, false, cond, not}
-use mathlib.Core.List.{List, [], _∷_, _++_, map, map-append, append-nil, append-assoc}
+use mathlib.Core.List.{List, [], _∷_, _++_, map, foldl, map-append, append-nil, append-assoc}
 use mathlib.Core.Option.{Option, none, some, Option·map}
 use native.Mathlib.Omega.{arith}
 use lib.Dec.{eqb}
@@ -12,9 +12,11 @@ use lib.ListN.{take}
 use borrow.Author.Tests.{eqb-false}
 use Rattle.lists.specs.Lists.{keep, firstOf}
 use Rattle.lists.specs.Laws.Keep.{split, keep-append}
-use Rattle.merge_rules.specs.Rules.{Ruled, keepsOld, makesRow, ruled}
-use Rattle.plain.specs.Staged.{Opening, Staged, insert, keyRemovals, rowRemovals, inserts, hasKey, skipped}
-use Rattle.plain.specs.Plain.{Row, liveRow, Plain, withRow, Numbered, liveRows, lookup, stage, liveWithKey, killIf, withoutKeys, withoutRows, stop, Insertion, unchanged, appended, stopped, append, put, insertion, goOn, Inserted, insertAll, applied, compacted, unstaged, compactsAfter, merged}
+use Rattle.refusals.specs.Refusals.{Reply, refused, accepted, reply}
+use Rattle.merge_rules.specs.Rules.{ruled}
+use Rattle.plain.specs.Staged.{Opening, Staged, insert, inserts, hasKey, skipped}
+use Rattle.plain.specs.Plain.{Row, Plain, withRow, Numbered, liveRows, lookup, stage, liveWithKey, killIf, withoutKey, withoutRow, removed, stop, append, put, insertion, goOn, Inserted, insertAll, applied, compacted, unstaged, compactsAfter, merged}
+use Rattle.plain.specs.Laws.Rows.{liveRow}
 use Rattle.plain.specs.Laws.Counts.{insertion-alike, applied-alike}
 use Rattle.plain.specs.Laws.Live.{cells-liveFrom, liveRows-compacted}
 
@@ -64,8 +66,8 @@ unfoldable placed : Opening → List ℕ → Option (List ℕ) → List (List �
 placed o cells none live = live ++ (cells ∷ [])
 placed o cells (some old) live =
     elim (ruled (o .rule) (o .keys) (o .sort) old cells) [
-      | keepsOld ↦ live
-      | makesRow row ↦ keep (λ other. not (hasKey (o .keys) (take (o .keys) cells) other)) live ++ (row ∷ [])
+      | none ↦ live
+      | some row ↦ keep (λ other. not (hasKey (o .keys) (take (o .keys) cells) other)) live ++ (row ∷ [])
     ]
 
 unfoldable arrived : Opening → List ℕ → List (List ℕ) → List (List ℕ)
@@ -82,19 +84,18 @@ all-arrived-then o [] b live = refl
 all-arrived-then o (cells ∷ rest) b live = all-arrived-then o rest b (arrived o cells live)
 
 -- what comes of an insert into p: these live rows, or a stop
-abbrev Leaves : Plain → List (List ℕ) → Insertion → Type 0
-Leaves p live unchanged = liveCells p ≡ live
-Leaves p live (appended p′) = liveCells p′ ≡ live
-Leaves p live (stopped number) = 0 < number
+abbrev Leaves : Plain → List (List ℕ) → Reply (Option Plain) → Type 0
+Leaves p live (refused number) = 0 < number
+Leaves p live (accepted none) = liveCells p ≡ live
+Leaves p live (accepted (some p′)) = liveCells p′ ≡ live
 
 append-leaves : (cells : List ℕ) (p : Plain) (rows : List Row) → Leaves p (cellsOf rows ++ (cells ∷ [])) (append cells p rows)
-unfolding append
-append-leaves cells p rows = go (eqb (stop cells p) 0) refl
+unfolding append reply
+append-leaves cells p rows = go (stop cells p)
   where
-    go : (b : Bool) → eqb (stop cells p) 0 ≡ b
-        → Leaves p (cellsOf rows ++ (cells ∷ [])) (cond b (appended (withRow p rows cells)) (stopped (stop cells p)))
-    go true e = live-cells-of (withRow p rows cells) ∙ cells-of-appended rows cells
-    go false e = let n = eqb-false (stop cells p) 0 e in omega arith
+    go : (n : ℕ) → Leaves p (cellsOf rows ++ (cells ∷ [])) (reply n (some (withRow p rows cells)))
+    go zero = live-cells-of (withRow p rows cells) ∙ cells-of-appended rows cells
+    go (suc n) = omega arith
 
 put-leaves : (cells : List ℕ) (found : Option Numbered) (p : Plain) → Leaves p (placed (p .opening) cells (Option·map (λ row. row .cells) found) (liveCells p)) (put cells found p)
 unfolding put placed
@@ -104,12 +105,12 @@ put-leaves cells (some old) p = go (ruled (p .opening .rule) (p .opening .keys) 
     key : List ℕ
     key = take (p .opening .keys) cells
 
-    go : (r : Ruled)
+    go : (r : Option (List ℕ))
         → Leaves p
-        (elim r [ keepsOld ↦ liveCells p | makesRow row ↦ keep (λ other. not (hasKey (p .opening .keys) key other)) (liveCells p) ++ (row ∷ []) ])
-        (elim r [ keepsOld ↦ unchanged | makesRow row ↦ append row p (killIf (liveWithKey (p .opening .keys) key) (p .rows)) ])
-    go keepsOld = refl
-    go (makesRow row) =
+        (elim r [ none ↦ liveCells p | some row ↦ keep (λ other. not (hasKey (p .opening .keys) key other)) (liveCells p) ++ (row ∷ []) ])
+        (elim r [ none ↦ accepted none | some row ↦ append row p (killIf (liveWithKey (p .opening .keys) key) (p .rows)) ])
+    go none = refl
+    go (some row) =
         rw (live-cells-of p, ← cells-of-killed (p .opening .keys) key (p .rows))
         (append-leaves row p (killIf (liveWithKey (p .opening .keys) key) (p .rows)))
 
@@ -137,14 +138,14 @@ insert-all-leaves (cells ∷ rest) place added p e =
     now : List (List ℕ)
     now = arrived (p .opening) cells (liveCells p)
 
-    go : (i : Insertion) → insertion cells p ≡ i → Leaves p now i
+    go : (i : Reply (Option Plain)) → insertion cells p ≡ i → Leaves p now i
         → ((added′ : Bool) (p′ : Plain) → insertAll rest (suc place) added′ p′ .status ≡ 0
         → liveCells (insertAll rest (suc place) added′ p′ .table) ≡ allArrived (p′ .opening) rest (liveCells p′))
         → goOn i place added p (insertAll rest (suc place)) .status ≡ 0
         → liveCells (goOn i place added p (insertAll rest (suc place)) .table) ≡ allArrived (p .opening) rest now
-    go unchanged q l ih s = rw (← l) (ih added p s)
-    go (appended p′) q l ih s = rw (← l, ← insertion-alike cells p p′ q .opening) (ih true p′ s)
-    go (stopped n) q l ih s = absurd (omega (arith, l, s))
+    go (accepted none) q l ih s = rw (← l) (ih added p s)
+    go (accepted (some p′)) q l ih s = rw (← l, ← insertion-alike cells p p′ q .opening) (ih true p′ s)
+    go (refused n) q l ih s = absurd (omega (arith, l, s))
 
 -- emptied of its staged records, and compacted or not, a table has the same live rows
 abbrev finished : Bool → Plain → Plain
@@ -176,10 +177,16 @@ batch-staged [] p = sym (append-nil (p .staged))
 batch-staged (cells ∷ rest) p = batch-staged rest (stage p (insert cells)) ∙ append-assoc (p .staged) (insert cells ∷ []) (map insert rest)
 
 -- only its inserts
-inserts-map : (rows : List (List ℕ)) → (inserts (map insert rows) ≡ rows) × (keyRemovals (map insert rows) ≡ []) × (rowRemovals (map insert rows) ≡ [])
-unfolding inserts keyRemovals rowRemovals
-inserts-map [] = (refl, refl, refl)
-inserts-map (cells ∷ rest) = let h = inserts-map rest in (ap (λ (l : List (List ℕ)). cells ∷ l) (h .0), h .1, h .2)
+inserts-map : (rows : List (List ℕ)) → inserts (map insert rows) ≡ rows
+unfolding inserts
+inserts-map [] = refl
+inserts-map (cells ∷ rest) = ap (λ (l : List (List ℕ)). cells ∷ l) (inserts-map rest)
+
+-- nothing is removed
+kept-map : (rows : List (List ℕ)) (p : Plain) → (foldl withoutKey p (map insert rows) ≡ p) × (foldl withoutRow p (map insert rows) ≡ p)
+unfolding withoutKey withoutRow
+kept-map [] p = (refl, refl)
+kept-map (cells ∷ rest) p = kept-map rest p
 
 -- the rest is as it was
 batch-rest : (rows : List (List ℕ)) (p : Plain) → (batch rows p .opening ≡ p .opening) × (liveCells (batch rows p) ≡ liveCells p)
@@ -190,11 +197,15 @@ batch-rest (cells ∷ rest) p = batch-rest rest (stage p (insert cells))
 module _ (rows : List (List ℕ)) (p : Plain) (e : p .staged ≡ []) where
   -- what is staged is the batch
   applied-batch : applied (batch rows p) ≡ insertAll rows 0 false (batch rows p)
-  unfolding applied withoutKeys withoutRows
+  unfolding applied removed
   applied-batch =
       let staged : batch rows p .staged ≡ map insert rows = batch-staged rows p ∙ ap (λ (l : List Staged). l ++ map insert rows) e in
-      let h = inserts-map rows in
-      rw (staged, h .0, h .1, h .2)
+      let q : Plain = batch rows p in
+      let kept : removed q ≡ q =
+      ap (λ (rs : List Staged). foldl withoutRow (foldl withoutKey q rs) rs) staged
+      ∙ ap (λ (t : Plain). foldl withoutRow t (map insert rows)) (kept-map rows q .0)
+      ∙ kept-map rows q .1 in
+      ap₂ (λ (cells : List (List ℕ)) (t : Plain). insertAll cells 0 false t) (ap inserts staged ∙ inserts-map rows) kept
 
   -- merged without a stop, it is the live rows' arrivals
   merged-leaves : merged (batch rows p) .status ≡ 0 → liveCells (merged (batch rows p) .table) ≡ allArrived (p .opening) rows (liveCells p)

@@ -11,13 +11,13 @@ use lib.Dec.{ltb}
 use lib.ListN.{length, drop, getD}
 use Rattle.lists.specs.Lists.{keep}
 use Rattle.lists.specs.Laws.Keep.{split}
-use Rattle.plain.specs.Staged.{RowRemoval, keyRemovals, rowRemovals, inserts}
+use Rattle.plain.specs.Staged.{inserts}
 use Rattle.plain.specs.Refusing.{Lengths}
-use Rattle.plain.specs.Plain.{Row, deadRow, Plain, liveFrom, stage, liveWithKey, killIf, withoutKey, withoutKeys, dies, withoutRow, withoutRows, insertAll, applied, compacted, unstaged, compactsAfter, merged, cleared, opened}
+use Rattle.plain.specs.Plain.{Row, deadRow, Plain, liveFrom, stage, liveWithKey, killIf, dies, removed, insertAll, applied, compacted, unstaged, compactsAfter, merged, cleared, opened}
 use Rattle.plain.specs.Calls.{Call, staging, merging, compacting, clearing, refusal, done, after, LentCall, afterAll}
 use Rattle.plain.specs.Laws.Rows.{noRow}
 use Rattle.plain.specs.Laws.Calls.{refused-nothing, accepted-done}
-use Rattle.plain.specs.Laws.Counts.{Appended, new, again, insertion-appended, every-true, insertAll-keeps, applied-alike}
+use Rattle.plain.specs.Laws.Counts.{Appended, new, again, insertion-appended, removed-keeps, every-true, insertAll-keeps, applied-alike}
 
 -- the second list is the first, some rows dead and others behind them
 pub data Follows : List Row → List Row → Type 0 where
@@ -58,15 +58,10 @@ dies-follows keys key zero (row ∷ rows) =
     elim (split (liveWithKey keys key row)) [ inl e ↦ rw e (falls row h) | inr e ↦ rw e (stays row h) ]
 dies-follows keys key (suc number) (row ∷ rows) = stays row (dies-follows keys key number rows)
 
-withoutKeys-follows : (keys : List (List ℕ)) (p : Plain) → Follows (p .rows) (withoutKeys keys p .rows)
-unfolding withoutKeys withoutKey
-withoutKeys-follows [] p = follows-same (p .rows)
-withoutKeys-follows (key ∷ keys) p = follows-then (killed-follows _ (p .rows)) (withoutKeys-follows keys (withoutKey key p))
-
-withoutRows-follows : (rs : List RowRemoval) (p : Plain) → Follows (p .rows) (withoutRows rs p .rows)
-unfolding withoutRows withoutRow
-withoutRows-follows [] p = follows-same (p .rows)
-withoutRows-follows (r ∷ rs) p = follows-then (dies-follows _ _ _ (p .rows)) (withoutRows-follows rs (withoutRow r p))
+removed-follows : (p : Plain) → Follows (p .rows) (removed p .rows)
+removed-follows p =
+    removed-keeps (λ q. Follows (p .rows) (q .rows)) (λ q test f. follows-then f (killed-follows test (q .rows)))
+    (λ q keys key number f. follows-then f (dies-follows keys key number (q .rows))) p (follows-same (p .rows))
 
 appended-follows : {cells : List ℕ} {p p′ : Plain} → Appended cells p p′ → Follows (p .rows) (p′ .rows)
 appended-follows {p = p} (new s l q) = follows-more _ (follows-same (p .rows))
@@ -80,9 +75,7 @@ insertAll-follows rows place added p =
 
 applied-follows : (p : Plain) → Follows (p .rows) (applied p .table .rows)
 unfolding applied
-applied-follows p =
-    follows-then (withoutKeys-follows (keyRemovals (p .staged)) p)
-    (follows-then (withoutRows-follows (rowRemovals (p .staged)) _) (insertAll-follows (inserts (p .staged)) 0 false _))
+applied-follows p = follows-then (removed-follows p) (insertAll-follows (inserts (p .staged)) 0 false (removed p))
 
 -- ---- the calls
 

@@ -4,16 +4,18 @@ use mathlib.Core.Path.{_≡_, refl, sym}
 use mathlib.Core.Logic.{inl, inr}
 use mathlib.Core.Bool.{Bool, true, false, cond}
 use mathlib.Core.List.{List, [], _∷_}
+use mathlib.Core.Option.{Option, none, some}
 use native.Mathlib.Nat.{add-zero, le-max-left, le-max-right}
 use native.Mathlib.Omega.{arith}
 use lib.Dec.{ltb, eqb}
 use lib.ListN.{length}
 use borrow.Author.Tests.{ltb-true, lt-ltb}
 use Rattle.lists.specs.Laws.Keep.{split, and-left, and-right, count-split, length-keep}
-use Rattle.plain.specs.Staged.{keyRemovals, rowRemovals, inserts, due}
-use Rattle.plain.specs.Plain.{Plain, Insertion, unchanged, appended, stopped, insertion, goOn, insertAll, removed, withoutKeys, applied, live, dead, compacted, unstaged, compactsAfter, merged, mergeKeeps, mergeDrops}
+use Rattle.refusals.specs.Refusals.{Reply, refused, accepted}
+use Rattle.plain.specs.Staged.{inserts, due}
+use Rattle.plain.specs.Plain.{Plain, insertion, goOn, insertAll, removed, applied, live, dead, compacted, unstaged, compactsAfter, merged, mergeKeeps, mergeDrops}
 use Rattle.plain.specs.Appending.{appendsOn, insertsAppend, mergeAppends}
-use Rattle.plain.specs.Laws.Counts.{insertion-count, length-withoutKeys, length-withoutRows}
+use Rattle.plain.specs.Laws.Counts.{insertion-count, length-removed}
 
 -- a row is live or dead
 pub live-dead : (p : Plain) → live p + dead p ≡ length (p .rows)
@@ -32,23 +34,17 @@ unfolding insertAll insertsAppend
 inserts-count [] place added p = sym (add-zero (length (p .rows)))
 inserts-count (cells ∷ rest) place added p = go (insertion cells p) refl (inserts-count rest (suc place))
   where
-    go : (i : Insertion) → insertion cells p ≡ i
+    go : (i : Reply (Option Plain)) → insertion cells p ≡ i
         → ((added′ : Bool) (q : Plain) → length (insertAll rest (suc place) added′ q .table .rows) ≡ length (q .rows) + length (insertsAppend rest q))
         → length (goOn i place added p (insertAll rest (suc place)) .table .rows) ≡ length (p .rows) + length (appendsOn i p (insertsAppend rest))
-    go unchanged e ih = ih added p
-    go (appended p′) e ih = omega (arith, ih true p′, insertion-count cells p p′ e)
-    go (stopped n) e ih = sym (add-zero (length (p .rows)))
+    go (accepted none) e ih = ih added p
+    go (accepted (some p′)) e ih = omega (arith, ih true p′, insertion-count cells p p′ e)
+    go (refused n) e ih = sym (add-zero (length (p .rows)))
 
 -- the rows before a merge's compaction
 applied-rows : (p : Plain) → length (applied p .table .rows) ≡ length (p .rows) + length (mergeAppends p)
 unfolding applied mergeAppends
-applied-rows p =
-    omega (
-      arith,
-      inserts-count (inserts (p .staged)) 0 false (removed p),
-      length-withoutRows (rowRemovals (p .staged)) (withoutKeys (keyRemovals (p .staged)) p),
-      length-withoutKeys (keyRemovals (p .staged)) p,
-    )
+applied-rows p = omega (arith, inserts-count (inserts (p .staged)) 0 false (removed p), length-removed p)
 
 -- what a merge appends is in its rows, or was dropped
 pub merged-rows : (p : Plain) → length (p .rows) + length (mergeAppends p) ≡ length (merged p .table .rows) + mergeDrops p

@@ -4,7 +4,7 @@ use mathlib.Core.Path.{_≡_, refl, sym, ap, _∙_}
 use mathlib.Core.Logic.{inl, inr}
 use mathlib.Core.Bool.{Bool, true, false, not, _&&_, false≢true}
 use mathlib.Core.List.{List, [], _∷_}
-use mathlib.Core.Option.{Option, none}
+use mathlib.Core.Option.{Option, none, some}
 use native.Mathlib.Decide.{ℕ-discrete}
 use native.Mathlib.Omega.{arith}
 use lib.Dec.{leb, ltb, eqb}
@@ -14,8 +14,9 @@ use Rattle.lists.specs.Lists.{every}
 use Rattle.lists.specs.Laws.Keep.{split, and-left, and-right, every-getD}
 use Rattle.lists.specs.Laws.Every.{and-both, every-head, every-tail, every-cons, every-snoc}
 use Rattle.cells.specs.Cells.{isDead}
-use Rattle.plain.specs.Staged.{Opening, openable, Staged, insert, removeKey, removeRow, RowRemoval, keyRemovals, rowRemovals, inserts, skipped, due}
-use Rattle.plain.specs.Plain.{Row, Plain, withRows, opened, stage, liveWithKey, killIf, withoutKey, withoutKeys, dies, withoutRow, withoutRows, stop, insertion, applied, dead, compacted, unstaged, compactsAfter, merged, cleared, below, withRow, appended, insertAll}
+use Rattle.refusals.specs.Refusals.{accepted}
+use Rattle.plain.specs.Staged.{Opening, openable, Staged, insert, removeKey, removeRow, inserts, skipped, due}
+use Rattle.plain.specs.Plain.{Row, Plain, withRows, opened, stage, liveWithKey, killIf, dies, removed, stop, insertion, applied, dead, compacted, unstaged, compactsAfter, merged, cleared, below, withRow, insertAll}
 use Rattle.plain.specs.Refusing.{Lengths, wrongWidth, stageLadder, compactLadder, clearLadder}
 use Rattle.plain.specs.Calls.{Call, staging, merging, compacting, clearing, refusal, done, after, LentCall, afterAll, used, pendingShort}
 use Rattle.plain.specs.Proper.{rowOf, Proper}
@@ -23,7 +24,7 @@ use Rattle.merge_rules.specs.Laws.Rules.{made-length, made-keys, made-first}
 use Rattle.plain.specs.Laws.Lookup.{lookup-none, lookup-at}
 use Rattle.plain.specs.Laws.Rows.{noRow, wideRow, freeRow, Tidy, liveWithKey-key, free-dead, apart-of, apart-at, up-of, up-sorted, Thinned, killIf-thinned, dies-thinned, keep-thinned, thinned-same, thinned-length, thinned-tidy, tidy-snoc}
 use Rattle.plain.specs.Laws.Calls.{refused-nothing, accepted-done, first-no, first-rest}
-use Rattle.plain.specs.Laws.Counts.{Appended, new, again, insertion-appended, insertion-alike, insertAll-keeps, alike-then, withoutKeys-alike, withoutRows-alike}
+use Rattle.plain.specs.Laws.Counts.{Appended, new, again, insertion-appended, insertion-alike, removed-keeps, removed-alike, insertAll-keeps}
 
 -- ---- an opening's numbers
 
@@ -143,17 +144,9 @@ killIf-proper {p} test h = thinned-proper h (killIf-thinned test (p .rows))
 pub dies-proper : {p : Plain} (keys : ℕ) (key : List ℕ) (number : ℕ) → Proper p → Proper (withRows p (dies keys key number (p .rows)))
 dies-proper {p} keys key number h = thinned-proper h (dies-thinned keys key number (p .rows))
 
--- "removals by key"
-pub withoutKeys-proper : {p : Plain} (keys : List (List ℕ)) → Proper p → Proper (withoutKeys keys p)
-unfolding withoutKeys withoutKey
-withoutKeys-proper [] h = h
-withoutKeys-proper (key ∷ keys) h = withoutKeys-proper keys (killIf-proper _ h)
-
--- "removals by row"
-pub withoutRows-proper : {p : Plain} (rs : List RowRemoval) → Proper p → Proper (withoutRows rs p)
-unfolding withoutRows withoutRow
-withoutRows-proper [] h = h
-withoutRows-proper (r ∷ rs) h = withoutRows-proper rs (dies-proper _ (r .key) (r .row) h)
+-- a merge's removals
+pub removed-proper : {p : Plain} → Proper p → Proper (removed p)
+removed-proper {p} h = removed-keeps Proper (λ q test k. killIf-proper test k) (λ q keys key number k. dies-proper keys key number k) p h
 
 -- ---- a row is appended
 
@@ -208,7 +201,7 @@ appended-proper {cells} {p} h w (again old row s l c m e) =
     e
 
 -- a row of the right width is inserted: what is appended leaves a proper table; otherwise it is the table itself
-pub insertion-proper : (cells : List ℕ) (p p′ : Plain) → Proper p → length cells ≡ p .opening .columns → insertion cells p ≡ appended p′ → Proper p′
+pub insertion-proper : (cells : List ℕ) (p p′ : Plain) → Proper p → length cells ≡ p .opening .columns → insertion cells p ≡ accepted (some p′) → Proper p′
 insertion-proper cells p p′ h w e = appended-proper h w (insertion-appended cells p p′ e)
 
 -- all the inserts, each of the right width
@@ -238,9 +231,8 @@ inserts-wide o (removeRow row key ∷ rs) e = inserts-wide o rs (every-tail (λ 
 pub applied-proper : {p : Plain} → Proper p → Proper (applied p .table)
 unfolding applied
 applied-proper {p} h =
-    let a = alike-then (withoutKeys-alike (keyRemovals (p .staged)) p) (withoutRows-alike (rowRemovals (p .staged)) _) in
-    insertAll-proper (inserts (p .staged)) 0 false (withoutRows-proper (rowRemovals (p .staged)) (withoutKeys-proper (keyRemovals (p .staged)) h))
-    (rw (a .opening) (inserts-wide (p .opening) (p .staged) (h .staged-whole)))
+    insertAll-proper (inserts (p .staged)) 0 false (removed-proper h)
+    (rw (removed-alike p .opening) (inserts-wide (p .opening) (p .staged) (h .staged-whole)))
 
 -- a compaction, where a generation is left
 pub compacted-proper : {p : Plain} → Proper p → p .generation < 4294967295 → Proper (compacted p)

@@ -17,12 +17,16 @@ use Rattle.lists.specs.Laws.Every.{and-both, or-right, or-second, every-head, e
 use Rattle.lists.specs.Laws.Rising.{same-refl, same-eq}
 use Rattle.cells.specs.Cells.{isDead}
 use Rattle.plain.specs.Staged.{Opening, hasKey}
-use Rattle.plain.specs.Plain.{Row, liveRow, deadRow, liveWithKey, killIf, dies, below, raised}
+use Rattle.plain.specs.Plain.{Row, deadRow, liveWithKey, killIf, dies, below, raised}
 use Rattle.plain.specs.Proper.{atMost}
 
 -- past the end: a dead row of no cells
 abbrev pub noRow : Row
 noRow = record { live = false; cells = [] }
+
+-- a live one of these cells
+abbrev pub liveRow : List ℕ → Row
+liveRow cells = record { live = true; cells = cells }
 
 -- a row's sort cell
 abbrev pub sortOf : ℕ → Row → ℕ

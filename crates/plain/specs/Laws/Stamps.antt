@@ -16,13 +16,14 @@ use borrow.Author.Tests.{leb-true, le-leb, ltb-false, le-ltb}
 use Rattle.lists.specs.Lists.{every}
 use Rattle.lists.specs.Laws.Keep.{split, every-getD}
 use Rattle.lists.specs.Laws.Every.{every-head, every-tail, every-cons}
-use Rattle.plain.specs.Staged.{Opening, RowRemoval, keyRemovals, rowRemovals, inserts}
-use Rattle.plain.specs.Plain.{Row, liveRow, Plain, withRow, opened, stage, liveWithKey, killIf, withoutKey, withoutKeys, withoutRow, withoutRows, removed, below, raised, stop, Insertion, unchanged, appended, stopped, insertion, goOn, insertAll, applied, compacted, unstaged, compactsAfter, merged, cleared}
+use Rattle.refusals.specs.Refusals.{Reply, refused, accepted}
+use Rattle.plain.specs.Staged.{Opening, inserts}
+use Rattle.plain.specs.Plain.{Row, Plain, withRow, opened, stage, liveWithKey, killIf, removed, below, raised, stop, insertion, goOn, insertAll, applied, compacted, unstaged, compactsAfter, merged, cleared}
 use Rattle.plain.specs.Calls.{Call, staging, merging, compacting, clearing, refusal, done, after, LentCall, afterAll}
 use Rattle.plain.specs.Proper.{rowOf}
 use Rattle.plain.specs.Appending.{appendsOn, insertsAppend, mergeAppends, stampsOf, stampsDone, stampsAfter, stampsSince, greatest}
-use Rattle.plain.specs.Laws.Rows.{noRow, raised-same}
-use Rattle.plain.specs.Laws.Counts.{Appended, new, again, insertion-appended, insertion-alike, length-killIf, withoutKeys-alike, withoutRows-alike, alike-then}
+use Rattle.plain.specs.Laws.Rows.{noRow, liveRow, raised-same}
+use Rattle.plain.specs.Laws.Counts.{Appended, new, again, insertion-appended, insertion-alike, length-killIf, removed-keeps, removed-alike}
 use Rattle.plain.specs.Laws.Proper.{stop-above}
 
 -- a table keeps the largest of these sort values, and they never fall
@@ -95,7 +96,7 @@ appended-stamp {cells} {p} (again old row s l c m q) =
     getD-at (killIf test (p .rows)) (liveRow row) [] noRow (length (p .rows)) (length-killIf test (p .rows)) in
     rw e (stop-above row p q, refl)
 
-stamped-insertion : {p : Plain} {stamps : List ℕ} (cells : List ℕ) (p′ : Plain) → insertion cells p ≡ appended p′ → Stamped p stamps
+stamped-insertion : {p : Plain} {stamps : List ℕ} (cells : List ℕ) (p′ : Plain) → insertion cells p ≡ accepted (some p′) → Stamped p stamps
     → Stamped p′ (stamps ++ (getD (rowOf p′ (length (p .rows)) .cells) (p .opening .sort) 0 ∷ []))
 stamped-insertion {p} cells p′ e s =
     let a = appended-stamp (insertion-appended cells p p′ e) in
@@ -111,30 +112,23 @@ unfolding insertAll insertsAppend
 stamped-inserts [] place added p stamps s = rw (append-nil stamps) s
 stamped-inserts (cells ∷ rest) place added p stamps s = go (insertion cells p) refl (stamped-inserts rest (suc place))
   where
-    go : (i : Insertion) → insertion cells p ≡ i
+    go : (i : Reply (Option Plain)) → insertion cells p ≡ i
         → ((added′ : Bool) (q : Plain) (vs : List ℕ) → Stamped q vs → Stamped (insertAll rest (suc place) added′ q .table) (vs ++ stampsOf q (insertsAppend rest q)))
         → Stamped (goOn i place added p (insertAll rest (suc place)) .table) (stamps ++ stampsOf p (appendsOn i p (insertsAppend rest)))
-    go unchanged e ih = ih added p stamps s
-    go (appended p′) e ih =
+    go (accepted none) e ih = ih added p stamps s
+    go (accepted (some p′)) e ih =
         let v : ℕ = getD (rowOf p′ (length (p .rows)) .cells) (p .opening .sort) 0 in
         let t = ih true p′ (stamps ++ (v ∷ [])) (stamped-insertion cells p′ e s) in
         let later : List (List ℕ) = insertsAppend rest p′ in
         let o = stampsOf-same p p′ later (insertion-alike cells p p′ e .opening) in
         subst (λ (vs : List ℕ). Stamped (insertAll rest (suc place) true p′ .table) vs)
         (ap (λ (vs : List ℕ). (stamps ++ (v ∷ [])) ++ vs) o ∙ append-assoc stamps (v ∷ []) (stampsOf p later)) t
-    go (stopped n) e ih = rw (append-nil stamps) s
+    go (refused n) e ih = rw (append-nil stamps) s
 
 -- ---- the calls
 
-withoutKeys-largest : (keys : List (List ℕ)) (p : Plain) → withoutKeys keys p .largest ≡ p .largest
-unfolding withoutKeys withoutKey
-withoutKeys-largest [] p = refl
-withoutKeys-largest (key ∷ keys) p = withoutKeys-largest keys (withoutKey key p)
-
-withoutRows-largest : (rs : List RowRemoval) (p : Plain) → withoutRows rs p .largest ≡ p .largest
-unfolding withoutRows withoutRow
-withoutRows-largest [] p = refl
-withoutRows-largest (r ∷ rs) p = withoutRows-largest rs (withoutRow r p)
+removed-largest : (p : Plain) → removed p .largest ≡ p .largest
+removed-largest p = removed-keeps (λ q. q .largest ≡ p .largest) (λ q test e. e) (λ q keys key number e. e) p refl
 
 -- another table of the same largest value
 stamped-same : {p : Plain} {stamps : List ℕ} (q : Plain) → q .largest ≡ p .largest → Stamped p stamps → Stamped q stamps
@@ -148,11 +142,9 @@ stamped-merge : {p : Plain} {stamps : List ℕ} → Stamped p stamps → Stamped
 unfolding applied mergeAppends
 stamped-merge {p} {stamps} s =
     let q : Plain = removed p in
-    let a = alike-then (withoutKeys-alike (keyRemovals (p .staged)) p) (withoutRows-alike (rowRemovals (p .staged)) _) in
-    let l : q .largest ≡ p .largest = withoutRows-largest (rowRemovals (p .staged)) _ ∙ withoutKeys-largest (keyRemovals (p .staged)) p in
-    let t = stamped-inserts (inserts (p .staged)) 0 false q stamps (stamped-same q l s) in
+    let t = stamped-inserts (inserts (p .staged)) 0 false q stamps (stamped-same q (removed-largest p) s) in
     stamped-same (merged p .table) (merged-largest p)
-    (subst (λ (vs : List ℕ). Stamped (insertAll (inserts (p .staged)) 0 false q .table) (stamps ++ vs)) (stampsOf-same p q (mergeAppends p) (a .opening)) t)
+    (subst (λ (vs : List ℕ). Stamped (insertAll (inserts (p .staged)) 0 false q .table) (stamps ++ vs)) (stampsOf-same p q (mergeAppends p) (removed-alike p .opening)) t)
 
 stamped-opened : (o : Opening) (generation : ℕ) → Stamped (opened o generation) []
 unfolding opened greatest

@@ -3,7 +3,9 @@
 -- so no choice is left on any stores. Assumes nothing.
 use Prim.Native.Nat.{ℕ}
 use mathlib.Core.Path.{_≡_, sym, ap, _∙_}
+use mathlib.Core.Logic.{⊎-elim}
 use mathlib.Core.List.{List}
+use Rattle.refusals.specs.Laws.Replies.{some-number}
 use Rattle.refusals.specs.Laws.Determined.{Same}
 use Rattle.offsets.specs.declared.SubsetAnswer.{SubsetAnswer}
 use Rattle.offsets.specs.Subsets.{Subset}
@@ -17,7 +19,7 @@ use Rattle.queries.specs.declared.NextPlace.the-variants.{None, At}
 use Rattle.queries.specs.declared.Page.{Page}
 use Rattle.queries.specs.declared.PageAnswer.{PageAnswer}
 use Rattle.queries.specs.declared.PageAnswer.the-variants.{Refused as PageRefused, Page as Paged}
-use Rattle.queries.specs.Queries.{nextSays, PageTold, pageSays, matchSays, RefinedOne, RefinedList, Matched, PageRead}
+use Rattle.queries.specs.Queries.{nextSays, PageReply, pageSays, matchSays, RefinedOne, RefinedList, Matched, PageRead}
 
 -- an answer is known by what it says
 next-said : (a b : NextPlace) → nextSays a ≡ nextSays b → a ≡ b
@@ -33,10 +35,10 @@ page-said (PageRefused n) (PageRefused m) e = cc
 page-said (PageRefused n) (Paged q) e = cc
 page-said (Paged p) (PageRefused m) e = cc
 page-said (Paged p) (Paged q) e =
-    let told : _≡_ {A = PageTold} (record { written = p .written; dead = p .dead; next = nextSays (p .next) }) (record { written = q .written; dead = q .dead; next = nextSays (q .next) }) = cc in
-    let written : p .written ≡ q .written = ap (λ (t : PageTold). t .written) told in
-    let dead : p .dead ≡ q .dead = ap (λ (t : PageTold). t .dead) told in
-    let next : p .next ≡ q .next = next-said (p .next) (q .next) (ap (λ (t : PageTold). t .next) told) in
+    let told : _≡_ {A = PageReply} (record { written = p .written; dead = p .dead; next = nextSays (p .next) }) (record { written = q .written; dead = q .dead; next = nextSays (q .next) }) = cc in
+    let written : p .written ≡ q .written = ap (λ (t : PageReply). t .written) told in
+    let dead : p .dead ≡ q .dead = ap (λ (t : PageReply). t .dead) told in
+    let next : p .next ≡ q .next = next-said (p .next) (q .next) (ap (λ (t : PageReply). t .next) told) in
     λ i. Paged (record { written = written i; dead = dead i; next = next i })
 
 match-said : (a b : MatchAnswer) → matchSays a ≡ matchSays b → a ≡ b
@@ -64,4 +66,8 @@ module _ {h : Header} {rows : List ℕ} {subset : Subset} where
   -- *Page*
   pub page-read-determined : {start n : ℕ} {conditions : List Constraint} {output output₁ output₂ : List ℕ} {a b : PageAnswer}
       → PageRead h rows subset start n conditions output a output₁ → PageRead h rows subset start n conditions output b output₂ → Same a b output₁ output₂
-  page-read-determined {a = a} {b = b} x y = record { answer = page-said a b (x .answers ∙ sym (y .answers)); cells = x .writes ∙ sym (y .writes) }
+  page-read-determined {a = a} {b = b} x y =
+      record {
+        answer = page-said a b (x .answers ∙ sym (y .answers));
+        cells = ⊎-elim (λ z. x .written z ∙ sym (y .written z)) (λ m. x .unchanged m ∙ sym (y .unchanged m)) (some-number _);
+      }

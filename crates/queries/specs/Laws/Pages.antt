@@ -18,7 +18,7 @@ use Rattle.constraints.specs.Constraints.{met, isLive, meets}
 use Rattle.table.specs.declared.Header.{Header}
 use Rattle.queries.specs.declared.Page.{Page}
 use Rattle.queries.specs.declared.PageAnswer.the-variants.{Page as Paged}
-use Rattle.queries.specs.Queries.{matches, deadAmong, pageRefusal, visited, nextPlace, nextSays, PageReply, PageTold, pageReply, pageSays, pageTold, PageRead}
+use Rattle.queries.specs.Queries.{matches, deadAmong, pageRefusal, visited, nextPlace, pageIds, nextSays, PageReply, pageReply, pageSays, PageRead}
 
 -- how many of these ids have a live row that fails a condition
 unfoldable pub failedAmong : Header → List ℕ → List Constraint → List ℕ → ℕ
@@ -43,19 +43,19 @@ visited-parts h rows conditions (x ∷ xs) =
 pub page-parts : (h : Header) (rows : List ℕ) (subset : Subset) (start n : ℕ) (conditions : List Constraint) (output : List ℕ) (page : Page) (output′ : List ℕ)
     → PageRead h rows subset start n conditions output (Paged page) output′
     → page .written + page .dead + failedAmong h rows conditions (visited subset start n) ≡ length (visited subset start n)
-unfolding pageReply pageSays pageTold
+unfolding pageReply pageIds pageSays
 page-parts h rows subset start n conditions output page output′ p =
     elim (ℕ-discrete number 0) [
       | yes z ↦
-          let told : _≡_ {A = Reply PageTold} (accepted (record { written = page .written; dead = page .dead; next = nextSays (page .next) })) (pageTold (accepted read)) =
-          p .answers ∙ sym (ap pageTold (reply-accepted (accepted read) number read refl z)) in
-          let same : _≡_ {A = PageTold} (record { written = page .written; dead = page .dead; next = nextSays (page .next) }) (record { written = length (read .ids); dead = read .dead; next = read .next }) = cc in
-          let written : page .written ≡ length (read .ids) = ap (λ (t : PageTold). t .written) same in
-          let dead : page .dead ≡ read .dead = ap (λ (t : PageTold). t .dead) same in
+          let told : _≡_ {A = Reply PageReply} (accepted (record { written = page .written; dead = page .dead; next = nextSays (page .next) })) (accepted read) =
+          p .answers ∙ sym (reply-accepted (accepted read) number read refl z) in
+          let same : _≡_ {A = PageReply} (record { written = page .written; dead = page .dead; next = nextSays (page .next) }) read = cc in
+          let written : page .written ≡ read .written = ap (λ (t : PageReply). t .written) same in
+          let dead : page .dead ≡ read .dead = ap (λ (t : PageReply). t .dead) same in
           rw (written, dead) (visited-parts h rows conditions (visited subset start n))
       | no m ↦
-          let told : _≡_ {A = Reply PageTold} (accepted (record { written = page .written; dead = page .dead; next = nextSays (page .next) })) (refused number) =
-          p .answers ∙ sym (ap pageTold (reply-refused (refused number) number number read refl refl m)) in
+          let told : _≡_ {A = Reply PageReply} (accepted (record { written = page .written; dead = page .dead; next = nextSays (page .next) })) (refused number) =
+          p .answers ∙ sym (reply-refused (refused number) number number read refl refl m) in
           cc
     ]
   where
@@ -63,4 +63,4 @@ page-parts h rows subset start n conditions output page output′ p =
     number = pageRefusal h (length rows) subset start n conditions (length output)
 
     read : PageReply
-    read = record { ids = keep (matches h rows conditions) (visited subset start n); dead = deadAmong h rows (visited subset start n); next = nextPlace subset start n }
+    read = record { written = length (keep (matches h rows conditions) (visited subset start n)); dead = deadAmong h rows (visited subset start n); next = nextPlace subset start n }

@@ -1,20 +1,20 @@
 -- The removals of a kind, as the plain table makes them. Assumes nothing.
 use mathlib.Core.Path.{_≡_, refl}
-use mathlib.Core.List.{List, [], _∷_}
-use Rattle.plain.specs.Staged.{Staged, insert, removeKey, removeRow, keyRemovals, rowRemovals}
-use Rattle.plain.specs.Plain.{Plain, withoutKeys, withoutRows}
+use mathlib.Core.List.{List, [], _∷_, foldl}
+use Rattle.plain.specs.Staged.{Staged, insert, removeKey, removeRow}
+use Rattle.plain.specs.Plain.{Plain, withoutKey, withoutRow}
 use Rattle.pending.specs.inner.Becoming.{kindOf}
 use Rattle.removals.specs.inner.Removals.{removed, removedAll}
 
-pub removedAll-keys : (staged : List Staged) (p : Plain) → removedAll 1 staged p ≡ withoutKeys (keyRemovals staged) p
-unfolding removedAll removed kindOf withoutKeys keyRemovals
+pub removedAll-keys : (staged : List Staged) (p : Plain) → removedAll 1 staged p ≡ foldl withoutKey p staged
+unfolding removedAll removed kindOf withoutKey
 removedAll-keys [] p = refl
 removedAll-keys (insert cells ∷ rs) p = removedAll-keys rs p
 removedAll-keys (removeKey key ∷ rs) p = removedAll-keys rs (removed (removeKey key) p)
 removedAll-keys (removeRow row key ∷ rs) p = removedAll-keys rs p
 
-pub removedAll-rows : (staged : List Staged) (p : Plain) → removedAll 2 staged p ≡ withoutRows (rowRemovals staged) p
-unfolding removedAll removed kindOf withoutRows rowRemovals
+pub removedAll-rows : (staged : List Staged) (p : Plain) → removedAll 2 staged p ≡ foldl withoutRow p staged
+unfolding removedAll removed kindOf withoutRow
 removedAll-rows [] p = refl
 removedAll-rows (insert cells ∷ rs) p = removedAll-rows rs p
 removedAll-rows (removeKey key ∷ rs) p = removedAll-rows rs p

@@ -22,8 +22,8 @@ use Rattle.pending.specs.inner.Becoming.{Becomes, withDead, kindOf, Waiting, ha
 -- what a removal makes of a table
 unfoldable pub removed : Staged → Plain → Plain
 removed (insert cells) p = p
-removed (removeKey key) p = withoutKey key p
-removed (removeRow row key) p = withoutRow (record { row = row; key = key }) p
+removed (removeKey key) p = withoutKey p (removeKey key)
+removed (removeRow row key) p = withoutRow p (removeRow row key)
 
 -- the removals of one kind, in staging order
 unfoldable pub removedAll : ℕ → List Staged → Plain → Plain

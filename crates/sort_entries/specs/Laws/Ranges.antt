@@ -15,8 +15,9 @@ use Rattle.lists.specs.Laws.Rising.{above-head, above-tail, above-cons, above-w
 use Rattle.offsets.specs.Subsets.{range, members}
 use Rattle.offsets.specs.Laws.Forms.{has-range as has-any-range}
 use Rattle.constraints.specs.Constraints.{compares}
-use Rattle.sort_entries.specs.Entries.{Entry, entry, firstRow, Position, found, absent, position, rangeAt, fastRange, valueAt, entriesSound}
+use Rattle.sort_entries.specs.Entries.{Entry, entry, firstRow, fastRange, valueAt, entriesSound}
 use Rattle.sort_entries.specs.Laws.Sound.{valueOf, values, Climb, sound-climb, sound-first, climb-tail, climb-in, climb-above, first-le, first-next}
+use Rattle.sort_entries.specs.Laws.Positions.{Position, found, absent, position, rangeAt, fast-range-at}
 
 -- ---- the value at a row
 
@@ -242,9 +243,9 @@ module _ (v : ℕ) (es : List Entry) (rows : ℕ) (first : firstRow es rows ≡ 
 -- the fast range of sound entries has exactly the rows whose recorded value passes the test
 pub fast-range : (es : List Entry) (rows kind v : ℕ) → entriesSound es rows ≡ true → 1 ≤ kind → kind ≤ 5 → (i : ℕ) → i < rows
     → has i (members (fastRange kind v es rows)) ≡ compares kind (valueAt i es) v
-unfolding fastRange
 fast-range es rows kind v s one five i h =
-    placed-range v es rows (sound-first es rows s) i h (position v es rows) (placed v es rows (sound-climb es rows s)) kind one five
+    rw (fast-range-at kind v es rows (sound-climb es rows s))
+    (placed-range v es rows (sound-first es rows s) i h (position v es rows) (placed v es rows (sound-climb es rows s)) kind one five)
 
 -- ---- where a value stands, from the place that a search finds
 

@@ -8,7 +8,8 @@ use Rattle.offsets.specs.Subsets.{Subset, range}
 use Rattle.sort_entries.specs.declared.Standing.{Standing}
 use Rattle.sort_entries.specs.declared.Standing.the-variants.{Found, Absent}
 use Rattle.sort_entries.specs.declared.Range.{Range}
-use Rattle.sort_entries.specs.Entries.{Position, found, absent, position, fastRange, entriesOf, entriesSound}
+use Rattle.sort_entries.specs.Entries.{fastRange, entriesOf, entriesSound}
+use Rattle.sort_entries.specs.Laws.Positions.{Position, found, absent, position}
 
 -- the store has the words of its entries
 pub record Held (store : List ℕ) (n : ℕ) : Type 0 where

@@ -32,7 +32,7 @@ use Rattle.table.specs.declared.SoundAnswer.the-variants.{Refused, Sound
 use Rattle.table.specs.Numbers.{tableSays, mergeSays, rowSays, cellSays, rangeSays, soundSays}
 use Rattle.table.specs.Refusing.{stageRefusal, mergeRefusal, compactRefusal, clearRefusal, lookupRefusal, cellRefusal, fastRefusal}
 use Rattle.table.specs.Sound.{keyedOf, KeysDiffer}
-use Rattle.table.specs.Promises.{stores, lengths, Represents, SlotsPast, WordsPast, Opened, Staging, Merging, Compacting, Clearing, LookedUp, CellRead, RangeRead, VersionRead, RowsSince, NotedRows, Checked, Body, bodyOf, joined, CompactionWords, lengthsLent, Stores}
+use Rattle.table.specs.Promises.{stores, lengths, Represents, SlotsPast, PastNeeded, Opened, Staging, Merging, Compacting, Clearing, LookedUp, CellRead, RangeRead, VersionRead, RowsSince, NotedRows, Checked, Body, bodyOf, joined, CompactionWords, lengthsLent, Stores}
 use Rattle.table.specs.Laws.Shown.{represents-long, rows-counted}
 use Rattle.table.specs.Laws.Opening.{cleared-rows, cleared-opening}
 use Rattle.table.specs.Laws.Answers.{table-said, merge-said, row-said, cell-said, range-said, version-said}
@@ -108,7 +108,7 @@ module _ (s : Stores) (w : CompactionWords) (x y : Left MergeAnswer) where
     pub refused : 0 < mergeRefusal (s .header) (lengthsLent s w) → x ≡ y
     -- and what is never written
     pub slots-past : SlotsPast (s .header .capacity) (x .body .keys) (y .body .keys)
-    pub words-past : WordsPast (s .header .capacity) (x .words) (y .words)
+    pub words-past : PastNeeded (s .header .capacity) (x .words .live) (y .words .live) × PastNeeded (s .header .capacity) (x .words .base) (y .words .base)
     -- of a table: all but the choices
     pub table : (p : Plain) → Represents p s → SameTable x y
     -- and the compaction words, where nothing is compacted
@@ -145,7 +145,7 @@ module _ (h : Header) (b : Body) (w : CompactionWords) (x y : Left TableAnswer) 
     pub refused : 0 < compactRefusal h (lengthsLent (joined h b []) w) → x ≡ y
     -- and what is never written
     pub slots-past : SlotsPast (h .capacity) (x .body .keys) (y .body .keys)
-    pub words-past : WordsPast (h .capacity) (x .words) (y .words)
+    pub words-past : PastNeeded (h .capacity) (x .words .live) (y .words .live) × PastNeeded (h .capacity) (x .words .base) (y .words .base)
     -- of a table: all but the choices
     pub table : (pending : List ℕ) (p : Plain) → Represents p (joined h b pending) → SameTable x y
 
