@@ -361,13 +361,15 @@ uint32_t mouldgrey_replay(uint32_t columns, uint32_t key_columns, uint32_t sort,
  * that is refused counts for nothing. Kinds: 0 refines by a condition, its words kind, column and
  * value; 1 refines by a list of at most 16 conditions, of three words each; 2 intersects with the
  * list of its words, 3 with the range of its two words, 4 with the range that mouldgrey_fast_subset
- * answers for the condition of its three words, if it answers one. Each writes to the one of the
- * lists first and second that the ids left do not lie in, to first where they lie in neither; where
- * that is too short the question is refused. words, 6, the ids left: 1 if they are a range, and its
- * start and end; else 0 and two words of no meaning; how many they are and which list they are the
- * first ids of, 1 first, 2 second, or 0 and 0 if they are all of ids; and in the last word 1 if some
- * accepted question refined. header_len must be 12, else 1; words_len 6, else 2; nothing is written
- * then. Nothing else is refused.
+ * answers for the condition of its three words, if it answers one. The ids left come first in
+ * intersect. Each question has room for as many ids as the shorter of the lists first and second
+ * holds, and is refused where that is too few; past so many neither is written to, and below they
+ * are working room. words, 7, the ids left: 1 if they are a range, and its start and end; else 0 and
+ * two words of no meaning; how many they are and which list they are the first ids of, 1 first, 2
+ * second, or 0 and 0 if they are all of ids; then 1 if some accepted question refined; and last how
+ * many questions were taken from the list, refused ones too, 4294967295 also where there were more:
+ * fewer than were put there if some were passed over. header_len must be 12, else 1; words_len 7,
+ * else 2; nothing is written then. Nothing else is refused.
  */
 uint32_t mouldgrey_ask(const uint32_t *header, size_t header_len, const uint32_t *rows,
                        size_t rows_len, const uint32_t *sorts, size_t sorts_len, bool dense,

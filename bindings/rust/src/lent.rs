@@ -633,8 +633,8 @@ pub fn replay(
 }
 
 /// Puts the questions, in order, on a subset, each on the ids that the last accepted one left. They go as words, as those of
-/// [`replay`]. The ids left are a range, or the first ids of one of the two lent lists. Never refused; a question that is refused
-/// counts for nothing.
+/// [`replay`]. The ids left are a range, or the first ids of one of the two lent lists, each of which is used up to the length of
+/// the shorter. Never refused; a question that is refused counts for nothing.
 pub fn ask(
     header: &Header,
     rows: &[u32],
@@ -645,7 +645,7 @@ pub fn ask(
     second: &mut [u32],
 ) -> Left {
     let (dense, start, end, ids) = parts(subset);
-    let mut words = [0; 6];
+    let mut words = [0; 7];
     let number = unsafe {
         raw::mouldgrey_ask(
             words_in(header),
@@ -669,8 +669,8 @@ pub fn ask(
             words.len(),
         )
     };
-    debug_assert_eq!(number, 0, "twelve words and six are enough");
-    let [dense, start, end, count, place, refined] = words;
+    debug_assert_eq!(number, 0, "twelve words and seven are enough");
+    let [dense, start, end, count, place, refined, taken] = words;
     let ids = match (dense, place) {
         (1, _) => LeftIn::Range(start, end),
         (_, 1) => LeftIn::First(count as usize),
@@ -680,5 +680,6 @@ pub fn ask(
     Left {
         ids,
         refined: refined == 1,
+        taken,
     }
 }

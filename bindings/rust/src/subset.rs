@@ -127,9 +127,11 @@ pub enum LeftIn {
     Second(usize),
 }
 
-/// The ids left by a run of questions, and whether some accepted question refined.
+/// The ids left by a run of questions, whether some accepted question refined, and how many questions were taken from the list,
+/// refused ones too (`u32::MAX` also where there were more): what is no question is passed over.
 #[derive(Clone, Copy, Debug, PartialEq, Eq)]
 pub struct Left {
     pub ids: LeftIn,
     pub refined: bool,
+    pub taken: u32,
 }

@@ -455,6 +455,8 @@ fn lists_of_calls_and_of_questions() {
     item(&mut questions, 4, &[5, 2, 2]);
     item(&mut questions, 1, &[4, 2, 6, 1, 1, 1]);
     item(&mut questions, 2, &[7, 8, 10]);
+    // No question: a range has two ends.
+    item(&mut questions, 3, &[7]);
     let (mut first, mut second) = ([0; 20], [0; 20]);
     let left = lent::ask(
         &header,
@@ -468,6 +470,7 @@ fn lists_of_calls_and_of_questions() {
     let expected = Left {
         ids: LeftIn::Second(2),
         refined: true,
+        taken: 3,
     };
     assert_eq!((left, &second[..2]), (expected, &[7, 10][..]));
 }

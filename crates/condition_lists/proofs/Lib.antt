@@ -1,2 +1,1 @@
 pub mod LentArray
-pub mod ReadSteps

@@ -1,14 +1,14 @@
--- Six words, all written. Assumes nothing.
-use Prim.Native.Nat.{ℕ}
+-- Seven words, all written. Assumes nothing.
+use Prim.Native.Nat.{ℕ, min}
 use mathlib.Core.Path.{_≡_, refl}
 use mathlib.Core.List.{List}
 use lib.ListN.{length, set}
-use Rattle.runs.specs.declared.Left.{Left}
+use Rattle.question_words.specs.declared.RunAnswer.{RunAnswer}
 use Rattle.words.specs.Words.{bit, Told}
 use Rattle.words.specs.Laws.Written.{written}
-use Rattle.exports_replay.specs.Lefts.{leftNumber, leftWords}
+use Rattle.exports_replay.specs.RunWords.{runNumber, runWords}
 
-pub left-told : (l : Left) (words : List ℕ) (dense refined : ℕ) → length words ≡ 6 → dense ≡ bit (l .dense) → refined ≡ bit (l .refined)
-    → Told leftNumber (leftWords words) l 0 (set (set (set (set (set (set words 0 dense) 1 (l .start)) 2 (l .end)) 3 (l .count)) 4 (l .place)) 5 refined)
-unfolding leftNumber leftWords
-left-told l words dense refined n d r = record { numbered = refl; worded = rw (d, r) (written words _ n) }
+pub run-told : (l : RunAnswer) (words : List ℕ) (dense refined taken : ℕ) → length words ≡ 7 → dense ≡ bit (l .dense) → refined ≡ bit (l .refined) → taken ≡ min (l .taken) 4294967295
+    → Told runNumber (runWords words) l 0 (set (set (set (set (set (set (set words 0 dense) 1 (l .start)) 2 (l .end)) 3 (l .count)) 4 (l .place)) 5 refined) 6 taken)
+unfolding runNumber runWords
+run-told l words dense refined taken n d r t = record { numbered = refl; worded = rw (d, r, t) (written words _ n) }

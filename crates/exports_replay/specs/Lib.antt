@@ -1,1 +1,1 @@
-pub mod Lefts
+pub mod RunWords

@@ -1,16 +1,17 @@
 // The two lists of the order's term 3 under C names: an opening with a list of calls, and a list of questions.
 ghost use mathlib.Core.Path.{_≡_};
+ghost use Prim.Native.Nat.{min};
 ghost use lib.ListN.{length};
 ghost use Rattle.offsets.specs.Answers.{subsetOf};
 ghost use Rattle.table.specs.Promises.{body, compactionWords, opening};
-ghost use Rattle.replay.specs.Encoding.{decoded};
+ghost use Rattle.call_words.specs.Encoding.{decoded};
 ghost use Rattle.replay.specs.Replays.{Replayed};
-ghost use Rattle.runs.specs.Encoding.{questionsIn};
-ghost use Rattle.runs.specs.Asking.{subsetLeft, RunMade};
+ghost use Rattle.question_words.specs.Encoding.{questionsIn};
+ghost use Rattle.runs.specs.Asking.{RunMade};
 ghost use Rattle.words.specs.Words.{headerIn, Told, CallInWords, QuestionInWords};
-ghost use Rattle.exports_replay.specs.Lefts.{leftNumber, leftWords};
+ghost use Rattle.exports_replay.specs.RunWords.{runNumber, runWords};
 use offsets::SubsetHead;
-use runs::Left;
+use question_words::RunAnswer;
 use words::bit_of;
 use words::header_of;
 use words::write_table;
@@ -56,9 +57,19 @@ pub extern "C" fn mouldgrey_replay(
     write_table(answer, header)
 }
 
-fn write_left(l: Left, words: &mut [u32]) -> u32
-    requires { ⌜ length (now words) ≡ 6 ⌝ }
-    ensures { λ r. ⌜ Told leftNumber (leftWords (now (words .entry))) l r (now (words .exit)) ⌝ }
+// A count in a word.
+fn count_word(n: usize) -> u32
+    ensures { λ r. ⌜ r ≡ min n 4294967295 ⌝ }
+{
+    if n > 4294967295 {
+        return 4294967295;
+    }
+    n as u32
+}
+
+fn write_run(l: RunAnswer, words: &mut [u32]) -> u32
+    requires { ⌜ length (now words) ≡ 7 ⌝ }
+    ensures { λ r. ⌜ Told runNumber (runWords (now (words .entry))) l r (now (words .exit)) ⌝ }
 {
     words[0] = bit_of(l.dense);
     words[1] = l.start;
@@ -66,10 +77,11 @@ fn write_left(l: Left, words: &mut [u32]) -> u32
     words[3] = l.count;
     words[4] = l.place;
     words[5] = bit_of(l.refined);
+    words[6] = count_word(l.taken);
     0
 }
 
-// Puts the questions, in order, each on the ids that the last accepted one left. These are told in six words.
+// Puts the questions, in order, each on the ids that the last accepted one left. These are told in seven words.
 #[no_mangle]
 pub extern "C" fn mouldgrey_ask(
     header: &[u32],
@@ -84,16 +96,16 @@ pub extern "C" fn mouldgrey_ask(
     second: &mut [u32],
     words: &mut [u32],
 ) -> u32
-    ensures { λ r. ⌜ QuestionInWords (λ answer. RunMade (headerIn (now (header .entry))) (now (rows .entry)) (now (sorts .entry)) (length (now (first .entry))) (length (now (second .entry))) (subsetOf (record { dense = dense; start = start; end = end }) (now (ids .entry))) (questionsIn (now (questions .entry))) (subsetLeft answer (now (ids .entry)) (now (first .exit)) (now (second .exit))) (answer .refined)) leftNumber leftWords 6 (now (header .entry)) (now (words .entry)) r (now (words .exit)) × (((length (now (header .entry)) ≡ 12) × (length (now (words .entry)) ≡ 6) → ⊥) → (now (first .exit) ≡ now (first .entry)) × (now (second .exit) ≡ now (second .entry))) ⌝ }
+    ensures { λ r. ⌜ QuestionInWords (λ answer. RunMade (headerIn (now (header .entry))) (now (rows .entry)) (now (sorts .entry)) (subsetOf (record { dense = dense; start = start; end = end }) (now (ids .entry))) (now (ids .entry)) (questionsIn (now (questions .entry))) (now (first .entry)) (now (second .entry)) answer (now (first .exit)) (now (second .exit))) runNumber runWords 7 (now (header .entry)) (now (words .entry)) r (now (words .exit)) × (((length (now (header .entry)) ≡ 12) × (length (now (words .entry)) ≡ 7) → ⊥) → (now (first .exit) ≡ now (first .entry)) × (now (second .exit) ≡ now (second .entry))) ⌝ }
 {
     if header.len() != 12 {
         return 1;
     }
-    if words.len() != 6 {
+    if words.len() != 7 {
         return 2;
     }
     let head = SubsetHead { dense, start, end };
-    let left = runs::ask(
+    let answer = runs::ask(
         header_of(header),
         rows,
         sorts,
@@ -103,5 +115,5 @@ pub extern "C" fn mouldgrey_ask(
         first,
         second,
     );
-    write_left(left, words)
+    write_run(answer, words)
 }

@@ -1,6 +1,7 @@
 -- What follows from the definitions.
 pub mod Calls
 pub mod Further
+pub mod Determined
 pub mod Narrowing
 pub mod Questions
 pub mod Theorem

@@ -10,7 +10,7 @@ use Rattle.plain.specs.Plain.{Plain}
 use Rattle.plain.specs.Refusing.{Lengths}
 use Rattle.table.specs.Refusing.{outside}
 use Rattle.table.specs.Promises.{Stores, Represents}
-use Rattle.levels_said.specs.Said.{Turn, answered}
+use Rattle.levels_said.specs.Said.{Turn, lineTurn}
 
 -- the table that a header and stores hold; before the first accepted O there is none, and test 1 turns the header away
 pub data Held : Option Plain → Stores → Type 0 where
@@ -37,4 +37,4 @@ pub record Left (turn : Turn) (s : Stores) (text : List ℕ) (used : ℕ) : Type
 -- A line is answered: whatever table was held, the text and the table are those of the line's turn on it.
 pub record Answering (line : List ℕ) (s s′ : Stores) (text : List ℕ) (used : ℕ) : Type 0 where
   pub inside : used ≤ length text
-  pub answers : (t : Option Plain) → Held t s → Left (answered (lent s) t line) s′ text used
+  pub answers : (t : Option Plain) → Held t s → Left (lineTurn (lent s) t line) s′ text used

@@ -1,23 +1,23 @@
 -- What `levels` prints (document 01, "The program `levels`"): a line and the table before it give the text that it prints and the
 -- table after it. Over the plain table; bytes are numbers, in ASCII. Assumes nothing.
 use Prim.Native.Nat.{ℕ}
-use mathlib.Core.Bool.{cond, not, _||_}
+use mathlib.Core.Bool.{cond}
 use mathlib.Core.List.{List, [], _∷_, _++_, map}
 use mathlib.Core.Option.{Option, none, some}
 use lib.ListN.{length, drop, getD}
 use lib.Dec.{ltb, eqb}
 use Rattle.lists.specs.Lists.{flat}
 use Rattle.offsets.specs.Subsets.{Subset, range, list}
-use Rattle.constraints.specs.declared.Constraint.{Constraint}
 use Rattle.constraints.specs.Constraints.{known}
-use Rattle.sort_entries.specs.Entries.{fastRange}
+use Rattle.condition_words.specs.Conditions.{conditionIn}
+use Rattle.sort_entries.specs.Entries.{entryWords}
 use Rattle.plain.specs.Staged.{Opening, insert, removeKey, removeRow}
 use Rattle.plain.specs.Refusing.{Lengths, openRefusal}
 use Rattle.plain.specs.Plain.{Plain, liveRows, opened, merged}
 use Rattle.plain.specs.Calls.{Call, staging, merging, compacting, clearing, refusal, after}
-use Rattle.table.specs.Stores.{entries}
-use Rattle.table.specs.Promises.{opening}
-use Rattle.levels_text.specs.Lines.{letter, numbers, accepted}
+use Rattle.table.specs.Stores.{entries, headerOf}
+use Rattle.table.specs.Promises.{opening, fastSubset}
+use Rattle.levels_text.specs.Lines.{letter, numbers, ofForms}
 use Rattle.levels_text.specs.Written.{textLine}
 
 -- what a line prints, and the table after it: none before the first accepted O
@@ -25,8 +25,8 @@ pub record Turn : Type 0 where
   pub text : List ℕ
   pub table : Option Plain
 
-abbrev pub turned : List ℕ → Option Plain → Turn
-turned text table = record { text = text; table = table }
+abbrev pub printing : List ℕ → Option Plain → Turn
+printing text table = record { text = text; table = table }
 
 -- "A refusal prints X,number" (X is 88); what is not refused prints its text
 unfoldable pub replied : ℕ → List ℕ → List ℕ
@@ -39,26 +39,19 @@ openNumber l o = cond (ltb 1024 (o .capacity)) 11 (openRefusal o l)
 -- O: accepted it prints nothing; a refused one keeps the old table
 unfoldable pub opens : Lengths → Option Plain → Opening → ℕ → Turn
 opens l t o generation =
-    turned (replied (openNumber l o) []) (cond (eqb (openNumber l o) 0) (some (opened o generation)) t)
+    printing (replied (openNumber l o) []) (cond (eqb (openNumber l o) 0) (some (opened o generation)) t)
 
 -- I, R, K, M, C and G: a call, and what it prints unless it is refused
 unfoldable pub calls : Lengths → Plain → Call → List ℕ → Turn
-calls l p c text = turned (replied (refusal p l c) text) (some (after p l c))
+calls l p c text = printing (replied (refusal p l c) text) (some (after p l c))
 
 -- F, V and L: the number of its refusal, and what it prints unless it is refused; the table stays
 unfoldable pub asks : Plain → ℕ → List ℕ → Turn
-asks p number text = turned (replied number text) (some p)
+asks p number text = printing (replied number text) (some p)
 
 -- "M prints M,status,added,place, stopped or not" (M is 77)
 unfoldable pub mergeText : Plain → List ℕ
 mergeText p = textLine 77 (merged p .status ∷ cond (merged p .added) 1 0 ∷ merged p .place ∷ [])
-
--- "`fast_subset` answers *none* for kind 0 and for any column but the sort column"
-unfoldable pub fastOf : Plain → Constraint → Option Subset
-fastOf p c =
-    cond (eqb (c .kind) 0 || not (eqb (c .column) (p .opening .sort)))
-    none
-    (some (fastRange (c .kind) (c .value) (entries p) (length (p .rows))))
 
 -- "F,0,2 (start, end; or F,none)" (F is 70). It is never a list
 unfoldable pub rangeText : Option Subset → List ℕ
@@ -77,15 +70,12 @@ listText p =
     textLine 84 (o .columns ∷ o .keys ∷ o .sort ∷ o .rule ∷ p .generation ∷ [])
     ++ flat (map (λ row. textLine 68 (row .cells)) (liveRows p))
 
--- "O,columns,keys,sort,rule,capacity,generation"; "F,kind,a,b"
+-- "O,columns,keys,sort,rule,capacity,generation"
 abbrev pub openingIn : List ℕ → Opening
 openingIn ns = opening (getD ns 0 0) (getD ns 1 0) (getD ns 2 0) (getD ns 3 0) (getD ns 4 0)
 
-abbrev pub conditionIn : List ℕ → Constraint
-conditionIn ns = record { kind = getD ns 0 0; column = getD ns 1 0; value = getD ns 2 0 }
-
 -- A line on a table, by its letter: "I,cells" (73), "R,key cells" (82), "K,row,key cells" (75), M (77), "C clear" (67), "G
--- compact" (71), F (70), where a kind or column that is not known is 6, V (86), else L.
+-- compact" (71), "F,kind,a,b" (70), where a kind or column that is not known is 6, V (86), else L.
 unfoldable pub served : Lengths → Plain → ℕ → List ℕ → Turn
 served l p letter ns =
     cond (eqb letter 73) (calls l p (staging (insert ns)) [])
@@ -94,12 +84,12 @@ served l p letter ns =
     (cond (eqb letter 77) (calls l p merging (mergeText p))
     (cond (eqb letter 67) (calls l p clearing [])
     (cond (eqb letter 71) (calls l p compacting [])
-    (cond (eqb letter 70) (asks p (cond (known (p .opening .columns) (conditionIn ns)) 0 6) (rangeText (fastOf p (conditionIn ns))))
+    (cond (eqb letter 70) (asks p (cond (known (p .opening .columns) (conditionIn ns 0)) 0 6) (rangeText (fastSubset (headerOf p) (entryWords (entries p)) (conditionIn ns 0))))
     (cond (eqb letter 86) (asks p 0 (versionText p)) (asks p 0 (listText p)))))))))
 
 -- "before O every table line prints X,1"
 unfoldable pub onTable : Option Plain → (Plain → Turn) → Turn
-onTable none line = turned (replied 1 []) none
+onTable none line = printing (replied 1 []) none
 onTable (some p) line = line p
 
 -- a line of the forms, by its letter and numbers; O is 79
@@ -108,5 +98,5 @@ turn l t letter ns =
     cond (eqb letter 79) (opens l t (openingIn ns) (getD ns 5 0)) (onTable t (λ p. served l p letter ns))
 
 -- any line, by its bytes: "11 is a line not of these forms"
-unfoldable pub answered : Lengths → Option Plain → List ℕ → Turn
-answered l t line = cond (accepted line) (turn l t (letter line) (numbers line)) (turned (replied 11 []) t)
+unfoldable pub lineTurn : Lengths → Option Plain → List ℕ → Turn
+lineTurn l t line = cond (ofForms line) (turn l t (letter line) (numbers line)) (printing (replied 11 []) t)

@@ -7,7 +7,7 @@ use mathlib.Core.Option.{Option, none}
 use lib.Dec.{eqb}
 use Rattle.plain.specs.Refusing.{Lengths}
 use Rattle.plain.specs.Plain.{Plain}
-use Rattle.levels_said.specs.Said.{answered}
+use Rattle.levels_said.specs.Said.{lineTurn}
 
 -- "Its capacity is at most 1,024, over a row store of 8,192 cells and 2,048 pending words": the other stores for as many rows
 abbrev pub programLengths : Lengths
@@ -27,7 +27,7 @@ linesIn (byte ∷ bytes) = cond (eqb byte 10) ([] ∷ linesIn bytes) (begun byte
 unfoldable pub session : Option Plain → List (List ℕ) → List ℕ
 session t [] = []
 session t (line ∷ lines) =
-    answered programLengths t line .text ++ session (answered programLengths t line .table) lines
+    lineTurn programLengths t line .text ++ session (lineTurn programLengths t line .table) lines
 
 -- what an input prints
 unfoldable pub printed : List ℕ → List ℕ

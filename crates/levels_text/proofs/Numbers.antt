@@ -10,12 +10,12 @@ use lib.Seq.{take-suc-set}
 use Rattle.lists.specs.Lists.{putAt, every}
 use Rattle.lists.specs.Laws.Parts.{putAt-nil}
 use Rattle.lists.specs.Laws.Search.{put-more}
-use Rattle.levels_text.specs.Lines.{valueFrom, isDecimal, isForm, letter, numbers, accepted}
+use Rattle.levels_text.specs.Lines.{valueFrom, isDecimal, isForm, letter, numbers, ofForms}
 use Rattle.levels_text.specs.declared.Field.{Field}
 use Rattle.levels_text.specs.declared.Field.the-variants.{Wrong as NoField, Decimal}
 use Rattle.levels_text.specs.declared.Parsed.the-variants.{Wrong, Line}
 use Rattle.levels_text.specs.inner.Reading.{fieldAt, FieldIs, ParsedIs, parsed-wrong, parsed-right}
-use Rattle.levels_text.specs.Laws.Lines.{first, others, first-end, others-end, first-at-comma, first-at-more, others-at-comma, others-at-more, next-first, next-others, next-inside, decimal-some, no-letter, no-decimal, accepted-line}
+use Rattle.levels_text.specs.Laws.Lines.{first, others, first-end, others-end, first-at-comma, first-at-more, others-at-comma, others-at-more, next-first, next-others, next-inside, decimal-some, no-letter, no-decimal, forms-line}
 
 -- count numbers are read from the bytes before a place, and stored; the letter stands alone if nothing stands before the next comma
 pub record Numbers (line lent stored : List ℕ) (at count : ℕ) : Type 0 where
@@ -46,7 +46,7 @@ module _ (line lent : List ℕ) (short : length line ≤ 120) (long : 59 ≤ len
 
 module _ (line lent stored : List ℕ) (at count : ℕ) (s : Numbers line lent stored at count) where
   -- no line of the forms
-  pub wrong-line : accepted line ≡ false → ParsedIs line lent Wrong stored
+  pub wrong-line : ofForms line ≡ false → ParsedIs line lent Wrong stored
   wrong-line e = parsed-wrong line lent stored e (λ h. absurd (let l = s .long in omega arith))
 
   module _ (before : at < length line) where
@@ -127,10 +127,10 @@ module _ (line lent stored : List ℕ) (at count : ℕ) (s : Numbers line lent s
     counted : length (numbers line) ≡ count
     counted = ap length all-read ∙ rw length-take (omega (arith, s .room, s .inside, s .same, s .short, s .long))
 
-    form : accepted line ≡ isForm (letter line) count
+    form : ofForms line ≡ isForm (letter line) count
     form =
         let one : length (first line) ≡ 1 = let e = ap length (first-end line at ended) in omega (arith, s .alone, e) in
-        accepted-line line (s .short) one (s .decimals ∙ rw (others-end line at ended) (unfold every in refl))
+        forms-line line (s .short) one (s .decimals ∙ rw (others-end line at ended) (unfold every in refl))
         ∙ ap (isForm (letter line)) counted
 
     pub parsed-line : (b : Bool) → b ≡ isForm (letter line) count → b ≡ true → ParsedIs line lent (Line (letter line) count) stored

@@ -55,5 +55,5 @@ isForm letter count =
     (isBare letter && eqb count 0))))
 
 -- "a line not of these forms" is refused with 11
-unfoldable pub accepted : List ℕ → Bool
-accepted bytes = isLine bytes && isForm (letter bytes) (length (numbers bytes))
+unfoldable pub ofForms : List ℕ → Bool
+ofForms bytes = isLine bytes && isForm (letter bytes) (length (numbers bytes))

@@ -8,37 +8,10 @@ use lib.ListN.{take, drop, getD}
 use Rattle.frames.specs.inner.Lengths.{FrameLength}
 use Rattle.frames.specs.Laws.Frames.{framed-end, framed-next}
 use Rattle.plain.specs.Refusing.{Lengths}
-use Rattle.table.specs.declared.Header.{Header}
-use Rattle.table.specs.declared.TableAnswer.{TableAnswer}
-use Rattle.table.specs.declared.TableAnswer.the-variants.{Refused as TableRefused, Table}
-use Rattle.table.specs.declared.Merge.{Merge}
-use Rattle.table.specs.declared.MergeAnswer.{MergeAnswer}
-use Rattle.table.specs.declared.MergeAnswer.the-variants.{Refused as MergeRefused, Merged}
-use Rattle.table.specs.Numbers.{tableSays, mergeSays}
-use Rattle.table.specs.Promises.{Stores, headerAfter, headerMerged}
-use Rattle.replay.specs.Encoding.{callOf, decoded}
-use Rattle.replay.specs.inner.Replaying.{Made}
-use Rattle.replay.specs.Laws.Replaying.{none-made, made-then}
-
--- ---- the header that an answer leaves
-
-pub after-refused : (h : Header) (answer : TableAnswer) (n : ℕ) → answer ≡ TableRefused n → h ≡ headerAfter h (tableSays answer)
-unfolding headerAfter tableSays
-after-refused h answer n e = rw e
-
-pub after-table : (h : Header) (answer : TableAnswer) (n : Header) → answer ≡ Table n → n ≡ headerAfter h (tableSays answer)
-unfolding headerAfter tableSays
-after-table h answer n e = rw e
-
-pub merge-refused : (h : Header) (answer : MergeAnswer) (n : ℕ) → answer ≡ MergeRefused n → h ≡ headerMerged h (mergeSays answer)
-unfolding headerMerged mergeSays
-merge-refused h answer n e = rw e
-
-pub merge-done : (h : Header) (answer : MergeAnswer) (m : Merge) → answer ≡ Merged m → m .header ≡ headerMerged h (mergeSays answer)
-unfolding headerMerged mergeSays
-merge-done h answer m e = rw e
-
--- ---- the turns
+use Rattle.table.specs.Promises.{Stores, CompactionWords}
+use Rattle.call_words.specs.Encoding.{callOf, decoded}
+use Rattle.call_words.specs.inner.Making.{Made}
+use Rattle.call_words.specs.Laws.Making.{none-made, made-then}
 
 -- stores keep their lengths
 pub lengths-same : {l l′ : Lengths} → l′ .rows ≡ l .rows → l′ .keys ≡ l .keys → l′ .sorts ≡ l .sorts → l′ .pending ≡ l .pending → l′ .liveWords ≡ l .liveWords → l′ .baseWords ≡ l .baseWords
@@ -46,29 +19,29 @@ pub lengths-same : {l l′ : Lengths} → l′ .rows ≡ l .rows → l′ .keys 
 lengths-same a b c d e f = λ i. record { rows = a i; keys = b i; sorts = c i; pending = d i; liveWords = e i; baseWords = f i }
 
 -- before the call at a place, with stores of these lengths
-pub record Going (words : List ℕ) (l l′ : Lengths) (s s′ : Stores) (at count : ℕ) : Type 0 where
+pub record Going (words : List ℕ) (l l′ : Lengths) (s : Stores) (w : CompactionWords) (s′ : Stores) (w′ : CompactionWords) (at count : ℕ) : Type 0 where
   pub here : FrameLength words at count
   pub same : l′ ≡ l
-  pub rest : (t : Stores) → Made (decoded (drop at words)) l s′ t → Made (decoded words) l s t
+  pub rest : (t : Stores) (v : CompactionWords) → Made (decoded (drop at words)) l s′ w′ t v → Made (decoded words) l s w t v
 
-module _ {words : List ℕ} {l : Lengths} {s : Stores} where
-  pub going-begin : {count : ℕ} → FrameLength words 0 count → Going words l l s s 0 count
-  going-begin here = record { here = here; same = refl; rest = λ t made. made }
+module _ {words : List ℕ} {l : Lengths} {s : Stores} {w : CompactionWords} where
+  pub going-begin : {count : ℕ} → FrameLength words 0 count → Going words l l s w s w 0 count
+  going-begin here = record { here = here; same = refl; rest = λ t v made. made }
 
-  module _ {l′ : Lengths} {s′ : Stores} {at count : ℕ} (v : Going words l l′ s s′ at count) where
+  module _ {l′ : Lengths} {s′ : Stores} {w′ : CompactionWords} {at count : ℕ} (v : Going words l l′ s w s′ w′ at count) where
     -- one call is made
-    pub going-again : {l″ : Lengths} {s″ : Stores} {next : ℕ} → (count ≡ 0 → ⊥) → l″ ≡ l′
-        → Made (callOf (getD words at 0) (take (at + count - (at + 2)) (drop (at + 2) words))) l′ s′ s″
-        → FrameLength words (at + count) next → Going words l l″ s s″ (at + count) next
-    going-again {l″} {s″} some lent one here =
+    pub going-again : {l″ : Lengths} {s″ : Stores} {w″ : CompactionWords} {next : ℕ} → (count ≡ 0 → ⊥) → l″ ≡ l′
+        → Made (callOf (getD words at 0) (take (at + count - (at + 2)) (drop (at + 2) words))) l′ s′ w′ s″ w″
+        → FrameLength words (at + count) next → Going words l l″ s w s″ w″ (at + count) next
+    going-again {l″} {s″} {w″} some lent one here =
         let cells : at + count - (at + 2) ≡ count - 2 = omega arith in
-        let made : Made (callOf (getD words at 0) (take (count - 2) (drop (at + 2) words))) l s′ s″ = rw (v .same, cells) at one in
+        let made : Made (callOf (getD words at 0) (take (count - 2) (drop (at + 2) words))) l s′ w′ s″ w″ = rw (v .same, cells) at one in
         record {
           here = here;
           same = lent ∙ v .same;
-          rest = λ t more. v .rest t (rw (framed-next callOf (v .here) some) (made-then made more));
+          rest = λ t u more. v .rest t u (rw (framed-next callOf (v .here) some) (made-then made more));
         }
 
     -- no call is left
-    pub going-end : count ≡ 0 → Made (decoded words) l s s′
-    going-end none = v .rest s′ (none-made l s′ (framed-end callOf (v .here) none))
+    pub going-end : count ≡ 0 → Made (decoded words) l s w s′ w′
+    going-end none = v .rest s′ w′ (none-made l s′ w′ (framed-end callOf (v .here) none))

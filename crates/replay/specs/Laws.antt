@@ -1,4 +1,3 @@
 -- What follows from the definitions.
-pub mod Encoding
-pub mod Replaying
 pub mod Theorem
+pub mod Determined

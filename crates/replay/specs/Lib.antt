@@ -1,4 +1,2 @@
-pub mod Encoding
 pub mod Replays
-pub mod inner
 pub mod Laws

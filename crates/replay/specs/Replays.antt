@@ -2,35 +2,19 @@
 -- They are a history, so that the claim of the order's term 3 holds of them. Assumes nothing.
 use Prim.Native.Nat.{ℕ, _<_}
 use mathlib.Core.Path.{_≡_}
-use mathlib.Core.List.{List, [], map}
+use mathlib.Core.List.{List, []}
 use Rattle.refusals.specs.Refusals.{accepted, reply, verdict}
 use Rattle.plain.specs.Staged.{Opening}
-use Rattle.plain.specs.Refusing.{Lengths, openRefusal}
-use Rattle.plain.specs.Calls.{Call, staging, merging, compacting, clearing, LentCall}
+use Rattle.plain.specs.Refusing.{openRefusal}
+use Rattle.plain.specs.Calls.{Call, LentCall}
 use Rattle.table.specs.declared.Header.{Header}
 use Rattle.table.specs.declared.TableAnswer.{TableAnswer}
 use Rattle.table.specs.declared.TableAnswer.the-variants.{Table}
 use Rattle.table.specs.Numbers.{tableSays}
-use Rattle.table.specs.Promises.{Stores, Body, stores, joined, CompactionWords, lengths, Opened}
+use Rattle.table.specs.Promises.{Stores, Body, stores, joined, CompactionWords, lengths, SlotsPast, WordsPast, Opened}
 use Rattle.history.specs.Histories.{Steps}
 use Rattle.history.specs.Claim.{Claimed}
-
--- the compaction words go to a merge and a compaction alone
-abbrev pub withoutWords : Lengths → Lengths
-withoutWords l =
-    record { rows = l .rows; keys = l .keys; sorts = l .sorts; pending = l .pending; liveWords = 0; baseWords = 0 }
-
-unfoldable pub lengthsFor : Lengths → Call → Lengths
-lengthsFor l (staging r) = withoutWords l
-lengthsFor l merging = l
-lengthsFor l compacting = l
-lengthsFor l clearing = withoutWords l
-
-abbrev pub lentTo : Lengths → Call → LentCall
-lentTo l c = record { call = c; lengths = lengthsFor l c }
-
-abbrev pub lentAll : Lengths → List Call → List LentCall
-lentAll l calls = map (lentTo l) calls
+use Rattle.call_words.specs.Lending.{lentAll}
 
 -- the calls, each lent the stores whole
 abbrev pub callsLent : List Call → Body → List ℕ → CompactionWords → List LentCall
@@ -48,7 +32,11 @@ module _ (o : Opening) (generation : ℕ) (calls : List Call) (b : Body) (pendin
     -- where the opening is refused, no call is made and nothing changes
     pub refusal : verdict (tableSays answer) ≡ reply (openRefusal o (lengths (b .rows) (b .keys) (b .sorts) pending [] [])) tt
     pub unchanged : 0 < openRefusal o (lengths (b .rows) (b .keys) (b .sorts) pending [] []) → (b′ ≡ b) × (pending′ ≡ pending) × (w′ ≡ w)
-    -- else they are made, and "the live rows, numbers and cells, are those of document 01's plain table after the same calls". Of
-    -- compaction words nothing is promised then
+    -- else they are made, and "the live rows, numbers and cells, are those of document 01's plain table after the same calls"
     pub calls-made : (h : Header) → tableSays answer ≡ accepted h → MadeFrom (joined h b′ pending′)
     pub claimed : (h : Header) → tableSays answer ≡ accepted h → Claimed o generation (callsLent calls b pending w) (joined h b′ pending′)
+    -- slots and compaction words past those needed are never written; while the generation is the opening's nothing was
+    -- compacted, and no compaction word is. Of those needed nothing is promised else
+    pub slots-past : SlotsPast (o .capacity) (b .keys) (b′ .keys)
+    pub words-past : WordsPast (o .capacity) w w′
+    pub words-kept : (h : Header) → tableSays answer ≡ accepted h → h .generation ≡ generation → w′ ≡ w

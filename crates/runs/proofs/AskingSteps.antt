@@ -1,223 +1,184 @@
--- The ways out of each function of lib.rt, and the turns of a run. Assumes nothing.
-use Prim.Native.Nat.{ℕ, _+_, _-_, _*_, _/_, _≤_, _<_}
+-- The turns of a run. Assumes nothing.
+use Prim.Native.Nat.{ℕ, zero, suc, _+_, _-_, _≤_, min}
 use mathlib.Core.Path.{_≡_, refl, sym, ap, _∙_}
 use mathlib.Core.Bool.{Bool, true, false, _||_}
-use mathlib.Core.Option.{some}
-use mathlib.Core.List.{List, [], _∷_}
-use native.Mathlib.Decide.{ℕ-discrete}
+use mathlib.Core.List.{List, [], _∷_, _++_}
 use native.Mathlib.Omega.{arith}
-use lib.Dec.{leb}
-use lib.ListN.{length, take, drop, getD, length-take}
-use borrow.Author.Tests.{le-leb, lt-leb}
-use Rattle.refusals.specs.Refusals.{accepted}
+use lib.Dec.{eqb}
+use lib.ListN.{length, take, drop, getD, length-take, length-append}
 use Rattle.frames.specs.inner.Lengths.{FrameLength}
 use Rattle.frames.specs.Laws.Frames.{framed-end, framed-next}
 use Rattle.offsets.specs.declared.SubsetHead.{SubsetHead}
-use Rattle.offsets.specs.declared.SubsetAnswer.{SubsetAnswer}
-use Rattle.offsets.specs.declared.SubsetAnswer.the-variants.{Refused, Range, List as Ids}
-use Rattle.offsets.specs.Subsets.{Subset, range, list}
-use Rattle.offsets.specs.Answers.{subsetOf, Answered, intersectReply}
-use Rattle.constraints.specs.declared.Constraint.{Constraint}
+use Rattle.offsets.specs.Subsets.{Subset}
+use Rattle.offsets.specs.Answers.{subsetOf}
+use Rattle.sort_entries.specs.Entries.{entriesOf, entriesSound}
 use Rattle.table.specs.declared.Header.{Header}
-use Rattle.table.specs.declared.RangeAnswer.{RangeAnswer}
-use Rattle.table.specs.declared.RangeAnswer.the-variants.{Refused as RangeRefused, None as NoRange, Range as Found}
-use Rattle.table.specs.Numbers.{rangeSays}
-use Rattle.table.specs.Promises.{stores, RangeRead}
-use Rattle.condition_lists.specs.Conditions.{conditionIn, conditionsIn}
-use Rattle.queries.specs.Queries.{RefinedOne, RefinedList}
+use Rattle.table.specs.Promises.{stores}
 use Rattle.history.specs.Runs.{Question, Gathered, nothing, together, Run, end}
 use Rattle.history.specs.Laws.Theorem.{term-three}
-use Rattle.runs.specs.declared.Left.{Left}
-use Rattle.runs.specs.Encoding.{questionOf, questionsIn}
-use Rattle.runs.specs.Asking.{subsetLeft, oneOf, RunMade}
-use Rattle.runs.specs.inner.Asking.{Put, ListPut, RangePut, leftBy, Held, Turned}
-use Rattle.runs.specs.Laws.Encoding.{list-whole, list-cut, list-long, ask-one, ask-list, ask-ids, ask-ends, ask-range, no-one, no-ends, no-range, no-kind}
-use Rattle.runs.specs.Laws.Asking.{put-nothing, put-no-range, put-refined, put-refined-list, put-intersected, put-ranged, turned, into-second, into-first, into-first-too, headOf, lent-first, lent-second, lent-neither, together-assoc, together-nothing, run-then}
-
--- ---- `is_refined`, `left_by`
-
-pub refined-yes : (kind : ℕ) (refined : Bool) → kind ≤ 1 → true ≡ (leb kind 1 || refined)
-refined-yes kind refined h = rw (le-leb kind 1 h)
-
-pub refined-same : (kind : ℕ) (refined : Bool) → 1 < kind → refined ≡ (leb kind 1 || refined)
-refined-same kind refined h = rw (lt-leb kind 1 h)
-
-module _ (l : Left) (place kind : ℕ) (answer : SubsetAnswer) where
-  pub left-refused : (n : ℕ) → answer ≡ Refused n → l ≡ leftBy l place (leb kind 1) answer
-  unfolding leftBy
-  left-refused n e = rw e
-
-  pub left-range : (start end : ℕ) (refined : Bool) → refined ≡ (leb kind 1 || l .refined) → answer ≡ Range start end
-      → record { dense = true; start = start; end = end; count = 0; place = 0; refined = refined } ≡ leftBy l place (leb kind 1) answer
-  unfolding leftBy
-  left-range from to refined q e = rw (e, q)
-
-  pub left-list : (n : ℕ) (refined : Bool) → refined ≡ (leb kind 1 || l .refined) → answer ≡ Ids n
-      → record { dense = false; start = 0; end = 0; count = n; place = place; refined = refined } ≡ leftBy l place (leb kind 1) answer
-  unfolding leftBy
-  left-list n refined q e = rw (e, q)
-
--- ---- `put_range`
-
-module _ {h : Header} {sorts : List ℕ} {c : Constraint} {found : RangeAnswer} {a : Subset} {output : List ℕ} (read : RangeRead h sorts c found) where
-  pub range-refused : (n : ℕ) → found ≡ RangeRefused n → RangePut h sorts a c output (Refused n) output
-  unfolding rangeSays
-  range-refused n e = record { put = λ rows. put-no-range n refl read (λ b q. absurd (let f = rw e at q in let z : _≡_ {A = ℕ} 0 1 = cc in omega arith)) }
-
-  pub range-none : found ≡ NoRange → RangePut h sorts a c output (Refused 0) output
-  unfolding rangeSays
-  range-none e = record { put = λ rows. put-no-range 0 refl read (λ b q. absurd (let f = rw e at q in let z : _≡_ {A = ℕ} 0 1 = cc in omega arith)) }
-
-  pub range-found : (start end : ℕ) (ids : List ℕ) {answer : SubsetAnswer} {output′ : List ℕ} → found ≡ Found start end
-      → Answered (intersectReply a (subsetOf (record { dense = true; start = start; end = end }) ids) (length output)) output answer output′
-      → RangePut h sorts a c output answer output′
-  unfolding rangeSays subsetOf
-  range-found from to ids e m = record { put = λ rows. put-ranged (range from to) refl read (rw e) m }
-
--- ---- `put_list`
-
-module _ {h : Header} {rows : List ℕ} {a : Subset} (cells : List ℕ) {output : List ℕ} where
-  pub listed-cut : (length cells / 3 * 3 ≡ length cells → ⊥) → ListPut h rows a cells output (Refused 0) output
-  listed-cut n = record { put = λ sorts. put-nothing true 0 (list-cut cells n) }
-
-  pub listed-long : length cells / 3 * 3 ≡ length cells → 16 < length cells / 3 → ListPut h rows a cells output (Refused 0) output
-  listed-long e m = record { put = λ sorts. put-nothing true 0 (list-long cells e m) }
-
-  pub listed-whole : (conditions : List Constraint) {answer : SubsetAnswer} {output′ : List ℕ} → length cells / 3 * 3 ≡ length cells → length cells / 3 ≤ 16
-      → take (length cells / 3) conditions ≡ conditionsIn (length cells / 3) cells → RefinedList h rows a (take (length cells / 3) conditions) output answer output′
-      → ListPut h rows a cells output answer output′
-  listed-whole conditions e m same refined = record { put = λ sorts. put-refined-list (list-whole cells e m) (rw same at refined) }
-
--- ---- `put`
-
--- what is no question
-no-three : (kind : ℕ) (cells : List ℕ) → (kind ≡ 1 → ⊥) → (kind ≡ 2 → ⊥) → (kind ≡ 3 → ⊥) → (length cells ≡ 3 → ⊥) → questionOf kind cells ≡ []
-no-three kind cells one two three n =
-    elim (ℕ-discrete kind 0) [
-      | yes e ↦ no-one kind cells e n
-      | no zero ↦ elim (ℕ-discrete kind 4) [ yes e ↦ no-range kind cells e n | no four ↦ no-kind kind cells (omega arith) ]
-    ]
-
-module _ {h : Header} {rows sorts : List ℕ} {a : Subset} (kind : ℕ) (cells : List ℕ) {output : List ℕ} where
-  pub put-short : (kind ≡ 1 → ⊥) → (kind ≡ 2 → ⊥) → (kind ≡ 3 → ⊥) → (length cells ≡ 3 → ⊥) → Put h rows sorts a (questionOf kind cells) (leb kind 1) output (Refused 0) output
-  put-short one two three n = put-nothing (leb kind 1) 0 (no-three kind cells one two three n)
-
-  pub put-short-ends : kind ≡ 3 → (length cells ≡ 2 → ⊥) → Put h rows sorts a (questionOf kind cells) (leb kind 1) output (Refused 0) output
-  put-short-ends e n = put-nothing (leb kind 1) 0 (no-ends kind cells e n)
-
-  pub put-none : (kind ≡ 0 → ⊥) → (kind ≡ 1 → ⊥) → (kind ≡ 2 → ⊥) → (kind ≡ 3 → ⊥) → (kind ≡ 4 → ⊥) → Put h rows sorts a (questionOf kind cells) (leb kind 1) output (Refused 0) output
-  put-none zero one two three four = put-nothing (leb kind 1) 0 (no-kind kind cells (omega arith))
-
-  module _ {answer : SubsetAnswer} {output′ : List ℕ} where
-    pub put-ids : (start end : ℕ) → kind ≡ 2 → Answered (intersectReply a (subsetOf (record { dense = false; start = start; end = end }) cells) (length output)) output answer output′
-        → Put h rows sorts a (questionOf kind cells) (leb kind 1) output answer output′
-    unfolding subsetOf
-    put-ids from to e m = rw (lt-leb kind 1 (omega arith)) (put-intersected (list cells) (ask-ids kind cells e) m)
-
-    pub put-ends : (ids : List ℕ) → kind ≡ 3 → length cells ≡ 2
-        → Answered (intersectReply a (subsetOf (record { dense = true; start = getD cells 0 0; end = getD cells 1 0 }) ids) (length output)) output answer output′
-        → Put h rows sorts a (questionOf kind cells) (leb kind 1) output answer output′
-    unfolding subsetOf
-    put-ends ids e n m = rw (lt-leb kind 1 (omega arith)) (put-intersected (range (getD cells 0 0) (getD cells 1 0)) (ask-ends kind cells e n) m)
-
-    pub put-list : kind ≡ 1 → ListPut h rows a cells output answer output′ → Put h rows sorts a (questionOf kind cells) (leb kind 1) output answer output′
-    put-list e m = rw (e, ask-list 1 cells refl) (m .put sorts)
-
-    pub put-one : kind ≡ 0 → length cells ≡ 3 → {c : Constraint} → c ≡ conditionIn cells 0 → RefinedOne h rows a c output answer output′
-        → Put h rows sorts a (questionOf kind cells) (leb kind 1) output answer output′
-    put-one e n same m = rw e (put-refined (ask-one 0 cells refl n) (rw same at m))
-
-    pub put-fast : kind ≡ 4 → length cells ≡ 3 → {c : Constraint} → c ≡ conditionIn cells 0 → RangePut h sorts a c output answer output′
-        → Put h rows sorts a (questionOf kind cells) (leb kind 1) output answer output′
-    put-fast e n same m = rw (lt-leb kind 1 (omega arith), ask-range kind cells e n, ← same) (m .put rows)
-
--- ---- `turn`
+use Rattle.question_words.specs.declared.RunAnswer.{RunAnswer}
+use Rattle.question_words.specs.Encoding.{questionOf, questionsIn}
+use Rattle.question_words.specs.Leaving.{idsAt, subsetLeft, Outcome, outcome, askedAll}
+use Rattle.runs.specs.Asking.{shorter, RunMade}
+use Rattle.runs.specs.inner.Turning.{Turned, TurnedOnce}
+use Rattle.runs.specs.Laws.Turning.{or-false, or-assoc, together-assoc, together-nothing, run-then, behind, asked-then}
 
 -- the first ids of a list, as they are lent
 pub lent-count : (n : ℕ) (l : List ℕ) → n ≤ length l → n ≡ length (take n l)
 lent-count n l h = simp length-take (omega arith)
 
-module _ {h : Header} {rows sorts : List ℕ} (ids : List ℕ) {questions : List Question} {l l′ : Left} {first second : List ℕ} {refining : Bool} {answer : SubsetAnswer}
-    (held : Held l (length first) (length second)) where
-  pub turn-first : {second′ : List ℕ} → l .place ≡ 1 → Put h rows sorts (subsetOf (headOf l ids first second) (take (l .count) first)) questions refining second answer second′
-      → l′ ≡ leftBy l 2 refining answer → Turned h rows sorts ids questions l first second l′ first second′
-  turn-first {second′} e p n = turned 2 (rw (lent-first l ids first second e) at p) held (into-second l ids first second second′ e) n
+take-inside : (n : ℕ) (a b : List ℕ) → n ≤ length a → take n (a ++ b) ≡ take n a
+take-inside zero a b h = refl
+take-inside (suc n) [] b h = absurd (omega arith)
+take-inside (suc n) (x ∷ a) b h = ap (λ (l : List ℕ). x ∷ l) (take-inside n a b (omega arith))
 
-  pub turn-second : {first′ : List ℕ} → l .place ≡ 2 → Put h rows sorts (subsetOf (headOf l ids first second) (take (l .count) second)) questions refining first answer first′
-      → l′ ≡ leftBy l 1 refining answer → Turned h rows sorts ids questions l first second l′ first′ second
-  turn-second {first′} e p n = turned 1 (rw (lent-second l ids first second e) at p) held (into-first l ids first second first′ e) n
-
-  pub turn-neither : {first′ : List ℕ} → (l .place ≡ 1 → ⊥) → (l .place ≡ 2 → ⊥) → Put h rows sorts (subsetOf (headOf l ids first second) ids) questions refining first answer first′
-      → l′ ≡ leftBy l 1 refining answer → Turned h rows sorts ids questions l first second l′ first′ second
-  turn-neither {first′} a b p n = turned 1 (rw (lent-neither l ids first second a b) at p) held (into-first-too l ids first second first′ a b) n
-
--- ---- `ask`
+drop-behind : (n : ℕ) (a b : List ℕ) → length a ≡ n → drop n (a ++ b) ≡ b
+drop-behind zero [] b h = refl
+drop-behind zero (x ∷ a) b h = absurd (omega arith)
+drop-behind (suc n) [] b h = absurd (omega arith)
+drop-behind (suc n) (x ∷ a) b h = drop-behind n a b (omega arith)
 
 -- before the question at a place: what is to come from here is what was to come from the start, with what was gathered
-pub record Going (h : Header) (rows sorts ids words first₀ second₀ : List ℕ) (l₀ : Left) (first second : List ℕ) (l : Left) (at count : ℕ) : Type 0 where
-  pub here : FrameLength words at count
-  pub first-long : length first ≡ length first₀
-  pub second-long : length second ≡ length second₀
-  pub held : Held l (length first) (length second)
-  pub gathered : Gathered
-  pub told : l .refined ≡ gathered .refined
-  pub rest : (keys pending : List ℕ) (last : Subset) (g : Gathered)
-      → Run (stores h rows keys sorts pending) (oneOf (length first₀) (length second₀)) (subsetLeft l ids first second) (questionsIn (drop at words)) last g
-      → Run (stores h rows keys sorts pending) (oneOf (length first₀) (length second₀)) (subsetLeft l₀ ids first₀ second₀) (questionsIn words) last (together gathered g)
+module _ (h : Header) (rows sorts ids words first₀ second₀ : List ℕ) (l₀ : RunAnswer) (first second : List ℕ) (l : RunAnswer) (at count : ℕ) where
+  pub record Going : Type 0 where
+    pub here : FrameLength words at count
+    pub first-long : length first ≡ length first₀
+    pub second-long : length second ≡ length second₀
+    pub alike : length second₀ ≡ length first₀
+    pub fits : l .count ≤ length first₀
+    pub early : l .taken ≤ at
+    pub gathered : Gathered
+    pub told : l .refined ≡ (l₀ .refined || gathered .refined)
+    pub taken : l .taken + length (questionsIn (drop at words)) ≡ l₀ .taken + length (questionsIn words)
+    pub rest : (keys pending : List ℕ) (last : Subset) (g : Gathered)
+        → Run (stores h rows keys sorts pending) (eqb (length first₀)) (subsetLeft l ids first second) (questionsIn (drop at words)) last g
+        → Run (stores h rows keys sorts pending) (eqb (length first₀)) (subsetLeft l₀ ids first₀ second₀) (questionsIn words) last (together gathered g)
+    pub leaves : entriesSound (entriesOf (h .entries) sorts) (h .rows) ≡ true
+        → behind gathered (askedAll h rows sorts (length first₀) (subsetLeft l ids first second) (questionsIn (drop at words)))
+        ≡ askedAll h rows sorts (length first₀) (subsetLeft l₀ ids first₀ second₀) (questionsIn words)
 
-module _ {h : Header} {rows sorts ids words first₀ second₀ : List ℕ} {l₀ : Left} where
-  pub going-begin : {count : ℕ} → FrameLength words 0 count → l₀ .place ≡ 0 → l₀ .refined ≡ false → Going h rows sorts ids words first₀ second₀ l₀ first₀ second₀ l₀ 0 count
-  going-begin here e q =
+module _ {h : Header} {rows sorts ids words first₀ second₀ : List ℕ} {l₀ : RunAnswer} where
+  pub going-begin : {count : ℕ} → FrameLength words 0 count → l₀ .count ≡ 0 → l₀ .taken ≡ 0 → length second₀ ≡ length first₀
+      → Going h rows sorts ids words first₀ second₀ l₀ first₀ second₀ l₀ 0 count
+  going-begin here none fresh alike =
       record {
         here = here;
         first-long = refl;
         second-long = refl;
-        held = record { in-first = λ z. absurd (omega arith); in-second = λ z. absurd (omega arith) };
+        alike = alike;
+        fits = omega arith;
+        early = omega arith;
         gathered = nothing;
-        told = q;
+        told = sym (or-false (l₀ .refined));
+        taken = refl;
         rest = λ keys pending last g run. run;
+        leaves = λ sound. refl;
       }
 
-  module _ {first second : List ℕ} {l : Left} {at count : ℕ} (v : Going h rows sorts ids words first₀ second₀ l₀ first second l at count) where
+  module _ {first second : List ℕ} {l : RunAnswer} {at count : ℕ} (v : Going h rows sorts ids words first₀ second₀ l₀ first second l at count) where
     -- one question is put
-    pub going-again : {first′ second′ : List ℕ} {l′ : Left} {more : ℕ} → (count ≡ 0 → ⊥)
-        → Turned h rows sorts ids (questionOf (getD words at 0) (take (at + count - (at + 2)) (drop (at + 2) words))) l first second l′ first′ second′
+    pub going-again : {first′ second′ : List ℕ} {l′ : RunAnswer} {more : ℕ} → (count ≡ 0 → ⊥)
+        → TurnedOnce h rows sorts ids (questionOf (getD words at 0) (take (at + count - (at + 2)) (drop (at + 2) words))) l first second l′ first′ second′
         → length first′ ≡ length first → length second′ ≡ length second → FrameLength words (at + count) more
         → Going h rows sorts ids words first₀ second₀ l₀ first′ second′ l′ (at + count) more
-    going-again left turn a b here =
+    going-again {first′} {second′} {l′} left turn a b here =
         let cells : at + count - (at + 2) ≡ count - 2 = omega arith in
-        let t = rw cells at turn in
+        let q : List Question = questionOf (getD words at 0) (take (count - 2) (drop (at + 2) words)) in
+        let qs : List Question = questionsIn (drop (at + count) words) in
+        let t : TurnedOnce h rows sorts ids q l first second l′ first′ second′ = rw cells at turn in
+        let g : Gathered = t .turned .gathered in
+        let frame : questionsIn (drop at words) ≡ q ++ qs = framed-next questionOf (v .here) left in
         record {
           here = here;
           first-long = a ∙ v .first-long;
           second-long = b ∙ v .second-long;
-          held = rw (a, b) (t .held);
-          gathered = together (v .gathered) (t .gathered);
-          told = t .told ∙ ap (λ (r : Bool). r || t .gathered .refined) (v .told);
-          rest = λ keys pending last g run.
-              rw (together-assoc (v .gathered) (t .gathered) g)
-              (v .rest keys pending last (together (t .gathered) g) (rw (framed-next questionOf (v .here) left) (run-then (rw (v .first-long, v .second-long) at (t .run keys pending)) run)));
+          alike = v .alike;
+          fits = rw (v .first-long) at (t .turned .fits);
+          early = omega (arith, t .few, v .early, left);
+          gathered = together (v .gathered) g;
+          told = t .turned .told ∙ ap (λ (r : Bool). r || g .refined) (v .told) ∙ or-assoc (l₀ .refined) (v .gathered .refined) (g .refined);
+          taken =
+              let sum : length (questionsIn (drop at words)) ≡ length q + length qs = ap length frame ∙ length-append q qs in
+              let both = t .turned .taken in
+              omega (arith, sum, both, v .taken);
+          rest = λ keys pending last k run.
+              rw (together-assoc (v .gathered) g k)
+              (v .rest keys pending last (together g k) (rw frame (run-then (rw (v .first-long) at (t .turned .run keys pending)) run)));
+          leaves = λ sound.
+              let all : Subset → List Question → Outcome = askedAll h rows sorts (length first₀) in
+              let one : outcome (subsetLeft l′ ids first′ second′) g ≡ all (subsetLeft l ids first second) q = rw (v .first-long) at (t .turned .leaves sound) in
+              let two : all (subsetLeft l ids first second) (q ++ qs) ≡ behind g (all (subsetLeft l′ ids first′ second′) qs) =
+              asked-then h rows sorts (length first₀) (subsetLeft l ids first second) q qs ∙ ap (λ (o : Outcome). behind (o .gathered) (all (o .ids) qs)) (sym one) in
+              let last : Outcome = all (subsetLeft l′ ids first′ second′) qs in
+              ap (λ (k : Gathered). outcome (last .ids) k) (together-assoc (v .gathered) g (last .gathered)) ∙ ap (behind (v .gathered)) (sym two)
+              ∙ ap (λ (some : List Question). behind (v .gathered) (all (subsetLeft l ids first second) some)) (sym frame) ∙ v .leaves sound;
         }
 
     -- no question is left
-    pub going-end : count ≡ 0 → RunMade h rows sorts (length first₀) (length second₀) (subsetLeft l₀ ids first₀ second₀) (questionsIn words) (subsetLeft l ids first second) (l .refined)
+    pub going-end : count ≡ 0 → Turned h rows sorts ids (questionsIn words) l₀ first₀ second₀ l first second
+    unfolding askedAll
     going-end none =
+        let frame : questionsIn (drop at words) ≡ [] = framed-end questionOf (v .here) none in
         record {
           gathered = v .gathered;
-          run = all;
+          run = λ keys pending.
+              rw (together-nothing (v .gathered)) at
+              (v .rest keys pending (subsetLeft l ids first second) nothing (rw frame (end (subsetLeft l ids first second))));
+          leaves = λ sound. rw (frame, together-nothing (v .gathered)) at (v .leaves sound);
           told = v .told;
-          ids-left = λ o generation calls keys pending history refined.
-              term-three o generation calls _ history .ids-left (oneOf (length first₀) (length second₀)) (subsetLeft l₀ ids first₀ second₀) (questionsIn words) (subsetLeft l ids first second) (v .gathered) (all keys pending) (sym (v .told) ∙ refined);
+          taken = let empty : length (questionsIn (drop at words)) ≡ 0 = ap length frame in omega (arith, empty, v .taken);
+          fits = v .fits;
         }
-      where
-        all : (keys pending : List ℕ) → Run (stores h rows keys sorts pending) (oneOf (length first₀) (length second₀)) (subsetLeft l₀ ids first₀ second₀) (questionsIn words) (subsetLeft l ids first second) (v .gathered)
-        all keys pending =
-            rw (together-nothing (v .gathered)) at
-            (v .rest keys pending (subsetLeft l ids first second) nothing (rw (framed-end questionOf (v .here) none) (end (subsetLeft l ids first second))))
 
--- from the starting subset
-pub made-from : {h : Header} {rows sorts : List ℕ} {questions : List Question} {last : Subset} {refined : Bool} (head : SubsetHead) (ids first second : List ℕ)
-    → RunMade h rows sorts (length first) (length second) (subsetLeft (record { dense = head .dense; start = head .start; end = head .end; count = 0; place = 0; refined = false }) ids first second) questions last refined
-    → RunMade h rows sorts (length first) (length second) (subsetOf head ids) questions last refined
-unfolding subsetLeft subsetOf
-made-from head ids first second m = m
+-- ---- `ask`: the first ids of both lists
+
+module _ (n : ℕ) (first second : List ℕ) (e : n ≡ min (length first) (length second)) where
+  pub room-first : n ≡ length (take n first)
+  room-first = lent-count n first (omega arith)
+
+  pub room-second : n ≡ length (take n second)
+  room-second = lent-count n second (omega arith)
+
+  pub room-alike : length (take n second) ≡ length (take n first)
+  room-alike = sym room-second ∙ room-first
+
+-- ids that lie in a first part are those of the whole
+idsAt-part : (place count : ℕ) (ids first second more more′ : List ℕ) → count ≤ length first → count ≤ length second
+    → idsAt place count ids (first ++ more) (second ++ more′) ≡ idsAt place count ids first second
+unfolding idsAt
+idsAt-part place count ids first second more more′ a b = rw (take-inside count first more a, take-inside count second more′ b)
+
+part-left : (l : RunAnswer) (ids first second more more′ : List ℕ) → l .count ≤ length first → l .count ≤ length second
+    → subsetLeft l ids (first ++ more) (second ++ more′) ≡ subsetLeft l ids first second
+unfolding subsetLeft
+part-left l ids first second more more′ a b = rw (idsAt-part (l .place) (l .count) ids first second more more′ a b)
+
+abbrev before : SubsetHead → RunAnswer
+before head = record { dense = head .dense; start = head .start; end = head .end; count = 0; place = 0; refined = false; taken = 0 }
+
+starting : (head : SubsetHead) (ids first second : List ℕ) → subsetLeft (before head) ids first second ≡ subsetOf head ids
+unfolding subsetLeft subsetOf idsAt
+starting head ids first second = refl
+
+module _ {h : Header} {rows sorts ids : List ℕ} {questions : List Question} (head : SubsetHead) (n : ℕ) (first second : List ℕ) {r : RunAnswer} {part part′ : List ℕ} where
+  pub made-within : n ≡ min (length first) (length second) → Turned h rows sorts ids questions (before head) (take n first) (take n second) r part part′
+      → length part ≡ length (take n first) → length part′ ≡ length (take n second)
+      → RunMade h rows sorts (subsetOf head ids) ids questions first second r (part ++ drop n first) (part′ ++ drop n second)
+  made-within e t a b =
+      let room : length (take n first) ≡ shorter first second = sym (room-first n first second e) ∙ e in
+      let held : r .count ≤ length (take n first) = t .fits in
+      let left : subsetLeft r ids (part ++ drop n first) (part′ ++ drop n second) ≡ subsetLeft r ids part part′ =
+      part-left r ids part part′ (drop n first) (drop n second) (omega arith) (omega (arith, room-alike n first second e)) in
+      let start = starting head ids (take n first) (take n second) in
+      let run : (keys pending : List ℕ) → Run (stores h rows keys sorts pending) (eqb (shorter first second)) (subsetOf head ids) questions (subsetLeft r ids (part ++ drop n first) (part′ ++ drop n second)) (t .gathered) =
+      λ keys pending. rw left (rw (room, start) at (t .run keys pending)) in
+      record {
+        taken = t .taken ∙ (let z : 0 + length questions ≡ length questions = omega arith in z);
+        gathered = t .gathered;
+        told = t .told;
+        leaves = λ sound. rw left (rw (room, start) at (t .leaves sound));
+        run = run;
+        ids-left = λ o generation calls keys pending history refined.
+            term-three o generation calls _ history .ids-left (eqb (shorter first second)) (subsetOf head ids) questions _ (t .gathered) (run keys pending) (sym (t .told) ∙ refined);
+        past = rw (← e) (drop-behind n part (drop n first) (a ∙ sym (room-first n first second e)), drop-behind n part′ (drop n second) (b ∙ sym (room-second n first second e)));
+      }

@@ -1,13 +1,14 @@
--- What `ask` promises: a list of questions, put one after another on the ids that the last accepted one left, is a run, so that
+-- What `ask` promises: a list of questions, put one after another on the ids that the last accepted one left. It is a run, so that
 -- the claim of the order's term 3 holds of the ids left. Assumes nothing.
-use Prim.Native.Nat.{ℕ}
+use Prim.Native.Nat.{ℕ, min}
 use mathlib.Core.Path.{_≡_}
-use mathlib.Core.Bool.{Bool, true, cond, _||_}
+use mathlib.Core.Bool.{true}
 use mathlib.Core.List.{List}
-use lib.ListN.{take}
+use lib.ListN.{length, drop}
 use lib.Dec.{eqb}
 use Rattle.lists.specs.Lists.{keep, rising}
-use Rattle.offsets.specs.Subsets.{Subset, range, list, members}
+use Rattle.offsets.specs.Subsets.{Subset, members}
+use Rattle.sort_entries.specs.Entries.{entriesOf, entriesSound}
 use Rattle.plain.specs.Staged.{Opening}
 use Rattle.plain.specs.Calls.{LentCall}
 use Rattle.table.specs.declared.Header.{Header}
@@ -15,28 +16,34 @@ use Rattle.table.specs.Promises.{stores}
 use Rattle.history.specs.Histories.{History}
 use Rattle.history.specs.Runs.{Question, Gathered, Run}
 use Rattle.history.specs.Claim.{wanted}
-use Rattle.runs.specs.declared.Left.{Left}
+use Rattle.question_words.specs.declared.RunAnswer.{RunAnswer}
+use Rattle.question_words.specs.Leaving.{subsetLeft, outcome, askedAll}
 
--- the ids left: a range, or a list: the starting one, or the first ids of one of the two lent lists
-unfoldable pub subsetLeft : Left → List ℕ → List ℕ → List ℕ → Subset
-subsetLeft l ids first second =
-    cond (l .dense)
-    (range (l .start) (l .end))
-    (list (cond (eqb (l .place) 1) (take (l .count) first) (cond (eqb (l .place) 2) (take (l .count) second) ids)))
+-- both lent lists are used up to the length of the shorter: the ids that each question has room for
+abbrev pub shorter : List ℕ → List ℕ → ℕ
+shorter first second = min (length first) (length second)
 
--- each question has one of the two lent lists as its output
-unfoldable pub oneOf : ℕ → ℕ → ℕ → Bool
-oneOf first second n = eqb n first || eqb n second
-
--- on a header, its row store and sort entries, whatever the other stores hold, with two lists of these lengths
-module _ (h : Header) (rows sorts : List ℕ) (first second : ℕ) (start : Subset) (questions : List Question) (end : Subset) (refined : Bool) where
+-- on a header, its row store and sort entries, from a starting subset, which is a range or these ids
+module _ (h : Header) (rows sorts : List ℕ) (start : Subset) (ids : List ℕ) (questions : List Question) (first second : List ℕ) (answer : RunAnswer) (first′ second′ : List ℕ) where
   pub record RunMade : Type 0 where
-    -- what was accepted
+    -- a caller who knows how many questions the list was to have sees whether it was taken whole
+    pub taken : answer .taken ≡ length questions
+    -- what was accepted, and whether some of it refined
     pub gathered : Gathered
-    pub run : (keys pending : List ℕ) → Run (stores h rows keys sorts pending) (oneOf first second) start questions end gathered
-    pub told : refined ≡ gathered .refined
+    pub told : answer .refined ≡ gathered .refined
+    -- both and the ids left are what the questions leave; a range step's answer is promised of sound sort entries alone, as
+    -- `fast_subset`'s is
+    pub leaves : entriesSound (entriesOf (h .entries) sorts) (h .rows) ≡ true
+        → outcome (subsetLeft answer ids first′ second′) gathered ≡ askedAll h rows sorts (shorter first second) start questions
+    -- and, whatever the sort entries and the other stores hold, what some run leaves
+    pub run : (keys pending : List ℕ)
+        → Run (stores h rows keys sorts pending) (eqb (shorter first second)) start questions (subsetLeft answer ids first′ second′) gathered
     -- "If some accepted step refines, the ids left .. are exactly the live rows of the starting subset that ..", "rising,
     -- each once"
     pub ids-left : (o : Opening) (generation : ℕ) (calls : List LentCall) (keys pending : List ℕ)
-        → History o generation calls (stores h rows keys sorts pending) → refined ≡ true
-        → (members end ≡ keep (wanted (stores h rows keys sorts pending) gathered) (members start)) × (rising (members end) ≡ true)
+        → History o generation calls (stores h rows keys sorts pending) → answer .refined ≡ true
+        → (members (subsetLeft answer ids first′ second′) ≡ keep (wanted (stores h rows keys sorts pending) gathered) (members start))
+        × (rising (members (subsetLeft answer ids first′ second′)) ≡ true)
+    -- past that length nothing is written; which list the ids left lie in, and what else stands in both, is the program's choice
+    pub past : (drop (shorter first second) first′ ≡ drop (shorter first second) first)
+        × (drop (shorter first second) second′ ≡ drop (shorter first second) second)

@@ -1,3 +1,3 @@
 -- What follows from the definitions.
-pub mod Encoding
-pub mod Asking
+pub mod Turning
+pub mod Determined

@@ -1,4 +1,3 @@
-pub mod Encoding
 pub mod Asking
 pub mod inner
 pub mod Laws

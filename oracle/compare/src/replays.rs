@@ -264,7 +264,6 @@ enum Asked {
 /// What was left, and what was accepted on the way.
 struct Gathered {
     left: Subset,
-    place: usize,
     refined: bool,
     subsets: Vec<Subset>,
     conditions: Vec<Condition>,
@@ -291,7 +290,8 @@ impl Made<'_> {
             lengths[short] = rng.place(lengths[short] + 1);
         }
 
-        let expected = self.judge(&start, &questions, lengths, seen);
+        let room = lengths[0].min(lengths[1]);
+        let expected = self.judge(&start, &questions, room, seen);
         let mut words = Vec::new();
         for asked in &questions {
             match asked {
@@ -343,6 +343,17 @@ impl Made<'_> {
                 expected.left, expected.refined
             ));
         }
+        if left.taken as usize != questions.len() {
+            return Err(format!("{questions:?}: {} taken", left.taken));
+        }
+        if [&first, &second]
+            .iter()
+            .any(|list| list[room..].iter().any(|&id| id != UNWRITTEN))
+        {
+            return Err(format!(
+                "{questions:?} with lists of {lengths:?}: written past {room}"
+            ));
+        }
         if left.refined {
             seen.refined += 1;
             let wanted = self.wanted(&start, &expected);
@@ -353,24 +364,21 @@ impl Made<'_> {
         Ok(())
     }
 
-    /// The plain table, question by question, each with the output that the library writes to.
+    /// The plain table, question by question, each with an output as long as the shorter list.
     fn judge(
         &self,
         start: &Subset,
         questions: &[Asked],
-        lengths: [usize; 2],
+        output: usize,
         seen: &mut Seen,
     ) -> Gathered {
         let mut g = Gathered {
             left: start.clone(),
-            place: 0,
             refined: false,
             subsets: Vec::new(),
             conditions: Vec::new(),
         };
         for asked in questions {
-            let target = if g.place == 1 { 2 } else { 1 };
-            let output = lengths[target - 1];
             let intersect = |with: &Subset| Question::Intersect {
                 first: g.left.clone(),
                 second: with.clone(),
@@ -409,10 +417,6 @@ impl Made<'_> {
             };
             match self.plain.ask(self.lent, &question) {
                 Answer::Subset(left) => {
-                    g.place = match left {
-                        Subset::List(_) => target,
-                        Subset::Range(..) => 0,
-                    };
                     g.left = left;
                     match asked {
                         Asked::Refine(condition) => {

@@ -163,14 +163,31 @@ fn same(session: &Session, before: &Image, plain: &Plain) -> Result<(), String> 
     Ok(())
 }
 
+/// How many questions the words tell, as include/mouldgrey.h says.
+fn taken(mut words: &[u32]) -> u32 {
+    let mut questions = 0;
+    while let [kind, count, rest @ ..] = words {
+        let Some((cells, behind)) = rest.split_at_checked(*count as usize) else {
+            break;
+        };
+        questions += match (kind, cells.len()) {
+            (0 | 4, 3) | (2, _) | (3, 2) => 1,
+            (1, length) if length % 3 == 0 && length <= 48 => 1,
+            _ => 0,
+        };
+        words = behind;
+    }
+    questions
+}
+
 fn ask(session: &mut Session, rng: &mut Rng, image: &Image) -> Result<(), String> {
     const NAME: &str = "mouldgrey_ask";
     let conditions = 3 * rng.pick(&[0, 1, 2, 3, 16, 17]);
     let list = words(rng, image, 5, &[3, conditions, 4, 2, 3]);
     let subset = subset(rng, image);
-    let count = if rng.percent(5) { rng.place(9) } else { 6 };
+    let count = if rng.percent(5) { rng.place(9) } else { 7 };
     let expected = match (image.header.len(), count) {
-        (HEADER_WORDS, 6) => 0,
+        (HEADER_WORDS, 7) => 0,
         (HEADER_WORDS, _) => 2,
         _ => 1,
     };
@@ -217,16 +234,22 @@ fn ask(session: &mut Session, rng: &mut Rng, image: &Image) -> Result<(), String
     }
     if number == 0 {
         let left = session.left(Slot::Words).unwrap_or(&[]);
+        let room = lengths[0].min(lengths[1]);
         let fits = match left {
-            [1, _, _, 0, 0, 0 | 1] => true,
-            [0, 0, 0, count, 1, 0 | 1] => *count as usize <= lengths[0],
-            [0, 0, 0, count, 2, 0 | 1] => *count as usize <= lengths[1],
+            [1, _, _, 0, 0, 0 | 1, _] => true,
+            [0, 0, 0, count, 1 | 2, 0 | 1, _] => *count as usize <= room,
             // Nothing was accepted: the starting list.
-            [0, _, _, 0, 0, 0] => !dense,
+            [0, _, _, 0, 0, 0, _] => !dense,
             _ => false,
         };
-        if !fits {
+        if !fits || left.last() != Some(&taken(&list)) {
             return Err(format!("{NAME} leaves {left:?}"));
+        }
+        for (slot, length) in [(Slot::Output, lengths[0]), (Slot::OtherIds, lengths[1])] {
+            let is = session.left(slot).unwrap_or(&[]);
+            if is.len() != length || is[room..].iter().any(|&id| id != 7) {
+                return Err(format!("{NAME} writes past {room} to {slot:?}"));
+            }
         }
     }
     session.close(NAME, number)

@@ -17,8 +17,8 @@ header-of-requires c κs = search needs
 ask-requires : tie.Need-ask-requires
 ask-requires c κs = search needs
 
-write-left-requires : tie.Need-write-left-requires
-write-left-requires c κs = search needs
+write-run-requires : tie.Need-write-run-requires
+write-run-requires c κs = search needs
 
 same-length : tie.Need-same-length
 same-length c = search needs
@@ -36,7 +36,7 @@ returns-3 c =
     let h = q .before .before .before in
     let t = h .before in (
       rw (sym (h .header-of .ensures))
-          (asked-done (t .before .if1 .left) (t .if2 .left) (q .ask .ensures) (w .write-left .ensures)),
+          (asked-done (t .before .if1 .left) (t .if2 .left) (q .ask .ensures) (w .write-run .ensures)),
       λ n. absurd (n (t .before .if1 .left, t .if2 .left)),
     )
 
@@ -48,7 +48,7 @@ mouldgrey-ask-spec =
     returns-2
     header-of-requires
     ask-requires
-    write-left-requires
+    write-run-requires
     same-length
     same-length-2
     same-length-3

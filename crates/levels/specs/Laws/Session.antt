@@ -10,7 +10,7 @@ use lib.ListN.{take}
 use Rattle.plain.specs.Plain.{Plain}
 use Rattle.table.specs.Refusing.{outside}
 use Rattle.table.specs.Promises.{Stores}
-use Rattle.levels_said.specs.Said.{answered}
+use Rattle.levels_said.specs.Said.{lineTurn}
 use Rattle.levels_said.specs.Answers.{Held, no-table}
 use Rattle.levels_said.specs.Session.{programLengths, linesIn, session, printed}
 use Rattle.levels_said.specs.Laws.Session.{lines-ended, lines-last}
@@ -27,10 +27,10 @@ pub data Turns : List ℕ → Stores → List ℕ → List ℕ → Type 0 where
 
 module _ {before rest : List ℕ} {s s′ : Stores} {text : List ℕ} (d : LineDone before s rest s′ text) (t : Option Plain) (h : Held t s) where
   -- what its turn prints, and the table that it leaves
-  line-printed : take (d .replied .used) text ≡ answered programLengths t (d .line) .text
+  line-printed : take (d .replied .used) text ≡ lineTurn programLengths t (d .line) .text
   line-printed = rw (d .stores-lent) at (d .replied .answering .answers t h .printed)
 
-  line-held : Held (answered programLengths t (d .line) .table) s′
+  line-held : Held (lineTurn programLengths t (d .line) .table) s′
   line-held = rw (d .stores-lent) at (d .replied .answering .answers t h .held)
 
 turns-session : {before : List ℕ} {s : Stores} {input output : List ℕ} → Turns before s input output → (t : Option Plain) → Held t s
@@ -43,11 +43,11 @@ turns-session (line {before} {rest} {input = input} d ended turns) t h =
     ∙ ap (λ (bytes : List ℕ). bytes ++ input) (rw ended at (d .balance))
     ∙ append-assoc (d .line) (10 ∷ rest) input in
     rw (all, lines-ended (d .line) (rest ++ input) (d .no-newline), line-printed d t h)
-    (ap (λ (output : List ℕ). answered programLengths t (d .line) .text ++ output) (turns-session turns (answered programLengths t (d .line) .table) (line-held d t h)))
+    (ap (λ (output : List ℕ). lineTurn programLengths t (d .line) .text ++ output) (turns-session turns (lineTurn programLengths t (d .line) .table) (line-held d t h)))
 turns-session (last {before} d ended) t h =
     let all : before ++ d .brought ≡ d .line = rw (d .last ended .0, append-nil (d .line)) at (rw ended at (d .balance)) in
     rw (all, lines-last (d .line) (d .no-newline) (d .last ended .1), line-printed d t h)
-    (sym (append-nil (answered programLengths t (d .line) .text)))
+    (sym (append-nil (lineTurn programLengths t (d .line) .text)))
 
 -- from no table and no byte at hand on
 pub run-printed : {s : Stores} {input output : List ℕ} → outside (s .header) ≡ true → Turns [] s input output → output ≡ printed input

@@ -10,7 +10,7 @@ use Rattle.lists.specs.Lists.{has}
 use Rattle.table.specs.Promises.{Stores}
 use Rattle.levels_said.specs.Answers.{lent, Answering}
 use Rattle.levels_said.specs.Session.{programLengths}
-use Rattle.levels_said.specs.Laws.Kept.{answered-kept}
+use Rattle.levels_said.specs.Laws.Kept.{line-kept}
 use Rattle.levels_lines.specs.declared.Input.{Input}
 use Rattle.levels_lines.specs.declared.Line.{Line}
 use Rattle.levels_lines.specs.inner.Taking.{unread, Took}
@@ -71,7 +71,7 @@ module _ {before line chunk : List ℕ} {r : Line} {s : Stores} (k : Took before
             used = m .used;
             answering = record {
               inside = m .answering .inside;
-              answers = λ p h. rw (rw wide at (t .kept), answered-kept (lent s) p (t .bytes)) at (m .answering .answers p h);
+              answers = λ p h. rw (rw wide at (t .kept), line-kept (lent s) p (t .bytes)) at (m .answering .answers p h);
             };
           };
         };

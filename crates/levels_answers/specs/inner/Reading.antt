@@ -18,38 +18,38 @@ use Rattle.table.specs.Laws.Refusals.{outside-inside}
 use Rattle.table.specs.Laws.Shown.{represents-inside, represents-long, rows-counted, rows-in}
 use Rattle.levels_text.specs.declared.Parsed.{Parsed}
 use Rattle.levels_text.specs.declared.Parsed.the-variants.{Wrong, Line}
-use Rattle.levels_text.specs.Lines.{letter, numbers, accepted}
-use Rattle.levels_text.specs.inner.Reading.{ParsedIs, parsed-accepted}
+use Rattle.levels_text.specs.Lines.{letter, numbers, ofForms}
+use Rattle.levels_text.specs.inner.Reading.{ParsedIs, parsed-forms}
 use Rattle.levels_said.specs.declared.Said.{Said}
 use Rattle.levels_said.specs.declared.Said.the-variants.{Refused, Listing}
-use Rattle.levels_said.specs.Said.{Turn, turn, answered}
+use Rattle.levels_said.specs.Said.{Turn, turn, lineTurn}
 use Rattle.levels_said.specs.Answers.{Held, no-table, table, lent, Answering}
 use Rattle.levels_said.specs.inner.Saying.{Listable, Telling, Told, Serving}
 use Rattle.levels_said.specs.Laws.Turns.{told-refused}
 
 -- a line that is answered, up to what it says
 pub record Responding (line : List ℕ) (s s′ : Stores) (said : Said) : Type 0 where
-  pub answers : (t : Option Plain) → Held t s → Told (answered (lent s) t line) s′ said
+  pub answers : (t : Option Plain) → Held t s → Told (lineTurn (lent s) t line) s′ said
 
 module _ {line lent′ : List ℕ} {r : Parsed} {numbers′ : List ℕ} (p : ParsedIs line lent′ r numbers′) (room : 59 ≤ length lent′) where
   -- a line not of the forms
-  not-accepted : r ≡ Wrong → accepted line ≡ false
-  not-accepted e =
-      elim (split (accepted line)) [
+  not-forms : r ≡ Wrong → ofForms line ≡ false
+  not-forms e =
+      elim (split (ofForms line)) [
         | inl y ↦ absurd (let w = p .right room y .0 in let z : _≡_ {A = ℕ} 0 1 = cc in omega arith)
         | inr n ↦ n
       ]
 
   pub wrong-responds : r ≡ Wrong → (s : Stores) → Responding line s s (Refused 11)
-  unfolding answered
-  wrong-responds e s = record { answers = λ t held. rw (not-accepted e) (told-refused 11 held (omega arith)) }
+  unfolding lineTurn
+  wrong-responds e s = record { answers = λ t held. rw (not-forms e) (told-refused 11 held (omega arith)) }
 
   -- one of them
   module _ {first count : ℕ} (e : r ≡ Line first count) where
-    line-read : (l : Lengths) (t : Option Plain) → turn l t first (take count numbers′) ≡ answered l t line
-    unfolding answered
+    line-read : (l : Lengths) (t : Option Plain) → turn l t first (take count numbers′) ≡ lineTurn l t line
+    unfolding lineTurn
     line-read l t =
-        let yes : accepted line ≡ true = parsed-accepted line lent′ r numbers′ p first count e in
+        let yes : ofForms line ≡ true = parsed-forms line lent′ r numbers′ p first count e in
         let right = p .right room yes in
         let same : Line first count ≡ Line (letter line) (length (numbers line)) = sym e ∙ right .0 in
         let letters : first ≡ letter line = cc in

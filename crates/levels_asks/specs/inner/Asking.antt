@@ -3,6 +3,7 @@ use Prim.Native.Nat.{ℕ}
 use mathlib.Core.Path.{_≡_, refl, sym, subst}
 use mathlib.Core.Logic.{_⊎_, inl, inr}
 use mathlib.Core.List.{List}
+use Rattle.condition_words.specs.Conditions.{conditionIn}
 use Rattle.table.specs.declared.Header.{Header}
 use Rattle.table.specs.declared.RangeAnswer.{RangeAnswer}
 use Rattle.table.specs.declared.RangeAnswer.the-variants.{Refused as RangeRefused, None, Range as Ranged}
@@ -13,7 +14,6 @@ use Rattle.table.specs.Numbers.{rangeSays, versionSays}
 use Rattle.table.specs.Promises.{stores, RangeRead, VersionRead}
 use Rattle.levels_said.specs.declared.Said.{Said}
 use Rattle.levels_said.specs.declared.Said.the-variants.{Refused, NoRange, Range, Version, Listing}
-use Rattle.levels_said.specs.Said.{conditionIn}
 use Rattle.levels_said.specs.inner.Saying.{saidOf, saysRange, saysVersion, saysListing, Serving}
 use Rattle.levels_said.specs.Laws.Letters.{turn-range, turn-version, turn-list}
 use Rattle.levels_said.specs.Laws.Turns.{does-told}
@@ -49,7 +49,7 @@ module _ (answer : VersionAnswer) where
 
 -- ---- the promises serve
 
-pub range-served : {answer : RangeAnswer} {h : Header} {sorts : List ℕ} {said : Said} (ns : List ℕ) → said ≡ saidOf saysRange (rangeSays answer) → RangeRead h sorts (conditionIn ns) answer
+pub range-served : {answer : RangeAnswer} {h : Header} {sorts : List ℕ} {said : Said} (ns : List ℕ) → said ≡ saidOf saysRange (rangeSays answer) → RangeRead h sorts (conditionIn ns 0) answer
     → OnSorts 70 ns h sorts said
 range-served {h = h} {sorts = sorts} ns e m =
     record {

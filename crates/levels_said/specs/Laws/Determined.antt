@@ -7,7 +7,7 @@ use mathlib.Core.Option.{Option}
 use lib.ListN.{take}
 use Rattle.plain.specs.Plain.{Plain}
 use Rattle.table.specs.Promises.{Stores}
-use Rattle.levels_said.specs.Said.{Turn, answered}
+use Rattle.levels_said.specs.Said.{Turn, lineTurn}
 use Rattle.levels_said.specs.Answers.{Held, lent, Answering}
 
 pub record SameTurn (turn : Turn) (s₁ s₂ : Stores) (text₁ text₂ : List ℕ) (used₁ used₂ : ℕ) : Type 0 where
@@ -16,7 +16,7 @@ pub record SameTurn (turn : Turn) (s₁ s₂ : Stores) (text₁ text₂ : List �
   pub second : Held (turn .table) s₂
 
 pub answering-determined : {line : List ℕ} {s s₁ s₂ : Stores} {text₁ text₂ : List ℕ} {used₁ used₂ : ℕ} (t : Option Plain) → Held t s → Answering line s s₁ text₁ used₁
-    → Answering line s s₂ text₂ used₂ → SameTurn (answered (lent s) t line) s₁ s₂ text₁ text₂ used₁ used₂
+    → Answering line s s₂ text₂ used₂ → SameTurn (lineTurn (lent s) t line) s₁ s₂ text₁ text₂ used₁ used₂
 answering-determined t h a b =
     let x = a .answers t h in
     let y = b .answers t h in

@@ -8,16 +8,17 @@ use Rattle.refusals.specs.Refusals.{first, reply}
 use Rattle.cells.specs.Cells.{isDead}
 use Rattle.merge_rules.specs.Rules.{ruledColumn, signed, signedLess, smaller, larger, taken, madeCell, madeFrom, changesFrom, ruled}
 use Rattle.constraints.specs.Constraints.{known}
-use Rattle.sort_entries.specs.Entries.{last, push, pushAll, rebuilt, firstRow, fastRange}
+use Rattle.sort_entries.specs.Entries.{entriesOf, entryWords, last, push, pushAll, rebuilt, firstRow, fastRange}
 use Rattle.plain.specs.Staged.{openable, wordsOf, wordsAll, inserts, hasKey, skipped, due}
 use Rattle.plain.specs.Refusing.{Lengths, storesShort, wordsShort, wrongWidth, noSuchRow, overfull, openRefusal, stageLadder, mergeLadder}
 use Rattle.plain.specs.Plain.{Plain, liveFrom, liveRows, lookup, dead, opened, stage, liveWithKey, killIf, withoutKey, withoutRow, removed, below, stop, raised, append, put, insertion, insertAll, applied, compacted, unstaged, compactsAfter, merged}
 use Rattle.plain.specs.Calls.{pendingShort, refusal, done, after}
 use Rattle.table.specs.Stores.{entries}
-use Rattle.levels_text.specs.Lines.{fields, valueFrom, isDecimal, isLine, letter, numbers, isBare, isForm, accepted}
+use Rattle.table.specs.Promises.{fastSubset}
+use Rattle.levels_text.specs.Lines.{fields, valueFrom, isDecimal, isLine, letter, numbers, isBare, isForm, ofForms}
 use Rattle.levels_text.specs.Written.{digitsIn, decimal, field, textLine}
 use Rattle.levels_said.specs.Session.{begun, linesIn, session, printed}
-use Rattle.levels_said.specs.Said.{replied, openNumber, opens, calls, asks, mergeText, fastOf, rangeText, versionText, listText, served, onTable, turn, answered}
+use Rattle.levels_said.specs.Said.{replied, openNumber, opens, calls, asks, mergeText, rangeText, versionText, listText, served, onTable, turn, lineTurn}
 
 -- a line each: `O,4,2,3,1,100,0` `I,7,1,160,10` `I,7,2,148,10` `M` `I,7,1,163,12` `R,7,2` `M` `F,1,3,10` `V` `L`
 unfoldable pub input : List ℕ
@@ -46,5 +47,5 @@ output =
     ∷ []
 
 pub example : printed input ≡ output
-unfolding printed session linesIn begun input output flat every same count keep countFrom firstOf first reply isDead ruledColumn signed signedLess smaller larger taken madeCell madeFrom changesFrom ruled known last push pushAll rebuilt any firstRow fastRange openable wordsOf wordsAll inserts hasKey skipped due storesShort wordsShort wrongWidth noSuchRow overfull openRefusal stageLadder mergeLadder liveFrom liveRows lookup dead opened stage liveWithKey killIf withoutKey withoutRow removed below stop raised append put insertion insertAll applied compacted unstaged compactsAfter merged pendingShort refusal done after entries fields valueFrom isDecimal isLine letter numbers isBare isForm accepted digitsIn decimal field textLine replied openNumber opens calls asks mergeText fastOf rangeText versionText listText served onTable turn answered
+unfolding printed session linesIn begun input output flat every same count keep countFrom firstOf first reply isDead ruledColumn signed signedLess smaller larger taken madeCell madeFrom changesFrom ruled known last push pushAll rebuilt any firstRow fastRange entriesOf entryWords openable wordsOf wordsAll inserts hasKey skipped due storesShort wordsShort wrongWidth noSuchRow overfull openRefusal stageLadder mergeLadder liveFrom liveRows lookup dead opened stage liveWithKey killIf withoutKey withoutRow removed below stop raised append put insertion insertAll applied compacted unstaged compactsAfter merged pendingShort refusal done after entries fields valueFrom isDecimal isLine letter numbers isBare isForm ofForms digitsIn decimal field textLine replied openNumber opens calls asks mergeText fastSubset rangeText versionText listText served onTable turn lineTurn
 example = refl

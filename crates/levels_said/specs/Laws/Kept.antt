@@ -13,16 +13,16 @@ use borrow.Author.Tests.{leb-true, leb-false}
 use Rattle.lists.specs.Laws.Keep.{split}
 use Rattle.plain.specs.Refusing.{Lengths}
 use Rattle.plain.specs.Plain.{Plain}
-use Rattle.levels_text.specs.Lines.{accepted}
+use Rattle.levels_text.specs.Lines.{ofForms}
 use Rattle.levels_text.specs.Laws.Lines.{too-long}
-use Rattle.levels_said.specs.Said.{answered}
+use Rattle.levels_said.specs.Said.{lineTurn}
 
-same-refused : (l : Lengths) (t : Option Plain) (a b : List ℕ) → accepted a ≡ false → accepted b ≡ false → answered l t a ≡ answered l t b
-unfolding answered
+same-refused : (l : Lengths) (t : Option Plain) (a b : List ℕ) → ofForms a ≡ false → ofForms b ≡ false → lineTurn l t a ≡ lineTurn l t b
+unfolding lineTurn
 same-refused l t a b e f = rw (e, f)
 
-pub answered-kept : (l : Lengths) (t : Option Plain) (line : List ℕ) → answered l t (take 121 line) ≡ answered l t line
-answered-kept l t line =
+pub line-kept : (l : Lengths) (t : Option Plain) (line : List ℕ) → lineTurn l t (take 121 line) ≡ lineTurn l t line
+line-kept l t line =
     elim (split (leb (length line) 121)) [
       | inl e ↦ rw (take-all 121 line (leb-true (length line) 121 e))
       | inr e ↦

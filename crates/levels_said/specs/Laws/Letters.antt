@@ -6,11 +6,15 @@ use mathlib.Core.List.{List, []}
 use mathlib.Core.Option.{Option}
 use lib.ListN.{drop, getD}
 use Rattle.constraints.specs.Constraints.{known}
+use Rattle.condition_words.specs.Conditions.{conditionIn}
+use Rattle.sort_entries.specs.Entries.{entryWords}
 use Rattle.plain.specs.Staged.{insert, removeKey, removeRow}
 use Rattle.plain.specs.Refusing.{Lengths}
 use Rattle.plain.specs.Plain.{Plain}
 use Rattle.plain.specs.Calls.{staging, merging, compacting, clearing}
-use Rattle.levels_said.specs.Said.{opens, calls, asks, mergeText, fastOf, rangeText, versionText, listText, openingIn, conditionIn, served, onTable, turn}
+use Rattle.table.specs.Stores.{entries, headerOf}
+use Rattle.table.specs.Promises.{fastSubset}
+use Rattle.levels_said.specs.Said.{opens, calls, asks, mergeText, rangeText, versionText, listText, openingIn, served, onTable, turn}
 
 module _ (l : Lengths) (t : Option Plain) {letter : ℕ} (ns : List ℕ) where
   pub turn-open : letter ≡ 79 → turn l t letter ns ≡ opens l t (openingIn ns) (getD ns 5 0)
@@ -41,7 +45,7 @@ module _ (l : Lengths) (t : Option Plain) {letter : ℕ} (ns : List ℕ) where
   unfolding turn served
   turn-compact e = rw e
 
-  pub turn-range : letter ≡ 70 → turn l t letter ns ≡ onTable t (λ p. asks p (cond (known (p .opening .columns) (conditionIn ns)) 0 6) (rangeText (fastOf p (conditionIn ns))))
+  pub turn-range : letter ≡ 70 → turn l t letter ns ≡ onTable t (λ p. asks p (cond (known (p .opening .columns) (conditionIn ns 0)) 0 6) (rangeText (fastSubset (headerOf p) (entryWords (entries p)) (conditionIn ns 0))))
   unfolding turn served
   turn-range e = rw e
 

@@ -21,7 +21,7 @@ use Rattle.table.specs.Laws.Keeps.{opening-done}
 use Rattle.levels_said.specs.declared.Said.{Said}
 use Rattle.levels_said.specs.declared.Said.the-variants.{Refused}
 use Rattle.levels_said.specs.declared.Served.{Served}
-use Rattle.levels_said.specs.Said.{turned, replied, openNumber, opens}
+use Rattle.levels_said.specs.Said.{printing, replied, openNumber, opens}
 use Rattle.levels_said.specs.Answers.{Held, lent}
 use Rattle.levels_said.specs.inner.Saying.{saidOf, saysNothing, Taken, Told}
 use Rattle.levels_said.specs.Laws.Turns.{said-refused, nothing-said, told-refused, told-table}
@@ -36,11 +36,11 @@ unfolding openNumber
 number-large l o large = rw (lt-ltb 1024 (o .capacity) large)
 
 module _ (l : Lengths) (t : Option Plain) (o : Opening) (generation n : ℕ) (number : openNumber l o ≡ n) where
-  opens-refused : 0 < n → opens l t o generation ≡ turned (replied n []) t
+  opens-refused : 0 < n → opens l t o generation ≡ printing (replied n []) t
   unfolding opens
   opens-refused more = rw (number, ne-eqb n 0 (λ z. omega arith))
 
-  opens-done : n ≡ 0 → opens l t o generation ≡ turned [] (some (opened o generation))
+  opens-done : n ≡ 0 → opens l t o generation ≡ printing [] (some (opened o generation))
   unfolding opens replied
   opens-done zero = rw (number, eq-eqb n 0 zero)
 

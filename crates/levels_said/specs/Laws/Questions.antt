@@ -1,9 +1,9 @@
 -- The promises of a fast range and a version serve F, V and L, whatever table the stores hold. Assumes nothing.
 use Prim.Native.Nat.{ℕ, suc, _*_, _≤_, _<_}
-use mathlib.Core.Path.{_≡_, refl, ap, _∙_}
+use mathlib.Core.Path.{_≡_, refl, sym, ap, _∙_}
 use mathlib.Core.Logic.{inl, inr}
 use mathlib.Core.Bool.{true, cond}
-use mathlib.Core.List.{List, [], _∷_, map}
+use mathlib.Core.List.{List, [], _∷_, map, append-nil}
 use mathlib.Core.Option.{Option, none, some}
 use native.Mathlib.Omega.{arith}
 use lib.ListN.{length}
@@ -15,6 +15,8 @@ use Rattle.refusals.specs.Laws.Replies.{some-number}
 use Rattle.offsets.specs.Subsets.{Subset, range, list}
 use Rattle.constraints.specs.declared.Constraint.{Constraint}
 use Rattle.constraints.specs.Constraints.{known, isLive}
+use Rattle.sort_entries.specs.Entries.{entriesOf, entryWords}
+use Rattle.sort_entries.specs.Laws.Stores.{entriesOf-words}
 use Rattle.plain.specs.Plain.{Plain, liveFrom}
 use Rattle.table.specs.declared.Header.{Header}
 use Rattle.table.specs.declared.Version.{Version}
@@ -22,7 +24,7 @@ use Rattle.table.specs.declared.RangeAnswer.{RangeAnswer}
 use Rattle.table.specs.declared.VersionAnswer.{VersionAnswer}
 use Rattle.table.specs.Numbers.{rangeSays, versionSays}
 use Rattle.table.specs.Refusing.{outside, pairsShort, fastRefusal, versionRefusal}
-use Rattle.table.specs.Stores.{rowsIn}
+use Rattle.table.specs.Stores.{entries, headerOf, rowsIn}
 use Rattle.table.specs.Promises.{Stores, Represents, fastSubset, RangeRead, VersionRead}
 use Rattle.table.specs.Laws.Shown.{represents-inside, represents-long, rows-counted}
 use Rattle.table.specs.Laws.Sound.{represents-sound}
@@ -31,7 +33,7 @@ use Rattle.table.specs.Laws.Replies.{reply-accepted}
 use Rattle.levels_text.specs.Written.{textLine}
 use Rattle.levels_said.specs.declared.Said.{Said}
 use Rattle.levels_said.specs.declared.Said.the-variants.{Listing}
-use Rattle.levels_said.specs.Said.{asks, rangeText, fastOf, versionText, listText}
+use Rattle.levels_said.specs.Said.{asks, rangeText, versionText, listText}
 use Rattle.levels_said.specs.inner.Saying.{textOf, headLine, rowLines, listing, saidOf, saysRange, saysVersion, saysListing}
 use Rattle.levels_said.specs.Laws.Turns.{said-refused, said-accepted, told-table, Does, asks-refused, asks-done}
 use Rattle.levels_said.specs.Laws.Calls.{reply-ruled}
@@ -52,11 +54,12 @@ fast-number {p} {s} r c =
     rw (represents-inside r, le-ltb (length (s .sorts)) (2 * s .header .capacity) long, columns)
     (elim (split (known (p .opening .columns) c)) [ inl e ↦ rw e | inr e ↦ rw e ])
 
-fast-shown : {p : Plain} {s : Stores} → Represents p s → (c : Constraint) → fastSubset (s .header) (s .sorts) c ≡ fastOf p c
-unfolding fastSubset fastOf
+fast-shown : {p : Plain} {s : Stores} → Represents p s → (c : Constraint) → fastSubset (s .header) (s .sorts) c ≡ fastSubset (headerOf p) (entryWords (entries p)) c
+unfolding fastSubset
 fast-shown {p} {s} r c =
     let sort : s .header .sort ≡ p .opening .sort = ap (λ (h : Header). h .sort) (r .shown .header) in
-    rw (sort, r .shown .entries-shown, rows-counted r)
+    let back : entriesOf (length (entries p)) (entryWords (entries p)) ≡ entries p = ap (entriesOf (length (entries p))) (sym (append-nil (entryWords (entries p)))) ∙ entriesOf-words (entries p) [] in
+    rw (sort, r .shown .entries-shown, rows-counted r, back)
 
 range-said : (h : Header) (rows : List ℕ) (answer : Option Subset) → textOf h rows (saysRange answer) ≡ rangeText answer
 unfolding textOf saysRange rangeText
@@ -65,16 +68,16 @@ range-said h rows (some (range start end)) = refl
 range-said h rows (some (list ids)) = refl
 
 pub range-does : {s : Stores} {c : Constraint} {answer : RangeAnswer} {said : Said} → said ≡ saidOf saysRange (rangeSays answer) → RangeRead (s .header) (s .sorts) c answer
-    → Does (λ p. asks p (cond (known (p .opening .columns) c) 0 6) (rangeText (fastOf p c))) s s said (fastRefusal (s .header) (length (s .sorts)) c)
+    → Does (λ p. asks p (cond (known (p .opening .columns) c) 0 6) (rangeText (fastSubset (headerOf p) (entryWords (entries p)) c))) s s said (fastRefusal (s .header) (length (s .sorts)) c)
 range-does {s} {c} {answer} same m =
     let n : ℕ = fastRefusal (s .header) (length (s .sorts)) c in
     record {
       outside-first = fast-outside (s .header) (length (s .sorts)) c;
       says-refused = λ more. same ∙ said-refused saysRange (rangeSays answer) n (m .refusal) more;
       stays = λ more. refl;
-      turns-refused = λ p r more. asks-refused p _ (rangeText (fastOf p c)) n (fast-number r c) more;
+      turns-refused = λ p r more. asks-refused p _ (rangeText (fastSubset (headerOf p) (entryWords (entries p)) c)) n (fast-number r c) more;
       turns-done = λ p r zero.
-          rw (asks-done p (cond (known (p .opening .columns) c) 0 6) (rangeText (fastOf p c)) n (fast-number r c) zero, same, said-accepted saysRange (rangeSays answer) (fastSubset (s .header) (s .sorts) c) (m .table zero (represents-sound r .entries-rise)), ← fast-shown r c)
+          rw (asks-done p (cond (known (p .opening .columns) c) 0 6) (rangeText (fastSubset (headerOf p) (entryWords (entries p)) c)) n (fast-number r c) zero, same, said-accepted saysRange (rangeSays answer) (fastSubset (s .header) (s .sorts) c) (m .table zero (represents-sound r .entries-rise)), ← fast-shown r c)
           (told-table (range-said (s .header) (s .rows) (fastSubset (s .header) (s .sorts) c)) r);
     }
 

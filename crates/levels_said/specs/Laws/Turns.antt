@@ -20,7 +20,7 @@ use Rattle.table.specs.Laws.Shown.{represents-inside}
 use Rattle.levels_text.specs.Written.{textLine}
 use Rattle.levels_said.specs.declared.Said.{Said}
 use Rattle.levels_said.specs.declared.Said.the-variants.{Refused}
-use Rattle.levels_said.specs.Said.{Turn, turned, replied, calls, asks, onTable}
+use Rattle.levels_said.specs.Said.{Turn, printing, replied, calls, asks, onTable}
 use Rattle.levels_said.specs.Answers.{Held, no-table, table}
 use Rattle.levels_said.specs.inner.Saying.{textOf, saidOf, saysNothing, Told}
 
@@ -55,7 +55,7 @@ refused-text : (h : Header) (rows : List ℕ) (n : ℕ) → textOf h rows (Refus
 unfolding textOf
 refused-text h rows n = refl
 
-pub told-refused : {s : Stores} {t : Option Plain} (n : ℕ) → Held t s → 0 < n → Told (turned (replied n []) t) s (Refused n)
+pub told-refused : {s : Stores} {t : Option Plain} (n : ℕ) → Held t s → 0 < n → Told (printing (replied n []) t) s (Refused n)
 told-refused {s} n held more =
     record {
       says = refused-text (s .header) (s .rows) n ∙ sym (replied-refused n [] more);
@@ -64,7 +64,7 @@ told-refused {s} n held more =
     }
 
 pub told-table : {s : Stores} {p : Plain} {text : List ℕ} {said : Said} → textOf (s .header) (s .rows) said ≡ text → Represents p s
-    → Told (turned text (some p)) s said
+    → Told (printing text (some p)) s said
 told-table e r = record { says = e; held = table r; listed = λ l. represents-inside r }
 
 -- ---- a line on a table
@@ -74,7 +74,7 @@ pub record Does (line : Plain → Turn) (s s′ : Stores) (said : Said) (n : ℕ
   pub outside-first : outside (s .header) ≡ true → n ≡ 1
   pub says-refused : 0 < n → said ≡ Refused n
   pub stays : 0 < n → s′ ≡ s
-  pub turns-refused : (p : Plain) → Represents p s → 0 < n → line p ≡ turned (replied n []) (some p)
+  pub turns-refused : (p : Plain) → Represents p s → 0 < n → line p ≡ printing (replied n []) (some p)
   pub turns-done : (p : Plain) → Represents p s → n ≡ 0 → Told (line p) s′ said
 
 pub does-told : {line : Plain → Turn} {s s′ : Stores} {said : Said} {n : ℕ} → Does line s s′ said n → (t : Option Plain) → Held t s → Told (onTable t line) s′ said
@@ -91,21 +91,21 @@ does-told {line} {s} {s′} {said} {n} d (some p) (table r) =
 
 -- a call
 module _ (l : Lengths) (p : Plain) (c : Call) (text : List ℕ) (n : ℕ) (same : n ≡ refusal p l c) where
-  pub calls-refused : 0 < n → calls l p c text ≡ turned (replied n []) (some p)
+  pub calls-refused : 0 < n → calls l p c text ≡ printing (replied n []) (some p)
   unfolding calls
   calls-refused more =
       rw (refused-nothing p l c (rw same at more), ← same, replied-refused n text more, replied-refused n [] more)
 
-  pub calls-done : n ≡ 0 → calls l p c text ≡ turned text (some (done p c))
+  pub calls-done : n ≡ 0 → calls l p c text ≡ printing text (some (done p c))
   unfolding calls
   calls-done zero = let e = sym same ∙ zero in rw (accepted-done p l c e, replied-accepted (refusal p l c) text e)
 
 -- a question
 module _ (p : Plain) (number : ℕ) (text : List ℕ) (n : ℕ) (same : n ≡ number) where
-  pub asks-refused : 0 < n → asks p number text ≡ turned (replied n []) (some p)
+  pub asks-refused : 0 < n → asks p number text ≡ printing (replied n []) (some p)
   unfolding asks
   asks-refused more = rw (← same, replied-refused n text more, replied-refused n [] more)
 
-  pub asks-done : n ≡ 0 → asks p number text ≡ turned text (some p)
+  pub asks-done : n ≡ 0 → asks p number text ≡ printing text (some p)
   unfolding asks
   asks-done zero = rw (replied-accepted number text (sym same ∙ zero))

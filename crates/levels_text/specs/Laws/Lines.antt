@@ -13,7 +13,7 @@ use lib.Seq.{drop-cons, drop-drop}
 use borrow.Author.Tests.{eq-eqb, ne-eqb, le-leb, lt-leb, lt-ltb, eqb-true, eqb-false, leb-true, leb-false}
 use Rattle.lists.specs.Lists.{every}
 use Rattle.lists.specs.Laws.Keep.{split, and-left, and-right}
-use Rattle.levels_text.specs.Lines.{fields, valueFrom, isDecimal, isLine, letter, numbers, isBare, isForm, accepted}
+use Rattle.levels_text.specs.Lines.{fields, valueFrom, isDecimal, isLine, letter, numbers, isBare, isForm, ofForms}
 
 -- ---- the first field, and those behind it
 
@@ -211,33 +211,33 @@ pub decimal-some : (field : List ℕ) → isDecimal field ≡ true → 0 < lengt
 decimal-some [] e = absurd (false≢true (unfold isDecimal every in e))
 decimal-some (byte ∷ bytes) e = omega arith
 
--- ---- which lines are accepted
+-- ---- which lines are of the forms
 
 module _ (line : List ℕ) where
-  pub too-long : 120 < length line → accepted line ≡ false
-  unfolding accepted isLine
+  pub too-long : 120 < length line → ofForms line ≡ false
+  unfolding ofForms isLine
   too-long h = rw (lt-leb (length line) 120 h)
 
-  pub no-letter : (length (first line) ≡ 1 → ⊥) → accepted line ≡ false
-  unfolding accepted isLine first
+  pub no-letter : (length (first line) ≡ 1 → ⊥) → ofForms line ≡ false
+  unfolding ofForms isLine first
   no-letter ne = rw (ne-eqb (length (first line)) 1 ne, and-false (leb (length line) 120))
 
-  pub no-bytes : length line < 1 → accepted line ≡ false
+  pub no-bytes : length line < 1 → ofForms line ≡ false
   no-bytes none = no-letter (λ e. let l = length-first line in omega arith)
 
-  pub comma-first : 1 ≤ length line → getD line 0 0 ≡ 44 → accepted line ≡ false
+  pub comma-first : 1 ≤ length line → getD line 0 0 ≡ 44 → ofForms line ≡ false
   comma-first some comma =
       let none : length (first line) ≡ 0 = ap length (first-at-comma line 0 some comma) in
       no-letter (λ e. omega arith)
 
-  pub no-decimal : every isDecimal (others line) ≡ false → accepted line ≡ false
-  unfolding accepted isLine others
+  pub no-decimal : every isDecimal (others line) ≡ false → ofForms line ≡ false
+  unfolding ofForms isLine others
   no-decimal e = rw (e, and-false (leb (length line) 120 && eqb (length (getD (fields line) 0 [])) 1))
 
-  pub accepted-line : length line ≤ 120 → length (first line) ≡ 1 → every isDecimal (others line) ≡ true
-      → accepted line ≡ isForm (letter line) (length (numbers line))
-  unfolding accepted isLine first others
-  accepted-line short one all = rw (le-leb (length line) 120 short, eq-eqb (length (getD (fields line) 0 [])) 1 one, all)
+  pub forms-line : length line ≤ 120 → length (first line) ≡ 1 → every isDecimal (others line) ≡ true
+      → ofForms line ≡ isForm (letter line) (length (numbers line))
+  unfolding ofForms isLine first others
+  forms-line short one all = rw (le-leb (length line) 120 short, eq-eqb (length (getD (fields line) 0 [])) 1 one, all)
 
 -- the letters but the last that stand alone
 pub bare-last : (letter : ℕ) → (letter ≡ 77 → ⊥) → (letter ≡ 86 → ⊥) → (letter ≡ 76 → ⊥) → (letter ≡ 67 → ⊥) → isBare letter ≡ eqb letter 71

@@ -14,7 +14,7 @@ use Rattle.levels_text.specs.declared.Parsed.{Parsed}
 use Rattle.levels_text.specs.declared.Parsed.the-variants.{Wrong, Line}
 use Rattle.levels_text.specs.declared.Field.{Field}
 use Rattle.levels_text.specs.declared.Field.the-variants.{Wrong as NoField, Decimal}
-use Rattle.levels_text.specs.Lines.{fields, valueFrom, isDecimal, isLine, isForm, letter, numbers, accepted}
+use Rattle.levels_text.specs.Lines.{fields, valueFrom, isDecimal, isLine, isForm, letter, numbers, ofForms}
 
 -- the field that begins at a place
 unfoldable pub fieldAt : List ℕ → ℕ → List ℕ
@@ -39,22 +39,22 @@ module _ (line : List ℕ) (start : ℕ) where
 -- a line of the forms gives its letter and its numbers, any other is wrong; so is every line where there is no room for the
 -- numbers that a line may have
 pub record ParsedIs (line lent : List ℕ) (r : Parsed) (lent′ : List ℕ) : Type 0 where
-  pub right : 59 ≤ length lent → accepted line ≡ true → (r ≡ Line (letter line) (length (numbers line))) × (lent′ ≡ putAt lent 0 (numbers line))
-  pub wrong : 59 ≤ length lent → accepted line ≡ false → r ≡ Wrong
+  pub right : 59 ≤ length lent → ofForms line ≡ true → (r ≡ Line (letter line) (length (numbers line))) × (lent′ ≡ putAt lent 0 (numbers line))
+  pub wrong : 59 ≤ length lent → ofForms line ≡ false → r ≡ Wrong
   pub no-room : length lent < 59 → (r ≡ Wrong) × (lent′ ≡ lent)
 
 module _ (line lent : List ℕ) where
   pub parsed-no-room : length lent < 59 → ParsedIs line lent Wrong lent
   parsed-no-room short = record { right = λ room e. absurd (omega arith); wrong = λ room e. refl; no-room = λ h. (refl, refl) }
 
-  pub parsed-wrong : (lent′ : List ℕ) → accepted line ≡ false → (length lent < 59 → lent′ ≡ lent) → ParsedIs line lent Wrong lent′
+  pub parsed-wrong : (lent′ : List ℕ) → ofForms line ≡ false → (length lent < 59 → lent′ ≡ lent) → ParsedIs line lent Wrong lent′
   parsed-wrong lent′ e kept = record {
     right = λ room f. absurd (false≢true (sym e ∙ f));
     wrong = λ room f. refl;
     no-room = λ h. (refl, kept h);
   }
 
-  pub parsed-right : (first : ℕ) (count : ℕ) (lent′ : List ℕ) → 59 ≤ length lent → accepted line ≡ true → first ≡ letter line
+  pub parsed-right : (first : ℕ) (count : ℕ) (lent′ : List ℕ) → 59 ≤ length lent → ofForms line ≡ true → first ≡ letter line
       → count ≡ length (numbers line) → lent′ ≡ putAt lent 0 (numbers line) → ParsedIs line lent (Line first count) lent′
   parsed-right first count lent′ room e f n l = record {
     right = λ room′ e′. (cc, l);
@@ -71,29 +71,29 @@ module _ (line lent : List ℕ) (r : Parsed) (lent′ : List ℕ) (p : ParsedIs 
         | inr f ↦ absurd (let w = p .no-room (leb-false 59 (length lent) f) .0 in let z : _≡_ {A = ℕ} 0 1 = cc in omega arith)
       ]
 
-  pub parsed-accepted : accepted line ≡ true
-  parsed-accepted =
-      elim (split (accepted line)) [
+  pub parsed-forms : ofForms line ≡ true
+  parsed-forms =
+      elim (split (ofForms line)) [
         | inl t ↦ t
         | inr f ↦ absurd (let w = p .wrong room f in let z : _≡_ {A = ℕ} 0 1 = cc in omega arith)
       ]
 
   same : Line first count ≡ Line (letter line) (length (numbers line))
-  same = sym e ∙ p .right room parsed-accepted .0
+  same = sym e ∙ p .right room parsed-forms .0
 
   counted : count ≡ length (numbers line)
   counted = let s = same in cc
 
   pub parsed-form : isForm first count ≡ true
-  unfolding accepted
+  unfolding ofForms
   parsed-form =
       let l : first ≡ letter line = let s = same in cc in
-      rw (l, counted) (and-right (isLine line) (isForm (letter line) (length (numbers line))) parsed-accepted)
+      rw (l, counted) (and-right (isLine line) (isForm (letter line) (length (numbers line))) parsed-forms)
 
   pub parsed-fits : count ≤ length lent′
   unfolding putAt
   parsed-fits =
-      let n = ap length (p .right room parsed-accepted .1) in
+      let n = ap length (p .right room parsed-forms .1) in
       let m = length-append (numbers line) (drop (0 + length (numbers line)) lent) in
       omega (arith, counted)
 

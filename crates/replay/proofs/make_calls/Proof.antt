@@ -6,14 +6,14 @@ use native.Mathlib.Omega.{arith}
 use lib.ListN.{length}
 use borrow.Author.Needs.{needs}
 use Rattle.plain.specs.Refusing.{Lengths}
-use Rattle.table.specs.Promises.{stores, lengths}
+use Rattle.table.specs.Promises.{stores, lengths, compactionWords}
 use Rattle.replay.proofs.ReplaySteps.{Going, lengths-same, going-begin, going-again, going-end}
 use Rattle.replay.proofs.make_calls.Statement.{statement}
 use Rattle.replay.proofs.make_calls.Tie as tie
 
 abbrev Inv-loop : tie.InvT-loop
 Inv-loop calls rows₀ keys₀ sorts₀ pending₀ live₀ base₀ n₀ at₀ words₀ rows keys sorts pending live base n at words =
-    Going calls (lengths rows₀ keys₀ sorts₀ pending₀ live₀ base₀) (lengths rows keys sorts pending live base) (stores n₀ rows₀ keys₀ sorts₀ pending₀) (stores n rows keys sorts pending) at words
+    Going calls (lengths rows₀ keys₀ sorts₀ pending₀ live₀ base₀) (lengths rows keys sorts pending live base) (stores n₀ rows₀ keys₀ sorts₀ pending₀) (compactionWords live₀ base₀) (stores n rows keys sorts pending) (compactionWords live base) at words
 
 abbrev μ-loop : tie.MeasureT-loop
 μ-loop calls rows₀ keys₀ sorts₀ pending₀ live₀ base₀ n₀ at₀ words₀ rows keys sorts pending live base n at words = length calls - at

@@ -1,95 +1,47 @@
--- `runs::ask` meets its contract. The loop's invariant: the questions still to come end where all of them do. Assumes nothing.
-use Prim.Native.Nat.{_-_}
+-- `runs::ask` meets its contract. Assumes nothing.
 use mathlib.Core.Path.{refl}
-use native.Mathlib.Omega.{arith}
-use lib.ListN.{length}
+use Rattle.runs.proofs.AskingSteps.{room-first, room-second, room-alike, made-within}
 use borrow.Author.Needs.{needs}
-use Rattle.runs.proofs.AskingSteps.{Going, going-begin, going-again, going-end, made-from}
 use Rattle.runs.proofs.ask.Statement.{statement}
 use Rattle.runs.proofs.ask.Tie as tie
 
-abbrev Inv-loop : tie.InvT-loop
-Inv-loop h rows sorts ids questions first₀ second₀ l₀ at₀ words₀ first second l at words =
-    Going h rows sorts ids questions first₀ second₀ l₀ first second l at words
+smaller-requires : tie.Need-smaller-requires
+smaller-requires c κs = search needs
 
-abbrev μ-loop : tie.MeasureT-loop
-μ-loop h rows sorts ids questions first₀ second₀ l₀ at₀ words₀ first second l at words = length questions - at
+slice-relend-prefix-ask-within : tie.Need-slice-relend-prefix-ask-within
+slice-relend-prefix-ask-within c = search needs
 
-frame-length-requires : tie.Need-frame-length-requires Inv-loop μ-loop
-frame-length-requires c κs = omega arith
+slice-aggregate-ask-within : tie.Need-slice-aggregate-ask-within
+slice-aggregate-ask-within c = let a = c .before .before .before .before .before .before .before .before .args in room-first _ (a .first .now) (a .second .now) (c .before .smaller .ensures)
 
-loop-holds : tie.Need-loop-holds Inv-loop μ-loop
-loop-holds c = going-begin (c .frame-length .ensures) refl refl
+slice-relend-prefix-ask-within-2 : tie.Need-slice-relend-prefix-ask-within-2
+slice-relend-prefix-ask-within-2 c = search needs
 
-mul-turn : tie.Need-mul-turn Inv-loop μ-loop
-mul-turn c = search needs
+slice-aggregate-ask-within-2 : tie.Need-slice-aggregate-ask-within-2
+slice-aggregate-ask-within-2 c = let a = c .before .before .before .before .before .before .before .before .before .args in room-second _ (a .first .now) (a .second .now) (c .before .before .smaller .ensures)
 
-shared-slice-read-turn : tie.Need-shared-slice-read-turn Inv-loop μ-loop
-shared-slice-read-turn c = let v = c .before .before .loop .inv .here in omega (arith, v .inside, v .whole (c .before .loop-test .taken))
+ask-within-requires : tie.Need-ask-within-requires
+ask-within-requires c κs = let a = c .before .before .before .before .before .before .before .before .before .args in (refl, refl, room-alike _ (a .first .now) (a .second .now) (c .before .before .smaller .ensures))
 
-add-turn : tie.Need-add-turn Inv-loop μ-loop
-add-turn c = let v = c .before .before .loop .inv .here in omega (arith, v .inside, v .whole (c .before .loop-test .taken))
+same-length : tie.Need-same-length
+same-length c = search needs
 
-add-turn-2 : tie.Need-add-turn-2 Inv-loop μ-loop
-add-turn-2 c = let v = c .before .before .loop .inv .here in omega (arith, v .inside, v .whole (c .before .loop-test .taken))
+same-length-2 : tie.Need-same-length-2
+same-length-2 c = search needs
 
-mul-turn-2 : tie.Need-mul-turn-2 Inv-loop μ-loop
-mul-turn-2 c = let v = c .before .before .loop .inv .here in omega (arith, v .inside, v .whole (c .before .loop-test .taken))
-
-sub-turn : tie.Need-sub-turn Inv-loop μ-loop
-sub-turn c = let v = c .before .before .loop .inv .here in omega (arith, v .inside, v .whole (c .before .loop-test .taken))
-
-part-turn-start : tie.Need-part-turn-start Inv-loop μ-loop
-part-turn-start c = let v = c .before .before .loop .inv .here in omega (arith, v .inside, v .whole (c .before .loop-test .taken))
-
-part-turn-end : tie.Need-part-turn-end Inv-loop μ-loop
-part-turn-end c = let v = c .before .before .loop .inv .here in omega (arith, v .inside, v .whole (c .before .loop-test .taken))
-
-turn-requires : tie.Need-turn-requires Inv-loop μ-loop
-turn-requires c κs = c .before .before .before .before .before .loop .inv .held
-
-add-at : tie.Need-add-at Inv-loop μ-loop
-add-at c = omega (arith, c .before .before .before .before .before .before .before .before .before .before .before .before .before .before .before .before .before .before .good .1 .1 .1 .1 .1 .0, c .before .before .before .before .before .before .before .before .before .before .loop .inv .here .inside)
-
-frame-length-requires-2 : tie.Need-frame-length-requires-2 Inv-loop μ-loop
-frame-length-requires-2 c κs = c .before .before .before .before .before .before .before .before .before .before .loop .inv .here .inside
-
-loop-less : tie.Need-loop-less Inv-loop μ-loop
-loop-less c = omega (arith, c .before .before .before .before .before .before .before .before .before .before .before .loop .inv .here .inside, c .before .before .before .before .before .before .before .before .before .before .before .loop .inv .here .whole (c .before .before .before .before .before .before .before .before .before .before .loop-test .taken))
-
-loop-again : tie.Need-loop-again Inv-loop μ-loop
-loop-again c = going-again (c .before .before .before .before .before .before .before .before .before .before .before .loop .inv) (c .before .before .before .before .before .before .before .before .before .before .loop-test .taken) (c .before .before .before .before .before .turn .ensures) (c .before .before .before .before .first .given) (c .before .before .second .given) (c .frame-length2 .ensures)
-
-same-length : tie.Need-same-length Inv-loop μ-loop
-same-length c = c .before .loop .inv .first-long
-
-same-length-2 : tie.Need-same-length-2 Inv-loop μ-loop
-same-length-2 c = c .before .loop .inv .second-long
-
-returns : tie.Need-returns Inv-loop μ-loop
-returns c = made-from _ _ _ _ (going-end (c .before .loop .inv) (c .loop-test .left))
+returns : tie.Need-returns
+returns c = let a = c .before .before .before .before .before .before .before .before .before .before .before .before .before .before .args in made-within (a .head) _ (a .first .now) (a .second .now) (c .before .before .before .before .before .before .before .smaller .ensures) (c .before .before .before .before .ask-within .ensures) (c .before .before .before .first .given .0) (c .before .second .given .0)
 
 pub ask-spec : {M : Type 1} → statement M
 ask-spec =
     tie.close
     (tie.spec
-    Inv-loop
-    μ-loop
-    frame-length-requires
-    loop-holds
-    mul-turn
-    shared-slice-read-turn
-    add-turn
-    add-turn-2
-    mul-turn-2
-    sub-turn
-    part-turn-start
-    part-turn-end
-    turn-requires
-    add-at
-    frame-length-requires-2
-    loop-less
-    loop-again
+    smaller-requires
+    slice-relend-prefix-ask-within
+    slice-aggregate-ask-within
+    slice-relend-prefix-ask-within-2
+    slice-aggregate-ask-within-2
+    ask-within-requires
     same-length
     same-length-2
     returns)

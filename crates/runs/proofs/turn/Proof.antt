@@ -1,5 +1,7 @@
 -- `runs::turn` meets its contract. Assumes nothing.
-use Rattle.runs.proofs.AskingSteps.{lent-count, turn-first, turn-second, turn-neither}
+use native.Mathlib.Omega.{arith}
+use Rattle.runs.specs.Laws.Turning.{turn-first, turn-second, turn-neither}
+use Rattle.runs.proofs.AskingSteps.{lent-count}
 use borrow.Author.Needs.{needs}
 use Rattle.runs.proofs.turn.Statement.{statement}
 use Rattle.runs.proofs.turn.Tie as tie
@@ -8,16 +10,13 @@ cast-count : tie.Need-cast-count
 cast-count c = search needs
 
 slice-reshare-prefix-put : tie.Need-slice-reshare-prefix-put
-slice-reshare-prefix-put c = c .before .before .before .before .before .before .before .before .before .pre .in-first (c .if1 .taken)
+slice-reshare-prefix-put c = search needs
 
 slice-aggregate-put : tie.Need-slice-aggregate-put
-slice-aggregate-put c = lent-count _ _ (c .before .before .before .before .before .before .before .before .before .before .pre .in-first (c .before .if1 .taken))
+slice-aggregate-put c = lent-count _ _ (c .before .before .before .before .before .before .before .before .before .before .pre .0)
 
 put-requires : tie.Need-put-requires
 put-requires c κs = search needs
-
-left-by-requires : tie.Need-left-by-requires
-left-by-requires c κs = search needs
 
 same-length : tie.Need-same-length
 same-length c = search needs
@@ -26,19 +25,16 @@ same-length-2 : tie.Need-same-length-2
 same-length-2 c = search needs
 
 returns : tie.Need-returns
-returns c = turn-first _ (c .before .before .before .before .before .before .before .before .before .before .before .before .before .before .before .pre) (c .before .before .before .before .before .before .if1 .taken) (c .before .before .before .put .ensures) (c .left-by .ensures)
+returns c = turn-first _ (c .before .before .before .before .before .before .before .before .before .before .before .before .before .before .pre .0) (c .before .before .before .before .before .before .before .before .before .before .before .before .before .before .pre .1) (c .before .before .before .before .before .if1 .taken) (c .before .before .put .ensures)
 
 slice-reshare-prefix-put-2 : tie.Need-slice-reshare-prefix-put-2
-slice-reshare-prefix-put-2 c = c .before .before .before .before .before .before .before .before .before .before .before .pre .in-second (c .if2 .taken)
+slice-reshare-prefix-put-2 c = search needs
 
 slice-aggregate-put-2 : tie.Need-slice-aggregate-put-2
-slice-aggregate-put-2 c = lent-count _ _ (c .before .before .before .before .before .before .before .before .before .before .before .before .pre .in-second (c .before .if2 .taken))
+slice-aggregate-put-2 c = lent-count _ _ (omega (arith, c .before .before .before .before .before .before .before .before .before .before .before .before .pre .0, c .before .before .before .before .before .before .before .before .before .before .before .before .pre .1))
 
 put-requires-2 : tie.Need-put-requires-2
 put-requires-2 c κs = search needs
-
-left-by-requires-2 : tie.Need-left-by-requires-2
-left-by-requires-2 c κs = search needs
 
 same-length-3 : tie.Need-same-length-3
 same-length-3 c = search needs
@@ -47,19 +43,16 @@ same-length-4 : tie.Need-same-length-4
 same-length-4 c = search needs
 
 returns-2 : tie.Need-returns-2
-returns-2 c = turn-second _ (c .before .before .before .before .before .before .before .before .before .before .before .before .before .before .before .before .before .pre) (c .before .before .before .before .before .before .if2 .taken) (c .before .before .before .put2 .ensures) (c .left-by2 .ensures)
+returns-2 c = turn-second _ (c .before .before .before .before .before .before .before .before .before .before .before .before .before .before .before .before .pre .0) (c .before .before .before .before .before .before .before .before .before .before .before .before .before .before .before .before .pre .1) (c .before .before .before .before .before .if2 .taken) (c .before .before .put2 .ensures)
 
 put-requires-3 : tie.Need-put-requires-3
 put-requires-3 c κs = search needs
-
-left-by-requires-3 : tie.Need-left-by-requires-3
-left-by-requires-3 c κs = search needs
 
 same-length-5 : tie.Need-same-length-5
 same-length-5 c = search needs
 
 returns-3 : tie.Need-returns-3
-returns-3 c = turn-neither _ (c .before .before .before .before .before .before .before .before .before .before .before .before .before .before .before .before .pre) (c .before .before .before .before .before .before .before .if1 .left) (c .before .before .before .before .before .if2 .left) (c .before .before .before .put3 .ensures) (c .left-by3 .ensures)
+returns-3 c = turn-neither _ (c .before .before .before .before .before .before .before .before .before .before .before .before .before .before .before .pre .0) (c .before .before .before .before .before .before .before .before .before .before .before .before .before .before .before .pre .1) (c .before .before .before .before .before .before .if1 .left) (c .before .before .before .before .if2 .left) (c .before .before .put3 .ensures)
 
 pub turn-spec : {M : Type 1} → statement M
 turn-spec =
@@ -69,18 +62,15 @@ turn-spec =
     slice-reshare-prefix-put
     slice-aggregate-put
     put-requires
-    left-by-requires
     same-length
     same-length-2
     returns
     slice-reshare-prefix-put-2
     slice-aggregate-put-2
     put-requires-2
-    left-by-requires-2
     same-length-3
     same-length-4
     returns-2
     put-requires-3
-    left-by-requires-3
     same-length-5
     returns-3)

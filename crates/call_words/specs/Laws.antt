@@ -1,0 +1,4 @@
+-- What follows from the definitions.
+pub mod Encoding
+pub mod Going
+pub mod Making

@@ -1,0 +1,4 @@
+pub mod Encoding
+pub mod Lending
+pub mod inner
+pub mod Laws

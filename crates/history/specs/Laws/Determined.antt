@@ -1,0 +1,137 @@
+-- What calls leave is told by the table and the cells that they found, whatever each chose for the key store: the same calls on two
+-- tables that differ there alone leave two that differ there alone. Assumes nothing.
+use Prim.Native.Nat.{ℕ, zero, suc, _<_}
+use mathlib.Core.Path.{_≡_, refl, sym, ap, _∙_}
+use mathlib.Core.Bool.{cond}
+use mathlib.Core.List.{List, [], _∷_, _++_}
+use native.Mathlib.Omega.{arith}
+use lib.Dec.{eqb}
+use lib.ListN.{length, take, drop}
+use borrow.Author.Tests.{ne-eqb}
+use Rattle.lists.specs.Lists.{putAt, rowsOf}
+use Rattle.plain.specs.Plain.{Plain, compacted}
+use Rattle.plain.specs.Refusing.{storesShort, wordsShort, compactLadder}
+use Rattle.plain.specs.Calls.{Call, staging, merging, compacting, clearing, refusal, LentCall}
+use Rattle.table.specs.declared.Header.{Header}
+use Rattle.table.specs.Refusing.{compactRefusal}
+use Rattle.table.specs.Stores.{rowStore, sortStore, recordWords}
+use Rattle.table.specs.Promises.{Stores, Body, bodyOf, joined, lengthsLent, Represents, mergedRows, mergedSorts, MergedTable, CompactedTable}
+use Rattle.table.specs.Laws.Ladders.{stage-ladders, merge-ladders, compact-ladders}
+use Rattle.table.specs.Laws.Refusals.{merge-accepted, compact-accepted}
+use Rattle.table.specs.Laws.Fronts.{pending-part, body-part}
+use Rattle.history.specs.Histories.{noWords, Called, stages, merges, compacts, clears, behind, Step, called, Steps, end, next}
+use Rattle.history.specs.Laws.Calls.{step-represents}
+
+-- all but the key store
+pub record SameCells (s t : Stores) : Type 0 where
+  pub header : s .header ≡ t .header
+  pub rows : s .rows ≡ t .rows
+  pub sorts : s .sorts ≡ t .sorts
+  pub pending : s .pending ≡ t .pending
+
+-- ---- one call
+
+-- what it makes of the stores that it is lent, where it is accepted
+unfoldable rowsDone : Plain → Header → Call → List ℕ → List ℕ
+rowsDone p h (staging r) rows = rows
+rowsDone p h merging rows = mergedRows p (rowsOf (h .columns) (h .rows) rows) rows
+rowsDone p h compacting rows = rowStore (compacted p) [] rows
+rowsDone p h clearing rows = rows
+
+unfoldable sortsDone : Plain → Call → List ℕ → List ℕ
+sortsDone p (staging r) sorts = sorts
+sortsDone p merging sorts = mergedSorts p sorts
+sortsDone p compacting sorts = sortStore (compacted p) sorts
+sortsDone p clearing sorts = sorts
+
+unfoldable pendingDone : Header → Call → List ℕ → List ℕ
+pendingDone h (staging r) pending = putAt pending (h .pending) (recordWords (h .keys) r)
+pendingDone h merging pending = pending
+pendingDone h compacting pending = pending
+pendingDone h clearing pending = pending
+
+-- a store of which the first n cells are lent
+unfoldable changed : ℕ → (List ℕ → List ℕ) → ℕ → List ℕ → List ℕ
+changed number done n store = cond (eqb number 0) (done (take n store)) (take n store) ++ drop n store
+
+take-front : (a b : List ℕ) → take (length a) (a ++ b) ≡ a
+take-front [] b = refl
+take-front (x ∷ a) b = ap (λ (l : List ℕ). x ∷ l) (take-front a b)
+
+drop-front : (a b : List ℕ) → drop (length a) (a ++ b) ≡ b
+drop-front [] b = refl
+drop-front (x ∷ a) b = drop-front a b
+
+front-changed : (number : ℕ) (done : List ℕ → List ℕ) (a b a′ : List ℕ) → (number ≡ 0 → a′ ≡ done a) → (0 < number → a′ ≡ a)
+    → a′ ++ b ≡ changed number done (length a) (a ++ b)
+unfolding changed
+front-changed zero done a b a′ goes stays = rw (take-front a b, drop-front a b, goes refl)
+front-changed (suc n) done a b a′ goes stays = rw (take-front a b, drop-front a b, ne-eqb (suc n) 0 (λ e. omega arith), stays (omega arith))
+
+module _ (p : Plain) (c : LentCall) (s t : Stores) where
+  record Leaves : Type 0 where
+    pub rows : t .rows ≡ changed (refusal p (c .lengths) (c .call)) (rowsDone p (s .header) (c .call)) (c .lengths .rows) (s .rows)
+    pub sorts : t .sorts ≡ changed (refusal p (c .lengths) (c .call)) (sortsDone p (c .call)) (c .lengths .sorts) (s .sorts)
+    pub pending : t .pending ≡ changed (refusal p (c .lengths) (c .call)) (pendingDone (s .header) (c .call)) (c .lengths .pending) (s .pending)
+
+module _ {p : Plain} (s : Stores) (rest : Body) (more : List ℕ) (r : Represents p (behind s rest more)) where
+  called-leaves : {c : LentCall} {t : Stores} → Called s c t → Leaves p c (behind s rest more) (behind t rest more)
+  unfolding rowsDone sortsDone pendingDone
+  called-leaves (stages q answer pending′ m) =
+      let l = lengthsLent s noWords in
+      let same = stage-ladders r l q in
+      record {
+        rows = front-changed (refusal p l (staging q)) _ (s .rows) (rest .rows) (s .rows) (λ e. refl) (λ e. refl);
+        sorts = front-changed (refusal p l (staging q)) _ (s .sorts) (rest .sorts) (s .sorts) (λ e. refl) (λ e. refl);
+        pending = front-changed (refusal p l (staging q)) _ (s .pending) more pending′ (λ e. m .written (same ∙ e)) (λ e. m .unchanged (rw same e));
+      }
+  called-leaves (merges w answer b′ w′ m) =
+      let l = lengthsLent s w in
+      let same = merge-ladders r l in
+      let table : refusal p l merging ≡ 0 → MergedTable s w answer b′ w′ p =
+      λ e. let k = merge-accepted (s .header) l (same ∙ e) in m .table (same ∙ e) p (body-part rest (pending-part more r (k .pending-fits)) (k .long)) in
+      record {
+        rows = front-changed (refusal p l merging) _ (s .rows) (rest .rows) (b′ .rows) (λ e. table e .rows-after) (λ e. ap (λ (b : Body). b .rows) (m .unchanged (rw same e) .0));
+        sorts = front-changed (refusal p l merging) _ (s .sorts) (rest .sorts) (b′ .sorts) (λ e. table e .sorts-after) (λ e. ap (λ (b : Body). b .sorts) (m .unchanged (rw same e) .0));
+        pending = front-changed (refusal p l merging) _ (s .pending) more (s .pending) (λ e. refl) (λ e. refl);
+      }
+  called-leaves (compacts w answer b′ w′ m) =
+      let l = lengthsLent s w in
+      -- the pending store is not lent, and the ladder does not look at it
+      let k = lengthsLent (joined (s .header) (bodyOf s) []) w in
+      let same : compactRefusal (s .header) k ≡ refusal p l compacting = compact-ladders r k ∙ (unfold refusal compactLadder storesShort wordsShort in refl) in
+      let table : refusal p l compacting ≡ 0 → CompactedTable (s .header) (bodyOf s) w answer b′ w′ (s .pending ++ more) p =
+      λ e. m .table (same ∙ e) (s .pending ++ more) p (body-part rest r (compact-accepted (s .header) k (same ∙ e) .long)) in
+      record {
+        rows = front-changed (refusal p l compacting) _ (s .rows) (rest .rows) (b′ .rows) (λ e. table e .rows-after) (λ e. ap (λ (b : Body). b .rows) (m .unchanged (rw same e) .0));
+        sorts = front-changed (refusal p l compacting) _ (s .sorts) (rest .sorts) (b′ .sorts) (λ e. table e .sorts-after) (λ e. ap (λ (b : Body). b .sorts) (m .unchanged (rw same e) .0));
+        pending = front-changed (refusal p l compacting) _ (s .pending) more (s .pending) (λ e. refl) (λ e. refl);
+      }
+  called-leaves (clears answer keys′ m) =
+      let n : ℕ = refusal p (lengthsLent s noWords) clearing in
+      record {
+        rows = front-changed n _ (s .rows) (rest .rows) (s .rows) (λ e. refl) (λ e. refl);
+        sorts = front-changed n _ (s .sorts) (rest .sorts) (s .sorts) (λ e. refl) (λ e. refl);
+        pending = front-changed n _ (s .pending) more (s .pending) (λ e. refl) (λ e. refl);
+      }
+
+-- ---- one after another
+
+step-leaves : {p : Plain} {s t : Stores} {c : LentCall} → Represents p s → Step s c t → Leaves p c s t
+step-leaves r (called {s} rest more call) = called-leaves s rest more r call
+
+step-determined : {p : Plain} {s s′ t t′ : Stores} {c : LentCall} → Represents p s → Represents p s′ → SameCells s s′ → Step s c t → Step s′ c t′ → SameCells t t′
+step-determined {p} {s} {s′} {t} {t′} {c} r r′ same a b =
+    let x = step-leaves r a in
+    let y = step-leaves r′ b in
+    let n : ℕ = refusal p (c .lengths) (c .call) in
+    record {
+      header = step-represents r a .shown .header ∙ sym (step-represents r′ b .shown .header);
+      rows = x .rows ∙ ap (changed n (rowsDone p (s .header) (c .call)) (c .lengths .rows)) (same .rows) ∙ ap (λ (h : Header). changed n (rowsDone p h (c .call)) (c .lengths .rows) (s′ .rows)) (same .header) ∙ sym (y .rows);
+      sorts = x .sorts ∙ ap (changed n (sortsDone p (c .call)) (c .lengths .sorts)) (same .sorts) ∙ sym (y .sorts);
+      pending = x .pending ∙ ap (changed n (pendingDone (s .header) (c .call)) (c .lengths .pending)) (same .pending) ∙ ap (λ (h : Header). changed n (pendingDone h (c .call)) (c .lengths .pending) (s′ .pending)) (same .header) ∙ sym (y .pending);
+    }
+
+pub steps-determined : {p : Plain} {s s′ t t′ : Stores} {cs : List LentCall} → Represents p s → Represents p s′ → SameCells s s′ → Steps s cs t → Steps s′ cs t′ → SameCells t t′
+steps-determined r r′ same (end s) (end s′) = same
+steps-determined r r′ same (next a more) (next b more′) = steps-determined (step-represents r a) (step-represents r′ b) (step-determined r r′ same a b) more more′

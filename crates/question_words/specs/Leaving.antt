@@ -1,0 +1,60 @@
+-- What an answer tells of the ids left; and what a list of questions leaves, each put on the very subset that the last accepted
+-- one answered, with an output of so many ids. Assumes nothing.
+use Prim.Native.Nat.{ℕ}
+use mathlib.Core.Bool.{cond}
+use mathlib.Core.List.{List, [], _∷_}
+use mathlib.Core.Option.{Option, none, some}
+use lib.ListN.{length, take}
+use lib.Dec.{eqb}
+use Rattle.refusals.specs.Refusals.{Reply}
+use Rattle.offsets.specs.Subsets.{Subset, range, list}
+use Rattle.offsets.specs.Answers.{intersectReply}
+use Rattle.constraints.specs.declared.Constraint.{Constraint}
+use Rattle.table.specs.declared.Header.{Header}
+use Rattle.table.specs.Refusing.{fastRefusal}
+use Rattle.table.specs.Promises.{fastSubset}
+use Rattle.queries.specs.Queries.{refineOneReply, refineListReply}
+use Rattle.history.specs.Runs.{Question, refineOne, refineList, intersectWith, intersectRange, Gathered, nothing, bySubset, byRange, byRefining, together, left, gathered}
+use Rattle.question_words.specs.declared.RunAnswer.{RunAnswer}
+
+-- the first ids of the list of a place: 1 and 2 the two lent ones; else the starting one, which is meant whole
+unfoldable pub idsAt : ℕ → ℕ → List ℕ → List ℕ → List ℕ → List ℕ
+idsAt place count ids first second = cond (eqb place 1) (take count first) (cond (eqb place 2) (take count second) ids)
+
+-- the ids left: a range, or a list
+unfoldable pub subsetLeft : RunAnswer → List ℕ → List ℕ → List ℕ → Subset
+subsetLeft l ids first second =
+    cond (l .dense) (range (l .start) (l .end)) (list (idsAt (l .place) (l .count) ids first second))
+
+-- the ids left, and what was accepted on the way
+pub record Outcome : Type 0 where
+  pub ids : Subset
+  pub gathered : Gathered
+
+abbrev pub outcome : Subset → Gathered → Outcome
+outcome ids g = record { ids = ids; gathered = g }
+
+-- by the reply to a question, which gathers this where it is accepted
+abbrev pub byReply : Subset → Gathered → Reply Subset → Outcome
+byReply a g r = outcome (left a r) (gathered r g)
+
+-- a range step: where there is no range, it counts for nothing
+unfoldable pub rangeStep : Subset → Constraint → ℕ → Option Subset → Outcome
+rangeStep a c room none = outcome a nothing
+rangeStep a c room (some b) = byReply a (byRange c) (intersectReply a b room)
+
+module _ (h : Header) (rows sorts : List ℕ) (room : ℕ) where
+  -- one question; the ids left come first in `intersect`
+  unfoldable pub asked : Subset → Question → Outcome
+  asked a (refineOne c) = byReply a (byRefining (c ∷ [])) (refineOneReply h rows a c room)
+  asked a (refineList cs) = byReply a (byRefining cs) (refineListReply h rows a cs room)
+  asked a (intersectWith b) = byReply a (bySubset b) (intersectReply a b room)
+  asked a (intersectRange c) = rangeStep a c room (cond (eqb (fastRefusal h (length sorts) c) 0) (fastSubset h sorts c) none)
+
+  -- the questions, the first one first
+  unfoldable pub askedAll : Subset → List Question → Outcome
+  askedAll a [] = outcome a nothing
+  askedAll a (q ∷ qs) =
+      let one = asked a q in
+      let more = askedAll (one .ids) qs in
+      outcome (more .ids) (together (one .gathered) (more .gathered))

@@ -1,0 +1,4 @@
+pub mod Encoding
+pub mod Leaving
+pub mod inner
+pub mod Laws

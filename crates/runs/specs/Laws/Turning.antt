@@ -1,0 +1,115 @@
+-- A question put on the ids left, and one after another. Assumes nothing.
+use Prim.Native.Nat.{ℕ, _+_, _≤_}
+use mathlib.Core.Path.{_≡_, refl, sym, ap, _∙_}
+use mathlib.Core.Bool.{Bool, true, false, cond, _||_}
+use mathlib.Core.List.{List, [], _∷_, _++_, append-assoc, append-nil}
+use lib.ListN.{length, take}
+use borrow.Author.Tests.{eq-eqb, ne-eqb}
+use Rattle.offsets.specs.declared.SubsetHead.{SubsetHead}
+use Rattle.offsets.specs.Subsets.{Subset}
+use Rattle.offsets.specs.Answers.{subsetOf}
+use Rattle.table.specs.declared.Header.{Header}
+use Rattle.table.specs.Promises.{Stores}
+use Rattle.history.specs.Runs.{Question, Gathered, nothing, together, Run, end, next}
+use Rattle.question_words.specs.declared.RunAnswer.{RunAnswer}
+use Rattle.question_words.specs.Leaving.{idsAt, subsetLeft, Outcome, outcome, asked, askedAll}
+use Rattle.question_words.specs.inner.Putting.{Put}
+use Rattle.runs.specs.inner.Turning.{Turned, TurnedOnce}
+
+-- ---- one question
+
+module _ {h : Header} {rows sorts ids : List ℕ} {questions : List Question} {l l′ : RunAnswer} {first second first′ second′ : List ℕ} (place : ℕ) {a : Subset} {output output′ : List ℕ} where
+  -- the list of this place was its output; the ids that it was put on are as they were
+  turned : Put h rows sorts a questions l place output l′ output′ → length output ≡ length first → l .count ≤ length first
+      → subsetLeft l ids first second ≡ a → subsetLeft l ids first′ second′ ≡ a → ((n : ℕ) → idsAt place n ids first′ second′ ≡ take n output′)
+      → TurnedOnce h rows sorts ids questions l first second l′ first′ second′
+  turned p long held before kept here =
+      let is : subsetLeft l′ ids first′ second′ ≡ p .ids = p .there ids first′ second′ here kept in
+      record {
+        turned = record {
+          gathered = p .gathered;
+          run = λ keys pending. rw (is, before) (p .run _ (eq-eqb (length first) (length output) (sym long)) keys pending);
+          leaves = λ sound. rw (is, before, ← long) (p .leaves sound);
+          told = p .told;
+          taken = p .taken;
+          fits = rw long at (p .fits (rw long held));
+        };
+        few = p .few;
+      }
+
+-- the ids left as they are lent to a question
+module _ (l : RunAnswer) (ids first second : List ℕ) where
+  abbrev pub headOf : SubsetHead
+  headOf = record { dense = l .dense; start = l .start; end = l .end }
+
+  lent-first : l .place ≡ 1 → subsetLeft l ids first second ≡ subsetOf headOf (take (l .count) first)
+  unfolding subsetLeft subsetOf idsAt
+  lent-first e = rw e
+
+  lent-second : l .place ≡ 2 → subsetLeft l ids first second ≡ subsetOf headOf (take (l .count) second)
+  unfolding subsetLeft subsetOf idsAt
+  lent-second e = rw e
+
+  lent-neither : (l .place ≡ 1 → ⊥) → (l .place ≡ 2 → ⊥) → subsetLeft l ids first second ≡ subsetOf headOf ids
+  unfolding subsetLeft subsetOf idsAt
+  lent-neither a b = rw (ne-eqb (l .place) 1 a, ne-eqb (l .place) 2 b)
+
+into-first : (n : ℕ) (ids first second : List ℕ) → idsAt 1 n ids first second ≡ take n first
+unfolding idsAt
+into-first n ids first second = refl
+
+into-second : (n : ℕ) (ids first second : List ℕ) → idsAt 2 n ids first second ≡ take n second
+unfolding idsAt
+into-second n ids first second = refl
+
+-- the three ways: the ids left lie in the first list, in the second, or in neither
+module _ {h : Header} {rows sorts : List ℕ} (ids : List ℕ) {questions : List Question} {l l′ : RunAnswer} {first second : List ℕ} (held : l .count ≤ length first) (long : length second ≡ length first) where
+  pub turn-first : {second′ : List ℕ} → l .place ≡ 1 → Put h rows sorts (subsetOf (headOf l ids first second) (take (l .count) first)) questions l 2 second l′ second′
+      → TurnedOnce h rows sorts ids questions l first second l′ first second′
+  turn-first {second′} e p = turned 2 p long held (lent-first l ids first second e) (lent-first l ids first second′ e) (λ n. into-second n ids first second′)
+
+  pub turn-second : {first′ : List ℕ} → l .place ≡ 2 → Put h rows sorts (subsetOf (headOf l ids first second) (take (l .count) second)) questions l 1 first l′ first′
+      → TurnedOnce h rows sorts ids questions l first second l′ first′ second
+  turn-second {first′} e p = turned 1 p refl held (lent-second l ids first second e) (lent-second l ids first′ second e) (λ n. into-first n ids first′ second)
+
+  pub turn-neither : {first′ : List ℕ} → (l .place ≡ 1 → ⊥) → (l .place ≡ 2 → ⊥) → Put h rows sorts (subsetOf (headOf l ids first second) ids) questions l 1 first l′ first′
+      → TurnedOnce h rows sorts ids questions l first second l′ first′ second
+  turn-neither {first′} a b p = turned 1 p refl held (lent-neither l ids first second a b) (lent-neither l ids first′ second a b) (λ n. into-first n ids first′ second)
+
+-- ---- one after another
+
+pub or-false : (b : Bool) → (b || false) ≡ b
+or-false true = refl
+or-false false = refl
+
+pub or-assoc : (a b c : Bool) → ((a || b) || c) ≡ (a || (b || c))
+or-assoc true b c = refl
+or-assoc false b c = refl
+
+pub together-assoc : (a b c : Gathered) → together (together a b) c ≡ together a (together b c)
+together-assoc a b c =
+    λ i.
+    record {
+      refined = or-assoc (a .refined) (b .refined) (c .refined) i;
+      subsets = append-assoc (a .subsets) (b .subsets) (c .subsets) i;
+      conditions = append-assoc (a .conditions) (b .conditions) (c .conditions) i;
+    }
+
+pub together-nothing : (a : Gathered) → together a nothing ≡ a
+together-nothing a =
+    λ i. record { refined = or-false (a .refined) i; subsets = append-nil (a .subsets) i; conditions = append-nil (a .conditions) i }
+
+pub run-then : {s : Stores} {fit : ℕ → Bool} {a b c : Subset} {qs rs : List Question} {g k : Gathered} → Run s fit a qs b g → Run s fit b rs c k → Run s fit a (qs ++ rs) c (together g k)
+run-then (end a) more = more
+run-then {k = k} (next {g = g} {h = h} asked same rest) more = rw (together-assoc g h k) (next asked same (run-then rest more))
+
+-- what questions leave behind others
+abbrev pub behind : Gathered → Outcome → Outcome
+behind g o = outcome (o .ids) (together g (o .gathered))
+
+pub asked-then : (h : Header) (rows sorts : List ℕ) (room : ℕ) (a : Subset) (qs rs : List Question)
+    → askedAll h rows sorts room a (qs ++ rs) ≡ behind (askedAll h rows sorts room a qs .gathered) (askedAll h rows sorts room (askedAll h rows sorts room a qs .ids) rs)
+unfolding askedAll
+asked-then h rows sorts room a [] rs = refl
+asked-then h rows sorts room a (q ∷ qs) rs =
+    rw (asked-then h rows sorts room (asked h rows sorts room a q .ids) qs rs, together-assoc (asked h rows sorts room a q .gathered) (askedAll h rows sorts room (asked h rows sorts room a q .ids) qs .gathered) (askedAll h rows sorts room (askedAll h rows sorts room (asked h rows sorts room a q .ids) qs .ids) rs .gathered))
