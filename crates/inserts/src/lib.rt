@@ -84,7 +84,7 @@ pub fn insert_row(
         return Insertion::Kept;
     }
     let key = &pending[at..at + h.keys as usize];
-    match key_index::find(keyed(h), rows, keys, key, hash) {
+    match key_index::look_up(keyed(h), rows, keys, key, hash) {
         Found::None => {
             let end = at + h.columns as usize;
             insert_new(h, rows, keys, sorts, &pending[at..end], hash)

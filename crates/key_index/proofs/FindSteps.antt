@@ -1,22 +1,23 @@
--- The answers of `find`, one law for each way to return: at a free slot, after a full round, and at a slot that leads to the
--- row. Assumes nothing.
-use Prim.Native.Nat.{ℕ, _%_, _^_, _≤_, _<_}
+-- The answers of `find` and `look_up`, one law for each way to return: at a free slot, after a full round, and at a slot that
+-- leads to the row; and how `look_up` comes to a slot. Assumes nothing.
+use Prim.Native.Nat.{ℕ, _+_, _/_, _%_, _^_, _≤_, _<_}
 use mathlib.Core.Path.{_≡_, sym, ap, _∙_}
 use mathlib.Core.List.{List}
 use native.Mathlib.Decide.{decLt, ℕ-discrete}
+use native.Mathlib.Nat.{add-zero}
 use native.Mathlib.Omega.{arith}
 use lib.ListN.{getD}
 use Rattle.cells.specs.Cells.{compact, keyHash}
 use Rattle.key_index.specs.declared.Keyed.{Keyed}
 use Rattle.key_index.specs.declared.Found.the-variants.{None, At}
 use Rattle.key_index.specs.Slots.{LiveAt, keyAt, slots, word, home, slotFrom, StandsAt, KeysSound, spread}
-use Rattle.key_index.specs.Laws.Ring.{home-spread, word-tagged, word-some, word-same, tagged-row}
+use Rattle.key_index.specs.Laws.Ring.{home-spread, word-tagged, word-some, word-same, tagged-row, tagged-bits}
 use Rattle.key_index.specs.inner.Index.{Leads, FoundAt, FoundIs}
-use Rattle.key_index.proofs.WalkSteps.{Walked}
+use Rattle.key_index.specs.inner.Window.{Ahead}
+use Rattle.key_index.proofs.WalkSteps.{Walked, begin-past}
 
--- a lookup passes a slot that is not free and leads to no row with the key
+-- a lookup passes a slot that leads to no row with the key
 pub record Past (t : Keyed) (rows key : List ℕ) (hash w : ℕ) : Type 0 where
-  pub taken : w ≡ 0 → ⊥
   pub other : (i : ℕ) → Leads t rows key hash w i → ⊥
 
 -- a word that leads to a row says which
@@ -68,6 +69,22 @@ module _ (t : Keyed) (rows store key : List ℕ) (hash : ℕ) (few : t .rows ≤
     -- the walk went all the way round
     pub found-round : slots t ≤ passed → FoundIs t rows store key hash None
     found-round m = found-none (λ e i d h s. omega (arith, s .below))
+
+  -- the home slot leads to no row with the key, and no slot between it and the d-th has the hash's bits
+  pub passed-to : (start d : ℕ) → start ≡ spread (slots t) hash → ((i : ℕ) → Leads t rows key hash (getD store start 0) i → ⊥)
+      → Ahead (slots t) store start hash d → Passed (start + d) d
+  passed-to start d e no-row a =
+      begin-past (slots t) store (Past t rows key hash) (spread (slots t) hash) start d e (a .below) past
+    where
+      past : (k : ℕ) → k < d → Past t rows key hash (getD store (start + k) 0)
+      past k h =
+          record {
+            other = λ i l.
+                elim (ℕ-discrete k 0) [
+                  | yes q ↦ no-row i (rw (q, add-zero start) at l)
+                  | no q ↦ a .others k (omega arith) h (ap (λ (w : ℕ). w / 2 ^ 17) (l .tag) ∙ tagged-bits hash i (omega (arith, l .below)))
+                ];
+          }
 
   -- a slot leads to the row, and none passed does
   pub found-row : (at passed row : ℕ) → Passed at passed → Leads t rows key hash (getD store at 0) row → 0 < getD store at 0 → FoundIs t rows store key hash (At row at)

@@ -13,10 +13,7 @@ use Rattle.key_index.specs.Laws.Ring.{slot-met}
 use Rattle.key_index.specs.Slots.{spread, tagged}
 use Rattle.key_index.specs.inner.Index.{PutIs, zeros, EmptyIs}
 use Rattle.key_index.proofs.WalkSteps.{Walked}
-
--- a slot that is not free
-abbrev pub Taken : ℕ → Type 0
-Taken w = w ≡ 0 → ⊥
+use Rattle.key_index.proofs.WindowSteps.{Taken}
 
 module _ (n : ℕ) (store : List ℕ) (hash row : ℕ) where
   pub put-here : (at passed : ℕ) → Walked n store Taken (spread n hash) at passed → passed < n → getD store at 0 ≡ 0 → (w : ℕ) → w ≡ tagged hash row

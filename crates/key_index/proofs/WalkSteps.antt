@@ -7,7 +7,7 @@ use native.Mathlib.Omega.{arith}
 use lib.ListN.{getD}
 use borrow.Author.Count.{below-more}
 use Rattle.key_index.specs.Slots.{slotFrom}
-use Rattle.key_index.specs.Laws.Ring.{slot-below, slot-zero, slot-then}
+use Rattle.key_index.specs.Laws.Ring.{slot-below, slot-low, slot-zero, slot-then}
 
 -- `passed` slots from `start` on were passed, each for the reason P, and `at` is the next
 pub record Walked (n : ℕ) (store : List ℕ) (P : ℕ → Type 0) (start at passed : ℕ) : Type 0 where
@@ -21,6 +21,16 @@ module _ (n : ℕ) (store : List ℕ) (P : ℕ → Type 0) (start : ℕ) where
   begin at e h =
       let k : start < n = omega arith in
       record { here = e ∙ sym (slot-zero n start k); inside = h; most = omega arith; each = λ e k. absurd (omega arith) }
+
+  -- or with slots that lie before the end of the ring
+  pub begin-past : (at d : ℕ) → at ≡ start → at + d < n → ((e : ℕ) → e < d → P (getD store (at + e) 0)) → Walked n store P start (at + d) d
+  begin-past at d e h each =
+      record {
+        here = rw (← e) (sym (slot-low n at d h));
+        inside = h;
+        most = omega arith;
+        each = λ i k. rw (← e, slot-low n at i (omega arith)) (each i k);
+      }
 
   pub on : (at passed next : ℕ) → Walked n store P start at passed → passed < n → P (getD store at 0) → next ≡ slotFrom n at 1
       → Walked n store P start next (passed + 1)

@@ -1,3 +1,4 @@
 -- Contracts of functions that no user calls.
 pub mod Index
 pub mod Ring
+pub mod Window

@@ -3,12 +3,14 @@
 // before it calls; what a store holds is not relied on for safety: a slot's row is tested before its cells are read, and
 // every walk ends after one round.
 ghost use mathlib.Core.Path.{_≡_};
-ghost use Prim.Native.Nat.{_-_, _%_, _^_, _<_};
+ghost use Prim.Native.Nat.{ℕ, _+_, _-_, _%_, _^_, _≤_, _<_};
+ghost use mathlib.Core.Bool.{true};
 ghost use lib.ListN.{length, set};
 ghost use Rattle.cells.specs.Cells.{compact, keyHash};
 ghost use Rattle.key_index.specs.Slots.{keyAt, slots, slotFrom, spread, tagged};
 ghost use Rattle.key_index.specs.inner.Ring.{namesRow};
 ghost use Rattle.key_index.specs.inner.Index.{Room, RowsIn, Fits, HitIs, FoundIs, PutIs, EmptyIs};
+ghost use Rattle.key_index.specs.inner.Window.{isFree, hasBits, someOf, Ahead, FreeSoon, TakenRun};
 
 // The numbers of a table that its key index goes by.
 pub struct Keyed {
@@ -119,14 +121,132 @@ pub fn find(t: Keyed, rows: &[u32], store: &[u32], key: &[u32], hash: u32) -> Fo
     Found::None
 }
 
+// How many slots are looked at together after a key's home. All of them are, with no return on the way, so that a look compiles
+// to vector code and takes no branch that a processor cannot foresee.
+const WINDOW: usize = 8;
+
+// Whether one of a window's slots is free.
+fn some_free(store: &[u32], from: usize) -> bool
+    requires { ⌜ from + 8 ≤ length (now store) ⌝ }
+    ensures { λ r. ⌜ r ≡ someOf isFree (now (store .entry)) from 8 ⌝ }
+{
+    let mut some = false;
+    let mut i = 0;
+    while i < WINDOW {
+        some = some | (store[from + i] == 0);
+        i += 1;
+    }
+    some
+}
+
+// Whether one of a window's slots has these 15 bits.
+fn some_bits(store: &[u32], from: usize, bits: u32) -> bool
+    requires { ⌜ from + 8 ≤ length (now store) ⌝ }
+    ensures { λ r. ⌜ r ≡ someOf (hasBits bits) (now (store .entry)) from 8 ⌝ }
+{
+    let mut some = false;
+    let mut i = 0;
+    while i < WINDOW {
+        some = some | (store[from + i] / ROW_RANGE == bits);
+        i += 1;
+    }
+    some
+}
+
+// Whether a walk that finds nothing in the home slot comes to a free slot before any other with the hash's bits, as far as
+// the home and the window after it tell. They do not where the window would pass the end of the ring.
+fn is_missing(slots: u32, store: &[u32], home: u32, hash: u32) -> bool
+    requires { ⌜ (home < slots) × (slots ≤ length (now store)) ⌝ }
+    ensures { λ r. ⌜ (r ≡ true → (d : ℕ) × FreeSoon slots (now (store .entry)) home hash d) ⌝ }
+{
+    let at = home as usize;
+    if (slots as usize) - at <= WINDOW {
+        return false;
+    }
+    if some_bits(store, at + 1, hash % HASH_RANGE) {
+        return false;
+    }
+    if some_free(store, at + 1) {
+        return true;
+    }
+    store[at] == 0
+}
+
+// How far after the home the next slot with the hash's bits lies, as far as four slots tell. From the last to the first, so that
+// each is a choice without a branch. 0 where they would pass the end of the ring.
+fn bits_ahead(slots: u32, store: &[u32], home: u32, hash: u32) -> u32
+    requires { ⌜ (home < slots) × (slots ≤ length (now store)) ⌝ }
+    ensures { λ r. ⌜ Ahead slots (now (store .entry)) home hash r ⌝ }
+{
+    if slots - home <= 5 {
+        return 0;
+    }
+    let mut ahead: u32 = 5;
+    let mut i: u32 = 5;
+    while 1 < i {
+        i -= 1;
+        if store[(home + i) as usize] / ROW_RANGE == hash % HASH_RANGE {
+            ahead = i;
+        }
+    }
+    ahead
+}
+
+// What `find` promises, sooner: most rows stand in their key's home slot, most keys that no row has are told by a window, and
+// most other rows stand in the next slot with their hash's bits.
+// It is for one place of a library: the compiler inlines it at one only, being long, and `find` at each.
+pub fn look_up(t: Keyed, rows: &[u32], store: &[u32], key: &[u32], hash: u32) -> Found
+    requires { ⌜ (Fits t (now rows) (now store)) × (length (now key) ≡ t .keys) ⌝ }
+    ensures { λ r. ⌜ FoundIs t (now (rows .entry)) (now (store .entry)) (now (key .entry)) hash r ⌝ }
+{
+    let slots = 2 * t.capacity;
+    let home = home_slot(slots, hash);
+    let word = store[home as usize];
+    if is_hit(t, rows, key, hash, word) {
+        let row = word % ROW_RANGE - 1;
+        return Found::At(row, home);
+    }
+    if is_missing(slots, store, home, hash) {
+        return Found::None;
+    }
+    let slot = home + bits_ahead(slots, store, home, hash);
+    let next = store[slot as usize];
+    if is_hit(t, rows, key, hash, next) {
+        let row = next % ROW_RANGE - 1;
+        return Found::At(row, slot);
+    }
+    find(t, rows, store, key, hash)
+}
+
+// How many slots from a slot on are taken, as far as four slots tell that lie before the end of the ring. From the last to the
+// first, so that each is a choice without a branch.
+fn taken_run(slots: u32, store: &[u32], start: u32) -> u32
+    requires { ⌜ (start < slots) × (slots ≤ length (now store)) ⌝ }
+    ensures { λ r. ⌜ TakenRun slots (now (store .entry)) start r ⌝ }
+{
+    if slots - start <= 4 {
+        return 0;
+    }
+    let mut run: u32 = 4;
+    let mut i: u32 = 4;
+    while 0 < i {
+        i -= 1;
+        if store[(start + i) as usize] == 0 {
+            run = i;
+        }
+    }
+    run
+}
+
 // A new row's slot: the first free one from its key's home on. False, and nothing is written, if there is none.
 pub fn put(t: Keyed, store: &mut [u32], hash: u32, row: u32) -> bool
     requires { ⌜ (Room (t .capacity) (now store)) × (row < 65536) ⌝ }
     ensures { λ r. ⌜ PutIs (slots t) (now (store .entry)) hash row r (now (store .exit)) ⌝ }
 {
     let slots = 2 * t.capacity;
-    let mut place = home_slot(slots, hash);
-    let mut taken: u32 = 0;
+    let home = home_slot(slots, hash);
+    let mut taken = taken_run(slots, store, home);
+    let mut place = home + taken;
     while taken < slots {
         if store[place as usize] == 0 {
             store[place as usize] = slot_word(hash, row);

@@ -251,7 +251,7 @@ pub extern "C" fn mouldgrey_find(
         return UNFIT;
     }
     let hash = cells::compact_hash(key);
-    match key_index::find(t, rows, store, key, hash) {
+    match key_index::look_up(t, rows, store, key, hash) {
         Found::None => NONE,
         Found::At(row, slot) => slot as u64 * 0x1_0000_0000 + row as u64,
     }

@@ -40,7 +40,7 @@ pub fn get_row_column(h: Header, rows: &[u32], keys: &[u32], key: &[u32], column
     if refusal != 0 {
         return CellAnswer::Refused(refusal);
     }
-    let found = key_index::find(keyed(h), rows, keys, key, cells::compact_hash(key));
+    let found = key_index::look_up(keyed(h), rows, keys, key, cells::compact_hash(key));
     match found {
         Found::None => CellAnswer::None,
         Found::At(row, slot) => {

@@ -1,4 +1,4 @@
--- `key_index::find` meets its contract. The loop's invariant: each slot passed is not free and leads to no row with the key.
+-- `key_index::find` meets its contract. The loop's invariant: each slot passed leads to no row with the key.
 -- Assumes nothing.
 use Prim.Native.Nat.{_-_, _≤_}
 use native.Mathlib.Omega.{arith}
@@ -65,7 +65,7 @@ loop-less c = search needs
 loop-again : tie.Need-loop-again Inv-loop μ-loop
 loop-again c =
     let l = c .before .before .before .before .before .before .loop in
-    let p : Past _ _ _ _ _ = record { taken = c .before .before .before .if1 .left; other = c .before .before .is-hit .ensures .no (c .before .if2 .left) } in
+    let p : Past _ _ _ _ _ = record { other = c .before .before .is-hit .ensures .no (c .before .if2 .left) } in
     on _ _ _ _ (l .at) (l .passed) _ (l .inv) (c .before .before .before .before .before .loop-test .taken) p (c .next-slot .ensures .0)
 
 returns-3 : tie.Need-returns-3 Inv-loop μ-loop

@@ -4,17 +4,18 @@ use mathlib.Core.Path.{_≡_, refl}
 use native.Mathlib.Omega.{arith}
 use lib.ListN.{length, length-set}
 use Rattle.key_index.specs.Slots.{spread}
-use Rattle.key_index.proofs.WalkSteps.{Walked, begin, on}
-use Rattle.key_index.proofs.PutSteps.{Taken, put-here, put-none}
+use Rattle.key_index.proofs.WalkSteps.{Walked, begin-past, on}
+use Rattle.key_index.proofs.PutSteps.{put-here, put-none}
+use Rattle.key_index.proofs.WindowSteps.{Taken}
 use borrow.Author.Needs.{needs}
 use Rattle.key_index.proofs.put.Statement.{statement}
 use Rattle.key_index.proofs.put.Tie as tie
 
 abbrev Inv-loop : tie.InvT-loop
-Inv-loop store₀ hash row slots place₀ taken₀ store place taken = (length store ≡ length store₀) × (store ≡ store₀) × Walked slots store₀ Taken (spread slots hash) place taken
+Inv-loop store₀ hash row slots home taken₀ place₀ store taken place = (length store ≡ length store₀) × (store ≡ store₀) × Walked slots store₀ Taken (spread slots hash) place taken
 
 abbrev μ-loop : tie.MeasureT-loop
-μ-loop store₀ hash row slots place₀ taken₀ store place taken = slots - taken
+μ-loop store₀ hash row slots home taken₀ place₀ store taken place = slots - taken
 
 mul-slots : tie.Need-mul-slots Inv-loop μ-loop
 mul-slots c = search needs
@@ -22,8 +23,16 @@ mul-slots c = search needs
 home-slot-requires : tie.Need-home-slot-requires Inv-loop μ-loop
 home-slot-requires c κs = search needs
 
+taken-run-requires : tie.Need-taken-run-requires Inv-loop μ-loop
+taken-run-requires c κs = search needs
+
+add-place : tie.Need-add-place Inv-loop μ-loop
+add-place c = search needs
+
 loop-holds : tie.Need-loop-holds Inv-loop μ-loop
-loop-holds c = (refl, refl, begin _ _ _ _ _ (c .home-slot .ensures .0) (c .home-slot .ensures .1))
+loop-holds c =
+    let r = c .taken-run .ensures in
+    (refl, refl, begin-past _ _ _ _ _ _ (c .before .before .home-slot .ensures .0) (r .below) (r .each))
 
 cast-if1 : tie.Need-cast-if1 Inv-loop μ-loop
 cast-if1 c = search needs
@@ -86,6 +95,8 @@ put-spec =
     μ-loop
     mul-slots
     home-slot-requires
+    taken-run-requires
+    add-place
     loop-holds
     cast-if1
     mul-if1

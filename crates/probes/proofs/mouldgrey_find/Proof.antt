@@ -17,8 +17,8 @@ returns-2 c = search needs
 compact-hash-requires : tie.Need-compact-hash-requires
 compact-hash-requires c κs = search needs
 
-find-requires : tie.Need-find-requires
-find-requires c κs =
+look-up-requires : tie.Need-look-up-requires
+look-up-requires c κs =
     let z = c .before .before .before .fits2 .ensures (not-false _ (c .before .before .if1 .left)) in omega arith
 
 enum-told : tie.Need-enum-told
@@ -53,7 +53,7 @@ mouldgrey-find-spec =
     returns
     returns-2
     compact-hash-requires
-    find-requires
+    look-up-requires
     enum-told
     enum-known-row
     cast-result

@@ -17,8 +17,8 @@ keyed-requires c κs = search needs
 compact-hash-requires : tie.Need-compact-hash-requires
 compact-hash-requires c κs = search needs
 
-find-requires : tie.Need-find-requires
-find-requires c κs = cell-asks _ _ _ (c .before .before .before .before .before .before .before .args .key .now) _ _ (c .before .before .before .before .before .before .before .args .column) (c .before .keyed .ensures) (c .before .before .before .cell-refusal .ensures) (c .before .before .if1 .left)
+look-up-requires : tie.Need-look-up-requires
+look-up-requires c κs = cell-asks _ _ _ (c .before .before .before .before .before .before .before .args .key .now) _ _ (c .before .before .before .before .before .before .before .args .column) (c .before .keyed .ensures) (c .before .before .before .cell-refusal .ensures) (c .before .before .if1 .left)
 
 enum-told : tie.Need-enum-told
 enum-told c = search needs
@@ -31,7 +31,7 @@ there : (c : tie.After-struct-known) → let a = c .before .before .before .befo
 there c =
     let f = c .before .before .before .before in
     let l = f .before .before in
-    cell-in _ _ _ _ _ _ _ (l .keyed .ensures) (f .before .compact-hash .ensures) (f .find .ensures) _ _ (l .before .before .cell-refusal .ensures) (l .before .if1 .left) _ _
+    cell-in _ _ _ _ _ _ _ (l .keyed .ensures) (f .before .compact-hash .ensures) (f .look-up .ensures) _ _ (l .before .before .cell-refusal .ensures) (l .before .if1 .left) _ _
     (c .before .before .found .given .1)
 
 mul-at : tie.Need-mul-at
@@ -50,10 +50,10 @@ shared-slice-read-t18 : tie.Need-shared-slice-read-t18
 shared-slice-read-t18 c = omega (arith, there (c .before))
 
 returns-2 : tie.Need-returns-2
-returns-2 c = cell-none _ _ _ _ _ _ _ (c .before .before .before .before .keyed .ensures) (c .before .before .before .compact-hash .ensures) (c .before .before .find .ensures) _ _ (c .before .before .before .before .before .before .cell-refusal .ensures) (c .before .before .before .before .before .if1 .left) (c .enum-told .given .1)
+returns-2 c = cell-none _ _ _ _ _ _ _ (c .before .before .before .before .keyed .ensures) (c .before .before .before .compact-hash .ensures) (c .before .before .look-up .ensures) _ _ (c .before .before .before .before .before .before .cell-refusal .ensures) (c .before .before .before .before .before .if1 .left) (c .enum-told .given .1)
 
 returns-3 : tie.Need-returns-3
-returns-3 c = cell-found _ _ _ _ _ _ _ (c .before .before .before .before .before .before .before .keyed .ensures) (c .before .before .before .before .before .before .compact-hash .ensures) (c .before .before .before .before .before .find .ensures) _ _ (c .before .before .before .before .before .before .before .before .before .cell-refusal .ensures) (c .before .before .before .before .before .before .before .before .if1 .left) _ _ (c .before .before .before .found .given .1)
+returns-3 c = cell-found _ _ _ _ _ _ _ (c .before .before .before .before .before .before .before .keyed .ensures) (c .before .before .before .before .before .before .compact-hash .ensures) (c .before .before .before .before .before .look-up .ensures) _ _ (c .before .before .before .before .before .before .before .before .before .cell-refusal .ensures) (c .before .before .before .before .before .before .before .before .if1 .left) _ _ (c .before .before .before .found .given .1)
 
 pub get-row-column-spec : {M : Type 1} → statement M
 get-row-column-spec =
@@ -63,7 +63,7 @@ get-row-column-spec =
     returns
     keyed-requires
     compact-hash-requires
-    find-requires
+    look-up-requires
     enum-told
     enum-known-found
     mul-at
