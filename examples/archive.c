@@ -175,8 +175,7 @@ int main(void) {
            (unsigned)mouldgrey_stage_insert(header, LENGTH(header), pending, LENGTH(pending),
                                             short_row, LENGTH(short_row)));
     printf("short key store: refused %u\n",
-           (unsigned)mouldgrey_clear(header, LENGTH(header), rows, LENGTH(rows), keys,
-                                     LENGTH(keys) - 1));
+           (unsigned)mouldgrey_clear(header, LENGTH(header), keys, LENGTH(keys) - 1));
 
     accepted("compact",
              mouldgrey_compact(header, LENGTH(header), rows, LENGTH(rows), keys, LENGTH(keys),

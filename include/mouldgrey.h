@@ -128,7 +128,7 @@ struct mouldgrey_constraint {
  */
 
 /*
- * Makes an empty table. Writes the header, and sets the first 2 * capacity words of keys to 0;
+ * Makes an empty table. Writes the header, and of keys words among the first 2 * capacity;
  * rows, sorts and pending are only looked at for their lengths. What the header held does not
  * count. Refuses: 1, 2.
  */
@@ -187,10 +187,9 @@ uint32_t mouldgrey_compact(uint32_t *header, size_t header_len, uint32_t *rows, 
 
 /*
  * Drops what is staged; if there are rows, drops them too, and the generation rises. Writes the
- * header and the first 2 * capacity words of keys. Refuses: 1, 2, 10 if there are rows.
+ * header, and of keys words among the first 2 * capacity. Refuses: 1, 2, 10 if there are rows.
  */
-uint32_t mouldgrey_clear(uint32_t *header, size_t header_len, const uint32_t *rows,
-                         size_t rows_len, uint32_t *keys, size_t keys_len);
+uint32_t mouldgrey_clear(uint32_t *header, size_t header_len, uint32_t *keys, size_t keys_len);
 
 /*
  * Questions. The answer goes into words, whose length must be the number given, else 2; header_len

@@ -217,13 +217,11 @@ pub fn compact(
 
 /// Drops what is staged, and all rows. Refused by 1, 2 and, if there are rows, 10.
 #[inline]
-pub fn clear(header: &mut Header, rows: &[u32], keys: &mut [u32]) -> Result<(), Refusal> {
+pub fn clear(header: &mut Header, keys: &mut [u32]) -> Result<(), Refusal> {
     verdict(unsafe {
         raw::mouldgrey_clear(
             words_of(header),
             HEADER_WORDS,
-            rows.as_ptr(),
-            rows.len(),
             keys.as_mut_ptr(),
             keys.len(),
         )

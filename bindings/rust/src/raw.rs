@@ -82,8 +82,6 @@ unsafe extern "C" {
     pub fn mouldgrey_clear(
         header: *mut u32,
         header_len: usize,
-        rows: *const u32,
-        rows_len: usize,
         keys: *mut u32,
         keys_len: usize,
     ) -> u32;

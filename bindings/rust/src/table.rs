@@ -216,8 +216,7 @@ impl Table {
 
     /// Drops what is staged, and all rows. Refused by 10, if there are rows.
     pub fn clear(&mut self) -> Result<(), Refusal> {
-        let s = &mut self.stores;
-        lent::clear(&mut s.header, &s.rows, &mut s.keys)
+        lent::clear(&mut self.stores.header, &mut self.stores.keys)
     }
 
     /// The live row of a key. Refused by 3.

@@ -1,10 +1,12 @@
 // One row appended to a table: it enters the sort entries or stops the merge, stands after the other rows, and the key store leads
 // to it. Stops are tested before anything is written.
 ghost use mathlib.Core.Path.{_≡_};
-ghost use Prim.Native.Nat.{_≤_, _+_, _*_, _<_};
+ghost use Prim.Native.Nat.{_≤_, _+_, _<_};
+ghost use Rattle.key_index.specs.Slots.{slots};
 ghost use Rattle.plain.specs.Plain.{below};
 ghost use Rattle.table.specs.Numbers.{largestSays};
-ghost use Rattle.appending.specs.inner.Appending.{Enterable, AdmissionIs, grownTo, Growable, NewIs, ReplaceIs};
+ghost use Rattle.table.specs.Sound.{keyedOf};
+ghost use Rattle.appending.specs.inner.Appending.{Enterable, AdmissionIs, grownTo, outgrown, Rebuildable, RebuiltGrown, Growable, NewIs, ReplaceIs};
 use table::Header;
 use table::Largest;
 use table::keyed;
@@ -62,6 +64,31 @@ fn grown(h: Header, died: u32, entries: u32, value: u32) -> Header
     }
 }
 
+// Whether one row more takes more room in the key store.
+fn is_outgrown(h: Header) -> bool
+    requires { ⌜ h .rows < 65536 ⌝ }
+    ensures { λ r. ⌜ r ≡ outgrown h ⌝ }
+{
+    key_index::room_for(h.capacity, h.rows + 1) != key_index::room_for(h.capacity, h.rows)
+}
+
+// A row that takes more room was written: the key store is rebuilt with it.
+fn rebuild_grown(
+    h: Header,
+    rows: &[u32],
+    keys: &mut [u32],
+    died: u32,
+    entries: u32,
+    value: u32,
+) -> Insertion
+    requires { ⌜ Rebuildable h (now rows) (now keys) died ⌝ }
+    ensures { λ r. ⌜ RebuiltGrown h (now (rows .entry)) (now (keys .entry)) died entries value r (now (keys .exit)) ⌝ }
+{
+    let n = grown(h, died, entries, value);
+    key_growth::rebuild(keyed(n), rows, keys);
+    Insertion::Appended(n)
+}
+
 // A new key's row is appended. Where the key store is sound a slot is free.
 pub fn insert_new(
     h: Header,
@@ -79,6 +106,9 @@ pub fn insert_new(
         Admission::Stop(number) => Insertion::Stopped(number),
         Admission::Entries(entries) => {
             row_buffer::write_row(rows, (h.rows * h.columns) as usize, cells);
+            if is_outgrown(h) {
+                return rebuild_grown(h, rows, keys, 0, entries, value);
+            }
             key_index::put(keyed(h), keys, hash, h.rows);
             Insertion::Appended(grown(h, 0, entries, value))
         }
@@ -96,7 +126,7 @@ pub fn replace_row(
     old: u32,
     slot: u32,
 ) -> Insertion
-    requires { ⌜ Growable h (now rows) (now keys) (now sorts) (now cells) × (old < h .rows) × (slot < 2 * h .capacity) ⌝ }
+    requires { ⌜ Growable h (now rows) (now keys) (now sorts) (now cells) × (old < h .rows) × (slot < slots (keyedOf h)) ⌝ }
     ensures { λ r. ⌜ ReplaceIs h (now (rows .entry)) (now (keys .entry)) (now (sorts .entry)) (now (cells .entry)) hash old slot (now (rows .exit)) (now (keys .exit)) (now (sorts .exit)) r ⌝ }
 {
     let value = cells[h.sort as usize];
@@ -105,6 +135,9 @@ pub fn replace_row(
         Admission::Entries(entries) => {
             row_buffer::set_stale(rows, (old * h.columns) as usize);
             row_buffer::write_row(rows, (h.rows * h.columns) as usize, cells);
+            if is_outgrown(h) {
+                return rebuild_grown(h, rows, keys, 1, entries, value);
+            }
             key_index::replace(keys, slot, hash, h.rows);
             Insertion::Appended(grown(h, 1, entries, value))
         }

@@ -75,7 +75,7 @@ pub fn make_call(
         return header_after(h, compact(h, rows, keys, sorts, live, base));
     }
     if kind == 5 {
-        return header_after(h, clear(h, rows, keys));
+        return header_after(h, clear(h, keys));
     }
     h
 }

@@ -10,6 +10,7 @@ use lib.Count.{trailingZeros}
 use lib.ListN.{length, take, drop, getD, set, length-take, length-drop, length-set, length-append}
 use lib.Seq.{drop-set-lt}
 use Rattle.lists.specs.Lists.{putAt, keep, rowAt, rowsOf, flat}
+use Rattle.lists.specs.inner.Searching.{mapFront}
 use Rattle.lists.specs.Laws.Parts.{putAt-nil, getD-putAt-in}
 use Rattle.lists.specs.Laws.Keep.{length-keep}
 use Rattle.lists.specs.Laws.Rows.{row-in}
@@ -25,9 +26,10 @@ use Rattle.key_index.specs.declared.Keyed.{Keyed}
 use Rattle.key_index.specs.Slots.{slots}
 use Rattle.key_index.specs.inner.Index.{RowsIn, Fits}
 use Rattle.key_index.specs.Laws.Index.{rows-in}
-use Rattle.key_index.specs.Laws.Lines.{small}
-use Rattle.renumbering.specs.inner.Renumbering.{Ranked, Rest, FewRenumbered}
-use Rattle.renumbering.specs.Laws.Renumbering.{live-first, below-number, live-among, either-renumbered}
+use Rattle.key_index.specs.Laws.Rooms.{room-most}
+use Rattle.key_growth.specs.inner.Growth.{Rebuilt}
+use Rattle.renumbering.specs.inner.Renumbering.{renumbered, Ranked}
+use Rattle.renumbering.specs.Laws.Renumbering.{live-first, below-number, live-among}
 use Rattle.refusals.specs.Laws.Replies.{verdict-refused, verdict-accepted}
 use Rattle.table.specs.declared.Header.{Header}
 use Rattle.table.specs.declared.TableAnswer.the-variants.{Refused as TableRefused, Table}
@@ -35,11 +37,12 @@ use Rattle.compaction.specs.declared.Kept.{Kept}
 use Rattle.table.specs.Numbers.{tableSays}
 use Rattle.table.specs.Refusing.{compactRefusal}
 use Rattle.table.specs.Sound.{keyedOf}
+use Rattle.table.specs.inner.Whole.{wholeOf}
 use Rattle.table.specs.Promises.{body, compactionWords, PastNeeded, lengths, Compacting}
-use Rattle.table.specs.Laws.Refusals.{inside-fits, compact-accepted}
-use Rattle.compaction.specs.inner.Compaction.{Lendable, Compaction}
+use Rattle.table.specs.Laws.Refusals.{inside-whole, whole-fits, compact-accepted}
+use Rattle.compaction.specs.inner.Compaction.{Lendable, Leading, Compaction}
 use Rattle.compaction.specs.inner.ClosingUp.{Movable, Closable, Keepable, RowKept, Closing, blockWord, Block, BlockKept, Closed, liveStored, entriesFor, closedHeader}
-use Rattle.compaction.specs.Laws.Compaction.{live-one, live-skip, later-row, close-one, entries-one, rebuild-one, Words, words-begin, words-next, words-number, compaction}
+use Rattle.compaction.specs.Laws.Compaction.{length-live, live-one, live-skip, later-row, close-one, entries-one, rebuild-one, Words, words-begin, words-next, words-number, compaction}
 
 -- ---- a row is kept
 
@@ -48,7 +51,7 @@ pub record Placed (columns cells row : ℕ) : Type 0 where
   pub inside : row * columns + columns ≤ cells
   pub fits : row * columns ≤ 524288
 
-pub placed : (h : Header) (rows : List ℕ) (row : ℕ) → RowsIn (keyedOf h) rows → row < h .rows → Placed (h .columns) (length rows) row
+pub placed : (h : Header) (rows : List ℕ) (row : ℕ) → RowsIn (wholeOf h) rows → row < h .rows → Placed (h .columns) (length rows) row
 placed h rows row r k =
     let a = row-in row (h .capacity) (h .columns) (omega (arith, r .count)) in
     let b : row * h .columns ≤ 65536 * h .columns = mul-le-mul-right (h .columns) (omega (arith, r .count, r .most)) in
@@ -366,30 +369,58 @@ module _ {h : Header} {rows keys sorts live base : List ℕ} (lent : Lendable h 
   pub closable : Closable h rows sorts live base
   closable =
       record {
-        movable = record { within = rows-in (keyedOf h) rows keys (lent .fits); sort-column = lent .sort-column; sorts-long = lent .sorts-long };
+        movable = record { within = rows-in (wholeOf h) rows keys (lent .fits); sort-column = lent .sort-column; sorts-long = lent .sorts-long };
         live-long = lent .live-long;
         base-long = lent .base-long;
       }
 
-  module _ {t : Keyed} (e : t ≡ keyedOf h) where
-    -- and for the key store's new numbers
-    pub can-renumber : Fits t rows keys
-    can-renumber = rw e (lent .fits)
+  -- and for the key store to lead to them
+  pub can-lead : {kept : Kept} {rows′ keys′ sorts′ live′ base′ : List ℕ} → Closed h rows sorts live base kept rows′ sorts′ live′ base′ → length rows′ ≡ length rows
+      → length keys′ ≡ length keys → length live′ ≡ length live → length base′ ≡ length base
+      → (Ranked (keyedOf h) live′ base′) × (slots (keyedOf h) ≤ length keys′) × (Fits (keyedOf (closedHeader h kept)) rows′ keys′)
+  unfolding liveStored
+  can-lead {kept} {rows′} {keys′} c er ek el eb =
+      let w = lent .fits in
+      let f = whole-fits h rows keys w in
+      let most = room-most (h .capacity) (h .rows) in
+      let few : kept .rows ≤ h .rows = omega (arith, c .rows-counted, length-live (h .columns) (h .rows) rows) in (
+        record { room = f .most; count = f .count; marks = omega (arith, lent .live-long); firsts = omega (arith, lent .base-long) },
+        rw ek (f .long),
+        whole-fits (closedHeader h kept) rows′ keys′ (record {
+          some-columns = w .some-columns;
+          most-columns = w .most-columns;
+          some-keys = w .some-keys;
+          most-keys = w .most-keys;
+          some = w .some;
+          most = w .most;
+          count = omega (arith, w .count);
+          cells = rw er (w .cells);
+          long = rw ek (w .long);
+        }),
+      )
 
-    module _ {live′ base′ : List ℕ} where
-      pub can-rest : (n : ℕ) → n ≡ length keys → length live′ ≡ length live → length base′ ≡ length base → (Ranked t live′ base′) × (slots t ≤ n)
-      can-rest n ek el eb =
-          rw e
-          (record { capacity = lent .fits .most; count = lent .fits .count; marks = rw el (lent .live-long); firsts = rw eb (lent .base-long) }, rw ek (lent .fits .long))
+  pub compact-end : {kept : Kept} {rows′ keys′ sorts′ live′ base′ : List ℕ} → h .generation < 4294967295 → Closed h rows sorts live base kept rows′ sorts′ live′ base′
+      → Leading h (closedHeader h kept) rows′ keys live′ base′ keys′ → length keys′ ≡ length keys
+      → Compaction h rows keys sorts live base (closedHeader h kept) rows′ keys′ sorts′ live′ base′
+  compact-end {kept} {rows′} {keys′} {sorts′} {live′} {base′} g c led same = compaction h rows keys sorts live base lent kept rows′ sorts′ live′ base′ c keys′ same led g
 
-      pub compact-end : {done : Bool} {kept : Kept} {rows′ keys₁ keys′ sorts′ : List ℕ} → h .generation < 4294967295 → FewRenumbered t rows keys done keys₁
-          → Closed h rows sorts live base kept rows′ sorts′ live′ base′ → Rest t done keys₁ live′ base′ keys′ → length keys′ ≡ length keys
-          → Compaction h rows keys sorts live base (closedHeader h kept) rows′ keys′ sorts′ live′ base′
-      compact-end {done} {kept} {rows′} {keys₁} {keys′} {sorts′} g few c rest same =
-          compaction h rows keys sorts live base lent kept rows′ sorts′ live′ base′ c keys′ same
-          (either-renumbered (keyedOf h) rows keys keys₁ keys′ live′ base′ done (small (keyedOf h) rows keys (lent .fits)) (lent .fits .long) (c .numbered)
-          (rw e at few) (rw e at rest))
-          g
+-- ---- the key store
+
+module _ {t : Keyed} (u : Keyed) (e : t ≡ u) where
+  pub lead-fits : {rows keys : List ℕ} → Fits u rows keys → Fits t rows keys
+  lead-fits f = rw e f
+
+  pub lead-ranked : {live base : List ℕ} {n : ℕ} → Ranked u live base → slots u ≤ n → (Ranked t live base) × (slots t ≤ n)
+  lead-ranked r long = rw e (r, long)
+
+module _ (h n : Header) {rows keys live base keys′ : List ℕ} (t : Keyed) (e : t ≡ keyedOf h) (u : Keyed) (f : u ≡ keyedOf n) where
+  -- in another room
+  pub led-anew : (u .room ≡ t .room → ⊥) → Rebuilt u rows keys keys′ → Leading h n rows keys live base keys′
+  led-anew ne r = record { numbers = λ q. absurd ((rw (e, f) at ne) q); anew = λ _. rw f at r }
+
+  -- in the same
+  pub led-renumbered : u .room ≡ t .room → keys′ ≡ mapFront (renumbered t live base) (slots t) keys → Leading h n rows keys live base keys′
+  led-renumbered q r = record { numbers = λ _. rw e at r; anew = λ ne. absurd (ne (rw (e, f) at q)) }
 
 -- ---- the entry point
 
@@ -413,7 +444,7 @@ module _ (h : Header) (rows keys sorts live base : List ℕ) where
     compact-lendable g =
         let k = compact-accepted h (lengths rows keys sorts [] live base) (sym number ∙ taken) in (
           record {
-            fits = inside-fits h rows keys (k .inside) (k .long .rows-long) (k .long .keys-long);
+            fits = inside-whole h rows keys (k .inside) (k .long .rows-long) (k .long .keys-long);
             sort-column = k .inside .bounds .sort-column;
             sorts-long = k .long .sorts-long;
             live-long = k .words .live-long;

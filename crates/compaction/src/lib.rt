@@ -1,9 +1,14 @@
 // Compaction: `rehash_impl` of table/mod.rs. One pass moves the live rows down, marks them in the compaction words and rebuilds
-// the sort entries. Another gives the key store the new row numbers: after it, over the slots and without hashing; or before it,
-// over the rows, where they are few.
-ghost use Prim.Native.Nat.{_<_};
+// the sort entries. Another gives the key store the new row numbers, over the slots and without hashing; where the rows left take
+// less room, the key store is rebuilt.
+ghost use Prim.Native.Nat.{_<_, _≤_};
+ghost use lib.ListN.{length};
+ghost use Rattle.key_index.specs.Slots.{slots};
+ghost use Rattle.key_index.specs.inner.Index.{Fits};
+ghost use Rattle.renumbering.specs.inner.Renumbering.{Ranked};
+ghost use Rattle.table.specs.Sound.{keyedOf};
 ghost use Rattle.table.specs.Promises.{body, compactionWords, Compacting};
-ghost use Rattle.compaction.specs.inner.Compaction.{Lendable, Compaction};
+ghost use Rattle.compaction.specs.inner.Compaction.{Lendable, Leading, Compaction};
 ghost use Rattle.compaction.specs.inner.ClosingUp.{Keepable, RowKept, Block, BlockKept, Closable, Closed};
 use table::Header;
 use table::Lent;
@@ -84,6 +89,21 @@ fn close_up(
     kept
 }
 
+// The key store leads to the rows that are left, under another header: by their new numbers in the same slots, or rebuilt where
+// they take less room.
+fn lead(h: Header, n: Header, rows: &[u32], keys: &mut [u32], live: &[u64], base: &[u32])
+    requires { ⌜ (Ranked (keyedOf h) (now live) (now base)) × (slots (keyedOf h) ≤ length (now keys)) × (Fits (keyedOf n) (now rows) (now keys)) ⌝ }
+    ensures { λ _. ⌜ Leading h n (now (rows .entry)) (now (keys .entry)) (now (live .entry)) (now (base .entry)) (now (keys .exit)) ⌝ }
+{
+    let t = keyed(h);
+    let after = keyed(n);
+    if after.room != t.room {
+        key_growth::rebuild(after, rows, keys);
+        return;
+    }
+    renumbering::renumber(t, keys, live, base);
+}
+
 // Compacts a table whose header and stores were tested.
 pub fn compact_rows(
     h: Header,
@@ -96,15 +116,13 @@ pub fn compact_rows(
     requires { ⌜ Lendable h (now rows) (now keys) (now sorts) (now live) (now base) × (h .generation < 4294967295) ⌝ }
     ensures { λ r. ⌜ Compaction h (now (rows .entry)) (now (keys .entry)) (now (sorts .entry)) (now (live .entry)) (now (base .entry)) r (now (rows .exit)) (now (keys .exit)) (now (sorts .exit)) (now (live .exit)) (now (base .exit)) ⌝ }
 {
-    let t = keyed(h);
-    let few = renumbering::renumber_few(t, rows, keys);
     let kept = close_up(h, rows, sorts, live, base);
-    renumbering::renumber_rest(t, few, keys, live, base);
     let mut n = h;
     n.rows = kept.rows;
     n.dead = 0;
     n.entries = kept.entries;
     n.generation = h.generation + 1;
+    lead(h, n, rows, keys, live, base);
     n
 }
 

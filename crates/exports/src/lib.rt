@@ -132,13 +132,13 @@ pub extern "C" fn mouldgrey_compact(
 }
 
 #[no_mangle]
-pub extern "C" fn mouldgrey_clear(header: &mut [u32], rows: &[u32], keys: &mut [u32]) -> u32
-    ensures { λ r. ⌜ CallInWords (λ answer. Clearing (headerIn (now (header .entry))) (now (rows .entry)) (now (keys .entry)) answer (now (keys .exit))) (now (keys .exit) ≡ now (keys .entry)) (now (header .entry)) r (now (header .exit)) ⌝ }
+pub extern "C" fn mouldgrey_clear(header: &mut [u32], keys: &mut [u32]) -> u32
+    ensures { λ r. ⌜ CallInWords (λ answer. Clearing (headerIn (now (header .entry))) (now (keys .entry)) answer (now (keys .exit))) (now (keys .exit) ≡ now (keys .entry)) (now (header .entry)) r (now (header .exit)) ⌝ }
 {
     if header.len() != 12 {
         return 1;
     }
-    let answer = opening::clear(header_of(header), rows, keys);
+    let answer = opening::clear(header_of(header), keys);
     write_table(answer, header)
 }
 

@@ -29,7 +29,7 @@ pub data Called (s : Stores) : LentCall → Stores → Type 0 where
       → Called s
       (record { call = compacting; lengths = lengthsLent s w })
       (joined (headerAfter (s .header) (tableSays answer)) b′ (s .pending))
-  clears : (answer : TableAnswer) (keys′ : List ℕ) → Clearing (s .header) (s .rows) (s .keys) answer keys′
+  clears : (answer : TableAnswer) (keys′ : List ℕ) → Clearing (s .header) (s .keys) answer keys′
       → Called s
       (record { call = clearing; lengths = lengthsLent s noWords })
       (joined (headerAfter (s .header) (tableSays answer)) (body (s .rows) keys′ (s .sorts)) (s .pending))

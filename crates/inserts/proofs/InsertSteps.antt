@@ -20,11 +20,13 @@ use Rattle.merge_rules.specs.Survivor.{survivor}
 use Rattle.key_index.specs.declared.Keyed.{Keyed}
 use Rattle.key_index.specs.declared.Found.{Found}
 use Rattle.key_index.specs.declared.Found.the-variants.{None, At}
+use Rattle.key_index.specs.Slots.{slots}
 use Rattle.key_index.specs.inner.Index.{Fits, FoundIs}
 use Rattle.table.specs.declared.Header.{Header}
 use Rattle.appending.specs.declared.Insertion.{Insertion}
 use Rattle.appending.specs.declared.Insertion.the-variants.{Kept, Appended, Stopped}
 use Rattle.table.specs.Sound.{keyedOf}
+use Rattle.table.specs.Laws.Refusals.{whole-fits}
 use Rattle.pending.specs.inner.Becoming.{Ready}
 use Rattle.inserts.specs.inner.Inserting.{Inserting}
 use Rattle.appending.specs.Laws.Places.{placed}
@@ -142,7 +144,7 @@ module _ (h : Header) (rows keys sorts pending : List ℕ) (from hash : ℕ) (re
   findable t e =
       let n : length (take (from + h .keys - from) (drop from pending)) ≡ h .keys =
       simp (length-take, length-drop) (omega (arith, ready .pending-fits, ready .fits .most-keys)) in
-      rw e (ready .fits, n)
+      rw e (whole-fits h rows keys (ready .fits), n)
 
   -- a row can be appended
   pub growable : Growable h rows keys sorts (take (from + h .columns - from) (drop from pending))
@@ -166,7 +168,7 @@ module _ (h : Header) (rows keys sorts pending : List ℕ) (from hash : ℕ) (re
     pub found-row : (old slot : ℕ) → f ≡ At old slot → old < h .rows
     found-row old slot e = looked-up .row-in old slot e
 
-    pub found-slot : (old slot : ℕ) → f ≡ At old slot → slot < 2 * h .capacity
+    pub found-slot : (old slot : ℕ) → f ≡ At old slot → slot < slots (keyedOf h)
     found-slot old slot e = looked-up .slot-in old slot e
 
     module _ (b : Bool) (e : b ≡ isDead (getD pending from 0)) (q : b ≡ false) (rows′ keys′ sorts′ : List ℕ) where

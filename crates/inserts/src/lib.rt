@@ -1,7 +1,9 @@
 // One insert of a merge. A new key's row is appended; a known key's goes through the rule, and a row so made is appended while the
 // old one dies.
 ghost use mathlib.Core.Path.{_≡_};
-ghost use Prim.Native.Nat.{_≤_, _+_, _*_, _<_};
+ghost use Prim.Native.Nat.{_≤_, _+_, _<_};
+ghost use Rattle.key_index.specs.Slots.{slots};
+ghost use Rattle.table.specs.Sound.{keyedOf};
 ghost use Rattle.pending.specs.inner.Becoming.{Ready};
 ghost use lib.ListN.{take, drop};
 ghost use Rattle.inserts.specs.inner.Inserting.{Inserting};
@@ -55,7 +57,7 @@ fn insert_known(
     old: u32,
     slot: u32,
 ) -> Insertion
-    requires { ⌜ Ready h (now rows) (now keys) (now sorts) (now pending) × (from + h .columns ≤ h .pending) × (old < h .rows) × (slot < 2 * h .capacity) ⌝ }
+    requires { ⌜ Ready h (now rows) (now keys) (now sorts) (now pending) × (from + h .columns ≤ h .pending) × (old < h .rows) × (slot < slots (keyedOf h)) ⌝ }
     ensures { λ r. ⌜ KnownIs h (now (rows .entry)) (now (keys .entry)) (now (sorts .entry)) (take (h .columns) (drop from (now (pending .entry)))) hash old slot (now (rows .exit)) (now (keys .exit)) (now (sorts .exit)) r ⌝ }
 {
     let mut row = [0u32; 8];

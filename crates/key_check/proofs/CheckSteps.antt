@@ -39,7 +39,7 @@ pub record Inside (t : Keyed) (rows : List ℕ) (row : ℕ) : Type 0 where
 
 pub inside : (t : Keyed) (rows : List ℕ) (row : ℕ) → RowsLie t rows → row < t .rows → Inside t rows row
 inside t rows row s h =
-    let e = row-in row (t .capacity) (t .columns) (omega (arith, s .count)) in
+    let e = row-in row (t .room) (t .columns) (omega (arith, s .count)) in
     record { in-store = omega (arith, s .cells); small = omega (arith, mul-le-mul (s .most) (s .most-columns)) }
 
 -- the part of the store that is lent is the row, or its key

@@ -75,7 +75,7 @@ fn stands(t: Keyed, rows: &[u32], word: u32, at: u32, run: u32) -> bool
     if word != slot_word(hash, row) {
         return false;
     }
-    let n = 2 * t.capacity;
+    let n = 2 * t.room;
     let home = home_slot(n, hash);
     (at + (n - home)) % n < run
 }
@@ -86,7 +86,7 @@ fn round_holds(t: Keyed, rows: &[u32], store: &[u32], free: u32, live: u32, seen
     requires { ⌜ RoundFits t (now rows) (now store) free live (now seen) ⌝ }
     ensures { λ r. ⌜ KeysChecked t (now (rows .entry)) (now (store .entry)) r ⌝ }
 {
-    let n = 2 * t.capacity;
+    let n = 2 * t.room;
     let mut run: u32 = 0;
     let mut taken: u32 = 0;
     let mut place: u32 = 1;
@@ -118,7 +118,7 @@ pub fn keys_sound(t: Keyed, rows: &[u32], store: &[u32]) -> bool
     ensures { λ r. ⌜ KeysChecked t (now (rows .entry)) (now (store .entry)) r ⌝ }
 {
     let live = count_live(t, rows);
-    let n = 2 * t.capacity;
+    let n = 2 * t.room;
     let free = free_slot(n, store);
     if n <= free {
         return false;

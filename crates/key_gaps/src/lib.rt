@@ -31,7 +31,7 @@ fn home_away(t: Keyed, rows: &[u32], word: u32, at: u32) -> u32
     ensures { λ r. ⌜ r ≡ away (slots t) (homeOf t (now (rows .entry)) word) at ⌝ }
 {
     let hash = key_index::row_hash(t, rows, word % ROW_RANGE - 1);
-    let n = 2 * t.capacity;
+    let n = 2 * t.room;
     let home = home_slot(n, hash);
     slots_away(n, home, at)
 }
@@ -52,7 +52,7 @@ fn close_gap(t: Keyed, rows: &[u32], store: &mut [u32], slot: u32) -> u32
     requires { ⌜ (Fits t (now rows) (now store)) × (slot < slots t) ⌝ }
     ensures { λ r. ⌜ Shifted t (now (rows .entry)) (now (store .entry)) slot r (now (store .exit)) ⌝ }
 {
-    let n = 2 * t.capacity;
+    let n = 2 * t.room;
     let mut hole = slot;
     let mut held = store[slot as usize];
     let mut gap = 0;

@@ -52,11 +52,11 @@ empty-step store i h =
 pub empty-begin : (store : List ℕ) → store ≡ putAt store 0 (zeros 0)
 empty-begin store = sym (putAt-nil store 0)
 
-pub empty-end : (capacity : ℕ) (store store′ : List ℕ) → 2 * capacity ≤ length store → store′ ≡ putAt store 0 (zeros (2 * capacity))
-    → EmptyIs capacity store store′
-empty-end capacity store store′ h e =
-    let r : length (zeros (2 * capacity)) ≡ 2 * capacity = length-replicate (2 * capacity) 0 in
+pub empty-end : (room : ℕ) (store store′ : List ℕ) → 2 * room ≤ length store → store′ ≡ putAt store 0 (zeros (2 * room))
+    → EmptyIs room store store′
+empty-end room store store′ h e =
+    let r : length (zeros (2 * room)) ≡ 2 * room = length-replicate (2 * room) 0 in
     record {
       free = e;
-      tail = ap (drop (2 * capacity)) e ∙ drop-putAt store (zeros (2 * capacity)) 0 (omega arith) (2 * capacity) (omega arith);
+      tail = ap (drop (2 * room)) e ∙ drop-putAt store (zeros (2 * room)) 0 (omega arith) (2 * room) (omega arith);
     }

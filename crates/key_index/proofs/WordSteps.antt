@@ -27,7 +27,7 @@ names-some t w ne = let p : 0 < w % 2 ^ 17 = omega arith in rw (lt-ltb 0 (w % 2 
 pub row-inside : (t : Keyed) (rows : List ℕ) (row : ℕ) → RowsIn t rows → row < t .rows
     → (row * t .columns + t .columns ≤ length rows) × (row * t .columns + t .columns ≤ 524288)
 row-inside t rows row f h =
-    let i = row-in row (t .capacity) (t .columns) (omega (arith, f .count)) in
+    let i = row-in row (t .room) (t .columns) (omega (arith, f .count)) in
     (omega (arith, f .cells), omega (arith, mul-le-mul (f .most) (f .most-columns)))
 
 -- its part that is lent is its key

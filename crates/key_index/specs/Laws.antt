@@ -5,3 +5,4 @@ pub mod Pigeons
 pub mod Rows
 pub mod Unrolled
 pub mod Ring
+pub mod Rooms

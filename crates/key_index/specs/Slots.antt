@@ -1,11 +1,13 @@
--- The key index (document 01, "Key index"): what a key store must hold. Its layout is our choice: 2 × capacity slots, each
--- 0 if it is free, else a row's number plus 1 with 15 bits of its key's compact hash above, by which most other keys are
--- told apart without a look at their rows. A key's home slot is its compact hash spread over the slots; its row stands in
--- some slot from there on, going round, with no free slot on the way. Assumes nothing.
-use Prim.Native.Nat.{ℕ, _+_, _*_, _/_, _%_, _^_, _<_}
+-- The key index (document 01, "Key index"): what a key store must hold. Its layout is our choice: slots, each 0 if
+-- it is free, else a row's number plus 1 with 15 bits of its key's compact hash above, by which most other keys are told apart
+-- without a look at their rows. A key's home slot is its compact hash spread over the slots; its row stands in some slot from
+-- there on, going round, with no free slot on the way. The slots in use grow with the rows: of 2 × capacity they are the first
+-- 2 × `roomFor`, and the others may hold anything. Assumes nothing.
+use Prim.Native.Nat.{ℕ, _+_, _*_, _/_, _%_, _^_, _<_, min}
 use mathlib.Core.Path.{_≡_}
-use mathlib.Core.Bool.{true}
+use mathlib.Core.Bool.{true, cond}
 use mathlib.Core.List.{List}
+use lib.Dec.{leb}
 use lib.ListN.{take, getD}
 use Rattle.lists.specs.Lists.{rowAt}
 use Rattle.cells.specs.Cells.{compact, keyHash}
@@ -20,8 +22,15 @@ LiveAt t rows i = (i < t .rows) × (isLive (rowAt (t .columns) i rows) ≡ true)
 abbrev pub keyAt : Keyed → List ℕ → ℕ → List ℕ
 keyAt t rows i = take (t .keys) (rowAt (t .columns) i rows)
 
+-- how many rows the slots in use have room for
+unfoldable pub roomStep : ℕ → ℕ
+roomStep rows = cond (leb rows 128) 128 (cond (leb rows 1024) 1024 (cond (leb rows 8192) 8192 65536))
+
+unfoldable pub roomFor : ℕ → ℕ → ℕ
+roomFor capacity rows = min capacity (roomStep rows)
+
 abbrev pub slots : Keyed → ℕ
-slots t = 2 * t .capacity
+slots t = 2 * t .room
 
 -- a slot's word: the row's number plus 1, and the low 15 bits of a hash above
 unfoldable pub tagged : ℕ → ℕ → ℕ

@@ -1,22 +1,22 @@
-// The key index: table/sharded_hash_table.rs. Leads from a key to its one live row. The key store is a ring of 2 times
-// capacity slots, probed one after the other; specs/Slots.antt says what it holds. The table has tested header and stores
-// before it calls; what a store holds is not relied on for safety: a slot's row is tested before its cells are read, and
-// every walk ends after one round.
+// The key index: table/sharded_hash_table.rs. Leads from a key to its one live row. The slots in use are a ring, probed one
+// after the other; specs/Slots.antt says how many they are and what they hold. The table has tested header and stores before
+// it calls; what a store holds is not relied on for safety: a slot's row is tested before its cells are read, and every walk
+// ends after one round.
 ghost use mathlib.Core.Path.{_≡_};
 ghost use Prim.Native.Nat.{ℕ, _+_, _-_, _%_, _^_, _≤_, _<_};
 ghost use mathlib.Core.Bool.{true};
 ghost use lib.ListN.{length, set};
 ghost use Rattle.cells.specs.Cells.{compact, keyHash};
-ghost use Rattle.key_index.specs.Slots.{keyAt, slots, slotFrom, spread, tagged};
+ghost use Rattle.key_index.specs.Slots.{keyAt, roomStep, roomFor, slots, slotFrom, spread, tagged};
 ghost use Rattle.key_index.specs.inner.Ring.{namesRow};
 ghost use Rattle.key_index.specs.inner.Index.{Room, RowsIn, Fits, HitIs, FoundIs, PutIs, EmptyIs};
 ghost use Rattle.key_index.specs.inner.Window.{isFree, hasBits, someOf, Ahead, FreeSoon, TakenRun};
 
-// The numbers of a table that its key index goes by.
+// The numbers of a table that its key index goes by. There are twice as many slots in use as it has room for rows.
 pub struct Keyed {
     pub columns: u32,
     pub keys: u32,
-    pub capacity: u32,
+    pub room: u32,
     pub rows: u32,
 }
 
@@ -30,6 +30,33 @@ pub enum Found {
 pub const ROW_RANGE: u32 = 0x2_0000;
 
 const HASH_RANGE: u32 = 0x8000;
+
+// The room that so many rows are given, whatever the capacity.
+fn room_step(rows: u32) -> u32
+    ensures { λ r. ⌜ r ≡ roomStep rows ⌝ }
+{
+    if rows <= 128 {
+        return 128;
+    }
+    if rows <= 1024 {
+        return 1024;
+    }
+    if rows <= 8192 {
+        return 8192;
+    }
+    65536
+}
+
+// How many rows the slots in use have room for.
+pub fn room_for(capacity: u32, rows: u32) -> u32
+    ensures { λ r. ⌜ r ≡ roomFor capacity rows ⌝ }
+{
+    let step = room_step(rows);
+    if step < capacity {
+        return step;
+    }
+    capacity
+}
 
 // The hash spread over the slots: multiplied and divided, so that any number of slots will do without a remainder.
 pub fn home_slot(slots: u32, hash: u32) -> u32
@@ -103,7 +130,7 @@ pub fn find(t: Keyed, rows: &[u32], store: &[u32], key: &[u32], hash: u32) -> Fo
     requires { ⌜ (Fits t (now rows) (now store)) × (length (now key) ≡ t .keys) ⌝ }
     ensures { λ r. ⌜ FoundIs t (now (rows .entry)) (now (store .entry)) (now (key .entry)) hash r ⌝ }
 {
-    let slots = 2 * t.capacity;
+    let slots = 2 * t.room;
     let mut at = home_slot(slots, hash);
     let mut passed: u32 = 0;
     while passed < slots {
@@ -199,7 +226,7 @@ pub fn look_up(t: Keyed, rows: &[u32], store: &[u32], key: &[u32], hash: u32) ->
     requires { ⌜ (Fits t (now rows) (now store)) × (length (now key) ≡ t .keys) ⌝ }
     ensures { λ r. ⌜ FoundIs t (now (rows .entry)) (now (store .entry)) (now (key .entry)) hash r ⌝ }
 {
-    let slots = 2 * t.capacity;
+    let slots = 2 * t.room;
     let home = home_slot(slots, hash);
     let word = store[home as usize];
     if is_hit(t, rows, key, hash, word) {
@@ -240,10 +267,10 @@ fn taken_run(slots: u32, store: &[u32], start: u32) -> u32
 
 // A new row's slot: the first free one from its key's home on. False, and nothing is written, if there is none.
 pub fn put(t: Keyed, store: &mut [u32], hash: u32, row: u32) -> bool
-    requires { ⌜ (Room (t .capacity) (now store)) × (row < 65536) ⌝ }
+    requires { ⌜ (Room (t .room) (now store)) × (row < 65536) ⌝ }
     ensures { λ r. ⌜ PutIs (slots t) (now (store .entry)) hash row r (now (store .exit)) ⌝ }
 {
-    let slots = 2 * t.capacity;
+    let slots = 2 * t.room;
     let home = home_slot(slots, hash);
     let mut taken = taken_run(slots, store, home);
     let mut place = home + taken;
@@ -267,11 +294,11 @@ pub fn replace(store: &mut [u32], slot: u32, hash: u32, row: u32)
 }
 
 // Every slot is made free.
-pub fn empty(capacity: u32, store: &mut [u32])
-    requires { ⌜ Room capacity (now store) ⌝ }
-    ensures { λ _. ⌜ EmptyIs capacity (now (store .entry)) (now (store .exit)) ⌝ }
+pub fn empty(room: u32, store: &mut [u32])
+    requires { ⌜ Room room (now store) ⌝ }
+    ensures { λ _. ⌜ EmptyIs room (now (store .entry)) (now (store .exit)) ⌝ }
 {
-    let slots = (2 * capacity) as usize;
+    let slots = (2 * room) as usize;
     let mut at = 0;
     while at < slots {
         store[at] = 0;

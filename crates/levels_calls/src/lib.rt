@@ -98,10 +98,10 @@ pub fn open_table(
 }
 
 // C
-pub fn clear(h: Header, rows: &[u32], keys: &mut [u32]) -> Served
-    ensures { λ r. ⌜ OnKeys 67 h (now (rows .entry)) (now (keys .entry)) r (now (keys .exit)) ⌝ }
+pub fn clear(h: Header, keys: &mut [u32]) -> Served
+    ensures { λ r. ⌜ OnKeys 67 h (now (keys .entry)) r (now (keys .exit)) ⌝ }
 {
-    let cleared = opening::clear(h, rows, keys);
+    let cleared = opening::clear(h, keys);
     taken(h, cleared)
 }
 

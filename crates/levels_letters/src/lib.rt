@@ -33,7 +33,7 @@ fn remake(
         return open_table(h, numbers, rows, keys, sorts, pending);
     }
     if letter == b'C' {
-        return clear(h, rows, keys);
+        return clear(h, keys);
     }
     compact(h, rows, keys, sorts)
 }

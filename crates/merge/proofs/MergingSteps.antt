@@ -26,7 +26,7 @@ use Rattle.insertions.specs.inner.Insertions.{Insertions}
 use Rattle.removals.specs.inner.Removals.{Removable, Removals}
 use Rattle.compaction.specs.inner.Compaction.{Lendable, Compaction}
 use Rattle.merge.specs.inner.Parts.{Applying, finishedAs, Finishing}
-use Rattle.table.specs.Laws.Refusals.{inside-fits, Mergeable, merge-accepted}
+use Rattle.table.specs.Laws.Refusals.{inside-whole, Mergeable, merge-accepted}
 use Rattle.table.specs.Laws.Opening.{unstaged-represents}
 use Rattle.pending.specs.Laws.Steps.{steps-refl}
 use Rattle.merge.specs.Laws.Merging.{passes-table, stopped-not, due-not, due-compacts, compacted-rows, compacted-store, compacted-generation, merged-table}
@@ -196,7 +196,7 @@ module _ (h : Header) (rows keys sorts pending live base : List ℕ) where
     merge-ready =
         let a = mergeable in (
           record {
-            fits = inside-fits h rows keys (a .inside) (a .long .rows-long) (a .long .keys-long);
+            fits = inside-whole h rows keys (a .inside) (a .long .rows-long) (a .long .keys-long);
             sort-column = a .inside .bounds .sort-column;
             rule-known = a .inside .bounds .rule-known;
             entries-fit = a .inside .entries-fit;

@@ -48,15 +48,15 @@ pub fn open_table(
     if refusal != 0 {
         return TableAnswer::Refused(refusal);
     }
-    key_index::empty(capacity, keys);
+    key_index::empty(key_index::room_for(capacity, 0), keys);
     TableAnswer::Table(h)
 }
 
 // Empties pending and, where there are rows, the table.
-pub fn clear(h: Header, rows: &[u32], keys: &mut [u32]) -> TableAnswer
-    ensures { λ r. ⌜ Clearing h (now (rows .entry)) (now (keys .entry)) r (now (keys .exit)) ⌝ }
+pub fn clear(h: Header, keys: &mut [u32]) -> TableAnswer
+    ensures { λ r. ⌜ Clearing h (now (keys .entry)) r (now (keys .exit)) ⌝ }
 {
-    let refusal = clear_refusal(h, rows.len(), keys.len());
+    let refusal = clear_refusal(h, keys.len());
     if refusal != 0 {
         return TableAnswer::Refused(refusal);
     }
@@ -65,7 +65,7 @@ pub fn clear(h: Header, rows: &[u32], keys: &mut [u32]) -> TableAnswer
     if h.rows == 0 {
         return TableAnswer::Table(n);
     }
-    key_clearing::empty_keys(table::keyed(h), rows, keys);
+    key_index::empty(key_index::room_for(h.capacity, 0), keys);
     n.rows = 0;
     n.dead = 0;
     n.entries = 0;

@@ -26,7 +26,7 @@ unfoldable pub refusal : Plain → Lengths → Call → ℕ
 refusal p l (staging r) = stageLadder (pendingShort p (l .pending)) (p .opening) (length (p .rows)) (used p) (l .pending) r
 refusal p l merging = mergeLadder (pendingShort p (l .pending)) (p .opening) l
 refusal p l compacting = compactLadder false (p .opening) (p .generation) l
-refusal p l clearing = clearLadder false (p .opening) (p .generation) (length (p .rows)) (l .rows) (l .keys)
+refusal p l clearing = clearLadder false (p .opening) (p .generation) (length (p .rows)) (l .keys)
 
 -- what an accepted call leaves
 unfoldable pub done : Plain → Call → Plain

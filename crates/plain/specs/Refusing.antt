@@ -67,10 +67,6 @@ compactLadder outside o generation l =
     first (rung outside 1 ∷ rung (storesShort o l || wordsShort o l) 2 ∷ rung (eqb generation 4294967295) 10 ∷ [])
 
 -- *Clear*: 1, 2, 10 "only if there are rows"
-unfoldable pub clearLadder : Bool → Opening → ℕ → ℕ → ℕ → ℕ → ℕ
-clearLadder outside o generation count rows keys =
-    first
-    (rung outside 1
-    ∷ rung (ltb rows (o .capacity * o .columns) || ltb keys (2 * o .capacity)) 2
-    ∷ rung (eqb generation 4294967295 && ltb 0 count) 10
-    ∷ [])
+unfoldable pub clearLadder : Bool → Opening → ℕ → ℕ → ℕ → ℕ
+clearLadder outside o generation rows keys =
+    first (rung outside 1 ∷ rung (ltb keys (2 * o .capacity)) 2 ∷ rung (eqb generation 4294967295 && ltb 0 rows) 10 ∷ [])

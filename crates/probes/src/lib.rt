@@ -209,19 +209,19 @@ fn fits(t: Keyed, rows: usize, store: usize) -> bool
     if t.columns < t.keys {
         return false;
     }
-    if t.capacity < 1 {
+    if t.room < 1 {
         return false;
     }
-    if 65536 < t.capacity {
+    if 65536 < t.room {
         return false;
     }
-    if t.capacity < t.rows {
+    if t.room < t.rows {
         return false;
     }
-    if rows < (t.capacity * t.columns) as usize {
+    if rows < (t.room * t.columns) as usize {
         return false;
     }
-    if store < (2 * t.capacity) as usize {
+    if store < (2 * t.room) as usize {
         return false;
     }
     true
@@ -232,7 +232,7 @@ fn fits(t: Keyed, rows: usize, store: usize) -> bool
 pub extern "C" fn mouldgrey_find(
     columns: u32,
     keys: u32,
-    capacity: u32,
+    room: u32,
     count: u32,
     rows: &[u32],
     store: &[u32],
@@ -241,7 +241,7 @@ pub extern "C" fn mouldgrey_find(
     let t = Keyed {
         columns,
         keys,
-        capacity,
+        room,
         rows: count,
     };
     if !fits(t, rows.len(), store.len()) {
@@ -259,14 +259,14 @@ pub extern "C" fn mouldgrey_find(
 
 // A new row of a key: 1, or 0 where no slot is free.
 #[no_mangle]
-pub extern "C" fn mouldgrey_put(capacity: u32, store: &mut [u32], key: &[u32], row: u32) -> u64 {
-    if capacity < 1 {
+pub extern "C" fn mouldgrey_put(room: u32, store: &mut [u32], key: &[u32], row: u32) -> u64 {
+    if room < 1 {
         return UNFIT;
     }
-    if 65536 < capacity {
+    if 65536 < room {
         return UNFIT;
     }
-    if store.len() < (2 * capacity) as usize {
+    if store.len() < (2 * room) as usize {
         return UNFIT;
     }
     if 65535 < row {
@@ -275,7 +275,7 @@ pub extern "C" fn mouldgrey_put(capacity: u32, store: &mut [u32], key: &[u32], r
     let t = Keyed {
         columns: 1,
         keys: 1,
-        capacity,
+        room,
         rows: 0,
     };
     let hash = cells::compact_hash(key);
@@ -304,7 +304,7 @@ pub extern "C" fn mouldgrey_replace(store: &mut [u32], slot: u32, key: &[u32], r
 pub extern "C" fn mouldgrey_take_out(
     columns: u32,
     keys: u32,
-    capacity: u32,
+    room: u32,
     count: u32,
     rows: &[u32],
     store: &mut [u32],
@@ -313,13 +313,13 @@ pub extern "C" fn mouldgrey_take_out(
     let t = Keyed {
         columns,
         keys,
-        capacity,
+        room,
         rows: count,
     };
     if !fits(t, rows.len(), store.len()) {
         return UNFIT;
     }
-    if 2 * capacity <= slot {
+    if 2 * room <= slot {
         return UNFIT;
     }
     key_gaps::take_out(t, rows, store, slot);
@@ -329,22 +329,22 @@ pub extern "C" fn mouldgrey_take_out(
 // Every slot gets its row's number after a compaction.
 #[no_mangle]
 pub extern "C" fn mouldgrey_renumber(
-    capacity: u32,
+    room: u32,
     count: u32,
     store: &mut [u32],
     live: &[u64],
     base: &[u32],
 ) -> u64 {
-    if capacity < count {
+    if room < count {
         return UNFIT;
     }
-    if 65536 < capacity {
+    if 65536 < room {
         return UNFIT;
     }
-    if store.len() < (2 * capacity) as usize {
+    if store.len() < (2 * room) as usize {
         return UNFIT;
     }
-    let words = ((capacity + 63) / 64) as usize;
+    let words = ((room + 63) / 64) as usize;
     if live.len() < words {
         return UNFIT;
     }
@@ -354,7 +354,7 @@ pub extern "C" fn mouldgrey_renumber(
     let t = Keyed {
         columns: 1,
         keys: 1,
-        capacity,
+        room,
         rows: count,
     };
     renumbering::renumber(t, store, live, base);

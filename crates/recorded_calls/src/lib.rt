@@ -86,7 +86,7 @@ fn empty(
     pending: &[u32],
 ) -> Said {
     if letter == b'C' {
-        return taken(h, opening::clear(h, rows, keys));
+        return taken(h, opening::clear(h, keys));
     }
     let opened = opening::open_table(
         number_at(numbers, 0),

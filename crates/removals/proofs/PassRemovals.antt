@@ -13,7 +13,7 @@ use borrow.Author.Tests.{eq-eqb, ne-eqb, le-leb}
 use mathlib.Core.Logic.{inl, inr}
 use Rattle.lists.specs.Lists.{keep}
 use Rattle.lists.specs.Laws.Keep.{split}
-use Rattle.key_index.specs.Slots.{keyAt, KeysSound}
+use Rattle.key_index.specs.Slots.{keyAt, slots, KeysSound}
 use Rattle.key_index.specs.inner.Index.{Fits}
 use Rattle.key_index.specs.Laws.Ring.{names-number, names-word}
 use Rattle.plain.specs.Staged.{Staged, insert, removeKey, removeRow}
@@ -21,7 +21,9 @@ use Rattle.plain.specs.Plain.{Plain}
 use Rattle.table.specs.declared.Header.{Header}
 use Rattle.table.specs.Numbers.{openingOf}
 use Rattle.table.specs.Sound.{keyedOf}
+use Rattle.table.specs.inner.Whole.{wholeOf}
 use Rattle.table.specs.Promises.{Stores, stores, Represents, SlotsPast}
+use Rattle.table.specs.Laws.Refusals.{whole-fits}
 use Rattle.pending.specs.inner.Becoming.{Becomes, withDead, Waiting, kindOf, RecordLength, ofKind, Left, CanPass, NextRecord}
 use Rattle.removals.specs.inner.Removals.{removed, removedAll, died, removalOf, Removal, RemovalAt, Removed, Removable, LooksAhead, LookedAhead, Removals, RemovalNext, RemovedNext}
 use Rattle.pending.specs.Laws.Steps.{steps-refl, steps-then, waiting-start, words-some, waiting-kind, waiting-hash, waiting-key, waiting-row, waiting-row-key}
@@ -106,7 +108,7 @@ removed-left {h} {pending} {kind} {at} {records} l p =
 -- ---- a look ahead
 
 -- a sound store's slot is free or names a row
-pub looked : (h : Header) (keys : List ℕ) (slot : ℕ) → h .rows ≤ h .capacity → h .capacity ≤ 65536 → slot < 2 * h .capacity
+pub looked : (h : Header) (keys : List ℕ) (slot : ℕ) → h .rows ≤ keyedOf h .room → keyedOf h .room ≤ 65536 → slot < slots (keyedOf h)
     → LookedAhead h keys (leb (getD keys slot 0 % 2 ^ 17) (h .rows))
 looked h keys slot count most i = record { sound = λ rows k. le-leb _ _ (number rows k (ℕ-discrete (getD keys slot 0) 0)) }
   where
@@ -142,7 +144,7 @@ pub record Removing (h : Header) (rows keys pending : List ℕ) (kind : ℕ) (ro
   pub here : RecordLength h pending at words
   pub inside : at ≤ h .pending
   pub few : 3 * dead ≤ 3 * h .dead + at
-  pub fits : Fits (keyedOf h) rows′ keys′
+  pub fits : Fits (wholeOf h) rows′ keys′
   pub rows-same : length rows′ ≡ length rows
   pub keys-same : length keys′ ≡ length keys
   pub past : SlotsPast (h .capacity) keys keys′
@@ -195,7 +197,7 @@ module _ {h : Header} {rows keys pending : List ℕ} {kind : ℕ} (a : Removable
 
       pub removing-looks : LooksAhead h keys′ pending at words
       removing-looks =
-          let f = v .fits in
+          let f = whole-fits h rows′ keys′ (v .fits) in
           record {
             room = record { some = f .some; most = f .most; long = f .long };
             count = f .count;

@@ -20,12 +20,15 @@ use Rattle.key_index.specs.declared.Found.{Found}
 use Rattle.key_index.specs.declared.Found.the-variants.{None, At}
 use Rattle.key_index.specs.Slots.{LiveAt, keyAt, slots, KeysSound}
 use Rattle.key_index.specs.inner.Index.{Fits, FoundAt, FoundIs}
+use Rattle.key_index.specs.Laws.Rooms.{past-room}
 use Rattle.key_gaps.specs.inner.Gaps.{TakenOut}
 use Rattle.plain.specs.Staged.{removeKey, removeRow}
 use Rattle.plain.specs.Plain.{Plain}
 use Rattle.table.specs.declared.Header.{Header}
 use Rattle.table.specs.Sound.{keyedOf}
-use Rattle.table.specs.Promises.{stores, Represents}
+use Rattle.table.specs.inner.Whole.{wholeOf}
+use Rattle.table.specs.Promises.{stores, Represents, SlotsPast}
+use Rattle.table.specs.Laws.Refusals.{whole-fits}
 use Rattle.pending.specs.inner.Becoming.{Becomes, withDead, hashOf}
 use Rattle.removals.specs.inner.Removals.{Kills, removalOf, spared, Removal, died, removed}
 use Rattle.table.specs.Laws.Shown.{in-live}
@@ -37,7 +40,7 @@ use Rattle.pending.specs.Laws.Dying.{dying, dying-steps, withoutKey-none, witho
 -- its first cell lies in the store
 pub first-cell : (t : Keyed) (rows keys : List ℕ) (row : ℕ) → Fits t rows keys → row < t .rows → (row * t .columns < length rows) × (row * t .columns < 524288)
 first-cell t rows keys row f h =
-    let a = row-in row (t .capacity) (t .columns) (omega (arith, f .count)) in
+    let a = row-in row (t .room) (t .columns) (omega (arith, f .count)) in
     let b = mul-le-mul (f .most) (f .most-columns) in
     (omega (arith, f .cells, f .some-columns), omega (arith, f .some-columns))
 
@@ -68,12 +71,12 @@ unfolding spared
 spared-row kind row found e = rw (ne-eqb kind 1 e)
 
 -- what a lookup asks, and a kill of the row that it finds
-pub find-fits : {t u : Keyed} {rows keys : List ℕ} {n : ℕ} → t ≡ u → (Fits u rows keys) × (n ≡ u .keys) → (Fits t rows keys) × (n ≡ t .keys)
-find-fits e f = rw e f
+pub find-fits : {t : Keyed} (h : Header) {rows keys : List ℕ} {n : ℕ} → t ≡ keyedOf h → (Fits (wholeOf h) rows keys) × (n ≡ h .keys) → (Fits t rows keys) × (n ≡ t .keys)
+find-fits h {rows = rows} {keys = keys} e f = rw e (whole-fits h rows keys (f .0), f .1)
 
-pub kill-fits : {t u : Keyed} {rows keys key : List ℕ} {hash : ℕ} {found : Found} (row slot : ℕ) → t ≡ u → Fits u rows keys
+pub kill-fits : {t : Keyed} (h : Header) {rows keys key : List ℕ} {hash : ℕ} {found : Found} (row slot : ℕ) → t ≡ keyedOf h → Fits (wholeOf h) rows keys
     → FoundIs t rows keys key hash found → found ≡ At row slot → (Fits t rows keys) × (row < t .rows) × (slot < slots t)
-kill-fits row slot e f finds q = (rw e f, finds .row-in row slot q, finds .slot-in row slot q)
+kill-fits h {rows = rows} {keys = keys} row slot e f finds q = (rw e (whole-fits h rows keys f), finds .row-in row slot q, finds .slot-in row slot q)
 
 -- nothing changes
 unchanged : {p p′ : Plain} (h : Header) {rows keys sorts pending : List ℕ} (dead : ℕ) → p′ ≡ p → Represents p (stores (withDead h dead) rows keys sorts pending)
@@ -142,11 +145,14 @@ module _ (h : Header) (rows keys key : List ℕ) (hash : ℕ) (t : Keyed) (numbe
           let sound : KeysSound (keyedOf h) rows′ keys′ = k .keyed (s .keyed) (f .live) (rw (f .key-is) (f .word-is)) in
           rw (lives, k .marks) (dying-steps s at (in-live s at (f .live)) keys′ long (rw (k .marks) at sound))
 
+      past-all : SlotsPast (h .capacity) keys keys′
+      past-all = past-room (h .capacity) (h .rows) keys keys′ (rw numbers at (kills .past))
+
       key-dead : Removal h rows keys (removeKey key) hash r rows′ keys′
       unfolding removed hashOf
       key-dead =
           record {
-            past = rw numbers at (kills .past);
+            past = past-all;
             table = λ e dead sorts pending p s.
                 let f = somewhere e (s .keyed) in
                 rw (withoutKey-one s key at (f .live) (f .key-is)) (dead-now dead sorts pending e s);
@@ -156,7 +162,7 @@ module _ (h : Header) (rows keys key : List ℕ) (hash : ℕ) (t : Keyed) (numbe
       unfolding removed hashOf
       row-dead =
           record {
-            past = rw numbers at (kills .past);
+            past = past-all;
             table = λ e dead sorts pending p s.
                 let f = somewhere e (s .keyed) in
                 rw (withoutRow-one s key at (f .live) (f .key-is)) (dead-now dead sorts pending e s);

@@ -6,12 +6,13 @@ ghost use lib.ListN.{length};
 ghost use Rattle.key_index.specs.inner.Index.{Fits};
 ghost use Rattle.key_index.specs.Slots.{slots};
 ghost use Rattle.pending.specs.inner.Becoming.{withDead};
-ghost use Rattle.table.specs.Sound.{keyedOf};
+ghost use Rattle.table.specs.inner.Whole.{wholeOf};
 ghost use Rattle.removals.specs.inner.Removals.{Kills, removalOf, spared, Removal, RemovalAt, Removed, Removable, LooksAhead, LookedAhead, Removals, RemovalNext, RemovedNext};
 use key_index::Found;
 use key_index::Keyed;
 use key_index::ROW_RANGE;
 use key_index::home_slot;
+use key_index::room_for;
 use pending::next_record;
 use pending::record_length;
 use table::Header;
@@ -51,7 +52,7 @@ fn remove_one(
     key: &[u32],
     hash: u32,
 ) -> bool
-    requires { ⌜ Fits (keyedOf h) (now rows) (now keys) × (length (now key) ≡ h .keys) ⌝ }
+    requires { ⌜ Fits (wholeOf h) (now rows) (now keys) × (length (now key) ≡ h .keys) ⌝ }
     ensures { λ r. ⌜ Removal h (now (rows .entry)) (now (keys .entry)) (removalOf kind row (now (key .entry))) hash r (now (rows .exit)) (now (keys .exit)) ⌝ }
 {
     let t = keyed(h);
@@ -70,7 +71,7 @@ fn remove_one(
 // The removal at a place of the pending store, of kind 1 or 2. Its key stands behind the hash and, by row, the row's number.
 // Answers whether a row died.
 fn remove_record(h: Header, rows: &mut [u32], keys: &mut [u32], pending: &[u32], at: u32) -> bool
-    requires { ⌜ Fits (keyedOf h) (now rows) (now keys) × RemovalAt h (now pending) at ⌝ }
+    requires { ⌜ Fits (wholeOf h) (now rows) (now keys) × RemovalAt h (now pending) at ⌝ }
     ensures { λ r. ⌜ Removed h (now (rows .entry)) (now (keys .entry)) (now (pending .entry)) at r (now (rows .exit)) (now (keys .exit)) ⌝ }
 {
     let place = at as usize;
@@ -122,7 +123,8 @@ fn is_sound_ahead(h: Header, keys: &[u32], pending: &[u32], at: u32, words: u32)
         return true;
     }
     let hash = pending[(at + ahead) as usize];
-    let home = home_slot(2 * h.capacity, hash);
+    let room = room_for(h.capacity, h.rows);
+    let home = home_slot(2 * room, hash);
     keys[home as usize] % ROW_RANGE <= h.rows
 }
 

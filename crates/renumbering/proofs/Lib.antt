@@ -1,2 +1,1 @@
 pub mod RenumberSteps
-pub mod RowSteps

@@ -1,3 +1,2 @@
 -- What follows from the definitions.
 pub mod Renumbering
-pub mod ByRow

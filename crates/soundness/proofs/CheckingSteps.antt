@@ -81,7 +81,7 @@ row-inside rows w n i few narrow long h =
     record { in-store = omega arith; small = omega arith }
 
 pub row-inside-fits : (t : Keyed) (rows keys : List ℕ) (i : ℕ) → Fits t rows keys → i < t .rows → RowInside rows (t .columns) i
-row-inside-fits t rows keys i f h = row-inside rows (t .columns) (t .capacity) i (f .most) (f .most-columns) (f .cells) (omega (arith, f .count))
+row-inside-fits t rows keys i f h = row-inside rows (t .columns) (t .room) i (f .most) (f .most-columns) (f .cells) (omega (arith, f .count))
 
 -- where entries rise, the last one's value decides whether one exceeds the largest
 

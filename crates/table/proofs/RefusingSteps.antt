@@ -225,32 +225,27 @@ module _ (h : Header) where
 
   -- ---- *Clear*
 
-  module _ (rows keys : ℕ) where
-    pub clear-outside : outside h ≡ true → 1 ≡ clearRefusal h rows keys
-    unfolding clearRefusal first clearLadder
+  module _ (keys : ℕ) where
+    pub clear-outside : outside h ≡ true → 1 ≡ clearRefusal h keys
+    unfolding clearRefusal first clearLadder pairsShort
     clear-outside e = rw e
 
-    pub clear-rows : outside h ≡ false → rowsShort h rows ≡ true → 2 ≡ clearRefusal h rows keys
-    unfolding clearRefusal first clearLadder rowsShort
-    clear-rows e s = rw (e, s)
+    pub clear-short : outside h ≡ false → pairsShort h keys ≡ true → 2 ≡ clearRefusal h keys
+    unfolding clearRefusal first clearLadder pairsShort
+    clear-short e s = rw (e, s)
 
-    module _ (e : outside h ≡ false) (r : rowsShort h rows ≡ false) where
-      pub clear-keys : pairsShort h keys ≡ true → 2 ≡ clearRefusal h rows keys
-      unfolding clearRefusal first clearLadder rowsShort pairsShort
-      clear-keys s = rw (e, r, s)
+    module _ (e : outside h ≡ false) (s : pairsShort h keys ≡ false) where
+      pub clear-early : (h .generation ≡ 4294967295 → ⊥) → 0 ≡ clearRefusal h keys
+      unfolding clearRefusal first clearLadder pairsShort
+      clear-early g = rw (e, s, ne-eqb _ _ g)
 
-      module _ (s : pairsShort h keys ≡ false) where
-        pub clear-early : (h .generation ≡ 4294967295 → ⊥) → 0 ≡ clearRefusal h rows keys
-        unfolding clearRefusal first clearLadder rowsShort pairsShort
-        clear-early g = rw (e, r, s, ne-eqb _ _ g)
+      pub clear-empty : h .generation ≡ 4294967295 → h .rows ≡ 0 → 0 ≡ clearRefusal h keys
+      unfolding clearRefusal first clearLadder pairsShort
+      clear-empty g n = rw (e, s, eq-eqb _ _ g, le-ltb 0 (h .rows) (omega arith))
 
-        pub clear-empty : h .generation ≡ 4294967295 → h .rows ≡ 0 → 0 ≡ clearRefusal h rows keys
-        unfolding clearRefusal first clearLadder rowsShort pairsShort
-        clear-empty g n = rw (e, r, s, eq-eqb _ _ g, le-ltb 0 (h .rows) (omega arith))
-
-        pub clear-last : h .generation ≡ 4294967295 → (h .rows ≡ 0 → ⊥) → 10 ≡ clearRefusal h rows keys
-        unfolding clearRefusal first clearLadder rowsShort pairsShort
-        clear-last g n = rw (e, r, s, eq-eqb _ _ g, lt-ltb 0 (h .rows) (omega arith))
+      pub clear-last : h .generation ≡ 4294967295 → (h .rows ≡ 0 → ⊥) → 10 ≡ clearRefusal h keys
+      unfolding clearRefusal first clearLadder pairsShort
+      clear-last g n = rw (e, s, eq-eqb _ _ g, lt-ltb 0 (h .rows) (omega arith))
 
   -- ---- *Key lookup*, *one cell*
 

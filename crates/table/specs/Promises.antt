@@ -101,6 +101,9 @@ SlotsPast capacity keys keys′ = drop (2 * capacity) keys′ ≡ drop (2 * capa
 abbrev pub PastNeeded : ℕ → List ℕ → List ℕ → Type 0
 PastNeeded capacity words words′ = drop ((capacity + 63) / 64) words′ ≡ drop ((capacity + 63) / 64) words
 
+abbrev pub WordsPast : ℕ → CompactionWords → CompactionWords → Type 0
+WordsPast capacity w w′ = PastNeeded capacity (w .live) (w′ .live) × PastNeeded capacity (w .base) (w′ .base)
+
 -- Where the choice is the program's: of the key store only soundness is promised, and that no slot past it is written; of
 -- the compaction words needed, after a compaction, nothing.
 
@@ -160,7 +163,7 @@ module _ (s : Stores) (w : CompactionWords) (answer : MergeAnswer) (b′ : Body)
     pub refusal : verdict (mergeSays answer) ≡ reply (mergeRefusal (s .header) (lengthsLent s w)) tt
     pub unchanged : 0 < mergeRefusal (s .header) (lengthsLent s w) → (b′ ≡ bodyOf s) × (w′ ≡ w)
     pub past : SlotsPast (s .header .capacity) (s .keys) (b′ .keys)
-    pub words-past : PastNeeded (s .header .capacity) (w .live) (w′ .live) × PastNeeded (s .header .capacity) (w .base) (w′ .base)
+    pub words-past : WordsPast (s .header .capacity) w w′
     pub table : mergeRefusal (s .header) (lengthsLent s w) ≡ 0 → (p : Plain) → Represents p s → MergedTable p
 
 -- *Compact*: lent rows, keys, sort entries and compaction words
@@ -175,22 +178,22 @@ module _ (h : Header) (b : Body) (w : CompactionWords) (answer : TableAnswer) (b
     pub refusal : verdict (tableSays answer) ≡ reply (compactRefusal h (lengthsLent (joined h b []) w)) tt
     pub unchanged : 0 < compactRefusal h (lengthsLent (joined h b []) w) → (b′ ≡ b) × (w′ ≡ w)
     pub past : SlotsPast (h .capacity) (b .keys) (b′ .keys)
-    pub words-past : PastNeeded (h .capacity) (w .live) (w′ .live) × PastNeeded (h .capacity) (w .base) (w′ .base)
+    pub words-past : WordsPast (h .capacity) w w′
     pub table : compactRefusal h (lengthsLent (joined h b []) w) ≡ 0
         → (pending : List ℕ) (p : Plain) → Represents p (joined h b pending) → CompactedTable pending p
 
--- *Clear*: lent rows and keys; rows are lent shared
-module _ (h : Header) (rows keys : List ℕ) (answer : TableAnswer) (keys′ : List ℕ) where
-  pub record ClearedTable (sorts pending : List ℕ) (p : Plain) : Type 0 where
+-- *Clear*: lent keys
+module _ (h : Header) (keys : List ℕ) (answer : TableAnswer) (keys′ : List ℕ) where
+  pub record ClearedTable (rows sorts pending : List ℕ) (p : Plain) : Type 0 where
     pub answers : tableSays answer ≡ accepted (headerOf (cleared p))
     pub represents : Represents (cleared p) (stores (headerOf (cleared p)) rows keys′ sorts pending)
 
   pub record Clearing : Type 0 where
-    pub refusal : verdict (tableSays answer) ≡ reply (clearRefusal h (length rows) (length keys)) tt
-    pub unchanged : 0 < clearRefusal h (length rows) (length keys) → keys′ ≡ keys
+    pub refusal : verdict (tableSays answer) ≡ reply (clearRefusal h (length keys)) tt
+    pub unchanged : 0 < clearRefusal h (length keys) → keys′ ≡ keys
     pub past : SlotsPast (h .capacity) keys keys′
-    pub table : clearRefusal h (length rows) (length keys) ≡ 0
-        → (sorts pending : List ℕ) (p : Plain) → Represents p (stores h rows keys sorts pending) → ClearedTable sorts pending p
+    pub table : clearRefusal h (length keys) ≡ 0
+        → (rows sorts pending : List ℕ) (p : Plain) → Represents p (stores h rows keys sorts pending) → ClearedTable rows sorts pending p
 
 -- *Key lookup, one cell*: lent rows and keys, and looked up in those alone, as a plain table of these rows: the key store must
 -- be sound, and live keys differ. "No live row is *none*"

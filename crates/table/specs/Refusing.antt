@@ -41,8 +41,8 @@ mergeRefusal h l = mergeLadder (pendingOutside h (l .pending)) (openingOf h) l
 unfoldable pub compactRefusal : Header → Lengths → ℕ
 compactRefusal h l = compactLadder (outside h) (openingOf h) (h .generation) l
 
-unfoldable pub clearRefusal : Header → ℕ → ℕ → ℕ
-clearRefusal h rows keys = clearLadder (outside h) (openingOf h) (h .generation) (h .rows) rows keys
+unfoldable pub clearRefusal : Header → ℕ → ℕ
+clearRefusal h keys = clearLadder (outside h) (openingOf h) (h .generation) (h .rows) keys
 
 -- *Key lookup*: 1, 2, 3
 unfoldable pub lookupTests : Header → ℕ → ℕ → ℕ → List Rung

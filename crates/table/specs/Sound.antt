@@ -8,7 +8,7 @@ use lib.ListN.{length, getD}
 use Rattle.lists.specs.Lists.{every, count, rowAt, rowsOf}
 use Rattle.constraints.specs.Constraints.{isLive}
 use Rattle.key_index.specs.declared.Keyed.{Keyed}
-use Rattle.key_index.specs.Slots.{LiveAt, keyAt, KeysSound}
+use Rattle.key_index.specs.Slots.{LiveAt, keyAt, roomFor, KeysSound}
 use Rattle.sort_entries.specs.Entries.{entriesOf, entriesSound, valueAt}
 use Rattle.plain.specs.Staged.{Staged, wordsAll}
 use Rattle.plain.specs.Proper.{atMost}
@@ -18,7 +18,7 @@ use Rattle.table.specs.Refusing.{soundRefusal}
 use Rattle.table.specs.Stores.{Holds}
 
 abbrev pub keyedOf : Header → Keyed
-keyedOf h = record { columns = h .columns; keys = h .keys; capacity = h .capacity; rows = h .rows }
+keyedOf h = record { columns = h .columns; keys = h .keys; room = roomFor (h .capacity) (h .rows); rows = h .rows }
 
 -- "live keys differ"
 abbrev pub KeysDiffer : Header → List ℕ → Type 0

@@ -110,7 +110,7 @@ pub fn keyed(h: Header) -> Keyed
     Keyed {
         columns: h.columns,
         keys: h.keys,
-        capacity: h.capacity,
+        room: key_index::room_for(h.capacity, h.rows),
         rows: h.rows,
     }
 }

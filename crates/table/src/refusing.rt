@@ -172,14 +172,11 @@ pub fn compact_refusal(h: Header, l: Lent) -> u32
 }
 
 // *Clear*
-pub fn clear_refusal(h: Header, rows: usize, keys: usize) -> u32
-    ensures { λ r. ⌜ r ≡ rules.clearRefusal h rows keys ⌝ }
+pub fn clear_refusal(h: Header, keys: usize) -> u32
+    ensures { λ r. ⌜ r ≡ rules.clearRefusal h keys ⌝ }
 {
     if is_outside(h) {
         return 1;
-    }
-    if is_rows_short(h, rows) {
-        return 2;
     }
     if is_pairs_short(h, keys) {
         return 2;

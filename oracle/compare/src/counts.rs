@@ -115,9 +115,14 @@ const RULES: [&str; 4] = [
 ];
 
 /// What a gate's run must have seen besides; the recorded list is too small for it.
-const GATE: [&str; 21] = [
+const GATE: [&str; 26] = [
     "merge: compacts more than 64 rows",
-    "clear: few rows of a large capacity",
+    "key store: grows past 128 rows, new key",
+    "key store: grows past 128 rows, known key",
+    "key store: grows past 1024 rows, new key",
+    "key store: grows past 1024 rows, known key",
+    "key store: a compaction leaves less room",
+    "clear: of more than 128 rows, then rows again",
     "full size: filled",
     "full size: stop 8",
     "full size: half of the rows dead",
@@ -169,6 +174,8 @@ pub struct Counts {
     /// Those of them that the other judge was asked for and agreed on.
     asked: Outcomes,
     features: BTreeMap<&'static str, u64>,
+    /// The table at hand was cleared of more than 128 rows.
+    cleared_many: bool,
 }
 
 /// Places for the numbers 0, accepted, to 18 and `AGAIN`.
@@ -409,6 +416,7 @@ impl Counts {
 
     /// Counts an accepted opening.
     pub fn opening(&mut self, o: &Opening) {
+        self.cleared_many = false;
         self.feature(WIDTHS[o.columns as usize - 1]);
         self.feature(RULES[o.rule as usize]);
         if o.sort == 0 {
@@ -457,6 +465,7 @@ impl Counts {
             self.feature("table exactly full");
         }
         self.full_size(call, answer, before, after);
+        self.key_store(o, call, before, after);
         match (call, answer) {
             (
                 Call::Merge,
@@ -475,14 +484,37 @@ impl Counts {
             }
             (Call::Compact, _) if before.dead > 0 => self.feature("compact: with dead rows"),
             (Call::Compact, _) => self.feature("compact: without dead rows"),
-            (Call::Clear, _) if before.rows > 0 => {
-                self.feature("clear: with rows");
-                if 64 * before.rows <= o.capacity {
-                    self.feature("clear: few rows of a large capacity");
-                }
-            }
+            (Call::Clear, _) if before.rows > 0 => self.feature("clear: with rows"),
             (Call::Clear, _) => self.feature("clear: without rows"),
             _ => {}
+        }
+    }
+
+    /// Counts the turns at which the slots in use become more or fewer.
+    fn key_store(&mut self, o: &Opening, call: &Call, before: &Contents, after: &Contents) {
+        let slots = |of: &Contents| plain::slots_in_use(o.capacity, of.rows);
+        let is_known = after.dead > before.dead;
+        match (call, before.rows, after.rows) {
+            (Call::Merge, 128, 129) if slots(after) > slots(before) => self.feature(match is_known {
+                true => "key store: grows past 128 rows, known key",
+                false => "key store: grows past 128 rows, new key",
+            }),
+            (Call::Merge, 1_024, 1_025) if slots(after) > slots(before) => {
+                self.feature(match is_known {
+                    true => "key store: grows past 1024 rows, known key",
+                    false => "key store: grows past 1024 rows, new key",
+                });
+            }
+            (Call::Merge | Call::Compact, ..) if slots(after) < slots(before) => {
+                self.feature("key store: a compaction leaves less room");
+            }
+            (Call::Merge, 0, 1..) if self.cleared_many => {
+                self.feature("clear: of more than 128 rows, then rows again");
+            }
+            _ => {}
+        }
+        if *call == Call::Clear {
+            self.cleared_many = before.rows > 128;
         }
     }
 

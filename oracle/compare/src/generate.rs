@@ -66,6 +66,9 @@ const CAPACITIES: [u32; 20] = [
     1, 2, 3, 4, 8, 16, 17, 18, 32, 33, 34, 40, 63, 64, 65, 100, 128, 129, 200, 400,
 ];
 
+/// Numbers of rows that the key store has room for before it takes more slots.
+pub const ROOMS: [u32; 2] = [128, 1_024];
+
 /// Numbers at the edges of what a cell holds.
 pub const EDGES: [u32; 8] = [
     0,
@@ -230,8 +233,11 @@ impl Writer {
     fn good_numbers(&mut self) -> Opening {
         let columns = self.rng.within(1, 8);
         let capacity = self.rng.pick(&CAPACITIES);
-        let large = self.rng.below(200) == 0;
-        let capacity = if large { 65_536 } else { capacity };
+        let capacity = match self.rng.below(400) {
+            0 | 1 => 65_536,
+            2 => 1_100,
+            _ => capacity,
+        };
         Opening {
             columns,
             keys: self.rng.within(1, columns),
@@ -270,6 +276,7 @@ impl Writer {
         match self.rng.below(20) {
             0 | 1 => self.remove_to_the_limit(),
             2 => self.fill(),
+            3 if self.opening.capacity > ROOMS[0] => self.outgrow(),
             _ => {
                 for _ in 0..self.rng.within(0, self.flavour.batch) {
                     self.stage();
@@ -487,11 +494,54 @@ impl Writer {
         }
     }
 
+    /// As many rows as the key store has room for, and one more, of a new key or of a known one. Then the table is cleared, or
+    /// loses so many rows that a merge compacts it into less room, or goes on.
+    fn outgrow(&mut self) {
+        let above = ROOMS.into_iter().filter(|&room| room < self.opening.capacity);
+        let rooms: Vec<u32> = above.filter(|&room| room >= self.seen.rows).collect();
+        let Some(&last) = rooms.last() else {
+            return;
+        };
+        let room = if self.rng.percent(50) { last } else { rooms[0] };
+        let staged = self.flavour.pending / (self.opening.columns as usize + 2);
+        while self.seen.rows < room {
+            let (rows, count) = (self.seen.rows, room - self.seen.rows);
+            self.insert_new_keys(count.min(staged as u32));
+            self.call_with(needed(&self.opening, self.flavour.pending), Call::Merge);
+            if self.seen.rows <= rows {
+                return;
+            }
+        }
+        match self.a_live_row() {
+            Some((_, mut cells)) if self.rng.percent(50) => {
+                for cell in &mut cells[self.opening.keys as usize..] {
+                    *cell = cell.wrapping_add(1);
+                }
+                cells[self.opening.sort as usize] = self.next_stamp();
+                self.call(Call::Insert(cells));
+            }
+            _ => self.insert_new_keys(1),
+        }
+        self.call(Call::Merge);
+        match self.rng.below(3) {
+            0 => {
+                self.call(Call::Clear);
+                self.insert_new_keys(3);
+            }
+            1 => self.remove_to_the_limit(),
+            _ => {}
+        }
+    }
+
     /// Inserts about as many rows as there is room for, at most 120, or 1,500 now and then. Most keys are new ones.
     fn fill(&mut self) {
         let room = self.opening.capacity - self.seen.rows;
         let most = if self.rng.percent(3) { 1500 } else { 120 };
         let count = (room + self.rng.below(3)).saturating_sub(1).min(most);
+        self.insert_new_keys(count);
+    }
+
+    fn insert_new_keys(&mut self, count: u32) {
         for _ in 0..count {
             let mut cells = self.new_key();
             if self.rng.percent(95) {

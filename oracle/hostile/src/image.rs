@@ -160,7 +160,7 @@ impl Image {
         match store {
             0 => 10,
             1 => h.rows as usize * h.columns as usize,
-            2 => 2 * h.capacity as usize,
+            2 => plain::slots_in_use(h.capacity, h.rows),
             3 => 2 * h.entries as usize,
             _ => h.pending as usize,
         }

@@ -38,9 +38,8 @@ impl Session {
             Call::Merge => self.merge(rng, image, header, words),
             Call::Compact => self.compact(rng, image, header),
             Call::Clear => {
-                let rows = self.read(rng, Slot::Rows, &image.rows);
                 let keys = self.write(rng, Slot::Keys, &image.keys);
-                unsafe { raw::mouldgrey_clear(header.0, header.1, rows.0, rows.1, keys.0, keys.1) }
+                unsafe { raw::mouldgrey_clear(header.0, header.1, keys.0, keys.1) }
             }
         }
     }

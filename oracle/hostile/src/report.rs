@@ -76,6 +76,8 @@ pub struct Report {
     pub compared: u64,
     /// Merges that stopped with 8 and with 9.
     stops: [u64; 2],
+    /// Changes in tables of more than 128 rows, whose key stores have grown.
+    pub grown: u64,
 }
 
 impl Report {
@@ -134,6 +136,10 @@ impl Report {
             self.words_changed()
         ));
         lines.extend(verdict_lines(&self.words));
+        lines.push(format!(
+            "  {} of these and of the following in tables of more than 128 rows",
+            self.grown
+        ));
         lines.push("two words of a store exchanged, likewise:".to_string());
         lines.extend(verdict_lines(&self.pairs[1..]));
         lines
@@ -156,6 +162,9 @@ impl Report {
             if outcomes[..wanted].contains(&0) {
                 missing.push(format!("a word of the {store}: {outcomes:?}"));
             }
+        }
+        if self.grown == 0 {
+            missing.push("a change in a table of more than 128 rows".to_string());
         }
         if self.stops.contains(&0) {
             missing.push("a stop on sound stores".to_string());

@@ -63,6 +63,29 @@ fn sound(session: &mut Session, rng: &mut Rng) -> Result<Image, String> {
     Ok(image)
 }
 
+/// A sound table whose key store has grown past its first room, by the last inserts.
+fn grown(session: &mut Session, rng: &mut Rng) -> Result<Image, String> {
+    let mut opening = good_opening(rng);
+    opening.capacity = rng.within(130, 160);
+    let pending = 150 * (opening.columns as usize + 2);
+    let filler = rng.next() as u32;
+    let mut image = Image::sized(rng, &unopened(&opening), pending, filler);
+    image = session.perform_whole(rng, &image, &Act::Call(Call::Open(opening)))?;
+    let keys: Vec<Vec<u32>> = (0..140)
+        .map(|i| (0..opening.keys).map(|_| i).collect())
+        .collect();
+    for batch in [&keys[..rng.within(120, 128) as usize], &keys] {
+        for key in batch {
+            let mut row = vec![rng.below(3); opening.columns as usize];
+            row[opening.sort as usize] = 7;
+            row[..key.len()].copy_from_slice(key);
+            image = session.perform_whole(rng, &image, &Act::Call(Call::Insert(row)))?;
+        }
+        image = session.perform_whole(rng, &image, &Act::Call(Call::Merge))?;
+    }
+    Ok(image)
+}
+
 impl Session {
     /// One call, on stores that may be sound.
     fn perform_whole(&mut self, rng: &mut Rng, image: &Image, act: &Act) -> Result<Image, String> {
@@ -74,7 +97,10 @@ impl Session {
 /// A sound table with a single word changed, or two exchanged: the check says what the judge's own says, and other calls
 /// follow.
 fn one_word(session: &mut Session, rng: &mut Rng) -> Result<(), String> {
-    let whole = sound(session, rng)?;
+    let whole = match rng.below(60) {
+        0 => grown(session, rng)?,
+        _ => sound(session, rng)?,
+    };
     for _ in 0..rng.within(4, 16) {
         let mut image = whole.clone();
         let change = match rng.percent(80) {
@@ -85,6 +111,9 @@ fn one_word(session: &mut Session, rng: &mut Rng) -> Result<(), String> {
         let plain = Plain::shown(&image.held());
         session.perform(rng, &image, &Act::IsSound, plain.as_ref())?;
         session.report.change(change, verdict);
+        if whole.numbers().rows > 128 {
+            session.report.grown += 1;
+        }
         for _ in 0..rng.within(1, 2) {
             let act = act(rng, &image);
             session.perform(rng, &image, &act, plain.as_ref())?;

@@ -247,7 +247,7 @@ fn wrong_of_any(call: &Call, before: &Image, after: &Image) -> Option<String> {
     let mut header = before.numbers();
     match call {
         Call::Open(o) => {
-            let slots = 2 * o.capacity as usize;
+            let slots = plain::slots_in_use(o.capacity, 0);
             let mut opened = Plain::new();
             opened.call(&before.lengths(), call);
             header = opened.header();

@@ -15,7 +15,7 @@ mod tests;
 
 use calls::{Answer, Call, Contents, Expected, Header, Judge, Lengths, Opening, Question};
 pub use columns::{from_columns, test_columns, to_columns};
-pub use layout::{key_hash, record};
+pub use layout::{key_hash, record, slots_in_use};
 use model::Model;
 pub use refusals::{test_call, test_question, test_soundness};
 pub use sound::is_sound;

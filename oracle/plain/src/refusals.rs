@@ -58,7 +58,6 @@ pub fn test_call(h: &Header, lent: &Lengths, call: &Call) -> Result<(), u32> {
         // *Clear*: 1, 2, "10, as above, only if there are rows".
         Call::Clear => {
             test_header(h)?;
-            test_rows(&h.opening(), lent)?;
             test_keys(&h.opening(), lent)?;
             refuse(10, h.rows > 0 && h.generation == LAST_GENERATION)
         }

@@ -1,7 +1,7 @@
 //! The judge's own soundness check, from the paper's paragraph "A table is *sound* if", and the plain table that sound stores
 //! show. The key store's and the pending store's parts go by `layout`.
 
-use crate::layout::{home, records, row_of, slot_word};
+use crate::layout::{home, records, row_of, slot_word, slots_in_use};
 use crate::model::Model;
 use crate::refusals::test_soundness;
 use crate::{Plain, Row};
@@ -36,6 +36,7 @@ fn lengths(held: &Held) -> Lengths {
 struct Rows<'a> {
     header: Header,
     rows: Vec<&'a [u32]>,
+    /// Those in use.
     slots: &'a [u32],
     /// Value and first row.
     entries: Vec<(u32, u32)>,
@@ -51,7 +52,7 @@ impl<'a> Rows<'a> {
         Rows {
             header: h,
             rows: rows.take(h.rows as usize).collect(),
-            slots: &held.keys[..2 * h.capacity as usize],
+            slots: &held.keys[..slots_in_use(h.capacity, h.rows)],
             entries: entries.take(h.entries as usize).collect(),
             pending: &held.pending[..h.pending as usize],
         }

@@ -52,7 +52,7 @@ unsafe extern "C" {
     pub fn mouldgrey_find(
         columns: u32,
         keys: u32,
-        capacity: u32,
+        room: u32,
         count: u32,
         rows: *const u32,
         rows_len: usize,
@@ -62,7 +62,7 @@ unsafe extern "C" {
         key_len: usize,
     ) -> u64;
     pub fn mouldgrey_put(
-        capacity: u32,
+        room: u32,
         store: *mut u32,
         store_len: usize,
         key: *const u32,
@@ -80,7 +80,7 @@ unsafe extern "C" {
     pub fn mouldgrey_take_out(
         columns: u32,
         keys: u32,
-        capacity: u32,
+        room: u32,
         count: u32,
         rows: *const u32,
         rows_len: usize,
@@ -89,7 +89,7 @@ unsafe extern "C" {
         slot: u32,
     ) -> u64;
     pub fn mouldgrey_renumber(
-        capacity: u32,
+        room: u32,
         count: u32,
         store: *mut u32,
         store_len: usize,

@@ -77,11 +77,7 @@ impl ProvedTable {
                 &mut s.live[..lent.live_words],
                 &mut s.base[..lent.base_words],
             ),
-            Call::Clear => lent::clear(
-                &mut s.header,
-                &s.rows[..lent.rows],
-                &mut s.keys[..lent.keys],
-            ),
+            Call::Clear => lent::clear(&mut s.header, &mut s.keys[..lent.keys]),
         };
         answer(done, |()| Answer::Done)
     }

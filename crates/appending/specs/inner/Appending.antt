@@ -2,15 +2,16 @@
 -- the old one of a known key. Of any stores, sound or not. Assumes nothing.
 use Prim.Native.Nat.{ℕ, _+_, _*_, _≤_, _<_}
 use mathlib.Core.Path.{_≡_}
-use mathlib.Core.Bool.{Bool}
+use mathlib.Core.Bool.{Bool, true, false, not}
 use mathlib.Core.List.{List, [], _∷_}
-use lib.Dec.{leb}
+use lib.Dec.{leb, eqb}
 use lib.ListN.{length, getD, set}
 use Rattle.lists.specs.Lists.{putAt}
 use Rattle.refusals.specs.Refusals.{rung, first}
 use Rattle.sort_entries.specs.Entries.{entriesOf, entryWords, push}
-use Rattle.key_index.specs.Slots.{tagged}
+use Rattle.key_index.specs.Slots.{roomFor, slots, tagged, KeysSound}
 use Rattle.key_index.specs.inner.Index.{Fits, PutIs}
+use Rattle.key_growth.specs.inner.Growth.{Rebuilt}
 use Rattle.plain.specs.Plain.{below}
 use Rattle.table.specs.declared.Header.{Header}
 use Rattle.table.specs.declared.Largest.the-variants.{Value}
@@ -20,6 +21,8 @@ use Rattle.appending.specs.declared.Insertion.the-variants.{Kept, Append
 use Rattle.appending.specs.declared.Admission.{Admission}
 use Rattle.appending.specs.declared.Admission.the-variants.{Stop, Entries}
 use Rattle.table.specs.Sound.{keyedOf}
+use Rattle.table.specs.inner.Whole.{wholeOf}
+use Rattle.table.specs.Promises.{SlotsPast}
 use Rattle.pending.specs.inner.Becoming.{withCounts}
 
 -- ---- a row enters the sort entries
@@ -60,9 +63,30 @@ AdmissionIs h sorts value sorts′ (Entries n) = Entered h sorts value n sorts�
 abbrev pub grownTo : Header → ℕ → ℕ → ℕ → Header
 grownTo h dead entries value = withCounts h (h .rows + 1) dead entries (Value value)
 
+-- one row more takes more room in the key store
+unfoldable pub outgrown : Header → Bool
+outgrown h = not (eqb (roomFor (h .capacity) (h .rows + 1)) (roomFor (h .capacity) (h .rows)))
+
+-- What becomes of the key store: where the row takes more room it leads to all rows, else the row has stepped in.
+pub record Leading (h h′ : Header) (rows′ keys : List ℕ) (Entry : Type 0) (keys′ : List ℕ) : Type 0 where
+  pub more : outgrown h ≡ true → KeysSound (keyedOf h′) rows′ keys′
+  pub stepped : outgrown h ≡ false → Entry
+  pub past : SlotsPast (h .capacity) keys keys′
+  pub same : length keys′ ≡ length keys
+
+-- there is place for a row more, which is written
+pub record Rebuildable (h : Header) (rows keys : List ℕ) (died : ℕ) : Type 0 where
+  pub fits : Fits (wholeOf h) rows keys
+  pub place : h .rows < h .capacity
+  pub dead-fits : h .dead + died ≤ 4294967295
+
+pub record RebuiltGrown (h : Header) (rows keys : List ℕ) (died entries value : ℕ) (r : Insertion) (keys′ : List ℕ) : Type 0 where
+  pub answer : r ≡ Appended (grownTo h (h .dead + died) entries value)
+  pub rebuilt : Rebuilt (keyedOf (grownTo h (h .dead + died) entries value)) rows keys keys′
+
 -- stores long enough for a row more, and the row's cells
 pub record Growable (h : Header) (rows keys sorts cells : List ℕ) : Type 0 where
-  pub fits : Fits (keyedOf h) rows keys
+  pub fits : Fits (wholeOf h) rows keys
   pub sort-column : h .sort < h .columns
   pub entries-fit : h .entries ≤ h .rows
   pub dead-fits : h .dead + h .capacity ≤ 4294967295 + h .rows
@@ -81,7 +105,7 @@ pub record Grew (h : Header) (rows keys sorts cells : List ℕ) (hash : ℕ) (h�
   pub entered : Entered h sorts (getD cells (h .sort) 0) (h′ .entries) sorts′
   pub header : h′ ≡ grownTo h (h .dead) (h′ .entries) (getD cells (h .sort) 0)
   pub rows-after : rows′ ≡ putAt rows (h .rows * h .columns) cells
-  pub keys-after : (r : Bool) × PutIs (2 * h .capacity) keys hash (h .rows) r keys′
+  pub keys-after : Leading h h′ rows′ keys ((r : Bool) × PutIs (slots (keyedOf h)) keys hash (h .rows) r keys′) keys′
 
 -- "A new key is appended"
 abbrev pub NewIs : Header → List ℕ → List ℕ → List ℕ → List ℕ → ℕ → List ℕ → List ℕ → List ℕ → Insertion → Type 0
@@ -94,7 +118,7 @@ pub record Replaced (h : Header) (rows keys sorts cells : List ℕ) (hash old sl
   pub entered : Entered h sorts (getD cells (h .sort) 0) (h′ .entries) sorts′
   pub header : h′ ≡ grownTo h (h .dead + 1) (h′ .entries) (getD cells (h .sort) 0)
   pub rows-after : rows′ ≡ putAt (set rows (old * h .columns) 4294967295) (h .rows * h .columns) cells
-  pub keys-after : keys′ ≡ set keys slot (tagged hash (h .rows))
+  pub keys-after : Leading h h′ rows′ keys (keys′ ≡ set keys slot (tagged hash (h .rows))) keys′
 
 -- "a row so made is appended and the old row dies"
 abbrev pub ReplaceIs : Header → List ℕ → List ℕ → List ℕ → List ℕ → ℕ → ℕ → ℕ → List ℕ → List ℕ → List ℕ → Insertion → Type 0

@@ -77,13 +77,10 @@ header-after-requires-2 c κs = search needs
 same-length-13 : tie.Need-same-length-13
 same-length-13 c = search needs
 
-same-length-14 : tie.Need-same-length-14
-same-length-14 c = search needs
-
 returns-4 : tie.Need-returns-4
 returns-4 c =
-    let a = c .before .before .before .before .before .before .before .before .before .before .before .before .before .before .before .before .before .args in
-    clearing-made (a .live .now) (a .base .now) (call-clear _ _ (c .before .before .before .before .before .before .if4 .taken)) (c .before .before .before .clear .ensures) (c .header-after2 .ensures)
+    let a = c .before .before .before .before .before .before .before .before .before .before .before .before .before .before .before .before .args in
+    clearing-made (a .live .now) (a .base .now) (call-clear _ _ (c .before .before .before .before .before .if4 .taken)) (c .before .before .before .clear .ensures) (c .header-after2 .ensures)
 
 returns-5 : tie.Need-returns-5
 returns-5 c = none-made _ _ _ (call-none _ _ (omega (arith, c .if4 .left, c .before .if3 .left, c .before .before .if2 .left, c .before .before .before .if1 .left)))
@@ -115,6 +112,5 @@ make-call-spec =
     clear-requires
     header-after-requires-2
     same-length-13
-    same-length-14
     returns-4
     returns-5)

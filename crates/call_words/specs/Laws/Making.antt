@@ -139,7 +139,7 @@ module _ {h h′ : Header} {rows keys sorts pending rows′ keys′ sorts′ : L
       })
 
 pub clearing-made : {h h′ : Header} {rows keys sorts pending keys′ : List ℕ} (live base : List ℕ) {calls : List Call} {answer : TableAnswer} → calls ≡ clearing ∷ []
-    → Clearing h rows keys answer keys′ → h′ ≡ headerAfter h (tableSays answer)
+    → Clearing h keys answer keys′ → h′ ≡ headerAfter h (tableSays answer)
     → Made calls (lengths rows keys sorts pending live base) (stores h rows keys sorts pending) (compactionWords live base) (stores h′ rows keys′ sorts pending) (compactionWords live base)
 unfolding lengthsFor
 clearing-made {h} {h′} {rows} {keys} {sorts} {pending} {keys′} live base {calls} {answer} e m same =

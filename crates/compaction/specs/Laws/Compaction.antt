@@ -24,10 +24,12 @@ use Rattle.sort_entries.specs.Laws.Rebuilt.{rebuilt-few}
 use Rattle.sort_entries.specs.Laws.Stores.{length-words, words-snoc, entriesOf-put}
 use Rattle.row_buffer.specs.Ranks.{liveWord, newNumber}
 use Rattle.row_buffer.specs.Laws.Rows.{number-rank, keep-at}
-use Rattle.key_index.specs.Slots.{LiveAt}
-use Rattle.renumbering.specs.inner.Renumbering.{liveBelow, Renumbered, newRow}
-use Rattle.renumbering.specs.Laws.Renumbering.{below-number, live-among, live-rises, Compacted, renumber-sound}
+use Rattle.key_index.specs.Slots.{LiveAt, KeysSound}
+use Rattle.key_index.specs.inner.Index.{Fits}
 use Rattle.key_index.specs.Laws.Lines.{small}
+use Rattle.key_index.specs.Laws.Rooms.{past-room}
+use Rattle.renumbering.specs.inner.Renumbering.{liveBelow, Renumbered, newRow}
+use Rattle.renumbering.specs.Laws.Renumbering.{below-number, live-among, live-rises, Compacted, renumber-sound, slots-renumbered}
 use Rattle.plain.specs.Plain.{Row, Plain, compacted}
 use Rattle.plain.specs.Refusing.{storesShort}
 use Rattle.plain.specs.Laws.Rows.{noRow}
@@ -37,8 +39,9 @@ use Rattle.table.specs.declared.Header.{Header}
 use Rattle.compaction.specs.declared.Kept.{Kept}
 use Rattle.table.specs.Sound.{keyedOf}
 use Rattle.table.specs.Stores.{entries, headerOf, stored, rowStore, sortStore, Shows, RowShown}
-use Rattle.table.specs.Promises.{stores, lengths, Represents}
-use Rattle.compaction.specs.inner.Compaction.{Lendable, ClosedUp, Compaction}
+use Rattle.table.specs.Promises.{stores, lengths, Represents, SlotsPast}
+use Rattle.table.specs.Laws.Refusals.{whole-fits}
+use Rattle.compaction.specs.inner.Compaction.{Lendable, Leading, ClosedUp, Compaction}
 use Rattle.compaction.specs.inner.ClosingUp.{liveStored, entriesFor, closedRows, Closed, closedHeader}
 use Rattle.table.specs.Laws.Stored.{stored-live}
 use Rattle.plain.specs.Proper.{Proper}
@@ -221,19 +224,19 @@ module _ (h : Header) (rows sorts live base : List ℕ) (kept : Kept) (rows′ s
       ∙ getD-rowsOf (h .columns) (h .rows) rows i (l .0)
 
   -- so that the key store leads to them by their new numbers
-  closed-numbers : Compacted (keyedOf h) rows (keyedOf (closedHeader h kept)) rows′
-  closed-numbers =
+  closed-numbers : keyedOf (closedHeader h kept) .room ≡ keyedOf h .room → Compacted (keyedOf h) rows (keyedOf (closedHeader h kept)) rows′
+  closed-numbers room-same =
       record {
         columns = refl;
         keys = refl;
-        capacity = refl;
+        room = room-same;
         count = closed-count;
         moved = closed-moved;
       }
 
 module _ (h : Header) (rows keys sorts live base : List ℕ) (lent : Lendable h rows keys sorts live base) (kept : Kept) (rows′ sorts′ live′ base′ : List ℕ)
     (c : Closed h rows sorts live base kept rows′ sorts′ live′ base′) (keys′ : List ℕ) (same-keys : length keys′ ≡ length keys)
-    (n : Renumbered (keyedOf h) rows keys keys′) where
+    (led : Leading h (closedHeader h kept) rows′ keys live′ base′ keys′) where
   rows-fit : h .rows * h .columns ≤ length rows
   rows-fit = omega (arith, lent .fits .cells, mul-le-mul-right (h .columns) (lent .fits .count))
 
@@ -246,6 +249,27 @@ module _ (h : Header) (rows keys sorts live base : List ℕ) (lent : Lendable h 
       rw (c .sorts-after)
       (length-putAt sorts (entryWords es) 0
       (omega (arith, length-words es, entries-at-most (h .sort) (closedRows h rows), length-live (h .columns) (h .rows) rows, lent .fits .count, lent .sorts-long)))
+
+  fits : Fits (keyedOf h) rows keys
+  fits = whole-fits h rows keys (lent .fits)
+
+  -- in the same room the slots have the new numbers
+  renumbered-keys : keyedOf (closedHeader h kept) .room ≡ keyedOf h .room → Renumbered (keyedOf h) rows keys keys′
+  renumbered-keys e = rw (led .numbers e) (slots-renumbered (keyedOf h) rows keys live′ base′ (small (keyedOf h) rows keys fits) (fits .long) (c .numbered))
+
+  -- either way the key store leads to the rows that are left, and no slot past it is written
+  keyed-after : KeysSound (keyedOf h) rows keys → KeysSound (keyedOf (closedHeader h kept)) rows′ keys′
+  keyed-after sound = elim (ℕ-discrete (keyedOf (closedHeader h kept) .room) (keyedOf h .room)) [
+    | yes e ↦ renumber-sound (keyedOf h) rows (keyedOf (closedHeader h kept)) rows′ (closed-numbers h rows sorts live base kept rows′ sorts′ live′ base′ c rows-fit e)
+        keys keys′ (small (keyedOf h) rows keys fits) sound (renumbered-keys e)
+    | no ne ↦ led .anew ne .sound
+  ]
+
+  past-after : SlotsPast (h .capacity) keys keys′
+  past-after = elim (ℕ-discrete (keyedOf (closedHeader h kept) .room) (keyedOf h .room)) [
+    | yes e ↦ past-room (h .capacity) (h .rows) keys keys′ (renumbered-keys e .rest)
+    | no ne ↦ past-room (h .capacity) (kept .rows) keys keys′ (led .anew ne .rest)
+  ]
 
   module _ (pending : List ℕ) (p : Plain) (r : Represents p (stores h rows keys sorts pending)) (g : h .generation < 4294967295) where
     -- the live rows are the plain table's
@@ -299,8 +323,7 @@ module _ (h : Header) (rows keys sorts live base : List ℕ) (lent : Lendable h 
           proper = proper-after;
           long-enough = unfold compacted in long-after;
           shown = shown-after;
-          keyed = renumber-sound (keyedOf h) rows (keyedOf (closedHeader h kept)) rows′ (closed-numbers h rows sorts live base kept rows′ sorts′ live′ base′ c rows-fit)
-              keys keys′ (small (keyedOf h) rows keys (lent .fits)) (r .keyed) n;
+          keyed = keyed-after (r .keyed);
         }
 
     closed-up : ClosedUp h rows keys sorts (closedHeader h kept) rows′ keys′ sorts′ pending p
@@ -313,11 +336,11 @@ module _ (h : Header) (rows keys sorts live base : List ℕ) (lent : Lendable h 
           represents = represents-after;
         }
 
-  -- a compaction, once the live rows have closed up and the key store has their new numbers
+  -- a compaction, once the live rows have closed up and the key store leads to them
   pub compaction : h .generation < 4294967295 → Compaction h rows keys sorts live base (closedHeader h kept) rows′ keys′ sorts′ live′ base′
   compaction g =
       record {
-        past = n .rest;
+        past = past-after;
         words-past = c .words-past;
         table = λ pending p r. closed-up pending p r g;
       }

@@ -15,6 +15,7 @@ use Rattle.renumbering.specs.inner.Renumbering.{liveBelow, newRow}
 use Rattle.table.specs.declared.Header.{Header}
 use Rattle.compaction.specs.declared.Kept.{Kept}
 use Rattle.table.specs.Sound.{keyedOf}
+use Rattle.table.specs.inner.Whole.{wholeOf}
 use Rattle.table.specs.Promises.{PastNeeded}
 
 -- the live ones of a store's first n rows, in order
@@ -31,7 +32,7 @@ closedRows h rows = liveStored (h .columns) (h .rows) rows
 
 -- numbers within their bounds, and rows and sort entries long enough
 pub record Movable (h : Header) (rows sorts : List ℕ) : Type 0 where
-  pub within : RowsIn (keyedOf h) rows
+  pub within : RowsIn (wholeOf h) rows
   pub sort-column : h .sort < h .columns
   pub sorts-long : 2 * h .capacity ≤ length sorts
 
@@ -43,7 +44,7 @@ pub record Closable (h : Header) (rows sorts live base : List ℕ) : Type 0 wher
 
 -- a row can be kept: at or below its place, and with an entry
 pub record Keepable (h : Header) (rows sorts : List ℕ) (row : ℕ) (kept : Kept) : Type 0 where
-  pub within : RowsIn (keyedOf h) rows
+  pub within : RowsIn (wholeOf h) rows
   pub sort-column : h .sort < h .columns
   pub row-below : row < h .rows
   pub moves-down : kept .rows ≤ row

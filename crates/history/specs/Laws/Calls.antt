@@ -21,7 +21,7 @@ use Rattle.table.specs.Laws.Ladders.{stage-ladders, merge-ladders, compact-ladd
 use Rattle.table.specs.Laws.Staging.{stage-accepted}
 use Rattle.table.specs.Laws.Refusals.{merge-accepted, compact-accepted, clear-accepted}
 use Rattle.table.specs.Laws.Keeps.{opening-done, staging-done, staging-refused, merging-done, merging-refused, compacting-done, compacting-refused, clearing-done, clearing-refused}
-use Rattle.table.specs.Laws.Fronts.{pending-part, pending-more, keyed-part, keyed-more, body-part, body-more}
+use Rattle.table.specs.Laws.Fronts.{pending-part, pending-more, keys-part, keys-more, body-part, body-more}
 use Rattle.history.specs.Histories.{noWords, Called, stages, merges, compacts, clears, behind, Step, called, Steps, end, next, History}
 
 -- ---- the four calls
@@ -80,17 +80,17 @@ module _ {p : Plain} (s : Stores) (rest : Body) (more : List ℕ) (r : Represent
         | inr h ↦ stays l compacting _ (rw same at h) (compacting-refused m h)
       ]
 
-  cleared-represents : (answer : TableAnswer) (keys′ : List ℕ) → Clearing (s .header) (s .rows) (s .keys) answer keys′
+  cleared-represents : (answer : TableAnswer) (keys′ : List ℕ) → Clearing (s .header) (s .keys) answer keys′
       → Represents (after p (lengthsLent s noWords) clearing) (behind (joined (headerAfter (s .header) (tableSays answer)) (body (s .rows) keys′ (s .sorts)) (s .pending)) rest more)
   unfolding done
   cleared-represents answer keys′ m =
       let l = lengthsLent s noWords in
-      let n : ℕ = clearRefusal (s .header) (length (s .rows)) (length (s .keys)) in
+      let n : ℕ = clearRefusal (s .header) (length (s .keys)) in
       let same : n ≡ refusal p l clearing = clear-ladders r l in
       elim (some-number n) [
         | inl e ↦
-            let k = clear-accepted (s .header) (length (s .rows)) (length (s .keys)) e in
-            goes p l clearing (sym same ∙ e) (keyed-more rest (clearing-done m e (keyed-part rest r (k .rows-long) (k .keys-long))))
+            let k = clear-accepted (s .header) (length (s .keys)) e .keys-long in
+            goes p l clearing (sym same ∙ e) (keys-more (rest .keys) (clearing-done m e (keys-part (rest .keys) r k)))
         | inr h ↦ stays l clearing _ (rw same at h) (clearing-refused m h)
       ]
 

@@ -9,13 +9,13 @@ use lib.Dec.{eqb}
 use lib.ListN.{length, take, drop}
 use borrow.Author.Tests.{ne-eqb}
 use Rattle.lists.specs.Lists.{putAt, rowsOf}
-use Rattle.plain.specs.Plain.{Plain, compacted}
+use Rattle.plain.specs.Plain.{Plain, applied, merged, compacted}
 use Rattle.plain.specs.Refusing.{storesShort, wordsShort, compactLadder}
 use Rattle.plain.specs.Calls.{Call, staging, merging, compacting, clearing, refusal, LentCall}
 use Rattle.table.specs.declared.Header.{Header}
 use Rattle.table.specs.Refusing.{compactRefusal}
 use Rattle.table.specs.Stores.{rowStore, sortStore, recordWords}
-use Rattle.table.specs.Promises.{Stores, Body, bodyOf, joined, lengthsLent, Represents, mergedRows, mergedSorts, MergedTable, CompactedTable}
+use Rattle.table.specs.Promises.{Stores, Body, bodyOf, joined, lengthsLent, Represents, mergedRows, MergedTable, CompactedTable}
 use Rattle.table.specs.Laws.Ladders.{stage-ladders, merge-ladders, compact-ladders}
 use Rattle.table.specs.Laws.Refusals.{merge-accepted, compact-accepted}
 use Rattle.table.specs.Laws.Fronts.{pending-part, body-part}
@@ -40,7 +40,7 @@ rowsDone p h clearing rows = rows
 
 unfoldable sortsDone : Plain → Call → List ℕ → List ℕ
 sortsDone p (staging r) sorts = sorts
-sortsDone p merging sorts = mergedSorts p sorts
+sortsDone p merging sorts = sortStore (merged p .table) (sortStore (applied p .table) sorts)
 sortsDone p compacting sorts = sortStore (compacted p) sorts
 sortsDone p clearing sorts = sorts
 

@@ -9,6 +9,7 @@ use lib.ListN.{length}
 use Rattle.lists.specs.Lists.{putAt, count, rowsOf, flat}
 use Rattle.refusals.specs.Refusals.{first, reply, verdict}
 use Rattle.sort_entries.specs.Entries.{entryWords, rebuilt, pushAll}
+use Rattle.key_index.specs.Slots.{roomStep, roomFor}
 use Rattle.plain.specs.Staged.{Opening, openable, Staged, insert, removeKey, removeRow, wordsOf, wordsAll, inserts, due}
 use Rattle.plain.specs.Refusing.{Lengths, storesShort, wordsShort, openRefusal, compactLadder, mergeLadder}
 use Rattle.plain.specs.Plain.{Plain, Row, dead, opened, removed, insertAll, applied, unstaged, compactsAfter, merged}
@@ -76,7 +77,7 @@ abbrev pub lentRows : ℕ → Lengths
 lentRows rows = record { rows = rows; keys = 8; sorts = 8; pending = 0; liveWords = 1; baseWords = 1 }
 
 example-opened : Opened example 0 (body (0 ∷ eleven) eight eight) [] (Table (emptyHeader example 0)) eight
-unfolding openRefusal openable storesShort first putAt
+unfolding openRefusal openable storesShort first putAt roomFor roomStep
 example-opened = opened-done example 0 (0 ∷ eleven) eight eight [] eight refl (omega arith) (record { free = refl; tail = refl })
 
 -- refused with 2
@@ -90,7 +91,7 @@ unmoved = mergeOf (opened example 0)
 
 -- accepted: nothing to do
 example-stays : MergedTable exampleStores oneWord (Merged unmoved) (body (0 ∷ eleven) eight eight) oneWord (opened example 0)
-unfolding mergeSays mergedRows opened merged applied inserts removed insertAll unstaged compactsAfter due dead count entries rebuilt pushAll stored rowStore sortStore rowsOf flat entryWords putAt wordsAll openable storesShort
+unfolding mergeSays mergedRows opened merged applied inserts removed insertAll unstaged compactsAfter due dead count entries rebuilt pushAll stored rowStore sortStore rowsOf flat entryWords putAt wordsAll openable storesShort roomFor roomStep
 example-stays =
     record {
       answers = refl;

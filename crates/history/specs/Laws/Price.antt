@@ -26,7 +26,7 @@ use Rattle.table.specs.Refusing.{mergeRefusal, compactRefusal, clearRefusal}
 use Rattle.table.specs.Promises.{Stores, Represents, mergeOf, Merging, Compacting, Clearing, Body, bodyOf, joined, CompactionWords, lengthsLent}
 use Rattle.table.specs.Laws.Ladders.{merge-ladders, compact-ladders, clear-ladders}
 use Rattle.table.specs.Laws.Refusals.{merge-accepted, compact-accepted, clear-accepted}
-use Rattle.table.specs.Laws.Fronts.{pending-part, keyed-part, body-part}
+use Rattle.table.specs.Laws.Fronts.{pending-part, keys-part, body-part}
 use Rattle.table.specs.Laws.Opening.{cleared-rows}
 use Rattle.table.specs.Laws.Shown.{rows-counted}
 use Rattle.history.specs.Histories.{noWords, Called, stages, merges, compacts, clears, behind, called, Steps, end, next}
@@ -116,18 +116,18 @@ module _ {p : Plain} (s : Stores) (rest : Body) (more : List ℕ) (r : Represent
         | inr h ↦ rw (counted-refused (tableSays answer) n (compacting-wears s) (ruled-refused (tableSays answer) n (m .refusal) h)) (refused-balanced p c (rw same at h))
       ]
 
-  cleared-balanced : (answer : TableAnswer) (keys′ : List ℕ) → Clearing (s .header) (s .rows) (s .keys) answer keys′
+  cleared-balanced : (answer : TableAnswer) (keys′ : List ℕ) → Clearing (s .header) (s .keys) answer keys′
       → Balanced p (record { call = clearing; lengths = lengthsLent s noWords }) (counted (tableSays answer) (clearing-wears s))
   unfolding done appendedDone
   cleared-balanced answer keys′ m =
       let l = lengthsLent s noWords in
       let c : LentCall = record { call = clearing; lengths = l } in
-      let n : ℕ = clearRefusal (s .header) (length (s .rows)) (length (s .keys)) in
+      let n : ℕ = clearRefusal (s .header) (length (s .keys)) in
       let same : n ≡ refusal p l clearing = clear-ladders r l in
       elim (some-number n) [
         | inl e ↦
-            let k = clear-accepted (s .header) (length (s .rows)) (length (s .keys)) e in
-            let t = m .table e (s .sorts ++ rest .sorts) (s .pending ++ more) p (keyed-part rest r (k .rows-long) (k .keys-long)) in
+            let k = clear-accepted (s .header) (length (s .keys)) e .keys-long in
+            let t = m .table e (s .rows ++ rest .rows) (s .sorts ++ rest .sorts) (s .pending ++ more) p (keys-part (rest .keys) r k) in
             rw (counted-accepted (tableSays answer) _ (clearing-wears s) (t .answers))
             (done-balanced p c (wear 0 0 0 (s .header .rows)) (sym same ∙ e) (omega (arith, rows-counted r, cleared-rows p)) (omega arith))
         | inr h ↦ rw (counted-refused (tableSays answer) n (clearing-wears s) (ruled-refused (tableSays answer) n (m .refusal) h)) (refused-balanced p c (rw same at h))

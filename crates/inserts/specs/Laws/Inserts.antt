@@ -11,7 +11,7 @@ use native.Mathlib.Numerals.{add-one}
 use native.Mathlib.Omega.{arith}
 use lib.Dec.{leb}
 use lib.ListN.{length, take, drop, getD, set, length-set}
-use borrow.Author.Tests.{leb-true}
+use borrow.Author.Tests.{leb-true, eqb-true, not-false}
 use Rattle.lists.specs.Lists.{putAt, rowAt}
 use Rattle.lists.specs.Laws.Keep.{split}
 use Rattle.lists.specs.Laws.Parts.{part-before, part-putAt}
@@ -24,9 +24,10 @@ use Rattle.merge_rules.specs.Survivor.{survivor}
 use Rattle.merge_rules.specs.Laws.Rules.{made-length, made-keys, made-first, kept-of, made-of, survives, survivor-length, ruled-made}
 use Rattle.key_index.specs.declared.Found.{Found}
 use Rattle.key_index.specs.declared.Found.the-variants.{None, At}
-use Rattle.key_index.specs.Slots.{LiveAt, keyAt, KeysSound, tagged}
+use Rattle.key_index.specs.Slots.{LiveAt, keyAt, roomFor, slots, KeysSound, tagged}
 use Rattle.key_index.specs.inner.Index.{Fits, FoundAt, FoundIs, PutIs}
-use Rattle.key_index.specs.Laws.Index.{put-sound, replace-sound, replace-tail}
+use Rattle.key_index.specs.Laws.Index.{put-sound, replace-sound}
+use Rattle.key_index.specs.Laws.Rooms.{room-enough}
 use Rattle.key_index.specs.Laws.Rows.{WithRows, grown-rows, swapped-rows}
 use Rattle.plain.specs.Staged.{insert, skipped}
 use Rattle.plain.specs.Plain.{Row, Plain, withRows, withRow, lookup, dead, liveWithKey, killIf, stop, append, put, insertion}
@@ -37,10 +38,12 @@ use Rattle.table.specs.declared.Header.{Header}
 use Rattle.appending.specs.declared.Insertion.{Insertion}
 use Rattle.appending.specs.declared.Insertion.the-variants.{Kept, Appended, Stopped}
 use Rattle.table.specs.Sound.{keyedOf}
+use Rattle.table.specs.inner.Whole.{wholeOf}
+use Rattle.table.specs.Laws.Refusals.{whole-fits}
 use Rattle.table.specs.Promises.{Stores, stores, Represents}
 use Rattle.pending.specs.inner.Becoming.{Recounted, hashOf}
 use Rattle.inserts.specs.inner.Inserting.{Comes, Inserting}
-use Rattle.appending.specs.inner.Appending.{grownTo, Grew, NewIs, Replaced}
+use Rattle.appending.specs.inner.Appending.{grownTo, outgrown, Leading, Grew, NewIs, Replaced}
 use Rattle.inserts.specs.inner.Ruling.{Changes, rowMade, KnownIs}
 use Rattle.table.specs.Laws.Stored.{marked-dead}
 use Rattle.table.specs.Laws.Shown.{in-live, live-cells}
@@ -145,37 +148,50 @@ module _ (w old : ℕ) (rows : List ℕ) (some : 0 < w) where
       ap (λ (k : ℕ). rowAt w i (set rows k 4294967295)) (sym (add-zero (old * w)))
       ∙ rowAt-set-other w old i 0 rows 4294967295 (λ q. ne (sym q)) some
 
-one-more : (h : Header) (d e v : ℕ) → WithRows (keyedOf h) (keyedOf (grownTo h d e v)) (h .rows + 1)
-one-more h d e v = record { columns = refl; keys = refl; capacity = refl; count = refl }
+-- in the same room
+room-same : (h : Header) → outgrown h ≡ false → roomFor (h .capacity) (h .rows + 1) ≡ roomFor (h .capacity) (h .rows)
+unfolding outgrown
+room-same h o = eqb-true _ _ (not-false _ o)
+
+one-more : (h : Header) (d e v : ℕ) → outgrown h ≡ false → WithRows (keyedOf h) (keyedOf (grownTo h d e v)) (h .rows + 1)
+one-more h d e v o = record { columns = refl; keys = refl; room = room-same h o; count = refl }
 
 -- a live first cell
 first-live : (cells : List ℕ) → isDead (getD cells 0 0) ≡ false → isLive cells ≡ true
 unfolding isLive
 first-live cells e = rw e
 
-module _ (h : Header) (rows keys cells : List ℕ) (hash : ℕ) (fits : Fits (keyedOf h) rows keys) (room : h .rows < h .capacity) (width : length cells ≡ h .columns)
+module _ (h : Header) (rows keys cells : List ℕ) (hash : ℕ) (fits : Fits (wholeOf h) rows keys) (room : h .rows < h .capacity) (width : length cells ≡ h .columns)
     (sound : KeysSound (keyedOf h) rows keys) (live : isDead (getD cells 0 0) ≡ false) (d e v : ℕ) where
   cells-in : h .rows * h .columns + length cells ≤ length rows
   cells-in = omega (arith, row-in (h .rows) (h .capacity) (h .columns) room, fits .cells, width)
 
+  -- what the slots in use fit
+  used-fits : Fits (keyedOf h) rows keys
+  used-fits = whole-fits h rows keys fits
+
+  -- they have room for the row, unless it takes more
+  has-room : outgrown h ≡ false → h .rows < roomFor (h .capacity) (h .rows)
+  has-room o = omega (arith, room-same h o, room-enough (h .capacity) (h .rows + 1) (omega (arith, room)) (fits .most))
+
   -- a new key's row
-  new-keys : hash ≡ compact (keyHash (take (h .keys) cells)) → (r : Bool) (keys′ : List ℕ) → PutIs (2 * h .capacity) keys hash (h .rows) r keys′
+  new-keys : hash ≡ compact (keyHash (take (h .keys) cells)) → outgrown h ≡ false → (r : Bool) (keys′ : List ℕ) → PutIs (slots (keyedOf h)) keys hash (h .rows) r keys′
       → KeysSound (keyedOf (grownTo h d e v)) (putAt rows (h .rows * h .columns) cells) keys′
-  new-keys hash-is r keys′ put-is =
+  new-keys hash-is o r keys′ put-is =
       let rows′ : List ℕ = putAt rows (h .rows * h .columns) cells in
       let new = rowAt-new (h .columns) (h .rows) rows cells width cells-in in
-      put-sound (keyedOf h) (keyedOf (grownTo h d e v)) rows rows′ keys keys′ hash r fits sound
-      (grown-rows (keyedOf h) (keyedOf (grownTo h d e v)) rows rows′ (one-more h d e v) room
+      put-sound (keyedOf h) (keyedOf (grownTo h d e v)) rows rows′ keys keys′ hash r used-fits sound
+      (grown-rows (keyedOf h) (keyedOf (grownTo h d e v)) rows rows′ (one-more h d e v o) (has-room o)
       (rowAt-before (h .columns) (h .rows) rows cells width cells-in)
       (ap isLive new ∙ first-live cells live))
       (hash-is ∙ ap (λ (l : List ℕ). compact (keyHash (take (h .keys) l))) (sym new))
       put-is
 
   -- a known key's
-  known-keys : (key : List ℕ) → hash ≡ compact (keyHash key) → take (h .keys) cells ≡ key → (old slot : ℕ) → FoundAt (keyedOf h) rows keys key old slot
+  known-keys : (key : List ℕ) → hash ≡ compact (keyHash key) → outgrown h ≡ false → take (h .keys) cells ≡ key → (old slot : ℕ) → FoundAt (keyedOf h) rows keys key old slot
       → (keys′ : List ℕ) → keys′ ≡ set keys slot (tagged hash (h .rows))
       → KeysSound (keyedOf (grownTo h d e v)) (putAt (set rows (old * h .columns) 4294967295) (h .rows * h .columns) cells) keys′
-  known-keys key hash-is key-is old slot found keys′ keys-is =
+  known-keys key hash-is o key-is old slot found keys′ keys-is =
       let base : List ℕ = set rows (old * h .columns) 4294967295 in
       let rows′ : List ℕ = putAt base (h .rows * h .columns) cells in
       let base-in : h .rows * h .columns + length cells ≤ length base = simp length-set cells-in in
@@ -184,13 +200,18 @@ module _ (h : Header) (rows keys cells : List ℕ) (hash : ℕ) (fits : Fits (ke
       let below : old < h .rows = found .live .0 in
       let old-wide : 1 ≤ length (rowAt (h .columns) old rows) =
       omega (arith, length-rowAt (h .columns) old rows (rw (add-one old, suc-mul) (omega (arith, row-in old (h .rows) (h .columns) below, row-in (h .rows) (h .capacity) (h .columns) room, fits .cells))), fits .some-columns) in
-      replace-sound (keyedOf h) (keyedOf (grownTo h d e v)) rows rows′ keys keys′ key hash old slot fits sound
-      (swapped-rows (keyedOf h) (keyedOf (grownTo h d e v)) rows rows′ old (one-more h d e v) room
+      replace-sound (keyedOf h) (keyedOf (grownTo h d e v)) rows rows′ keys keys′ key hash old slot used-fits sound
+      (swapped-rows (keyedOf h) (keyedOf (grownTo h d e v)) rows rows′ old (one-more h d e v o) (has-room o)
       (λ i k ne. before i k ∙ rowAt-others (h .columns) old rows (fits .some-columns) i ne)
       (ap isLive (before old below ∙ rowAt-marked (h .columns) old rows (fits .some-columns)) ∙ marked-dead (rowAt (h .columns) old rows) old-wide)
       (ap isLive new ∙ first-live cells live)
       (ap (take (h .keys)) new ∙ key-is ∙ sym (found .key-is)))
       found hash-is keys-is
+
+-- the key store leads to the rows with the new one, once that has stepped in or all are put anew
+led : {h h′ : Header} {rows′ keys : List ℕ} {Entry : Type 0} {keys′ : List ℕ} → Leading h h′ rows′ keys Entry keys′
+    → (outgrown h ≡ false → Entry → KeysSound (keyedOf h′) rows′ keys′) → KeysSound (keyedOf h′) rows′ keys′
+led {h} l steps = elim (split (outgrown h)) [ inl o ↦ l .more o | inr o ↦ steps o (l .stepped o) ]
 
 -- ---- what an insert promises
 
@@ -215,10 +236,6 @@ recounted : (h : Header) (d e v : ℕ) → h .rows < h .capacity → h .entries 
 recounted h d e v room few k l =
     record { counts = refl; rows-fit = omega arith; rows-grow = omega arith; entries-fit = omega arith; dead-fit = omega arith }
 
-put-length : (n : ℕ) (keys : List ℕ) (hash row : ℕ) (r : Bool) (keys′ : List ℕ) → PutIs n keys hash row r keys′ → length keys′ ≡ length keys
-put-length n keys hash row true keys′ q = let y = q .yes refl in ap length (y .2) ∙ length-set keys _ (tagged hash row)
-put-length n keys hash row false keys′ q = ap length (q .kept refl)
-
 module _ (h : Header) (rows keys sorts cells : List ℕ) (hash : ℕ) where
   -- "An insert with a dead first cell is skipped"
   pub skip-inserts : isDead (getD cells 0 0) ≡ true → Inserting h rows keys sorts cells hash Kept rows keys sorts
@@ -231,7 +248,7 @@ module _ (h : Header) (rows keys sorts cells : List ℕ) (hash : ℕ) where
         table = λ hash-is pending p r. insertion-skips cells p e;
       }
 
-  module _ (fits : Fits (keyedOf h) rows keys) (entries-fit : h .entries ≤ h .rows) (width : length cells ≡ h .columns) (live : isDead (getD cells 0 0) ≡ false)
+  module _ (fits : Fits (wholeOf h) rows keys) (entries-fit : h .entries ≤ h .rows) (width : length cells ≡ h .columns) (live : isDead (getD cells 0 0) ≡ false)
       (f : Found) (found : FoundIs (keyedOf h) rows keys (take (h .keys) cells) hash f) where
     module _ (hash-is : hash ≡ compact (keyHash (take (h .keys) cells))) {p : Plain} {pending : List ℕ} (r : Represents p (stores h rows keys sorts pending)) where
       key-same : take (p .opening .keys) cells ≡ take (h .keys) cells
@@ -317,9 +334,9 @@ module _ (h : Header) (rows keys sorts cells : List ℕ) (hash : ℕ) where
                 rw (g .header)
                     (grown-steps r (prepared-dead r old old-live) row made-wide (g .entered .room) (h′ .entries) sorts′ (g .entered)
                     (insertion-proper cells p _ (r .proper) wide goes) (h .dead + 1) died rows′ (g .rows-after) keys′
-                    (ap length (g .keys-after) ∙ length-set keys slot (tagged hash (h .rows)))
-                    (rw (g .rows-after)
-                    (known-keys h rows keys row hash fits (g .entered .room) made-wide (r .keyed) made-live (h .dead + 1) (h′ .entries) (getD row (h .sort) 0) (take (h .keys) cells) hash-is made-key old slot there keys′ (g .keys-after)))),
+                    (g .keys-after .same)
+                    (rw (g .header) at (led (g .keys-after) (λ o keys-is. rw (g .header, g .rows-after)
+                    (known-keys h rows keys row hash fits (g .entered .room) made-wide (r .keyed) made-live (h .dead + 1) (h′ .entries) (getD row (h .sort) 0) (take (h .keys) cells) hash-is o made-key old slot there keys′ keys-is))))),
               )
 
       -- the stores once a new key's row is appended
@@ -333,9 +350,9 @@ module _ (h : Header) (rows keys sorts cells : List ℕ) (hash : ℕ) where
             rw (g .header)
                 (grown-steps r (prepared-same r) cells width (g .entered .room) (h′ .entries) sorts′ (g .entered)
                 (insertion-proper cells p _ (r .proper) wide goes) (h .dead) dead-same rows′ (g .rows-after) keys′
-                (put-length _ _ _ _ (g .keys-after .0) keys′ (g .keys-after .1))
-                (rw (g .rows-after)
-                (new-keys h rows keys cells hash fits (g .entered .room) width (r .keyed) live (h .dead) (h′ .entries) (getD cells (h .sort) 0) hash-is (g .keys-after .0) keys′ (g .keys-after .1)))),
+                (g .keys-after .same)
+                (rw (g .header) at (led (g .keys-after) (λ o put-is. rw (g .header, g .rows-after)
+                (new-keys h rows keys cells hash fits (g .entered .room) width (r .keyed) live (h .dead) (h′ .entries) (getD cells (h .sort) 0) hash-is o (put-is .0) keys′ (put-is .1)))))),
           )
 
     -- "A new key is appended"
@@ -345,7 +362,7 @@ module _ (h : Header) (rows keys sorts cells : List ℕ) (hash : ℕ) where
     new-inserts e Kept rows′ keys′ sorts′ g = absurd g
     new-inserts e (Appended h′) rows′ keys′ sorts′ g =
         record {
-          past = g .keys-after .1 .tail;
+          past = g .keys-after .past;
           header = λ h″ q.
               rw (← same-header h′ h″ q, g .header)
               (recounted h (h .dead) (h′ .entries) _ (g .entered .room) entries-fit (g .entered .few) (omega arith));
@@ -373,7 +390,7 @@ module _ (h : Header) (rows keys sorts cells : List ℕ) (hash : ℕ) where
         }
     known-inserts old slot e (Appended h′) rows′ keys′ sorts′ g =
         record {
-          past = replace-tail (2 * h .capacity) slot _ keys keys′ (found .slot-in old slot e) (g .1 .keys-after);
+          past = g .1 .keys-after .past;
           header = λ h″ q.
               rw (← same-header h′ h″ q, g .1 .header)
               (recounted h (h .dead + 1) (h′ .entries) _ (g .1 .entered .room) entries-fit (g .1 .entered .few) (omega arith));

@@ -19,10 +19,10 @@ use Rattle.key_index.specs.inner.Index.{Fits}
 pub record RowsLie (t : Keyed) (rows : List ℕ) : Type 0 where
   pub most-columns : t .columns ≤ 8
   pub most-keys : t .keys ≤ t .columns
-  pub some : 1 ≤ t .capacity
-  pub most : t .capacity ≤ 65536
-  pub count : t .rows ≤ t .capacity
-  pub cells : t .capacity * t .columns ≤ length rows
+  pub some : 1 ≤ t .room
+  pub most : t .room ≤ 65536
+  pub count : t .rows ≤ t .room
+  pub cells : t .room * t .columns ≤ length rows
 
 unfoldable pub isLiveRow : Keyed → List ℕ → ℕ → Bool
 isLiveRow t rows i = isLive (rowAt (t .columns) i rows)

@@ -165,7 +165,7 @@ module _ (t : Keyed) (rows store : List ℕ) (f : Fits t rows store) (r : ℕ) (
   dead-row : LiveAt t (set rows (r * t .columns) 4294967295) r → ⊥
   unfolding isLive isDead
   dead-row q =
-      let i : r * t .columns < length rows = omega (arith, row-in r (t .capacity) (t .columns) (omega (arith, live .0, f .count)), f .cells, f .some-columns) in
+      let i : r * t .columns < length rows = omega (arith, row-in r (t .room) (t .columns) (omega (arith, live .0, f .count)), f .cells, f .some-columns) in
       let first : getD (set rows (r * t .columns) 4294967295) (r * t .columns + 0) 0 ≡ 4294967295 = rw add-zero (getD-set-same rows (r * t .columns) 4294967295 0 i) in
       let e = getD-rowAt (t .columns) r (set rows (r * t .columns) 4294967295) 0 0 (omega (arith, f .some-columns)) ∙ first in
       let no : not (eqb (getD (rowAt (t .columns) r (set rows (r * t .columns) 4294967295)) 0 0) 4294967295) ≡ false = rw (eq-eqb _ _ e) in

@@ -12,10 +12,10 @@ use Rattle.key_index.proofs.empty.Statement.{statement}
 use Rattle.key_index.proofs.empty.Tie as tie
 
 abbrev Inv-loop : tie.InvT-loop
-Inv-loop capacity store₀ slots at₀ store at = (at ≤ slots) × (length store ≡ length store₀) × (store ≡ putAt store₀ 0 (zeros at))
+Inv-loop room store₀ slots at₀ store at = (at ≤ slots) × (length store ≡ length store₀) × (store ≡ putAt store₀ 0 (zeros at))
 
 abbrev μ-loop : tie.MeasureT-loop
-μ-loop capacity store₀ slots at₀ store at = slots - at
+μ-loop room store₀ slots at₀ store at = slots - at
 
 mul-slots : tie.Need-mul-slots Inv-loop μ-loop
 mul-slots c = search needs
@@ -50,8 +50,8 @@ returns : tie.Need-returns Inv-loop μ-loop
 returns c =
     let l = c .before .loop in
     let a = c .before .before .args in
-    let e : l .at ≡ 2 * a .capacity = omega arith in
-    empty-end (a .capacity) (a .store .now) _ (search needs) (l .inv .2 ∙ ap (λ (i : ℕ). putAt (a .store .now) 0 (zeros i)) e)
+    let e : l .at ≡ 2 * a .room = omega arith in
+    empty-end (a .room) (a .store .now) _ (search needs) (l .inv .2 ∙ ap (λ (i : ℕ). putAt (a .store .now) 0 (zeros i)) e)
 
 pub empty-spec : {M : Type 1} → statement M
 empty-spec =

@@ -74,7 +74,7 @@ module _ (t : Keyed) (rows store : List ℕ) (fits : Fits t rows store) (sound :
 
 -- other rows, with the same live ones and keys
 pub record SameLive (t t′ : Keyed) (rows rows′ : List ℕ) : Type 0 where
-  pub capacity : t′ .capacity ≡ t .capacity
+  pub room : t′ .room ≡ t .room
   pub keeps : (i : ℕ) → LiveAt t rows i → LiveAt t′ rows′ i
   pub only : (i : ℕ) → LiveAt t′ rows′ i → LiveAt t rows i
   pub key : (i : ℕ) → LiveAt t rows i → keyAt t′ rows′ i ≡ keyAt t rows i
@@ -83,10 +83,10 @@ pub keys-same : (t t′ : Keyed) (rows rows′ store : List ℕ) → KeysSound t
 keys-same t t′ rows rows′ store sound same =
     record {
       only-live = λ slot h some.
-          let o = sound .only-live slot (omega (arith, same .capacity)) some in
+          let o = sound .only-live slot (omega (arith, same .room)) some in
           (o .0, same .keeps (o .0) (o .1), o .2 ∙ ap (λ (k : List ℕ). word k (o .0)) (sym (same .key (o .0) (o .1))));
-      once = λ a b h k. sound .once a b (omega (arith, same .capacity)) (omega (arith, same .capacity));
-      leads = λ i live. rw (same .capacity, same .key i (same .only i live)) (sound .leads i (same .only i live));
+      once = λ a b h k. sound .once a b (omega (arith, same .room)) (omega (arith, same .room));
+      leads = λ i live. rw (same .room, same .key i (same .only i live)) (sound .leads i (same .only i live));
     }
 
 -- no live row, and no slot taken
@@ -108,21 +108,21 @@ empty-free t rows store none sound slot h =
       | no free ↦ omega arith
     ]
 
-pub emptied : (capacity : ℕ) (store store′ : List ℕ) → 2 * capacity ≤ length store → EmptyIs capacity store store′
-    → (slot : ℕ) → slot < 2 * capacity → getD store′ slot 0 ≡ 0
-emptied capacity store store′ long e slot h =
-    let r : length (zeros (2 * capacity)) ≡ 2 * capacity = length-replicate (2 * capacity) 0 in
-    let k : slot < length (zeros (2 * capacity)) = omega arith in
+pub emptied : (room : ℕ) (store store′ : List ℕ) → 2 * room ≤ length store → EmptyIs room store store′
+    → (slot : ℕ) → slot < 2 * room → getD store′ slot 0 ≡ 0
+emptied room store store′ long e slot h =
+    let r : length (zeros (2 * room)) ≡ 2 * room = length-replicate (2 * room) 0 in
+    let k : slot < length (zeros (2 * room)) = omega arith in
     let z : 0 + slot ≡ slot = zero-add slot in
     ap (λ (l : List ℕ). getD l slot 0) (e .free)
-    ∙ ap (λ (i : ℕ). getD (putAt store 0 (zeros (2 * capacity))) i 0) (sym z)
-    ∙ getD-putAt-in store (zeros (2 * capacity)) 0 (omega arith) slot 0 k
-    ∙ getD-replicate (2 * capacity) slot 0 0 h
+    ∙ ap (λ (i : ℕ). getD (putAt store 0 (zeros (2 * room))) i 0) (sym z)
+    ∙ getD-putAt-in store (zeros (2 * room)) 0 (omega arith) slot 0 k
+    ∙ getD-replicate (2 * room) slot 0 0 h
 
 -- One slot takes the word of a new row. What stood there before is the word of no live row, or that row lives no more.
 record Turned (t t′ : Keyed) (rows rows′ store : List ℕ) (slot : ℕ) : Type 0 where
-  capacity : t′ .capacity ≡ t .capacity
-  room : t .rows < t .capacity
+  room : t′ .room ≡ t .room
+  place : t .rows < t .room
   keeps : (i : ℕ) → LiveAt t rows i → (getD store slot 0 ≡ word (keyAt t rows i) i → ⊥) → LiveAt t′ rows′ i
   adds : LiveAt t′ rows′ (t .rows)
   only : (i : ℕ) → LiveAt t′ rows′ i → (LiveAt t rows i × (getD store slot 0 ≡ word (keyAt t rows i) i → ⊥)) ⊎ (i ≡ t .rows)
@@ -154,7 +154,7 @@ module _ (t t′ : Keyed) (rows rows′ store : List ℕ) (fits : Fits t rows st
     fresh i h ne e =
         let some : 0 < getD store i 0 = omega (arith, word-some new (t .rows)) in
         let o = sound .only-live i h some in
-        let q : o .0 ≡ t .rows = word-same _ _ (o .0) (t .rows) (omega (arith, o .1 .0, fits .count, fits .most)) (omega (arith, turned .room, fits .most)) (sym (o .2) ∙ e) in
+        let q : o .0 ≡ t .rows = word-same _ _ (o .0) (t .rows) (omega (arith, o .1 .0, fits .count, fits .most)) (omega (arith, turned .place, fits .most)) (sym (o .2) ∙ e) in
         omega (arith, o .1 .0)
 
     -- what a taken slot holds afterwards
@@ -189,7 +189,7 @@ module _ (t t′ : Keyed) (rows rows′ store : List ℕ) (fits : Fits t rows st
 
     turned-sound : (d : ℕ) → d < slots t → slot ≡ slotFrom (slots t) (home (slots t) new) d
         → ((e : ℕ) → e < d → getD store (slotFrom (slots t) (home (slots t) new) e) 0 ≡ 0 → ⊥) → KeysSound t′ rows′ after
-    turned-sound d h at way = record { only-live = λ i k. holds i (omega (arith, turned .capacity)); once = λ a b k l. apart a b (omega (arith, turned .capacity)) (omega (arith, turned .capacity)); leads = λ i live. rw (turned .capacity) (leads i live) }
+    turned-sound d h at way = record { only-live = λ i k. holds i (omega (arith, turned .room)); once = λ a b k l. apart a b (omega (arith, turned .room)) (omega (arith, turned .room)); leads = λ i live. rw (turned .room) (leads i live) }
       where
         leads : (i : ℕ) → LiveAt t′ rows′ i → (d : ℕ) × StandsAt (slots t) after (keyAt t′ rows′ i) i d
         leads i live = elim (turned .only i live) [
@@ -199,8 +199,8 @@ module _ (t t′ : Keyed) (rows rows′ store : List ℕ) (fits : Fits t rows st
 
 -- a row more is live, after the others, and they are as they were
 pub record Grown (t t′ : Keyed) (rows rows′ : List ℕ) : Type 0 where
-  pub capacity : t′ .capacity ≡ t .capacity
-  pub room : t .rows < t .capacity
+  pub room : t′ .room ≡ t .room
+  pub place : t .rows < t .room
   pub keeps : (i : ℕ) → LiveAt t rows i → LiveAt t′ rows′ i
   pub adds : LiveAt t′ rows′ (t .rows)
   pub only : (i : ℕ) → LiveAt t′ rows′ i → LiveAt t rows i ⊎ (i ≡ t .rows)
@@ -218,8 +218,8 @@ put-sound t t′ rows rows′ store store′ hash r fits sound grown e put =
     let no : (i : ℕ) → getD store slot 0 ≡ word (keyAt t rows i) i → ⊥ = λ i q. let z : word (keyAt t rows i) i ≡ 0 = sym q ∙ f .free in omega (arith, word-some (keyAt t rows i) i) in
     let turned : Turned t t′ rows rows′ store slot =
     record {
-      capacity = grown .capacity;
       room = grown .room;
+      place = grown .place;
       keeps = λ i live _. grown .keeps i live;
       adds = grown .adds;
       only = λ i live. elim (grown .only i live) [ inl o ↦ inl (o, no i) | inr q ↦ inr q ];
@@ -233,8 +233,8 @@ replace-tail n slot w store store′ h e = ap (drop n) e ∙ drop-set-lt n store
 
 -- a row dies, and one more of the same key is live, after the others
 pub record Swapped (t t′ : Keyed) (rows rows′ : List ℕ) (old : ℕ) : Type 0 where
-  pub capacity : t′ .capacity ≡ t .capacity
-  pub room : t .rows < t .capacity
+  pub room : t′ .room ≡ t .room
+  pub place : t .rows < t .room
   pub keeps : (i : ℕ) → LiveAt t rows i → (i ≡ old → ⊥) → LiveAt t′ rows′ i
   pub adds : LiveAt t′ rows′ (t .rows)
   pub only : (i : ℕ) → LiveAt t′ rows′ i → (LiveAt t rows i × (i ≡ old → ⊥)) ⊎ (i ≡ t .rows)
@@ -256,8 +256,8 @@ replace-sound t t′ rows rows′ store store′ key hash old slot fits sound sw
     let its : (i : ℕ) → (getD store slot 0 ≡ word (keyAt t rows i) i → ⊥) → i ≡ old → ⊥ = λ i ne q. ne (rw q ours) in
     let turned : Turned t t′ rows rows′ store slot =
     record {
-      capacity = swapped .capacity;
       room = swapped .room;
+      place = swapped .place;
       keeps = λ i live ne. swapped .keeps i live (its i ne);
       adds = swapped .adds;
       only = λ i live. elim (swapped .only i live) [ inl o ↦ inl (o .0, λ q. o .1 (mine i (o .0 .0) q)) | inr q ↦ inr q ];

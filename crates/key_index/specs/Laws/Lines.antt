@@ -22,12 +22,12 @@ lineHome t rows z w = away (slots t) z (homeOf t rows w)
 
 -- a table's numbers are small, and it has slots
 pub record Small (t : Keyed) : Type 0 where
-  pub some : 1 ≤ t .capacity
-  pub capacity : t .capacity ≤ 65536
-  pub count : t .rows ≤ t .capacity
+  pub some : 1 ≤ t .room
+  pub room : t .room ≤ 65536
+  pub count : t .rows ≤ t .room
 
 pub small : (t : Keyed) (rows store : List ℕ) → Fits t rows store → Small t
-small t rows store f = record { some = f .some; capacity = f .most; count = f .count }
+small t rows store f = record { some = f .some; room = f .most; count = f .count }
 
 module _ (t : Keyed) (m : Small t) (rows : List ℕ) (z : ℕ) (b : z < slots t) where
   -- the home of a live row's word

@@ -18,7 +18,7 @@ use Rattle.key_index.specs.Laws.Index.{Grown, Swapped}
 pub record WithRows (t t′ : Keyed) (n : ℕ) : Type 0 where
   pub columns : t′ .columns ≡ t .columns
   pub keys : t′ .keys ≡ t .keys
-  pub capacity : t′ .capacity ≡ t .capacity
+  pub room : t′ .room ≡ t .room
   pub count : t′ .rows ≡ n
 
 module _ (t t′ : Keyed) (rows rows′ : List ℕ) (n : ℕ) (with-rows : WithRows t t′ n) where
@@ -44,13 +44,13 @@ module _ (t t′ : Keyed) (rows rows′ : List ℕ) (n : ℕ) (with-rows : WithR
   still-key i e = key-of i ∙ ap (take (t .keys)) e
 
 -- a live row comes after them
-pub grown-rows : (t t′ : Keyed) (rows rows′ : List ℕ) → WithRows t t′ (t .rows + 1) → t .rows < t .capacity
+pub grown-rows : (t t′ : Keyed) (rows rows′ : List ℕ) → WithRows t t′ (t .rows + 1) → t .rows < t .room
     → ((i : ℕ) → i < t .rows → rowAt (t .columns) i rows′ ≡ rowAt (t .columns) i rows) → isLive (rowAt (t .columns) (t .rows) rows′) ≡ true
     → Grown t t′ rows rows′
-grown-rows t t′ rows rows′ w room f new =
+grown-rows t t′ rows rows′ w place f new =
     record {
-      capacity = w .capacity;
-      room = room;
+      room = w .room;
+      place = place;
       keeps = λ i live. live-of t t′ rows rows′ (t .rows + 1) w i (omega (arith, live .0)) (still-live t t′ rows rows′ (t .rows + 1) w i (f i (live .0)) (live .1));
       adds = live-of t t′ rows rows′ (t .rows + 1) w (t .rows) (omega arith) new;
       only = λ i live.
@@ -63,14 +63,14 @@ grown-rows t t′ rows rows′ w room f new =
     }
 
 -- and one of them, of the same key, is dead now
-pub swapped-rows : (t t′ : Keyed) (rows rows′ : List ℕ) (old : ℕ) → WithRows t t′ (t .rows + 1) → t .rows < t .capacity
+pub swapped-rows : (t t′ : Keyed) (rows rows′ : List ℕ) (old : ℕ) → WithRows t t′ (t .rows + 1) → t .rows < t .room
     → ((i : ℕ) → i < t .rows → (i ≡ old → ⊥) → rowAt (t .columns) i rows′ ≡ rowAt (t .columns) i rows) → isLive (rowAt (t .columns) old rows′) ≡ false
     → isLive (rowAt (t .columns) (t .rows) rows′) ≡ true → take (t .keys) (rowAt (t .columns) (t .rows) rows′) ≡ keyAt t rows old
     → Swapped t t′ rows rows′ old
-swapped-rows t t′ rows rows′ old w room f dead new k =
+swapped-rows t t′ rows rows′ old w place f dead new k =
     record {
-      capacity = w .capacity;
-      room = room;
+      room = w .room;
+      place = place;
       keeps = λ i live ne. live-of t t′ rows rows′ (t .rows + 1) w i (omega (arith, live .0)) (still-live t t′ rows rows′ (t .rows + 1) w i (f i (live .0) ne) (live .1));
       adds = live-of t t′ rows rows′ (t .rows + 1) w (t .rows) (omega arith) new;
       only = λ i live.

@@ -13,19 +13,19 @@ use Rattle.key_index.specs.declared.Found.the-variants.{None, At}
 use Rattle.key_index.specs.Slots.{LiveAt, keyAt, slots, word, home, slotFrom, KeysSound, spread, tagged}
 use Rattle.key_index.specs.inner.Ring.{rowNamed}
 
--- a key store is long enough for a capacity
-pub record Room (capacity : ℕ) (store : List ℕ) : Type 0 where
-  pub some : 1 ≤ capacity
-  pub most : capacity ≤ 65536
-  pub long : 2 * capacity ≤ length store
+-- a key store is long enough for a room
+pub record Room (room : ℕ) (store : List ℕ) : Type 0 where
+  pub some : 1 ≤ room
+  pub most : room ≤ 65536
+  pub long : 2 * room ≤ length store
 
 -- a table's rows lie in their store
 pub record RowsIn (t : Keyed) (rows : List ℕ) : Type 0 where
   pub most-columns : t .columns ≤ 8
   pub most-keys : t .keys ≤ t .columns
-  pub most : t .capacity ≤ 65536
-  pub count : t .rows ≤ t .capacity
-  pub cells : t .capacity * t .columns ≤ length rows
+  pub most : t .room ≤ 65536
+  pub count : t .rows ≤ t .room
+  pub cells : t .room * t .columns ≤ length rows
 
 -- a table's numbers are within their bounds, and its stores long enough
 pub record Fits (t : Keyed) (rows store : List ℕ) : Type 0 where
@@ -33,11 +33,11 @@ pub record Fits (t : Keyed) (rows store : List ℕ) : Type 0 where
   pub most-columns : t .columns ≤ 8
   pub some-keys : 1 ≤ t .keys
   pub most-keys : t .keys ≤ t .columns
-  pub some : 1 ≤ t .capacity
-  pub most : t .capacity ≤ 65536
-  pub count : t .rows ≤ t .capacity
-  pub cells : t .capacity * t .columns ≤ length rows
-  pub long : 2 * t .capacity ≤ length store
+  pub some : 1 ≤ t .room
+  pub most : t .room ≤ 65536
+  pub count : t .rows ≤ t .room
+  pub cells : t .room * t .columns ≤ length rows
+  pub long : 2 * t .room ≤ length store
 
 -- live rows have different keys
 abbrev pub KeysDiffer : Keyed → List ℕ → Type 0
@@ -97,9 +97,9 @@ abbrev pub zeros : ℕ → List ℕ
 zeros n = replicate n 0
 
 -- all slots are free, and what stands past them is as it was
-pub record EmptyIs (capacity : ℕ) (store store′ : List ℕ) : Type 0 where
-  pub free : store′ ≡ putAt store 0 (zeros (2 * capacity))
-  pub tail : drop (2 * capacity) store′ ≡ drop (2 * capacity) store
+pub record EmptyIs (room : ℕ) (store store′ : List ℕ) : Type 0 where
+  pub free : store′ ≡ putAt store 0 (zeros (2 * room))
+  pub tail : drop (2 * room) store′ ≡ drop (2 * room) store
 
 -- the home of the key of the row that a word names
 unfoldable pub homeOf : Keyed → List ℕ → ℕ → ℕ

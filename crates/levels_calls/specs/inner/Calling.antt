@@ -29,9 +29,9 @@ use Rattle.levels_said.specs.Laws.Calls.{staging-does, clearing-does, compactin
 pub record OnPending (letter : ℕ) (ns : List ℕ) (h : Header) (pending : List ℕ) (r : Served) (pending′ : List ℕ) : Type 0 where
   pub serving : (rows keys sorts : List ℕ) → Serving letter ns (stores h rows keys sorts pending) (stores (r .header) rows keys sorts pending′) (r .said)
 
--- lent the rows to read and the key store; its letter stands alone
-pub record OnKeys (letter : ℕ) (h : Header) (rows keys : List ℕ) (r : Served) (keys′ : List ℕ) : Type 0 where
-  pub serving : (ns sorts pending : List ℕ) → Serving letter ns (stores h rows keys sorts pending) (stores (r .header) rows keys′ sorts pending) (r .said)
+-- lent the key store; its letter stands alone
+pub record OnKeys (letter : ℕ) (h : Header) (keys : List ℕ) (r : Served) (keys′ : List ℕ) : Type 0 where
+  pub serving : (ns rows sorts pending : List ℕ) → Serving letter ns (stores h rows keys sorts pending) (stores (r .header) rows keys′ sorts pending) (r .said)
 
 -- lent all but the pending store
 pub record OnBody (letter : ℕ) (h : Header) (rows keys sorts : List ℕ) (r : Served) (rows′ keys′ sorts′ : List ℕ) : Type 0 where
@@ -79,8 +79,8 @@ module _ {h : Header} {answer : TableAnswer} {r : Served} (k : Taken (headerAfte
       let m′ : Staging h pending (removeRow (getD ns 0 0) (drop 1 ns)) answer pending′ = rw (← part-to-end ns 1) m in
       record { serving = λ rows keys sorts. record { answers = λ t held. rw (turn-by-row _ t ns refl) (does-told (staging-does k rows keys sorts m′) t held) } }
 
-  pub clear-served : {rows keys keys′ : List ℕ} → Clearing h rows keys answer keys′ → OnKeys 67 h rows keys r keys′
-  clear-served m = record { serving = λ ns sorts pending. record { answers = λ t held. rw (turn-clear _ t ns refl) (does-told (clearing-does k sorts pending m) t held) } }
+  pub clear-served : {keys keys′ : List ℕ} → Clearing h keys answer keys′ → OnKeys 67 h keys r keys′
+  clear-served m = record { serving = λ ns rows sorts pending. record { answers = λ t held. rw (turn-clear _ t ns refl) (does-told (clearing-does k rows sorts pending m) t held) } }
 
   pub compact-served : {rows keys sorts rows′ keys′ sorts′ live base live′ base′ : List ℕ} → length live ≡ 16 → length base ≡ 16
       → Compacting h (body rows keys sorts) (compactionWords live base) answer (body rows′ keys′ sorts′) (compactionWords live′ base′)

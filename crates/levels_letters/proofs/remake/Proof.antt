@@ -25,25 +25,22 @@ clear-requires : tie.Need-clear-requires
 clear-requires c κs = search needs
 
 same-length-4 : tie.Need-same-length-4
-same-length-4 c = refl
-
-same-length-5 : tie.Need-same-length-5
-same-length-5 c = c .before .keys2 .given
+same-length-4 c = c .before .keys2 .given
 
 returns-2 : tie.Need-returns-2
-returns-2 c = as-letter (c .before .before .before .before .before .if2 .taken) (c .before .before .clear .ensures .serving _ _ _)
+returns-2 c = as-letter (c .before .before .before .before .if2 .taken) (c .before .before .clear .ensures .serving _ _ _ _)
 
 compact-requires : tie.Need-compact-requires
 compact-requires c κs = search needs
 
+same-length-5 : tie.Need-same-length-5
+same-length-5 c = c .before .before .before .before .before .rows .given
+
 same-length-6 : tie.Need-same-length-6
-same-length-6 c = c .before .before .before .before .before .rows .given
+same-length-6 c = c .before .before .before .keys3 .given
 
 same-length-7 : tie.Need-same-length-7
-same-length-7 c = c .before .before .before .keys3 .given
-
-same-length-8 : tie.Need-same-length-8
-same-length-8 c = c .before .sorts .given
+same-length-7 c = c .before .sorts .given
 
 returns-3 : tie.Need-returns-3
 returns-3 c = as-letter (compact-letter (c .before .before .before .before .before .before .before .before .before .before .before .before .before .before .before .before .before .pre .1) (c .before .before .before .before .before .before .before .before .before .before .before .if1 .left) (c .before .before .before .before .before .before .before .before .before .before .if2 .left)) (c .before .before .before .before .before .before .compact .ensures .serving _ _)
@@ -59,10 +56,9 @@ remake-spec =
     returns
     clear-requires
     same-length-4
-    same-length-5
     returns-2
     compact-requires
+    same-length-5
     same-length-6
     same-length-7
-    same-length-8
     returns-3)

@@ -52,9 +52,9 @@ compact-outside : (h : Header) (l : Lengths) → outside h ≡ true → compactR
 unfolding compactRefusal compactLadder first
 compact-outside h l e = rw e
 
-clear-outside : (h : Header) (rows keys : ℕ) → outside h ≡ true → clearRefusal h rows keys ≡ 1
+clear-outside : (h : Header) (keys : ℕ) → outside h ≡ true → clearRefusal h keys ≡ 1
 unfolding clearRefusal clearLadder first
-clear-outside h rows keys e = rw e
+clear-outside h keys e = rw e
 
 -- ---- the four calls
 
@@ -75,13 +75,13 @@ module _ {h : Header} {answer : TableAnswer} {r : Served} (k : Taken (headerAfte
             (told-table (nothing-said (r .header) rows (tableSays answer) n ruled none) (rw (k .header-same) (unfold done in staging-done m none s)));
       }
 
-  pub clearing-does : {rows keys keys′ : List ℕ} (sorts pending : List ℕ) → Clearing h rows keys answer keys′
-      → Does (λ p. calls (lent (stores h rows keys sorts pending)) p clearing []) (stores h rows keys sorts pending) (stores (r .header) rows keys′ sorts pending) (r .said) (clearRefusal h (length rows) (length keys))
-  clearing-does {rows} {keys} {keys′} sorts pending m =
+  pub clearing-does : {keys keys′ : List ℕ} (rows sorts pending : List ℕ) → Clearing h keys answer keys′
+      → Does (λ p. calls (lent (stores h rows keys sorts pending)) p clearing []) (stores h rows keys sorts pending) (stores (r .header) rows keys′ sorts pending) (r .said) (clearRefusal h (length keys))
+  clearing-does {keys} {keys′} rows sorts pending m =
       let l : Lengths = lent (stores h rows keys sorts pending) in
-      let n : ℕ = clearRefusal h (length rows) (length keys) in
+      let n : ℕ = clearRefusal h (length keys) in
       record {
-        outside-first = clear-outside h (length rows) (length keys);
+        outside-first = clear-outside h (length keys);
         says-refused = λ more. k .said-same ∙ said-refused saysNothing (tableSays answer) n (m .refusal) more;
         stays = λ more. rw (k .header-same) (clearing-refused m more);
         turns-refused = λ p s more. calls-refused l p clearing [] n (clear-ladders s l) more;

@@ -2,6 +2,7 @@
 use mathlib.Core.Path.{sym, _∙_}
 use mathlib.Core.List.{[]}
 use native.Mathlib.Omega.{arith}
+use Rattle.key_index.specs.Laws.Rooms.{room-most, room-some}
 use Rattle.table.specs.Promises.{opening, lengths}
 use Rattle.table.specs.Laws.Refusals.{open-accepted}
 use Rattle.table.specs.Laws.Opening.{opened-refused, opened-done}
@@ -17,21 +18,25 @@ returns c =
     let a = c .before .before .before .before .before .before .args in
     opened-refused (opening (a .columns) (a .key-columns) (a .sort) (a .rule) (a .capacity)) (a .generation) (a .rows .now) (a .keys .now) (a .sorts .now) (a .pending .now) _ (c .before .open-refusal .ensures) (c .if1 .taken)
 
+room-for-requires : tie.Need-room-for-requires
+room-for-requires c κs = search needs
+
 empty-requires : tie.Need-empty-requires
 empty-requires c κs =
-    let a = c .before .before .before .before .before .before .before .args in
-    omega (arith, open-accepted (opening (a .columns) (a .key-columns) (a .sort) (a .rule) (a .capacity)) (lengths (a .rows .now) (a .keys .now) (a .sorts .now) (a .pending .now) [] []) (sym (c .before .before .open-refusal .ensures) ∙ c .before .if1 .left))
+    let a = c .before .before .before .before .before .before .before .before .args in
+    let k = open-accepted (opening (a .columns) (a .key-columns) (a .sort) (a .rule) (a .capacity)) (lengths (a .rows .now) (a .keys .now) (a .sorts .now) (a .pending .now) [] []) (sym (c .before .before .before .open-refusal .ensures) ∙ c .before .before .if1 .left) in
+    omega (arith, k, room-some (a .capacity) 0 (k .bounds .capacity-some), room-most (a .capacity) 0, c .before .room-for .ensures)
 
 same-length : tie.Need-same-length
 same-length c = search needs
 
 returns-2 : tie.Need-returns-2
 returns-2 c =
-    let e = c .before .before .before .before in
+    let e = c .before .before .before .before .before in
     let a = e .before .before .before .before .before .before .args in
     opened-done (opening (a .columns) (a .key-columns) (a .sort) (a .rule) (a .capacity)) (a .generation) (a .rows .now) (a .keys .now) (a .sorts .now) (a .pending .now) _
-    (sym (e .before .open-refusal .ensures) ∙ e .if1 .left) (omega (arith, e .before .before .before .before .before .before .fits)) (c .before .before .empty .ensures)
+    (sym (e .before .open-refusal .ensures) ∙ e .if1 .left) (omega (arith, e .before .before .before .before .before .before .fits)) (rw (c .before .before .before .before .room-for .ensures) at (c .before .before .empty .ensures))
 
 pub open-table-spec : {M : Type 1} → statement M
 open-table-spec =
-    tie.close (tie.spec open-refusal-requires returns empty-requires same-length returns-2)
+    tie.close (tie.spec open-refusal-requires returns room-for-requires empty-requires same-length returns-2)

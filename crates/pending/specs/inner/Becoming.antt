@@ -16,7 +16,7 @@ use Rattle.table.specs.declared.Header.{Header}
 use Rattle.table.specs.declared.Largest.{Largest}
 use Rattle.table.specs.Numbers.{openingOf, header}
 use Rattle.table.specs.Stores.{rowStore, sortStore, Holds}
-use Rattle.table.specs.Sound.{keyedOf}
+use Rattle.table.specs.inner.Whole.{wholeOf}
 use Rattle.table.specs.Promises.{Stores, Represents}
 
 -- ---- from one plain table to another
@@ -55,7 +55,7 @@ pub record Recounted (h h′ : Header) : Type 0 where
 
 -- numbers within their bounds and stores long enough for the inserts of a merge
 pub record Ready (h : Header) (rows keys sorts pending : List ℕ) : Type 0 where
-  pub fits : Fits (keyedOf h) rows keys
+  pub fits : Fits (wholeOf h) rows keys
   pub sort-column : h .sort < h .columns
   pub rule-known : h .rule ≤ 3
   pub entries-fit : h .entries ≤ h .rows

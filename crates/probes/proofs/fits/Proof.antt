@@ -8,8 +8,8 @@ use Rattle.probes.proofs.fits.Statement.{statement}
 use Rattle.probes.proofs.fits.Tie as tie
 
 -- a table has few cells
-cells-few : (capacity columns : ℕ) → capacity ≤ 65536 → columns ≤ 8 → capacity * columns ≤ 524288
-cells-few capacity columns p q = mul-le-mul p q
+cells-few : (room columns : ℕ) → room ≤ 65536 → columns ≤ 8 → room * columns ≤ 524288
+cells-few room columns p q = mul-le-mul p q
 
 returns : tie.Need-returns
 returns c = λ e. absurd (false≢true e)
@@ -35,13 +35,13 @@ returns-7 c = λ e. absurd (false≢true e)
 mul-if8 : tie.Need-mul-if8
 mul-if8 c =
     let a = c .before .before .before .before .before .before .before .before .before .before .before .before .before .before .before .args .t in
-    let s = cells-few (a .capacity) (a .columns) (c .before .before .before .if6 .left) (c .before .before .before .before .before .before .before .before .before .before .before .if2 .left) in
+    let s = cells-few (a .room) (a .columns) (c .before .before .before .if6 .left) (c .before .before .before .before .before .before .before .before .before .before .before .if2 .left) in
     record { fits = omega arith }
 
 cast-if8 : tie.Need-cast-if8
 cast-if8 c =
     let a = c .before .before .before .before .before .before .before .before .before .before .before .before .before .before .before .args .t in
-    let s = cells-few (a .capacity) (a .columns) (c .before .before .before .if6 .left) (c .before .before .before .before .before .before .before .before .before .before .before .if2 .left) in
+    let s = cells-few (a .room) (a .columns) (c .before .before .before .if6 .left) (c .before .before .before .before .before .before .before .before .before .before .before .if2 .left) in
     record { fits = omega arith }
 
 returns-8 : tie.Need-returns-8

@@ -44,8 +44,8 @@ pub record Sized (t : Keyed) (rows store : ℕ) : Type 0 where
   pub most-columns : t .columns ≤ 8
   pub some-keys : 1 ≤ t .keys
   pub most-keys : t .keys ≤ t .columns
-  pub some-capacity : 1 ≤ t .capacity
-  pub most-capacity : t .capacity ≤ 65536
-  pub count : t .rows ≤ t .capacity
-  pub cells : t .capacity * t .columns ≤ rows
-  pub slots : 2 * t .capacity ≤ store
+  pub some-room : 1 ≤ t .room
+  pub most-room : t .room ≤ 65536
+  pub count : t .rows ≤ t .room
+  pub cells : t .room * t .columns ≤ rows
+  pub slots : 2 * t .room ≤ store

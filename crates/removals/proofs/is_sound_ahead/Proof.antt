@@ -28,6 +28,9 @@ mul-hash c = search needs
 shared-slice-read-hash : tie.Need-shared-slice-read-hash
 shared-slice-read-hash c = search needs
 
+room-for-requires : tie.Need-room-for-requires
+room-for-requires c κs = search needs
+
 mul-home-slot : tie.Need-mul-home-slot
 mul-home-slot c = search needs
 
@@ -60,6 +63,7 @@ is-sound-ahead-spec =
     cast-hash
     mul-hash
     shared-slice-read-hash
+    room-for-requires
     mul-home-slot
     home-slot-requires
     cast-result

@@ -10,7 +10,7 @@ keyed-requires : tie.Need-keyed-requires
 keyed-requires c κs = search needs
 
 find-requires : tie.Need-find-requires
-find-requires c κs = find-fits (c .before .before .keyed .ensures) (c .before .before .before .before .before .before .pre)
+find-requires c κs = find-fits (c .before .before .before .before .before .before .args .h) (c .before .before .keyed .ensures) (c .before .before .before .before .before .before .pre)
 
 enum-told : tie.Need-enum-told
 enum-told c = search needs
@@ -35,7 +35,7 @@ returns c =
 kill-requires : tie.Need-kill-requires
 kill-requires c κs =
     let f = c .before .before .before .before .before .before .before in
-    kill-fits _ _ (f .before .before .before .keyed .ensures) (f .before .before .before .before .before .before .before .pre .0) (f .find .ensures) (c .before .before .before .before .before .found .given .1)
+    kill-fits (f .before .before .before .before .before .before .before .args .h) _ _ (f .before .before .before .keyed .ensures) (f .before .before .before .before .before .before .before .pre .0) (f .find .ensures) (c .before .before .before .before .before .found .given .1)
 
 same-length-3 : tie.Need-same-length-3
 same-length-3 c = search needs

@@ -15,6 +15,7 @@ use Rattle.plain.specs.Staged.{Staged, insert, removeKey, removeRow}
 use Rattle.plain.specs.Plain.{Plain, withoutKey, withoutRow}
 use Rattle.table.specs.declared.Header.{Header}
 use Rattle.table.specs.Numbers.{openingOf}
+use Rattle.table.specs.inner.Whole.{wholeOf}
 use Rattle.table.specs.Sound.{keyedOf}
 use Rattle.table.specs.Promises.{stores, Represents, SlotsPast}
 use Rattle.pending.specs.inner.Becoming.{Becomes, withDead, kindOf, Waiting, hashOf}
@@ -71,7 +72,7 @@ pub record Removed (h : Header) (rows keys pending : List ℕ) (at : ℕ) (r : B
 
 -- numbers within their bounds and stores long enough for the removals of a kind
 pub record Removable (h : Header) (rows keys pending : List ℕ) (kind : ℕ) : Type 0 where
-  pub fits : Fits (keyedOf h) rows keys
+  pub fits : Fits (wholeOf h) rows keys
   pub pending-fits : h .pending ≤ length pending
   pub dead-few : 3 * h .dead + h .pending ≤ 12884901885
   pub some-kind : 1 ≤ kind
@@ -79,8 +80,8 @@ pub record Removable (h : Header) (rows keys pending : List ℕ) (kind : ℕ) : 
 
 -- the slots, and the pending words from a record of so many words on
 pub record LooksAhead (h : Header) (keys pending : List ℕ) (at words : ℕ) : Type 0 where
-  pub room : Room (h .capacity) keys
-  pub count : h .rows ≤ h .capacity
+  pub room : Room (keyedOf h .room) keys
+  pub count : h .rows ≤ keyedOf h .room
   pub pending-fits : h .pending ≤ length pending
   pub inside : at ≤ h .pending
   pub few : words ≤ 11
@@ -99,7 +100,7 @@ pub record Removals (h : Header) (rows keys pending : List ℕ) (kind : ℕ) (h�
 
 -- the record at a place stands whole if it is a removal of this kind
 pub record RemovalNext (h : Header) (rows keys pending : List ℕ) (at kind : ℕ) : Type 0 where
-  pub fits : Fits (keyedOf h) rows keys
+  pub fits : Fits (wholeOf h) rows keys
   pub inside : at < length pending
   pub whole : getD pending at 0 ≡ kind → RemovalAt h pending at
   pub some-kind : 1 ≤ kind

@@ -27,7 +27,7 @@ block-requires c κs = search needs
 
 renumber-block-requires : tie.Need-renumber-block-requires Inv-loop μ-loop
 renumber-block-requires c κs =
-    let p = c .before .before .before .before .before .before .before .before .pre in (p .0, pass-block _ _ _ _ _ _ (c .before .before .before .loop .inv) _ (c .before .block .ensures) (p .1) (omega (arith, p .0 .capacity)))
+    let p = c .before .before .before .before .before .before .before .before .pre in (p .0, pass-block _ _ _ _ _ _ (c .before .before .before .loop .inv) _ (c .before .block .ensures) (p .1) (omega (arith, p .0 .room)))
 
 add-at : tie.Need-add-at Inv-loop μ-loop
 add-at c = omega (arith, c .before .before .before .before .block .ensures, c .before .before .before .before .before .loop-test .taken)

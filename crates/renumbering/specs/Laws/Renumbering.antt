@@ -2,8 +2,7 @@
 -- compaction gives are such. Assumes nothing.
 use Prim.Native.Nat.{ℕ, _+_, _-_, _*_, _/_, _%_, _^_, _≤_, _<_}
 use mathlib.Core.Path.{_≡_, sym, ap, _∙_}
-use mathlib.Core.Logic.{inl, inr}
-use mathlib.Core.Bool.{Bool, true, false, not}
+use mathlib.Core.Bool.{true, false, not}
 use mathlib.Core.List.{List, []}
 use native.Mathlib.Nat.{add-zero}
 use native.Mathlib.Decide.{decLt, ℕ-discrete}
@@ -12,7 +11,7 @@ use lib.ListN.{length, getD}
 use borrow.Author.Tests.{le-leb}
 use Rattle.lists.specs.Lists.{count, rowAt, rowsOf}
 use Rattle.lists.specs.inner.Searching.{mapFront}
-use Rattle.lists.specs.Laws.Keep.{split, count-le}
+use Rattle.lists.specs.Laws.Keep.{count-le}
 use Rattle.lists.specs.Laws.Rows.{length-rowsOf, getD-rowsOf, getD-rowAt, rowsOf-take}
 use Rattle.lists.specs.Laws.Front.{getD-mapFront, drop-mapFront}
 use Rattle.cells.specs.Cells.{isDead}
@@ -23,7 +22,7 @@ use Rattle.key_index.specs.declared.Keyed.{Keyed}
 use Rattle.key_index.specs.Slots.{LiveAt, keyAt, slots, word, home, slotFrom, StandsAt, KeysSound, tagged}
 use Rattle.key_index.specs.Laws.Ring.{word-row, word-same, word-some, names-none, names-word, slot-below}
 use Rattle.key_index.specs.Laws.Lines.{Small}
-use Rattle.renumbering.specs.inner.Renumbering.{liveBelow, Renamed, Renumbered, newRow, renumbered, Rest, FewRenumbered}
+use Rattle.renumbering.specs.inner.Renumbering.{liveBelow, Renamed, Renumbered, newRow, renumbered}
 
 -- a free slot stays free
 pub renumbered-free : (t : Keyed) (live base : List ℕ) (w : ℕ) → w ≡ 0 → renumbered t live base w ≡ 0
@@ -35,7 +34,7 @@ pub renumbered-word : (t : Keyed) (live base : List ℕ) → Small t → (key : 
     → renumbered t live base (word key row) ≡ word key new
 unfolding renumbered
 renumbered-word t live base m key row new h e k =
-    let b : row < 2 ^ 17 - 1 = omega (arith, m .count, m .capacity) in
+    let b : row < 2 ^ 17 - 1 = omega (arith, m .count, m .room) in
     let f : getD base (row / 64) 0 ≤ 65536 = first live base row new e k in
     rw (names-word t key row h b, word-row key row b, le-leb (getD base (row / 64) 0) 65536 f, e) (put key row new b)
   where
@@ -47,16 +46,16 @@ renumbered-word t live base m key row new h e k =
 
 -- Rows get new numbers: those of the rows that live, in the table after, with the same keys.
 pub record Renames (t : Keyed) (rows : List ℕ) (t′ : Keyed) (rows′ : List ℕ) (new : ℕ → ℕ) : Type 0 where
-  pub capacity : t′ .capacity ≡ t .capacity
+  pub room : t′ .room ≡ t .room
   pub forth : (i : ℕ) → LiveAt t rows i → LiveAt t′ rows′ (new i)
   pub key : (i : ℕ) → LiveAt t rows i → keyAt t′ rows′ (new i) ≡ keyAt t rows i
   pub apart : (i j : ℕ) → LiveAt t rows i → LiveAt t rows j → new i ≡ new j → i ≡ j
   pub back : (k : ℕ) → LiveAt t′ rows′ k → (i : ℕ) × LiveAt t rows i × (new i ≡ k)
 
 module _ (t : Keyed) (rows : List ℕ) (t′ : Keyed) (rows′ store : List ℕ) (new : ℕ → ℕ) (r : Renames t rows t′ rows′ new) where
-  module _ (m : Small t) (few : t′ .rows ≤ t′ .capacity) (s : KeysSound t rows store) (after : List ℕ) (a : Renamed t rows store new after) where
+  module _ (m : Small t) (few : t′ .rows ≤ t′ .room) (s : KeysSound t rows store) (after : List ℕ) (a : Renamed t rows store new after) where
     new-small : (i : ℕ) → LiveAt t rows i → new i ≤ 65536
-    new-small i l = omega (arith, r .forth i l .0, few, r .capacity, m .capacity)
+    new-small i l = omega (arith, r .forth i l .0, few, r .room, m .room)
 
     -- a slot that held a live row's word holds the word of its new number
     word-after : (slot i : ℕ) → slot < slots t → LiveAt t rows i → getD store slot 0 ≡ word (keyAt t rows i) i
@@ -110,12 +109,12 @@ module _ (t : Keyed) (rows : List ℕ) (t′ : Keyed) (rows′ store : List ℕ)
     pub renames-sound : KeysSound t′ rows′ after
     renames-sound =
         record {
-          only-live = λ slot h c. only-after slot (omega (arith, r .capacity)) c;
-          once = λ a b h k c e. once-after a b (omega (arith, r .capacity)) (omega (arith, r .capacity)) c e;
+          only-live = λ slot h c. only-after slot (omega (arith, r .room)) c;
+          once = λ a b h k c e. once-after a b (omega (arith, r .room)) (omega (arith, r .room)) c e;
           leads = λ k l.
               let f = r .back k l in
               let d = s .leads (f .0) (f .1) in
-              rw (← f .2) (d .0, rw (r .capacity) (stands-after (f .0) (d .0) (f .1) (d .1)));
+              rw (← f .2) (d .0, rw (r .room) (stands-after (f .0) (d .0) (f .1) (d .1)));
         }
 
 -- ---- the numbers that a compaction gives
@@ -168,7 +167,7 @@ module _ (t : Keyed) (rows : List ℕ) where
 pub record Compacted (t : Keyed) (rows : List ℕ) (t′ : Keyed) (rows′ : List ℕ) : Type 0 where
   pub columns : t′ .columns ≡ t .columns
   pub keys : t′ .keys ≡ t .keys
-  pub capacity : t′ .capacity ≡ t .capacity
+  pub room : t′ .room ≡ t .room
   pub count : t′ .rows ≡ liveBelow t rows (t .rows)
   pub moved : (i : ℕ) → LiveAt t rows i → rowAt (t .columns) (liveBelow t rows i) rows′ ≡ rowAt (t .columns) i rows
 
@@ -179,7 +178,7 @@ module _ (t : Keyed) (rows : List ℕ) (t′ : Keyed) (rows′ : List ℕ) (c : 
   pub renames : Renames t rows t′ rows′ (liveBelow t rows)
   renames =
       record {
-        capacity = c .capacity;
+        room = c .room;
         forth = forth;
         key = λ i l. rw (c .keys, compacted-row i l);
         apart = λ i j l k e. elim (decLt i j) [
@@ -195,10 +194,8 @@ module _ (t : Keyed) (rows : List ℕ) (t′ : Keyed) (rows′ : List ℕ) (c : 
   -- "compaction renumbers": the store leads to exactly the rows that were kept
   pub renumber-sound : (store store′ : List ℕ) → Small t → KeysSound t rows store → Renumbered t rows store store′ → KeysSound t′ rows′ store′
   renumber-sound store store′ m s n =
-      let few : t′ .rows ≤ t′ .capacity = omega (arith, c .count, c .capacity, live-few t rows (t .rows), m .count) in
+      let few : t′ .rows ≤ t′ .room = omega (arith, c .count, c .room, live-few t rows (t .rows), m .count) in
       renames-sound t rows t′ rows′ store (liveBelow t rows) renames m few s store′ (n .numbers s)
-
--- ---- slot by slot
 
 -- words that tell these numbers give them to each slot
 pub slots-renumbered : (t : Keyed) (rows store live base : List ℕ) → Small t → slots t ≤ length store
@@ -211,19 +208,10 @@ slots-renumbered t rows store live base m long ranked =
         taken = λ slot i h l e.
             slot-after slot h
             ∙ ap (renumbered t live base) e
-            ∙ renumbered-word t live base m (keyAt t rows i) i (liveBelow t rows i) (l .0) (ranked i l) (omega (arith, live-few t rows i, l .0, m .count, m .capacity));
+            ∙ renumbered-word t live base m (keyAt t rows i) i (liveBelow t rows i) (l .0) (ranked i l) (omega (arith, live-few t rows i, l .0, m .count, m .room));
       };
       rest = drop-mapFront (renumbered t live base) (slots t) store;
     }
   where
     slot-after : (slot : ℕ) → slot < slots t → getD (mapFront (renumbered t live base) (slots t) store) slot 0 ≡ renumbered t live base (getD store slot 0)
     slot-after slot h = getD-mapFront (renumbered t live base) (slots t) store slot 0 h (omega arith)
-
--- done row by row first, or else slot by slot
-pub either-renumbered : (t : Keyed) (rows store store₁ store₂ live base : List ℕ) (done : Bool) → Small t → slots t ≤ length store
-    → ((i : ℕ) → LiveAt t rows i → newRow live base i ≡ liveBelow t rows i) → FewRenumbered t rows store done store₁ → Rest t done store₁ live base store₂
-    → Renumbered t rows store store₂
-either-renumbered t rows store store₁ store₂ live base done m long ranked few rest = elim (split done) [
-  | inl e ↦ rw (rest .yes e) (few .yes e)
-  | inr e ↦ rw (rest .no e, few .no e) (slots-renumbered t rows store live base m long ranked)
-]

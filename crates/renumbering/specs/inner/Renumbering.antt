@@ -1,17 +1,16 @@
--- What renumbering asks and promises (document 01, "Compaction"): slot by slot, from the compaction words, and row by row,
--- from the rows as they stand before the compaction. Assumes nothing.
+-- What renumbering asks and promises (document 01, "Compaction"): slot by slot, from the compaction words. Assumes nothing.
 use Prim.Native.Nat.{ℕ, _+_, _*_, _/_, _%_, _^_, _≤_, _<_}
 use mathlib.Core.Path.{_≡_}
-use mathlib.Core.Bool.{Bool, true, false, cond}
+use mathlib.Core.Bool.{cond}
 use mathlib.Core.List.{List}
 use lib.Dec.{leb}
-use lib.ListN.{length, getD, set, drop}
+use lib.ListN.{length, getD, drop}
 use Rattle.lists.specs.Lists.{count, rowsOf}
 use Rattle.lists.specs.inner.Searching.{mapFront}
 use Rattle.constraints.specs.Constraints.{isLive}
 use Rattle.row_buffer.specs.Ranks.{setBelow}
 use Rattle.key_index.specs.declared.Keyed.{Keyed}
-use Rattle.key_index.specs.Slots.{LiveAt, keyAt, slots, word, slotFrom, StandsAt, KeysSound}
+use Rattle.key_index.specs.Slots.{LiveAt, keyAt, slots, word, KeysSound}
 use Rattle.key_index.specs.inner.Ring.{rowNamed, namesRow}
 
 -- how many rows below row i live: "the others close up in order"
@@ -29,8 +28,6 @@ pub record Renumbered (t : Keyed) (rows store store′ : List ℕ) : Type 0 wher
   pub numbers : KeysSound t rows store → Renamed t rows store (liveBelow t rows) store′
   pub rest : drop (slots t) store′ ≡ drop (slots t) store
 
--- ---- slot by slot
-
 -- "a row's new number is that plus the count of ones below its bit"
 unfoldable pub newRow : List ℕ → List ℕ → ℕ → ℕ
 newRow live base row = getD base (row / 64) 0 + setBelow (getD live (row / 64) 0) (row % 64)
@@ -41,12 +38,12 @@ unfoldable pub renumbered : Keyed → List ℕ → List ℕ → ℕ → ℕ
 renumbered t live base w =
     cond (namesRow t w) (cond (leb (getD base (rowNamed w / 64) 0) 65536) (w / 2 ^ 17 * 2 ^ 17 + (newRow live base (rowNamed w) + 1)) w) w
 
--- "capacity over 64 rounded up of u64 and of u32"
+-- "capacity over 64 rounded up of u64 and of u32", the room being at most the capacity
 pub record Ranked (t : Keyed) (live base : List ℕ) : Type 0 where
-  pub capacity : t .capacity ≤ 65536
-  pub count : t .rows ≤ t .capacity
-  pub marks : (t .capacity + 63) / 64 ≤ length live
-  pub firsts : (t .capacity + 63) / 64 ≤ length base
+  pub room : t .room ≤ 65536
+  pub count : t .rows ≤ t .room
+  pub marks : (t .room + 63) / 64 ≤ length live
+  pub firsts : (t .room + 63) / 64 ≤ length base
 
 -- up to 64 slots of a store
 pub record Block (store : List ℕ) (from count : ℕ) : Type 0 where
@@ -57,30 +54,3 @@ pub record Block (store : List ℕ) (from count : ℕ) : Type 0 where
 -- where the slots before them are renumbered, they are too
 pub record BlockRenumbered (t : Keyed) (live base store : List ℕ) (from count : ℕ) (store′ : List ℕ) : Type 0 where
   pub on : (l : List ℕ) → store ≡ mapFront (renumbered t live base) from l → store′ ≡ mapFront (renumbered t live base) (from + count) l
-
--- all slots are renumbered, if it was not done before
-pub record Rest (t : Keyed) (done : Bool) (store live base store′ : List ℕ) : Type 0 where
-  pub yes : done ≡ true → store′ ≡ store
-  pub no : done ≡ false → store′ ≡ mapFront (renumbered t live base) (slots t) store
-
--- ---- row by row
-
--- a slot, walked to from another one, that holds a word; the number of slots, if none does before a free one
-pub record SlotOf (n : ℕ) (store : List ℕ) (start w r : ℕ) : Type 0 where
-  pub holds : r < n → getD store r 0 ≡ w
-  pub none : n ≤ r → (d : ℕ) → d < n → ((e : ℕ) → e < d → getD store (slotFrom n start e) 0 ≡ 0 → ⊥) → getD store (slotFrom n start d) 0 ≡ w → ⊥
-
--- the slot that held a row's word holds it with another number
-pub record Rewritten (t : Keyed) (rows store : List ℕ) (row new : ℕ) (store′ : List ℕ) (slot : ℕ) : Type 0 where
-  pub below : slot < slots t
-  pub held : getD store slot 0 ≡ word (keyAt t rows row) row
-  pub after : store′ ≡ set store slot (word (keyAt t rows row) new)
-
-pub record RowRenumbered (t : Keyed) (rows store : List ℕ) (row new : ℕ) (store′ : List ℕ) : Type 0 where
-  pub there : (d : ℕ) → StandsAt (slots t) store (keyAt t rows row) row d → (slot : ℕ) × Rewritten t rows store row new store′ slot
-  pub rest : drop (slots t) store′ ≡ drop (slots t) store
-
--- all rows are renumbered, if they are few
-pub record FewRenumbered (t : Keyed) (rows store : List ℕ) (done : Bool) (store′ : List ℕ) : Type 0 where
-  pub yes : done ≡ true → Renumbered t rows store store′
-  pub no : done ≡ false → store′ ≡ store

@@ -1,22 +1,25 @@
 -- Each promise determines the outcome: two outcomes that both meet it, on the same input, are the same answer and the same
--- lent cells, so that it shuts out every other program at once. Choice is left in three places only: after a merge or a
--- compaction, the key store's slots below 2 × capacity; after a compaction, the compaction words needed; and, where the
--- stores are no table's, all but the refusal and what is never written. Assumes nothing.
+-- lent cells, so that it shuts out every other program at once. Choice is left in four places only: after a merge or a
+-- compaction, the key store's slots below 2 × capacity; after an opening or a clear, those of them that are not in use; after
+-- a compaction, the compaction words needed; and, where the stores are no table's, all but the refusal and what is never
+-- written. Assumes nothing.
 use Prim.Native.Nat.{ℕ, _*_, _<_}
-use mathlib.Core.Path.{_≡_, refl, sym, ap, _∙_}
+use mathlib.Core.Path.{_≡_, refl, sym, ap, ap₂, _∙_}
 use mathlib.Core.Logic.{⊎-elim}
 use mathlib.Core.Bool.{true, false}
 use mathlib.Core.List.{List, []}
 use native.Mathlib.Omega.{arith}
-use lib.ListN.{length}
-use Rattle.lists.specs.Laws.Parts.{same-parts}
+use lib.ListN.{length, take, length-take, length-replicate, getD-replicate}
+use lib.Seq.{ext-getD, getD-take}
 use Rattle.refusals.specs.Refusals.{verdict}
 use Rattle.refusals.specs.Laws.Replies.{some-number}
 use Rattle.refusals.specs.Laws.Determined.{Same, SameAnswer, refused-same, answer-same}
 use Rattle.constraints.specs.declared.Constraint.{Constraint}
 use Rattle.sort_entries.specs.Entries.{entriesOf, entriesSound}
-use Rattle.key_index.specs.Slots.{KeysSound}
+use Rattle.key_index.specs.Slots.{roomFor, KeysSound}
+use Rattle.key_index.specs.inner.Index.{zeros}
 use Rattle.key_index.specs.Laws.Index.{empty-free}
+use Rattle.key_index.specs.Laws.Rooms.{room-most}
 use Rattle.plain.specs.Staged.{Opening, Staged}
 use Rattle.plain.specs.Plain.{Plain, opened, merged, cleared}
 use Rattle.plain.specs.Refusing.{openRefusal}
@@ -39,29 +42,45 @@ use Rattle.table.specs.Laws.Answers.{table-said, merge-said, row-said, c
 
 -- ---- *Open*
 
--- of a table without rows the key store has no choice: every slot is free
-empty-keys : (p : Plain) (h : Header) (rows sorts pending keys₁ keys₂ : List ℕ) → length (p .rows) ≡ 0
-    → Represents p (stores h rows keys₁ sorts pending) → Represents p (stores h rows keys₂ sorts pending)
-    → SlotsPast (p .opening .capacity) keys₁ keys₂ → keys₁ ≡ keys₂
-empty-keys p h rows sorts pending keys₁ keys₂ none r s past =
-    let n : h .rows ≡ 0 = rows-counted r ∙ none in
-    let c : h .capacity ≡ p .opening .capacity = ap (λ (x : Header). x .capacity) (r .shown .header) in
-    same-parts 0 (2 * p .opening .capacity) keys₁ keys₂ (represents-long r .keys-long) (represents-long s .keys-long)
-    (λ i k. empty-free _ rows keys₁ (λ j live. omega (arith, live .0)) (r .keyed) i (omega arith) ∙ sym (empty-free _ rows keys₂ (λ j live. omega (arith, live .0)) (s .keyed) i (omega arith)))
-    (sym past)
+-- the slots in use of a table without rows
+abbrev pub slotsUsed : ℕ → List ℕ → List ℕ
+slotsUsed capacity keys = take (2 * roomFor capacity 0) keys
 
-pub opened-determined : {o : Opening} {generation : ℕ} {s : Body} {pending keys₁ keys₂ : List ℕ} {a b : TableAnswer}
-    → Opened o generation s pending a keys₁ → Opened o generation s pending b keys₂ → Same a b keys₁ keys₂
-unfolding opened
-opened-determined {o} {generation} {s} {pending} {keys₁} {keys₂} {a} {b} x y =
-    record {
-      answer = table-said a b (x .answers ∙ sym (y .answers));
-      cells =
-          ⊎-elim
-          (λ none. empty-keys (opened o generation) _ (s .rows) (s .sorts) pending keys₁ keys₂ refl (x .represents none) (y .represents none) (y .past ∙ sym (x .past)))
-          (λ some. x .unchanged some ∙ sym (y .unchanged some))
-          (some-number (openRefusal o (lengths (s .rows) (s .keys) (s .sorts) pending [] [])));
-    }
+-- they have no choice: every one is free
+empty-keys : (p : Plain) (h : Header) (rows keys sorts pending : List ℕ) → length (p .rows) ≡ 0 → Represents p (stores h rows keys sorts pending)
+    → slotsUsed (p .opening .capacity) keys ≡ zeros (2 * roomFor (p .opening .capacity) 0)
+empty-keys p h rows keys sorts pending none r =
+    let e : roomFor (h .capacity) (h .rows) ≡ roomFor (p .opening .capacity) 0 = ap₂ roomFor (ap (λ (x : Header). x .capacity) (r .shown .header)) (rows-counted r ∙ none) in
+    let n = 2 * roomFor (p .opening .capacity) 0 in
+    let l : length (take n keys) ≡ n = length-take n keys ∙ omega (arith, represents-long r .keys-long, room-most (p .opening .capacity) 0) in
+    let z : length (zeros n) ≡ n = length-replicate n 0 in
+    ext-getD 0 (take n keys) (zeros n) (l ∙ sym z) (λ i k.
+    let m : i < n = omega arith in
+    getD-take n keys i 0 m ∙ empty-free _ rows keys (λ j live. omega (arith, live .0, rows-counted r)) (r .keyed) i (omega arith) ∙ sym (getD-replicate n i 0 0 m))
+
+module _ (o : Opening) (generation : ℕ) (s : Body) (pending : List ℕ) (a : TableAnswer) (keys₁ : List ℕ) (b : TableAnswer) (keys₂ : List ℕ) where
+  pub record SameOpening : Type 0 where
+    pub refused : 0 < openRefusal o (lengths (s .rows) (s .keys) (s .sorts) pending [] []) → Same a b keys₁ keys₂
+    pub slots-past : SlotsPast (o .capacity) keys₁ keys₂
+    -- all but the choice
+    pub table : Same a b (slotsUsed (o .capacity) keys₁) (slotsUsed (o .capacity) keys₂)
+
+  pub opened-determined : Opened o generation s pending a keys₁ → Opened o generation s pending b keys₂ → SameOpening
+  unfolding opened
+  opened-determined x y =
+      let answers : a ≡ b = table-said a b (x .answers ∙ sym (y .answers)) in
+      record {
+        refused = λ some. record { answer = answers; cells = x .unchanged some ∙ sym (y .unchanged some) };
+        slots-past = y .past ∙ sym (x .past);
+        table = record {
+          answer = answers;
+          cells =
+              ⊎-elim
+              (λ none. empty-keys (opened o generation) _ (s .rows) keys₁ (s .sorts) pending refl (x .represents none) ∙ sym (empty-keys (opened o generation) _ (s .rows) keys₂ (s .sorts) pending refl (y .represents none)))
+              (λ some. ap (slotsUsed (o .capacity)) (x .unchanged some ∙ sym (y .unchanged some)))
+              (some-number (openRefusal o (lengths (s .rows) (s .keys) (s .sorts) pending [] [])));
+        };
+      }
 
 -- ---- *Stage*
 
@@ -170,37 +189,37 @@ module _ (h : Header) (b : Body) (w : CompactionWords) (x y : Left TableAnswer) 
 
 -- ---- *Clear*
 
-module _ (h : Header) (rows keys : List ℕ) (a : TableAnswer) (keys₁ : List ℕ) (b : TableAnswer) (keys₂ : List ℕ) where
+module _ (h : Header) (keys : List ℕ) (a : TableAnswer) (keys₁ : List ℕ) (b : TableAnswer) (keys₂ : List ℕ) where
   pub record SameClear : Type 0 where
     -- of any stores: refused by the same number, or both accepted
     pub verdicts : verdict (tableSays a) ≡ verdict (tableSays b)
-    pub refused : 0 < clearRefusal h (length rows) (length keys) → Same a b keys₁ keys₂
+    pub refused : 0 < clearRefusal h (length keys) → Same a b keys₁ keys₂
     -- and what is never written
     pub slots-past : SlotsPast (h .capacity) keys₁ keys₂
-    -- of a table, all: no row is left, so that every slot is free
-    pub table : (sorts pending : List ℕ) (p : Plain) → Represents p (stores h rows keys sorts pending) → Same a b keys₁ keys₂
+    -- of a table, all but the choice
+    pub table : (rows sorts pending : List ℕ) (p : Plain) → Represents p (stores h rows keys sorts pending) → Same a b (slotsUsed (h .capacity) keys₁) (slotsUsed (h .capacity) keys₂)
 
-  pub clearing-determined : Clearing h rows keys a keys₁ → Clearing h rows keys b keys₂ → SameClear
+  pub clearing-determined : Clearing h keys a keys₁ → Clearing h keys b keys₂ → SameClear
   clearing-determined u v =
-      let alike : 0 < clearRefusal h (length rows) (length keys) → Same a b keys₁ keys₂ =
+      let alike : 0 < clearRefusal h (length keys) → Same a b keys₁ keys₂ =
       λ some. record { answer = refused-same table-said (u .refusal) (v .refusal) some; cells = u .unchanged some ∙ sym (v .unchanged some) } in
       record {
         verdicts = u .refusal ∙ sym (v .refusal);
         refused = alike;
         slots-past = v .past ∙ sym (u .past);
-        table = λ sorts pending p t.
+        table = λ rows sorts pending p t.
             ⊎-elim
             (λ none.
-            let e = u .table none sorts pending p t in
-            let f = v .table none sorts pending p t in
+            let e = u .table none rows sorts pending p t in
+            let f = v .table none rows sorts pending p t in
             let c : h .capacity ≡ cleared p .opening .capacity =
             ap (λ (g : Header). g .capacity) (t .shown .header) ∙ ap (λ (o : Opening). o .capacity) (sym (cleared-opening p)) in
             record {
               answer = table-said a b (e .answers ∙ sym (f .answers));
-              cells = empty-keys (cleared p) _ rows sorts pending keys₁ keys₂ (cleared-rows p) (e .represents) (f .represents) (rw c at (v .past ∙ sym (u .past)));
+              cells = rw c (empty-keys (cleared p) _ rows keys₁ sorts pending (cleared-rows p) (e .represents) ∙ sym (empty-keys (cleared p) _ rows keys₂ sorts pending (cleared-rows p) (f .represents)));
             })
-            alike
-            (some-number (clearRefusal h (length rows) (length keys)));
+            (λ some. record { answer = alike some .answer; cells = ap (slotsUsed (h .capacity)) (alike some .cells) })
+            (some-number (clearRefusal h (length keys)));
       }
 
 -- ---- *Key lookup*, *one cell*, *Fast range*

@@ -13,6 +13,7 @@ use Rattle.constraints.specs.Constraints.{isLive}
 use Rattle.key_index.specs.declared.Keyed.{Keyed}
 use Rattle.key_index.specs.Slots.{LiveAt, keyAt, slots, home, slotFrom, StandsAt, KeysSound}
 use Rattle.key_index.specs.Laws.Ring.{slot-below}
+use Rattle.key_index.specs.Laws.Rooms.{room-most}
 use Rattle.key_index.specs.Laws.Index.{SameLive, keys-same}
 use Rattle.sort_entries.specs.Laws.Stores.{entriesOf-same}
 use Rattle.plain.specs.Staged.{wordsAll}
@@ -76,7 +77,7 @@ module _ {p : Plain} {h : Header} {b : Body} {pending : List ℕ} (b′ : Body) 
   live-same : SameLive (keyedOf h) (keyedOf h) (b .rows) (b′ .rows)
   live-same =
       record {
-        capacity = refl;
+        room = refl;
         keeps = λ i l. (l .0, ap isLive (row-same i (l .0)) ∙ l .1);
         only = λ i l. (l .0, sym (ap isLive (row-same i (l .0))) ∙ l .1);
         key = λ i l. ap (take (h .keys)) (row-same i (l .0));
@@ -103,7 +104,7 @@ module _ {p : Plain} {h : Header} {b : Body} {pending : List ℕ} (b′ : Body) 
                   };
             };
         keyed =
-            slots-alike (λ slot k. one-alike (b′ .keys) (b .keys) (2 * h .capacity) (f .keys-same) slot k)
+            slots-alike (λ slot k. one-alike (b′ .keys) (b .keys) (2 * h .capacity) (f .keys-same) slot (omega (arith, room-most (h .capacity) (h .rows))))
             (keys-same (keyedOf h) (keyedOf h) (b .rows) (b′ .rows) (b .keys) (r .keyed) live-same);
       }
 
@@ -128,38 +129,34 @@ module _ {p : Plain} {h : Header} {rows keys sorts pending : List ℕ} where
       fronts-represent (body rows keys sorts) (pending ++ more) r
       (record { long = long-header r; rows-same = refl; keys-same = refl; sorts-same = refl; pending-same = take-append-le (h .pending) pending more fits })
 
+  -- the key store
+  pub keys-part : (more : List ℕ) → Represents p (stores h rows (keys ++ more) sorts pending) → 2 * h .capacity ≤ length keys
+      → Represents p (stores h rows keys sorts pending)
+  keys-part more r long =
+      let l = long-header r in
+      fronts-represent (body rows keys sorts) pending r
+      (record {
+        long = record { rows-long = l .rows-long; keys-long = long; sorts-long = l .sorts-long };
+        rows-same = refl;
+        keys-same = sym (take-append-le (2 * h .capacity) keys more long);
+        sorts-same = refl;
+        pending-same = refl;
+      })
+
+  pub keys-more : (more : List ℕ) → Represents p (stores h rows keys sorts pending) → Represents p (stores h rows (keys ++ more) sorts pending)
+  keys-more more r =
+      let l = long-header r in
+      fronts-represent (body rows (keys ++ more) sorts) pending r
+      (record {
+        long = record { rows-long = l .rows-long; keys-long = simp length-append (omega (arith, l .keys-long)); sorts-long = l .sorts-long };
+        rows-same = refl;
+        keys-same = take-append-le (2 * h .capacity) keys more (l .keys-long);
+        sorts-same = refl;
+        pending-same = refl;
+      })
+
+  -- all but the pending store
   module _ (rest : Body) where
-    -- rows and keys
-    pub keyed-part : Represents p (stores h (rows ++ rest .rows) (keys ++ rest .keys) sorts pending) → h .capacity * h .columns ≤ length rows → 2 * h .capacity ≤ length keys
-        → Represents p (stores h rows keys sorts pending)
-    keyed-part r rows-long keys-long =
-        fronts-represent (body rows keys sorts) pending r
-        (record {
-          long = record { rows-long = rows-long; keys-long = keys-long; sorts-long = long-header r .sorts-long };
-          rows-same = sym (take-append-le (h .capacity * h .columns) rows (rest .rows) rows-long);
-          keys-same = sym (take-append-le (2 * h .capacity) keys (rest .keys) keys-long);
-          sorts-same = refl;
-          pending-same = refl;
-        })
-
-    pub keyed-more : Represents p (stores h rows keys sorts pending) → Represents p (stores h (rows ++ rest .rows) (keys ++ rest .keys) sorts pending)
-    keyed-more r =
-        let l = long-header r in
-        fronts-represent (body (rows ++ rest .rows) (keys ++ rest .keys) sorts) pending r
-        (record {
-          long =
-              record {
-                rows-long = simp length-append (omega (arith, l .rows-long));
-                keys-long = simp length-append (omega (arith, l .keys-long));
-                sorts-long = l .sorts-long;
-              };
-          rows-same = take-append-le (h .capacity * h .columns) rows (rest .rows) (l .rows-long);
-          keys-same = take-append-le (2 * h .capacity) keys (rest .keys) (l .keys-long);
-          sorts-same = refl;
-          pending-same = refl;
-        })
-
-    -- all but the pending store
     pub body-part : Represents p (stores h (rows ++ rest .rows) (keys ++ rest .keys) (sorts ++ rest .sorts) pending)
         → LongEnough (openingOf h) (length rows) (length keys) (length sorts) → Represents p (stores h rows keys sorts pending)
     body-part r l =

@@ -87,12 +87,12 @@ module _ {h : Header} {b b′ : Body} {w w′ : CompactionWords} {pending : List
       rw (after-refused h (tableSays answer) _ (ruled-refused (tableSays answer) _ (m .refusal) some), m .unchanged some .0)
 
 -- *Clear*
-module _ {h : Header} {rows keys keys′ sorts pending : List ℕ} {answer : TableAnswer} (m : Clearing h rows keys answer keys′) where
-  pub clearing-done : {p : Plain} → clearRefusal h (length rows) (length keys) ≡ 0 → Represents p (stores h rows keys sorts pending)
+module _ {h : Header} {rows keys keys′ sorts pending : List ℕ} {answer : TableAnswer} (m : Clearing h keys answer keys′) where
+  pub clearing-done : {p : Plain} → clearRefusal h (length keys) ≡ 0 → Represents p (stores h rows keys sorts pending)
       → Represents (cleared p) (stores (headerAfter h (tableSays answer)) rows keys′ sorts pending)
-  clearing-done {p} e r = let t = m .table e sorts pending p r in rw (after-accepted h (tableSays answer) _ (t .answers)) (t .represents)
+  clearing-done {p} e r = let t = m .table e rows sorts pending p r in rw (after-accepted h (tableSays answer) _ (t .answers)) (t .represents)
 
-  pub clearing-refused : 0 < clearRefusal h (length rows) (length keys) → stores (headerAfter h (tableSays answer)) rows keys′ sorts pending ≡ stores h rows keys sorts pending
+  pub clearing-refused : 0 < clearRefusal h (length keys) → stores (headerAfter h (tableSays answer)) rows keys′ sorts pending ≡ stores h rows keys sorts pending
   clearing-refused some =
       rw (after-refused h (tableSays answer) _ (ruled-refused (tableSays answer) _ (m .refusal) some), m .unchanged some)
 
@@ -154,10 +154,10 @@ compacting-keeps {s} {w} m =
     kept (compactRefusal (s .header) (lengthsLent (joined (s .header) (bodyOf s) []) w)) (λ some. compacting-refused m some) (λ none p r. sound-table (compacting-done m none r))
 
 -- *Clear*
-pub clearing-keeps : {s : Stores} {answer : TableAnswer} {keys′ : List ℕ} → Clearing (s .header) (s .rows) (s .keys) answer keys′
+pub clearing-keeps : {s : Stores} {answer : TableAnswer} {keys′ : List ℕ} → Clearing (s .header) (s .keys) answer keys′
     → SoundTable s → SoundTable (joined (headerAfter (s .header) (tableSays answer)) (body (s .rows) keys′ (s .sorts)) (s .pending))
 clearing-keeps {s} m =
-    kept (clearRefusal (s .header) (length (s .rows)) (length (s .keys))) (λ some. clearing-refused m some) (λ none p r. sound-table (clearing-done m none r))
+    kept (clearRefusal (s .header) (length (s .keys))) (λ some. clearing-refused m some) (λ none p r. sound-table (clearing-done m none r))
 
 -- ---- what is asked of a sound table
 

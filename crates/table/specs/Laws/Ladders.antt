@@ -25,6 +25,6 @@ module _ {p : Plain} {s : Stores} (r : Represents p s) (l : Lengths) where
   compact-ladders = rw (r .shown .header, header-inside (r .proper))
 
   -- *Clear*
-  pub clear-ladders : clearRefusal (s .header) (l .rows) (l .keys) ≡ refusal p l clearing
+  pub clear-ladders : clearRefusal (s .header) (l .keys) ≡ refusal p l clearing
   unfolding clearRefusal refusal
   clear-ladders = rw (r .shown .header, header-inside (r .proper))

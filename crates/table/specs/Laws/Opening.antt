@@ -13,9 +13,10 @@ use Rattle.lists.specs.Laws.Parts.{length-putAt}
 use Rattle.refusals.specs.Refusals.{accepted, reply, verdict}
 use Rattle.refusals.specs.Laws.Replies.{some-number}
 use Rattle.sort_entries.specs.Entries.{entriesOf, rebuilt, pushAll}
-use Rattle.key_index.specs.Slots.{KeysSound}
 use Rattle.key_index.specs.inner.Index.{zeros, EmptyIs}
+use Rattle.key_index.specs.Slots.{roomFor}
 use Rattle.key_index.specs.Laws.Index.{emptied, empty-sound}
+use Rattle.key_index.specs.Laws.Rooms.{room-most, past-room}
 use Rattle.plain.specs.Staged.{Opening, openable, wordsAll}
 use Rattle.plain.specs.Plain.{Plain, dead, opened, unstaged, cleared}
 use Rattle.plain.specs.Refusing.{storesShort, openRefusal}
@@ -27,8 +28,7 @@ use Rattle.table.specs.declared.TableAnswer.the-variants.{Refused, Table
 use Rattle.table.specs.Numbers.{openingOf, largestOf, tableSays}
 use Rattle.table.specs.Refusing.{clearRefusal}
 use Rattle.table.specs.Stores.{entries, headerOf, stored}
-use Rattle.table.specs.Sound.{keyedOf}
-use Rattle.table.specs.Promises.{Stores, stores, lengths, Represents, SlotsPast, Opened, withPending, Clearing, body}
+use Rattle.table.specs.Promises.{Stores, stores, lengths, Represents, Opened, withPending, Clearing, body}
 use Rattle.table.specs.Laws.Shown.{stores-long, long-stores, rows-counted}
 use Rattle.table.specs.Laws.Refusals.{clear-accepted}
 
@@ -56,24 +56,26 @@ unfolding opened dead count entries rebuilt pushAll wordsAll largestOf
 header-opened o generation = refl
 
 -- freed slots are as many as before
-pub empty-length : (capacity : ℕ) (keys keys′ : List ℕ) → 2 * capacity ≤ length keys → EmptyIs capacity keys keys′ → length keys′ ≡ length keys
-empty-length capacity keys keys′ long e =
-    let r : length (zeros (2 * capacity)) ≡ 2 * capacity = length-replicate (2 * capacity) 0 in
-    ap length (e .free) ∙ length-putAt keys (zeros (2 * capacity)) 0 (omega arith)
+pub empty-length : (room : ℕ) (keys keys′ : List ℕ) → 2 * room ≤ length keys → EmptyIs room keys keys′ → length keys′ ≡ length keys
+empty-length room keys keys′ long e =
+    let r : length (zeros (2 * room)) ≡ 2 * room = length-replicate (2 * room) 0 in
+    ap length (e .free) ∙ length-putAt keys (zeros (2 * room)) 0 (omega arith)
 
 module _ (o : Opening) (generation : ℕ) (rows keys keys′ sorts pending : List ℕ) where
   -- once its slots are free, the stores show an empty table
   pub empty-represents : openable o ≡ true → generation ≤ 4294967295 → storesShort o (lengths rows keys sorts pending [] []) ≡ false
-      → EmptyIs (o .capacity) keys keys′ → Represents (opened o generation) (stores (headerOf (opened o generation)) rows keys′ sorts pending)
+      → EmptyIs (roomFor (o .capacity) 0) keys keys′ → Represents (opened o generation) (stores (headerOf (opened o generation)) rows keys′ sorts pending)
   unfolding opened entries rebuilt pushAll entriesOf stored rowsOf every wordsAll flat
   empty-represents bounds fits long e =
       let l = stores-long o (lengths rows keys sorts pending [] []) long in
-      let n = empty-length (o .capacity) keys keys′ (l .keys-long) e in
+      let room = roomFor (o .capacity) 0 in
+      let long : 2 * room ≤ length keys = omega (arith, room-most (o .capacity) 0, l .keys-long) in
+      let n = empty-length room keys keys′ long e in
       record {
         proper = opened-proper o generation bounds fits;
         long-enough = long-stores o (lengths rows keys′ sorts pending [] []) (record { rows-long = l .rows-long; keys-long = omega (arith, l .keys-long); sorts-long = l .sorts-long });
         shown = record { header = refl; rows-shown = λ i k. absurd (omega arith); entries-shown = refl; pending-held = record { whole = refl; in-order = refl } };
-        keyed = empty-sound _ rows keys′ (λ i live. absurd (omega (arith, live .0))) (emptied (o .capacity) keys keys′ (l .keys-long) e);
+        keyed = empty-sound _ rows keys′ (λ i live. absurd (omega (arith, live .0))) (emptied room keys keys′ long e);
       }
 
 -- ---- *Open*
@@ -93,14 +95,14 @@ module _ (o : Opening) (generation : ℕ) (rows keys sorts pending : List ℕ) w
       }
 
   -- one that is not
-  pub opened-done : (keys′ : List ℕ) → openRefusal o (lengths rows keys sorts pending [] []) ≡ 0 → generation ≤ 4294967295 → EmptyIs (o .capacity) keys keys′
+  pub opened-done : (keys′ : List ℕ) → openRefusal o (lengths rows keys sorts pending [] []) ≡ 0 → generation ≤ 4294967295 → EmptyIs (roomFor (o .capacity) 0) keys keys′
       → Opened o generation (body rows keys sorts) pending (Table (emptyHeader o generation)) keys′
   unfolding tableSays reply openRefusal
   opened-done keys′ e fits free =
       record {
         answers = rw e (ap accepted (header-opened o generation));
         unchanged = λ k. absurd (omega arith);
-        past = free .tail;
+        past = past-room (o .capacity) 0 keys keys′ (free .tail);
         represents = λ z. empty-represents o generation rows keys keys′ sorts pending (not-false _ (first-no _ 0 _ e)) fits (first-no _ 1 _ (first-rest _ 0 _ e)) free;
       }
 
@@ -149,9 +151,9 @@ unstaged-represents {p} {s} t =
 pub next-fits : (generation rows : ℕ) → generation ≤ 4294967295 → (generation ≡ 4294967295 → rows ≡ 0) → 0 < rows → generation + 1 ≤ 4294967295
 next-fits generation rows fits last some = elim (ℕ-discrete generation 4294967295) [ yes e ↦ absurd (omega (arith, last e)) | no ne ↦ omega arith ]
 
-module _ (h : Header) (rows keys : List ℕ) where
+module _ (h : Header) (keys : List ℕ) where
   -- one that is turned away
-  pub clear-refused : (n : ℕ) → n ≡ clearRefusal h (length rows) (length keys) → (n ≡ 0 → ⊥) → Clearing h rows keys (Refused n) keys
+  pub clear-refused : (n : ℕ) → n ≡ clearRefusal h (length keys) → (n ≡ 0 → ⊥) → Clearing h keys (Refused n) keys
   unfolding tableSays verdict reply
   clear-refused zero e ne = absurd (ne refl)
   clear-refused (suc n) e ne =
@@ -159,35 +161,34 @@ module _ (h : Header) (rows keys : List ℕ) where
         refusal = rw (← e);
         unchanged = λ k. refl;
         past = refl;
-        table = λ z sorts pending p t. absurd (omega arith);
+        table = λ z rows sorts pending p t. absurd (omega arith);
       }
 
   -- one of a table without rows
-  pub clear-pending : clearRefusal h (length rows) (length keys) ≡ 0 → h .rows ≡ 0 → Clearing h rows keys (Table (withPending h 0)) keys
+  pub clear-pending : clearRefusal h (length keys) ≡ 0 → h .rows ≡ 0 → Clearing h keys (Table (withPending h 0)) keys
   unfolding tableSays verdict reply
   clear-pending e none =
       record {
         refusal = rw e;
         unchanged = λ k. refl;
         past = refl;
-        table = λ z sorts pending p t.
+        table = λ z rows sorts pending p t.
             let q : cleared p ≡ unstaged p = cleared-none p (sym (rows-counted t) ∙ none) in
             let u = unstaged-represents t in
             record { answers = rw q (ap accepted (u .shown .header)); represents = rw (q, ← (u .shown .header)) u };
       }
 
   -- one of a table with rows
-  pub clear-all : (keys′ : List ℕ) → clearRefusal h (length rows) (length keys) ≡ 0 → 0 < h .rows → SlotsPast (h .capacity) keys keys′
-      → (KeysSound (keyedOf h) rows keys → EmptyIs (h .capacity) keys keys′)
-      → Clearing h rows keys (Table (emptyHeader (openingOf h) (h .generation + 1))) keys′
+  pub clear-all : (keys′ : List ℕ) → clearRefusal h (length keys) ≡ 0 → 0 < h .rows → EmptyIs (roomFor (h .capacity) 0) keys keys′
+      → Clearing h keys (Table (emptyHeader (openingOf h) (h .generation + 1))) keys′
   unfolding tableSays verdict reply
-  clear-all keys′ e some past free =
-      let a = clear-accepted h (length rows) (length keys) e in
+  clear-all keys′ e some free =
+      let a = clear-accepted h (length keys) e in
       record {
         refusal = rw e;
         unchanged = λ k. absurd (omega arith);
-        past = past;
-        table = λ z sorts pending p t.
+        past = past-room (h .capacity) 0 keys keys′ (free .tail);
+        table = λ z rows sorts pending p t.
             let q : cleared p ≡ opened (p .opening) (p .generation + 1) = cleared-some p (omega (arith, rows-counted t)) in
             let g : h .generation ≡ p .generation = ap (λ (x : Header). x .generation) (t .shown .header) in
             let o : openingOf h ≡ p .opening = ap openingOf (t .shown .header) in
@@ -195,6 +196,6 @@ module _ (h : Header) (rows keys : List ℕ) where
             let fits : p .generation + 1 ≤ 4294967295 = next-fits (p .generation) (h .rows) (t .proper .generation-fits) (rw g at (a .last-empty)) some in
             record {
               answers = rw (q, o, g) (ap accepted (header-opened (p .opening) (p .generation + 1)));
-              represents = rw q (empty-represents (p .opening) (p .generation + 1) rows keys keys′ sorts pending (t .proper .numbers) fits (t .long-enough) (rw k at (free (t .keyed))));
+              represents = rw q (empty-represents (p .opening) (p .generation + 1) rows keys keys′ sorts pending (t .proper .numbers) fits (t .long-enough) (rw k at free));
             };
       }

@@ -1,7 +1,7 @@
 -- What is known of a header and of the lengths of what is lent where an operation's ladder turns nothing away: one record
 -- for each ladder of Refusing, and what the key index asks. Assumes nothing.
 use Prim.Native.Nat.{ℕ, _+_, _*_, _/_, _≤_, _<_}
-use mathlib.Core.Path.{_≡_}
+use mathlib.Core.Path.{_≡_, refl}
 use mathlib.Core.Bool.{true, false, not, _&&_, _||_}
 use mathlib.Core.List.{List}
 use native.Mathlib.Omega.{arith}
@@ -13,6 +13,7 @@ use Rattle.lists.specs.Laws.Every.{or-no-left, or-no-right}
 use Rattle.constraints.specs.declared.Constraint.{Constraint}
 use Rattle.constraints.specs.Constraints.{known}
 use Rattle.key_index.specs.inner.Index.{Fits}
+use Rattle.key_index.specs.Laws.Rooms.{room-most, room-some, room-enough, fits-room}
 use Rattle.plain.specs.Staged.{Opening, openable}
 use Rattle.plain.specs.Refusing.{Lengths, storesShort, wordsShort, openRefusal, compactLadder, mergeLadder, clearLadder}
 use Rattle.plain.specs.Laws.Calls.{first-no, first-rest}
@@ -21,6 +22,7 @@ use Rattle.table.specs.declared.Header.{Header}
 use Rattle.table.specs.Numbers.{openingOf}
 use Rattle.table.specs.Refusing.{outside, pendingOutside, rowsShort, pairsShort, mergeRefusal, compactRefusal, clearRefusal, lookupRefusal, cellRefusal, fastRefusal, notedRefusal, soundRefusal, lookupTests}
 use Rattle.table.specs.Sound.{keyedOf}
+use Rattle.table.specs.inner.Whole.{wholeOf}
 use Rattle.table.specs.Laws.Shown.{LongEnough, stores-long}
 
 -- ---- test 1
@@ -78,9 +80,9 @@ pairs-long-of : (h : Header) (store : ℕ) → pairsShort h store ≡ false → 
 unfolding pairsShort
 pairs-long-of h store e = ltb-false _ _ e
 
--- what the key index asks
-pub inside-fits : (h : Header) (rows keys : List ℕ) → Inside h → h .capacity * h .columns ≤ length rows → 2 * h .capacity ≤ length keys → Fits (keyedOf h) rows keys
-inside-fits h rows keys i r k =
+-- what the key index asks, whatever slots are in use
+pub inside-whole : (h : Header) (rows keys : List ℕ) → Inside h → h .capacity * h .columns ≤ length rows → 2 * h .capacity ≤ length keys → Fits (wholeOf h) rows keys
+inside-whole h rows keys i r k =
     record {
       some-columns = i .bounds .columns-some;
       most-columns = i .bounds .columns-few;
@@ -92,6 +94,15 @@ inside-fits h rows keys i r k =
       cells = r;
       long = k;
     }
+
+-- and of those that are
+pub whole-fits : (h : Header) (rows keys : List ℕ) → Fits (wholeOf h) rows keys → Fits (keyedOf h) rows keys
+whole-fits h rows keys f =
+    fits-room (wholeOf h) (keyedOf h) rows keys f refl refl (room-some (h .capacity) (h .rows) (f .some)) (room-enough (h .capacity) (h .rows) (f .count) (f .most))
+    (room-most (h .capacity) (h .rows))
+
+pub inside-fits : (h : Header) (rows keys : List ℕ) → Inside h → h .capacity * h .columns ≤ length rows → 2 * h .capacity ≤ length keys → Fits (keyedOf h) rows keys
+inside-fits h rows keys i r k = whole-fits h rows keys (inside-whole h rows keys i r k)
 
 -- ---- *Open*
 
@@ -149,21 +160,18 @@ compact-accepted h l e =
 
 -- ---- *Clear*
 
-pub record Clearable (h : Header) (rows keys : ℕ) : Type 0 where
+pub record Clearable (h : Header) (keys : ℕ) : Type 0 where
   pub inside : Inside h
-  pub rows-long : h .capacity * h .columns ≤ rows
   pub keys-long : 2 * h .capacity ≤ keys
   pub last-empty : h .generation ≡ 4294967295 → h .rows ≡ 0
 
-pub clear-accepted : (h : Header) (rows keys : ℕ) → clearRefusal h rows keys ≡ 0 → Clearable h rows keys
-unfolding clearRefusal clearLadder rowsShort pairsShort
-clear-accepted h rows keys e =
+pub clear-accepted : (h : Header) (keys : ℕ) → clearRefusal h keys ≡ 0 → Clearable h keys
+unfolding clearRefusal clearLadder pairsShort
+clear-accepted h keys e =
     let rest = first-rest _ 0 _ e in
-    let b = first-no (rowsShort h rows || pairsShort h keys) 1 _ rest in
     record {
       inside = outside-inside h (first-no _ 0 _ e);
-      rows-long = rows-long-of h rows (or-no-left (rowsShort h rows) _ b);
-      keys-long = pairs-long-of h keys (or-no-right (rowsShort h rows) _ b);
+      keys-long = pairs-long-of h keys (first-no _ 1 _ rest);
       last-empty = λ last. empty (eq-eqb _ _ last) (first-no _ 9 _ (first-rest _ 1 _ rest));
     }
   where

@@ -74,7 +74,7 @@ fn short_stores_of_calls() {
     assert_eq!(stores_tested(&open), [0, 1, 2]);
     assert_eq!(stores_tested(&Call::Merge), [0, 1, 2, 3, 4]);
     assert_eq!(stores_tested(&Call::Compact), [0, 1, 2, 3, 4]);
-    assert_eq!(stores_tested(&Call::Clear), [0, 1]);
+    assert_eq!(stores_tested(&Call::Clear), [1]);
 }
 
 /// A question of each kind that a fresh table accepts, with the stores that it is lent.

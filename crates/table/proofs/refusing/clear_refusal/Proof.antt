@@ -1,6 +1,6 @@
 -- `table::refusing::clear_refusal` meets its contract. Assumes nothing.
 use mathlib.Core.Path.{sym, _∙_}
-use Rattle.table.proofs.RefusingSteps.{clear-outside, clear-rows, clear-keys, clear-early, clear-empty, clear-last}
+use Rattle.table.proofs.RefusingSteps.{clear-outside, clear-short, clear-early, clear-empty, clear-last}
 use borrow.Author.Needs.{needs}
 use Rattle.table.proofs.refusing.clear_refusal.Statement.{statement}
 use Rattle.table.proofs.refusing.clear_refusal.Tie as tie
@@ -9,28 +9,22 @@ is-outside-requires : tie.Need-is-outside-requires
 is-outside-requires c κs = search needs
 
 returns : tie.Need-returns
-returns c = clear-outside _ _ _ (sym (c .before .is-outside .ensures) ∙ c .if1 .taken)
-
-is-rows-short-requires : tie.Need-is-rows-short-requires
-is-rows-short-requires c κs = (sym (c .before .is-outside .ensures) ∙ c .if1 .left)
-
-returns-2 : tie.Need-returns-2
-returns-2 c = clear-rows _ _ _ (sym (c .before .before .before .is-outside .ensures) ∙ c .before .before .if1 .left) (sym (c .before .is-rows-short .ensures) ∙ c .if2 .taken)
+returns c = clear-outside _ _ (sym (c .before .is-outside .ensures) ∙ c .if1 .taken)
 
 is-pairs-short-requires : tie.Need-is-pairs-short-requires
-is-pairs-short-requires c κs = (sym (c .before .before .before .is-outside .ensures) ∙ c .before .before .if1 .left)
+is-pairs-short-requires c κs = (sym (c .before .is-outside .ensures) ∙ c .if1 .left)
+
+returns-2 : tie.Need-returns-2
+returns-2 c = clear-short _ _ (sym (c .before .before .before .is-outside .ensures) ∙ c .before .before .if1 .left) (sym (c .before .is-pairs-short .ensures) ∙ c .if2 .taken)
 
 returns-3 : tie.Need-returns-3
-returns-3 c = clear-keys _ _ _ (sym (c .before .before .before .before .before .is-outside .ensures) ∙ c .before .before .before .before .if1 .left) (sym (c .before .before .before .is-rows-short .ensures) ∙ c .before .before .if2 .left) (sym (c .before .is-pairs-short .ensures) ∙ c .if3 .taken)
+returns-3 c = clear-early _ _ (sym (c .before .before .before .before .before .is-outside .ensures) ∙ c .before .before .before .before .if1 .left) (sym (c .before .before .before .is-pairs-short .ensures) ∙ c .before .before .if2 .left) (c .if3 .taken)
 
 returns-4 : tie.Need-returns-4
-returns-4 c = clear-early _ _ _ (sym (c .before .before .before .before .before .before .before .is-outside .ensures) ∙ c .before .before .before .before .before .before .if1 .left) (sym (c .before .before .before .before .before .is-rows-short .ensures) ∙ c .before .before .before .before .if2 .left) (sym (c .before .before .before .is-pairs-short .ensures) ∙ c .before .before .if3 .left) (c .if4 .taken)
+returns-4 c = clear-empty _ _ (sym (c .before .before .before .before .before .before .before .is-outside .ensures) ∙ c .before .before .before .before .before .before .if1 .left) (sym (c .before .before .before .before .before .is-pairs-short .ensures) ∙ c .before .before .before .before .if2 .left) (c .before .before .if3 .left) (c .if4 .taken)
 
 returns-5 : tie.Need-returns-5
-returns-5 c = clear-empty _ _ _ (sym (c .before .before .before .before .before .before .before .before .before .is-outside .ensures) ∙ c .before .before .before .before .before .before .before .before .if1 .left) (sym (c .before .before .before .before .before .before .before .is-rows-short .ensures) ∙ c .before .before .before .before .before .before .if2 .left) (sym (c .before .before .before .before .before .is-pairs-short .ensures) ∙ c .before .before .before .before .if3 .left) (c .before .before .if4 .left) (c .if5 .taken)
-
-returns-6 : tie.Need-returns-6
-returns-6 c = clear-last _ _ _ (sym (c .before .before .before .before .before .before .before .before .before .is-outside .ensures) ∙ c .before .before .before .before .before .before .before .before .if1 .left) (sym (c .before .before .before .before .before .before .before .is-rows-short .ensures) ∙ c .before .before .before .before .before .before .if2 .left) (sym (c .before .before .before .before .before .is-pairs-short .ensures) ∙ c .before .before .before .before .if3 .left) (c .before .before .if4 .left) (c .if5 .left)
+returns-5 c = clear-last _ _ (sym (c .before .before .before .before .before .before .before .is-outside .ensures) ∙ c .before .before .before .before .before .before .if1 .left) (sym (c .before .before .before .before .before .is-pairs-short .ensures) ∙ c .before .before .before .before .if2 .left) (c .before .before .if3 .left) (c .if4 .left)
 
 pub clear-refusal-spec : {M : Type 1} → statement M
 clear-refusal-spec =
@@ -38,10 +32,8 @@ clear-refusal-spec =
     (tie.spec
     is-outside-requires
     returns
-    is-rows-short-requires
-    returns-2
     is-pairs-short-requires
+    returns-2
     returns-3
     returns-4
-    returns-5
-    returns-6)
+    returns-5)

@@ -1,2 +1,0 @@
-pub mod RowSteps
-pub mod RunSteps

@@ -1,0 +1,21 @@
+-- What building the key store anew asks and promises (document 01, "Key index"). Assumes nothing.
+use Prim.Native.Nat.{ℕ, _+_}
+use mathlib.Core.Path.{_≡_}
+use mathlib.Core.List.{List}
+use lib.ListN.{drop}
+use Rattle.key_index.specs.declared.Keyed.{Keyed}
+use Rattle.key_index.specs.Slots.{slots, KeysSound}
+
+-- the first n rows of a table, in the same slots
+abbrev pub firstRows : Keyed → ℕ → Keyed
+firstRows t n = record { columns = t .columns; keys = t .keys; room = t .room; rows = n }
+
+-- a slot leads to the row, if it is live, where slots lead to those before it
+pub record RowPut (t : Keyed) (rows store : List ℕ) (row : ℕ) (store′ : List ℕ) : Type 0 where
+  pub sound : KeysSound (firstRows t row) rows store → KeysSound (firstRows t (row + 1)) rows store′
+  pub rest : drop (slots t) store′ ≡ drop (slots t) store
+
+-- the slots lead to exactly the live rows, whatever they held
+pub record Rebuilt (t : Keyed) (rows store store′ : List ℕ) : Type 0 where
+  pub sound : KeysSound t rows store′
+  pub rest : drop (slots t) store′ ≡ drop (slots t) store
