@@ -1,7 +1,8 @@
 -- The loops that test whether ids rise, a step at a time. Assumes nothing.
 use Prim.Native.Nat.{ℕ, _+_, _-_, _*_, _%_, _^_, _≤_, _<_}
 use mathlib.Core.Path.{_≡_, refl, sym, ap, ap₂, _∙_}
-use mathlib.Core.Bool.{Bool, true, _&&_}
+use mathlib.Core.Logic.{inl, inr}
+use mathlib.Core.Bool.{Bool, true, false, _&&_}
 use mathlib.Core.List.{List}
 use native.Mathlib.Omega.{arith}
 use lib.Dec.{leb, ltb}
@@ -9,9 +10,9 @@ use lib.ListN.{length, take, drop, getD, length-drop}
 use lib.Seq.{take-all, length-take-le, drop-drop, getD-drop}
 use borrow.Author.Tests.{leb-true, lt-ltb}
 use Rattle.lists.specs.Lists.{rising}
-use Rattle.lists.specs.Laws.Keep.{and-left, and-right}
+use Rattle.lists.specs.Laws.Keep.{split, and-left, and-right}
 use Rattle.lists.specs.Laws.Parts.{part-to-end}
-use Rattle.lists.specs.Laws.Rising.{rising-take-one, rising-take-more, rising-past}
+use Rattle.lists.specs.Laws.Rising.{bool-ext, rising-take, rising-drop, rising-take-one, rising-take-more, rising-past}
 use Rattle.offsets.specs.inner.Rising.{Onward}
 
 -- whether a block's ids before place i rise
@@ -117,5 +118,18 @@ onward-more ids at n s more up =
     let h : n < length (drop at ids) = simp length-drop more in
     record { in-list = omega arith; same = s .same ∙ rising-past n (drop at ids) h (rw z at up) ∙ ap rising (drop-drop n at ids) }
 
-pub onward-end : (ids : List ℕ) (at : ℕ) → Onward ids at → rising (take (length ids - at) (drop at ids)) ≡ rising ids
-onward-end ids at s = ap rising (part-to-end ids at) ∙ sym (s .same)
+pub onward-fall : (ids : List ℕ) (at n : ℕ) → Onward ids at → (rises : Bool) → rises ≡ rising (take (at + n + 1 - at) (drop at ids)) → rises ≡ false → false ≡ rising ids
+onward-fall ids at n s rises tested e =
+    elim (split (rising ids)) [
+      | inl q ↦ sym e ∙ tested ∙ rising-take (at + n + 1 - at) (drop at ids) (sym (s .same) ∙ q) ∙ sym q
+      | inr q ↦ sym q
+    ]
+
+-- the last part, which may begin before the place
+pub onward-last : (ids : List ℕ) (at m : ℕ) → Onward ids at → m ≤ at → rising (take (length ids - m) (drop m ids)) ≡ rising ids
+onward-last ids at m s h =
+    let z : m + (at - m) ≡ at = omega arith in
+    ap rising (part-to-end ids m)
+    ∙ bool-ext (rising (drop m ids)) (rising ids)
+    (λ e. s .same ∙ ap (λ (k : ℕ). rising (drop k ids)) (sym z) ∙ ap rising (sym (drop-drop (at - m) m ids)) ∙ rising-drop (at - m) (drop m ids) e)
+    (λ e. rising-drop m ids e)

@@ -36,7 +36,10 @@ const BLOCK: usize = 128;
 
 const HALF: usize = 64;
 
-// A step of at most 2^24 gives no less when the later id is taken from the earlier one, modulo 2^32.
+// How many ids are tested at a time where the steps may be any.
+const PART: usize = 8;
+
+// The later of two ids taken from the earlier one, modulo 2^32, gives no less than this where the step is at most 2^24.
 const SMALL_STEP: u32 = 0xff00_0000;
 
 // From an id below this, 64 small steps stay below 2^32.
@@ -96,12 +99,30 @@ fn rises_pairwise(ids: &[u32]) -> bool
     rises
 }
 
+// The same by parts of one length, for which the loop is straight vector code. The last part ends where the ids end, whatever of
+// it was tested before.
+fn rises_by_parts(ids: &[u32]) -> bool
+    ensures { λ r. ⌜ r ≡ rising (now (ids .entry)) ⌝ }
+{
+    if ids.len() <= PART {
+        return rises_pairwise(ids);
+    }
+    let mut at = 0;
+    while PART < ids.len() - at {
+        if !rises_pairwise(&ids[at..at + PART + 1]) {
+            return false;
+        }
+        at += PART;
+    }
+    rises_pairwise(&ids[ids.len() - PART - 1..])
+}
+
 // The ids rise strictly.
 fn is_rising(ids: &[u32]) -> bool
     ensures { λ r. ⌜ r ≡ rising (now (ids .entry)) ⌝ }
 {
     let at = past_small_steps(ids);
-    rises_pairwise(&ids[at..])
+    rises_by_parts(&ids[at..])
 }
 
 pub fn is_well_formed(head: SubsetHead, ids: &[u32]) -> bool
