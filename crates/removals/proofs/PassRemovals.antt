@@ -1,31 +1,27 @@
 -- The removals of a pass: one record's turn, and what holds at each turn of the loop over the pending records. Assumes
 -- nothing.
-use Prim.Native.Nat.{ℕ, zero, suc, _+_, _*_, _-_, _%_, _^_, _≤_, _<_}
+use Prim.Native.Nat.{ℕ, _+_, _*_, _-_, _≤_, _<_}
 use mathlib.Core.Path.{_≡_, refl, sym, ap, _∙_}
-use mathlib.Core.Bool.{Bool, true, false, cond, false≢true}
+use mathlib.Core.Bool.{Bool, true, false, cond}
 use mathlib.Core.List.{List, [], _∷_}
 use native.Mathlib.Decide.{ℕ-discrete}
 use native.Mathlib.Nat.{add-zero}
 use native.Mathlib.Omega.{arith}
-use lib.Dec.{eqb, leb}
+use lib.Dec.{eqb}
 use lib.ListN.{length, take, drop, getD}
-use borrow.Author.Tests.{eq-eqb, ne-eqb, le-leb}
+use borrow.Author.Tests.{eq-eqb, ne-eqb}
 use mathlib.Core.Logic.{inl, inr}
 use Rattle.lists.specs.Lists.{keep}
 use Rattle.lists.specs.Laws.Keep.{split}
-use Rattle.key_index.specs.Slots.{keyAt, slots, KeysSound}
 use Rattle.key_index.specs.inner.Index.{Fits}
-use Rattle.key_index.specs.Laws.Ring.{names-number, names-word}
 use Rattle.plain.specs.Staged.{Staged, insert, removeKey, removeRow}
 use Rattle.plain.specs.Plain.{Plain}
 use Rattle.table.specs.declared.Header.{Header}
 use Rattle.table.specs.Numbers.{openingOf}
-use Rattle.table.specs.Sound.{keyedOf}
 use Rattle.table.specs.inner.Whole.{wholeOf}
 use Rattle.table.specs.Promises.{Stores, stores, Represents, SlotsPast}
-use Rattle.table.specs.Laws.Refusals.{whole-fits}
 use Rattle.pending.specs.inner.Becoming.{Becomes, withDead, Waiting, kindOf, RecordLength, ofKind, Left, CanPass, NextRecord}
-use Rattle.removals.specs.inner.Removals.{removed, removedAll, died, removalOf, Removal, RemovalAt, Removed, Removable, LooksAhead, LookedAhead, Removals, RemovalNext, RemovedNext}
+use Rattle.removals.specs.inner.Removals.{removed, removedAll, died, removalOf, Removal, RemovalAt, Removed, Removable, Removals, RemovalNext, RemovedNext}
 use Rattle.pending.specs.Laws.Steps.{steps-refl, steps-then, waiting-start, words-some, waiting-kind, waiting-hash, waiting-key, waiting-row, waiting-row-key}
 use Rattle.pending.proofs.PassRecords.{Next, record-long}
 
@@ -105,30 +101,6 @@ removed-left : {h : Header} {pending : List ℕ} {kind at : ℕ} {records : List
 removed-left {h} {pending} {kind} {at} {records} l p =
     removed-wanted kind records p ∙ ap (λ (rs : List Staged). removedAll kind rs p) (l .same) ∙ sym (removed-wanted kind (l .left) p)
 
--- ---- a look ahead
-
--- a sound store's slot is free or names a row
-pub looked : (h : Header) (keys : List ℕ) (slot : ℕ) → h .rows ≤ keyedOf h .room → keyedOf h .room ≤ 65536 → slot < slots (keyedOf h)
-    → LookedAhead h keys (leb (getD keys slot 0 % 2 ^ 17) (h .rows))
-looked h keys slot count most i = record { sound = λ rows k. le-leb _ _ (number rows k (ℕ-discrete (getD keys slot 0) 0)) }
-  where
-    number : (rows : List ℕ) → KeysSound (keyedOf h) rows keys → Dec (getD keys slot 0 ≡ 0) → getD keys slot 0 % 2 ^ 17 ≤ h .rows
-    number rows k (yes e) = rw e (omega arith)
-    number rows k (no e) =
-        let o = k .only-live slot i (omega arith) in
-        let n = names-word (keyedOf h) (keyAt (keyedOf h) rows (o .0)) (o .0) (o .1 .0) (omega (arith, o .1 .0)) in
-        names-number (keyedOf h) (getD keys slot 0) (rw (o .2) n) .1
-
--- a record has eleven words at most
-record-few : {h : Header} {pending : List ℕ} {at n : ℕ} → RecordLength h pending at n → h .columns ≤ 8 → h .keys ≤ 8 → 0 < n → n ≤ 11
-record-few {h} {pending} {at} {n} l a b z = go (getD pending at 0) refl
-  where
-    go : (k : ℕ) → getD pending at 0 ≡ k → n ≤ 11
-    go zero e = omega (arith, l .of-insert z e)
-    go (suc zero) e = omega (arith, l .of-key z e)
-    go (suc (suc zero)) e = omega (arith, l .of-row z e)
-    go (suc (suc (suc k))) e = absurd (omega (arith, l .kind z))
-
 -- ---- the loop over the removals
 
 -- what the removals so far have come to, and the records still to come
@@ -195,17 +167,6 @@ module _ {h : Header} {rows keys pending : List ℕ} {kind : ℕ} (a : Removable
                   let two : getD pending at 0 ≡ 2 = omega (arith, a .some-kind, a .most-kind) in
                   omega (arith, v .here .of-row (omega arith) two, removing-inside, a .pending-fits)
 
-      pub removing-looks : LooksAhead h keys′ pending at words
-      removing-looks =
-          let f = whole-fits h rows′ keys′ (v .fits) in
-          record {
-            room = record { some = f .some; most = f .most; long = f .long };
-            count = f .count;
-            pending-fits = a .pending-fits;
-            inside = v .inside;
-            few = record-few (v .here) (f .most-columns) (omega (arith, f .most-columns, f .most-keys)) (omega arith);
-          }
-
       pub removing-passes : CanPass h pending at words
       removing-passes = record { here = v .here; some = omega arith; fits = a .pending-fits }
 
@@ -241,16 +202,6 @@ module _ {h : Header} {rows keys pending : List ℕ} {kind : ℕ} (a : Removable
                 same = same ∙ removed-left left then;
                 steps = steps-then t (g .steps) (one .table first rest w dead sorts (g .now) (g .steps .represents));
               }
-
-    -- the store is not sound
-    pub removing-unsound : {r : Bool} → LookedAhead h keys′ r → r ≡ false → Removals h rows keys pending kind (withDead h dead) rows′ keys′
-    removing-unsound l e =
-        record {
-          header = refl;
-          dead-few = omega (arith, v .few, v .inside);
-          past = v .past;
-          table = λ sorts p t. absurd (false≢true (sym e ∙ l .sound rows′ (v .table sorts p t .steps .represents .keyed)));
-        }
 
     -- no record is left
     pub removing-end : words ≡ 0 → Removals h rows keys pending kind (withDead h dead) rows′ keys′

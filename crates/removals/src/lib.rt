@@ -5,22 +5,15 @@ ghost use Prim.Native.Nat.{_<_};
 ghost use lib.ListN.{length};
 ghost use Rattle.key_index.specs.inner.Index.{Fits};
 ghost use Rattle.key_index.specs.Slots.{slots};
-ghost use Rattle.pending.specs.inner.Becoming.{withDead};
 ghost use Rattle.table.specs.inner.Whole.{wholeOf};
-ghost use Rattle.removals.specs.inner.Removals.{Kills, removalOf, spared, Removal, RemovalAt, Removed, Removable, LooksAhead, LookedAhead, Removals, RemovalNext, RemovedNext};
+ghost use Rattle.removals.specs.inner.Removals.{Kills, removalOf, spared, Removal, RemovalAt, Removed, Removable, Removals, RemovalNext, RemovedNext};
 use key_index::Found;
 use key_index::Keyed;
-use key_index::ROW_RANGE;
-use key_index::home_slot;
-use key_index::room_for;
 use pending::next_record;
 use pending::record_length;
 use table::Header;
 use table::REMOVE_KEY;
 use table::keyed;
-
-// How many records on a slot is looked at.
-const AHEAD: u32 = 8;
 
 // Takes the row in a slot out of the key store and marks it dead. Answers whether it was live.
 fn kill(t: Keyed, rows: &mut [u32], keys: &mut [u32], row: u32, slot: u32) -> bool
@@ -104,32 +97,7 @@ fn remove_next(
     0
 }
 
-fn with_dead(h: Header, dead: u32) -> Header
-    ensures { λ r. ⌜ r ≡ withDead h dead ⌝ }
-{
-    let mut n = h;
-    n.dead = dead;
-    n
-}
-
-// Whether the home slot of a record some way on is free or names a row, as every slot of a sound store does. What counts is that
-// the slot is read: the wait for it is over when that record's turn comes.
-fn is_sound_ahead(h: Header, keys: &[u32], pending: &[u32], at: u32, words: u32) -> bool
-    requires { ⌜ LooksAhead h (now keys) (now pending) at words ⌝ }
-    ensures { λ r. ⌜ LookedAhead h (now (keys .entry)) r ⌝ }
-{
-    let ahead = AHEAD * words + 1;
-    if h.pending - at <= ahead {
-        return true;
-    }
-    let hash = pending[(at + ahead) as usize];
-    let room = room_for(h.capacity, h.rows);
-    let home = home_slot(2 * room, hash);
-    keys[home as usize] % ROW_RANGE <= h.rows
-}
-
-// All removals of a kind, in staging order. Runs of other records are passed over. Of a store that is not sound nothing is
-// promised: the pass ends.
+// All removals of a kind, in staging order. Runs of other records are passed over.
 pub fn remove_all(
     h: Header,
     rows: &mut [u32],
@@ -144,12 +112,11 @@ pub fn remove_all(
     let mut at: u32 = 0;
     let mut words = record_length(h, pending, at);
     while words != 0 {
-        if !is_sound_ahead(h, keys, pending, at, words) {
-            return with_dead(h, dead);
-        }
         dead += remove_next(h, rows, keys, pending, at, kind);
         at = next_record(h, pending, at, words, kind);
         words = record_length(h, pending, at);
     }
-    with_dead(h, dead)
+    let mut n = h;
+    n.dead = dead;
+    n
 }

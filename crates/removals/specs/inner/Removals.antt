@@ -2,7 +2,7 @@
 -- nothing.
 use Prim.Native.Nat.{ℕ, _+_, _*_, _≤_, _<_}
 use mathlib.Core.Path.{_≡_}
-use mathlib.Core.Bool.{Bool, true, false, cond, not}
+use mathlib.Core.Bool.{Bool, false, cond, not}
 use mathlib.Core.List.{List, [], _∷_}
 use lib.ListN.{length, drop, getD, set}
 use lib.Dec.{eqb}
@@ -10,13 +10,12 @@ use Rattle.lists.specs.Lists.{rowAt}
 use Rattle.constraints.specs.Constraints.{isLive}
 use Rattle.key_index.specs.declared.Keyed.{Keyed}
 use Rattle.key_index.specs.Slots.{LiveAt, keyAt, slots, word, KeysSound}
-use Rattle.key_index.specs.inner.Index.{Room, Fits}
+use Rattle.key_index.specs.inner.Index.{Fits}
 use Rattle.plain.specs.Staged.{Staged, insert, removeKey, removeRow}
 use Rattle.plain.specs.Plain.{Plain, withoutKey, withoutRow}
 use Rattle.table.specs.declared.Header.{Header}
 use Rattle.table.specs.Numbers.{openingOf}
 use Rattle.table.specs.inner.Whole.{wholeOf}
-use Rattle.table.specs.Sound.{keyedOf}
 use Rattle.table.specs.Promises.{stores, Represents, SlotsPast}
 use Rattle.pending.specs.inner.Becoming.{Becomes, withDead, kindOf, Waiting, hashOf}
 
@@ -77,18 +76,6 @@ pub record Removable (h : Header) (rows keys pending : List ℕ) (kind : ℕ) : 
   pub dead-few : 3 * h .dead + h .pending ≤ 12884901885
   pub some-kind : 1 ≤ kind
   pub most-kind : kind ≤ 2
-
--- the slots, and the pending words from a record of so many words on
-pub record LooksAhead (h : Header) (keys pending : List ℕ) (at words : ℕ) : Type 0 where
-  pub room : Room (keyedOf h .room) keys
-  pub count : h .rows ≤ keyedOf h .room
-  pub pending-fits : h .pending ≤ length pending
-  pub inside : at ≤ h .pending
-  pub few : words ≤ 11
-
--- the answer is yes if the store is sound
-pub record LookedAhead (h : Header) (keys : List ℕ) (r : Bool) : Type 0 where
-  pub sound : (rows : List ℕ) → KeysSound (keyedOf h) rows keys → r ≡ true
 
 -- all removals of a kind
 pub record Removals (h : Header) (rows keys pending : List ℕ) (kind : ℕ) (h′ : Header) (rows′ keys′ : List ℕ) : Type 0 where
