@@ -160,10 +160,10 @@ removal-first first rest ne = rw (ne-eqb (kindOf first) 0 ne)
 
 pub first-later : {h : Header} {pending : List ℕ} {words next : ℕ} → RecordLength h pending 0 words → (words ≡ 0 → ⊥) → (getD pending 0 0 ≡ 0 → ⊥)
     → NextRecord h pending 0 words 0 next → FirstInsert h pending next
-first-later {h} {pending} {words} {next} l some other passes = record { inside = passes .inside; left = left }
+first-later {h} {pending} {words} {next} l there other passes = record { inside = passes .inside; left = left }
   where
     left : (records : List Staged) → Waiting (openingOf h) pending (h .pending) 0 records → Left h pending 0 next records
-    left [] w = absurd (some (l .none w))
+    left [] w = absurd (there (l .none w))
     left (first ∷ rest) w =
         let x = passes .rest first rest w in
         let e = removal-first first rest (λ z. other (waiting-kind w ∙ z)) in

@@ -4,13 +4,8 @@
 use libc::STDIN_FILENO;
 use libc::STDOUT_FILENO;
 use recorded_answers::Counts;
-use recorded_answers::judge;
-use recorded_calls::call;
-use recorded_calls::is_call;
-use recorded_lines::Said;
-use recorded_lines::part;
-use recorded_lines::read_line;
-use recorded_questions::ask;
+use recorded_turns::State;
+use recorded_turns::turn;
 use table::Header;
 use table::Largest;
 
@@ -28,69 +23,6 @@ fn no_table() -> Header {
         pending: 0,
         generation: 0,
         largest: Largest::None,
-    }
-}
-
-// A call or question, by its letter.
-fn serve(
-    h: Header,
-    letter: u8,
-    numbers: &[u32],
-    rows: &mut [u32],
-    keys: &mut [u32],
-    sorts: &mut [u32],
-    pending: &mut [u32],
-    out: &mut [u32],
-) -> Said {
-    if is_call(letter) {
-        return call(h, letter, numbers, rows, keys, sorts, pending);
-    }
-    ask(h, letter, numbers, rows, keys, sorts, out)
-}
-
-// The table, the place in the list, and what was counted.
-struct State {
-    header: Header,
-    place: usize,
-    counts: Counts,
-    is_over: bool,
-}
-
-// A call or question and its answer: two lines.
-fn turn(
-    state: State,
-    text: &[u8; 65536],
-    rows: &mut [u32; 512],
-    keys: &mut [u32; 128],
-    sorts: &mut [u32; 128],
-    pending: &mut [u32; 256],
-) -> State {
-    let mut numbers = [0u32; 64];
-    let mut out = [0u32; 80];
-    let header = state.header;
-    let counts = state.counts;
-    let place = state.place;
-    let line = read_line(text, place, &mut numbers);
-    let letter = line.letter;
-    let answer = line.next;
-    if letter == 0 {
-        return State {
-            header: header,
-            place: place,
-            counts: counts,
-            is_over: true,
-        };
-    }
-    let given = part(&numbers, 0, line.count);
-    let said = serve(header, letter, given, rows, keys, sorts, pending, &mut out);
-    let left = said.header;
-    let judged = judge(counts, said, &out, text, answer);
-    let now = judged.counts;
-    State {
-        header: left,
-        place: judged.place,
-        counts: now,
-        is_over: false,
     }
 }
 

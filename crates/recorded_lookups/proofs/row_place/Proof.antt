@@ -1,7 +1,7 @@
--- `recorded_questions::row_place` is safe, and ends. Assumes nothing.
+-- `recorded_lookups::row_place` is safe, and ends. Assumes nothing.
 use borrow.Author.Needs.{needs}
-use Rattle.recorded_questions.proofs.row_place.Statement.{statement}
-use Rattle.recorded_questions.proofs.row_place.Tie as tie
+use Rattle.recorded_lookups.proofs.row_place.Statement.{statement}
+use Rattle.recorded_lookups.proofs.row_place.Tie as tie
 
 abbrev Inv-loop : tie.InvT-loop
 Inv-loop row columns place₀ left₀ place left = Unit {0}

@@ -1,0 +1,73 @@
+// The lookups, ranges and versions of the recorded list, each put to the library, and its answer in the list's form.
+use recorded_lines::Said;
+use recorded_lines::further;
+use recorded_lines::number_at;
+use recorded_lines::part;
+use recorded_lines::refused;
+use recorded_lines::tell;
+use recorded_lines::tell_one;
+use recorded_lines::tell_three;
+use recorded_lines::tell_two;
+use table::CellAnswer;
+use table::Header;
+use table::RangeAnswer;
+use table::RowAnswer;
+use table::VersionAnswer;
+
+// The place of a row's first cell: as far on as its number, once for each column.
+fn row_place(row: u32, columns: u32) -> usize {
+    let mut place = 0;
+    let mut left = columns;
+    while left > 0 {
+        place = further(place, row);
+        left -= 1;
+    }
+    place
+}
+
+// A row's number, and its cells.
+fn row_told(h: Header, row: u32, rows: &[u32], out: &mut [u32]) -> Said {
+    let from = row_place(row, h.columns);
+    let cells = part(rows, from, further(from, h.columns));
+    let mut said = tell_one(h, b'R', row);
+    if cells.len() <= out.len() {
+        row_buffer::write_row(out, 0, cells);
+        said.more = h.columns;
+    }
+    said
+}
+
+// L
+pub fn look_up(h: Header, key: &[u32], rows: &[u32], keys: &[u32], out: &mut [u32]) -> Said {
+    match reading::get_row(h, rows, keys, key) {
+        RowAnswer::Refused(number) => refused(h, number),
+        RowAnswer::None => tell(h, b'N'),
+        RowAnswer::Row(row) => row_told(h, row, rows, out),
+    }
+}
+
+// E
+pub fn one_cell(h: Header, numbers: &[u32], rows: &[u32], keys: &[u32]) -> Said {
+    let key = part(numbers, 1, numbers.len());
+    match reading::get_row_column(h, rows, keys, key, number_at(numbers, 0)) {
+        CellAnswer::Refused(number) => refused(h, number),
+        CellAnswer::None => tell(h, b'N'),
+        CellAnswer::Cell(cell) => tell_one(h, b'C', cell),
+    }
+}
+
+pub fn range_told(h: Header, answer: RangeAnswer) -> Said {
+    match answer {
+        RangeAnswer::Refused(number) => refused(h, number),
+        RangeAnswer::None => tell(h, b'N'),
+        RangeAnswer::Range(start, end) => tell_three(h, b'S', 0, start, end),
+    }
+}
+
+// V
+pub fn version(h: Header) -> Said {
+    match reading::version(h) {
+        VersionAnswer::Refused(number) => refused(h, number),
+        VersionAnswer::Version(v) => tell_two(h, b'V', v.generation, v.rows),
+    }
+}
