@@ -10,7 +10,7 @@ use lib.Pow.{pow-pos, shl-exact}
 use lib.Bits.{bitAnd, bitOr, and-mask, or-shifted-r}
 use lib.Count.{ones}
 use lib.Dec.{eqb}
-use lib.ListN.{length, take, drop, getD, set, length-take, length-drop, drop-of-length-le}
+use lib.ListN.{length, take, drop, getD, set, length-take, length-drop, take-append-drop, drop-of-length-le}
 use lib.Seq.{drop-cons, drop-drop, length-take-le, getD-append-add, getD-drop}
 use borrow.Author.Tests.{eq-eqb, ne-eqb}
 use borrow.Rule.Slice.PartMut.{putMid}
@@ -47,6 +47,13 @@ moved-part l to from width h k =
     ap (λ (x : List ℕ). take width (drop (from - to) x)) (part-to-end l to) ∙ ap (take width) (drop-drop (from - to) to l ∙ ap (λ (n : ℕ). drop n l) e) in
     ap₂ (λ (x : List ℕ) (n : ℕ). putMid to (length l - to) l (x ++ drop n (take (length l - to) (drop to l)))) row (sym w)
     ∙ put-part l (take width (drop from l)) to
+
+-- a row moved to where it stands
+pub moved-nowhere : (l : List ℕ) (to from width : ℕ) → to ≡ from → from + width ≤ length l → l ≡ putAt l to (take width (drop from l))
+unfolding putAt
+moved-nowhere l to from width e k =
+    let w : length (take width (drop to l)) ≡ width = simp (length-take, length-drop) (omega arith) in
+    rw (← e, w, ← drop-drop width to l, take-append-drop width (drop to l)) (sym (take-append-drop to l))
 
 -- ---- the same cells
 

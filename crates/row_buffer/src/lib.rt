@@ -61,11 +61,14 @@ fn move_row(part: &mut [u32], gap: usize, width: usize)
     }
 }
 
-// Moves a row down to a place at or below its own.
+// Moves a row down to a place at or below its own. Where that is its own nothing is to be done.
 pub fn move_down(rows: &mut [u32], to: usize, from: usize, width: usize)
     requires { ⌜ (to ≤ from) × (from + width ≤ length (now rows)) ⌝ }
     ensures { λ _. ⌜ now (rows .exit) ≡ putAt (now (rows .entry)) to (take width (drop from (now (rows .entry)))) ⌝ }
 {
+    if to == from {
+        return;
+    }
     let gap = from - to;
     move_row(&mut rows[to..], gap, width);
 }
