@@ -69,7 +69,7 @@ struct State {
     is_over: bool,
 }
 
-// Reads a line and answers it.
+// Reads a line and answers it. After one that the end of the input ended, the input is over.
 fn turn(
     state: State,
     line: &mut [u8; KEPT],
@@ -99,7 +99,7 @@ fn turn(
     State {
         header: after,
         input: input,
-        is_over: false,
+        is_over: read.is_last,
     }
 }
 

@@ -59,10 +59,11 @@ pub struct Input {
     pub end: usize,
 }
 
-// The bytes of a line that its lent store holds, or the input is over.
+// The bytes of a line that its lent store holds, and whether the end of the input ended it; or the input is over.
 pub struct Line {
     pub input: Input,
     pub length: usize,
+    pub is_last: bool,
     pub is_over: bool,
 }
 
@@ -97,6 +98,7 @@ pub fn next_line(line: &mut [u8], chunk: &mut [u8], from: Input) -> Line
             return Line {
                 input: input,
                 length: length,
+                is_last: true,
                 is_over: length == 0,
             };
         }
@@ -107,6 +109,7 @@ pub fn next_line(line: &mut [u8], chunk: &mut [u8], from: Input) -> Line
             return Line {
                 input: input,
                 length: length,
+                is_last: false,
                 is_over: false,
             };
         }
@@ -115,6 +118,7 @@ pub fn next_line(line: &mut [u8], chunk: &mut [u8], from: Input) -> Line
     Line {
         input: input,
         length: length,
+        is_last: true,
         is_over: length == 0,
     }
 }

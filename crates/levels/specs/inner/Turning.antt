@@ -3,6 +3,7 @@
 use Prim.Native.Nat.{ℕ, _≤_, _<_}
 use mathlib.Core.Path.{_≡_, refl, sym}
 use mathlib.Core.Bool.{Bool, true, false, cond, false≢true}
+use mathlib.Core.Logic.{_⊎_, inl, inr}
 use mathlib.Core.List.{List, [], _∷_, _++_}
 use native.Mathlib.Omega.{arith}
 use lib.ListN.{length, take}
@@ -20,23 +21,22 @@ pub record Replied (line : List ℕ) (s s′ : Stores) (text : List ℕ) : Type 
   pub used : ℕ
   pub answering : Answering line s s′ text used
 
--- A line was read and answered: the bytes before, and those that reads brought, are the line, its newline (10), unless the input
--- ended it, and the bytes that are left.
-pub record LineDone (before : List ℕ) (s : Stores) (rest : List ℕ) (s′ : Stores) (text : List ℕ) : Type 0 where
+-- A line was read and answered: the bytes before, and those that reads brought, are the line, its newline (10) and the bytes that
+-- are left; the last line has no newline, since the end of the input ended it.
+pub record LineDone (before : List ℕ) (s : Stores) (rest : List ℕ) (last : Bool) (s′ : Stores) (text : List ℕ) : Type 0 where
   pub line : List ℕ
   pub no-newline : has 10 line ≡ false
   pub brought : List ℕ
-  pub ended : Bool
-  pub balance : before ++ brought ≡ line ++ cond ended (10 ∷ rest) rest
-  pub last : ended ≡ false → (rest ≡ []) × (0 < length line)
+  pub balance : before ++ brought ≡ line ++ cond last rest (10 ∷ rest)
+  pub at-end : last ≡ true → (rest ≡ []) × (0 < length line)
   pub stores-lent : lent s ≡ programLengths
   pub replied : Replied line s s′ text
 
--- or the input is over, which it is only where no byte is left
+-- A turn: a line that a newline ended, or the input is over, with a last line or where no byte is left.
 pub record Turned (before : List ℕ) (s : Stores) (over : Bool) (chunk : List ℕ) (input : Input) (s′ : Stores) (text : List ℕ) : Type 0 where
   pub inside : input .end ≤ length chunk
-  pub goes-on : over ≡ false → LineDone before s (unread chunk input) s′ text
-  pub stays : over ≡ true → (s′ ≡ s) × (before ≡ [])
+  pub goes-on : over ≡ false → LineDone before s (unread chunk input) false s′ text
+  pub ends : over ≡ true → LineDone before s (unread chunk input) true s′ text ⊎ ((s′ ≡ s) × (before ≡ []))
 
 -- the program's stores
 pub lent-program : (s : Stores) → length (s .rows) ≡ 8192 → length (s .keys) ≡ 2048 → length (s .sorts) ≡ 2048 → length (s .pending) ≡ 2048
@@ -49,31 +49,29 @@ module _ {before line chunk : List ℕ} {r : Line} {s : Stores} (k : Took before
       record {
         inside = k .inside;
         goes-on = λ e. absurd (false≢true (sym e));
-        stays = λ e. (refl, k .over over (omega (arith, wide)));
+        ends = λ e. inr (refl, k .over over (omega (arith, wide)));
       }
 
   -- of a line no more than 121 bytes are kept, which changes no answer
   pub turned-line : {s′ : Stores} {text : List ℕ} → lent s ≡ programLengths → r .«is_over» ≡ false → Replied (take (r .length) line) s s′ text
-      → Turned before s false chunk (r .input) s′ text
-  turned-line l on m =
-      let t = k .goes-on on in
-      record {
-        inside = k .inside;
-        goes-on = λ e. record {
-          line = t .bytes;
-          no-newline = t .no-newline;
-          brought = t .brought;
-          ended = t .ended;
-          balance = t .balance;
-          last = t .last;
-          stores-lent = l;
-          replied = record {
-            used = m .used;
-            answering = record {
-              inside = m .answering .inside;
-              answers = λ p h. rw (rw wide at (t .kept), line-kept (lent s) p (t .bytes)) at (m .answering .answers p h);
+      → Turned before s (r .«is_last») chunk (r .input) s′ text
+  turned-line {s′} {text} l on m = record { inside = k .inside; goes-on = λ e. rw e at done; ends = λ e. inl (rw e at done) }
+    where
+      done : LineDone before s (unread chunk (r .input)) (r .«is_last») s′ text
+      done =
+          let t = k .goes-on on in
+          record {
+            line = t .bytes;
+            no-newline = t .no-newline;
+            brought = t .brought;
+            balance = t .balance;
+            at-end = t .at-end;
+            stores-lent = l;
+            replied = record {
+              used = m .used;
+              answering = record {
+                inside = m .answering .inside;
+                answers = λ p h. rw (rw wide at (t .kept), line-kept (lent s) p (t .bytes)) at (m .answering .answers p h);
+              };
             };
-          };
-        };
-        stays = λ e. absurd (false≢true e);
-      }
+          }

@@ -17,7 +17,7 @@ use Rattle.lists.specs.Laws.Rising.{has-append}
 use Rattle.levels_lines.specs.declared.Input.{Input}
 use Rattle.levels_lines.specs.declared.Line.{Line}
 use Rattle.levels_lines.specs.declared.Scan.{Scan}
-use Rattle.levels_lines.specs.inner.Scanning.{Kept, before-newline, Scanned, take-in, left, left-none}
+use Rattle.levels_lines.specs.inner.Scanning.{before-newline, Scanned, take-in, left, left-none}
 
 -- the bytes of a chunk that are not read yet
 abbrev pub unread : List ℕ → Input → List ℕ
@@ -29,21 +29,19 @@ pub record Refilled (chunk : List ℕ) (input : Input) (chunk′ : List ℕ) (r 
   pub brought : List ℕ
   pub there : unread chunk′ r ≡ unread chunk input ++ brought
 
--- a line of which so many bytes are kept in a store
-pub record LineTaken (before line : List ℕ) (count : ℕ) (rest : List ℕ) : Type 0 where
+-- a line of which so many bytes are kept in a store: ended by a newline, or the last one, which the end of the input ended
+pub record LineTaken (before line : List ℕ) (count : ℕ) (rest : List ℕ) (last : Bool) : Type 0 where
   pub bytes : List ℕ
   pub no-newline : has 10 bytes ≡ false
   pub counted : count ≡ min (length line) (length bytes)
   pub kept : take count line ≡ take (length line) bytes
-  -- ended by a newline, or by the end of the input
   pub brought : List ℕ
-  pub ended : Bool
-  pub balance : before ++ brought ≡ bytes ++ cond ended (10 ∷ rest) rest
-  pub last : ended ≡ false → (rest ≡ []) × (0 < length bytes)
+  pub balance : before ++ brought ≡ bytes ++ cond last rest (10 ∷ rest)
+  pub at-end : last ≡ true → (rest ≡ []) × (0 < length bytes)
 
 pub record Took (before line chunk : List ℕ) (r : Line) : Type 0 where
   pub inside : r .input .end ≤ length chunk
-  pub goes-on : r .«is_over» ≡ false → LineTaken before line (r .length) (unread chunk (r .input))
+  pub goes-on : r .«is_over» ≡ false → LineTaken before line (r .length) (unread chunk (r .input)) (r .«is_last»)
   -- the input is over only where no byte is left
   pub over : r .«is_over» ≡ true → 0 < length line → before ≡ []
 
@@ -135,7 +133,7 @@ none-before (x ∷ a) b e = absurd (omega (arith, e))
 
 -- the input has ended: with a line, if there is a byte of it, else it is over
 module _ {before line : List ℕ} {count : ℕ} (chunk : List ℕ) (input : Input) (v : Taking before line count (unread chunk input)) (none : input .end ≤ input .next) where
-  taking-last : (eqb count 0 ≡ false) → LineTaken before line count (unread chunk input)
+  taking-last : (eqb count 0 ≡ false) → LineTaken before line count (unread chunk input) true
   taking-last e =
       let some : 0 < count = omega (arith, eqb-false count 0 e) in
       record {
@@ -144,9 +142,8 @@ module _ {before line : List ℕ} {count : ℕ} (chunk : List ℕ) (input : Inpu
         counted = v .counted;
         kept = v .kept;
         brought = v .brought;
-        ended = false;
         balance = v .balance;
-        last = λ f. (left-none chunk (input .next) (input .end) none, omega (arith, v .counted, some));
+        at-end = λ f. (left-none chunk (input .next) (input .end) none, omega (arith, v .counted, some));
       }
 
   taking-nothing : (eqb count 0 ≡ true) → 0 < length line → before ≡ []
@@ -155,7 +152,7 @@ module _ {before line : List ℕ} {count : ℕ} (chunk : List ℕ) (input : Inpu
       let no-rest : length (unread chunk input) ≡ 0 = ap length (left-none chunk (input .next) (input .end) none) in
       none-before before (v .brought) (omega (arith, ap length (v .balance), length-append (v .bytes) (unread chunk input), no-bytes, no-rest))
 
-  pub taking-over : input .end ≤ length chunk → Took before line chunk (record { input = input; length = count; «is_over» = eqb count 0 })
+  pub taking-over : input .end ≤ length chunk → Took before line chunk (record { input = input; length = count; «is_last» = true; «is_over» = eqb count 0 })
   taking-over inside = record { inside = inside; goes-on = taking-last; over = taking-nothing }
 
 module _ {before line line′ : List ℕ} {count : ℕ} {r : Scan} (chunk : List ℕ) (at end : ℕ) (inside : end ≤ length chunk) (some : at < end) (v : Taking before line count (left chunk at end))
@@ -192,7 +189,7 @@ module _ {before line line′ : List ℕ} {count : ℕ} {r : Scan} (chunk : List
       }
 
   -- the line ends
-  pub taking-line : r .«is_whole» ≡ true → LineTaken before line′ (r .length) (left chunk (r .next) end)
+  pub taking-line : r .«is_whole» ≡ true → LineTaken before line′ (r .length) (left chunk (r .next) end) false
   taking-line e =
       let there : has 10 (left chunk at end) ≡ true = sym (k .whole) ∙ e in
       let n : ℕ = length (before-newline (left chunk at end)) in
@@ -205,11 +202,10 @@ module _ {before line line′ : List ℕ} {count : ℕ} {r : Scan} (chunk : List
         counted = here-counted;
         kept = here-kept;
         brought = v .brought;
-        ended = true;
         balance =
             v .balance
             ∙ ap (λ (x : List ℕ). v .bytes ++ x) parts
             ∙ sym (append-assoc (v .bytes) (before-newline (left chunk at end)) (10 ∷ drop (suc n) (left chunk at end)))
             ∙ rw (next, left-drop chunk at end (suc n) (omega arith));
-        last = λ f. absurd (false≢true (sym f));
+        at-end = λ f. absurd (false≢true f);
       }
