@@ -176,6 +176,7 @@ module _ {h : Header} {rows sorts ids : List ℕ} {questions : List Question} (h
         taken = t .taken ∙ (let z : 0 + length questions ≡ length questions = omega arith in z);
         gathered = t .gathered;
         told = t .told;
+        inside = omega (arith, held, room);
         leaves = λ sound. rw left (rw (room, start) at (t .leaves sound));
         run = run;
         ids-left = λ o generation calls keys pending history refined.

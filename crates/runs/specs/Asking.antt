@@ -1,6 +1,6 @@
 -- What `ask` promises: a list of questions, put one after another on the ids that the last accepted one left. It is a run, so that
 -- the claim of the order's term 3 holds of the ids left. Assumes nothing.
-use Prim.Native.Nat.{ℕ, min}
+use Prim.Native.Nat.{ℕ, _≤_, min}
 use mathlib.Core.Path.{_≡_}
 use mathlib.Core.Bool.{true}
 use mathlib.Core.List.{List}
@@ -31,6 +31,8 @@ module _ (h : Header) (rows sorts : List ℕ) (start : Subset) (ids : List ℕ) 
     -- what was accepted, and whether some of it refined
     pub gathered : Gathered
     pub told : answer .refined ≡ gathered .refined
+    -- ids left in a lent list are as many as are told
+    pub inside : answer .count ≤ shorter first second
     -- both and the ids left are what the questions leave; a range step's answer is promised of sound sort entries alone, as
     -- `fast_subset`'s is
     pub leaves : entriesSound (entriesOf (h .entries) sorts) (h .rows) ≡ true
