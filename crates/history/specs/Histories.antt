@@ -14,8 +14,8 @@ use Rattle.table.specs.Promises.{Stores, stores, Body, body, bodyOf, joined, Co
 abbrev pub noWords : CompactionWords
 noWords = compactionWords [] []
 
--- one call: from what it is lent to what it leaves there, by the promise of its entry point, with the lengths of what it is
--- lent. A store that it is not lent is as it was
+-- one call: from what it is lent to what it leaves there, by the promise of its entry point, with the stores' lengths. A store
+-- that it is not lent is as it was
 pub data Called (s : Stores) : LentCall → Stores → Type 0 where
   stages : (r : Staged) (answer : TableAnswer) (pending′ : List ℕ) → Staging (s .header) (s .pending) r answer pending′
       → Called s

@@ -1,8 +1,9 @@
 -- The key index (document 01, "Key index"): what a key store must hold. Its layout is our choice: slots, each 0 if
 -- it is free, else a row's number plus 1 with 15 bits of its key's compact hash above, by which most other keys are told apart
 -- without a look at their rows. A key's home slot is its compact hash spread over the slots; its row stands in some slot from
--- there on, going round, with no free slot on the way. The slots in use grow with the rows: of 2 × capacity they are the first
--- 2 × `roomFor`, and the others may hold anything. Assumes nothing.
+-- there on, going round, with no free slot on the way. The slots in use grow and shrink with the rows: of 2 × capacity they are
+-- the first 2 × `roomFor`, and the others may hold anything. So a walk from a key's home finds its live row, or a free slot if
+-- there is none: what a lookup answers is promised in the paper's terms (`table` `LookedUp`). Assumes nothing.
 use Prim.Native.Nat.{ℕ, _+_, _*_, _/_, _%_, _^_, _<_, min}
 use mathlib.Core.Path.{_≡_}
 use mathlib.Core.Bool.{true, cond}

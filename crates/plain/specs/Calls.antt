@@ -38,7 +38,7 @@ done p clearing = cleared p
 unfoldable pub after : Plain → Lengths → Call → Plain
 after p l c = cond (eqb (refusal p l c) 0) (done p c) p
 
--- a call and the lengths of the stores that it is lent
+-- a call and the lengths of stores: those that it is lent are the ones that its ladder looks at
 pub record LentCall : Type 0 where
   pub call : Call
   pub lengths : Lengths

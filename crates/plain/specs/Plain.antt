@@ -194,6 +194,6 @@ unfoldable pub mergeDrops : Plain → ℕ
 mergeDrops p = let m = applied p in cond (compactsAfter (m .status) (m .table)) (dead (m .table)) 0
 
 -- Clear: "Unless refused, empties pending; with rows, the rest too, and the generation rises by one". With rows nothing is
--- left but the opening's numbers; without, the largest value stays
+-- left but the opening's numbers and the generation; without, the largest value stays
 unfoldable pub cleared : Plain → Plain
 cleared p = cond (ltb 0 (length (p .rows))) (opened (p .opening) (p .generation + 1)) (unstaged p)

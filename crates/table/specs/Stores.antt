@@ -30,9 +30,10 @@ abbrev pub marked : List ℕ → List ℕ
 marked cells = set cells 0 4294967295
 
 -- The rows as stored, over those that were stored before: a live row has its cells; a dead one the dead mark, and behind it
--- what stood there before, or, if it is new, what was appended. Say 7 1 160 and, dead already, 4294967295 2 148 were stored,
--- and a merge removes key 7 and inserts 8 1 163 and then 8 1 170 under rule 1. Stored are 4294967295 1 160 (dies now: its
--- other cells stay), 4294967295 2 148 (dead before: as it was), 4294967295 1 163 (appended and dead in one merge) and 8 1 170.
+-- what stood there before, or, if it is new, what was appended. Say the first column is the key and the sort column, 7 1 160 and,
+-- dead already, 4294967295 2 148 were stored, and a merge removes key 7 and inserts 8 1 163 and then 8 1 170 under rule 1. Stored
+-- are 4294967295 1 160 (dies now: its other cells stay), 4294967295 2 148 (dead before: as it was), 4294967295 1 163 (appended and
+-- dead in one merge) and 8 1 170.
 unfoldable pub stored : List Row → List (List ℕ) → List (List ℕ)
 stored [] before = []
 stored (row ∷ rows) [] = cond (row .live) (row .cells) (marked (row .cells)) ∷ stored rows []
