@@ -1,12 +1,12 @@
 -- Steps of an append in the code's form: what an admission says once its answer is known, the key store with the row, and the
 -- answers of the parts put together. Assumes nothing.
-use Prim.Native.Nat.{ℕ, _+_, _*_, _≤_, _<_}
+use Prim.Native.Nat.{ℕ, _+_, _*_, _<_}
 use mathlib.Core.Path.{_≡_, refl, sym, ap, _∙_}
 use mathlib.Core.Bool.{Bool, true, false, false≢true}
 use mathlib.Core.List.{List}
 use native.Mathlib.Nat.{add-zero}
 use native.Mathlib.Omega.{arith}
-use lib.ListN.{length, getD, set, length-set}
+use lib.ListN.{length, getD, set}
 use Rattle.lists.specs.Lists.{putAt}
 use Rattle.key_index.specs.declared.Keyed.{Keyed}
 use Rattle.key_index.specs.Slots.{slots, tagged}
@@ -19,7 +19,6 @@ use Rattle.appending.specs.declared.Insertion.{Insertion}
 use Rattle.appending.specs.declared.Admission.{Admission}
 use Rattle.appending.specs.declared.Admission.the-variants.{Stop, Entries}
 use Rattle.table.specs.Sound.{keyedOf}
-use Rattle.table.specs.inner.Whole.{wholeOf}
 use Rattle.table.specs.Promises.{SlotsPast}
 use Rattle.table.specs.Laws.Refusals.{whole-fits}
 use Rattle.appending.specs.inner.Appending.{grownTo, Stops, Entered, AdmissionIs, outgrown, Leading, Rebuildable, RebuiltGrown, Stayed, Grew, NewIs, Replaced, ReplaceIs}

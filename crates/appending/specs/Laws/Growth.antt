@@ -18,12 +18,11 @@ use Rattle.row_buffer.specs.Laws.Rows.{stale-rows}
 use Rattle.sort_entries.specs.Entries.{Entry, entriesOf, entryWords, push, rebuilt}
 use Rattle.sort_entries.specs.Laws.Push.{rebuilt-snoc}
 use Rattle.sort_entries.specs.Laws.Stores.{length-entriesOf}
-use Rattle.plain.specs.Plain.{Row, Plain, withRows, withRow, dead, raised}
+use Rattle.plain.specs.Plain.{Row, Plain, withRows, withRow, dead}
 use Rattle.plain.specs.Proper.{Proper, rowOf}
 use Rattle.plain.specs.Laws.Rows.{noRow, liveRow, live-below, raised-same}
 use Rattle.plain.specs.Laws.Proper.{openable-bounds}
 use Rattle.table.specs.declared.Header.{Header}
-use Rattle.table.specs.declared.Largest.{Largest}
 use Rattle.table.specs.declared.Largest.the-variants.{Value}
 use Rattle.table.specs.Numbers.{largestOf}
 use Rattle.table.specs.Stores.{entries, headerOf, marked, stored, rowStore, sortStore}

@@ -1,15 +1,14 @@
 -- What is done around a question keeps the promise under its C name. Assumes nothing.
 use Prim.Native.Nat.{ℕ}
-use mathlib.Core.Path.{_≡_, refl, subst, _∙_, ap}
-use mathlib.Core.Bool.{true, _||_}
+use mathlib.Core.Path.{_≡_, refl, subst, _∙_}
+use mathlib.Core.Bool.{true}
 use mathlib.Core.List.{List, []}
 use native.Mathlib.Omega.{arith}
 use lib.ListN.{length}
-use lib.Dec.{ltb}
 use Rattle.lists.specs.Lists.{putAt}
 use Rattle.refusals.specs.Refusals.{first, reply}
 use Rattle.offsets.specs.declared.SubsetAnswer.{SubsetAnswer}
-use Rattle.offsets.specs.Subsets.{Subset, size}
+use Rattle.offsets.specs.Subsets.{Subset}
 use Rattle.offsets.specs.Laws.Answers.{written-none}
 use Rattle.constraints.specs.declared.Constraint.{Constraint}
 use Rattle.table.specs.declared.Header.{Header}

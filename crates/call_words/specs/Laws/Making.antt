@@ -1,14 +1,13 @@
 -- Calls made one behind the other, and the step of each. Assumes nothing.
-use Prim.Native.Nat.{ℕ, _≤_, _<_}
+use Prim.Native.Nat.{ℕ}
 use mathlib.Core.Path.{_≡_, refl, sym, ap, _∙_}
 use mathlib.Core.Logic.{inl, inr}
 use mathlib.Core.List.{List, [], _∷_, _++_, map-append}
 use native.Mathlib.Omega.{arith}
-use lib.ListN.{length}
 use Rattle.refusals.specs.Laws.Replies.{some-number}
 use Rattle.plain.specs.Staged.{Staged}
 use Rattle.plain.specs.Refusing.{Lengths, storesShort, wordsShort, compactLadder}
-use Rattle.plain.specs.Plain.{Plain, merged, compacted}
+use Rattle.plain.specs.Plain.{Plain, compacted}
 use Rattle.plain.specs.Calls.{Call, staging, merging, compacting, clearing, refusal, done, after, LentCall, afterAll}
 use Rattle.plain.specs.Laws.Calls.{accepted-done}
 use Rattle.table.specs.declared.Header.{Header}
@@ -16,7 +15,7 @@ use Rattle.table.specs.declared.TableAnswer.{TableAnswer}
 use Rattle.table.specs.declared.MergeAnswer.{MergeAnswer}
 use Rattle.table.specs.Numbers.{tableSays, mergeSays}
 use Rattle.table.specs.Refusing.{mergeRefusal, compactRefusal}
-use Rattle.table.specs.Promises.{Stores, stores, body, joined, CompactionWords, compactionWords, lengths, lengthsLent, Represents, SlotsPast, WordsPast, headerAfter, headerMerged, Staging, Merging, Compacting, Clearing}
+use Rattle.table.specs.Promises.{Stores, stores, body, CompactionWords, compactionWords, lengths, Represents, SlotsPast, WordsPast, headerAfter, headerMerged, Staging, Merging, Compacting, Clearing}
 use Rattle.table.specs.Laws.Ladders.{merge-ladders, compact-ladders}
 use Rattle.history.specs.Histories.{Called, stages, merges, compacts, clears, end, next}
 use Rattle.history.specs.Laws.Calls.{steps-represents}

@@ -15,7 +15,7 @@ use lib.Dec.{ltb}
 use Rattle.lists.specs.Lists.{putAt, keep, rowAt, rowsOf, flat}
 use Rattle.lists.specs.Laws.Keep.{split, keep-append, length-keep, count-le, every-keep}
 use Rattle.lists.specs.Laws.Parts.{length-putAt, putAt-then, part-after}
-use Rattle.lists.specs.Laws.Rows.{widths, length-rowsOf, length-rowAt, rowsOf-snoc, rowsOf-widths, widths-keep, length-flat, flat-append, getD-rowAt, getD-rowsOf, rowsOf-put-flat}
+use Rattle.lists.specs.Laws.Rows.{widths, length-rowsOf, length-rowAt, rowsOf-snoc, rowsOf-widths, widths-keep, length-flat, flat-append, getD-rowsOf, rowsOf-put-flat}
 use Rattle.constraints.specs.Constraints.{isLive}
 use Rattle.sort_entries.specs.Entries.{Entry, entry, entriesOf, entryWords, last, push, rebuilt}
 use Rattle.sort_entries.specs.inner.Append.{Append}

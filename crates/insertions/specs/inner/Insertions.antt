@@ -5,7 +5,7 @@ use mathlib.Core.Bool.{false}
 use mathlib.Core.List.{List, _∷_}
 use lib.ListN.{getD}
 use Rattle.plain.specs.Staged.{Staged, inserts}
-use Rattle.plain.specs.Plain.{insertAll, inserted, Plain, insertion}
+use Rattle.plain.specs.Plain.{insertAll, inserted, Plain}
 use Rattle.table.specs.declared.Header.{Header}
 use Rattle.insertions.specs.declared.Passed.{Passed}
 use Rattle.table.specs.Numbers.{openingOf}

@@ -3,7 +3,7 @@
 use Prim.Native.Nat.{ℕ, zero, suc, _+_, _*_, _≤_, _<_}
 use mathlib.Core.Path.{_≡_, refl, sym, ap, ap₂, _∙_}
 use mathlib.Core.Logic.{inl, inr}
-use mathlib.Core.Bool.{Bool, true, false, false≢true}
+use mathlib.Core.Bool.{Bool, true, false}
 use mathlib.Core.Option.{Option, none, some}
 use mathlib.Core.List.{List}
 use native.Mathlib.Nat.{add-zero, suc-mul}
@@ -24,15 +24,15 @@ use Rattle.merge_rules.specs.Survivor.{survivor}
 use Rattle.merge_rules.specs.Laws.Rules.{made-length, made-keys, made-first, kept-of, made-of, survives, survivor-length, ruled-made}
 use Rattle.key_index.specs.declared.Found.{Found}
 use Rattle.key_index.specs.declared.Found.the-variants.{None, At}
-use Rattle.key_index.specs.Slots.{LiveAt, keyAt, roomFor, slots, KeysSound, tagged}
+use Rattle.key_index.specs.Slots.{roomFor, slots, KeysSound, tagged}
 use Rattle.key_index.specs.inner.Index.{Fits, FoundAt, FoundIs, PutIs}
 use Rattle.key_index.specs.Laws.Index.{put-sound, replace-sound}
 use Rattle.key_index.specs.Laws.Rooms.{room-enough}
 use Rattle.key_index.specs.Laws.Rows.{WithRows, grown-rows, swapped-rows}
-use Rattle.plain.specs.Staged.{insert, skipped}
+use Rattle.plain.specs.Staged.{skipped}
 use Rattle.plain.specs.Plain.{Row, Plain, withRows, withRow, lookup, dead, liveWithKey, killIf, stop, append, put, insertion}
 use Rattle.plain.specs.Proper.{rowOf}
-use Rattle.plain.specs.Laws.Rows.{noRow, liveWithKey-live, apart-of}
+use Rattle.plain.specs.Laws.Rows.{apart-of}
 use Rattle.plain.specs.Laws.Proper.{insertion-proper}
 use Rattle.table.specs.declared.Header.{Header}
 use Rattle.appending.specs.declared.Insertion.{Insertion}
@@ -46,8 +46,7 @@ use Rattle.inserts.specs.inner.Inserting.{Comes, Inserting}
 use Rattle.appending.specs.inner.Appending.{grownTo, outgrown, Leading, Grew, NewIs, Replaced}
 use Rattle.inserts.specs.inner.Ruling.{Changes, rowMade, KnownIs}
 use Rattle.table.specs.Laws.Stored.{marked-dead}
-use Rattle.table.specs.Laws.Shown.{in-live, live-cells}
-use Rattle.table.specs.Laws.Sound.{represents-sound}
+use Rattle.table.specs.Laws.Shown.{in-live}
 use Rattle.table.specs.Laws.Lookup.{live-passes, row-lookup, none-found}
 use Rattle.pending.specs.Laws.Dying.{killAt, killIf-one, dead-killAt}
 use Rattle.appending.specs.Laws.Admission.{stop-same}

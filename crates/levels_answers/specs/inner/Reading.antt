@@ -1,17 +1,16 @@
 -- From the bytes of a line to what it says, and from there to the bytes of its answer. Assumes nothing.
-use Prim.Native.Nat.{ℕ, _+_, _*_, _≤_, _<_}
-use mathlib.Core.Path.{_≡_, sym, ap, _∙_}
+use Prim.Native.Nat.{ℕ, _≤_}
+use mathlib.Core.Path.{_≡_, sym, _∙_}
 use mathlib.Core.Logic.{inl, inr}
 use mathlib.Core.Bool.{true, false, false≢true}
 use mathlib.Core.List.{List}
-use mathlib.Core.Option.{Option, none, some}
+use mathlib.Core.Option.{Option}
 use native.Mathlib.Omega.{arith}
 use lib.ListN.{length, take}
 use Rattle.lists.specs.Laws.Keep.{split}
 use Rattle.lists.specs.Laws.Search.{take-put}
 use Rattle.plain.specs.Refusing.{Lengths}
 use Rattle.plain.specs.Plain.{Plain}
-use Rattle.table.specs.declared.Header.{Header}
 use Rattle.table.specs.Refusing.{outside}
 use Rattle.table.specs.Promises.{Stores, Represents}
 use Rattle.table.specs.Laws.Refusals.{outside-inside}
@@ -21,8 +20,8 @@ use Rattle.levels_text.specs.declared.Parsed.the-variants.{Wrong, Line}
 use Rattle.levels_text.specs.Lines.{letter, numbers, ofForms}
 use Rattle.levels_text.specs.inner.Reading.{ParsedIs, parsed-forms}
 use Rattle.levels_said.specs.declared.Said.{Said}
-use Rattle.levels_said.specs.declared.Said.the-variants.{Refused, Listing}
-use Rattle.levels_said.specs.Said.{Turn, turn, lineTurn}
+use Rattle.levels_said.specs.declared.Said.the-variants.{Refused}
+use Rattle.levels_said.specs.Said.{turn, lineTurn}
 use Rattle.levels_said.specs.Answers.{Held, no-table, table, lent, Answering}
 use Rattle.levels_said.specs.inner.Saying.{Listable, Telling, Told, Serving}
 use Rattle.levels_said.specs.Laws.Turns.{told-refused}

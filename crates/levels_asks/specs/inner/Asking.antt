@@ -13,7 +13,7 @@ use Rattle.table.specs.declared.VersionAnswer.the-variants.{Refused as VersionR
 use Rattle.table.specs.Numbers.{rangeSays, versionSays}
 use Rattle.table.specs.Promises.{stores, RangeRead, VersionRead}
 use Rattle.levels_said.specs.declared.Said.{Said}
-use Rattle.levels_said.specs.declared.Said.the-variants.{Refused, NoRange, Range, Version, Listing}
+use Rattle.levels_said.specs.declared.Said.the-variants.{Refused, NoRange, Range}
 use Rattle.levels_said.specs.inner.Saying.{saidOf, saysRange, saysVersion, saysListing, Serving}
 use Rattle.levels_said.specs.Laws.Letters.{turn-range, turn-version, turn-list}
 use Rattle.levels_said.specs.Laws.Turns.{does-told}

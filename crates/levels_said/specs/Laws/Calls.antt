@@ -1,5 +1,5 @@
 -- Each call's promise serves its line, whatever table the stores hold. Assumes nothing.
-use Prim.Native.Nat.{ℕ, zero, suc, _<_}
+use Prim.Native.Nat.{ℕ, zero, suc}
 use mathlib.Core.Path.{_≡_, refl, _∙_}
 use mathlib.Core.Bool.{true}
 use mathlib.Core.List.{List, []}
@@ -14,7 +14,7 @@ use Rattle.table.specs.declared.TableAnswer.{TableAnswer}
 use Rattle.table.specs.declared.MergeAnswer.{MergeAnswer}
 use Rattle.table.specs.Numbers.{tableSays, mergeSays}
 use Rattle.table.specs.Refusing.{outside, pendingOutside, stageRefusal, mergeRefusal, compactRefusal, clearRefusal}
-use Rattle.table.specs.Promises.{Stores, stores, body, CompactionWords, compactionWords, lengths, lengthsLent, headerAfter, headerMerged, mergeOf, Staging, Merging, Compacting, Clearing}
+use Rattle.table.specs.Promises.{stores, body, compactionWords, lengths, headerAfter, headerMerged, mergeOf, Staging, Merging, Compacting, Clearing}
 use Rattle.table.specs.Laws.Ladders.{stage-ladders, merge-ladders, compact-ladders, clear-ladders}
 use Rattle.table.specs.Laws.Keeps.{staging-done, staging-refused, merging-done, merging-refused, compacting-done, compacting-refused, clearing-done, clearing-refused}
 use Rattle.levels_said.specs.declared.Served.{Served}

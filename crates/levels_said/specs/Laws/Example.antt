@@ -1,8 +1,7 @@
 -- The paper's example of a session comes out: the bytes of its lines, in ASCII, and of what they print. Assumes nothing.
 use Prim.Native.Nat.{ℕ}
 use mathlib.Core.Path.{_≡_, refl}
-use mathlib.Core.List.{List, [], _∷_, _++_}
-use mathlib.Core.Option.{Option, none}
+use mathlib.Core.List.{List, [], _∷_}
 use Rattle.lists.specs.Lists.{flat, every, any, same, count, keep, countFrom, firstOf}
 use Rattle.refusals.specs.Refusals.{first, reply}
 use Rattle.cells.specs.Cells.{isDead}
@@ -10,8 +9,8 @@ use Rattle.merge_rules.specs.Rules.{ruledColumn, signed, signedLess, smaller, l
 use Rattle.constraints.specs.Constraints.{known}
 use Rattle.sort_entries.specs.Entries.{entriesOf, entryWords, last, push, pushAll, rebuilt, firstRow, fastRange}
 use Rattle.plain.specs.Staged.{openable, wordsOf, wordsAll, inserts, hasKey, skipped, due}
-use Rattle.plain.specs.Refusing.{Lengths, storesShort, wordsShort, wrongWidth, noSuchRow, overfull, openRefusal, stageLadder, mergeLadder}
-use Rattle.plain.specs.Plain.{Plain, liveFrom, liveRows, lookup, dead, opened, stage, liveWithKey, killIf, withoutKey, withoutRow, removed, below, stop, raised, append, put, insertion, insertAll, applied, compacted, unstaged, compactsAfter, merged}
+use Rattle.plain.specs.Refusing.{storesShort, wordsShort, wrongWidth, noSuchRow, overfull, openRefusal, stageLadder, mergeLadder}
+use Rattle.plain.specs.Plain.{liveFrom, liveRows, lookup, dead, opened, stage, liveWithKey, killIf, withoutKey, withoutRow, removed, below, stop, raised, append, put, insertion, insertAll, applied, compacted, unstaged, compactsAfter, merged}
 use Rattle.plain.specs.Calls.{pendingShort, refusal, done, after}
 use Rattle.table.specs.Stores.{entries}
 use Rattle.table.specs.Promises.{fastSubset}

@@ -1,12 +1,12 @@
 -- The promise of an opening serves O, whatever table the stores hold. Assumes nothing.
 use Prim.Native.Nat.{ℕ, _≤_, _<_}
-use mathlib.Core.Path.{_≡_, refl, sym, _∙_}
+use mathlib.Core.Path.{_≡_, refl, _∙_}
 use mathlib.Core.Logic.{inl, inr}
 use mathlib.Core.List.{List, []}
 use mathlib.Core.Option.{Option, some}
 use native.Mathlib.Omega.{arith}
 use borrow.Author.Tests.{eq-eqb, ne-eqb, lt-ltb, le-ltb}
-use Rattle.refusals.specs.Refusals.{Reply, accepted, reply, verdict}
+use Rattle.refusals.specs.Refusals.{accepted, reply, verdict}
 use Rattle.refusals.specs.Laws.Replies.{some-number, ruled-refused}
 use Rattle.plain.specs.Staged.{Opening}
 use Rattle.plain.specs.Refusing.{Lengths, openRefusal, storesShort}
@@ -15,10 +15,9 @@ use Rattle.table.specs.declared.Header.{Header}
 use Rattle.table.specs.declared.TableAnswer.{TableAnswer}
 use Rattle.table.specs.Numbers.{tableSays}
 use Rattle.table.specs.Stores.{headerOf}
-use Rattle.table.specs.Promises.{Stores, stores, body, lengths, headerAfter, Represents, Opened}
+use Rattle.table.specs.Promises.{Stores, stores, body, lengths, headerAfter, Opened}
 use Rattle.table.specs.Laws.Replies.{reply-accepted}
 use Rattle.table.specs.Laws.Keeps.{opening-done}
-use Rattle.levels_said.specs.declared.Said.{Said}
 use Rattle.levels_said.specs.declared.Said.the-variants.{Refused}
 use Rattle.levels_said.specs.declared.Served.{Served}
 use Rattle.levels_said.specs.Said.{printing, replied, openNumber, opens}

@@ -1,5 +1,5 @@
 -- The promises of a fast range and a version serve F, V and L, whatever table the stores hold. Assumes nothing.
-use Prim.Native.Nat.{ℕ, suc, _*_, _≤_, _<_}
+use Prim.Native.Nat.{ℕ, suc, _*_, _≤_}
 use mathlib.Core.Path.{_≡_, refl, sym, ap, _∙_}
 use mathlib.Core.Logic.{inl, inr}
 use mathlib.Core.Bool.{true, cond}
@@ -10,8 +10,7 @@ use lib.ListN.{length}
 use borrow.Author.Tests.{le-ltb}
 use Rattle.lists.specs.Lists.{keep, rowsOf}
 use Rattle.lists.specs.Laws.Keep.{split}
-use Rattle.refusals.specs.Refusals.{accepted, reply, first, verdict}
-use Rattle.refusals.specs.Laws.Replies.{some-number}
+use Rattle.refusals.specs.Refusals.{first}
 use Rattle.offsets.specs.Subsets.{Subset, range, list}
 use Rattle.constraints.specs.declared.Constraint.{Constraint}
 use Rattle.constraints.specs.Constraints.{known, isLive}

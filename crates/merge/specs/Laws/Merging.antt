@@ -11,7 +11,7 @@ use Rattle.refusals.specs.Refusals.{accepted}
 use Rattle.lists.specs.Lists.{putAt, flat}
 use Rattle.lists.specs.Laws.Keep.{every-keep}
 use Rattle.plain.specs.Staged.{Staged, due, inserts}
-use Rattle.plain.specs.Plain.{Inserted, insertAll, Plain, dead, withoutRow, removed, insertion, applied, live as liveCount, compacted, unstaged, compactsAfter, merged, mergeKeeps, mergeDrops}
+use Rattle.plain.specs.Plain.{Inserted, insertAll, Plain, dead, withoutRow, removed, applied, live as liveCount, compacted, unstaged, compactsAfter, merged, mergeKeeps, mergeDrops}
 use Rattle.table.specs.declared.Header.{Header}
 use Rattle.plain.specs.Laws.Price.{compacted-live}
 use Rattle.table.specs.declared.Merge.{Merge}

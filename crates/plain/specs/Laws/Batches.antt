@@ -7,9 +7,7 @@ use mathlib.Core.Bool.{Bool, true, false, cond, not}
 use mathlib.Core.List.{List, [], _∷_, _++_, map, foldl, map-append, append-nil, append-assoc}
 use mathlib.Core.Option.{Option, none, some, Option·map}
 use native.Mathlib.Omega.{arith}
-use lib.Dec.{eqb}
 use lib.ListN.{take}
-use borrow.Author.Tests.{eqb-false}
 use Rattle.lists.specs.Lists.{keep, firstOf}
 use Rattle.lists.specs.Laws.Keep.{split, keep-append}
 use Rattle.refusals.specs.Refusals.{Reply, refused, accepted, reply}

@@ -18,7 +18,7 @@ use Rattle.lists.specs.Laws.Keep.{split, every-getD}
 use Rattle.lists.specs.Laws.Every.{every-head, every-tail, every-cons}
 use Rattle.refusals.specs.Refusals.{Reply, refused, accepted}
 use Rattle.plain.specs.Staged.{Opening, inserts}
-use Rattle.plain.specs.Plain.{Row, Plain, withRow, opened, stage, liveWithKey, killIf, removed, below, raised, stop, insertion, goOn, insertAll, applied, compacted, unstaged, compactsAfter, merged, cleared}
+use Rattle.plain.specs.Plain.{Row, Plain, opened, stage, liveWithKey, killIf, removed, below, raised, insertion, goOn, insertAll, applied, compacted, unstaged, compactsAfter, merged, cleared}
 use Rattle.plain.specs.Calls.{Call, staging, merging, compacting, clearing, refusal, done, after, LentCall, afterAll}
 use Rattle.plain.specs.Proper.{rowOf}
 use Rattle.plain.specs.Appending.{appendsOn, insertsAppend, mergeAppends, stampsOf, stampsDone, stampsAfter, stampsSince, greatest}

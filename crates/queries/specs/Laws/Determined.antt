@@ -16,7 +16,6 @@ use Rattle.queries.specs.declared.MatchAnswer.{MatchAnswer}
 use Rattle.queries.specs.declared.MatchAnswer.the-variants.{Refused, Match}
 use Rattle.queries.specs.declared.NextPlace.{NextPlace}
 use Rattle.queries.specs.declared.NextPlace.the-variants.{None, At}
-use Rattle.queries.specs.declared.Page.{Page}
 use Rattle.queries.specs.declared.PageAnswer.{PageAnswer}
 use Rattle.queries.specs.declared.PageAnswer.the-variants.{Refused as PageRefused, Page as Paged}
 use Rattle.queries.specs.Queries.{nextSays, PageReply, pageSays, matchSays, RefinedOne, RefinedList, Matched, PageRead}

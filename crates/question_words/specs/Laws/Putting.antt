@@ -1,5 +1,5 @@
 -- One question, put on the ids left. Assumes nothing.
-use Prim.Native.Nat.{ℕ, zero, suc, _+_, _≤_, _<_}
+use Prim.Native.Nat.{ℕ, zero, suc, _+_, _≤_}
 use mathlib.Core.Path.{_≡_, refl, sym, ap, _∙_}
 use mathlib.Core.Bool.{Bool, true, false, cond, _||_}
 use mathlib.Core.Logic.{inl, inr}
@@ -9,11 +9,11 @@ use native.Mathlib.Omega.{arith}
 use lib.ListN.{length, take}
 use lib.Dec.{eqb}
 use borrow.Author.Tests.{eq-eqb, ne-eqb}
-use Rattle.refusals.specs.Refusals.{Reply, refused, accepted, reply, verdict}
+use Rattle.refusals.specs.Refusals.{Reply, refused, accepted, reply}
 use Rattle.refusals.specs.Laws.Replies.{some-number, ruled-refused}
 use Rattle.offsets.specs.declared.SubsetAnswer.{SubsetAnswer}
 use Rattle.offsets.specs.declared.SubsetAnswer.the-variants.{Refused, Range, List as Ids}
-use Rattle.offsets.specs.Subsets.{Subset, range, list, intersect, retain, narrowed}
+use Rattle.offsets.specs.Subsets.{Subset, list, intersect, retain, narrowed}
 use Rattle.offsets.specs.Answers.{Answered, readOff, written, intersectReply}
 use Rattle.offsets.specs.Laws.Answers.{written-refused, written-intersect, answered-fits}
 use Rattle.offsets.specs.Laws.Subsets.{members-retain, members-narrowed, read-off}
@@ -23,12 +23,12 @@ use Rattle.table.specs.declared.Header.{Header}
 use Rattle.table.specs.declared.RangeAnswer.{RangeAnswer}
 use Rattle.table.specs.Numbers.{rangeSays}
 use Rattle.table.specs.Refusing.{fastRefusal}
-use Rattle.table.specs.Promises.{Stores, stores, fastSubset, RangeRead}
+use Rattle.table.specs.Promises.{stores, fastSubset, RangeRead}
 use Rattle.queries.specs.Queries.{matches, refineOneReply, refineListReply, RefinedOne, RefinedList}
-use Rattle.history.specs.Runs.{Question, refineOne, refineList, intersectWith, intersectRange, Gathered, nothing, bySubset, byRange, byRefining, together, left, gathered, Asked, one-refined, list-refined, intersected, range-intersected, range-nothing, Run, end, next}
+use Rattle.history.specs.Runs.{Question, refineOne, refineList, intersectWith, intersectRange, Gathered, nothing, bySubset, byRange, byRefining, together, left, gathered, Asked, one-refined, list-refined, intersected, range-intersected, range-nothing, end, next}
 use Rattle.history.specs.Laws.Questions.{refinable, refined-fit, intersectable}
 use Rattle.question_words.specs.declared.RunAnswer.{RunAnswer}
-use Rattle.question_words.specs.Leaving.{idsAt, subsetLeft, outcome, byReply, rangeStep, asked, askedAll}
+use Rattle.question_words.specs.Leaving.{idsAt, subsetLeft, byReply, rangeStep, asked, askedAll}
 use Rattle.question_words.specs.inner.Putting.{counted, leftBy, Put}
 
 -- ---- the ids left by an answer

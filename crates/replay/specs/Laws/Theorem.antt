@@ -5,7 +5,7 @@ use mathlib.Core.Path.{_≡_, refl, sym, ap, _∙_}
 use mathlib.Core.List.{List, []}
 use native.Mathlib.Omega.{arith}
 use lib.ListN.{length}
-use Rattle.refusals.specs.Refusals.{Reply, refused, accepted, reply, verdict}
+use Rattle.refusals.specs.Refusals.{Reply, refused, reply, verdict}
 use Rattle.plain.specs.Staged.{Opening}
 use Rattle.plain.specs.Refusing.{openRefusal}
 use Rattle.plain.specs.Plain.{opened}

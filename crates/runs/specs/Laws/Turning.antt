@@ -1,7 +1,7 @@
 -- A question put on the ids left, and one after another. Assumes nothing.
 use Prim.Native.Nat.{ℕ, _+_, _≤_}
-use mathlib.Core.Path.{_≡_, refl, sym, ap, _∙_}
-use mathlib.Core.Bool.{Bool, true, false, cond, _||_}
+use mathlib.Core.Path.{_≡_, refl, sym}
+use mathlib.Core.Bool.{Bool, true, false, _||_}
 use mathlib.Core.List.{List, [], _∷_, _++_, append-assoc, append-nil}
 use lib.ListN.{length, take}
 use borrow.Author.Tests.{eq-eqb, ne-eqb}
@@ -14,7 +14,7 @@ use Rattle.history.specs.Runs.{Question, Gathered, nothing, together, Run, end,
 use Rattle.question_words.specs.declared.RunAnswer.{RunAnswer}
 use Rattle.question_words.specs.Leaving.{idsAt, subsetLeft, Outcome, outcome, asked, askedAll}
 use Rattle.question_words.specs.inner.Putting.{Put}
-use Rattle.runs.specs.inner.Turning.{Turned, TurnedOnce}
+use Rattle.runs.specs.inner.Turning.{TurnedOnce}
 
 -- ---- one question
 

@@ -11,7 +11,7 @@ use Rattle.lists.specs.Lists.{rowAt}
 use Rattle.lists.specs.Laws.Rows.{getD-rowsOf, rowsOf-same}
 use Rattle.constraints.specs.Constraints.{isLive}
 use Rattle.key_index.specs.declared.Keyed.{Keyed}
-use Rattle.key_index.specs.Slots.{LiveAt, keyAt, slots, home, slotFrom, StandsAt, KeysSound}
+use Rattle.key_index.specs.Slots.{keyAt, slots, home, slotFrom, StandsAt, KeysSound}
 use Rattle.key_index.specs.Laws.Ring.{slot-below}
 use Rattle.key_index.specs.Laws.Rooms.{room-most}
 use Rattle.key_index.specs.Laws.Index.{SameLive, keys-same}
