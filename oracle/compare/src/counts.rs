@@ -495,10 +495,12 @@ impl Counts {
         let slots = |of: &Contents| plain::slots_in_use(o.capacity, of.rows);
         let is_known = after.dead > before.dead;
         match (call, before.rows, after.rows) {
-            (Call::Merge, 128, 129) if slots(after) > slots(before) => self.feature(match is_known {
-                true => "key store: grows past 128 rows, known key",
-                false => "key store: grows past 128 rows, new key",
-            }),
+            (Call::Merge, 128, 129) if slots(after) > slots(before) => {
+                self.feature(match is_known {
+                    true => "key store: grows past 128 rows, known key",
+                    false => "key store: grows past 128 rows, new key",
+                })
+            }
             (Call::Merge, 1_024, 1_025) if slots(after) > slots(before) => {
                 self.feature(match is_known {
                     true => "key store: grows past 1024 rows, known key",

@@ -497,7 +497,9 @@ impl Writer {
     /// As many rows as the key store has room for, and one more, of a new key or of a known one. Then the table is cleared, or
     /// loses so many rows that a merge compacts it into less room, or goes on.
     fn outgrow(&mut self) {
-        let above = ROOMS.into_iter().filter(|&room| room < self.opening.capacity);
+        let above = ROOMS
+            .into_iter()
+            .filter(|&room| room < self.opening.capacity);
         let rooms: Vec<u32> = above.filter(|&room| room >= self.seen.rows).collect();
         let Some(&last) = rooms.last() else {
             return;

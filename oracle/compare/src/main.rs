@@ -58,7 +58,7 @@ const BATCHES: u64 = 3_000;
 const BATCH_SEED: u64 = 12;
 
 /// The gate's calls on hostile stores, and their seed.
-const HOSTILE_CALLS: u64 = 2_200_000;
+const HOSTILE_CALLS: u64 = 2_500_000;
 const HOSTILE_SEED: u64 = 1;
 
 fn main() -> ExitCode {

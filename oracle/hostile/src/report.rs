@@ -78,6 +78,8 @@ pub struct Report {
     stops: [u64; 2],
     /// Changes in tables of more than 128 rows, whose key stores have grown.
     pub grown: u64,
+    /// Changes in tables with slots that are not in use.
+    pub spare: u64,
 }
 
 impl Report {
@@ -137,8 +139,8 @@ impl Report {
         ));
         lines.extend(verdict_lines(&self.words));
         lines.push(format!(
-            "  {} of these and of the following in tables of more than 128 rows",
-            self.grown
+            "  of these and of the following {} in tables of more than 128 rows, {} in tables with slots that are not in use",
+            self.grown, self.spare
         ));
         lines.push("two words of a store exchanged, likewise:".to_string());
         lines.extend(verdict_lines(&self.pairs[1..]));
@@ -165,6 +167,9 @@ impl Report {
         }
         if self.grown == 0 {
             missing.push("a change in a table of more than 128 rows".to_string());
+        }
+        if self.spare == 0 {
+            missing.push("a change in a table with slots that are not in use".to_string());
         }
         if self.stops.contains(&0) {
             missing.push("a stop on sound stores".to_string());

@@ -63,7 +63,8 @@ fn sound(session: &mut Session, rng: &mut Rng) -> Result<Image, String> {
     Ok(image)
 }
 
-/// A sound table whose key store has grown past its first room, by the last inserts.
+/// A sound table of a capacity above the key store's first room: within that room, so that slots are left that are not in use, or
+/// grown past it by the last inserts.
 fn grown(session: &mut Session, rng: &mut Rng) -> Result<Image, String> {
     let mut opening = good_opening(rng);
     opening.capacity = rng.within(130, 160);
@@ -74,8 +75,9 @@ fn grown(session: &mut Session, rng: &mut Rng) -> Result<Image, String> {
     let keys: Vec<Vec<u32>> = (0..140)
         .map(|i| (0..opening.keys).map(|_| i).collect())
         .collect();
-    for batch in [&keys[..rng.within(120, 128) as usize], &keys] {
-        for key in batch {
+    let batches = [&keys[..rng.within(120, 128) as usize], &keys];
+    for batch in &batches[..rng.within(1, 2) as usize] {
+        for key in *batch {
             let mut row = vec![rng.below(3); opening.columns as usize];
             row[opening.sort as usize] = 7;
             row[..key.len()].copy_from_slice(key);
@@ -111,8 +113,11 @@ fn one_word(session: &mut Session, rng: &mut Rng) -> Result<(), String> {
         let plain = Plain::shown(&image.held());
         session.perform(rng, &image, &Act::IsSound, plain.as_ref())?;
         session.report.change(change, verdict);
-        if whole.numbers().rows > 128 {
+        let h = whole.numbers();
+        if h.rows > 128 {
             session.report.grown += 1;
+        } else if h.capacity > 128 {
+            session.report.spare += 1;
         }
         for _ in 0..rng.within(1, 2) {
             let act = act(rng, &image);
