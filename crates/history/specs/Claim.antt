@@ -4,7 +4,7 @@ use mathlib.Core.Path.{_≡_}
 use mathlib.Core.Bool.{Bool, true, _&&_}
 use mathlib.Core.List.{List}
 use lib.Dec.{ltb}
-use Rattle.lists.specs.Lists.{keep, every, rising, has, rowAt}
+use Rattle.lists.specs.Lists.{keep, every, any, rising, has, rowAt}
 use Rattle.offsets.specs.Subsets.{Subset, members}
 use Rattle.constraints.specs.Constraints.{isLive, met}
 use Rattle.plain.specs.Staged.{Opening}
@@ -13,27 +13,33 @@ use Rattle.plain.specs.Calls.{LentCall, afterAll}
 use Rattle.table.specs.Stores.{rowsIn}
 use Rattle.table.specs.Promises.{Stores}
 use Rattle.history.specs.Histories.{History}
-use Rattle.history.specs.Runs.{Question, Gathered, Run}
+use Rattle.history.specs.Runs.{Question, refineOne, refineList, intersectWith, intersectRange, refines, Run}
 
 -- the live rows of a table as its header and row store have them, numbers and cells
 unfoldable pub liveIn : Stores → List Numbered
 liveIn s = liveFrom 0 (rowsIn (s .header) (s .rows))
 
--- a live row that lies "in every accepted subset" and meets "every accepted condition, those of ranges too"
-unfoldable pub wanted : Stores → Gathered → ℕ → Bool
-wanted s g id =
-    ltb id (s .header .rows)
-    && isLive (rowAt (s .header .columns) id (s .rows))
-    && every (λ subset. has id (members subset)) (g .subsets)
-    && every (met (rowAt (s .header .columns) id (s .rows))) (g .conditions)
+-- what an accepted question asks of a row: to lie in its subset, or to meet its conditions, "those of ranges too"
+unfoldable pub asks : ℕ → List ℕ → Question → Bool
+asks id row (refineOne c) = met row c
+asks id row (refineList cs) = every (met row) cs
+asks id row (intersectWith subset) = has id (members subset)
+asks id row (intersectRange c) = met row c
+
+-- a live row that lies "in every accepted subset" and meets "every accepted condition"
+unfoldable pub wanted : Stores → List Question → ℕ → Bool
+wanted s accepted id =
+    let row = rowAt (s .header .columns) id (s .rows) in
+    ltb id (s .header .rows) && isLive row && every (asks id row) accepted
 
 pub record Claimed (o : Opening) (generation : ℕ) (calls : List LentCall) (s : Stores) : Type 0 where
   -- "the live rows, numbers and cells, are those of document 01's plain table after the same calls"
   pub live-rows : liveIn s ≡ liveRows (afterAll (opened o generation) calls)
   -- "If some accepted step refines, the ids left .. are exactly the live rows of the starting subset that ..", "rising,
   -- each once"
-  pub ids-left : (fit : ℕ → Bool) (start : Subset) (questions : List Question) (end : Subset) (g : Gathered)
-      → Run s fit start questions end g → g .refined ≡ true → (members end ≡ keep (wanted s g) (members start)) × (rising (members end) ≡ true)
+  pub ids-left : (fit : ℕ → Bool) (start : Subset) (questions : List Question) (end : Subset) (accepted : List Question)
+      → Run s fit start questions end accepted → any refines accepted ≡ true
+      → (members end ≡ keep (wanted s accepted) (members start)) × (rising (members end) ≡ true)
 
 abbrev pub Claim : Type 0
 Claim = (o : Opening) (generation : ℕ) (calls : List LentCall) (s : Stores) → History o generation calls s → Claimed o generation calls s

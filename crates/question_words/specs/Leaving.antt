@@ -2,7 +2,7 @@
 -- one answered, with an output of so many ids. Assumes nothing.
 use Prim.Native.Nat.{ℕ}
 use mathlib.Core.Bool.{cond}
-use mathlib.Core.List.{List, [], _∷_}
+use mathlib.Core.List.{List, [], _∷_, _++_}
 use mathlib.Core.Option.{Option, none, some}
 use lib.ListN.{length, take}
 use lib.Dec.{eqb}
@@ -14,7 +14,7 @@ use Rattle.table.specs.declared.Header.{Header}
 use Rattle.table.specs.Refusing.{fastRefusal}
 use Rattle.table.specs.Promises.{fastSubset}
 use Rattle.queries.specs.Queries.{refineOneReply, refineListReply}
-use Rattle.history.specs.Runs.{Question, refineOne, refineList, intersectWith, intersectRange, Gathered, nothing, bySubset, byRange, byRefining, together, left, gathered}
+use Rattle.history.specs.Runs.{Question, refineOne, refineList, intersectWith, intersectRange, left, counting}
 use Rattle.question_words.specs.declared.RunAnswer.{RunAnswer}
 
 -- the first ids of the list of a place: 1 and 2 the two lent ones; else the starting one, which is meant whole
@@ -26,35 +26,35 @@ unfoldable pub subsetLeft : RunAnswer → List ℕ → List ℕ → List ℕ →
 subsetLeft l ids first second =
     cond (l .dense) (range (l .start) (l .end)) (list (idsAt (l .place) (l .count) ids first second))
 
--- the ids left, and what was accepted on the way
+-- the ids left, and the questions that were accepted
 pub record Outcome : Type 0 where
   pub ids : Subset
-  pub gathered : Gathered
+  pub accepted : List Question
 
-abbrev pub outcome : Subset → Gathered → Outcome
-outcome ids g = record { ids = ids; gathered = g }
+abbrev pub outcome : Subset → List Question → Outcome
+outcome ids accepted = record { ids = ids; accepted = accepted }
 
--- by the reply to a question, which gathers this where it is accepted
-abbrev pub byReply : Subset → Gathered → Reply Subset → Outcome
-byReply a g r = outcome (left a r) (gathered r g)
+-- by the reply to a question
+abbrev pub byReply : Subset → Question → Reply Subset → Outcome
+byReply a q r = outcome (left a r) (counting q r)
 
 -- a range step: where there is no range, it counts for nothing
 unfoldable pub rangeStep : Subset → Constraint → ℕ → Option Subset → Outcome
-rangeStep a c room none = outcome a nothing
-rangeStep a c room (some b) = byReply a (byRange c) (intersectReply a b room)
+rangeStep a c room none = outcome a []
+rangeStep a c room (some b) = byReply a (intersectRange c) (intersectReply a b room)
 
 module _ (h : Header) (rows sorts : List ℕ) (room : ℕ) where
   -- one question; the ids left come first in `intersect`
   unfoldable pub asked : Subset → Question → Outcome
-  asked a (refineOne c) = byReply a (byRefining (c ∷ [])) (refineOneReply h rows a c room)
-  asked a (refineList cs) = byReply a (byRefining cs) (refineListReply h rows a cs room)
-  asked a (intersectWith b) = byReply a (bySubset b) (intersectReply a b room)
+  asked a (refineOne c) = byReply a (refineOne c) (refineOneReply h rows a c room)
+  asked a (refineList cs) = byReply a (refineList cs) (refineListReply h rows a cs room)
+  asked a (intersectWith b) = byReply a (intersectWith b) (intersectReply a b room)
   asked a (intersectRange c) = rangeStep a c room (cond (eqb (fastRefusal h (length sorts) c) 0) (fastSubset h sorts c) none)
 
   -- the questions, the first one first
   unfoldable pub askedAll : Subset → List Question → Outcome
-  askedAll a [] = outcome a nothing
+  askedAll a [] = outcome a []
   askedAll a (q ∷ qs) =
       let one = asked a q in
       let more = askedAll (one .ids) qs in
-      outcome (more .ids) (together (one .gathered) (more .gathered))
+      outcome (more .ids) (one .accepted ++ more .accepted)

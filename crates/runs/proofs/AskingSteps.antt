@@ -2,10 +2,11 @@
 use Prim.Native.Nat.{ℕ, zero, suc, _+_, _-_, _≤_, min}
 use mathlib.Core.Path.{_≡_, refl, sym, ap, _∙_}
 use mathlib.Core.Bool.{Bool, true, false, _||_}
-use mathlib.Core.List.{List, [], _∷_, _++_}
+use mathlib.Core.List.{List, [], _∷_, _++_, append-assoc, append-nil}
 use native.Mathlib.Omega.{arith}
 use lib.Dec.{eqb}
 use lib.ListN.{length, take, drop, getD, length-take, length-append}
+use Rattle.lists.specs.Lists.{any}
 use Rattle.frames.specs.inner.Lengths.{FrameLength}
 use Rattle.frames.specs.Laws.Frames.{framed-end, framed-next}
 use Rattle.offsets.specs.declared.SubsetHead.{SubsetHead}
@@ -14,14 +15,15 @@ use Rattle.offsets.specs.Answers.{subsetOf}
 use Rattle.sort_entries.specs.Entries.{entriesOf, entriesSound}
 use Rattle.table.specs.declared.Header.{Header}
 use Rattle.table.specs.Promises.{stores}
-use Rattle.history.specs.Runs.{Question, Gathered, nothing, together, Run, end}
+use Rattle.history.specs.Runs.{Question, refines, Run, end}
+use Rattle.history.specs.Laws.Narrowing.{or-assoc, or-false, any-both}
 use Rattle.history.specs.Laws.Theorem.{term-three}
 use Rattle.question_words.specs.declared.RunAnswer.{RunAnswer}
 use Rattle.question_words.specs.Encoding.{questionOf, questionsIn}
 use Rattle.question_words.specs.Leaving.{idsAt, subsetLeft, Outcome, outcome, askedAll}
 use Rattle.runs.specs.Asking.{shorter, RunMade}
 use Rattle.runs.specs.inner.Turning.{Turned, TurnedOnce}
-use Rattle.runs.specs.Laws.Turning.{or-false, or-assoc, together-assoc, together-nothing, run-then, behind, asked-then}
+use Rattle.runs.specs.Laws.Turning.{run-then, behind, asked-then}
 
 -- the first ids of a list, as they are lent
 pub lent-count : (n : ℕ) (l : List ℕ) → n ≤ length l → n ≡ length (take n l)
@@ -38,7 +40,7 @@ drop-behind zero (x ∷ a) b h = absurd (omega arith)
 drop-behind (suc n) [] b h = absurd (omega arith)
 drop-behind (suc n) (x ∷ a) b h = drop-behind n a b (omega arith)
 
--- before the question at a place: what is to come from here is what was to come from the start, with what was gathered
+-- before the question at a place: what is to come from here is what was to come from the start, with what was accepted
 module _ (h : Header) (rows sorts ids words first₀ second₀ : List ℕ) (l₀ : RunAnswer) (first second : List ℕ) (l : RunAnswer) (at count : ℕ) where
   pub record Going : Type 0 where
     pub here : FrameLength words at count
@@ -47,14 +49,14 @@ module _ (h : Header) (rows sorts ids words first₀ second₀ : List ℕ) (l₀
     pub alike : length second₀ ≡ length first₀
     pub fits : l .count ≤ length first₀
     pub early : l .taken ≤ at
-    pub gathered : Gathered
-    pub told : l .refined ≡ (l₀ .refined || gathered .refined)
+    pub accepted : List Question
+    pub told : l .refined ≡ (l₀ .refined || any refines accepted)
     pub taken : l .taken + length (questionsIn (drop at words)) ≡ l₀ .taken + length (questionsIn words)
-    pub rest : (keys pending : List ℕ) (last : Subset) (g : Gathered)
-        → Run (stores h rows keys sorts pending) (eqb (length first₀)) (subsetLeft l ids first second) (questionsIn (drop at words)) last g
-        → Run (stores h rows keys sorts pending) (eqb (length first₀)) (subsetLeft l₀ ids first₀ second₀) (questionsIn words) last (together gathered g)
+    pub rest : (keys pending : List ℕ) (last : Subset) (more : List Question)
+        → Run (stores h rows keys sorts pending) (eqb (length first₀)) (subsetLeft l ids first second) (questionsIn (drop at words)) last more
+        → Run (stores h rows keys sorts pending) (eqb (length first₀)) (subsetLeft l₀ ids first₀ second₀) (questionsIn words) last (accepted ++ more)
     pub leaves : entriesSound (entriesOf (h .entries) sorts) (h .rows) ≡ true
-        → behind gathered (askedAll h rows sorts (length first₀) (subsetLeft l ids first second) (questionsIn (drop at words)))
+        → behind accepted (askedAll h rows sorts (length first₀) (subsetLeft l ids first second) (questionsIn (drop at words)))
         ≡ askedAll h rows sorts (length first₀) (subsetLeft l₀ ids first₀ second₀) (questionsIn words)
 
 module _ {h : Header} {rows sorts ids words first₀ second₀ : List ℕ} {l₀ : RunAnswer} where
@@ -68,10 +70,10 @@ module _ {h : Header} {rows sorts ids words first₀ second₀ : List ℕ} {l₀
         alike = alike;
         fits = omega arith;
         early = omega arith;
-        gathered = nothing;
-        told = sym (or-false (l₀ .refined));
+        accepted = [];
+        told = unfold any in sym (or-false (l₀ .refined));
         taken = refl;
-        rest = λ keys pending last g run. run;
+        rest = λ keys pending last more run. run;
         leaves = λ sound. refl;
       }
 
@@ -86,7 +88,7 @@ module _ {h : Header} {rows sorts ids words first₀ second₀ : List ℕ} {l₀
         let q : List Question = questionOf (getD words at 0) (take (count - 2) (drop (at + 2) words)) in
         let qs : List Question = questionsIn (drop (at + count) words) in
         let t : TurnedOnce h rows sorts ids q l first second l′ first′ second′ = rw cells at turn in
-        let g : Gathered = t .turned .gathered in
+        let asked : List Question = t .turned .accepted in
         let frame : questionsIn (drop at words) ≡ q ++ qs = framed-next questionOf (v .here) left in
         record {
           here = here;
@@ -95,23 +97,24 @@ module _ {h : Header} {rows sorts ids words first₀ second₀ : List ℕ} {l₀
           alike = v .alike;
           fits = rw (v .first-long) at (t .turned .fits);
           early = omega (arith, t .few, v .early, left);
-          gathered = together (v .gathered) g;
-          told = t .turned .told ∙ ap (λ (r : Bool). r || g .refined) (v .told) ∙ or-assoc (l₀ .refined) (v .gathered .refined) (g .refined);
+          accepted = v .accepted ++ asked;
+          told = t .turned .told ∙ ap (λ (r : Bool). r || any refines asked) (v .told) ∙ or-assoc (l₀ .refined) (any refines (v .accepted)) (any refines asked)
+              ∙ ap (λ (r : Bool). l₀ .refined || r) (sym (any-both refines (v .accepted) asked));
           taken =
               let sum : length (questionsIn (drop at words)) ≡ length q + length qs = ap length frame ∙ length-append q qs in
               let both = t .turned .taken in
               omega (arith, sum, both, v .taken);
-          rest = λ keys pending last k run.
-              rw (together-assoc (v .gathered) g k)
-              (v .rest keys pending last (together g k) (rw frame (run-then (rw (v .first-long) at (t .turned .run keys pending)) run)));
+          rest = λ keys pending last more run.
+              rw (append-assoc (v .accepted) asked more)
+              (v .rest keys pending last (asked ++ more) (rw frame (run-then (rw (v .first-long) at (t .turned .run keys pending)) run)));
           leaves = λ sound.
               let all : Subset → List Question → Outcome = askedAll h rows sorts (length first₀) in
-              let one : outcome (subsetLeft l′ ids first′ second′) g ≡ all (subsetLeft l ids first second) q = rw (v .first-long) at (t .turned .leaves sound) in
-              let two : all (subsetLeft l ids first second) (q ++ qs) ≡ behind g (all (subsetLeft l′ ids first′ second′) qs) =
-              asked-then h rows sorts (length first₀) (subsetLeft l ids first second) q qs ∙ ap (λ (o : Outcome). behind (o .gathered) (all (o .ids) qs)) (sym one) in
+              let one : outcome (subsetLeft l′ ids first′ second′) asked ≡ all (subsetLeft l ids first second) q = rw (v .first-long) at (t .turned .leaves sound) in
+              let two : all (subsetLeft l ids first second) (q ++ qs) ≡ behind asked (all (subsetLeft l′ ids first′ second′) qs) =
+              asked-then h rows sorts (length first₀) (subsetLeft l ids first second) q qs ∙ ap (λ (o : Outcome). behind (o .accepted) (all (o .ids) qs)) (sym one) in
               let last : Outcome = all (subsetLeft l′ ids first′ second′) qs in
-              ap (λ (k : Gathered). outcome (last .ids) k) (together-assoc (v .gathered) g (last .gathered)) ∙ ap (behind (v .gathered)) (sym two)
-              ∙ ap (λ (some : List Question). behind (v .gathered) (all (subsetLeft l ids first second) some)) (sym frame) ∙ v .leaves sound;
+              ap (λ (qs : List Question). outcome (last .ids) qs) (append-assoc (v .accepted) asked (last .accepted)) ∙ ap (behind (v .accepted)) (sym two)
+              ∙ ap (λ (some : List Question). behind (v .accepted) (all (subsetLeft l ids first second) some)) (sym frame) ∙ v .leaves sound;
         }
 
     -- no question is left
@@ -120,11 +123,11 @@ module _ {h : Header} {rows sorts ids words first₀ second₀ : List ℕ} {l₀
     going-end none =
         let frame : questionsIn (drop at words) ≡ [] = framed-end questionOf (v .here) none in
         record {
-          gathered = v .gathered;
+          accepted = v .accepted;
           run = λ keys pending.
-              rw (together-nothing (v .gathered)) at
-              (v .rest keys pending (subsetLeft l ids first second) nothing (rw frame (end (subsetLeft l ids first second))));
-          leaves = λ sound. rw (frame, together-nothing (v .gathered)) at (v .leaves sound);
+              rw (append-nil (v .accepted)) at
+              (v .rest keys pending (subsetLeft l ids first second) [] (rw frame (end (subsetLeft l ids first second))));
+          leaves = λ sound. rw (frame, append-nil (v .accepted)) at (v .leaves sound);
           told = v .told;
           taken = let empty : length (questionsIn (drop at words)) ≡ 0 = ap length frame in omega (arith, empty, v .taken);
           fits = v .fits;
@@ -170,16 +173,16 @@ module _ {h : Header} {rows sorts ids : List ℕ} {questions : List Question} (h
       let left : subsetLeft r ids (part ++ drop n first) (part′ ++ drop n second) ≡ subsetLeft r ids part part′ =
       part-left r ids part part′ (drop n first) (drop n second) (omega arith) (omega (arith, room-alike n first second e)) in
       let start = starting head ids (take n first) (take n second) in
-      let run : (keys pending : List ℕ) → Run (stores h rows keys sorts pending) (eqb (shorter first second)) (subsetOf head ids) questions (subsetLeft r ids (part ++ drop n first) (part′ ++ drop n second)) (t .gathered) =
+      let run : (keys pending : List ℕ) → Run (stores h rows keys sorts pending) (eqb (shorter first second)) (subsetOf head ids) questions (subsetLeft r ids (part ++ drop n first) (part′ ++ drop n second)) (t .accepted) =
       λ keys pending. rw left (rw (room, start) at (t .run keys pending)) in
       record {
         taken = t .taken ∙ (let z : 0 + length questions ≡ length questions = omega arith in z);
-        gathered = t .gathered;
+        accepted = t .accepted;
         told = t .told;
         inside = omega (arith, held, room);
         leaves = λ sound. rw left (rw (room, start) at (t .leaves sound));
         run = run;
         ids-left = λ o generation calls keys pending history refined.
-            term-three o generation calls _ history .ids-left (eqb (shorter first second)) (subsetOf head ids) questions _ (t .gathered) (run keys pending) (sym (t .told) ∙ refined);
+            term-three o generation calls _ history .ids-left (eqb (shorter first second)) (subsetOf head ids) questions _ (t .accepted) (run keys pending) (sym (t .told) ∙ refined);
         past = rw (← e) (drop-behind n part (drop n first) (a ∙ sym (room-first n first second e)), drop-behind n part′ (drop n second) (b ∙ sym (room-second n first second e)));
       }

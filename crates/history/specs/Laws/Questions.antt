@@ -1,9 +1,9 @@
--- Each question, accepted or refused, narrows the ids that it is put on by what is gathered of it. Assumes nothing.
+-- Each question, accepted or refused, narrows the ids that it is put on by what it asks, if it counts. Assumes nothing.
 use Prim.Native.Nat.{ℕ, zero, suc, _≤_, _<_}
 use mathlib.Core.Path.{_≡_, refl, sym, ap, _∙_}
 use mathlib.Core.Logic.{inl, inr}
 use mathlib.Core.Bool.{Bool, true, not, _||_, and-true, false≢true}
-use mathlib.Core.Option.{Option, none, some}
+use mathlib.Core.Option.{Option, some}
 use mathlib.Core.List.{List, [], _∷_}
 use native.Mathlib.Omega.{arith}
 use lib.ListN.{length, getD}
@@ -33,16 +33,17 @@ use Rattle.table.specs.Promises.{Stores, Represents, fastSubset, RangeRead}
 use Rattle.table.specs.Laws.Sound.{represents-sound}
 use Rattle.table.specs.Laws.Replies.{ruled-accepted}
 use Rattle.queries.specs.Queries.{matches, pastRows, tests, refineRefusal, refineOneReply, refineListReply}
-use Rattle.history.specs.Runs.{Question, Gathered, byRefining, left, gathered, Intersected, Asked, one-refined, list-refined, intersected, range-intersected, range-nothing}
-use Rattle.history.specs.Laws.Narrowing.{alive, fits, alive-of, alive-below, alive-live, Narrows, narrows-not, narrows-keep}
+use Rattle.history.specs.Runs.{Question, refines, left, counting, Intersected, Asked, one-refined, list-refined, intersected, range-intersected, range-nothing}
+use Rattle.history.specs.Claim.{asks}
+use Rattle.history.specs.Laws.Narrowing.{alive, alive-of, alive-below, alive-live, Narrows, narrows-not, narrows-keep}
 
 -- ---- an answer, read off its output
 
 -- a refused question leaves the ids and counts for nothing, an accepted one does what its value does
-answered-narrows : {s : Stores} {g : Gathered} (a : Subset) (n : ℕ) (v : Subset) (output : List ℕ) (answer : SubsetAnswer) (output′ : List ℕ)
-    → Answered (reply n v) output answer output′ → (n ≡ 0 → length (written (accepted v)) ≤ length output) → (n ≡ 0 → Narrows s (members a) (members v) g)
-    → Narrows s (members a) (members (left a (readOff answer output′))) (gathered (readOff answer output′) g)
-unfolding reply left gathered
+answered-narrows : {s : Stores} {q : Question} (a : Subset) (n : ℕ) (v : Subset) (output : List ℕ) (answer : SubsetAnswer) (output′ : List ℕ)
+    → Answered (reply n v) output answer output′ → (n ≡ 0 → length (written (accepted v)) ≤ length output) → (n ≡ 0 → Narrows s (members a) (members v) (q ∷ []))
+    → Narrows s (members a) (members (left a (readOff answer output′))) (counting q (readOff answer output′))
+unfolding reply left counting
 answered-narrows a zero v output answer output′ m fit f = rw (read-off (accepted v) output answer output′ (fit refl) m) (f refl)
 answered-narrows {s} a (suc n) v output answer output′ m fit f =
     rw (read-off (refused (suc n)) output answer output′ (written-refused (suc n) (length output)) m) (narrows-not s (members a))
@@ -77,10 +78,10 @@ has-below h a output m id e =
 module _ (s : Stores) (a : Subset) (cs : List Constraint) (output : ℕ) (m : Refinable (s .header) a output) (v : Subset)
     (is : members v ≡ keep (matches (s .header) (s .rows) cs) (members a)) where
   -- of its ids those are kept that are live and meet the conditions
-  refined-narrows : Narrows s (members a) (members v) (byRefining cs)
-  refined-narrows =
+  refined-narrows : {q : Question} → ((id : ℕ) (row : List ℕ) → asks id row q ≡ every (met row) cs) → Narrows s (members a) (members v) (q ∷ [])
+  refined-narrows asking =
       narrows-keep (matches (s .header) (s .rows) cs) (rising-members a (m .formed)) is
-      (λ id e. unfold matches meets fits every in rw (alive-live s id e))
+      (λ id e. rw (asking id (rowAt (s .header .columns) id (s .rows))) (unfold matches meets in rw (alive-live s id e)))
       (λ r id e q. alive-of s id (has-below (s .header) a output m id e) (unfold matches meets in and-left _ _ q))
 
   pub refined-fit : length (written (accepted v)) ≤ output
@@ -106,9 +107,9 @@ intersectable a b output e =
     }
 
 -- the ids in common, whichever subset comes first: what is left of a list of ids by one that it is intersected with
-intersected-narrows : {s : Stores} {g : Gathered} (a b : Subset) (output : List ℕ) (answer : SubsetAnswer) (output′ : List ℕ) → Intersected a b output answer output′
-    → ((v : Subset) → rising (members a) ≡ true → members v ≡ keep (λ id. has id (members b)) (members a) → Narrows s (members a) (members v) g)
-    → Narrows s (members a) (members (left a (readOff answer output′))) (gathered (readOff answer output′) g)
+intersected-narrows : {s : Stores} {q : Question} (a b : Subset) (output : List ℕ) (answer : SubsetAnswer) (output′ : List ℕ) → Intersected a b output answer output′
+    → ((v : Subset) → rising (members a) ≡ true → members v ≡ keep (λ id. has id (members b)) (members a) → Narrows s (members a) (members v) (q ∷ []))
+    → Narrows s (members a) (members (left a (readOff answer output′))) (counting q (readOff answer output′))
 unfolding intersectReply
 intersected-narrows a b output answer output′ (inl m) f =
     let t = intersectable a b (length output) in
@@ -178,24 +179,23 @@ module _ {p : Plain} {s : Stores} (r : Represents p s) (c : Constraint) (answer 
 -- ---- the questions
 
 module _ {p : Plain} {s : Stores} (r : Represents p s) where
-  pub asked-narrows : {fit : ℕ → Bool} {a b : Subset} {q : Question} {g : Gathered} → Asked s fit a q b g → Narrows s (members a) (members b) g
-  unfolding refineOneReply refineListReply
+  pub asked-narrows : {fit : ℕ → Bool} {a b : Subset} {q : Question} {counted : List Question} → Asked s fit a q b counted → Narrows s (members a) (members b) counted
+  unfolding refineOneReply refineListReply asks refines
   asked-narrows {a = a} (one-refined c output output′ answer fit m) =
       let f = refinable (s .header) (length (s .rows)) a (c ∷ []) (length output) in
       let is = members-retain (matches (s .header) (s .rows) (c ∷ [])) a in
       answered-narrows a _ (retain (matches (s .header) (s .rows) (c ∷ [])) a) output answer output′ (m .answered)
-      (λ e. refined-fit s a (c ∷ []) (length output) (f e) _ is) (λ e. refined-narrows s a (c ∷ []) (length output) (f e) _ is)
+      (λ e. refined-fit s a (c ∷ []) (length output) (f e) _ is)
+      (λ e. refined-narrows s a (c ∷ []) (length output) (f e) _ is (λ id row. unfold every in sym (and-true (met row c))))
   asked-narrows {a = a} (list-refined cs output output′ answer fit m) =
       let f = refinable (s .header) (length (s .rows)) a cs (length output) in
       let is = members-narrowed (matches (s .header) (s .rows) cs) a in
       answered-narrows a _ (narrowed (matches (s .header) (s .rows) cs) a) output answer output′ (m .answered)
-      (λ e. refined-fit s a cs (length output) (f e) _ is) (λ e. refined-narrows s a cs (length output) (f e) _ is)
+      (λ e. refined-fit s a cs (length output) (f e) _ is) (λ e. refined-narrows s a cs (length output) (f e) _ is (λ id row. refl))
   asked-narrows {a = a} (intersected b output output′ answer fit m) =
       intersected-narrows a b output answer output′ m
-      (λ v up is.
-      narrows-keep (λ id. has id (members b)) up is (λ id _. unfold fits every in sym (and-true _ ∙ and-true _)) (λ z. absurd (false≢true z)))
+      (λ v up is. narrows-keep (λ id. has id (members b)) up is (λ id _. refl) (λ z. absurd (false≢true z)))
   asked-narrows {a = a} (range-intersected b c found output output′ answer read is fit m) =
       intersected-narrows a b output answer output′ m
-      (λ v up same.
-      narrows-keep (λ id. has id (members b)) up same (λ id l. range-met r c found b read is id l ∙ (unfold fits every in sym (and-true _))) (λ z. absurd (false≢true z)))
+      (λ v up same. narrows-keep (λ id. has id (members b)) up same (λ id l. range-met r c found b read is id l) (λ z. absurd (false≢true z)))
   asked-narrows {a = a} (range-nothing c found read is) = narrows-not s (members a)

@@ -7,14 +7,14 @@ use Rattle.offsets.specs.Subsets.{Subset, members}
 use Rattle.plain.specs.Plain.{Plain}
 use Rattle.table.specs.Promises.{Stores, Represents}
 use Rattle.table.specs.Laws.Live.{live-shown}
-use Rattle.history.specs.Runs.{Question, Gathered, Run, end, next}
+use Rattle.history.specs.Runs.{Question, Run, end, next}
 use Rattle.history.specs.Claim.{liveIn, Claim}
 use Rattle.history.specs.Laws.Calls.{history-represents}
 use Rattle.history.specs.Laws.Narrowing.{Narrows, narrows-not, narrows-then, narrowed-wanted, narrowed-rising}
 use Rattle.history.specs.Laws.Questions.{asked-narrows}
 
--- a run narrows the ids that it starts on by all that is gathered, whichever form each question gets them in
-pub run-narrows : {p : Plain} {s : Stores} {fit : ℕ → Bool} {a c : Subset} {qs : List Question} {g : Gathered} → Represents p s → Run s fit a qs c g → Narrows s (members a) (members c) g
+-- a run narrows the ids that it starts on by all that is accepted, whichever form each question gets them in
+pub run-narrows : {p : Plain} {s : Stores} {fit : ℕ → Bool} {a c : Subset} {qs accepted : List Question} → Represents p s → Run s fit a qs c accepted → Narrows s (members a) (members c) accepted
 run-narrows {s = s} r (end a) = narrows-not s (members a)
 run-narrows r (next asked same rest) = narrows-then (asked-narrows r asked) (rw same at (run-narrows r rest))
 
@@ -23,7 +23,7 @@ term-three o generation calls s history =
     let shown = history-represents history in
     record {
       live-rows = unfold liveIn in live-shown shown;
-      ids-left = λ fit start questions end g run refined.
+      ids-left = λ fit start questions end accepted run refined.
           let left = run-narrows shown run in
           (narrowed-wanted left refined, narrowed-rising left refined);
     }

@@ -4,11 +4,12 @@ use mathlib.Core.Path.{_≡_, refl, sym, ap, _∙_}
 use mathlib.Core.Bool.{Bool, true, false, cond, _||_}
 use mathlib.Core.Logic.{inl, inr}
 use mathlib.Core.Option.{Option, none, some}
-use mathlib.Core.List.{List, [], _∷_}
+use mathlib.Core.List.{List, [], _∷_, _++_}
 use native.Mathlib.Omega.{arith}
 use lib.ListN.{length, take}
 use lib.Dec.{eqb}
 use borrow.Author.Tests.{eq-eqb, ne-eqb}
+use Rattle.lists.specs.Lists.{any}
 use Rattle.refusals.specs.Refusals.{Reply, refused, accepted, reply}
 use Rattle.refusals.specs.Laws.Replies.{some-number, ruled-refused}
 use Rattle.offsets.specs.declared.SubsetAnswer.{SubsetAnswer}
@@ -25,7 +26,8 @@ use Rattle.table.specs.Numbers.{rangeSays}
 use Rattle.table.specs.Refusing.{fastRefusal}
 use Rattle.table.specs.Promises.{stores, fastSubset, RangeRead}
 use Rattle.queries.specs.Queries.{matches, refineOneReply, refineListReply, RefinedOne, RefinedList}
-use Rattle.history.specs.Runs.{Question, refineOne, refineList, intersectWith, intersectRange, Gathered, nothing, bySubset, byRange, byRefining, together, left, gathered, Asked, one-refined, list-refined, intersected, range-intersected, range-nothing, end, next}
+use Rattle.history.specs.Runs.{Question, refineOne, refineList, intersectWith, intersectRange, refines, left, counting, Asked, one-refined, list-refined, intersected, range-intersected, range-nothing, end, next}
+use Rattle.history.specs.Laws.Narrowing.{or-false}
 use Rattle.history.specs.Laws.Questions.{refinable, refined-fit, intersectable}
 use Rattle.question_words.specs.declared.RunAnswer.{RunAnswer}
 use Rattle.question_words.specs.Leaving.{idsAt, subsetLeft, byReply, rangeStep, asked, askedAll}
@@ -33,23 +35,19 @@ use Rattle.question_words.specs.inner.Putting.{counted, leftBy, Put}
 
 -- ---- the ids left by an answer
 
-or-false : (b : Bool) → (b || false) ≡ b
-or-false true = refl
-or-false false = refl
-
 swapped : (a b : Bool) → (a || b) ≡ (b || (a || false))
 swapped true true = refl
 swapped true false = refl
 swapped false true = refl
 swapped false false = refl
 
--- an accepted answer gathers what its question does, a refused one nothing
-left-told : (l : RunAnswer) (place : ℕ) (answer : SubsetAnswer) (output : List ℕ) (g : Gathered)
-    → leftBy l place (g .refined) answer .refined ≡ (l .refined || (gathered (readOff answer output) g .refined || false))
-unfolding leftBy readOff gathered
-left-told l place (Refused n) output g = sym (or-false (l .refined))
-left-told l place (Range from to) output g = swapped (g .refined) (l .refined)
-left-told l place (Ids n) output g = swapped (g .refined) (l .refined)
+-- an accepted answer refines if its question does, a refused one does not
+left-told : (l : RunAnswer) (place : ℕ) (answer : SubsetAnswer) (output : List ℕ) (q : Question)
+    → leftBy l place (refines q) answer .refined ≡ (l .refined || any refines (counting q (readOff answer output) ++ []))
+unfolding leftBy readOff counting any
+left-told l place (Refused n) output q = sym (or-false (l .refined))
+left-told l place (Range from to) output q = swapped (refines q) (l .refined)
+left-told l place (Ids n) output q = swapped (refines q) (l .refined)
 
 left-taken : (l : RunAnswer) (place : ℕ) (refines : Bool) (answer : SubsetAnswer) → leftBy l place refines answer .taken ≡ l .taken + 1
 unfolding leftBy
@@ -141,11 +139,11 @@ range-none (accepted (some b)) nowhere = absurd (nowhere b refl)
 module _ {h : Header} {rows sorts : List ℕ} {a : Subset} {questions : List Question} {l l′ : RunAnswer} {place : ℕ} {output : List ℕ} where
   -- nothing is asked
   pub put-nothing : questions ≡ [] → l′ ≡ l → Put h rows sorts a questions l place output l′ output
-  unfolding askedAll
+  unfolding askedAll any
   put-nothing e same =
       record {
         ids = a;
-        gathered = nothing;
+        accepted = [];
         run = λ fit lets keys pending. rw e (end a);
         leaves = λ sound. rw e;
         told = ap (λ (x : RunAnswer). x .refined) same ∙ sym (or-false (l .refined));
@@ -155,61 +153,61 @@ module _ {h : Header} {rows sorts : List ℕ} {a : Subset} {questions : List Que
         there = λ given first second here is. rw same is;
       }
 
-  -- a question and its reply, which gathers this
+  -- a question and its reply
   module _ {answer : SubsetAnswer} {output′ : List ℕ} where
-    put-replied : (q : Question) (g : Gathered) (r : Reply Subset) → questions ≡ q ∷ [] → Replied r output answer output′ → l′ ≡ leftBy l place (g .refined) answer
-        → ((fit : ℕ → Bool) → fit (length output) ≡ true → (keys pending : List ℕ) → Asked (stores h rows keys sorts pending) fit a q (left a (readOff answer output′)) (gathered (readOff answer output′) g))
-        → (entriesSound (entriesOf (h .entries) sorts) (h .rows) ≡ true → asked h rows sorts (length output) a q ≡ byReply a g r)
+    put-replied : (q : Question) (r : Reply Subset) → questions ≡ q ∷ [] → Replied r output answer output′ → l′ ≡ leftBy l place (refines q) answer
+        → ((fit : ℕ → Bool) → fit (length output) ≡ true → (keys pending : List ℕ) → Asked (stores h rows keys sorts pending) fit a q (left a (readOff answer output′)) (counting q (readOff answer output′)))
+        → (entriesSound (entriesOf (h .entries) sorts) (h .rows) ≡ true → asked h rows sorts (length output) a q ≡ byReply a q r)
         → Put h rows sorts a questions l place output l′ output′
     unfolding askedAll
-    put-replied q g r e m same one known =
+    put-replied q r e m same one known =
         record {
           ids = left a (readOff answer output′);
-          gathered = together (gathered (readOff answer output′) g) nothing;
+          accepted = counting q (readOff answer output′) ++ [];
           run = λ fit lets keys pending. rw e (next (one fit lets keys pending) refl (end _));
           leaves = λ sound. rw (e, known sound, m .is);
-          told = rw same (left-told l place answer output′ g);
-          taken = rw (same, e) (left-taken l place (g .refined) answer);
-          few = rw same (omega (arith, left-taken l place (g .refined) answer));
-          fits = λ held. rw same (left-fits l place (g .refined) answer (length output) (m .fits) held);
-          there = λ given first second here is. rw same (left-there l a place (g .refined) answer output′ given first second here is);
+          told = rw same (left-told l place answer output′ q);
+          taken = rw (same, e) (left-taken l place (refines q) answer);
+          few = rw same (omega (arith, left-taken l place (refines q) answer));
+          fits = λ held. rw same (left-fits l place (refines q) answer (length output) (m .fits) held);
+          there = λ given first second here is. rw same (left-there l a place (refines q) answer output′ given first second here is);
         }
 
     pub put-refined : {c : Constraint} → questions ≡ refineOne c ∷ [] → RefinedOne h rows a c output answer output′ → l′ ≡ leftBy l place true answer
         → Put h rows sorts a questions l place output l′ output′
-    unfolding asked
+    unfolding asked refines
     put-refined {c} e m same =
-        put-replied (refineOne c) (byRefining (c ∷ [])) _ e (one-replied m) same (λ fit lets keys pending. one-refined c output output′ answer lets m) (λ sound. refl)
+        put-replied (refineOne c) _ e (one-replied m) same (λ fit lets keys pending. one-refined c output output′ answer lets m) (λ sound. refl)
 
     pub put-refined-list : {cs : List Constraint} → questions ≡ refineList cs ∷ [] → RefinedList h rows a cs output answer output′ → l′ ≡ leftBy l place true answer
         → Put h rows sorts a questions l place output l′ output′
-    unfolding asked
+    unfolding asked refines
     put-refined-list {cs} e m same =
-        put-replied (refineList cs) (byRefining cs) _ e (list-replied m) same (λ fit lets keys pending. list-refined cs output output′ answer lets m) (λ sound. refl)
+        put-replied (refineList cs) _ e (list-replied m) same (λ fit lets keys pending. list-refined cs output output′ answer lets m) (λ sound. refl)
 
     pub put-intersected : (b : Subset) → questions ≡ intersectWith b ∷ [] → Answered (intersectReply a b (length output)) output answer output′ → l′ ≡ leftBy l place false answer
         → Put h rows sorts a questions l place output l′ output′
-    unfolding asked
+    unfolding asked refines
     put-intersected b e m same =
-        put-replied (intersectWith b) (bySubset b) _ e (intersection-replied a b m) same (λ fit lets keys pending. intersected b output output′ answer lets (inl m)) (λ sound. refl)
+        put-replied (intersectWith b) _ e (intersection-replied a b m) same (λ fit lets keys pending. intersected b output output′ answer lets (inl m)) (λ sound. refl)
 
     pub put-ranged : (b : Subset) {c : Constraint} {found : RangeAnswer} → questions ≡ intersectRange c ∷ [] → RangeRead h sorts c found
         → rangeSays found ≡ accepted (some b) → Answered (intersectReply a b (length output)) output answer output′ → l′ ≡ leftBy l place false answer
         → Put h rows sorts a questions l place output l′ output′
-    unfolding asked rangeStep
+    unfolding asked rangeStep refines
     put-ranged b {c} {found} e read is m same =
-        put-replied (intersectRange c) (byRange c) _ e (intersection-replied a b m) same
+        put-replied (intersectRange c) _ e (intersection-replied a b m) same
         (λ fit lets keys pending. range-intersected b c found output output′ answer read is lets (inl m))
         (λ sound. rw (range-known read sound ∙ range-some (rangeSays found) b is))
 
   -- there is no range, and the step counts for nothing
   pub put-no-range : {c : Constraint} {found : RangeAnswer} → questions ≡ intersectRange c ∷ [] → RangeRead h sorts c found
       → ((b : Subset) → rangeSays found ≡ accepted (some b) → ⊥) → l′ ≡ counted l → Put h rows sorts a questions l place output l′ output
-  unfolding askedAll asked rangeStep subsetLeft
+  unfolding askedAll asked rangeStep subsetLeft any
   put-no-range {c} {found} e read nowhere same =
       record {
         ids = a;
-        gathered = together nothing nothing;
+        accepted = [];
         run = λ fit lets keys pending. rw e (next (range-nothing c found read nowhere) refl (end a));
         leaves = λ sound. rw (e, range-known read sound ∙ range-none (rangeSays found) nowhere);
         told = ap (λ (x : RunAnswer). x .refined) same ∙ sym (or-false (l .refined));

@@ -4,6 +4,7 @@ use mathlib.Core.Path.{_≡_}
 use mathlib.Core.Bool.{Bool, true, false, _||_}
 use mathlib.Core.List.{List, [], _∷_}
 use lib.ListN.{length, take}
+use Rattle.lists.specs.Lists.{any}
 use Rattle.offsets.specs.declared.SubsetAnswer.{SubsetAnswer}
 use Rattle.offsets.specs.declared.SubsetAnswer.the-variants.{Refused, Range, List as Ids}
 use Rattle.offsets.specs.Subsets.{Subset}
@@ -11,7 +12,7 @@ use Rattle.constraints.specs.declared.Constraint.{Constraint}
 use Rattle.sort_entries.specs.Entries.{entriesOf, entriesSound}
 use Rattle.table.specs.declared.Header.{Header}
 use Rattle.table.specs.Promises.{stores}
-use Rattle.history.specs.Runs.{Question, intersectRange, Gathered, Run}
+use Rattle.history.specs.Runs.{Question, intersectRange, refines, Run}
 use Rattle.question_words.specs.declared.RunAnswer.{RunAnswer}
 use Rattle.question_words.specs.Encoding.{listOf}
 use Rattle.question_words.specs.Leaving.{outcome, askedAll, idsAt, subsetLeft}
@@ -33,10 +34,10 @@ leftBy l place refines (Ids n) =
 module _ (h : Header) (rows sorts : List ℕ) (a : Subset) (questions : List Question) (l : RunAnswer) (place : ℕ) (output : List ℕ) (l′ : RunAnswer) (output′ : List ℕ) where
   pub record Put : Type 0 where
     pub ids : Subset
-    pub gathered : Gathered
-    pub run : (fit : ℕ → Bool) → fit (length output) ≡ true → (keys pending : List ℕ) → Run (stores h rows keys sorts pending) fit a questions ids gathered
-    pub leaves : entriesSound (entriesOf (h .entries) sorts) (h .rows) ≡ true → outcome ids gathered ≡ askedAll h rows sorts (length output) a questions
-    pub told : l′ .refined ≡ (l .refined || gathered .refined)
+    pub accepted : List Question
+    pub run : (fit : ℕ → Bool) → fit (length output) ≡ true → (keys pending : List ℕ) → Run (stores h rows keys sorts pending) fit a questions ids accepted
+    pub leaves : entriesSound (entriesOf (h .entries) sorts) (h .rows) ≡ true → outcome ids accepted ≡ askedAll h rows sorts (length output) a questions
+    pub told : l′ .refined ≡ (l .refined || any refines accepted)
     pub taken : l′ .taken ≡ l .taken + length questions
     pub few : l′ .taken ≤ l .taken + 1
     -- the ids written lie in the output

@@ -5,10 +5,11 @@ use mathlib.Core.Path.{_≡_, sym, ap, _∙_}
 use mathlib.Core.Bool.{true}
 use mathlib.Core.List.{List}
 use lib.ListN.{drop}
+use Rattle.lists.specs.Lists.{any}
 use Rattle.offsets.specs.Subsets.{Subset}
 use Rattle.sort_entries.specs.Entries.{entriesOf, entriesSound}
 use Rattle.table.specs.declared.Header.{Header}
-use Rattle.history.specs.Runs.{Question}
+use Rattle.history.specs.Runs.{Question, refines}
 use Rattle.question_words.specs.declared.RunAnswer.{RunAnswer}
 use Rattle.question_words.specs.Leaving.{subsetLeft, Outcome}
 use Rattle.runs.specs.Asking.{shorter, RunMade}
@@ -39,5 +40,5 @@ module _ (h : Header) (rows sorts : List ℕ) (start : Subset) (ids : List ℕ) 
         taken = u .taken ∙ sym (v .taken);
         past = (u .past .0 ∙ sym (v .past .0), u .past .1 ∙ sym (v .past .1));
         ids-same = λ sound. ap (λ (o : Outcome). o .ids) (u .leaves sound ∙ sym (v .leaves sound));
-        refined = λ sound. u .told ∙ ap (λ (o : Outcome). o .gathered .refined) (u .leaves sound ∙ sym (v .leaves sound)) ∙ sym (v .told);
+        refined = λ sound. u .told ∙ ap (λ (o : Outcome). any refines (o .accepted)) (u .leaves sound ∙ sym (v .leaves sound)) ∙ sym (v .told);
       }

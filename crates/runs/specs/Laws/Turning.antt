@@ -1,8 +1,8 @@
 -- A question put on the ids left, and one after another. Assumes nothing.
-use Prim.Native.Nat.{ℕ, _+_, _≤_}
+use Prim.Native.Nat.{ℕ, _≤_}
 use mathlib.Core.Path.{_≡_, refl, sym}
-use mathlib.Core.Bool.{Bool, true, false, _||_}
-use mathlib.Core.List.{List, [], _∷_, _++_, append-assoc, append-nil}
+use mathlib.Core.Bool.{Bool}
+use mathlib.Core.List.{List, [], _∷_, _++_, append-assoc}
 use lib.ListN.{length, take}
 use borrow.Author.Tests.{eq-eqb, ne-eqb}
 use Rattle.offsets.specs.declared.SubsetHead.{SubsetHead}
@@ -10,7 +10,7 @@ use Rattle.offsets.specs.Subsets.{Subset}
 use Rattle.offsets.specs.Answers.{subsetOf}
 use Rattle.table.specs.declared.Header.{Header}
 use Rattle.table.specs.Promises.{Stores}
-use Rattle.history.specs.Runs.{Question, Gathered, nothing, together, Run, end, next}
+use Rattle.history.specs.Runs.{Question, Run, end, next}
 use Rattle.question_words.specs.declared.RunAnswer.{RunAnswer}
 use Rattle.question_words.specs.Leaving.{idsAt, subsetLeft, Outcome, outcome, asked, askedAll}
 use Rattle.question_words.specs.inner.Putting.{Put}
@@ -27,7 +27,7 @@ module _ {h : Header} {rows sorts ids : List ℕ} {questions : List Question} {l
       let is : subsetLeft l′ ids first′ second′ ≡ p .ids = p .there ids first′ second′ here kept in
       record {
         turned = record {
-          gathered = p .gathered;
+          accepted = p .accepted;
           run = λ keys pending. rw (is, before) (p .run _ (eq-eqb (length first) (length output) (sym long)) keys pending);
           leaves = λ sound. rw (is, before, ← long) (p .leaves sound);
           told = p .told;
@@ -78,38 +78,17 @@ module _ {h : Header} {rows sorts : List ℕ} (ids : List ℕ) {questions : List
 
 -- ---- one after another
 
-pub or-false : (b : Bool) → (b || false) ≡ b
-or-false true = refl
-or-false false = refl
-
-pub or-assoc : (a b c : Bool) → ((a || b) || c) ≡ (a || (b || c))
-or-assoc true b c = refl
-or-assoc false b c = refl
-
-pub together-assoc : (a b c : Gathered) → together (together a b) c ≡ together a (together b c)
-together-assoc a b c =
-    λ i.
-    record {
-      refined = or-assoc (a .refined) (b .refined) (c .refined) i;
-      subsets = append-assoc (a .subsets) (b .subsets) (c .subsets) i;
-      conditions = append-assoc (a .conditions) (b .conditions) (c .conditions) i;
-    }
-
-pub together-nothing : (a : Gathered) → together a nothing ≡ a
-together-nothing a =
-    λ i. record { refined = or-false (a .refined) i; subsets = append-nil (a .subsets) i; conditions = append-nil (a .conditions) i }
-
-pub run-then : {s : Stores} {fit : ℕ → Bool} {a b c : Subset} {qs rs : List Question} {g k : Gathered} → Run s fit a qs b g → Run s fit b rs c k → Run s fit a (qs ++ rs) c (together g k)
+pub run-then : {s : Stores} {fit : ℕ → Bool} {a b c : Subset} {qs rs xs ys : List Question} → Run s fit a qs b xs → Run s fit b rs c ys → Run s fit a (qs ++ rs) c (xs ++ ys)
 run-then (end a) more = more
-run-then {k = k} (next {g = g} {h = h} asked same rest) more = rw (together-assoc g h k) (next asked same (run-then rest more))
+run-then {ys = ys} (next {counted = counted} {rest = rest} asked same run) more = rw (append-assoc counted rest ys) (next asked same (run-then run more))
 
--- what questions leave behind others
-abbrev pub behind : Gathered → Outcome → Outcome
-behind g o = outcome (o .ids) (together g (o .gathered))
+-- what questions leave behind others that were accepted
+abbrev pub behind : List Question → Outcome → Outcome
+behind accepted o = outcome (o .ids) (accepted ++ o .accepted)
 
 pub asked-then : (h : Header) (rows sorts : List ℕ) (room : ℕ) (a : Subset) (qs rs : List Question)
-    → askedAll h rows sorts room a (qs ++ rs) ≡ behind (askedAll h rows sorts room a qs .gathered) (askedAll h rows sorts room (askedAll h rows sorts room a qs .ids) rs)
+    → askedAll h rows sorts room a (qs ++ rs) ≡ behind (askedAll h rows sorts room a qs .accepted) (askedAll h rows sorts room (askedAll h rows sorts room a qs .ids) rs)
 unfolding askedAll
 asked-then h rows sorts room a [] rs = refl
 asked-then h rows sorts room a (q ∷ qs) rs =
-    rw (asked-then h rows sorts room (asked h rows sorts room a q .ids) qs rs, together-assoc (asked h rows sorts room a q .gathered) (askedAll h rows sorts room (asked h rows sorts room a q .ids) qs .gathered) (askedAll h rows sorts room (askedAll h rows sorts room (asked h rows sorts room a q .ids) qs .ids) rs .gathered))
+    rw (asked-then h rows sorts room (asked h rows sorts room a q .ids) qs rs, append-assoc (asked h rows sorts room a q .accepted) (askedAll h rows sorts room (asked h rows sorts room a q .ids) qs .accepted) (askedAll h rows sorts room (askedAll h rows sorts room (asked h rows sorts room a q .ids) qs .ids) rs .accepted))
