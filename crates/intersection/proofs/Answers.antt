@@ -16,7 +16,7 @@ use Rattle.offsets.specs.declared.SubsetHead.{SubsetHead}
 use Rattle.offsets.specs.declared.SubsetAnswer.{SubsetAnswer}
 use Rattle.offsets.specs.declared.SubsetAnswer.the-variants.{Refused, Range, List as Ids}
 use Rattle.offsets.specs.Subsets.{Subset, range, list, wellFormed, listOrNothing, intersect}
-use Rattle.offsets.specs.Answers.{subsetOf, subsetSays, shape, written, Answered, room, intersectRefusal, intersectReply}
+use Rattle.offsets.specs.Answers.{subsetOf, answerOf, written, Answered, room, intersectRefusal, intersectReply}
 use Rattle.offsets.specs.inner.Writing.{Wrote}
 use Rattle.intersection.specs.inner.Common.{Fitting, Searchable, common}
 use Rattle.offsets.specs.Laws.Subsets.{dense-is, sparse-is, answered-list, formed-order, formed-rising, formed-short}
@@ -24,7 +24,7 @@ use Rattle.offsets.specs.Laws.Subsets.{dense-is, sparse-is, answered-list, form
 -- ---- answers
 
 pub answered-none : (ids output : List ℕ) (n : ℕ) (output′ : List ℕ) → Wrote output ids n output′ → n ≡ 0 → Answered (accepted (listOrNothing ids)) output (Range 0 0) output′
-unfolding subsetSays shape written listOrNothing
+unfolding answerOf written listOrNothing
 answered-none [] output n output′ w e = record { answers = refl; writes = w .cells }
 answered-none (x ∷ xs) output n output′ w e = absurd (let k = w .number in omega arith)
 
@@ -87,7 +87,7 @@ reply-refused zero s e = absurd (e refl)
 reply-refused (suc n) s e = refl
 
 pub answered-refused : (a b : Subset) (n : ℕ) (output : List ℕ) (r : ℕ) → r ≡ intersectRefusal a b n → (r ≡ 0 → ⊥) → Answered (intersectReply a b n) output (Refused r) output
-unfolding subsetSays shape written intersectReply
+unfolding answerOf written intersectReply
 answered-refused a b n output r e z =
     let k : reply (intersectRefusal a b n) (intersect a b) ≡ refused r = rw (← e) (reply-refused r (intersect a b) z) in
     record { answers = rw k; writes = rw k (sym (putAt-nil output 0)) }

@@ -16,21 +16,11 @@ use Rattle.offsets.specs.Subsets.{Subset, range, list, wellFormed, inter
 unfoldable pub subsetOf : SubsetHead → List ℕ → Subset
 subsetOf head ids = cond (head .dense) (range (head .start) (head .end)) (list ids)
 
--- what an answer tells of a subset: its two ends, or how many ids it has
-pub data Shape : Type 0 where
-  dense : ℕ → ℕ → Shape
-  sparse : ℕ → Shape
-
-unfoldable pub subsetSays : SubsetAnswer → Reply Shape
-subsetSays (Refused n) = refused n
-subsetSays (Range start end) = accepted (dense start end)
-subsetSays (Ids n) = accepted (sparse n)
-
--- what is told of a reply
-unfoldable pub shape : Reply Subset → Reply Shape
-shape (refused n) = refused n
-shape (accepted (range start end)) = accepted (dense start end)
-shape (accepted (list ids)) = accepted (sparse (length ids))
+-- the answer to a reply: a range by its two ends, a list by how many ids it has
+unfoldable pub answerOf : Reply Subset → SubsetAnswer
+answerOf (refused n) = Refused n
+answerOf (accepted (range start end)) = Range start end
+answerOf (accepted (list ids)) = Ids (length ids)
 
 -- the ids that it writes: "A range as answer writes no id"
 unfoldable pub written : Reply Subset → List ℕ
@@ -40,7 +30,7 @@ written (accepted (list ids)) = ids
 
 -- an answer and its output: "output beyond the ids written is unchanged"
 pub record Answered (r : Reply Subset) (output : List ℕ) (answer : SubsetAnswer) (output′ : List ℕ) : Type 0 where
-  pub answers : subsetSays answer ≡ shape r
+  pub answers : answer ≡ answerOf r
   pub writes : output′ ≡ putAt output 0 (written r)
 
 -- an answer as its caller reads it: refused, a range, or the first ids of the output

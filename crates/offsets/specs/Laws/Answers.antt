@@ -13,7 +13,7 @@ use Rattle.refusals.specs.Refusals.{refused, accepted, reply}
 use Rattle.offsets.specs.declared.SubsetAnswer.{SubsetAnswer}
 use Rattle.offsets.specs.declared.SubsetAnswer.the-variants.{Refused, List as Ids}
 use Rattle.offsets.specs.Subsets.{Subset, range, list, members, listOrNothing, intersect}
-use Rattle.offsets.specs.Answers.{subsetSays, shape, written, room, Answered}
+use Rattle.offsets.specs.Answers.{answerOf, written, room, Answered}
 
 pub written-none : (n : ℕ) → written (refused n) ≡ []
 unfolding written
@@ -24,7 +24,7 @@ unfolding written
 written-refused n k = omega arith
 
 pub answered-refused : (n : ℕ) (output : List ℕ) → Answered (refused n) output (Refused n) output
-unfolding subsetSays shape written
+unfolding answerOf written
 answered-refused n output = record { answers = refl; writes = sym (putAt-nil output 0) }
 
 pub written-members : (v : Subset) → length (written (accepted v)) ≤ length (members v)
@@ -50,7 +50,7 @@ written-intersect (list ids) (list others) = unfold written in kept-room (λ id.
 -- an answer that tells of ids has room for them
 pub answered-fits : (n : ℕ) (v : Subset) (output : List ℕ) (answer : SubsetAnswer) (output′ : List ℕ) → Answered (reply n v) output answer output′
     → (n ≡ 0 → length (written (accepted v)) ≤ length output) → (k : ℕ) → answer ≡ Ids k → k ≤ length output
-unfolding reply subsetSays shape written
+unfolding reply answerOf written
 answered-fits zero (range a b) output answer output′ m fit k e = absurd (let f = m .answers in let z : _≡_ {A = ℕ} 0 1 = cc in omega arith)
 answered-fits zero (list ids) output answer output′ m fit k e = let f = m .answers in let n : k ≡ length ids = cc in omega (arith, fit refl)
 answered-fits (suc n) v output answer output′ m fit k e = absurd (let f = m .answers in let z : _≡_ {A = ℕ} 0 1 = cc in omega arith)

@@ -18,9 +18,9 @@ use Rattle.refusals.specs.Refusals.{Reply, refused, accepted}
 use Rattle.refusals.specs.Laws.Determined.{Same}
 use Rattle.offsets.specs.declared.SubsetHead.{SubsetHead}
 use Rattle.offsets.specs.declared.SubsetAnswer.{SubsetAnswer}
-use Rattle.offsets.specs.declared.SubsetAnswer.the-variants.{Refused, Range, List as Ids}
+use Rattle.offsets.specs.declared.SubsetAnswer.the-variants.{Range, List as Ids}
 use Rattle.offsets.specs.Subsets.{Subset, range, list, wellFormed, members, size, endOf, listOrNothing, intersect, shaped, retain, narrowed}
-use Rattle.offsets.specs.Answers.{subsetOf, sparse, subsetSays, shape, readOff, written, Answered}
+use Rattle.offsets.specs.Answers.{subsetOf, answerOf, readOff, written, Answered}
 use Rattle.offsets.specs.inner.Writing.{Wrote}
 
 -- ---- a borrowed subset, by its kind
@@ -233,42 +233,17 @@ wellFormed-narrowed test (list ids) p h = rw (narrowed-list test ids) (formed-ke
 -- ---- answers
 
 pub answered-range : (a b : ℕ) (output : List ℕ) → Answered (accepted (range a b)) output (Range a b) output
-unfolding subsetSays shape written
+unfolding answerOf written
 answered-range a b output = record { answers = refl; writes = sym (putAt-nil output 0) }
 
 pub answered-list : (ids output : List ℕ) (n : ℕ) (output′ : List ℕ) → Wrote output ids n output′ → Answered (accepted (list ids)) output (Ids n) output′
-unfolding subsetSays shape written
-answered-list ids output n output′ w = record { answers = ap (λ (k : ℕ). accepted (sparse k)) (w .number); writes = w .cells }
-
--- an answer is known by what it says
-pub subset-said : (a b : SubsetAnswer) → subsetSays a ≡ subsetSays b → a ≡ b
-unfolding subsetSays
-subset-said (Refused n) (Refused m) e = cc
-subset-said (Refused n) (Range start end) e = cc
-subset-said (Refused n) (Ids m) e = cc
-subset-said (Range start end) (Refused n) e = cc
-subset-said (Range start end) (Range start′ end′) e = cc
-subset-said (Range start end) (Ids n) e = cc
-subset-said (Ids n) (Refused m) e = cc
-subset-said (Ids n) (Range start end) e = cc
-subset-said (Ids n) (Ids m) e = cc
-
--- the answer that says what is told of a reply
-unfoldable answerOf : Reply Subset → SubsetAnswer
-answerOf (refused n) = Refused n
-answerOf (accepted (range start end)) = Range start end
-answerOf (accepted (list ids)) = Ids (length ids)
-
-said-answer : (r : Reply Subset) → subsetSays (answerOf r) ≡ shape r
-unfolding subsetSays answerOf shape
-said-answer (refused n) = refl
-said-answer (accepted (range start end)) = refl
-said-answer (accepted (list ids)) = refl
+unfolding answerOf written
+answered-list ids output n output′ w = record { answers = ap (λ (k : ℕ). Ids k) (w .number); writes = w .cells }
 
 -- what the caller reads off an answer is the reply, where the output has room for its ids
 pub read-off : (r : Reply Subset) (output : List ℕ) (answer : SubsetAnswer) (output′ : List ℕ) → length (written r) ≤ length output
     → Answered r output answer output′ → readOff answer output′ ≡ r
-read-off r output answer output′ h a = rw (subset-said answer (answerOf r) (a .answers ∙ sym (said-answer r)), a .writes) (read r)
+read-off r output answer output′ h a = rw (a .answers, a .writes) (read r)
   where
     read : (r : Reply Subset) → readOff (answerOf r) (putAt output 0 (written r)) ≡ r
     read (refused n) = unfold readOff answerOf in refl
@@ -279,4 +254,4 @@ read-off r output answer output′ h a = rw (subset-said answer (answerOf r) (a 
 -- `intersectReply`, and of a refine.
 pub answered-determined : {r : Reply Subset} {output output₁ output₂ : List ℕ} {a b : SubsetAnswer}
     → Answered r output a output₁ → Answered r output b output₂ → Same a b output₁ output₂
-answered-determined {a = a} {b} x y = record { answer = subset-said a b (x .answers ∙ sym (y .answers)); cells = x .writes ∙ sym (y .writes) }
+answered-determined x y = record { answer = x .answers ∙ sym (y .answers); cells = x .writes ∙ sym (y .writes) }
