@@ -13,6 +13,7 @@ use Rattle.offsets.specs.declared.SubsetHead.{SubsetHead}
 use Rattle.offsets.specs.declared.BoundsAnswer.the-variants.{None, Ends}
 use Rattle.offsets.specs.Subsets.{list, wellFormed, size, endOf}
 use Rattle.offsets.specs.Laws.Subsets.{dense-is, sparse-is}
+use Rattle.offsets.specs.Laws.Forms.{size-range as range-size, size-list as list-size}
 use Rattle.offsets.specs.Answers.{subsetOf}
 use Rattle.offsets.specs.inner.Writing.{bounds, boundsSays}
 
@@ -41,12 +42,10 @@ bounds-cons x xs = refl
 
 module _ (head : SubsetHead) (ids : List ℕ) where
   pub size-range : head .dense ≡ true → head .end - head .start ≡ size (subsetOf head ids)
-  unfolding size
-  size-range e = rw (dense-is head ids e)
+  size-range e = rw (dense-is head ids e, range-size (head .start) (head .end))
 
   pub size-list : head .dense ≡ false → length ids ≡ size (subsetOf head ids)
-  unfolding size
-  size-list e = rw (sparse-is head ids e)
+  size-list e = rw (sparse-is head ids e, list-size ids)
 
   pub bounds-range : head .dense ≡ true → boundsSays (Ends (head .start) (head .end)) ≡ bounds (subsetOf head ids)
   unfolding bounds boundsSays

@@ -22,8 +22,7 @@ members (range start end) = countFrom start (end - start)
 members (list ids) = ids
 
 unfoldable pub size : Subset → ℕ
-size (range start end) = end - start
-size (list ids) = length ids
+size subset = length (members subset)
 
 -- the end that test 5 looks at: "range end or last id plus one"; an empty list has 0
 unfoldable pub endOf : Subset → ℕ

@@ -8,7 +8,7 @@ use mathlib.Core.Option.{Option, none, some}
 use lib.ListN.{length, getD}
 use borrow.Author.Tests.{le-leb}
 use Rattle.lists.specs.Lists.{keep, every, has, within}
-use Rattle.lists.specs.Laws.Rising.{getD-countFrom, has-countFrom}
+use Rattle.lists.specs.Laws.Rising.{length-countFrom, getD-countFrom, has-countFrom}
 use Rattle.offsets.specs.Subsets.{Subset, range, list, wellFormed, members, size, endOf, shaped, retain, narrowed}
 use Rattle.offsets.specs.inner.Writing.{Ends, bounds}
 use Rattle.offsets.specs.Laws.Subsets.{length-members, narrowed-list as narrowed-ids}
@@ -17,8 +17,8 @@ use Rattle.offsets.specs.Laws.Subsets.{length-members, narrowed-list as 
 
 module _ (a b : ℕ) where
   pub size-range : size (range a b) ≡ b - a
-  unfolding size
-  size-range = refl
+  unfolding members size
+  size-range = length-countFrom a (b - a)
 
   pub end-range : endOf (range a b) ≡ b
   unfolding endOf
@@ -43,7 +43,7 @@ module _ (a b : ℕ) where
 
 module _ (ids : List ℕ) where
   pub size-list : size (list ids) ≡ length ids
-  unfolding size
+  unfolding members size
   size-list = refl
 
   pub members-list : members (list ids) ≡ ids

@@ -66,9 +66,8 @@ rising-members (range a b) e = rising-countFrom a (b - a)
 rising-members (list ids) e = formed-rising ids e
 
 pub length-members : (a : Subset) → length (members a) ≡ size a
-unfolding members size
-length-members (range a b) = length-countFrom a (b - a)
-length-members (list ids) = refl
+unfolding size
+length-members a = refl
 
 -- ---- shapes
 
@@ -129,7 +128,9 @@ end-list x xs = refl
 -- each id lies below the end that test 5 looks at
 pub members-below : (a : Subset) → wellFormed a ≡ true → (i : ℕ) → i < size a → getD (members a) i 0 < endOf a
 unfolding members size
-members-below (range a b) w i h = unfold endOf in let k = getD-countFrom a (b - a) i 0 h in omega arith
+members-below (range a b) w i h = unfold endOf in
+    let under : i < length (countFrom a (b - a)) = h in
+    omega (arith, getD-countFrom a (b - a) i 0 (omega (arith, under, length-countFrom a (b - a))), under, length-countFrom a (b - a))
 members-below (list []) w i h = absurd (omega arith)
 members-below (list (x ∷ xs)) w i h =
     let e = end-list x xs in
@@ -208,7 +209,7 @@ narrowed-list test ids =
 -- The kept ids of a range may become a list, and a list has at most 65,536 ids: so the range must have no more. A
 -- well-formed list never has.
 short-keep : (test : ℕ → Bool) (a b : ℕ) → size (range a b) ≤ 65536 → length (keep test (countFrom a (b - a))) ≤ 65536
-unfolding size
+unfolding members size
 short-keep test a b h =
     let l = countFrom a (b - a) in
     let p = length-keep test l in let q = count-le test l in let r = length-countFrom a (b - a) in omega arith
