@@ -17,16 +17,12 @@ ruledColumn keys sort column = leb keys column && not (eqb column sort)
 unfoldable pub signed : ℕ → ℤ
 signed cell = cond (ltb cell 2147483648) (pos cell) (negsuc (4294967295 - cell))
 
--- "compare cells as signed numbers": the first means less than the second
-unfoldable pub signedLess : ℕ → ℕ → Bool
-signedLess a b = ltZ (signed a) (signed b)
-
--- "the smaller and the larger" of two cells
+-- "compare cells as signed numbers": "the smaller and the larger" of two cells
 unfoldable pub smaller : ℕ → ℕ → ℕ
-smaller a b = cond (signedLess b a) b a
+smaller a b = cond (ltZ (signed b) (signed a)) b a
 
 unfoldable pub larger : ℕ → ℕ → ℕ
-larger a b = cond (signedLess a b) b a
+larger a b = cond (ltZ (signed a) (signed b)) b a
 
 -- what the rule takes for such a cell: 0 the old, 1 the new, 2 the smaller, 3 the larger
 unfoldable pub taken : ℕ → ℕ → ℕ → ℕ

@@ -5,6 +5,7 @@ ghost use Prim.Native.Nat.{_+_, _%_, _≤_};
 ghost use mathlib.Core.Bool.{cond, not, _&&_};
 ghost use lib.ListN.{length, take, drop};
 ghost use lib.Dec.{eqb};
+ghost use lib.Signed.{ltZ};
 ghost use Rattle.lists.specs.Lists.{putAt};
 ghost use Rattle.merge_rules.specs.Rules as rules;
 
@@ -26,7 +27,7 @@ fn lifted(cell: u32) -> u32
 }
 
 fn signed_less(a: u32, b: u32) -> bool
-    ensures { λ r. ⌜ r ≡ rules.signedLess a b ⌝ }
+    ensures { λ r. ⌜ r ≡ ltZ (rules.signed a) (rules.signed b) ⌝ }
 {
     lifted(a) < lifted(b)
 }

@@ -7,12 +7,12 @@ use native.Mathlib.Decide.{decLt}
 use native.Mathlib.Omega.{arith}
 use lib.Dec.{ltb, leb→le, le→leb}
 use lib.IntN.{ℤ, pos, negsuc}
-use lib.Signed.{_≤ℤ_, leZ-yes}
+use lib.Signed.{ltZ, _≤ℤ_, leZ-yes}
 use mir.Syntax.{w32}
 use mir.Val.{toZ, ofZ, sel}
 use mir.Facts.{ofZ-toZ}
 use borrow.Author.Tests.{lt-ltb, le-ltb}
-use Rattle.merge_rules.specs.Rules.{signed, signedLess}
+use Rattle.merge_rules.specs.Rules.{signed}
 
 -- ---- the number that a cell means
 
@@ -83,26 +83,22 @@ agree a b c d f g =
 
 -- by the signs of two cells
 module _ (a b : ℕ) where
-  pub less-not-negative : a < 2147483648 → b < 2147483648 → signedLess a b ≡ ltb a b
-  unfolding signedLess
+  pub less-not-negative : a < 2147483648 → b < 2147483648 → ltZ (signed a) (signed b) ≡ ltb a b
   less-not-negative h k = rw (not-negative a h, not-negative b k)
 
-  pub less-negative : 2147483648 ≤ a → 2147483648 ≤ b → a < 4294967296 → b < 4294967296 → signedLess a b ≡ ltb a b
-  unfolding signedLess
+  pub less-negative : 2147483648 ≤ a → 2147483648 ≤ b → a < 4294967296 → b < 4294967296 → ltZ (signed a) (signed b) ≡ ltb a b
   less-negative h k p q =
       rw (negative a h, negative b k) (agree (4294967295 - b) (4294967295 - a) a b (λ (l : 4294967295 - b < 4294967295 - a). omega arith) (λ (l : 4294967295 - a ≤ 4294967295 - b). omega arith))
 
-  pub negative-less : 2147483648 ≤ a → b < 2147483648 → signedLess a b ≡ true
-  unfolding signedLess
+  pub negative-less : 2147483648 ≤ a → b < 2147483648 → ltZ (signed a) (signed b) ≡ true
   negative-less h k = rw (negative a h, not-negative b k)
 
-  pub not-less-negative : a < 2147483648 → 2147483648 ≤ b → signedLess a b ≡ false
-  unfolding signedLess
+  pub not-less-negative : a < 2147483648 → 2147483648 ≤ b → ltZ (signed a) (signed b) ≡ false
   not-less-negative h k = rw (not-negative a h, negative b k)
 
 -- the order of signed cells is that of the numbers plus 2147483648, here x and y
 pub less-lifted : (a b x y : ℕ) → a < 4294967296 → b < 4294967296 → x ≡ (a + 2147483648) % 4294967296 → y ≡ (b + 2147483648) % 4294967296
-    → signedLess a b ≡ ltb x y
+    → ltZ (signed a) (signed b) ≡ ltb x y
 less-lifted a b x y p q e f =
     elim (decLt a 2147483648) [
       | yes h ↦ elim (decLt b 2147483648) [
