@@ -1,7 +1,7 @@
 -- Calls on a plain table: "stagings, merges, compactions and clears, stopped and refused ones included". A refusal changes
 -- nothing. Assumes nothing.
 use Prim.Native.Nat.{ℕ}
-use mathlib.Core.Bool.{Bool, false, cond}
+use mathlib.Core.Bool.{false, cond}
 use mathlib.Core.List.{List, [], _∷_}
 use lib.Dec.{ltb, eqb}
 use lib.ListN.{length}
@@ -17,14 +17,11 @@ pub data Call : Type 0 where
 abbrev pub used : Plain → ℕ
 used p = wordsAll (p .opening) (p .staged)
 
--- all that is left of test 1 on a table that was opened: "pending words used above the pending store"
-unfoldable pub pendingShort : Plain → ℕ → Bool
-pendingShort p pending = ltb pending (used p)
-
--- the first number that applies, 0 if none
+-- the first number that applies, 0 if none. All that is left of test 1 on a table that was opened is "pending words used above
+-- the pending store"
 unfoldable pub refusal : Plain → Lengths → Call → ℕ
-refusal p l (staging r) = stageLadder (pendingShort p (l .pending)) (p .opening) (length (p .rows)) (used p) (l .pending) r
-refusal p l merging = mergeLadder (pendingShort p (l .pending)) (p .opening) l
+refusal p l (staging r) = stageLadder (ltb (l .pending) (used p)) (p .opening) (length (p .rows)) (used p) (l .pending) r
+refusal p l merging = mergeLadder (ltb (l .pending) (used p)) (p .opening) l
 refusal p l compacting = compactLadder false (p .opening) (p .generation) l
 refusal p l clearing = clearLadder false (p .opening) (p .generation) (length (p .rows)) (l .keys)
 

@@ -11,7 +11,7 @@ use Rattle.sort_entries.specs.Entries.{entriesOf, entryWords, last, push, pushA
 use Rattle.plain.specs.Staged.{openable, wordsOf, wordsAll, inserts, hasKey, skipped, due}
 use Rattle.plain.specs.Refusing.{storesShort, wordsShort, wrongWidth, noSuchRow, overfull, openRefusal, stageLadder, mergeLadder}
 use Rattle.plain.specs.Plain.{liveFrom, liveRows, lookup, dead, opened, stage, liveWithKey, killIf, withoutKey, withoutRow, removed, below, stop, raised, append, put, insertion, insertAll, applied, compacted, unstaged, compactsAfter, merged}
-use Rattle.plain.specs.Calls.{pendingShort, refusal, done, after}
+use Rattle.plain.specs.Calls.{refusal, done, after}
 use Rattle.table.specs.Stores.{entries}
 use Rattle.table.specs.Promises.{fastSubset}
 use Rattle.levels_text.specs.Lines.{fields, valueFrom, isDecimal, isLine, letter, numbers, isBare, isForm, ofForms}
@@ -46,5 +46,5 @@ output =
     ∷ []
 
 pub example : printed input ≡ output
-unfolding printed session linesIn begun input output flat every same count keep countFrom firstOf first reply isDead ruledColumn signed smaller larger taken madeCell madeFrom changesFrom ruled known last push pushAll rebuilt any firstRow fastRange entriesOf entryWords openable wordsOf wordsAll inserts hasKey skipped due storesShort wordsShort wrongWidth noSuchRow overfull openRefusal stageLadder mergeLadder liveFrom liveRows lookup dead opened stage liveWithKey killIf withoutKey withoutRow removed below stop raised append put insertion insertAll applied compacted unstaged compactsAfter merged pendingShort refusal done after entries fields valueFrom isDecimal isLine letter numbers isBare isForm ofForms digitsIn decimal field textLine replied openNumber opens calls asks mergeText fastSubset rangeText versionText listText served onTable turn lineTurn
+unfolding printed session linesIn begun input output flat every same count keep countFrom firstOf first reply isDead ruledColumn signed smaller larger taken madeCell madeFrom changesFrom ruled known last push pushAll rebuilt any firstRow fastRange entriesOf entryWords openable wordsOf wordsAll inserts hasKey skipped due storesShort wordsShort wrongWidth noSuchRow overfull openRefusal stageLadder mergeLadder liveFrom liveRows lookup dead opened stage liveWithKey killIf withoutKey withoutRow removed below stop raised append put insertion insertAll applied compacted unstaged compactsAfter merged refusal done after entries fields valueFrom isDecimal isLine letter numbers isBare isForm ofForms digitsIn decimal field textLine replied openNumber opens calls asks mergeText fastSubset rangeText versionText listText served onTable turn lineTurn
 example = refl

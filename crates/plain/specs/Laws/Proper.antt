@@ -18,7 +18,7 @@ use Rattle.refusals.specs.Refusals.{accepted}
 use Rattle.plain.specs.Staged.{Opening, openable, Staged, insert, removeKey, removeRow, inserts, skipped, due}
 use Rattle.plain.specs.Plain.{Row, Plain, withRows, opened, stage, liveWithKey, killIf, dies, removed, stop, insertion, applied, dead, compacted, unstaged, compactsAfter, merged, cleared, below, withRow, insertAll}
 use Rattle.plain.specs.Refusing.{Lengths, wrongWidth, stageLadder, compactLadder, clearLadder}
-use Rattle.plain.specs.Calls.{Call, staging, merging, compacting, clearing, refusal, done, after, LentCall, afterAll, used, pendingShort}
+use Rattle.plain.specs.Calls.{Call, staging, merging, compacting, clearing, refusal, done, after, LentCall, afterAll, used}
 use Rattle.plain.specs.Proper.{rowOf, Proper}
 use Rattle.merge_rules.specs.Laws.Rules.{made-length, made-keys, made-first}
 use Rattle.plain.specs.Laws.Lookup.{lookup-none, lookup-at}
@@ -289,7 +289,7 @@ cleared-proper {p} h f =
 -- a call that is not refused
 pub done-proper : {p : Plain} (l : Lengths) (c : Call) → Proper p → refusal p l c ≡ 0 → Proper (done p c)
 unfolding done refusal
-done-proper {p} l (staging r) h e = staged-proper (pendingShort p (l .pending)) (l .pending) r h e
+done-proper {p} l (staging r) h e = staged-proper (ltb (l .pending) (used p)) (l .pending) r h e
 done-proper l merging h e = merged-proper h
 done-proper {p} l compacting h e =
     compacted-proper h (below-last (p .generation) (h .generation-fits) (unfold compactLadder in first-no _ 9 _ (first-rest _ 1 _ (first-rest _ 0 _ e))))

@@ -13,7 +13,7 @@ use Rattle.merge_rules.specs.Rules.{ruledColumn, signed, smaller, larger, taken
 use Rattle.plain.specs.Staged.{Opening, openable, insert, removeKey, removeRow, wordsOf, wordsAll, inserts, hasKey, skipped, due}
 use Rattle.plain.specs.Refusing.{storesShort, wordsShort, wrongWidth, noSuchRow, overfull, stageLadder, mergeLadder, clearLadder}
 use Rattle.plain.specs.Plain.{Plain, Numbered, liveFrom, liveRows, lookup, live, dead, opened, stage, liveWithKey, killIf, withoutKey, dies, withoutRow, removed as removals, below, stop, raised, append, put, insertion, Inserted, insertAll, applied, compacted, unstaged, compactsAfter, merged, mergeKeeps, mergeDrops, cleared}
-use Rattle.plain.specs.Calls.{Call, staging, merging, clearing, LentCall, pendingShort, refusal, done, after, afterAll}
+use Rattle.plain.specs.Calls.{Call, staging, merging, clearing, LentCall, refusal, done, after, afterAll}
 
 pub record Turn : Type 0 where
   pub opening : Opening
@@ -274,5 +274,5 @@ comesOut t =
     && sameRows (liveRows (outcome t .table)) (t .live-after)
 
 pub all-come-out : every comesOut turns ≡ true
-unfolding every same count keep countFrom firstOf first reply isDead ruledColumn signed smaller larger taken madeCell madeFrom changesFrom ruled openable wordsOf wordsAll inserts hasKey skipped due storesShort wordsShort wrongWidth noSuchRow overfull stageLadder mergeLadder clearLadder liveFrom liveRows lookup live dead opened stage liveWithKey killIf withoutKey dies withoutRow removals below stop raised append put insertion insertAll applied compacted unstaged compactsAfter merged mergeKeeps mergeDrops cleared pendingShort refusal done after afterAll turns sameRows comesOut
+unfolding every same count keep countFrom firstOf first reply isDead ruledColumn signed smaller larger taken madeCell madeFrom changesFrom ruled openable wordsOf wordsAll inserts hasKey skipped due storesShort wordsShort wrongWidth noSuchRow overfull stageLadder mergeLadder clearLadder liveFrom liveRows lookup live dead opened stage liveWithKey killIf withoutKey dies withoutRow removals below stop raised append put insertion insertAll applied compacted unstaged compactsAfter merged mergeKeeps mergeDrops cleared refusal done after afterAll turns sameRows comesOut
 all-come-out = refl

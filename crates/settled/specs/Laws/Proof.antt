@@ -13,11 +13,11 @@ use Rattle.sort_entries.specs.Entries.{firstRow, fastRange}
 use Rattle.plain.specs.Staged.{openable, wordsOf, wordsAll, inserts, hasKey, skipped, due}
 use Rattle.plain.specs.Plain.{insertAll, liveFrom, liveRows, lookup, dead, opened, stage, liveWithKey, killIf, withoutKey, withoutRow, removed, below, stop, raised, append, put, insertion, applied, compacted, unstaged, compactsAfter, merged}
 use Rattle.plain.specs.Refusing.{storesShort, wordsShort, wrongWidth, noSuchRow, overfull, stageLadder, mergeLadder}
-use Rattle.plain.specs.Calls.{pendingShort, refusal, done, after, afterAll}
+use Rattle.plain.specs.Calls.{refusal, done, after, afterAll}
 use Rattle.table.specs.Refusing.{outside, rowsShort}
 use Rattle.queries.specs.Queries.{matches, pastRows, tests, refineRefusal, pageRefusal, refineOneReply, refineListReply, visited, nextPlace, pageIds, pageReply}
 use Rattle.settled.specs.Settled.{examples, comesOut, areRows, numbered}
 
 pub settled : every comesOut examples ≡ true
-unfolding every keep count rowAt countFrom above rising has within same first reply isDead ruledColumn signed smaller larger taken madeCell madeFrom changesFrom ruled wellFormed members size endOf listOrNothing intersect shaped retain narrowed room intersectRefusal intersectReply known compares met isLive meets any firstRow fastRange openable wordsOf wordsAll inserts hasKey skipped due insertAll dead storesShort wordsShort pendingShort opened wrongWidth noSuchRow overfull stageLadder mergeLadder stage liveWithKey killIf withoutKey withoutRow removed lookup firstOf below stop raised append put insertion applied compacted unstaged compactsAfter merged refusal done after afterAll outside rowsShort matches pastRows tests refineRefusal pageRefusal refineOneReply refineListReply visited nextPlace pageIds pageReply examples comesOut areRows numbered setBelow marks liveAt liveWord newNumber liveFrom liveRows
+unfolding every keep count rowAt countFrom above rising has within same first reply isDead ruledColumn signed smaller larger taken madeCell madeFrom changesFrom ruled wellFormed members size endOf listOrNothing intersect shaped retain narrowed room intersectRefusal intersectReply known compares met isLive meets any firstRow fastRange openable wordsOf wordsAll inserts hasKey skipped due insertAll dead storesShort wordsShort opened wrongWidth noSuchRow overfull stageLadder mergeLadder stage liveWithKey killIf withoutKey withoutRow removed lookup firstOf below stop raised append put insertion applied compacted unstaged compactsAfter merged refusal done after afterAll outside rowsShort matches pastRows tests refineRefusal pageRefusal refineOneReply refineListReply visited nextPlace pageIds pageReply examples comesOut areRows numbered setBelow marks liveAt liveWord newNumber liveFrom liveRows
 settled = refl

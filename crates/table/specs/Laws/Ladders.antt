@@ -3,7 +3,7 @@ use mathlib.Core.Path.{_≡_}
 use Rattle.plain.specs.Staged.{Staged}
 use Rattle.plain.specs.Refusing.{Lengths}
 use Rattle.plain.specs.Plain.{Plain}
-use Rattle.plain.specs.Calls.{staging, merging, compacting, clearing, pendingShort, refusal}
+use Rattle.plain.specs.Calls.{staging, merging, compacting, clearing, refusal}
 use Rattle.table.specs.Refusing.{pendingOutside, stageRefusal, mergeRefusal, compactRefusal, clearRefusal}
 use Rattle.table.specs.Promises.{Stores, Represents}
 use Rattle.table.specs.Laws.Shown.{header-inside}
@@ -11,12 +11,12 @@ use Rattle.table.specs.Laws.Shown.{header-inside}
 module _ {p : Plain} {s : Stores} (r : Represents p s) (l : Lengths) where
   -- *Stage*
   pub stage-ladders : (q : Staged) → stageRefusal (s .header) (l .pending) q ≡ refusal p l (staging q)
-  unfolding stageRefusal refusal pendingOutside pendingShort
+  unfolding stageRefusal refusal pendingOutside
   stage-ladders q = rw (r .shown .header, header-inside (r .proper))
 
   -- *Merge*
   pub merge-ladders : mergeRefusal (s .header) l ≡ refusal p l merging
-  unfolding mergeRefusal refusal pendingOutside pendingShort
+  unfolding mergeRefusal refusal pendingOutside
   merge-ladders = rw (r .shown .header, header-inside (r .proper))
 
   -- *Compact*
