@@ -9,7 +9,8 @@ use native.Mathlib.Omega.{arith}
 use lib.ListN.{length, getD, set}
 use Rattle.lists.specs.Lists.{putAt}
 use Rattle.key_index.specs.declared.Keyed.{Keyed}
-use Rattle.key_index.specs.Slots.{slots, tagged}
+use Rattle.key_index.specs.Slots.{slots}
+use Rattle.key_index.specs.inner.Ring.{tagged}
 use Rattle.key_index.specs.inner.Index.{Fits, PutIs}
 use Rattle.key_index.specs.Laws.Index.{replace-tail}
 use Rattle.key_index.specs.Laws.Rooms.{past-room}

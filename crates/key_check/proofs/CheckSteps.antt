@@ -16,8 +16,8 @@ use Rattle.lists.specs.Laws.Rows.{row-in}
 use Rattle.cells.specs.Cells.{compact, keyHash}
 use Rattle.constraints.specs.Constraints.{isLive}
 use Rattle.key_index.specs.declared.Keyed.{Keyed}
-use Rattle.key_index.specs.Slots.{LiveAt, keyAt, slots, word, home, slotFrom, KeysSound, spread, tagged}
-use Rattle.key_index.specs.inner.Ring.{rowNamed}
+use Rattle.key_index.specs.Slots.{LiveAt, keyAt, slots, word, home, slotFrom, KeysSound}
+use Rattle.key_index.specs.inner.Ring.{spread, tagged, rowNamed}
 use Rattle.key_index.specs.Laws.Ring.{home-spread, word-tagged, word-some, word-same, home-below}
 use Rattle.key_index.specs.Laws.Unrolled.{away, slot-zero, line}
 use Rattle.key_index.specs.inner.Index.{Fits, homeOf}
@@ -104,7 +104,7 @@ module _ (t : Keyed) (rows : List ℕ) (w at run : ℕ) where
 
 -- a word that is held says its row
 held-row : (t : Keyed) (rows store : List ℕ) → Fits t rows store → (w row : ℕ) → row < t .rows → w ≡ word (keyAt t rows row) row → w % 2 ^ 17 ≡ row + 1
-unfolding word tagged
+unfolding word
 held-row t rows store f w row h e = omega (arith, f .count, f .most)
 
 line-home : (t : Keyed) (rows : List ℕ) (z w : ℕ) → lineHome t rows z w ≡ away (slots t) z (home (slots t) (keyAt t rows (named w)))

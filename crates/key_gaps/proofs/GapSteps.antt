@@ -15,8 +15,8 @@ use borrow.Author.Tests.{leb-true, leb-false}
 use Rattle.lists.specs.Laws.Keep.{split}
 use Rattle.cells.specs.Cells.{compact, keyHash}
 use Rattle.key_index.specs.declared.Keyed.{Keyed}
-use Rattle.key_index.specs.Slots.{keyAt, slots, slotFrom, spread}
-use Rattle.key_index.specs.inner.Ring.{rowNamed, namesRow, away}
+use Rattle.key_index.specs.Slots.{keyAt, slots, slotFrom}
+use Rattle.key_index.specs.inner.Ring.{spread, rowNamed, namesRow, away}
 use Rattle.key_index.specs.Laws.Ring.{home-spread}
 use Rattle.key_index.specs.inner.Index.{Fits, homeOf}
 use Rattle.key_gaps.specs.inner.Gaps.{closed, Shifted, TakenOut}

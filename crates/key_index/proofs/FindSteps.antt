@@ -10,7 +10,8 @@ use lib.ListN.{getD}
 use Rattle.cells.specs.Cells.{compact, keyHash}
 use Rattle.key_index.specs.declared.Keyed.{Keyed}
 use Rattle.key_index.specs.declared.Found.the-variants.{None, At}
-use Rattle.key_index.specs.Slots.{LiveAt, keyAt, slots, word, home, slotFrom, StandsAt, KeysSound, spread}
+use Rattle.key_index.specs.Slots.{LiveAt, keyAt, slots, word, home, slotFrom, StandsAt, KeysSound}
+use Rattle.key_index.specs.inner.Ring.{spread}
 use Rattle.key_index.specs.Laws.Ring.{home-spread, word-tagged, word-some, word-same, tagged-row, tagged-bits}
 use Rattle.key_index.specs.inner.Index.{Leads, FoundAt, FoundIs}
 use Rattle.key_index.specs.inner.Window.{Ahead}

@@ -14,8 +14,8 @@ use Rattle.lists.specs.Laws.Rising.{same-refl, same-eq}
 use Rattle.lists.specs.Laws.Rows.{row-in}
 use Rattle.row_buffer.specs.Laws.Rows.{key-row}
 use Rattle.key_index.specs.declared.Keyed.{Keyed}
-use Rattle.key_index.specs.Slots.{keyAt, tagged}
-use Rattle.key_index.specs.inner.Ring.{namesRow}
+use Rattle.key_index.specs.Slots.{keyAt}
+use Rattle.key_index.specs.inner.Ring.{tagged, namesRow}
 use Rattle.key_index.specs.Laws.Ring.{tagged-row, tagged-bits, tagged-of, names-yes, names-number}
 use Rattle.key_index.specs.inner.Index.{RowsIn, Leads, HitIs}
 

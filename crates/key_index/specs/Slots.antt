@@ -33,20 +33,13 @@ roomFor capacity rows = min capacity (roomStep rows)
 abbrev pub slots : Keyed → ℕ
 slots t = 2 * t .room
 
--- a slot's word: the row's number plus 1, and the low 15 bits of a hash above
-unfoldable pub tagged : ℕ → ℕ → ℕ
-tagged hash row = hash % 2 ^ 15 * 2 ^ 17 + (row + 1)
-
--- a hash of 32 bits spread over n slots
-unfoldable pub spread : ℕ → ℕ → ℕ
-spread n hash = hash * n / 2 ^ 32
-
--- what the slot of a key's row holds, and the key's home
+-- what the slot of a key's row holds: the row's number plus 1, and the low 15 bits of the key's compact hash above
 unfoldable pub word : List ℕ → ℕ → ℕ
-word key row = tagged (compact (keyHash key)) row
+word key row = compact (keyHash key) % 2 ^ 15 * 2 ^ 17 + (row + 1)
 
+-- a key's home: its compact hash, of 32 bits, spread over n slots
 unfoldable pub home : ℕ → List ℕ → ℕ
-home n key = spread n (compact (keyHash key))
+home n key = compact (keyHash key) * n / 2 ^ 32
 
 -- the d-th slot from a slot, going round
 unfoldable pub slotFrom : ℕ → ℕ → ℕ → ℕ

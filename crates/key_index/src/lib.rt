@@ -7,8 +7,8 @@ ghost use Prim.Native.Nat.{ℕ, _+_, _-_, _%_, _^_, _≤_, _<_};
 ghost use mathlib.Core.Bool.{true};
 ghost use lib.ListN.{length, set};
 ghost use Rattle.cells.specs.Cells.{compact, keyHash};
-ghost use Rattle.key_index.specs.Slots.{keyAt, roomStep, roomFor, slots, slotFrom, spread, tagged};
-ghost use Rattle.key_index.specs.inner.Ring.{namesRow};
+ghost use Rattle.key_index.specs.Slots.{keyAt, roomStep, roomFor, slots, slotFrom};
+ghost use Rattle.key_index.specs.inner.Ring.{spread, tagged, namesRow};
 ghost use Rattle.key_index.specs.inner.Index.{Room, RowsIn, Fits, HitIs, FoundIs, PutIs, EmptyIs};
 ghost use Rattle.key_index.specs.inner.Window.{isFree, hasBits, someOf, Ahead, FreeSoon, TakenRun};
 

@@ -9,7 +9,8 @@ use lib.ListN.{length, getD, set}
 use Rattle.lists.specs.Lists.{putAt}
 use Rattle.refusals.specs.Refusals.{rung, first}
 use Rattle.sort_entries.specs.Entries.{entriesOf, entryWords, push}
-use Rattle.key_index.specs.Slots.{roomFor, slots, tagged, KeysSound}
+use Rattle.key_index.specs.Slots.{roomFor, slots, KeysSound}
+use Rattle.key_index.specs.inner.Ring.{tagged}
 use Rattle.key_index.specs.inner.Index.{Fits, PutIs}
 use Rattle.key_growth.specs.inner.Growth.{Rebuilt}
 use Rattle.plain.specs.Plain.{below}

@@ -24,7 +24,8 @@ use Rattle.merge_rules.specs.Survivor.{survivor}
 use Rattle.merge_rules.specs.Laws.Rules.{made-length, made-keys, made-first, kept-of, made-of, survives, survivor-length, ruled-made}
 use Rattle.key_index.specs.declared.Found.{Found}
 use Rattle.key_index.specs.declared.Found.the-variants.{None, At}
-use Rattle.key_index.specs.Slots.{roomFor, slots, KeysSound, tagged}
+use Rattle.key_index.specs.Slots.{roomFor, slots, KeysSound}
+use Rattle.key_index.specs.inner.Ring.{tagged}
 use Rattle.key_index.specs.inner.Index.{Fits, FoundAt, FoundIs, PutIs}
 use Rattle.key_index.specs.Laws.Index.{put-sound, replace-sound}
 use Rattle.key_index.specs.Laws.Rooms.{room-enough}

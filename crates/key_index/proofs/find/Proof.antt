@@ -2,7 +2,7 @@
 -- Assumes nothing.
 use Prim.Native.Nat.{_-_, _≤_}
 use native.Mathlib.Omega.{arith}
-use Rattle.key_index.specs.Slots.{spread}
+use Rattle.key_index.specs.inner.Ring.{spread}
 use Rattle.key_index.specs.Laws.Index.{rows-in}
 use Rattle.key_index.proofs.WalkSteps.{Walked, begin, on}
 use Rattle.key_index.proofs.FindSteps.{Past, leads-some, found-free, found-round, found-row}

@@ -4,7 +4,7 @@ use mathlib.Core.Path.{refl}
 use native.Mathlib.Nat.{mul-le-mul}
 use native.Mathlib.Omega.{arith}
 use Rattle.key_index.specs.Laws.Ring.{spread-below}
-use Rattle.key_index.specs.Slots.{spread}
+use Rattle.key_index.specs.inner.Ring.{spread}
 use borrow.Author.Needs.{needs}
 use Rattle.key_index.proofs.home_slot.Statement.{statement}
 use Rattle.key_index.proofs.home_slot.Tie as tie

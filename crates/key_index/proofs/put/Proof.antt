@@ -3,7 +3,7 @@ use Prim.Native.Nat.{_-_}
 use mathlib.Core.Path.{_≡_, refl}
 use native.Mathlib.Omega.{arith}
 use lib.ListN.{length, length-set}
-use Rattle.key_index.specs.Slots.{spread}
+use Rattle.key_index.specs.inner.Ring.{spread}
 use Rattle.key_index.proofs.WalkSteps.{Walked, begin-past, on}
 use Rattle.key_index.proofs.PutSteps.{put-here, put-none}
 use Rattle.key_index.proofs.WindowSteps.{Taken}

@@ -15,8 +15,8 @@ use Rattle.lists.specs.Laws.Keep.{split}
 use Rattle.lists.specs.Laws.Parts.{getD-putAt-in}
 use Rattle.cells.specs.Cells.{compact, keyHash}
 use Rattle.key_index.specs.declared.Keyed.{Keyed}
-use Rattle.key_index.specs.Slots.{LiveAt, keyAt, slots, word, home, slotFrom, StandsAt, KeysSound, tagged}
-use Rattle.key_index.specs.inner.Ring.{rowNamed}
+use Rattle.key_index.specs.Slots.{LiveAt, keyAt, slots, word, home, slotFrom, StandsAt, KeysSound}
+use Rattle.key_index.specs.inner.Ring.{tagged, rowNamed}
 use Rattle.key_index.specs.Laws.Ring.{home-spread, word-tagged, word-some, word-row, word-same, slot-below}
 use Rattle.key_index.specs.Laws.Pigeons.{pigeons}
 use Rattle.key_index.specs.inner.Index.{RowsIn, Fits, FirstFree, FoundAt, FirstHit, PutIs, zeros, EmptyIs}

@@ -11,16 +11,16 @@ use Rattle.lists.specs.Laws.Keep.{and-left, and-right}
 use Rattle.cells.specs.Cells.{compact, keyHash}
 use Rattle.cells.specs.Laws.Cells.{key-hash-fits}
 use Rattle.key_index.specs.declared.Keyed.{Keyed}
-use Rattle.key_index.specs.Slots.{tagged, spread, word, home, slotFrom}
-use Rattle.key_index.specs.inner.Ring.{rowNamed, namesRow, away}
+use Rattle.key_index.specs.Slots.{word, home, slotFrom}
+use Rattle.key_index.specs.inner.Ring.{tagged, spread, rowNamed, namesRow, away}
 
 pub word-tagged : (hash row : ℕ) (key : List ℕ) → hash ≡ compact (keyHash key) → tagged hash row ≡ word key row
-unfolding word
+unfolding word tagged
 word-tagged hash row key e = ap (λ (h : ℕ). tagged h row) e
 
 -- a word is never that of a free slot
 pub word-some : (key : List ℕ) (row : ℕ) → 0 < word key row
-unfolding word tagged
+unfolding word
 word-some key row = omega arith
 
 -- a word's row and its 15 bits are read back
@@ -37,7 +37,7 @@ unfolding tagged
 tagged-of hash w h k = omega arith
 
 pub word-row : (key : List ℕ) (row : ℕ) → row < 2 ^ 17 - 1 → rowNamed (word key row) ≡ row
-unfolding word tagged rowNamed
+unfolding word rowNamed
 word-row key row h = omega arith
 
 -- words of two rows differ
@@ -66,7 +66,7 @@ names-word t key row h k =
 -- ---- homes
 
 pub home-spread : (n hash : ℕ) (key : List ℕ) → hash ≡ compact (keyHash key) → spread n hash ≡ home n key
-unfolding home
+unfolding home spread
 home-spread n hash key e = ap (spread n) e
 
 pub spread-below : (n hash : ℕ) → 0 < n → hash < 2 ^ 32 → spread n hash < n

@@ -10,8 +10,8 @@ use Rattle.cells.specs.Cells.{compact, keyHash}
 use Rattle.key_index.specs.declared.Keyed.{Keyed}
 use Rattle.key_index.specs.declared.Found.{Found}
 use Rattle.key_index.specs.declared.Found.the-variants.{None, At}
-use Rattle.key_index.specs.Slots.{LiveAt, keyAt, slots, word, home, slotFrom, KeysSound, spread, tagged}
-use Rattle.key_index.specs.inner.Ring.{rowNamed}
+use Rattle.key_index.specs.Slots.{LiveAt, keyAt, slots, word, home, slotFrom, KeysSound}
+use Rattle.key_index.specs.inner.Ring.{spread, tagged, rowNamed}
 
 -- a key store is long enough for a room
 pub record Room (room : ℕ) (store : List ℕ) : Type 0 where

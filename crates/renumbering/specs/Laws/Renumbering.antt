@@ -19,7 +19,7 @@ use Rattle.constraints.specs.Constraints.{isLive}
 use Rattle.row_buffer.specs.Ranks.{liveAt, newNumber}
 use Rattle.row_buffer.specs.Laws.Rows.{liveAt-in, number-live, number-dead, number-rises, number-back}
 use Rattle.key_index.specs.declared.Keyed.{Keyed}
-use Rattle.key_index.specs.Slots.{LiveAt, keyAt, slots, word, home, slotFrom, StandsAt, KeysSound, tagged}
+use Rattle.key_index.specs.Slots.{LiveAt, keyAt, slots, word, home, slotFrom, StandsAt, KeysSound}
 use Rattle.key_index.specs.Laws.Ring.{word-row, word-same, word-some, names-none, names-word, slot-below}
 use Rattle.key_index.specs.Laws.Lines.{Small}
 use Rattle.renumbering.specs.inner.Renumbering.{liveBelow, Renamed, Renumbered, newRow, renumbered}
@@ -42,7 +42,7 @@ renumbered-word t live base m key row new h e k =
     first live base row new e k = unfold newRow in omega arith
 
     put : (key : List ℕ) (row new : ℕ) → row < 2 ^ 17 - 1 → word key row / 2 ^ 17 * 2 ^ 17 + (new + 1) ≡ word key new
-    put key row new h = unfold word tagged in omega arith
+    put key row new h = unfold word in omega arith
 
 -- Rows get new numbers: those of the rows that live, in the table after, with the same keys.
 pub record Renames (t : Keyed) (rows : List ℕ) (t′ : Keyed) (rows′ : List ℕ) (new : ℕ → ℕ) : Type 0 where
