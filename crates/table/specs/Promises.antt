@@ -113,13 +113,12 @@ opening columns keys sort rule capacity =
     record { columns = columns; keys = keys; sort = sort; rule = rule; capacity = capacity }
 
 -- *Open*: lent rows, keys, sort entries and pending; all but keys are lent shared, so that they stay as they are
-module _ (o : Opening) (generation : ℕ) (b : Body) (pending : List ℕ) (answer : TableAnswer) (keys′ : List ℕ) where
-  pub record Opened : Type 0 where
-    pub answers : tableSays answer ≡ reply (openRefusal o (lengths (b .rows) (b .keys) (b .sorts) pending [] [])) (headerOf (opened o generation))
-    pub unchanged : 0 < openRefusal o (lengths (b .rows) (b .keys) (b .sorts) pending [] []) → keys′ ≡ b .keys
-    pub past : SlotsPast (o .capacity) (b .keys) keys′
-    pub represents : openRefusal o (lengths (b .rows) (b .keys) (b .sorts) pending [] []) ≡ 0
-        → Represents (opened o generation) (stores (headerOf (opened o generation)) (b .rows) keys′ (b .sorts) pending)
+pub record Opened (o : Opening) (generation : ℕ) (b : Body) (pending : List ℕ) (answer : TableAnswer) (keys′ : List ℕ) : Type 0 where
+  pub answers : tableSays answer ≡ reply (openRefusal o (lengths (b .rows) (b .keys) (b .sorts) pending [] [])) (headerOf (opened o generation))
+  pub unchanged : 0 < openRefusal o (lengths (b .rows) (b .keys) (b .sorts) pending [] []) → keys′ ≡ b .keys
+  pub past : SlotsPast (o .capacity) (b .keys) keys′
+  pub represents : openRefusal o (lengths (b .rows) (b .keys) (b .sorts) pending [] []) ≡ 0
+      → Represents (opened o generation) (stores (headerOf (opened o generation)) (b .rows) keys′ (b .sorts) pending)
 
 -- *Stage*: lent pending. Of any table, since nothing but the header and the pending store is looked at
 abbrev pub withPending : Header → ℕ → Header
