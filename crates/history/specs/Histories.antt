@@ -11,15 +11,12 @@ use Rattle.table.specs.declared.MergeAnswer.{MergeAnswer}
 use Rattle.table.specs.Numbers.{tableSays, mergeSays}
 use Rattle.table.specs.Promises.{Stores, stores, Body, body, bodyOf, joined, CompactionWords, compactionWords, lengthsLent, headerAfter, headerMerged, Opened, Staging, Merging, Compacting, Clearing}
 
-abbrev pub noWords : CompactionWords
-noWords = compactionWords [] []
-
 -- one call: from what it is lent to what it leaves there, by the promise of its entry point, with the stores' lengths. A store
 -- that it is not lent is as it was
 pub data Called (s : Stores) : LentCall → Stores → Type 0 where
   stages : (r : Staged) (answer : TableAnswer) (pending′ : List ℕ) → Staging (s .header) (s .pending) r answer pending′
       → Called s
-      (record { call = staging r; lengths = lengthsLent s noWords })
+      (record { call = staging r; lengths = lengthsLent s (compactionWords [] []) })
       (joined (headerAfter (s .header) (tableSays answer)) (bodyOf s) pending′)
   merges : (w : CompactionWords) (answer : MergeAnswer) (b′ : Body) (w′ : CompactionWords) → Merging s w answer b′ w′
       → Called s
@@ -31,7 +28,7 @@ pub data Called (s : Stores) : LentCall → Stores → Type 0 where
       (joined (headerAfter (s .header) (tableSays answer)) b′ (s .pending))
   clears : (answer : TableAnswer) (keys′ : List ℕ) → Clearing (s .header) (s .keys) answer keys′
       → Called s
-      (record { call = clearing; lengths = lengthsLent s noWords })
+      (record { call = clearing; lengths = lengthsLent s (compactionWords [] []) })
       (joined (headerAfter (s .header) (tableSays answer)) (body (s .rows) keys′ (s .sorts)) (s .pending))
 
 -- stores with more cells behind

@@ -16,13 +16,13 @@ use Rattle.table.specs.declared.TableAnswer.{TableAnswer}
 use Rattle.table.specs.declared.MergeAnswer.{MergeAnswer}
 use Rattle.table.specs.Numbers.{tableSays, mergeSays}
 use Rattle.table.specs.Refusing.{stageRefusal, mergeRefusal, compactRefusal, clearRefusal}
-use Rattle.table.specs.Promises.{Stores, Represents, headerAfter, headerMerged, Staging, Merging, Compacting, Clearing, Body, body, bodyOf, joined, CompactionWords, lengthsLent}
+use Rattle.table.specs.Promises.{Stores, Represents, headerAfter, headerMerged, Staging, Merging, Compacting, Clearing, Body, body, bodyOf, joined, CompactionWords, compactionWords, lengthsLent}
 use Rattle.table.specs.Laws.Ladders.{stage-ladders, merge-ladders, compact-ladders, clear-ladders}
 use Rattle.table.specs.Laws.Staging.{stage-accepted}
 use Rattle.table.specs.Laws.Refusals.{merge-accepted, compact-accepted, clear-accepted}
 use Rattle.table.specs.Laws.Keeps.{opening-done, staging-done, staging-refused, merging-done, merging-refused, compacting-done, compacting-refused, clearing-done, clearing-refused}
 use Rattle.table.specs.Laws.Fronts.{pending-part, pending-more, keys-part, keys-more, body-part, body-more}
-use Rattle.history.specs.Histories.{noWords, Called, stages, merges, compacts, clears, behind, Step, called, Steps, end, next, History}
+use Rattle.history.specs.Histories.{Called, stages, merges, compacts, clears, behind, Step, called, Steps, end, next, History}
 
 -- ---- the four calls
 
@@ -37,10 +37,10 @@ module _ {p : Plain} (s : Stores) (rest : Body) (more : List ℕ) (r : Represent
   stays l c t h e = rw (refused-nothing p l c h, e) r
 
   staged-represents : (q : Staged) (answer : TableAnswer) (pending′ : List ℕ) → Staging (s .header) (s .pending) q answer pending′
-      → Represents (after p (lengthsLent s noWords) (staging q)) (behind (joined (headerAfter (s .header) (tableSays answer)) (bodyOf s) pending′) rest more)
+      → Represents (after p (lengthsLent s (compactionWords [] [])) (staging q)) (behind (joined (headerAfter (s .header) (tableSays answer)) (bodyOf s) pending′) rest more)
   unfolding done
   staged-represents q answer pending′ m =
-      let l = lengthsLent s noWords in
+      let l = lengthsLent s (compactionWords [] []) in
       let n : ℕ = stageRefusal (s .header) (length (s .pending)) q in
       let same : n ≡ refusal p l (staging q) = stage-ladders r l q in
       elim (some-number n) [
@@ -81,10 +81,10 @@ module _ {p : Plain} (s : Stores) (rest : Body) (more : List ℕ) (r : Represent
       ]
 
   cleared-represents : (answer : TableAnswer) (keys′ : List ℕ) → Clearing (s .header) (s .keys) answer keys′
-      → Represents (after p (lengthsLent s noWords) clearing) (behind (joined (headerAfter (s .header) (tableSays answer)) (body (s .rows) keys′ (s .sorts)) (s .pending)) rest more)
+      → Represents (after p (lengthsLent s (compactionWords [] [])) clearing) (behind (joined (headerAfter (s .header) (tableSays answer)) (body (s .rows) keys′ (s .sorts)) (s .pending)) rest more)
   unfolding done
   cleared-represents answer keys′ m =
-      let l = lengthsLent s noWords in
+      let l = lengthsLent s (compactionWords [] []) in
       let n : ℕ = clearRefusal (s .header) (length (s .keys)) in
       let same : n ≡ refusal p l clearing = clear-ladders r l in
       elim (some-number n) [

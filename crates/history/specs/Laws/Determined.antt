@@ -15,11 +15,11 @@ use Rattle.plain.specs.Calls.{Call, staging, merging, compacting, clearing, ref
 use Rattle.table.specs.declared.Header.{Header}
 use Rattle.table.specs.Refusing.{compactRefusal}
 use Rattle.table.specs.Stores.{rowStore, sortStore, recordWords}
-use Rattle.table.specs.Promises.{Stores, Body, bodyOf, joined, lengthsLent, Represents, mergedRows, MergedTable, CompactedTable}
+use Rattle.table.specs.Promises.{Stores, Body, bodyOf, joined, compactionWords, lengthsLent, Represents, mergedRows, MergedTable, CompactedTable}
 use Rattle.table.specs.Laws.Ladders.{stage-ladders, merge-ladders, compact-ladders}
 use Rattle.table.specs.Laws.Refusals.{merge-accepted, compact-accepted}
 use Rattle.table.specs.Laws.Fronts.{pending-part, body-part}
-use Rattle.history.specs.Histories.{noWords, Called, stages, merges, compacts, clears, behind, Step, called, Steps, end, next}
+use Rattle.history.specs.Histories.{Called, stages, merges, compacts, clears, behind, Step, called, Steps, end, next}
 use Rattle.history.specs.Laws.Calls.{step-represents}
 
 -- all but the key store
@@ -78,7 +78,7 @@ module _ {p : Plain} (s : Stores) (rest : Body) (more : List ℕ) (r : Represent
   called-leaves : {c : LentCall} {t : Stores} → Called s c t → Leaves p c (behind s rest more) (behind t rest more)
   unfolding rowsDone sortsDone pendingDone
   called-leaves (stages q answer pending′ m) =
-      let l = lengthsLent s noWords in
+      let l = lengthsLent s (compactionWords [] []) in
       let same = stage-ladders r l q in
       record {
         rows = front-changed (refusal p l (staging q)) _ (s .rows) (rest .rows) (s .rows) (λ e. refl) (λ e. refl);
@@ -108,7 +108,7 @@ module _ {p : Plain} (s : Stores) (rest : Body) (more : List ℕ) (r : Represent
         pending = front-changed (refusal p l compacting) _ (s .pending) more (s .pending) (λ e. refl) (λ e. refl);
       }
   called-leaves (clears answer keys′ m) =
-      let n : ℕ = refusal p (lengthsLent s noWords) clearing in
+      let n : ℕ = refusal p (lengthsLent s (compactionWords [] [])) clearing in
       record {
         rows = front-changed n _ (s .rows) (rest .rows) (s .rows) (λ e. refl) (λ e. refl);
         sorts = front-changed n _ (s .sorts) (rest .sorts) (s .sorts) (λ e. refl) (λ e. refl);

@@ -23,13 +23,13 @@ use Rattle.table.specs.declared.TableAnswer.{TableAnswer}
 use Rattle.table.specs.declared.MergeAnswer.{MergeAnswer}
 use Rattle.table.specs.Numbers.{tableSays, mergeSays}
 use Rattle.table.specs.Refusing.{mergeRefusal, compactRefusal, clearRefusal}
-use Rattle.table.specs.Promises.{Stores, Represents, mergeOf, Merging, Compacting, Clearing, Body, bodyOf, joined, CompactionWords, lengthsLent}
+use Rattle.table.specs.Promises.{Stores, Represents, mergeOf, Merging, Compacting, Clearing, Body, bodyOf, joined, CompactionWords, compactionWords, lengthsLent}
 use Rattle.table.specs.Laws.Ladders.{merge-ladders, compact-ladders, clear-ladders}
 use Rattle.table.specs.Laws.Refusals.{merge-accepted, compact-accepted, clear-accepted}
 use Rattle.table.specs.Laws.Fronts.{pending-part, keys-part, body-part}
 use Rattle.table.specs.Laws.Opening.{cleared-rows}
 use Rattle.table.specs.Laws.Shown.{rows-counted}
-use Rattle.history.specs.Histories.{noWords, Called, stages, merges, compacts, clears, behind, called, Steps, end, next}
+use Rattle.history.specs.Histories.{Called, stages, merges, compacts, clears, behind, called, Steps, end, next}
 use Rattle.history.specs.Price.{Wear, wear, counted, ofCall, ofSteps, PriceOfCompaction}
 use Rattle.history.specs.Laws.Calls.{step-represents, opened-represents, history-represents}
 
@@ -74,10 +74,10 @@ clearing-wears s h = wear 0 0 0 (s .header .rows)
 
 -- what is lent, and what stands behind it
 module _ {p : Plain} (s : Stores) (rest : Body) (more : List ℕ) (r : Represents p (behind s rest more)) where
-  staged-balanced : (q : Staged) → Balanced p (record { call = staging q; lengths = lengthsLent s noWords }) (wear 0 0 0 0)
+  staged-balanced : (q : Staged) → Balanced p (record { call = staging q; lengths = lengthsLent s (compactionWords [] []) }) (wear 0 0 0 0)
   unfolding done appendedDone stage
   staged-balanced q =
-      let c : LentCall = record { call = staging q; lengths = lengthsLent s noWords } in
+      let c : LentCall = record { call = staging q; lengths = lengthsLent s (compactionWords [] []) } in
       elim (some-number (refusal p (c .lengths) (c .call))) [
         | inl z ↦ done-balanced p c (wear 0 0 0 0) z (omega arith) (omega arith)
         | inr h ↦ refused-balanced p c h
@@ -117,10 +117,10 @@ module _ {p : Plain} (s : Stores) (rest : Body) (more : List ℕ) (r : Represent
       ]
 
   cleared-balanced : (answer : TableAnswer) (keys′ : List ℕ) → Clearing (s .header) (s .keys) answer keys′
-      → Balanced p (record { call = clearing; lengths = lengthsLent s noWords }) (counted (tableSays answer) (clearing-wears s))
+      → Balanced p (record { call = clearing; lengths = lengthsLent s (compactionWords [] []) }) (counted (tableSays answer) (clearing-wears s))
   unfolding done appendedDone
   cleared-balanced answer keys′ m =
-      let l = lengthsLent s noWords in
+      let l = lengthsLent s (compactionWords [] []) in
       let c : LentCall = record { call = clearing; lengths = l } in
       let n : ℕ = clearRefusal (s .header) (length (s .keys)) in
       let same : n ≡ refusal p l clearing = clear-ladders r l in
