@@ -19,18 +19,18 @@ use Rattle.history.specs.Runs.{Question, refineOne, refineList, intersec
 unfoldable pub liveIn : Stores → List Numbered
 liveIn s = liveFrom 0 (rowsIn (s .header) (s .rows))
 
--- what an accepted question asks of a row: to lie in its subset, or to meet its conditions, "those of ranges too"
-unfoldable pub asks : ℕ → List ℕ → Question → Bool
-asks id row (refineOne c) = met row c
-asks id row (refineList cs) = every (met row) cs
-asks id row (intersectWith subset) = has id (members subset)
-asks id row (intersectRange c) = met row c
+-- a row satisfies an accepted question: it lies in its subset, or meets its conditions, "those of ranges too"
+unfoldable pub satisfies : ℕ → List ℕ → Question → Bool
+satisfies id row (refineOne c) = met row c
+satisfies id row (refineList cs) = every (met row) cs
+satisfies id row (intersectWith subset) = has id (members subset)
+satisfies id row (intersectRange c) = met row c
 
 -- a live row that lies "in every accepted subset" and meets "every accepted condition"
 unfoldable pub wanted : Stores → List Question → ℕ → Bool
 wanted s accepted id =
     let row = rowAt (s .header .columns) id (s .rows) in
-    ltb id (s .header .rows) && isLive row && every (asks id row) accepted
+    ltb id (s .header .rows) && isLive row && every (satisfies id row) accepted
 
 pub record Claimed (o : Opening) (generation : ℕ) (calls : List LentCall) (s : Stores) : Type 0 where
   -- "the live rows, numbers and cells, are those of document 01's plain table after the same calls"

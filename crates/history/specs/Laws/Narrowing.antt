@@ -13,7 +13,7 @@ use Rattle.lists.specs.Laws.Rising.{rising-keep, rising-ext, has-keep}
 use Rattle.constraints.specs.Constraints.{isLive}
 use Rattle.table.specs.Promises.{Stores}
 use Rattle.history.specs.Runs.{Question, refines}
-use Rattle.history.specs.Claim.{asks, wanted}
+use Rattle.history.specs.Claim.{satisfies, wanted}
 
 -- ---- tests of an id
 
@@ -23,7 +23,7 @@ alive s id = ltb id (s .header .rows) && isLive (rowAt (s .header .columns) id (
 
 -- what all the accepted questions ask for
 unfoldable pub fits : Stores → List Question → ℕ → Bool
-fits s accepted id = every (asks id (rowAt (s .header .columns) id (s .rows))) accepted
+fits s accepted id = every (satisfies id (rowAt (s .header .columns) id (s .rows))) accepted
 
 pub alive-of : (s : Stores) (id : ℕ) → id < s .header .rows → isLive (rowAt (s .header .columns) id (s .rows)) ≡ true → alive s id ≡ true
 unfolding alive
@@ -91,7 +91,7 @@ narrows-not s ids =
 
 -- a question was accepted: of rising ids it left those that pass a test
 pub narrows-keep : {s : Stores} {before after : List ℕ} {q : Question} (test : ℕ → Bool) → rising before ≡ true → after ≡ keep test before
-    → ((id : ℕ) → alive s id ≡ true → test id ≡ asks id (rowAt (s .header .columns) id (s .rows)) q)
+    → ((id : ℕ) → alive s id ≡ true → test id ≡ satisfies id (rowAt (s .header .columns) id (s .rows)) q)
     → (refines q ≡ true → (id : ℕ) → has id before ≡ true → test id ≡ true → alive s id ≡ true)
     → Narrows s before after (q ∷ [])
 unfolding fits every any
@@ -110,7 +110,7 @@ narrows-keep {before = before} {after = after} {q} test up left passes only =
 -- one question after others
 fits-both : (s : Stores) (xs ys : List Question) (id : ℕ) (before : Bool) → ((before && fits s xs id) && fits s ys id) ≡ (before && fits s (xs ++ ys) id)
 unfolding fits
-fits-both s xs ys id before = rw (every-both (asks id (rowAt (s .header .columns) id (s .rows))) xs ys) (and-assoc before _ _)
+fits-both s xs ys id before = rw (every-both (satisfies id (rowAt (s .header .columns) id (s .rows))) xs ys) (and-assoc before _ _)
 
 pub narrows-then : {s : Stores} {before between after : List ℕ} {xs ys : List Question} → Narrows s before between xs → Narrows s between after ys → Narrows s before after (xs ++ ys)
 narrows-then {s} {before} {xs = xs} {ys} m n =

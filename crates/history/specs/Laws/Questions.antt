@@ -34,7 +34,7 @@ use Rattle.table.specs.Laws.Sound.{represents-sound}
 use Rattle.table.specs.Laws.Replies.{ruled-accepted}
 use Rattle.queries.specs.Queries.{matches, pastRows, tests, refineRefusal, refineOneReply, refineListReply}
 use Rattle.history.specs.Runs.{Question, refines, left, counting, Intersected, Asked, one-refined, list-refined, intersected, range-intersected, range-nothing}
-use Rattle.history.specs.Claim.{asks}
+use Rattle.history.specs.Claim.{satisfies}
 use Rattle.history.specs.Laws.Narrowing.{alive, alive-of, alive-below, alive-live, Narrows, narrows-not, narrows-keep}
 
 -- ---- an answer, read off its output
@@ -78,7 +78,7 @@ has-below h a output m id e =
 module _ (s : Stores) (a : Subset) (cs : List Constraint) (output : ℕ) (m : Refinable (s .header) a output) (v : Subset)
     (is : members v ≡ keep (matches (s .header) (s .rows) cs) (members a)) where
   -- of its ids those are kept that are live and meet the conditions
-  refined-narrows : {q : Question} → ((id : ℕ) (row : List ℕ) → asks id row q ≡ every (met row) cs) → Narrows s (members a) (members v) (q ∷ [])
+  refined-narrows : {q : Question} → ((id : ℕ) (row : List ℕ) → satisfies id row q ≡ every (met row) cs) → Narrows s (members a) (members v) (q ∷ [])
   refined-narrows asking =
       narrows-keep (matches (s .header) (s .rows) cs) (rising-members a (m .formed)) is
       (λ id e. rw (asking id (rowAt (s .header .columns) id (s .rows))) (unfold matches meets in rw (alive-live s id e)))
@@ -180,7 +180,7 @@ module _ {p : Plain} {s : Stores} (r : Represents p s) (c : Constraint) (answer 
 
 module _ {p : Plain} {s : Stores} (r : Represents p s) where
   pub asked-narrows : {fit : ℕ → Bool} {a b : Subset} {q : Question} {counted : List Question} → Asked s fit a q b counted → Narrows s (members a) (members b) counted
-  unfolding refineOneReply refineListReply asks refines
+  unfolding refineOneReply refineListReply satisfies refines
   asked-narrows {a = a} (one-refined c output output′ answer fit m) =
       let f = refinable (s .header) (length (s .rows)) a (c ∷ []) (length output) in
       let is = members-retain (matches (s .header) (s .rows) (c ∷ [])) a in
