@@ -247,8 +247,9 @@ uint32_t mouldgrey_updates_since(const uint32_t *header, size_t header_len, uint
  * This holds within one history. A table that was opened anew since the note was taken is another
  * one: at the same generation the note may be accepted all the same, and says nothing of its rows.
  */
-uint32_t mouldgrey_rows_since(const uint32_t *header, size_t header_len, uint32_t generation,
-                              uint32_t count, uint32_t *words, size_t words_len);
+uint32_t mouldgrey_rows_since_version(const uint32_t *header, size_t header_len,
+                                      uint32_t generation, uint32_t count, uint32_t *words,
+                                      size_t words_len);
 
 /*
  * words, 2: generation and row count. Refuses: 1.

@@ -370,10 +370,10 @@ pub fn updates_since(header: &Header, row: u32) -> Result<(u32, u32), Refusal> {
 
 /// The rows since a noted version, start and end. Refused by 1 and 18.
 #[inline]
-pub fn rows_since(header: &Header, noted: Version) -> Result<(u32, u32), Refusal> {
+pub fn rows_since_version(header: &Header, noted: Version) -> Result<(u32, u32), Refusal> {
     let mut words = [0; 3];
     verdict(unsafe {
-        raw::mouldgrey_rows_since(
+        raw::mouldgrey_rows_since_version(
             words_in(header),
             HEADER_WORDS,
             noted.generation,

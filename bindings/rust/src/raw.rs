@@ -142,7 +142,7 @@ unsafe extern "C" {
         words: *mut u32,
         words_len: usize,
     ) -> u32;
-    pub fn mouldgrey_rows_since(
+    pub fn mouldgrey_rows_since_version(
         header: *const u32,
         header_len: usize,
         generation: u32,

@@ -255,8 +255,8 @@ impl Table {
     /// each row below the noted row count has the cells it had or is dead, and the live rows are those noted and still live
     /// together with the live rows of the answer. Of a version that another table had, or this one before it was opened anew, it
     /// says nothing.
-    pub fn rows_since(&self, noted: Version) -> Result<Subset, Refusal> {
-        let (start, end) = lent::rows_since(&self.stores.header, noted)?;
+    pub fn rows_since_version(&self, noted: Version) -> Result<Subset, Refusal> {
+        let (start, end) = lent::rows_since_version(&self.stores.header, noted)?;
         Ok(Subset::Range(start, end))
     }
 

@@ -159,7 +159,7 @@ fn questions() {
         rows: 20,
     };
     assert_eq!(table.version(), version);
-    let noted = |generation, rows| table.rows_since(Version { generation, rows });
+    let noted = |generation, rows| table.rows_since_version(Version { generation, rows });
     assert_eq!(noted(5, 18), Ok(Subset::Range(18, 20)));
     assert_eq!(noted(5, 20), Ok(Subset::Range(20, 20)));
     assert_eq!(noted(5, 21), Err(Refusal::OldNote));

@@ -1,5 +1,5 @@
 // The questions without a subset under C names: lookups, fast range, versions; and intersect.
-ghost use Rattle.table.specs.Promises.{LookedUp, CellRead, RangeRead, RowsSince, NotedRows, VersionRead};
+ghost use Rattle.table.specs.Promises.{LookedUp, CellRead, RangeRead, RowsSince, RowsSinceVersion, VersionRead};
 ghost use Rattle.words.specs.Words.{headerIn, rowNumber, rowWords, cellNumber, cellWords, rangeNumber, rangeWords, versionNumber, versionWords, QuestionInWords, subsetNumber, subsetWords};
 ghost use Rattle.offsets.specs.Answers.{subsetOf};
 ghost use Rattle.exports_questions.specs.Intersecting.{IntersectInWords};
@@ -94,13 +94,13 @@ pub extern "C" fn mouldgrey_updates_since(header: &[u32], row: u32, words: &mut 
 }
 
 #[no_mangle]
-pub extern "C" fn mouldgrey_rows_since(
+pub extern "C" fn mouldgrey_rows_since_version(
     header: &[u32],
     generation: u32,
     count: u32,
     words: &mut [u32],
 ) -> u32
-    ensures { λ r. ⌜ QuestionInWords (λ answer. NotedRows (headerIn (now (header .entry))) generation count answer) rangeNumber rangeWords 3 (now (header .entry)) (now (words .entry)) r (now (words .exit)) ⌝ }
+    ensures { λ r. ⌜ QuestionInWords (λ answer. RowsSinceVersion (headerIn (now (header .entry))) generation count answer) rangeNumber rangeWords 3 (now (header .entry)) (now (words .entry)) r (now (words .exit)) ⌝ }
 {
     if header.len() != 12 {
         return 1;
@@ -108,7 +108,7 @@ pub extern "C" fn mouldgrey_rows_since(
     if words.len() != 3 {
         return 2;
     }
-    let answer = reading::rows_since(header_of(header), generation, count);
+    let answer = reading::rows_since_version(header_of(header), generation, count);
     write_range(answer, words)
 }
 

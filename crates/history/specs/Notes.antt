@@ -17,7 +17,7 @@ use Rattle.plain.specs.Staged.{Opening}
 use Rattle.plain.specs.Calls.{LentCall}
 use Rattle.table.specs.declared.RangeAnswer.{RangeAnswer}
 use Rattle.table.specs.Numbers.{rangeSays}
-use Rattle.table.specs.Promises.{Stores, NotedRows}
+use Rattle.table.specs.Promises.{Stores, RowsSinceVersion}
 use Rattle.history.specs.Histories.{Steps, History}
 use Rattle.history.specs.Claim.{liveIn}
 
@@ -41,5 +41,5 @@ abbrev pub OldNote : Type 0
 OldNote =
     (o : Opening) (generation : ℕ) (earlier later : List LentCall) (then now : Stores) (answer : RangeAnswer) (since : Subset)
     → History o generation earlier then → Steps then later now
-    → NotedRows (now .header) (then .header .generation) (then .header .rows) answer → rangeSays answer ≡ accepted (some since)
+    → RowsSinceVersion (now .header) (then .header .generation) (then .header .rows) answer → rangeSays answer ≡ accepted (some since)
     → Guaranteed then now since

@@ -29,7 +29,7 @@ use Rattle.table.specs.declared.VersionAnswer.the-variants.{Refused as VersionR
 use Rattle.table.specs.Numbers.{rowSays, cellSays, rangeSays, versionSays}
 use Rattle.table.specs.Refusing.{lookupRefusal, cellRefusal, fastRefusal, versionRefusal, sinceRefusal, notedRefusal}
 use Rattle.table.specs.Sound.{keyedOf, KeysDiffer}
-use Rattle.table.specs.Promises.{ofRows, LookedUp, CellRead, fastSubset, RangeRead, VersionRead, RowsSince, NotedRows}
+use Rattle.table.specs.Promises.{ofRows, LookedUp, CellRead, fastSubset, RangeRead, VersionRead, RowsSince, RowsSinceVersion}
 use Rattle.table.specs.Laws.Lookup.{row-read, none-read}
 use Rattle.table.specs.Laws.Refusals.{Lookable, lookup-accepted, Readable, cell-accepted, fast-accepted, inside-fits}
 
@@ -183,10 +183,10 @@ module _ (h : Header) (n : ℕ) where
   unfolding rangeSays
   since-told row number zero-is = record { answers = reply-accepted _ _ _ refl (sym number ∙ zero-is) }
 
-  pub noted-refused : (generation count : ℕ) → n ≡ notedRefusal h generation count → (n ≡ 0 → ⊥) → NotedRows h generation count (RangeRefused n)
+  pub noted-refused : (generation count : ℕ) → n ≡ notedRefusal h generation count → (n ≡ 0 → ⊥) → RowsSinceVersion h generation count (RangeRefused n)
   unfolding rangeSays
   noted-refused generation count number some = record { answers = reply-refused _ _ n _ refl number some }
 
-  pub noted-told : (generation count : ℕ) → n ≡ notedRefusal h generation count → n ≡ 0 → NotedRows h generation count (Range count (h .rows))
+  pub noted-told : (generation count : ℕ) → n ≡ notedRefusal h generation count → n ≡ 0 → RowsSinceVersion h generation count (Range count (h .rows))
   unfolding rangeSays
   noted-told generation count number zero-is = record { answers = reply-accepted _ _ _ refl (sym number ∙ zero-is) }

@@ -1,6 +1,6 @@
 // What may be asked of a table by its header and key store or sort entries: `get_row`, `get_row_column`, `fast_subset`,
 // `version` and `updates_since` of table/mod.rs, and the rows since a noted version.
-ghost use Rattle.table.specs.Promises.{LookedUp, CellRead, RangeRead, VersionRead, RowsSince, NotedRows};
+ghost use Rattle.table.specs.Promises.{LookedUp, CellRead, RangeRead, VersionRead, RowsSince, RowsSinceVersion};
 use constraints::Constraint;
 use key_index::Found;
 use table::CellAnswer;
@@ -94,8 +94,8 @@ pub fn updates_since(h: Header, row: u32) -> RangeAnswer
 }
 
 // The rows since a version that was noted: its generation and row count.
-pub fn rows_since(h: Header, generation: u32, count: u32) -> RangeAnswer
-    ensures { λ r. ⌜ NotedRows h generation count r ⌝ }
+pub fn rows_since_version(h: Header, generation: u32, count: u32) -> RangeAnswer
+    ensures { λ r. ⌜ RowsSinceVersion h generation count r ⌝ }
 {
     let refusal = noted_refusal(h, generation, count);
     if refusal != 0 {

@@ -107,7 +107,7 @@ pub fn ask(
         b'V' => version(h),
         b'W' => range_told(
             h,
-            reading::rows_since(h, number_at(numbers, 0), number_at(numbers, 1)),
+            reading::rows_since_version(h, number_at(numbers, 0), number_at(numbers, 1)),
         ),
         b'N' => refine(h, numbers, rows, out),
         b'T' => intersect(h, numbers, out),

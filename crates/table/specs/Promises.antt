@@ -229,7 +229,7 @@ pub record RowsSince (h : Header) (row : ℕ) (answer : RangeAnswer) : Type 0 wh
   pub answers : rangeSays answer ≡ reply (sinceRefusal h row) (some (range row (h .rows)))
 
 -- "Given that version, the table answers the rows since then": of any table
-pub record NotedRows (h : Header) (generation count : ℕ) (answer : RangeAnswer) : Type 0 where
+pub record RowsSinceVersion (h : Header) (generation count : ℕ) (answer : RangeAnswer) : Type 0 where
   pub answers : rangeSays answer ≡ reply (notedRefusal h generation count) (some (range count (h .rows)))
 
 -- the soundness check: lent all stores. It "says yes exactly for sound stores"

@@ -194,7 +194,7 @@ impl Session {
                 raw::mouldgrey_updates_since(h, h_len, *row, w, w_len)
             },
             Question::RowsSinceNote(generation, rows) => unsafe {
-                raw::mouldgrey_rows_since(h, h_len, *generation, *rows, w, w_len)
+                raw::mouldgrey_rows_since_version(h, h_len, *generation, *rows, w, w_len)
             },
             Question::RefineOne {
                 subset,

@@ -20,7 +20,7 @@ pub const SHIPPED: [Kind; 23] = [
     ("mouldgrey_get_row_column", &[1, 2, 3, 6]),
     ("mouldgrey_fast_subset", &[1, 2, 6]),
     ("mouldgrey_updates_since", &[1, 2, 5]),
-    ("mouldgrey_rows_since", &[1, 2, 18]),
+    ("mouldgrey_rows_since_version", &[1, 2, 18]),
     ("mouldgrey_version", &[1, 2]),
     ("mouldgrey_refine_one", &[1, 2, 4, 5, 6]),
     ("mouldgrey_refine_ref", &[1, 2, 4, 5, 6]),

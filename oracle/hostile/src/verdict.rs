@@ -33,7 +33,7 @@ pub fn name(act: &Act) -> &'static str {
         Act::Ask(Question::FastRange(_)) => "mouldgrey_fast_subset",
         Act::Ask(Question::Version) => "mouldgrey_version",
         Act::Ask(Question::RowsSince(_)) => "mouldgrey_updates_since",
-        Act::Ask(Question::RowsSinceNote(..)) => "mouldgrey_rows_since",
+        Act::Ask(Question::RowsSinceNote(..)) => "mouldgrey_rows_since_version",
         Act::Ask(Question::RefineOne { .. }) => "mouldgrey_refine_one",
         Act::Ask(Question::RefineList { .. }) => "mouldgrey_refine_ref",
         Act::Ask(Question::AnyMatch { .. }) => "mouldgrey_contains_match",

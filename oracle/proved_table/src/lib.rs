@@ -132,7 +132,7 @@ impl ProvedTable {
                     generation: *generation,
                     rows: *rows,
                 };
-                answer(lent::rows_since(h, noted), range_answer)
+                answer(lent::rows_since_version(h, noted), range_answer)
             }
             Question::RefineOne {
                 subset,

@@ -35,7 +35,7 @@ use Rattle.table.specs.declared.SoundAnswer.the-variants.{Refused, Sound
 use Rattle.table.specs.Numbers.{tableSays, mergeSays, rowSays, cellSays, rangeSays, soundSays}
 use Rattle.table.specs.Refusing.{stageRefusal, mergeRefusal, compactRefusal, clearRefusal, lookupRefusal, cellRefusal, fastRefusal}
 use Rattle.table.specs.Sound.{keyedOf, KeysDiffer}
-use Rattle.table.specs.Promises.{stores, lengths, Represents, SlotsPast, PastNeeded, Opened, Staging, Merging, Compacting, Clearing, LookedUp, CellRead, RangeRead, VersionRead, RowsSince, NotedRows, Checked, Body, bodyOf, joined, CompactionWords, lengthsLent, Stores}
+use Rattle.table.specs.Promises.{stores, lengths, Represents, SlotsPast, PastNeeded, Opened, Staging, Merging, Compacting, Clearing, LookedUp, CellRead, RangeRead, VersionRead, RowsSince, RowsSinceVersion, Checked, Body, bodyOf, joined, CompactionWords, lengthsLent, Stores}
 use Rattle.table.specs.Laws.Shown.{represents-long, rows-counted}
 use Rattle.table.specs.Laws.Opening.{cleared-rows, cleared-opening}
 use Rattle.table.specs.Laws.Answers.{table-said, merge-said, row-said, cell-said, range-said, version-said}
@@ -250,8 +250,8 @@ version-read-determined {a = a} {b = b} x y = version-said a b (x .answers ∙ s
 pub rows-since-determined : {h : Header} {row : ℕ} {a b : RangeAnswer} → RowsSince h row a → RowsSince h row b → a ≡ b
 rows-since-determined {a = a} {b = b} x y = range-said a b (x .answers ∙ sym (y .answers))
 
-pub noted-rows-determined : {h : Header} {generation count : ℕ} {a b : RangeAnswer} → NotedRows h generation count a → NotedRows h generation count b → a ≡ b
-noted-rows-determined {a = a} {b = b} x y = range-said a b (x .answers ∙ sym (y .answers))
+pub rows-since-version-determined : {h : Header} {generation count : ℕ} {a b : RangeAnswer} → RowsSinceVersion h generation count a → RowsSinceVersion h generation count b → a ≡ b
+rows-since-version-determined {a = a} {b = b} x y = range-said a b (x .answers ∙ sym (y .answers))
 
 -- ---- the soundness check: stores are sound or they are not
 

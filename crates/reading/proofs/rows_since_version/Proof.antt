@@ -1,8 +1,8 @@
--- `reading::rows_since` meets its contract. Assumes nothing.
+-- `reading::rows_since_version` meets its contract. Assumes nothing.
 use Rattle.reading.proofs.ReadingSteps.{noted-refused, noted-told}
 use borrow.Author.Needs.{needs}
-use Rattle.reading.proofs.rows_since.Statement.{statement}
-use Rattle.reading.proofs.rows_since.Tie as tie
+use Rattle.reading.proofs.rows_since_version.Statement.{statement}
+use Rattle.reading.proofs.rows_since_version.Tie as tie
 
 noted-refusal-requires : tie.Need-noted-refusal-requires
 noted-refusal-requires c κs = search needs
@@ -13,5 +13,5 @@ returns c = noted-refused _ _ _ _ (c .before .noted-refusal .ensures) (c .if1 .t
 returns-2 : tie.Need-returns-2
 returns-2 c = noted-told _ _ _ _ (c .before .noted-refusal .ensures) (c .if1 .left)
 
-pub rows-since-spec : {M : Type 1} → statement M
-rows-since-spec = tie.close (tie.spec noted-refusal-requires returns returns-2)
+pub rows-since-version-spec : {M : Type 1} → statement M
+rows-since-version-spec = tie.close (tie.spec noted-refusal-requires returns returns-2)
