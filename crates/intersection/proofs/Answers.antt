@@ -16,7 +16,7 @@ use Rattle.offsets.specs.declared.SubsetHead.{SubsetHead}
 use Rattle.offsets.specs.declared.SubsetAnswer.{SubsetAnswer}
 use Rattle.offsets.specs.declared.SubsetAnswer.the-variants.{Refused, Range, List as Ids}
 use Rattle.offsets.specs.Subsets.{Subset, range, list, wellFormed, listOrNothing, intersect}
-use Rattle.offsets.specs.Answers.{subsetOf, answerOf, written, Answered, room, intersectRefusal, intersectReply}
+use Rattle.offsets.specs.Answers.{subsetOf, answerOf, written, Answered, roomNeeded, intersectRefusal, intersectReply}
 use Rattle.offsets.specs.inner.Writing.{Wrote}
 use Rattle.intersection.specs.inner.Common.{Fitting, Searchable, common}
 use Rattle.offsets.specs.Laws.Subsets.{dense-is, sparse-is, answered-list, formed-order, formed-rising, formed-short}
@@ -52,25 +52,25 @@ module _ (a b : Subset) (n : ℕ) where
   unfolding intersectRefusal first
   refusal-second p q = rw (p, q)
 
-  pub refusal-room : wellFormed a ≡ true → wellFormed b ≡ true → n < room a b → 2 ≡ intersectRefusal a b n
+  pub refusal-room : wellFormed a ≡ true → wellFormed b ≡ true → n < roomNeeded a b → 2 ≡ intersectRefusal a b n
   unfolding intersectRefusal first
-  refusal-room p q h = rw (p, q, lt-ltb n (room a b) h)
+  refusal-room p q h = rw (p, q, lt-ltb n (roomNeeded a b) h)
 
-  pub refusal-none : wellFormed a ≡ true → wellFormed b ≡ true → room a b ≤ n → 0 ≡ intersectRefusal a b n
+  pub refusal-none : wellFormed a ≡ true → wellFormed b ≡ true → roomNeeded a b ≤ n → 0 ≡ intersectRefusal a b n
   unfolding intersectRefusal first
-  refusal-none p q h = rw (p, q, le-ltb n (room a b) h)
+  refusal-none p q h = rw (p, q, le-ltb n (roomNeeded a b) h)
 
 -- none of them applies
 pub record Allowed (a b : Subset) (n : ℕ) : Type 0 where
   pub formed : wellFormed a ≡ true
   pub formed-other : wellFormed b ≡ true
-  pub fits : room a b ≤ n
+  pub fits : roomNeeded a b ≤ n
 
 pub allowed : (a b : Subset) (n : ℕ) → intersectRefusal a b n ≡ 0 → Allowed a b n
 allowed a b n e =
     elim (split (wellFormed a)) [
       | inl p ↦ elim (split (wellFormed b)) [
-        | inl q ↦ elim (decLt n (room a b)) [
+        | inl q ↦ elim (decLt n (roomNeeded a b)) [
           | yes h ↦ absurd (let z = refusal-room a b n p q h in omega arith)
           | no h ↦ record { formed = p; formed-other = q; fits = omega arith }
         ]
@@ -99,16 +99,16 @@ replied a b n e = rw e
 -- ---- by kind: the room, what may be kept, and the reply
 
 module _ (f g : SubsetHead) (ids others : List ℕ) where
-  pub room-ranges : f .dense ≡ true → g .dense ≡ true → 0 ≡ room (subsetOf f ids) (subsetOf g others)
-  unfolding room
+  pub room-ranges : f .dense ≡ true → g .dense ≡ true → 0 ≡ roomNeeded (subsetOf f ids) (subsetOf g others)
+  unfolding roomNeeded
   room-ranges p q = rw (dense-is f ids p, dense-is g others q)
 
-  pub room-range-list : f .dense ≡ true → g .dense ≡ false → length others ≡ room (subsetOf f ids) (subsetOf g others)
-  unfolding room
+  pub room-range-list : f .dense ≡ true → g .dense ≡ false → length others ≡ roomNeeded (subsetOf f ids) (subsetOf g others)
+  unfolding roomNeeded
   room-range-list p q = rw (dense-is f ids p, sparse-is g others q)
 
-  pub room-list : f .dense ≡ false → length ids ≡ room (subsetOf f ids) (subsetOf g others)
-  unfolding room
+  pub room-list : f .dense ≡ false → length ids ≡ roomNeeded (subsetOf f ids) (subsetOf g others)
+  unfolding roomNeeded
   room-list p = rw (sparse-is f ids p)
 
 pub order-of : (f : SubsetHead) (ids : List ℕ) → f .dense ≡ true → wellFormed (subsetOf f ids) ≡ true → f .start ≤ f .end

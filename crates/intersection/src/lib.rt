@@ -6,7 +6,7 @@ ghost use lib.ListN.{length};
 ghost use Rattle.lists.specs.Lists.{putAt, keep, within};
 ghost use Rattle.refusals.specs.Refusals.{accepted};
 ghost use Rattle.offsets.specs.Subsets.{list, listOrNothing};
-ghost use Rattle.offsets.specs.Answers.{subsetOf, Answered, room, intersectRefusal, intersectReply};
+ghost use Rattle.offsets.specs.Answers.{subsetOf, Answered, roomNeeded, intersectRefusal, intersectReply};
 ghost use Rattle.offsets.specs.inner.Writing.{Wrote};
 ghost use Rattle.intersection.specs.inner.Common.{Fitting, Searchable, common, alike};
 use offset_search::Scan;
@@ -190,7 +190,7 @@ fn room_needed(
     second: SubsetHead,
     second_ids: &[u32],
 ) -> usize
-    ensures { λ r. ⌜ r ≡ room (subsetOf first (now («first_ids» .entry))) (subsetOf second (now («second_ids» .entry))) ⌝ }
+    ensures { λ r. ⌜ r ≡ roomNeeded (subsetOf first (now («first_ids» .entry))) (subsetOf second (now («second_ids» .entry))) ⌝ }
 {
     if first.dense {
         if second.dense {

@@ -41,15 +41,15 @@ readOff (Ids n) output = accepted (list (take n output))
 
 -- the ids for which `intersect` needs room: "output shorter than the first list, or than the second where the first is a
 -- range"
-unfoldable pub room : Subset → Subset → ℕ
-room (range a b) (range c d) = 0
-room (range a b) (list ids) = length ids
-room (list ids) other = length ids
+unfoldable pub roomNeeded : Subset → Subset → ℕ
+roomNeeded (range a b) (range c d) = 0
+roomNeeded (range a b) (list ids) = length ids
+roomNeeded (list ids) other = length ids
 
 -- *Intersect*: "4 for either; 2"
 unfoldable pub intersectRefusal : Subset → Subset → ℕ → ℕ
 intersectRefusal a b output =
-    first (rung (not (wellFormed a) || not (wellFormed b)) 4 ∷ rung (ltb output (room a b)) 2 ∷ [])
+    first (rung (not (wellFormed a) || not (wellFormed b)) 4 ∷ rung (ltb output (roomNeeded a b)) 2 ∷ [])
 
 unfoldable pub intersectReply : Subset → Subset → ℕ → Reply Subset
 intersectReply a b output = reply (intersectRefusal a b output) (intersect a b)

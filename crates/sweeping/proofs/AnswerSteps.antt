@@ -33,7 +33,7 @@ use Rattle.queries.specs.inner.Tests.{Askable, RefineRefused, MatchRefused, Pag
 use Rattle.sweeping.specs.declared.Sweep.{Sweep}
 use Rattle.sweeping.specs.declared.Question.{Question}
 use Rattle.sweeping.specs.declared.Question.the-variants.{Refine, Match, Page}
-use Rattle.sweeping.specs.inner.Sweeping.{upTo, places, visits, firstPlace, roomFor, refusalOf, BeginsAt, Finished, SweepBegins, SweepAnswered, CanWrite, Writes, whole, CanClose, RefineClosed}
+use Rattle.sweeping.specs.inner.Sweeping.{upTo, places, visits, firstPlace, roomAsked, refusalOf, BeginsAt, Finished, SweepBegins, SweepAnswered, CanWrite, Writes, whole, CanClose, RefineClosed}
 use Rattle.sweeping.proofs.Visits.{upTo-nil, upTo-all, visited-none, length-visited, visited-all, visited-end}
 
 -- ---- replies
@@ -77,7 +77,7 @@ module _ (question : Question) (h : Header) (rows : ℕ) (subset : Subset) (know
 
   module _ (z : number ≡ 0) (a : Askable h rows subset) (next end most : ℕ) (p : BeginsAt subset 0 next end most s) where
     opened-over : next ≤ end → end ≤ size subset → (next < end → 0 < most) → (1 < most → end - next ≤ output) → next ≡ firstPlace question
-        → ((test : ℕ → Bool) → upTo most test (visited subset next (end - next)) ≡ visits question test subset) → roomFor question subset ≤ output → SweepBegins question h rows subset knows output s
+        → ((test : ℕ → Bool) → upTo most test (visited subset next (end - next)) ≡ visits question test subset) → roomAsked question subset ≤ output → SweepBegins question h rows subset knows output s
     unfolding places
     opened-over o w m r f v u =
         record {
@@ -117,20 +117,20 @@ module _ (h : Header) (rows : ℕ) (subset : Subset) (knows : Bool) (s : Sweep) 
   page-stopped start n output number r m p = opened-refused (Page start n) h rows subset knows output number (r .number-is) s m p
 
   pub refine-opened : (output number : ℕ) → RefineRefused h rows subset knows output number → number ≡ 0 → BeginsAt subset 0 0 (size subset) (size subset) s → SweepBegins Refine h rows subset knows output s
-  unfolding refusalOf visits firstPlace roomFor
+  unfolding refusalOf visits firstPlace roomAsked
   refine-opened output number r z p =
       opened-over Refine h rows subset knows output number (r .number-is) s z (r .askable z) 0 (size subset) (size subset) p (omega arith) (omega arith) (λ q. q) (λ _. omega (arith, r .room z)) refl
       (λ test. rw (all-places subset) (upTo-all test (size subset) (members subset) (omega (arith, length-members subset)))) (r .room z)
 
   pub match-opened : (number : ℕ) → MatchRefused h rows subset knows number → number ≡ 0 → BeginsAt subset 0 0 (size subset) 1 s → (output : ℕ) → SweepBegins Match h rows subset knows output s
-  unfolding refusalOf visits firstPlace roomFor
+  unfolding refusalOf visits firstPlace roomAsked
   match-opened number r z p output =
       opened-over Match h rows subset knows output number (r .number-is) s z (r .askable z) 0 (size subset) 1 p (omega arith) (omega arith) (λ _. omega arith) (λ q. absurd (omega (arith, q))) refl
       (λ test. rw (all-places subset)) (omega arith)
 
   pub page-opened : (start n output number : ℕ) → PageRefused h rows subset start n knows output number → number ≡ 0
       → BeginsAt subset 0 start (start + min n (size subset - start)) (min n (size subset - start)) s → SweepBegins (Page start n) h rows subset knows output s
-  unfolding refusalOf visits firstPlace roomFor
+  unfolding refusalOf visits firstPlace roomAsked
   page-opened start n output number r z p =
       let few = min n (size subset - start) in
       let k : start + few - start ≡ few = omega arith in
@@ -187,7 +187,7 @@ module _ (h : Header) (rows : List ℕ) (subset : Subset) (conditions : List Con
   kept-all = a .grows z
 
   pub can-write : CanWrite output′ (s .found)
-  unfolding roomFor
+  unfolding roomAsked
   can-write = record { output₀ = output; kept = _; grows = kept-all; room = omega (arith, length-keep test (members subset), count-le test (members subset), length-members subset, a .in-room z) }
 
 -- ---- refine by one

@@ -23,7 +23,7 @@ use Rattle.queries.specs.declared.PageAnswer.the-variants.{Refused as PageIsRef
 use Rattle.sweeping.specs.declared.Sweep.{Sweep}
 use Rattle.sweeping.specs.declared.Question.the-variants.{Page}
 use Rattle.queries.specs.Queries.{matches, deadAmong, pageRefusal, visited, nextPlace, pageIds, pageSays, pageReply, PageRead}
-use Rattle.sweeping.specs.inner.Sweeping.{visits, firstPlace, roomFor, refusalOf, SweepAnswered, CanWrite, Writes, nextAt, PageClosed}
+use Rattle.sweeping.specs.inner.Sweeping.{visits, firstPlace, roomAsked, refusalOf, SweepAnswered, CanWrite, Writes, nextAt, PageClosed}
 use Rattle.sweeping.proofs.Visits.{length-visited, visited-end, kept-few}
 
 -- ---- the end
@@ -74,7 +74,7 @@ module _ (h : Header) (rows : List ℕ) (subset : Subset) (start n : ℕ) (condi
 
   -- what the end of a page asks
   pub can-page : s .refused ≡ 0 → CanWrite output′ (s .found)
-  unfolding roomFor
+  unfolding roomAsked
   can-page z =
       let few : length (keep keeps (visited subset start n)) ≤ min n (size subset - start) = rw (← visited-end subset start n) (kept-few subset keeps start (min n (size subset - start))) in
       record { output₀ = output; kept = _; grows = page-kept z; room = omega (arith, a .in-room z) }

@@ -16,7 +16,7 @@ use Rattle.lists.specs.Laws.Every.{or-no-left, or-no-right}
 use Rattle.refusals.specs.Refusals.{refused, accepted, reply}
 use Rattle.offsets.specs.declared.SubsetAnswer.{SubsetAnswer}
 use Rattle.offsets.specs.Subsets.{Subset, wellFormed, members, size, endOf, intersect, retain, narrowed}
-use Rattle.offsets.specs.Answers.{Answered, readOff, written, room, intersectRefusal, intersectReply}
+use Rattle.offsets.specs.Answers.{Answered, readOff, written, roomNeeded, intersectRefusal, intersectReply}
 use Rattle.offsets.specs.Laws.Answers.{written-refused, written-members, written-intersect}
 use Rattle.offsets.specs.Laws.Subsets.{rising-members, length-members, members-below, members-intersect, members-retain, members-narrowed, read-off}
 use Rattle.constraints.specs.declared.Constraint.{Constraint}
@@ -94,7 +94,7 @@ module _ (s : Stores) (a : Subset) (cs : List Constraint) (output : ℕ) (m : Re
 pub record Intersectable (a b : Subset) (output : ℕ) : Type 0 where
   pub first-formed : wellFormed a ≡ true
   pub second-formed : wellFormed b ≡ true
-  pub space : room a b ≤ output
+  pub space : roomNeeded a b ≤ output
 
 pub intersectable : (a b : Subset) (output : ℕ) → intersectRefusal a b output ≡ 0 → Intersectable a b output
 unfolding intersectRefusal

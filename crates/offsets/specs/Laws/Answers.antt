@@ -13,7 +13,7 @@ use Rattle.refusals.specs.Refusals.{refused, accepted, reply}
 use Rattle.offsets.specs.declared.SubsetAnswer.{SubsetAnswer}
 use Rattle.offsets.specs.declared.SubsetAnswer.the-variants.{Refused, List as Ids}
 use Rattle.offsets.specs.Subsets.{Subset, range, list, members, listOrNothing, intersect}
-use Rattle.offsets.specs.Answers.{answerOf, written, room, Answered}
+use Rattle.offsets.specs.Answers.{answerOf, written, roomNeeded, Answered}
 
 pub written-none : (n : ℕ) → written (refused n) ≡ []
 unfolding written
@@ -40,8 +40,8 @@ unfolding written listOrNothing
 listed-room [] = omega arith
 listed-room (x ∷ xs) = omega arith
 
-pub written-intersect : (a b : Subset) → length (written (accepted (intersect a b))) ≤ room a b
-unfolding intersect room
+pub written-intersect : (a b : Subset) → length (written (accepted (intersect a b))) ≤ roomNeeded a b
+unfolding intersect roomNeeded
 written-intersect (range a b) (range c d) = unfold written in omega arith
 written-intersect (range a b) (list ids) = omega (arith, listed-room (keep (within a b) ids), kept-room (within a b) ids)
 written-intersect (list ids) (range a b) = unfold written in kept-room (within a b) ids

@@ -6,7 +6,7 @@ use Rattle.refusals.specs.Refusals.{first, reply}
 use Rattle.cells.specs.Cells.{isDead}
 use Rattle.merge_rules.specs.Rules.{ruledColumn, signed, smaller, larger, taken, madeCell, madeFrom, changesFrom, ruled}
 use Rattle.offsets.specs.Subsets.{wellFormed, members, size, endOf, listOrNothing, intersect, shaped, retain, narrowed}
-use Rattle.offsets.specs.Answers.{room, intersectRefusal, intersectReply}
+use Rattle.offsets.specs.Answers.{roomNeeded, intersectRefusal, intersectReply}
 use Rattle.constraints.specs.Constraints.{known, compares, met, isLive, meets}
 use Rattle.row_buffer.specs.Ranks.{setBelow, marks, liveAt, liveWord, newNumber}
 use Rattle.sort_entries.specs.Entries.{firstRow, fastRange}
@@ -19,5 +19,5 @@ use Rattle.queries.specs.Queries.{matches, pastRows, tests, refineRefusal, page
 use Rattle.settled.specs.Settled.{examples, comesOut, areRows, numbered}
 
 pub settled : every comesOut examples ≡ true
-unfolding every keep count rowAt countFrom above rising has within same first reply isDead ruledColumn signed smaller larger taken madeCell madeFrom changesFrom ruled wellFormed members size endOf listOrNothing intersect shaped retain narrowed room intersectRefusal intersectReply known compares met isLive meets any firstRow fastRange openable wordsOf wordsAll inserts hasKey skipped due insertAll dead storesShort wordsShort opened wrongWidth noSuchRow overfull stageLadder mergeLadder stage liveWithKey killIf withoutKey withoutRow removed lookup firstOf below stop raised append put insertion applied compacted unstaged compactsAfter merged refusal done after afterAll outside rowsShort matches pastRows tests refineRefusal pageRefusal refineOneReply refineListReply visited nextPlace pageIds pageReply examples comesOut areRows numbered setBelow marks liveAt liveWord newNumber liveFrom liveRows
+unfolding every keep count rowAt countFrom above rising has within same first reply isDead ruledColumn signed smaller larger taken madeCell madeFrom changesFrom ruled wellFormed members size endOf listOrNothing intersect shaped retain narrowed roomNeeded intersectRefusal intersectReply known compares met isLive meets any firstRow fastRange openable wordsOf wordsAll inserts hasKey skipped due insertAll dead storesShort wordsShort opened wrongWidth noSuchRow overfull stageLadder mergeLadder stage liveWithKey killIf withoutKey withoutRow removed lookup firstOf below stop raised append put insertion applied compacted unstaged compactsAfter merged refusal done after afterAll outside rowsShort matches pastRows tests refineRefusal pageRefusal refineOneReply refineListReply visited nextPlace pageIds pageReply examples comesOut areRows numbered setBelow marks liveAt liveWord newNumber liveFrom liveRows
 settled = refl

@@ -77,11 +77,11 @@ firstPlace Refine = 0
 firstPlace Match = 0
 firstPlace (Page start n) = start
 
--- for how many ids the output has room
-unfoldable pub roomFor : Question → Subset → ℕ
-roomFor Refine subset = size subset
-roomFor Match subset = 0
-roomFor (Page start n) subset = min n (size subset - start)
+-- for how many ids the output must have room
+unfoldable pub roomAsked : Question → Subset → ℕ
+roomAsked Refine subset = size subset
+roomAsked Match subset = 0
+roomAsked (Page start n) subset = min n (size subset - start)
 
 unfoldable pub refusalOf : Question → Header → ℕ → Subset → List Constraint → ℕ → ℕ
 refusalOf Refine h rows subset conditions output = refineRefusal h rows subset conditions output
@@ -194,7 +194,7 @@ pub record SweepBegins (question : Question) (h : Header) (rows : ℕ) (subset :
   pub sweepable : (output₀ : List ℕ) → length output₀ ≡ output → Sweepable h rows subset s output₀
   pub first-is : s .refused ≡ 0 → s .next ≡ firstPlace question
   pub visits-is : s .refused ≡ 0 → (test : ℕ → Bool) → upTo (s .most) test (places subset s) ≡ visits question test subset
-  pub in-room : s .refused ≡ 0 → roomFor question subset ≤ output
+  pub in-room : s .refused ≡ 0 → roomAsked question subset ≤ output
   pub no-places : (s .refused ≡ 0 → ⊥) → s .next ≡ s .end
 
 -- a question that has been asked: refused with nothing written, or its ids visited, those that match kept and the dead ones
@@ -202,7 +202,7 @@ pub record SweepBegins (question : Question) (h : Header) (rows : ℕ) (subset :
 pub record SweepAnswered (question : Question) (h : Header) (rows : List ℕ) (subset : Subset) (conditions : List Constraint) (output : List ℕ) (s : Sweep) (output′ : List ℕ) : Type 0 where
   pub number-is : s .refused ≡ refusalOf question h (length rows) subset conditions (length output)
   pub askable : s .refused ≡ 0 → Askable h (length rows) subset
-  pub in-room : s .refused ≡ 0 → roomFor question subset ≤ length output
+  pub in-room : s .refused ≡ 0 → roomAsked question subset ≤ length output
   pub within : s .refused ≡ 0 → firstPlace question ≤ size subset
   pub next-is : s .refused ≡ 0 → s .next ≡ firstPlace question + length (visits question (matches h rows conditions) subset)
   pub grows : s .refused ≡ 0 → Grows output output′ (s .found) (keep (matches h rows conditions) (visits question (matches h rows conditions) subset))
