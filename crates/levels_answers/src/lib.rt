@@ -42,7 +42,7 @@ fn respond(
 }
 
 // The header after a line, and how many bytes it prints.
-pub struct Answered {
+pub struct LineAnswer {
     pub header: Header,
     pub used: usize,
 }
@@ -56,7 +56,7 @@ pub fn answer(
     sorts: &mut [u32],
     pending: &mut [u32],
     text: &mut [u8],
-) -> Answered
+) -> LineAnswer
     requires { ⌜ length (now keys) ≤ 2048 ⌝ }
     requires { ⌜ 92217 ≤ length (now text) ⌝ }
     ensures { λ r. ⌜ Answering (now (line .entry)) (stores h (now (rows .entry)) (now (keys .entry)) (now (sorts .entry)) (now (pending .entry))) (stores (r .header) (now (rows .exit)) (now (keys .exit)) (now (sorts .exit)) (now (pending .exit))) (now (text .exit)) (r .used) ⌝ }
@@ -64,7 +64,7 @@ pub fn answer(
     let served = respond(h, line, rows, keys, sorts, pending);
     let header = served.header;
     let said = served.said;
-    Answered {
+    LineAnswer {
         header: header,
         used: tell(header, said, rows, text),
     }

@@ -9,7 +9,7 @@ use Rattle.table.specs.declared.RangeAnswer.{RangeAnswer}
 use Rattle.table.specs.declared.RangeAnswer.the-variants.{Refused as RangeRefused, None, Range as Ranged}
 use Rattle.table.specs.declared.Version.{Version as Versioned}
 use Rattle.table.specs.declared.VersionAnswer.{VersionAnswer}
-use Rattle.table.specs.declared.VersionAnswer.the-variants.{Refused as VersionRefused, Version as Answered}
+use Rattle.table.specs.declared.VersionAnswer.the-variants.{Refused as VersionRefused, Version as VersionTold}
 use Rattle.table.specs.Numbers.{rangeSays, versionSays}
 use Rattle.table.specs.Promises.{stores, RangeRead, VersionRead}
 use Rattle.levels_said.specs.declared.Said.{Said}
@@ -43,7 +43,7 @@ module _ (answer : VersionAnswer) where
   unfolding versionSays saidOf
   version-refused n says e = rw e
 
-  pub version-says : (v : Versioned) (says : Versioned → Said) → answer ≡ Answered v → says v ≡ saidOf says (versionSays answer)
+  pub version-says : (v : Versioned) (says : Versioned → Said) → answer ≡ VersionTold v → says v ≡ saidOf says (versionSays answer)
   unfolding versionSays saidOf
   version-says v says e = rw e
 
