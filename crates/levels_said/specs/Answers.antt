@@ -30,11 +30,11 @@ lent s =
     }
 
 -- what a turn leaves: its text, of which so many bytes are used, and its table
-pub record Left (turn : Turn) (s : Stores) (text : List ℕ) (used : ℕ) : Type 0 where
-  pub printed : take used text ≡ turn .text
+pub record TurnLeaves (turn : Turn) (s : Stores) (text : List ℕ) (used : ℕ) : Type 0 where
+  pub text-is : take used text ≡ turn .text
   pub held : Held (turn .table) s
 
 -- A line is answered: whatever table was held, the text and the table are those of the line's turn on it.
 pub record Answering (line : List ℕ) (s s′ : Stores) (text : List ℕ) (used : ℕ) : Type 0 where
   pub inside : used ≤ length text
-  pub answers : (t : Option Plain) → Held t s → Left (lineTurn (lent s) t line) s′ text used
+  pub answers : (t : Option Plain) → Held t s → TurnLeaves (lineTurn (lent s) t line) s′ text used

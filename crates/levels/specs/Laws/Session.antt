@@ -27,7 +27,7 @@ pub data Turns : List ℕ → Stores → List ℕ → List ℕ → Type 0 where
 module _ {before rest : List ℕ} {end : Bool} {s s′ : Stores} {text : List ℕ} (d : LineDone before s rest end s′ text) (t : Option Plain) (h : Held t s) where
   -- what its turn prints, and the table that it leaves
   line-printed : take (d .replied .used) text ≡ lineTurn programLengths t (d .line) .text
-  line-printed = rw (d .stores-lent) at (d .replied .answering .answers t h .printed)
+  line-printed = rw (d .stores-lent) at (d .replied .answering .answers t h .text-is)
 
   line-held : Held (lineTurn programLengths t (d .line) .table) s′
   line-held = rw (d .stores-lent) at (d .replied .answering .answers t h .held)

@@ -82,5 +82,5 @@ told-answers keys room m w =
       inside = w .inside;
       answers = λ t held.
           let k = m .answers t held in
-          record { printed = w .begins (λ l. held-listable keys room (k .held) (k .listed l)) ∙ k .says; held = k .held };
+          record { text-is = w .begins (λ l. held-listable keys room (k .held) (k .listed l)) ∙ k .says; held = k .held };
     }

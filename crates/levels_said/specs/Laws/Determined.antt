@@ -20,4 +20,4 @@ pub answering-determined : {line : List ℕ} {s s₁ s₂ : Stores} {text₁ tex
 answering-determined t h a b =
     let x = a .answers t h in
     let y = b .answers t h in
-    record { text = x .printed ∙ sym (y .printed); first = x .held; second = y .held }
+    record { text = x .text-is ∙ sym (y .text-is); first = x .held; second = y .held }
