@@ -40,16 +40,16 @@ byReply a q r = outcome (left a r) (counting q r)
 
 -- a range step: where there is no range, it counts for nothing
 unfoldable pub rangeStep : Subset → Constraint → ℕ → Option Subset → Outcome
-rangeStep a c room none = outcome a []
-rangeStep a c room (some b) = byReply a (intersectRange c) (intersectReply a b room)
+rangeStep a c output none = outcome a []
+rangeStep a c output (some b) = byReply a (intersectRange c) (intersectReply a b output)
 
-module _ (h : Header) (rows sorts : List ℕ) (room : ℕ) where
+module _ (h : Header) (rows sorts : List ℕ) (output : ℕ) where
   -- one question; the ids left come first in `intersect`
   unfoldable pub asked : Subset → Question → Outcome
-  asked a (refineOne c) = byReply a (refineOne c) (refineOneReply h rows a c room)
-  asked a (refineList cs) = byReply a (refineList cs) (refineListReply h rows a cs room)
-  asked a (intersectWith b) = byReply a (intersectWith b) (intersectReply a b room)
-  asked a (intersectRange c) = rangeStep a c room (cond (eqb (fastRefusal h (length sorts) c) 0) (fastSubset h sorts c) none)
+  asked a (refineOne c) = byReply a (refineOne c) (refineOneReply h rows a c output)
+  asked a (refineList cs) = byReply a (refineList cs) (refineListReply h rows a cs output)
+  asked a (intersectWith b) = byReply a (intersectWith b) (intersectReply a b output)
+  asked a (intersectRange c) = rangeStep a c output (cond (eqb (fastRefusal h (length sorts) c) 0) (fastSubset h sorts c) none)
 
   -- the questions, the first one first
   unfoldable pub askedAll : Subset → List Question → Outcome

@@ -1,4 +1,4 @@
--- The turns of a run. Assumes nothing.
+-- A run, question after question. Assumes nothing.
 use Prim.Native.Nat.{ℕ, zero, suc, _+_, _-_, _≤_, min}
 use mathlib.Core.Path.{_≡_, refl, sym, ap, _∙_}
 use mathlib.Core.Bool.{Bool, true, false, _||_}
@@ -22,8 +22,8 @@ use Rattle.question_words.specs.declared.RunAnswer.{RunAnswer}
 use Rattle.question_words.specs.Encoding.{questionOf, questionsIn}
 use Rattle.question_words.specs.Leaving.{idsAt, subsetLeft, Outcome, outcome, askedAll}
 use Rattle.runs.specs.Asking.{shorter, RunMade}
-use Rattle.runs.specs.inner.Turning.{Turned, TurnedOnce}
-use Rattle.runs.specs.Laws.Turning.{run-then, behind, asked-then}
+use Rattle.runs.specs.inner.Putting.{QuestionsPut, QuestionPut}
+use Rattle.runs.specs.Laws.Putting.{run-then, behind, asked-then}
 
 -- the first ids of a list, as they are lent
 pub lent-count : (n : ℕ) (l : List ℕ) → n ≤ length l → n ≡ length (take n l)
@@ -80,36 +80,36 @@ module _ {h : Header} {rows sorts ids words first₀ second₀ : List ℕ} {l₀
   module _ {first second : List ℕ} {l : RunAnswer} {at count : ℕ} (v : Going h rows sorts ids words first₀ second₀ l₀ first second l at count) where
     -- one question is put
     pub going-again : {first′ second′ : List ℕ} {l′ : RunAnswer} {more : ℕ} → (count ≡ 0 → ⊥)
-        → TurnedOnce h rows sorts ids (questionOf (getD words at 0) (take (at + count - (at + 2)) (drop (at + 2) words))) l first second l′ first′ second′
+        → QuestionPut h rows sorts ids (questionOf (getD words at 0) (take (at + count - (at + 2)) (drop (at + 2) words))) l first second l′ first′ second′
         → length first′ ≡ length first → length second′ ≡ length second → FrameLength words (at + count) more
         → Going h rows sorts ids words first₀ second₀ l₀ first′ second′ l′ (at + count) more
-    going-again {first′} {second′} {l′} left turn a b here =
+    going-again {first′} {second′} {l′} left p a b here =
         let cells : at + count - (at + 2) ≡ count - 2 = omega arith in
         let q : List Question = questionOf (getD words at 0) (take (count - 2) (drop (at + 2) words)) in
         let qs : List Question = questionsIn (drop (at + count) words) in
-        let t : TurnedOnce h rows sorts ids q l first second l′ first′ second′ = rw cells at turn in
-        let asked : List Question = t .turned .accepted in
+        let t : QuestionPut h rows sorts ids q l first second l′ first′ second′ = rw cells at p in
+        let asked : List Question = t .put .accepted in
         let frame : questionsIn (drop at words) ≡ q ++ qs = framed-next questionOf (v .here) left in
         record {
           here = here;
           first-long = a ∙ v .first-long;
           second-long = b ∙ v .second-long;
           alike = v .alike;
-          fits = rw (v .first-long) at (t .turned .fits);
+          fits = rw (v .first-long) at (t .put .fits);
           early = omega (arith, t .few, v .early, left);
           accepted = v .accepted ++ asked;
-          told = t .turned .told ∙ ap (λ (r : Bool). r || any refines asked) (v .told) ∙ or-assoc (l₀ .refined) (any refines (v .accepted)) (any refines asked)
+          told = t .put .told ∙ ap (λ (r : Bool). r || any refines asked) (v .told) ∙ or-assoc (l₀ .refined) (any refines (v .accepted)) (any refines asked)
               ∙ ap (λ (r : Bool). l₀ .refined || r) (sym (any-both refines (v .accepted) asked));
           taken =
               let sum : length (questionsIn (drop at words)) ≡ length q + length qs = ap length frame ∙ length-append q qs in
-              let both = t .turned .taken in
+              let both = t .put .taken in
               omega (arith, sum, both, v .taken);
           rest = λ keys pending last more run.
               rw (append-assoc (v .accepted) asked more)
-              (v .rest keys pending last (asked ++ more) (rw frame (run-then (rw (v .first-long) at (t .turned .run keys pending)) run)));
+              (v .rest keys pending last (asked ++ more) (rw frame (run-then (rw (v .first-long) at (t .put .run keys pending)) run)));
           leaves = λ sound.
               let all : Subset → List Question → Outcome = askedAll h rows sorts (length first₀) in
-              let one : outcome (subsetLeft l′ ids first′ second′) asked ≡ all (subsetLeft l ids first second) q = rw (v .first-long) at (t .turned .leaves sound) in
+              let one : outcome (subsetLeft l′ ids first′ second′) asked ≡ all (subsetLeft l ids first second) q = rw (v .first-long) at (t .put .leaves sound) in
               let two : all (subsetLeft l ids first second) (q ++ qs) ≡ behind asked (all (subsetLeft l′ ids first′ second′) qs) =
               asked-then h rows sorts (length first₀) (subsetLeft l ids first second) q qs ∙ ap (λ (o : Outcome). behind (o .accepted) (all (o .ids) qs)) (sym one) in
               let last : Outcome = all (subsetLeft l′ ids first′ second′) qs in
@@ -118,7 +118,7 @@ module _ {h : Header} {rows sorts ids words first₀ second₀ : List ℕ} {l₀
         }
 
     -- no question is left
-    pub going-end : count ≡ 0 → Turned h rows sorts ids (questionsIn words) l₀ first₀ second₀ l first second
+    pub going-end : count ≡ 0 → QuestionsPut h rows sorts ids (questionsIn words) l₀ first₀ second₀ l first second
     unfolding askedAll
     going-end none =
         let frame : questionsIn (drop at words) ≡ [] = framed-end questionOf (v .here) none in
@@ -164,7 +164,7 @@ unfolding subsetLeft subsetOf idsAt
 starting head ids first second = refl
 
 module _ {h : Header} {rows sorts ids : List ℕ} {questions : List Question} (head : SubsetHead) (n : ℕ) (first second : List ℕ) {r : RunAnswer} {part part′ : List ℕ} where
-  pub made-within : n ≡ min (length first) (length second) → Turned h rows sorts ids questions (before head) (take n first) (take n second) r part part′
+  pub made-within : n ≡ min (length first) (length second) → QuestionsPut h rows sorts ids questions (before head) (take n first) (take n second) r part part′
       → length part ≡ length (take n first) → length part′ ≡ length (take n second)
       → RunMade h rows sorts (subsetOf head ids) ids questions first second r (part ++ drop n first) (part′ ++ drop n second)
   made-within e t a b =

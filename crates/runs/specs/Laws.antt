@@ -1,3 +1,3 @@
 -- What follows from the definitions.
-pub mod Turning
+pub mod Putting
 pub mod Determined

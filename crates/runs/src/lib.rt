@@ -5,7 +5,7 @@ ghost use lib.ListN.{length};
 ghost use Rattle.offsets.specs.Answers.{subsetOf};
 ghost use Rattle.question_words.specs.Encoding.{questionOf, questionsIn};
 ghost use Rattle.runs.specs.Asking.{RunMade};
-ghost use Rattle.runs.specs.inner.Turning.{Turned, TurnedOnce};
+ghost use Rattle.runs.specs.inner.Putting.{QuestionsPut, QuestionPut};
 use frames::frame_length;
 use offsets::SubsetHead;
 use question_words::RunAnswer;
@@ -13,7 +13,7 @@ use question_words::put;
 use table::Header;
 
 // One question, put on the ids left; its answer goes into the lent list that they do not lie in.
-fn turn(
+fn put_question(
     h: Header,
     rows: &[u32],
     sorts: &[u32],
@@ -25,7 +25,7 @@ fn turn(
     second: &mut [u32],
 ) -> RunAnswer
     requires { ⌜ (l .count ≤ length (now first)) × (length (now second) ≡ length (now first)) × (l .taken < 18446744073709551615) ⌝ }
-    ensures { λ r. ⌜ TurnedOnce h (now (rows .entry)) (now (sorts .entry)) (now (ids .entry)) (questionOf kind (now (cells .entry))) l (now (first .entry)) (now (second .entry)) r (now (first .exit)) (now (second .exit)) ⌝ }
+    ensures { λ r. ⌜ QuestionPut h (now (rows .entry)) (now (sorts .entry)) (now (ids .entry)) (questionOf kind (now (cells .entry))) l (now (first .entry)) (now (second .entry)) r (now (first .exit)) (now (second .exit)) ⌝ }
 {
     let head = SubsetHead {
         dense: l.dense,
@@ -76,13 +76,13 @@ fn ask_within(
     second: &mut [u32],
 ) -> RunAnswer
     requires { ⌜ (l .count ≡ 0) × (l .taken ≡ 0) × (length (now second) ≡ length (now first)) ⌝ }
-    ensures { λ r. ⌜ Turned h (now (rows .entry)) (now (sorts .entry)) (now (ids .entry)) (questionsIn (now (questions .entry))) l (now (first .entry)) (now (second .entry)) r (now (first .exit)) (now (second .exit)) ⌝ }
+    ensures { λ r. ⌜ QuestionsPut h (now (rows .entry)) (now (sorts .entry)) (now (ids .entry)) (questionsIn (now (questions .entry))) l (now (first .entry)) (now (second .entry)) r (now (first .exit)) (now (second .exit)) ⌝ }
 {
     let mut n = l;
     let mut at: usize = 0;
     let mut words = frame_length(questions, at);
     while words != 0 {
-        n = turn(
+        n = put_question(
             h,
             rows,
             sorts,

@@ -21,32 +21,32 @@ frame-length-requires c κs = omega arith
 loop-holds : tie.Need-loop-holds Inv-loop μ-loop
 loop-holds c = let p = c .before .before .before .before .before .before .before .pre in going-begin (c .frame-length .ensures) (p .0) (p .1) (p .2)
 
-mul-turn : tie.Need-mul-turn Inv-loop μ-loop
-mul-turn c = search needs
+mul-put-question : tie.Need-mul-put-question Inv-loop μ-loop
+mul-put-question c = search needs
 
-shared-slice-read-turn : tie.Need-shared-slice-read-turn Inv-loop μ-loop
-shared-slice-read-turn c = let v = c .before .before .loop .inv .here in omega (arith, v .inside, v .whole (c .before .loop-test .taken))
+shared-slice-read-put-question : tie.Need-shared-slice-read-put-question Inv-loop μ-loop
+shared-slice-read-put-question c = let v = c .before .before .loop .inv .here in omega (arith, v .inside, v .whole (c .before .loop-test .taken))
 
-add-turn : tie.Need-add-turn Inv-loop μ-loop
-add-turn c = let v = c .before .before .loop .inv .here in omega (arith, v .inside, v .whole (c .before .loop-test .taken))
+add-put-question : tie.Need-add-put-question Inv-loop μ-loop
+add-put-question c = let v = c .before .before .loop .inv .here in omega (arith, v .inside, v .whole (c .before .loop-test .taken))
 
-add-turn-2 : tie.Need-add-turn-2 Inv-loop μ-loop
-add-turn-2 c = let v = c .before .before .loop .inv .here in omega (arith, v .inside, v .whole (c .before .loop-test .taken))
+add-put-question-2 : tie.Need-add-put-question-2 Inv-loop μ-loop
+add-put-question-2 c = let v = c .before .before .loop .inv .here in omega (arith, v .inside, v .whole (c .before .loop-test .taken))
 
-mul-turn-2 : tie.Need-mul-turn-2 Inv-loop μ-loop
-mul-turn-2 c = let v = c .before .before .loop .inv .here in omega (arith, v .inside, v .whole (c .before .loop-test .taken))
+mul-put-question-2 : tie.Need-mul-put-question-2 Inv-loop μ-loop
+mul-put-question-2 c = let v = c .before .before .loop .inv .here in omega (arith, v .inside, v .whole (c .before .loop-test .taken))
 
-sub-turn : tie.Need-sub-turn Inv-loop μ-loop
-sub-turn c = let v = c .before .before .loop .inv .here in omega (arith, v .inside, v .whole (c .before .loop-test .taken))
+sub-put-question : tie.Need-sub-put-question Inv-loop μ-loop
+sub-put-question c = let v = c .before .before .loop .inv .here in omega (arith, v .inside, v .whole (c .before .loop-test .taken))
 
-part-turn-start : tie.Need-part-turn-start Inv-loop μ-loop
-part-turn-start c = let v = c .before .before .loop .inv .here in omega (arith, v .inside, v .whole (c .before .loop-test .taken))
+part-put-question-start : tie.Need-part-put-question-start Inv-loop μ-loop
+part-put-question-start c = let v = c .before .before .loop .inv .here in omega (arith, v .inside, v .whole (c .before .loop-test .taken))
 
-part-turn-end : tie.Need-part-turn-end Inv-loop μ-loop
-part-turn-end c = let v = c .before .before .loop .inv .here in omega (arith, v .inside, v .whole (c .before .loop-test .taken))
+part-put-question-end : tie.Need-part-put-question-end Inv-loop μ-loop
+part-put-question-end c = let v = c .before .before .loop .inv .here in omega (arith, v .inside, v .whole (c .before .loop-test .taken))
 
-turn-requires : tie.Need-turn-requires Inv-loop μ-loop
-turn-requires c κs = let v = c .before .before .before .before .before .loop .inv in (rw (v .first-long) (v .fits), v .second-long ∙ v .alike ∙ sym (v .first-long), omega (arith, v .early, v .here .inside, c .before .before .before .before .before .before .before .before .before .before .before .before .before .good .1 .1 .1 .1 .1 .0))
+put-question-requires : tie.Need-put-question-requires Inv-loop μ-loop
+put-question-requires c κs = let v = c .before .before .before .before .before .loop .inv in (rw (v .first-long) (v .fits), v .second-long ∙ v .alike ∙ sym (v .first-long), omega (arith, v .early, v .here .inside, c .before .before .before .before .before .before .before .before .before .before .before .before .before .good .1 .1 .1 .1 .1 .0))
 
 add-at : tie.Need-add-at Inv-loop μ-loop
 add-at c = omega (arith, c .before .before .before .before .before .before .before .before .before .before .before .before .before .before .before .before .before .before .good .1 .1 .1 .1 .1 .0, c .before .before .before .before .before .before .before .before .before .before .loop .inv .here .inside)
@@ -58,7 +58,7 @@ loop-less : tie.Need-loop-less Inv-loop μ-loop
 loop-less c = omega (arith, c .before .before .before .before .before .before .before .before .before .before .before .loop .inv .here .inside, c .before .before .before .before .before .before .before .before .before .before .before .loop .inv .here .whole (c .before .before .before .before .before .before .before .before .before .before .loop-test .taken))
 
 loop-again : tie.Need-loop-again Inv-loop μ-loop
-loop-again c = going-again (c .before .before .before .before .before .before .before .before .before .before .before .loop .inv) (c .before .before .before .before .before .before .before .before .before .before .loop-test .taken) (c .before .before .before .before .before .turn .ensures) (c .before .before .before .before .first .given) (c .before .before .second .given) (c .frame-length2 .ensures)
+loop-again c = going-again (c .before .before .before .before .before .before .before .before .before .before .before .loop .inv) (c .before .before .before .before .before .before .before .before .before .before .loop-test .taken) (c .before .before .before .before .before .put-question .ensures) (c .before .before .before .before .first .given) (c .before .before .second .given) (c .frame-length2 .ensures)
 
 same-length : tie.Need-same-length Inv-loop μ-loop
 same-length c = c .before .loop .inv .first-long
@@ -77,15 +77,15 @@ ask-within-spec =
     μ-loop
     frame-length-requires
     loop-holds
-    mul-turn
-    shared-slice-read-turn
-    add-turn
-    add-turn-2
-    mul-turn-2
-    sub-turn
-    part-turn-start
-    part-turn-end
-    turn-requires
+    mul-put-question
+    shared-slice-read-put-question
+    add-put-question
+    add-put-question-2
+    mul-put-question-2
+    sub-put-question
+    part-put-question-start
+    part-put-question-end
+    put-question-requires
     add-at
     frame-length-requires-2
     loop-less

@@ -14,7 +14,7 @@ use Rattle.question_words.specs.declared.RunAnswer.{RunAnswer}
 use Rattle.question_words.specs.Leaving.{subsetLeft, outcome, askedAll}
 
 module _ (h : Header) (rows sorts ids : List ℕ) (questions : List Question) (l : RunAnswer) (first second : List ℕ) (l′ : RunAnswer) (first′ second′ : List ℕ) where
-  pub record Turned : Type 0 where
+  pub record QuestionsPut : Type 0 where
     pub accepted : List Question
     pub run : (keys pending : List ℕ)
         → Run (stores h rows keys sorts pending) (eqb (length first)) (subsetLeft l ids first second) questions (subsetLeft l′ ids first′ second′) accepted
@@ -26,6 +26,6 @@ module _ (h : Header) (rows sorts ids : List ℕ) (questions : List Question) (l
     pub fits : l′ .count ≤ length first
 
   -- no question or one
-  pub record TurnedOnce : Type 0 where
-    pub turned : Turned
+  pub record QuestionPut : Type 0 where
+    pub put : QuestionsPut
     pub few : l′ .taken ≤ l .taken + 1

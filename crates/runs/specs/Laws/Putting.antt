@@ -14,19 +14,19 @@ use Rattle.history.specs.Runs.{Question, Run, end, next}
 use Rattle.question_words.specs.declared.RunAnswer.{RunAnswer}
 use Rattle.question_words.specs.Leaving.{idsAt, subsetLeft, Outcome, outcome, asked, askedAll}
 use Rattle.question_words.specs.inner.Putting.{Put}
-use Rattle.runs.specs.inner.Turning.{TurnedOnce}
+use Rattle.runs.specs.inner.Putting.{QuestionPut}
 
 -- ---- one question
 
 module _ {h : Header} {rows sorts ids : List ℕ} {questions : List Question} {l l′ : RunAnswer} {first second first′ second′ : List ℕ} (place : ℕ) {a : Subset} {output output′ : List ℕ} where
   -- the list of this place was its output; the ids that it was put on are as they were
-  turned : Put h rows sorts a questions l place output l′ output′ → length output ≡ length first → l .count ≤ length first
+  put-in : Put h rows sorts a questions l place output l′ output′ → length output ≡ length first → l .count ≤ length first
       → subsetLeft l ids first second ≡ a → subsetLeft l ids first′ second′ ≡ a → ((n : ℕ) → idsAt place n ids first′ second′ ≡ take n output′)
-      → TurnedOnce h rows sorts ids questions l first second l′ first′ second′
-  turned p long held before kept here =
+      → QuestionPut h rows sorts ids questions l first second l′ first′ second′
+  put-in p long held before kept here =
       let is : subsetLeft l′ ids first′ second′ ≡ p .ids = p .there ids first′ second′ here kept in
       record {
-        turned = record {
+        put = record {
           accepted = p .accepted;
           run = λ keys pending. rw (is, before) (p .run _ (eq-eqb (length first) (length output) (sym long)) keys pending);
           leaves = λ sound. rw (is, before, ← long) (p .leaves sound);
@@ -64,17 +64,17 @@ into-second n ids first second = refl
 
 -- the three ways: the ids left lie in the first list, in the second, or in neither
 module _ {h : Header} {rows sorts : List ℕ} (ids : List ℕ) {questions : List Question} {l l′ : RunAnswer} {first second : List ℕ} (held : l .count ≤ length first) (long : length second ≡ length first) where
-  pub turn-first : {second′ : List ℕ} → l .place ≡ 1 → Put h rows sorts (subsetOf (headOf l ids first second) (take (l .count) first)) questions l 2 second l′ second′
-      → TurnedOnce h rows sorts ids questions l first second l′ first second′
-  turn-first {second′} e p = turned 2 p long held (lent-first l ids first second e) (lent-first l ids first second′ e) (λ n. into-second n ids first second′)
+  pub put-first : {second′ : List ℕ} → l .place ≡ 1 → Put h rows sorts (subsetOf (headOf l ids first second) (take (l .count) first)) questions l 2 second l′ second′
+      → QuestionPut h rows sorts ids questions l first second l′ first second′
+  put-first {second′} e p = put-in 2 p long held (lent-first l ids first second e) (lent-first l ids first second′ e) (λ n. into-second n ids first second′)
 
-  pub turn-second : {first′ : List ℕ} → l .place ≡ 2 → Put h rows sorts (subsetOf (headOf l ids first second) (take (l .count) second)) questions l 1 first l′ first′
-      → TurnedOnce h rows sorts ids questions l first second l′ first′ second
-  turn-second {first′} e p = turned 1 p refl held (lent-second l ids first second e) (lent-second l ids first′ second e) (λ n. into-first n ids first′ second)
+  pub put-second : {first′ : List ℕ} → l .place ≡ 2 → Put h rows sorts (subsetOf (headOf l ids first second) (take (l .count) second)) questions l 1 first l′ first′
+      → QuestionPut h rows sorts ids questions l first second l′ first′ second
+  put-second {first′} e p = put-in 1 p refl held (lent-second l ids first second e) (lent-second l ids first′ second e) (λ n. into-first n ids first′ second)
 
-  pub turn-neither : {first′ : List ℕ} → (l .place ≡ 1 → ⊥) → (l .place ≡ 2 → ⊥) → Put h rows sorts (subsetOf (headOf l ids first second) ids) questions l 1 first l′ first′
-      → TurnedOnce h rows sorts ids questions l first second l′ first′ second
-  turn-neither {first′} a b p = turned 1 p refl held (lent-neither l ids first second a b) (lent-neither l ids first′ second a b) (λ n. into-first n ids first′ second)
+  pub put-neither : {first′ : List ℕ} → (l .place ≡ 1 → ⊥) → (l .place ≡ 2 → ⊥) → Put h rows sorts (subsetOf (headOf l ids first second) ids) questions l 1 first l′ first′
+      → QuestionPut h rows sorts ids questions l first second l′ first′ second
+  put-neither {first′} a b p = put-in 1 p refl held (lent-neither l ids first second a b) (lent-neither l ids first′ second a b) (λ n. into-first n ids first′ second)
 
 -- ---- one after another
 

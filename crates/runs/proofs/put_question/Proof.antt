@@ -1,10 +1,10 @@
--- `runs::turn` meets its contract. Assumes nothing.
+-- `runs::put_question` meets its contract. Assumes nothing.
 use native.Mathlib.Omega.{arith}
-use Rattle.runs.specs.Laws.Turning.{turn-first, turn-second, turn-neither}
+use Rattle.runs.specs.Laws.Putting.{put-first, put-second, put-neither}
 use Rattle.runs.proofs.AskingSteps.{lent-count}
 use borrow.Author.Needs.{needs}
-use Rattle.runs.proofs.turn.Statement.{statement}
-use Rattle.runs.proofs.turn.Tie as tie
+use Rattle.runs.proofs.put_question.Statement.{statement}
+use Rattle.runs.proofs.put_question.Tie as tie
 
 cast-count : tie.Need-cast-count
 cast-count c = search needs
@@ -25,7 +25,7 @@ same-length-2 : tie.Need-same-length-2
 same-length-2 c = search needs
 
 returns : tie.Need-returns
-returns c = turn-first _ (c .before .before .before .before .before .before .before .before .before .before .before .before .before .before .pre .0) (c .before .before .before .before .before .before .before .before .before .before .before .before .before .before .pre .1) (c .before .before .before .before .before .if1 .taken) (c .before .before .put .ensures)
+returns c = put-first _ (c .before .before .before .before .before .before .before .before .before .before .before .before .before .before .pre .0) (c .before .before .before .before .before .before .before .before .before .before .before .before .before .before .pre .1) (c .before .before .before .before .before .if1 .taken) (c .before .before .put .ensures)
 
 slice-reshare-prefix-put-2 : tie.Need-slice-reshare-prefix-put-2
 slice-reshare-prefix-put-2 c = search needs
@@ -43,7 +43,7 @@ same-length-4 : tie.Need-same-length-4
 same-length-4 c = search needs
 
 returns-2 : tie.Need-returns-2
-returns-2 c = turn-second _ (c .before .before .before .before .before .before .before .before .before .before .before .before .before .before .before .before .pre .0) (c .before .before .before .before .before .before .before .before .before .before .before .before .before .before .before .before .pre .1) (c .before .before .before .before .before .if2 .taken) (c .before .before .put2 .ensures)
+returns-2 c = put-second _ (c .before .before .before .before .before .before .before .before .before .before .before .before .before .before .before .before .pre .0) (c .before .before .before .before .before .before .before .before .before .before .before .before .before .before .before .before .pre .1) (c .before .before .before .before .before .if2 .taken) (c .before .before .put2 .ensures)
 
 put-requires-3 : tie.Need-put-requires-3
 put-requires-3 c κs = search needs
@@ -52,10 +52,10 @@ same-length-5 : tie.Need-same-length-5
 same-length-5 c = search needs
 
 returns-3 : tie.Need-returns-3
-returns-3 c = turn-neither _ (c .before .before .before .before .before .before .before .before .before .before .before .before .before .before .before .pre .0) (c .before .before .before .before .before .before .before .before .before .before .before .before .before .before .before .pre .1) (c .before .before .before .before .before .before .if1 .left) (c .before .before .before .before .if2 .left) (c .before .before .put3 .ensures)
+returns-3 c = put-neither _ (c .before .before .before .before .before .before .before .before .before .before .before .before .before .before .before .pre .0) (c .before .before .before .before .before .before .before .before .before .before .before .before .before .before .before .pre .1) (c .before .before .before .before .before .before .if1 .left) (c .before .before .before .before .if2 .left) (c .before .before .put3 .ensures)
 
-pub turn-spec : {M : Type 1} → statement M
-turn-spec =
+pub put-question-spec : {M : Type 1} → statement M
+put-question-spec =
     tie.close
     (tie.spec
     cast-count
