@@ -1,6 +1,6 @@
 -- What each answer says, and the tests of an intersection one by one. Assumes nothing.
 use Prim.Native.Nat.{ℕ, zero, suc, _≤_, _<_, min, max}
-use mathlib.Core.Path.{_≡_, refl, sym}
+use mathlib.Core.Path.{_≡_, refl, _∙_}
 use mathlib.Core.Logic.{inl, inr}
 use mathlib.Core.Bool.{Bool, true, false}
 use mathlib.Core.List.{List, [], _∷_}
@@ -16,16 +16,17 @@ use Rattle.offsets.specs.declared.SubsetHead.{SubsetHead}
 use Rattle.offsets.specs.declared.SubsetAnswer.{SubsetAnswer}
 use Rattle.offsets.specs.declared.SubsetAnswer.the-variants.{Refused, Range, List as Ids}
 use Rattle.offsets.specs.Subsets.{Subset, range, list, wellFormed, listOrNothing, intersect}
-use Rattle.offsets.specs.Answers.{subsetOf, answerOf, written, Answered, roomNeeded, intersectRefusal, intersectReply}
+use Rattle.offsets.specs.Answers.{subsetOf, Answered, roomNeeded, intersectRefusal, intersectReply}
 use Rattle.offsets.specs.inner.Writing.{Wrote}
 use Rattle.intersection.specs.inner.Common.{Fitting, Searchable, common}
-use Rattle.offsets.specs.Laws.Subsets.{dense-is, sparse-is, answered-list, formed-order, formed-rising, formed-short}
+use Rattle.offsets.specs.Laws.Answers.{answered-refused as refused-answered}
+use Rattle.offsets.specs.Laws.Subsets.{dense-is, sparse-is, answered-range, answered-list, formed-order, formed-rising, formed-short}
 
 -- ---- answers
 
 pub answered-none : (ids output : List ℕ) (n : ℕ) (output′ : List ℕ) → Wrote output ids n output′ → n ≡ 0 → Answered (accepted (listOrNothing ids)) output (Range 0 0) output′
-unfolding answerOf written listOrNothing
-answered-none [] output n output′ w e = record { answers = refl; writes = w .cells }
+unfolding listOrNothing
+answered-none [] output n output′ w e = rw (w .cells ∙ putAt-nil output 0) (answered-range 0 0 output)
 answered-none (x ∷ xs) output n output′ w e = absurd (let k = w .number in omega arith)
 
 pub answered-some : (ids output : List ℕ) (n : ℕ) (output′ : List ℕ) → Wrote output ids n output′ → (n ≡ 0 → ⊥) → Answered (accepted (listOrNothing ids)) output (Ids n) output′
@@ -87,10 +88,10 @@ reply-refused zero s e = absurd (e refl)
 reply-refused (suc n) s e = refl
 
 pub answered-refused : (a b : Subset) (n : ℕ) (output : List ℕ) (r : ℕ) → r ≡ intersectRefusal a b n → (r ≡ 0 → ⊥) → Answered (intersectReply a b n) output (Refused r) output
-unfolding answerOf written intersectReply
+unfolding intersectReply
 answered-refused a b n output r e z =
     let k : reply (intersectRefusal a b n) (intersect a b) ≡ refused r = rw (← e) (reply-refused r (intersect a b) z) in
-    record { answers = rw k; writes = rw k (sym (putAt-nil output 0)) }
+    rw k (refused-answered r output)
 
 pub replied : (a b : Subset) (n : ℕ) → intersectRefusal a b n ≡ 0 → intersectReply a b n ≡ accepted (intersect a b)
 unfolding intersectReply reply

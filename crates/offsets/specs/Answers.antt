@@ -1,5 +1,5 @@
 -- Subsets as they are passed and answered. Assumes nothing.
-use Prim.Native.Nat.{ℕ}
+use Prim.Native.Nat.{ℕ, _≤_}
 use mathlib.Core.Path.{_≡_}
 use mathlib.Core.Bool.{cond, not, _||_}
 use mathlib.Core.List.{List, [], _∷_}
@@ -16,28 +16,24 @@ use Rattle.offsets.specs.Subsets.{Subset, range, list, wellFormed, inter
 unfoldable pub subsetOf : SubsetHead → List ℕ → Subset
 subsetOf head ids = cond (head .dense) (range (head .start) (head .end)) (list ids)
 
--- the answer to a reply: a range by its two ends, a list by how many ids it has
-unfoldable pub answerOf : Reply Subset → SubsetAnswer
-answerOf (refused n) = Refused n
-answerOf (accepted (range start end)) = Range start end
-answerOf (accepted (list ids)) = Ids (length ids)
-
--- the ids that it writes: "A range as answer writes no id"
-unfoldable pub written : Reply Subset → List ℕ
-written (refused n) = []
-written (accepted (range start end)) = []
-written (accepted (list ids)) = ids
-
--- an answer and its output: "output beyond the ids written is unchanged"
-pub record Answered (r : Reply Subset) (output : List ℕ) (answer : SubsetAnswer) (output′ : List ℕ) : Type 0 where
-  pub answers : answer ≡ answerOf r
-  pub writes : output′ ≡ putAt output 0 (written r)
-
 -- an answer as its caller reads it: refused, a range, or the first ids of the output
 unfoldable pub readOff : SubsetAnswer → List ℕ → Reply Subset
 readOff (Refused n) output = refused n
 readOff (Range start end) output = accepted (range start end)
 readOff (Ids n) output = accepted (list (take n output))
+
+-- the ids that a reply writes: "A range as answer writes no id"
+unfoldable pub written : Reply Subset → List ℕ
+written (refused n) = []
+written (accepted (range start end)) = []
+written (accepted (list ids)) = ids
+
+-- A reply is answered: it is what the caller reads, the output has all the ids that are told of, and "output beyond the ids
+-- written is unchanged".
+pub record Answered (r : Reply Subset) (output : List ℕ) (answer : SubsetAnswer) (output′ : List ℕ) : Type 0 where
+  pub answers : readOff answer output′ ≡ r
+  pub inside : (n : ℕ) → answer ≡ Ids n → n ≤ length output′
+  pub writes : output′ ≡ putAt output 0 (written r)
 
 -- the ids for which `intersect` needs room: "output shorter than the first list, or than the second where the first is a
 -- range"

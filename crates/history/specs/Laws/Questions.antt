@@ -13,12 +13,12 @@ use Rattle.lists.specs.Lists.{keep, every, has, rowAt, rising}
 use Rattle.lists.specs.Laws.Keep.{split, and-left, length-keep, count-le}
 use Rattle.lists.specs.Laws.Rising.{has-at, keep-has-comm}
 use Rattle.lists.specs.Laws.Every.{or-no-left, or-no-right}
-use Rattle.refusals.specs.Refusals.{refused, accepted, reply}
+use Rattle.refusals.specs.Refusals.{accepted, reply}
 use Rattle.offsets.specs.declared.SubsetAnswer.{SubsetAnswer}
 use Rattle.offsets.specs.Subsets.{Subset, wellFormed, members, size, endOf, intersect, retain, narrowed}
 use Rattle.offsets.specs.Answers.{Answered, readOff, written, roomNeeded, intersectRefusal, intersectReply}
-use Rattle.offsets.specs.Laws.Answers.{written-refused, written-members, written-intersect}
-use Rattle.offsets.specs.Laws.Subsets.{rising-members, length-members, members-below, members-intersect, members-retain, members-narrowed, read-off}
+use Rattle.offsets.specs.Laws.Answers.{written-members}
+use Rattle.offsets.specs.Laws.Subsets.{rising-members, length-members, members-below, members-intersect, members-retain, members-narrowed}
 use Rattle.constraints.specs.declared.Constraint.{Constraint}
 use Rattle.constraints.specs.Constraints.{known, compares, met, meets}
 use Rattle.sort_entries.specs.Entries.{entriesOf, fastRange}
@@ -41,12 +41,11 @@ use Rattle.history.specs.Laws.Narrowing.{alive, alive-of, alive-below, a
 
 -- a refused question leaves the ids and counts for nothing, an accepted one does what its value does
 answered-narrows : {s : Stores} {q : Question} (a : Subset) (n : ℕ) (v : Subset) (output : List ℕ) (answer : SubsetAnswer) (output′ : List ℕ)
-    → Answered (reply n v) output answer output′ → (n ≡ 0 → length (written (accepted v)) ≤ length output) → (n ≡ 0 → Narrows s (members a) (members v) (q ∷ []))
+    → Answered (reply n v) output answer output′ → (n ≡ 0 → Narrows s (members a) (members v) (q ∷ []))
     → Narrows s (members a) (members (left a (readOff answer output′))) (counting q (readOff answer output′))
 unfolding reply left counting
-answered-narrows a zero v output answer output′ m fit f = rw (read-off (accepted v) output answer output′ (fit refl) m) (f refl)
-answered-narrows {s} a (suc n) v output answer output′ m fit f =
-    rw (read-off (refused (suc n)) output answer output′ (written-refused (suc n) (length output)) m) (narrows-not s (members a))
+answered-narrows a zero v output answer output′ m f = rw (m .answers) (f refl)
+answered-narrows {s} a (suc n) v output answer output′ m f = rw (m .answers) (narrows-not s (members a))
 
 -- ---- refining
 
@@ -114,12 +113,10 @@ unfolding intersectReply
 intersected-narrows a b output answer output′ (inl m) f =
     let t = intersectable a b (length output) in
     answered-narrows a _ (intersect a b) output answer output′ m
-    (λ e. omega (arith, written-intersect a b, t e .space))
     (λ e. f (intersect a b) (rising-members a (t e .first-formed)) (members-intersect a b (t e .first-formed) (t e .second-formed)))
 intersected-narrows a b output answer output′ (inr m) f =
     let t = intersectable b a (length output) in
     answered-narrows a _ (intersect b a) output answer output′ m
-    (λ e. omega (arith, written-intersect b a, t e .space))
     (λ e.
     let up = rising-members a (t e .second-formed) in
     f (intersect b a) up
@@ -185,13 +182,12 @@ module _ {p : Plain} {s : Stores} (r : Represents p s) where
       let f = refinable (s .header) (length (s .rows)) a (c ∷ []) (length output) in
       let is = members-retain (matches (s .header) (s .rows) (c ∷ [])) a in
       answered-narrows a _ (retain (matches (s .header) (s .rows) (c ∷ [])) a) output answer output′ (m .answered)
-      (λ e. refined-fit s a (c ∷ []) (length output) (f e) _ is)
       (λ e. refined-narrows s a (c ∷ []) (length output) (f e) _ is (λ id row. unfold every in sym (and-true (met row c))))
   asked-narrows {a = a} (list-refined cs output output′ answer fit m) =
       let f = refinable (s .header) (length (s .rows)) a cs (length output) in
       let is = members-narrowed (matches (s .header) (s .rows) cs) a in
       answered-narrows a _ (narrowed (matches (s .header) (s .rows) cs) a) output answer output′ (m .answered)
-      (λ e. refined-fit s a cs (length output) (f e) _ is) (λ e. refined-narrows s a cs (length output) (f e) _ is (λ id row. refl))
+      (λ e. refined-narrows s a cs (length output) (f e) _ is (λ id row. refl))
   asked-narrows {a = a} (intersected b output output′ answer fit m) =
       intersected-narrows a b output answer output′ m
       (λ v up is. narrows-keep (λ id. has id (members b)) up is (λ id _. refl) (λ z. absurd (false≢true z)))

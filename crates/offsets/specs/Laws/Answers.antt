@@ -1,11 +1,11 @@
 -- What an answer writes: a refused one nothing, an accepted one at most the ids of its subset, and an intersection no more than it
 -- has room for. Assumes nothing.
 use Prim.Native.Nat.{ℕ, zero, suc, _≤_}
-use mathlib.Core.Path.{_≡_, refl, sym}
+use mathlib.Core.Path.{_≡_, refl, sym, ap}
 use mathlib.Core.Bool.{Bool}
 use mathlib.Core.List.{List, [], _∷_}
 use native.Mathlib.Omega.{arith}
-use lib.ListN.{length}
+use lib.ListN.{length, take, length-take}
 use Rattle.lists.specs.Lists.{keep, has, within}
 use Rattle.lists.specs.Laws.Parts.{putAt-nil}
 use Rattle.lists.specs.Laws.Keep.{length-keep, count-le}
@@ -13,19 +13,20 @@ use Rattle.refusals.specs.Refusals.{refused, accepted, reply}
 use Rattle.offsets.specs.declared.SubsetAnswer.{SubsetAnswer}
 use Rattle.offsets.specs.declared.SubsetAnswer.the-variants.{Refused, List as Ids}
 use Rattle.offsets.specs.Subsets.{Subset, range, list, members, listOrNothing, intersect}
-use Rattle.offsets.specs.Answers.{answerOf, written, roomNeeded, Answered}
+use Rattle.offsets.specs.Answers.{readOff, written, roomNeeded, Answered}
 
 pub written-none : (n : ℕ) → written (refused n) ≡ []
 unfolding written
 written-none n = refl
 
-pub written-refused : (n k : ℕ) → length (written (refused n)) ≤ k
-unfolding written
-written-refused n k = omega arith
-
 pub answered-refused : (n : ℕ) (output : List ℕ) → Answered (refused n) output (Refused n) output
-unfolding answerOf written
-answered-refused n output = record { answers = refl; writes = sym (putAt-nil output 0) }
+unfolding readOff written
+answered-refused n output =
+    record {
+      answers = refl;
+      inside = λ k e. absurd (let z : _≡_ {A = ℕ} 0 1 = cc in omega arith);
+      writes = sym (putAt-nil output 0);
+    }
 
 pub written-members : (v : Subset) → length (written (accepted v)) ≤ length (members v)
 unfolding written members
@@ -50,7 +51,12 @@ written-intersect (list ids) (list others) = unfold written in kept-room (λ id.
 -- an answer that tells of ids has room for them
 pub answered-fits : (n : ℕ) (v : Subset) (output : List ℕ) (answer : SubsetAnswer) (output′ : List ℕ) → Answered (reply n v) output answer output′
     → (n ≡ 0 → length (written (accepted v)) ≤ length output) → (k : ℕ) → answer ≡ Ids k → k ≤ length output
-unfolding reply answerOf written
-answered-fits zero (range a b) output answer output′ m fit k e = absurd (let f = m .answers in let z : _≡_ {A = ℕ} 0 1 = cc in omega arith)
-answered-fits zero (list ids) output answer output′ m fit k e = let f = m .answers in let n : k ≡ length ids = cc in omega (arith, fit refl)
-answered-fits (suc n) v output answer output′ m fit k e = absurd (let f = m .answers in let z : _≡_ {A = ℕ} 0 1 = cc in omega arith)
+unfolding reply readOff written
+answered-fits zero (range a b) output answer output′ m fit k e =
+    absurd (let f = rw e at (m .answers) in let z : _≡_ {A = ℕ} 0 1 = cc in omega arith)
+answered-fits zero (list ids) output answer output′ m fit k e =
+    let f = rw e at (m .answers) in
+    let told : take k output′ ≡ ids = cc in
+    omega (arith, fit refl, ap length told, length-take k output′, m .inside k e)
+answered-fits (suc n) v output answer output′ m fit k e =
+    absurd (let f = rw e at (m .answers) in let z : _≡_ {A = ℕ} 0 1 = cc in omega arith)

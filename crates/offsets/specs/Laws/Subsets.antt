@@ -7,20 +7,20 @@ use mathlib.Core.Bool.{Bool, true, false}
 use mathlib.Core.List.{List, [], _∷_}
 use native.Mathlib.Decide.{decLt}
 use native.Mathlib.Omega.{arith}
-use lib.ListN.{length, getD}
+use lib.ListN.{length, take, getD, length-take, length-append}
 use borrow.Author.Tests.{leb-true, le-leb}
 use Rattle.lists.specs.Lists.{putAt, keep, every, countFrom, rising, has, within, same}
 use Rattle.lists.specs.Laws.Parts.{putAt-nil}
 use Rattle.lists.specs.Laws.Keep.{split, and-left, and-right, keep-same, keep-every, length-keep, count-le}
 use Rattle.lists.specs.Laws.Rising.{same-refl, same-eq, same-ne, length-countFrom, getD-countFrom, rising-keep, rising-countFrom, rising-at, has-countFrom, keep-has-comm, keep-within-countFrom}
 use Rattle.lists.specs.Laws.Search.{take-put}
-use Rattle.refusals.specs.Refusals.{Reply, refused, accepted}
+use Rattle.refusals.specs.Refusals.{Reply, accepted}
 use Rattle.refusals.specs.Laws.Determined.{Same}
 use Rattle.offsets.specs.declared.SubsetHead.{SubsetHead}
 use Rattle.offsets.specs.declared.SubsetAnswer.{SubsetAnswer}
-use Rattle.offsets.specs.declared.SubsetAnswer.the-variants.{Range, List as Ids}
+use Rattle.offsets.specs.declared.SubsetAnswer.the-variants.{Refused, Range, List as Ids}
 use Rattle.offsets.specs.Subsets.{Subset, range, list, wellFormed, members, size, endOf, listOrNothing, intersect, shaped, retain, narrowed}
-use Rattle.offsets.specs.Answers.{subsetOf, answerOf, readOff, written, Answered}
+use Rattle.offsets.specs.Answers.{subsetOf, readOff, written, Answered}
 use Rattle.offsets.specs.inner.Writing.{Wrote}
 
 -- ---- a borrowed subset, by its kind
@@ -234,25 +234,47 @@ wellFormed-narrowed test (list ids) p h = rw (narrowed-list test ids) (formed-ke
 -- ---- answers
 
 pub answered-range : (a b : ℕ) (output : List ℕ) → Answered (accepted (range a b)) output (Range a b) output
-unfolding answerOf written
-answered-range a b output = record { answers = refl; writes = sym (putAt-nil output 0) }
+unfolding readOff written
+answered-range a b output =
+    record {
+      answers = refl;
+      inside = λ k e. absurd (let z : _≡_ {A = ℕ} 0 1 = cc in omega arith);
+      writes = sym (putAt-nil output 0);
+    }
+
+put-long : (l w : List ℕ) → length w ≤ length (putAt l 0 w)
+unfolding putAt
+put-long l w = simp length-append (omega arith)
 
 pub answered-list : (ids output : List ℕ) (n : ℕ) (output′ : List ℕ) → Wrote output ids n output′ → Answered (accepted (list ids)) output (Ids n) output′
-unfolding answerOf written
-answered-list ids output n output′ w = record { answers = ap (λ (k : ℕ). Ids k) (w .number); writes = w .cells }
+unfolding readOff written
+answered-list ids output n output′ w =
+    record {
+      answers = rw (w .number, w .cells) (ap (λ (l : List ℕ). accepted (list l)) (take-put output ids));
+      inside = λ k e. let same : k ≡ n = cc in omega (arith, same, w .number, put-long output ids, ap length (w .cells));
+      writes = w .cells;
+    }
 
--- what the caller reads off an answer is the reply, where the output has room for its ids
-pub read-off : (r : Reply Subset) (output : List ℕ) (answer : SubsetAnswer) (output′ : List ℕ) → length (written r) ≤ length output
-    → Answered r output answer output′ → readOff answer output′ ≡ r
-read-off r output answer output′ h a = rw (a .answers, a .writes) (read r)
-  where
-    read : (r : Reply Subset) → readOff (answerOf r) (putAt output 0 (written r)) ≡ r
-    read (refused n) = unfold readOff answerOf in refl
-    read (accepted (range start end)) = unfold readOff answerOf in refl
-    read (accepted (list ids)) = unfold readOff answerOf written in ap (λ (l : List ℕ). accepted (list l)) (take-put output ids)
+-- an answer is known by what is read off it, where the output has all its ids
+read-same : (a b : SubsetAnswer) (output : List ℕ) → readOff a output ≡ readOff b output
+    → ((n : ℕ) → a ≡ Ids n → n ≤ length output) → ((n : ℕ) → b ≡ Ids n → n ≤ length output) → a ≡ b
+unfolding readOff
+read-same (Refused n) (Refused m) output e f g = cc
+read-same (Refused n) (Range start end) output e f g = cc
+read-same (Refused n) (Ids m) output e f g = cc
+read-same (Range start end) (Refused n) output e f g = cc
+read-same (Range start end) (Range start′ end′) output e f g = cc
+read-same (Range start end) (Ids n) output e f g = cc
+read-same (Ids n) (Refused m) output e f g = cc
+read-same (Ids n) (Range start end) output e f g = cc
+read-same (Ids n) (Ids m) output e f g =
+    let told : take n output ≡ take m output = cc in
+    ap (λ (k : ℕ). Ids k) (omega (arith, ap length told, length-take n output, length-take m output, f n refl, g m refl))
 
 -- The reply determines the answer and the output: no choice is left. That is all of *Intersect*, whose reply is
 -- `intersectReply`, and of a refine.
 pub answered-determined : {r : Reply Subset} {output output₁ output₂ : List ℕ} {a b : SubsetAnswer}
     → Answered r output a output₁ → Answered r output b output₂ → Same a b output₁ output₂
-answered-determined x y = record { answer = x .answers ∙ sym (y .answers); cells = x .writes ∙ sym (y .writes) }
+answered-determined {output₂ = output₂} {a} {b} x y =
+    let cells = x .writes ∙ sym (y .writes) in
+    record { answer = read-same a b output₂ ((rw cells at (x .answers)) ∙ sym (y .answers)) (rw cells at (x .inside)) (y .inside); cells = cells }

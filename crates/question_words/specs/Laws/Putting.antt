@@ -1,5 +1,5 @@
 -- One question, put on the ids left. Assumes nothing.
-use Prim.Native.Nat.{ℕ, zero, suc, _+_, _≤_}
+use Prim.Native.Nat.{ℕ, _+_, _≤_}
 use mathlib.Core.Path.{_≡_, refl, sym, ap, _∙_}
 use mathlib.Core.Bool.{Bool, true, false, cond, _||_}
 use mathlib.Core.Logic.{inl, inr}
@@ -16,8 +16,8 @@ use Rattle.offsets.specs.declared.SubsetAnswer.{SubsetAnswer}
 use Rattle.offsets.specs.declared.SubsetAnswer.the-variants.{Refused, Range, List as Ids}
 use Rattle.offsets.specs.Subsets.{Subset, list, intersect, retain, narrowed}
 use Rattle.offsets.specs.Answers.{Answered, readOff, written, intersectReply}
-use Rattle.offsets.specs.Laws.Answers.{written-refused, written-intersect, answered-fits}
-use Rattle.offsets.specs.Laws.Subsets.{members-retain, members-narrowed, read-off}
+use Rattle.offsets.specs.Laws.Answers.{written-intersect, answered-fits}
+use Rattle.offsets.specs.Laws.Subsets.{members-retain, members-narrowed}
 use Rattle.constraints.specs.declared.Constraint.{Constraint}
 use Rattle.sort_entries.specs.Entries.{entriesOf, entriesSound}
 use Rattle.table.specs.declared.Header.{Header}
@@ -77,15 +77,10 @@ pub record Replied (r : Reply Subset) (output : List ℕ) (answer : SubsetAnswer
   pub is : readOff answer output′ ≡ r
   pub fits : (n : ℕ) → answer ≡ Ids n → n ≤ length output
 
-reply-written : (n : ℕ) (v : Subset) (room : ℕ) → (n ≡ 0 → length (written (accepted v)) ≤ room) → length (written (reply n v)) ≤ room
-unfolding reply
-reply-written zero v room fit = fit refl
-reply-written (suc n) v room fit = written-refused (suc n) room
-
 replied-to : (n : ℕ) (v : Subset) (output : List ℕ) (answer : SubsetAnswer) (output′ : List ℕ) → Answered (reply n v) output answer output′
     → (n ≡ 0 → length (written (accepted v)) ≤ length output) → Replied (reply n v) output answer output′
 replied-to n v output answer output′ m fit =
-    record { is = read-off (reply n v) output answer output′ (reply-written n v (length output) fit) m; fits = answered-fits n v output answer output′ m fit }
+    record { is = m .answers; fits = answered-fits n v output answer output′ m fit }
 
 one-replied : {h : Header} {rows : List ℕ} {a : Subset} {c : Constraint} {output : List ℕ} {answer : SubsetAnswer} {output′ : List ℕ} → RefinedOne h rows a c output answer output′
     → Replied (refineOneReply h rows a c (length output)) output answer output′
