@@ -71,3 +71,9 @@ pub record Rearranged (order : ℕ → List ℕ → List ℕ) (width : ℕ) (cel
   pub answers : columnsSays answer ≡ reply (columnsRefusal width (length cells) (length output)) tt
   pub written : columnsRefusal width (length cells) (length output) ≡ 0 → output′ ≡ putAt output 0 (order width cells)
   pub unchanged : 0 < columnsRefusal width (length cells) (length output) → output′ ≡ output
+
+-- "Applying either after the other restores the cells for every list and every width from 1 to 8": for every width but 0 that
+-- divides the list's length, its cells being u32
+abbrev pub Restores : Type 0
+Restores = (width : ℕ) (cells : List ℕ) → 0 < width → length cells % width ≡ 0 → ((i : ℕ) → getD cells i 0 < 2 ^ 32)
+    → (fromColumns width (toColumns width cells) ≡ cells) × (toColumns width (fromColumns width cells) ≡ cells)

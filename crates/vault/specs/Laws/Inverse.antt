@@ -9,7 +9,7 @@ use lib.ListN.{length, length-map}
 use lib.Seq.{take-all}
 use Rattle.lists.specs.Lists.{rowsOf, flat}
 use Rattle.lists.specs.Laws.Rows.{widths, length-rowsOf, length-flat, rowsOf-widths, rowsOf-flat, flat-rowsOf}
-use Rattle.vault.specs.Columns.{differences, sums, transposed, toColumns, fromColumns}
+use Rattle.vault.specs.Columns.{differences, sums, transposed, toColumns, fromColumns, Restores}
 use Rattle.vault.specs.Laws.Differences.{Cells, sums-differences, differences-sums, length-differences, length-sums}
 use Rattle.vault.specs.Laws.Transposed.{length-transposed, transposed-widths, map-widths, transposed-twice, rowsOf-cells, transposed-cells, map-undone}
 
@@ -104,3 +104,6 @@ module _ (width : ℕ) (cells : List ℕ) (some : 0 < width) (whole : length cel
 
   pub toColumns-fromColumns : Cells cells → toColumns width (fromColumns width cells) ≡ cells
   toColumns-fromColumns f = to-from width (length cells / width) some cells (multiple width (length cells) whole) f
+
+pub restores : Restores
+restores width cells some whole f = (fromColumns-toColumns width cells some whole f, toColumns-fromColumns width cells some whole f)
