@@ -1,2 +1,5 @@
 pub mod Again
+pub mod Lent
+pub mod Prelude
 pub mod WalkSteps
+pub mod Walking

@@ -310,7 +310,7 @@ module _ {M : Type 1} (𝓤 : URA M) (H : Heap 𝓤) (A : Atoms 𝓤) (W : Given
           assigns ! (agg ! (and-then ! (load ! (from ! (stop !)) (look ! 5 refl)) (and-then ! (load ! (from ! (fld ! refl (stop !))) (look-in ! 15 (sub ! 1 refl (whole !)))) (no-more !)))) (from ! (stop !)) (init ! 3 refl (tt, (tt, (record { fits = roomZ .0 }, tt)))) $
           rewrite ! 3 (λ (j : ℕ). ‵ (fat fullShare SlE l₁₃ 0 (sliceVal (b, o) j))) (sym (g .1 .0)) refl $
           lft-new ! tt (λ ν. move ! (35 ∷ 33 ∷ []) $
-          use2 W (later (some (λ (δ : GName). ‵ (OwnC ν δ zs) ⊛ ‵ (LentAgain u32 κ₃ (ν ∷ []) q₃ γ b o δ zs)))) (lends-again u32 κ₃ (ν ∷ []) q₃ γ b o 𝓤 H A W (named 3) (named 2) zs) $ await ! tt $ pick ! (λ δ. split ! $
+          use2 W (later (some (λ (δ : GName). ‵ (OwnC ν δ zs) ⊛ ‵ (LentAgain u32 κ₃ q₃ γ b o (ν ∷ []) δ zs)))) (lends-again u32 κ₃ q₃ γ b o (ν ∷ []) 𝓤 H A W (named 3) (named 2) zs) $ await ! tt $ pick ! (λ δ. split ! $
           -- [out at ν; what is lent; ν's token; κ₀'s and κ₂'s; what conditions and rows own; _13; …; κ₁'s; what ids owns]
           move ! (35 ∷ []) $ use1 W (‵ OwnI ⊛ ‵ OwnI) (shr-slice-copy 𝓤 H A W (named 1) κ₁ u32 .twice ids (si ∷ [])) $ split ! $
           move ! (7 ∷ []) $ use1 W (‵ OwnX ⊛ ‵ OwnX) (shr-slice-copy 𝓤 H A W (named 0) κ₀ u32 .twice x (sx ∷ [])) $ split ! $ move ! (7 ∷ []) $ split ! $
@@ -324,7 +324,7 @@ module _ {M : Type 1} (𝓤 : URA M) (H : Heap 𝓤) (A : Atoms 𝓤) (W : Given
           move ! (2 ∷ []) $ split ! $ move ! (1 ∷ []) $ facts ! ST.the-row (Is ST.the-row) (shows 𝓤 H A ST.the-row) r (w ∷ []) (λ is.
           -- the lifetime is ended, and out comes back
           split ! $ move ! (1 ∷ []) $ split ! $ move ! (1 ∷ []) $ split ! $ lft-end ! tt $ move ! (0 ∷ 9 ∷ 4 ∷ []) $
-          use3 W (later (‵ (MutSlice (named 3) κ₃ u32 .own (z γ (ws .1 .1 .1 .1 .1 .1 .0)) (sliceVal (b, o) (length zs) ∷ [])) ⊛ ‵ (flft κ₃ q₃))) (comes-back u32 κ₃ (ν ∷ []) q₃ γ b o 𝓤 H A W (named 3) (named 2) zs δ (ws .1 .1 .1 .1 .1 .1 .0) (subst (Room u32) (sym (g .1 .0)) roomZ) le) $ await ! tt $ split ! $
+          use3 W (later (‵ (MutSlice (named 3) κ₃ u32 .own (z γ (ws .1 .1 .1 .1 .1 .1 .0)) (sliceVal (b, o) (length zs) ∷ [])) ⊛ ‵ (flft κ₃ q₃))) (comes-back u32 κ₃ q₃ γ b o (ν ∷ []) 𝓤 H A W (named 3) (named 2) zs δ (ws .1 .1 .1 .1 .1 .1 .0) (subst (Room u32) (sym (g .1 .0)) roomZ) le) $ await ! tt $ split ! $
           rewrite ! 0 (λ (j : ℕ). ‵ (MutSlice (named 3) κ₃ u32 .own (z γ (ws .1 .1 .1 .1 .1 .1 .0)) (sliceVal (b, o) j ∷ []))) (sym le) refl $ move ! (6 ∷ []) $ split ! $
           -- [κ₂'s token; true; what out owns; κ₃'s; true; κ₁'s; κ₀'s; true; what rows, ids and conditions own; _13; …]
           let tells = LL.tells ST.the-type ST′.the-laws r _ is in
