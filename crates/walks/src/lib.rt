@@ -3,8 +3,7 @@
 ghost use mathlib.Core.Path.{_≡_};
 ghost use lib.ListN.{length};
 ghost use Rattle.offsets.specs.Answers.{subsetOf};
-ghost use Rattle.queries.specs.Queries.{matches};
-ghost use Rattle.sweeping.specs.inner.Sweeping.{RowNeeded, allPass, Sweepable, Finished, SweepAnswered};
+ghost use Rattle.sweeping.specs.inner.Sweeping.{RowNeeded, allPass, SweepAnswered};
 use constraints::Constraint;
 use offsets::SubsetHead;
 use sweeping::Question;
@@ -30,28 +29,7 @@ pub fn all_pass(test: Test, h: Header, rows: &[u32], conditions: &[Constraint]) 
     ok
 }
 
-// All places, by all conditions.
-pub fn sweep(
-    h: Header,
-    rows: &[u32],
-    head: SubsetHead,
-    ids: &[u32],
-    conditions: &[Constraint],
-    s: Sweep,
-    out: &mut [u32],
-) -> Sweep
-    requires { ⌜ Sweepable h (length (now rows)) (subsetOf head (now ids)) s (now out) ⌝ }
-    ensures { λ r. ⌜ Finished h (now (rows .entry)) (subsetOf head (now (ids .entry))) (matches h (now (rows .entry)) (now (conditions .entry))) s (now (out .entry)) r (now (out .exit)) ⌝ }
-{
-    let mut at = s;
-    while at.next < at.end {
-        let hit = all_pass(Test::Row(at.id), h, rows, conditions);
-        at = step(h, rows, head, ids, at, hit, out);
-    }
-    at
-}
-
-// A question: refused, or its places swept.
+// A question: refused, or its places swept, each by all conditions.
 pub fn ask(
     question: Question,
     h: Header,
@@ -64,6 +42,10 @@ pub fn ask(
     ensures { λ r. ⌜ SweepAnswered question h (now (rows .entry)) (subsetOf head (now (ids .entry))) (now (conditions .entry)) (now (out .entry)) r (now (out .exit)) ⌝ }
 {
     let known = all_pass(Test::Known, h, rows, conditions);
-    let begun = opening(question, h, rows.len(), head, ids, known, out.len());
-    sweep(h, rows, head, ids, conditions, begun, out)
+    let mut at = opening(question, h, rows.len(), head, ids, known, out.len());
+    while at.next < at.end {
+        let hit = all_pass(Test::Row(at.id), h, rows, conditions);
+        at = step(h, rows, head, ids, at, hit, out);
+    }
+    at
 }

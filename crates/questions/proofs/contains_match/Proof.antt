@@ -50,7 +50,7 @@ module _ {M : Type 1} (𝓤 : URA M) (H : Heap 𝓤) (A : Atoms 𝓤) (W : Given
 
   -- what the triples of this function and of `close_match` bind outside
   abbrev y : Walked f.ended params 𝓤 H A clauses .Ghost
-  y = ((lifetimes p tt, shares p tt, tt, (p .header, (p .rows, (p .head, (p .ids, (p .conditions, tt))))), (header-val p ∷ [], (slice-val (p .rows) ∷ [], (head-val p ∷ [], (slice-val (p .ids) ∷ [], (slice-val (p .conditions) ∷ [], tt)))))), tt)
+  y = ((lifetimes p tt, shares p tt, tt, (p .header, (p .rows, (p .head, (p .ids, (p .conditions, tt))))), (header-val (p .header) ∷ [], (slice-val (p .rows) ∷ [], (head-val p ∷ [], (slice-val (p .ids) ∷ [], (slice-val (p .conditions) ∷ [], tt)))))), tt)
 
   abbrev to-close : Sweep → Asked 𝓤 H A cls.ended closing .Ghost
   to-close s = ((tt, tt, tt, (s, tt), (sweep-val s ∷ [], tt)), tt)
@@ -65,7 +65,7 @@ module _ {M : Type 1} (𝓤 : URA M) (H : Heap 𝓤) (A : Atoms 𝓤) (W : Given
         qed W (Tokens 𝓤 H A 3 (y .0 .0) (y .0 .1) ∷ ‵ (Owns p (fsep (OwnConditions p) ftrue)) ∷ []) ∵ tokens-off p ! $ move ! (2 ∷ []) $ slices-off p ! $ keep ! (2 ∷ 0 ∷ []) $
         enter ! (𝓣 .C) (𝓣 .Λ) code.function (Walked f.ended params 𝓤 H A clauses .args y) _ $
         alloc1 ! (λ l₀. alloc1 ! (λ l₁. alloc1 ! (λ l₂. alloc1 ! (λ l₃. alloc1 ! (λ l₄. alloc1 ! (λ l₅. alloc1 ! (λ l₆. alloc1 ! (λ l₇. alloc1 ! (λ l₈. alloc1 ! (λ l₉. alloc1 ! (λ l₁₀. alloc0 ! $ params1 ! $
-        pass1 ! (init ! 18 refl (header-typed p W is)) $ pass1 ! (init ! 16 refl (fits (rooms .0 .0))) $ pass1 ! (init ! 14 refl (head-typed p W is)) $ pass1 ! (init ! 12 refl (fits (rooms .1 .0 .0))) $ pass1 ! (init ! 10 refl (fits (rooms .1 .1 .0))) $ pass0 ! $
+        pass1 ! (init ! 18 refl (header-typed W (p .header) (is .0))) $ pass1 ! (init ! 16 refl (fits (rooms .0 .0))) $ pass1 ! (init ! 14 refl (head-typed p W is)) $ pass1 ! (init ! 12 refl (fits (rooms .1 .0 .0))) $ pass1 ! (init ! 10 refl (fits (rooms .1 .1 .0))) $ pass0 ! $
         assigns ! (agg ! (no-more !)) (from ! (stop !)) (init ! 8 refl (tt, tt)) $
         assigns ! (agg ! (and-then ! (lit ! tt) (no-more !))) (from ! (stop !)) (init ! 4 refl (question-typed W Match is-q)) $
         assigns ! (addr ! (from ! (stop !))) (from ! (stop !)) (init ! 2 refl (tt, tt)) $

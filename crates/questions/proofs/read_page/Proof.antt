@@ -2,7 +2,7 @@
 -- `ask` and comes back, and is given up to `close_page`. Assumes nothing.
 use Rattle.walks.proofs.Prelude.{refl, _∙_, ℕ, [], _∷_, List, length, URA, Val, SProp, ent, emp, id⊢, via, fst∗, Lft, Share, GName, ftrue, fsep, flft, Memory, Routine, Heap, Tables, WpFn, Atoms, Fun, givenOf, tables, Given, ‵, raw, ⋆, _$_, _∵_, !, qed, move, keep, drop, group, use1, split, join, fsplit, fjoin, feqL, suffices, frame, done, agg, whole, sub, look-in, look, init, forget, stop, hop, fld, from, load, addr, lit, and-then, no-more, assigns, land, returns, enter, alloc1, alloc0, params1, pass1, pass0, free1, free0, fmOf, Is, shows, u32, usize, sliceVal, Room, peeks, owned, nothing, Clauses, onEntry, cited, says, ends-at, now}
 use Prim.Native.Nat.{_<_, _^_}
-use package.mir.Syntax.{w32, w64}
+use package.mir.Syntax.{named, w32, w64}
 use package.mir.Val.{vint}
 use contract.Running.{tablesOf}
 use denote.Plain.{uint-makes}
@@ -17,8 +17,8 @@ use Rattle.sweeping.proofs.PageSteps.{can-page, page-answered}
 use Rattle.sweeping.proofs.Sweep as ST
 use Rattle.sweeping.proofs.Question as QT
 use Rattle.sweeping.proofs.Question.Laws as QT′
-use Rattle.walks.proofs.Lent.{Lent, OwnConditions, OwnIds, OwnOut, Owns, Ranged, Rooms, fits, header-typed, header-val, head-typed, head-val, lent-of, lifetimes, out-at, own-head, own-sweep, owns-off, owns-on, passed-head, passed-header, passed-uint, question-typed, question-val, shares, slice-val, subset, sweep-typed, sweep-val, tokens-off, twice-ids}
-use Rattle.walks.proofs.Walking.{AllPassed, Asked, Cites, Tokens, Walked, arg, calls, given-slice, lent-slice, stays, walk-runs}
+use Rattle.walks.proofs.Lent.{Lent, OwnConditions, OwnIds, OwnOut, Owns, Ranged, Rooms, fits, header-typed, header-val, head-typed, head-val, lent-of, lifetimes, out-at, own-head, own-sweep, owns-off, owns-on, passed-head, passed-header, passed-uint, question-typed, question-val, shares, slice-val, subset, sweep-typed, sweep-val, tokens-off}
+use Rattle.walks.proofs.Walking.{AllPassed, Asked, Cites, Tokens, Walked, arg, calls, given-slice, lent-slice, stays, twice, walk-runs}
 use Rattle.walks.proofs.ask.Symbol as ask-def
 use Rattle.walks.proofs.ask.Symbol.{name as #walks·ask}
 use Rattle.walks.proofs.ask.Met as ask-thm
@@ -47,7 +47,7 @@ module _ {M : Type 1} (𝓤 : URA M) (H : Heap 𝓤) (A : Atoms 𝓤) (W : Given
 
   -- what the triples of this function and of `close_page` bind outside
   abbrev y : Walked f.ended params 𝓤 H A clauses .Ghost
-  y = ((lifetimes p (κ, tt), shares p (q, tt), tt, (p .header, (p .rows, (p .head, (p .ids, (start, (n, (p .conditions, (out-at b o γ os, tt)))))))), (header-val p ∷ [], (slice-val (p .rows) ∷ [], (head-val p ∷ [], (slice-val (p .ids) ∷ [], (vint w32 start ∷ [], (vint w64 n ∷ [], (slice-val (p .conditions) ∷ [], (sz ∷ [], tt))))))))), tt)
+  y = ((lifetimes p (κ, tt), shares p (q, tt), tt, (p .header, (p .rows, (p .head, (p .ids, (start, (n, (p .conditions, (out-at b o γ os, tt)))))))), (header-val (p .header) ∷ [], (slice-val (p .rows) ∷ [], (head-val p ∷ [], (slice-val (p .ids) ∷ [], (vint w32 start ∷ [], (vint w64 n ∷ [], (slice-val (p .conditions) ∷ [], (sz ∷ [], tt))))))))), tt)
 
   abbrev to-close : Sweep → List ℕ → Asked 𝓤 H A cls.ended closing .Ghost
   to-close s ws = (((p .κ₁, (κ, tt)), (p .q₁, (q, tt)), tt, (p .head, (p .ids, (s, (out-at b o γ ws, tt)))), (head-val p ∷ [], (slice-val (p .ids) ∷ [], (sweep-val s ∷ [], (sz ∷ [], tt))))), tt)
@@ -69,7 +69,7 @@ module _ {M : Type 1} (𝓤 : URA M) (H : Heap 𝓤) (A : Atoms 𝓤) (W : Given
         tokens-off p ! $ move ! (1 ∷ []) $ split ! $ move ! (3 ∷ []) $ owns-off p ! $ move ! (2 ∷ []) $ fsplit ! $ drop ! $ fsplit ! $ drop ! $ fsplit ! $ move ! (3 ∷ 0 ∷ []) $ join ! $ move ! (2 ∷ 0 ∷ []) $ join ! $ move ! (1 ∷ []) $ fsplit ! $ keep ! (5 ∷ 2 ∷ 3 ∷ 0 ∷ []) $
         enter ! (𝓣 .C) (𝓣 .Λ) code.function (Walked f.ended params 𝓤 H A clauses .args y) _ $
         alloc1 ! (λ l₀. alloc1 ! (λ l₁. alloc1 ! (λ l₂. alloc1 ! (λ l₃. alloc1 ! (λ l₄. alloc1 ! (λ l₅. alloc1 ! (λ l₆. alloc1 ! (λ l₇. alloc1 ! (λ l₈. alloc1 ! (λ l₉. alloc1 ! (λ l₁₀. alloc1 ! (λ l₁₁. alloc1 ! (λ l₁₂. alloc1 ! (λ l₁₃. alloc1 ! (λ l₁₄. alloc0 ! $ params1 ! $
-        pass1 ! (init ! 26 refl (header-typed p W is)) $ pass1 ! (init ! 24 refl (fits (rooms .0 .0))) $ pass1 ! (init ! 22 refl (head-typed p W is)) $ pass1 ! (init ! 20 refl (fits (rooms .1 .0 .0))) $ pass1 ! (init ! 18 refl (tt, record { fits = start-fits })) $ pass1 ! (init ! 16 refl (tt, record { fits = n-fits })) $ pass1 ! (init ! 14 refl (fits (rooms .1 .1 .0))) $ pass1 ! (init ! 12 refl (fits (room .0))) $ pass0 ! $
+        pass1 ! (init ! 26 refl (header-typed W (p .header) (is .0))) $ pass1 ! (init ! 24 refl (fits (rooms .0 .0))) $ pass1 ! (init ! 22 refl (head-typed p W is)) $ pass1 ! (init ! 20 refl (fits (rooms .1 .0 .0))) $ pass1 ! (init ! 18 refl (tt, record { fits = start-fits })) $ pass1 ! (init ! 16 refl (tt, record { fits = n-fits })) $ pass1 ! (init ! 14 refl (fits (rooms .1 .1 .0))) $ pass1 ! (init ! 12 refl (fits (room .0))) $ pass0 ! $
         -- [_14; …; the tokens; what is lent as `&`; κ's token; what out owns]
         assigns ! (agg ! (and-then ! (lit ! tt) (arg ! 18 refl (arg ! 16 refl (no-more !))))) (from ! (stop !)) (init ! 8 refl (question-typed W (Page start n) is-q)) $
         assigns ! (addr ! (from ! (fld ! refl (hop ! (look-in ! 12 (sub ! 0 refl (whole !))) (stop !))))) (from ! (stop !)) (init ! 6 refl (tt, tt)) $
@@ -80,7 +80,7 @@ module _ {M : Type 1} (𝓤 : URA M) (H : Heap 𝓤) (A : Atoms 𝓤) (W : Given
         land ! (from ! (stop !)) (init ! 14 refl (sweep-typed W s is-s)) $
         assigns ! (addr ! (from ! (fld ! refl (hop ! (look-in ! 16 (sub ! 0 refl (whole !))) (stop !))))) (from ! (stop !)) (init ! 6 refl (tt, tt)) $
         assigns ! (agg ! (arg ! 6 refl (and-then ! (load ! (from ! (fld ! refl (stop !))) (look-in ! 16 (sub ! 1 refl (whole !)))) (no-more !)))) (from ! (stop !)) (init ! 4 refl (fits (room .0))) $
-        move ! (1 ∷ []) $ split ! $ move ! (1 ∷ []) $ split ! $ twice-ids p ! $ move ! (4 ∷ []) $ split ! $ move ! (1 ∷ []) $ split ! $
+        move ! (1 ∷ []) $ split ! $ move ! (1 ∷ []) $ split ! $ twice ! (named 1) (p .κ₁) u32 (p .ids) $ move ! (4 ∷ []) $ split ! $ move ! (1 ∷ []) $ split ! $
         -- [κ₁'s token, κ₂'s, κ₀'s; what ids owns, twice; what conditions and rows own; κ's token; what out owns; _14; …]
         move ! (0 ∷ 3 ∷ 7 ∷ 8 ∷ []) $ group ! 4 $ use1 W (raw (Asked 𝓤 H A cls.ended closing .pre (to-close s ws))) (asks-close s ws is-s e) $
         calls cls.ended closing (to-close s ws) (λ t zs. PageClosed (subset p) s ws t (zs .1 .1 .1 .0)) (λ t zs. id⊢ 𝓤 _) ! (fmOf 𝓤 H (W .laws) 𝓣) known-close (arg ! 28 refl (arg ! 26 refl (arg ! 16 refl (arg ! 6 refl (no-more !))))) (λ w t zs e₂.

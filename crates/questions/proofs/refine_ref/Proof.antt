@@ -46,7 +46,7 @@ module _ {M : Type 1} (𝓤 : URA M) (H : Heap 𝓤) (A : Atoms 𝓤) (W : Given
 
   -- what the triples of this function and of `close_refine` bind outside
   abbrev y : Walked f.ended params 𝓤 H A clauses .Ghost
-  y = ((lifetimes p (κ, tt), shares p (q, tt), tt, (p .header, (p .rows, (p .head, (p .ids, (p .conditions, (out-at b o γ os, tt)))))), (header-val p ∷ [], (slice-val (p .rows) ∷ [], (head-val p ∷ [], (slice-val (p .ids) ∷ [], (slice-val (p .conditions) ∷ [], (sz ∷ [], tt))))))), tt)
+  y = ((lifetimes p (κ, tt), shares p (q, tt), tt, (p .header, (p .rows, (p .head, (p .ids, (p .conditions, (out-at b o γ os, tt)))))), (header-val (p .header) ∷ [], (slice-val (p .rows) ∷ [], (head-val p ∷ [], (slice-val (p .ids) ∷ [], (slice-val (p .conditions) ∷ [], (sz ∷ [], tt))))))), tt)
 
   abbrev to-close : Sweep → List ℕ → Asked 𝓤 H A cls.ended closing .Ghost
   to-close s ws = (((κ, tt), (q, tt), tt, (p .head, (s, (out-at b o γ ws, tt))), (head-val p ∷ [], (sweep-val s ∷ [], (sz ∷ [], tt)))), tt)
@@ -65,7 +65,7 @@ module _ {M : Type 1} (𝓤 : URA M) (H : Heap 𝓤) (A : Atoms 𝓤) (W : Given
         tokens-off p ! $ move ! (1 ∷ []) $ split ! $ move ! (3 ∷ []) $ slices-off p ! $ move ! (1 ∷ []) $ fsplit ! $ keep ! (5 ∷ 2 ∷ 3 ∷ 0 ∷ []) $
         enter ! (𝓣 .C) (𝓣 .Λ) code.function (Walked f.ended params 𝓤 H A clauses .args y) _ $
         alloc1 ! (λ l₀. alloc1 ! (λ l₁. alloc1 ! (λ l₂. alloc1 ! (λ l₃. alloc1 ! (λ l₄. alloc1 ! (λ l₅. alloc1 ! (λ l₆. alloc1 ! (λ l₇. alloc1 ! (λ l₈. alloc1 ! (λ l₉. alloc1 ! (λ l₁₀. alloc1 ! (λ l₁₁. alloc1 ! (λ l₁₂. alloc0 ! $ params1 ! $
-        pass1 ! (init ! 22 refl (header-typed p W is)) $ pass1 ! (init ! 20 refl (fits (rooms .0 .0))) $ pass1 ! (init ! 18 refl (head-typed p W is)) $ pass1 ! (init ! 16 refl (fits (rooms .1 .0 .0))) $ pass1 ! (init ! 14 refl (fits (rooms .1 .1 .0))) $ pass1 ! (init ! 12 refl (fits (room .0))) $ pass0 ! $
+        pass1 ! (init ! 22 refl (header-typed W (p .header) (is .0))) $ pass1 ! (init ! 20 refl (fits (rooms .0 .0))) $ pass1 ! (init ! 18 refl (head-typed p W is)) $ pass1 ! (init ! 16 refl (fits (rooms .1 .0 .0))) $ pass1 ! (init ! 14 refl (fits (rooms .1 .1 .0))) $ pass1 ! (init ! 12 refl (fits (room .0))) $ pass0 ! $
         -- [_12; …; the tokens; what is lent as `&`; κ's token; what out owns]
         assigns ! (agg ! (and-then ! (lit ! tt) (no-more !))) (from ! (stop !)) (init ! 8 refl (question-typed W Refine is-q)) $
         assigns ! (addr ! (from ! (fld ! refl (hop ! (look-in ! 12 (sub ! 0 refl (whole !))) (stop !))))) (from ! (stop !)) (init ! 6 refl (tt, tt)) $
