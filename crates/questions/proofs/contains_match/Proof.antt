@@ -1,13 +1,9 @@
 -- `questions::contains_match` meets its contract: a walk of its MIR, by hand. The list of conditions is passed on whole; the output
 -- lent to `ask` is an empty array. Assumes nothing.
-use Rattle.walks.proofs.Prelude.{refl, [], _∷_, URA, fullShare, SProp, ent, emp, id⊢, via, fst∗, GName, ftrue, fsep, Memory, Routine, Heap, Tables, WpFn, Atoms, Fun, givenOf, tables, Given, ‵, raw, _⊛_, _$_, _∵_, !, qed, move, keep, drop, use1, split, join, fjoin, suffices, frame, done, agg, look, init, forget, stop, from, addr, lit, and-then, no-more, assigns, land, returns, enter, alloc1, alloc0, params1, pass1, pass0, free1, free0, fmOf, Is, shows, u32, sliceVal, peeks, nothing, Clauses, onEntry, cited, says, ends-at, now}
-use lib.Dec.{lit<}
-use package.mir.Syntax.{named}
+use Rattle.walks.proofs.Prelude.{refl, [], _∷_, lit<, URA, fullShare, named, SProp, ent, emp, id⊢, via, fst∗, GName, ftrue, fsep, Memory, Routine, Heap, Tables, WpFn, Atoms, Fun, givenOf, tables, tablesOf, Given, ‵, raw, _⊛_, some, later, _$_, _∵_, !, qed, move, keep, drop, use1, split, join}
+use Rattle.walks.proofs.Prelude.{pick, fjoin, suffices, frame, await, done, agg, look, init, forget, stop, from, addr, lit, and-then, no-more, assigns, land, returns, enter, alloc1, alloc0, params1, pass1, pass0, free1, free0, lft-new, fmOf, u32, Is, shows, now, sliceVal, peeks, nothing, Clauses, onEntry, cited, says, ends-at}
 use base.Fml.{flent}
-use contract.Running.{tablesOf}
 use ghost.Atoms.{sem}
-use types.Kit.{await, later, pick, some}
-use types.Tokens.{lft-new}
 use denote.Lend.{Held, lends-slice}
 use denote.Enum.Laws as EL
 use Rattle.constraints.proofs.Constraint as CT
@@ -50,7 +46,7 @@ module _ {M : Type 1} (𝓤 : URA M) (H : Heap 𝓤) (A : Atoms 𝓤) (W : Given
 
   -- what the triples of this function and of `close_match` bind outside
   abbrev y : Walked f.ended params 𝓤 H A clauses .Ghost
-  y = ((lifetimes p tt, shares p tt, tt, (p .header, (p .rows, (p .head, (p .ids, (p .conditions, tt))))), (header-val (p .header) ∷ [], (slice-val (p .rows) ∷ [], (head-val p ∷ [], (slice-val (p .ids) ∷ [], (slice-val (p .conditions) ∷ [], tt)))))), tt)
+  y = ((lifetimes p tt, shares p tt, tt, (p .header, (p .rows, (p .head, (p .ids, (p .conditions, tt))))), (header-val (p .header) ∷ [], (slice-val (p .rows) ∷ [], (head-val (p .head) ∷ [], (slice-val (p .ids) ∷ [], (slice-val (p .conditions) ∷ [], tt)))))), tt)
 
   abbrev to-close : Sweep → Asked 𝓤 H A cls.ended closing .Ghost
   to-close s = ((tt, tt, tt, (s, tt), (sweep-val s ∷ [], tt)), tt)
@@ -65,7 +61,7 @@ module _ {M : Type 1} (𝓤 : URA M) (H : Heap 𝓤) (A : Atoms 𝓤) (W : Given
         qed W (Tokens 𝓤 H A 3 (y .0 .0) (y .0 .1) ∷ ‵ (Owns p (fsep (OwnConditions p) ftrue)) ∷ []) ∵ tokens-off p ! $ move ! (2 ∷ []) $ slices-off p ! $ keep ! (2 ∷ 0 ∷ []) $
         enter ! (𝓣 .C) (𝓣 .Λ) code.function (Walked f.ended params 𝓤 H A clauses .args y) _ $
         alloc1 ! (λ l₀. alloc1 ! (λ l₁. alloc1 ! (λ l₂. alloc1 ! (λ l₃. alloc1 ! (λ l₄. alloc1 ! (λ l₅. alloc1 ! (λ l₆. alloc1 ! (λ l₇. alloc1 ! (λ l₈. alloc1 ! (λ l₉. alloc1 ! (λ l₁₀. alloc0 ! $ params1 ! $
-        pass1 ! (init ! 18 refl (header-typed W (p .header) (is .0))) $ pass1 ! (init ! 16 refl (fits (rooms .0 .0))) $ pass1 ! (init ! 14 refl (head-typed p W is)) $ pass1 ! (init ! 12 refl (fits (rooms .1 .0 .0))) $ pass1 ! (init ! 10 refl (fits (rooms .1 .1 .0))) $ pass0 ! $
+        pass1 ! (init ! 18 refl (header-typed W (p .header) (is .0))) $ pass1 ! (init ! 16 refl (fits (rooms .0 .0))) $ pass1 ! (init ! 14 refl (head-typed W (p .head) (is .1))) $ pass1 ! (init ! 12 refl (fits (rooms .1 .0 .0))) $ pass1 ! (init ! 10 refl (fits (rooms .1 .1 .0))) $ pass0 ! $
         assigns ! (agg ! (no-more !)) (from ! (stop !)) (init ! 8 refl (tt, tt)) $
         assigns ! (agg ! (and-then ! (lit ! tt) (no-more !))) (from ! (stop !)) (init ! 4 refl (question-typed W Match is-q)) $
         assigns ! (addr ! (from ! (stop !))) (from ! (stop !)) (init ! 2 refl (tt, tt)) $

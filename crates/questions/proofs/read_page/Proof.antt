@@ -1,11 +1,8 @@
 -- `questions::read_page` meets its contract: a walk of its MIR, by hand. The list of conditions is passed on whole; out is lent to
 -- `ask` and comes back, and is given up to `close_page`. Assumes nothing.
-use Rattle.walks.proofs.Prelude.{refl, _∙_, ℕ, [], _∷_, List, length, URA, Val, SProp, ent, emp, id⊢, via, fst∗, Lft, Share, GName, ftrue, fsep, flft, Memory, Routine, Heap, Tables, WpFn, Atoms, Fun, givenOf, tables, Given, ‵, raw, ⋆, _$_, _∵_, !, qed, move, keep, drop, group, use1, split, join, fsplit, fjoin, feqL, suffices, frame, done, agg, whole, sub, look-in, look, init, forget, stop, hop, fld, from, load, addr, lit, and-then, no-more, assigns, land, returns, enter, alloc1, alloc0, params1, pass1, pass0, free1, free0, fmOf, Is, shows, u32, usize, sliceVal, Room, peeks, owned, nothing, Clauses, onEntry, cited, says, ends-at, now}
-use Prim.Native.Nat.{_<_, _^_}
-use package.mir.Syntax.{named, w32, w64}
-use package.mir.Val.{vint}
-use contract.Running.{tablesOf}
-use denote.Plain.{uint-makes}
+use Rattle.walks.proofs.Prelude.{refl, _∙_, ℕ, _<_, _^_, List, [], _∷_, length, URA, named, w32, w64, Val, vint, SProp, ent, emp, id⊢, via, fst∗, Lft, Share, GName, ftrue, fsep, flft, Memory, Routine, Heap, Tables, WpFn, Atoms, Fun}
+use Rattle.walks.proofs.Prelude.{givenOf, tables, tablesOf, Given, ‵, raw, ⋆, _$_, _∵_, !, qed, move, keep, drop, group, use1, split, join, fsplit, fjoin, feqL, suffices, frame, done, agg, whole, sub, look-in, look, init, forget, stop, hop, fld}
+use Rattle.walks.proofs.Prelude.{from, load, addr, lit, and-then, no-more, assigns, land, returns, enter, alloc1, alloc0, params1, pass1, pass0, free1, free0, fmOf, u32, usize, Is, shows, uint-makes, now, sliceVal, Room, peeks, owned, nothing, Clauses, onEntry, cited, says, ends-at}
 use denote.Enum.Laws as EL
 use Rattle.constraints.proofs.Constraint as CT
 use Rattle.queries.proofs.PageAnswer as AT
@@ -47,10 +44,10 @@ module _ {M : Type 1} (𝓤 : URA M) (H : Heap 𝓤) (A : Atoms 𝓤) (W : Given
 
   -- what the triples of this function and of `close_page` bind outside
   abbrev y : Walked f.ended params 𝓤 H A clauses .Ghost
-  y = ((lifetimes p (κ, tt), shares p (q, tt), tt, (p .header, (p .rows, (p .head, (p .ids, (start, (n, (p .conditions, (out-at b o γ os, tt)))))))), (header-val (p .header) ∷ [], (slice-val (p .rows) ∷ [], (head-val p ∷ [], (slice-val (p .ids) ∷ [], (vint w32 start ∷ [], (vint w64 n ∷ [], (slice-val (p .conditions) ∷ [], (sz ∷ [], tt))))))))), tt)
+  y = ((lifetimes p (κ, tt), shares p (q, tt), tt, (p .header, (p .rows, (p .head, (p .ids, (start, (n, (p .conditions, (out-at b o γ os, tt)))))))), (header-val (p .header) ∷ [], (slice-val (p .rows) ∷ [], (head-val (p .head) ∷ [], (slice-val (p .ids) ∷ [], (vint w32 start ∷ [], (vint w64 n ∷ [], (slice-val (p .conditions) ∷ [], (sz ∷ [], tt))))))))), tt)
 
   abbrev to-close : Sweep → List ℕ → Asked 𝓤 H A cls.ended closing .Ghost
-  to-close s ws = (((p .κ₁, (κ, tt)), (p .q₁, (q, tt)), tt, (p .head, (p .ids, (s, (out-at b o γ ws, tt)))), (head-val p ∷ [], (slice-val (p .ids) ∷ [], (sweep-val s ∷ [], (sz ∷ [], tt))))), tt)
+  to-close s ws = (((p .κ₁, (κ, tt)), (p .q₁, (q, tt)), tt, (p .head, (p .ids, (s, (out-at b o γ ws, tt)))), (head-val (p .head) ∷ [], (slice-val (p .ids) ∷ [], (sweep-val s ∷ [], (sz ∷ [], tt))))), tt)
 
   module _ (is : Ranged p) (rooms : Rooms p) (start-fits : start < 2 ^ 32) (n-fits : n < 2 ^ 64) (room : Room u32 (length os)) where
     is-q : Is QT.the-row (Page start n) (question-val (Page start n) ∷ [])
@@ -60,7 +57,7 @@ module _ {M : Type 1} (𝓤 : URA M) (H : Heap 𝓤) (A : Atoms 𝓤) (W : Given
         → ent 𝓤 (⋆ 𝓤 H A (‵ (flft (p .κ₁) (p .q₁)) ∷ ‵ (OwnIds p) ∷ ‵ (flft κ q) ∷ ‵ (OwnOut κ (out-at b o γ ws) sz) ∷ [])) (Asked 𝓤 H A cls.ended closing .pre (to-close s ws))
     asks-close s ws is-s e =
         qed W (‵ (flft (p .κ₁) (p .q₁)) ∷ ‵ (OwnIds p) ∷ ‵ (flft κ q) ∷ ‵ (OwnOut κ (out-at b o γ ws) sz) ∷ []) ∵ says ! (can-page (p .header) (now (p .rows)) (subset p) start n (now (p .conditions)) os s ws e) $
-        nothing ! $ move ! (4 ∷ 0 ∷ []) $ fjoin ! $ own-sweep ! s is-s $ fjoin ! $ move ! (2 ∷ 0 ∷ []) $ fjoin ! $ own-head p ! is $ fjoin ! $ nothing ! $ move ! (3 ∷ 0 ∷ []) $ join ! $ move ! (2 ∷ 0 ∷ []) $ join ! $ join ! $ done !
+        nothing ! $ move ! (4 ∷ 0 ∷ []) $ fjoin ! $ own-sweep ! s is-s $ fjoin ! $ move ! (2 ∷ 0 ∷ []) $ fjoin ! $ own-head ! (p .head) (is .1) $ fjoin ! $ nothing ! $ move ! (3 ∷ 0 ∷ []) $ join ! $ move ! (2 ∷ 0 ∷ []) $ join ! $ join ! $ done !
 
     walk : (𝓣 : Tables 𝓤 H) → CitesAsk 𝓤 H A mem run (𝓣 .C) → Cites 𝓤 H A cls.ended closing (𝓣 .C) #sweeping·close-page
         → ent 𝓤 (onEntry 𝓤 H A f.signature (y .0 .0) (y .0 .1) (y .0 .3) (y .0 .4)) (WpFn 𝓤 H (𝓣 .C) (𝓣 .Λ) code.function (Walked f.ended params 𝓤 H A clauses .args y) (Walked f.ended params 𝓤 H A clauses .post y))
@@ -69,7 +66,7 @@ module _ {M : Type 1} (𝓤 : URA M) (H : Heap 𝓤) (A : Atoms 𝓤) (W : Given
         tokens-off p ! $ move ! (1 ∷ []) $ split ! $ move ! (3 ∷ []) $ owns-off p ! $ move ! (2 ∷ []) $ fsplit ! $ drop ! $ fsplit ! $ drop ! $ fsplit ! $ move ! (3 ∷ 0 ∷ []) $ join ! $ move ! (2 ∷ 0 ∷ []) $ join ! $ move ! (1 ∷ []) $ fsplit ! $ keep ! (5 ∷ 2 ∷ 3 ∷ 0 ∷ []) $
         enter ! (𝓣 .C) (𝓣 .Λ) code.function (Walked f.ended params 𝓤 H A clauses .args y) _ $
         alloc1 ! (λ l₀. alloc1 ! (λ l₁. alloc1 ! (λ l₂. alloc1 ! (λ l₃. alloc1 ! (λ l₄. alloc1 ! (λ l₅. alloc1 ! (λ l₆. alloc1 ! (λ l₇. alloc1 ! (λ l₈. alloc1 ! (λ l₉. alloc1 ! (λ l₁₀. alloc1 ! (λ l₁₁. alloc1 ! (λ l₁₂. alloc1 ! (λ l₁₃. alloc1 ! (λ l₁₄. alloc0 ! $ params1 ! $
-        pass1 ! (init ! 26 refl (header-typed W (p .header) (is .0))) $ pass1 ! (init ! 24 refl (fits (rooms .0 .0))) $ pass1 ! (init ! 22 refl (head-typed p W is)) $ pass1 ! (init ! 20 refl (fits (rooms .1 .0 .0))) $ pass1 ! (init ! 18 refl (tt, record { fits = start-fits })) $ pass1 ! (init ! 16 refl (tt, record { fits = n-fits })) $ pass1 ! (init ! 14 refl (fits (rooms .1 .1 .0))) $ pass1 ! (init ! 12 refl (fits (room .0))) $ pass0 ! $
+        pass1 ! (init ! 26 refl (header-typed W (p .header) (is .0))) $ pass1 ! (init ! 24 refl (fits (rooms .0 .0))) $ pass1 ! (init ! 22 refl (head-typed W (p .head) (is .1))) $ pass1 ! (init ! 20 refl (fits (rooms .1 .0 .0))) $ pass1 ! (init ! 18 refl (tt, record { fits = start-fits })) $ pass1 ! (init ! 16 refl (tt, record { fits = n-fits })) $ pass1 ! (init ! 14 refl (fits (rooms .1 .1 .0))) $ pass1 ! (init ! 12 refl (fits (room .0))) $ pass0 ! $
         -- [_14; …; the tokens; what is lent as `&`; κ's token; what out owns]
         assigns ! (agg ! (and-then ! (lit ! tt) (arg ! 18 refl (arg ! 16 refl (no-more !))))) (from ! (stop !)) (init ! 8 refl (question-typed W (Page start n) is-q)) $
         assigns ! (addr ! (from ! (fld ! refl (hop ! (look-in ! 12 (sub ! 0 refl (whole !))) (stop !))))) (from ! (stop !)) (init ! 6 refl (tt, tt)) $

@@ -1,7 +1,8 @@
 -- `questions::refine_ref` meets its contract: a walk of its MIR, by hand. The list of conditions is passed on whole; out is lent to
 -- `ask` and comes back, and is given up to `close_refine`. Assumes nothing.
-use Rattle.walks.proofs.Prelude.{refl, _∙_, ℕ, [], _∷_, List, length, URA, Val, SProp, ent, emp, id⊢, via, fst∗, Lft, Share, GName, ftrue, fsep, flft, Memory, Routine, Heap, Tables, WpFn, Atoms, Fun, givenOf, tables, Given, ‵, raw, ⋆, _$_, _∵_, !, qed, move, keep, drop, group, use1, split, join, fsplit, fjoin, feqL, suffices, frame, done, agg, whole, sub, look-in, look, init, forget, stop, hop, fld, from, load, addr, lit, and-then, no-more, assigns, land, returns, enter, alloc1, alloc0, params1, pass1, pass0, free1, free0, fmOf, Is, shows, u32, sliceVal, Room, peeks, nothing, Clauses, onEntry, cited, says, ends-at, now}
-use contract.Running.{tablesOf}
+use Rattle.walks.proofs.Prelude.{refl, _∙_, ℕ, List, [], _∷_, length, URA, Val, SProp, ent, emp, id⊢, via, fst∗, Lft, Share, GName, ftrue, fsep, flft, Memory, Routine, Heap, Tables, WpFn, Atoms, Fun, givenOf, tables, tablesOf}
+use Rattle.walks.proofs.Prelude.{Given, ‵, raw, ⋆, _$_, _∵_, !, qed, move, keep, drop, group, use1, split, join, fsplit, fjoin, feqL, suffices, frame, done, agg, whole, sub, look-in, look, init, forget, stop, hop, fld}
+use Rattle.walks.proofs.Prelude.{from, load, addr, lit, and-then, no-more, assigns, land, returns, enter, alloc1, alloc0, params1, pass1, pass0, free1, free0, fmOf, u32, Is, shows, now, sliceVal, Room, peeks, nothing, Clauses, onEntry, cited, says, ends-at}
 use denote.Enum.Laws as EL
 use Rattle.constraints.proofs.Constraint as CT
 use Rattle.offsets.proofs.SubsetAnswer as AT
@@ -46,17 +47,17 @@ module _ {M : Type 1} (𝓤 : URA M) (H : Heap 𝓤) (A : Atoms 𝓤) (W : Given
 
   -- what the triples of this function and of `close_refine` bind outside
   abbrev y : Walked f.ended params 𝓤 H A clauses .Ghost
-  y = ((lifetimes p (κ, tt), shares p (q, tt), tt, (p .header, (p .rows, (p .head, (p .ids, (p .conditions, (out-at b o γ os, tt)))))), (header-val (p .header) ∷ [], (slice-val (p .rows) ∷ [], (head-val p ∷ [], (slice-val (p .ids) ∷ [], (slice-val (p .conditions) ∷ [], (sz ∷ [], tt))))))), tt)
+  y = ((lifetimes p (κ, tt), shares p (q, tt), tt, (p .header, (p .rows, (p .head, (p .ids, (p .conditions, (out-at b o γ os, tt)))))), (header-val (p .header) ∷ [], (slice-val (p .rows) ∷ [], (head-val (p .head) ∷ [], (slice-val (p .ids) ∷ [], (slice-val (p .conditions) ∷ [], (sz ∷ [], tt))))))), tt)
 
   abbrev to-close : Sweep → List ℕ → Asked 𝓤 H A cls.ended closing .Ghost
-  to-close s ws = (((κ, tt), (q, tt), tt, (p .head, (s, (out-at b o γ ws, tt))), (head-val p ∷ [], (sweep-val s ∷ [], (sz ∷ [], tt)))), tt)
+  to-close s ws = (((κ, tt), (q, tt), tt, (p .head, (s, (out-at b o γ ws, tt))), (head-val (p .head) ∷ [], (sweep-val s ∷ [], (sz ∷ [], tt)))), tt)
 
   module _ (is : Ranged p) (rooms : Rooms p) (room : Room u32 (length os)) where
     asks-close : (s : Sweep) (ws : List ℕ) → Is ST.the-row s (sweep-val s ∷ []) → Swept 𝓤 H A mem run p Refine os s ws
         → ent 𝓤 (⋆ 𝓤 H A (‵ (flft κ q) ∷ ‵ (OwnOut κ (out-at b o γ ws) sz) ∷ [])) (Asked 𝓤 H A cls.ended closing .pre (to-close s ws))
     asks-close s ws is-s e =
         qed W (‵ (flft κ q) ∷ ‵ (OwnOut κ (out-at b o γ ws) sz) ∷ []) ∵ says ! (can-close (p .header) (now (p .rows)) (p .head) (now (p .ids)) (now (p .conditions)) os s ws e) $
-        nothing ! $ move ! (2 ∷ 0 ∷ []) $ fjoin ! $ own-sweep ! s is-s $ fjoin ! $ own-head p ! is $ fjoin ! $ nothing ! $ move ! (2 ∷ 0 ∷ []) $ join ! $ frame ! $ done !
+        nothing ! $ move ! (2 ∷ 0 ∷ []) $ fjoin ! $ own-sweep ! s is-s $ fjoin ! $ own-head ! (p .head) (is .1) $ fjoin ! $ nothing ! $ move ! (2 ∷ 0 ∷ []) $ join ! $ frame ! $ done !
 
     walk : (𝓣 : Tables 𝓤 H) → CitesAsk 𝓤 H A mem run (𝓣 .C) → Cites 𝓤 H A cls.ended closing (𝓣 .C) #sweeping·close-refine
         → ent 𝓤 (onEntry 𝓤 H A f.signature (y .0 .0) (y .0 .1) (y .0 .3) (y .0 .4)) (WpFn 𝓤 H (𝓣 .C) (𝓣 .Λ) code.function (Walked f.ended params 𝓤 H A clauses .args y) (Walked f.ended params 𝓤 H A clauses .post y))
@@ -65,7 +66,7 @@ module _ {M : Type 1} (𝓤 : URA M) (H : Heap 𝓤) (A : Atoms 𝓤) (W : Given
         tokens-off p ! $ move ! (1 ∷ []) $ split ! $ move ! (3 ∷ []) $ slices-off p ! $ move ! (1 ∷ []) $ fsplit ! $ keep ! (5 ∷ 2 ∷ 3 ∷ 0 ∷ []) $
         enter ! (𝓣 .C) (𝓣 .Λ) code.function (Walked f.ended params 𝓤 H A clauses .args y) _ $
         alloc1 ! (λ l₀. alloc1 ! (λ l₁. alloc1 ! (λ l₂. alloc1 ! (λ l₃. alloc1 ! (λ l₄. alloc1 ! (λ l₅. alloc1 ! (λ l₆. alloc1 ! (λ l₇. alloc1 ! (λ l₈. alloc1 ! (λ l₉. alloc1 ! (λ l₁₀. alloc1 ! (λ l₁₁. alloc1 ! (λ l₁₂. alloc0 ! $ params1 ! $
-        pass1 ! (init ! 22 refl (header-typed W (p .header) (is .0))) $ pass1 ! (init ! 20 refl (fits (rooms .0 .0))) $ pass1 ! (init ! 18 refl (head-typed p W is)) $ pass1 ! (init ! 16 refl (fits (rooms .1 .0 .0))) $ pass1 ! (init ! 14 refl (fits (rooms .1 .1 .0))) $ pass1 ! (init ! 12 refl (fits (room .0))) $ pass0 ! $
+        pass1 ! (init ! 22 refl (header-typed W (p .header) (is .0))) $ pass1 ! (init ! 20 refl (fits (rooms .0 .0))) $ pass1 ! (init ! 18 refl (head-typed W (p .head) (is .1))) $ pass1 ! (init ! 16 refl (fits (rooms .1 .0 .0))) $ pass1 ! (init ! 14 refl (fits (rooms .1 .1 .0))) $ pass1 ! (init ! 12 refl (fits (room .0))) $ pass0 ! $
         -- [_12; …; the tokens; what is lent as `&`; κ's token; what out owns]
         assigns ! (agg ! (and-then ! (lit ! tt) (no-more !))) (from ! (stop !)) (init ! 8 refl (question-typed W Refine is-q)) $
         assigns ! (addr ! (from ! (fld ! refl (hop ! (look-in ! 12 (sub ! 0 refl (whole !))) (stop !))))) (from ! (stop !)) (init ! 6 refl (tt, tt)) $

@@ -1,27 +1,21 @@
 -- `walks::all_pass` meets its contract: a walk of its MIR, by hand. The loop's state at i: `ok` is whether the first i
 -- conditions pass. Each turn copies one record out of the slice and passes it to `passes_test`, of which the proof knows
 -- only its contract. Assumes nothing.
-use Rattle.walks.proofs.Prelude.{_≡_, refl, sym, _∙_, ℕ, List, [], _∷_, length, URA, fullShare, Val, SProp, ent, id⊢, Lft, Share, GName, Fml, ftrue, fsep, flft, fat, froom, fdies, Memory, Routine, Heap, Tables, WpFn, Atoms, Fun, givenOf, tables}
-use Rattle.walks.proofs.Prelude.{Given, Item, ‵, raw, ⋆, _$_, _∵_, !, qed, move, drop, group, use1, split, join, rewrite, fsplit, fjoin, suffices, frame, done, whole, sub, look-in, look, store, init, forget, stop, hop, fld, from, load, lit, of-opd, bin, no-more, assigns, land, returns, enter, alloc1, alloc0, params1, pass1, pass0, free1, free0}
-use Rattle.walks.proofs.Prelude.{fmOf, u32, bool, Is, shows, RefT, now, Room, owned, nothing, Clauses, onEntry, cited, says, needs, ends-at}
-use Prim.Native.Nat.{_<_, _+_, _*_, _^_}
+use Rattle.walks.proofs.Prelude.{_≡_, refl, sym, _∙_, ℕ, _<_, _^_, Bool, true, false, List, [], _∷_, ltb, lit<, length, URA, fullShare, Ty, imm, named, tyBool, tyInt, tyRef, w64, Val, vbool, vint, SProp, ent, id⊢, Lft, Share, GName, Fml}
+use Rattle.walks.proofs.Prelude.{ftrue, fsep, flft, fat, froom, fdies, Memory, Routine, Heap, Env, Tables, Wp, WpFn, afterBlock, afterSeq, afterTurn, atReturn, Atoms, Fun, givenOf, tables, tablesOf, Given, Item, Sq, anyQ, atRet, runs, ‵, raw, ⋆, _$_, _∵_, !, qed}
+use Rattle.walks.proofs.Prelude.{move, drop, group, use1, split, join, rewrite, fsplit, fjoin, suffices, frame, done, whole, sub, look-in, Below, look, store, init, forget, stop, hop, fld, from, load, lit, of-opd, bin, no-more, assigns, land, again, blocks, exec, first}
+use Rattle.walks.proofs.Prelude.{leaves-loop, loops, goes-on, returns, enter, alloc1, alloc0, params1, pass1, pass0, free1, free0, fmOf, u32, bool, Is, shows, pointee, bool-makes, RefT, now, sliceTy, sliceVal, ShrSlice, Room, owned, nothing, Clauses, onEntry, cited, says, needs, ends-at}
+use Prim.Native.Nat.{_+_, _*_}
 use native.Mathlib.Numerals.{add-one-dec}
 use native.Mathlib.Omega.{arith}
-use mathlib.Core.Bool.{Bool, true, false, _&&_}
-use lib.Dec.{ltb, lit<}
+use mathlib.Core.Bool.{_&&_}
 use lib.ListN.{getD}
-use package.mir.Syntax.{Ty, named, imm, w64, tyInt, tyBool, tyPtr, tyRef}
-use package.mir.Val.{vint, vbool, vptr}
-use prog.Wp.{Env, Wp, afterSeq, afterBlock, afterTurn, atReturn}
-use contract.Running.{tablesOf}
+use package.mir.Syntax.{tyPtr}
+use package.mir.Val.{vptr}
 use types.Kit as Kit
-use types.Kit.{Sq, runs, anyQ, atRet}
-use types.Run.{look-raw, assigns-last, leaves-loop, first, blocks, exec, Below, again, loops, stays as goes-on}
+use types.Run.{look-raw, assigns-last}
 use borrow.Author.Tests.{ltb-true}
-use denote.Plain.{bool-makes}
-use denote.Slice.{sliceTy, sliceVal, ShrSlice}
 use denote.Index.{place-is, elem-out, elem-back, looks-slice, shuts-slice}
-use denote.Memory.{pointee}
 use denote.Struct.Laws as LL
 use Rattle.lists.specs.Laws.Keep.{and-left, and-right}
 use Rattle.constraints.specs.declared.Constraint.{Constraint}

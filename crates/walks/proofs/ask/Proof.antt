@@ -1,20 +1,12 @@
 -- `walks::ask` meets its contract: a walk of its MIR, by hand, cut at each call. The list of conditions is passed on whole. The loop's
 -- state is the sweep and the output, which each turn lends again to `step`. Assumes nothing.
-use Rattle.walks.proofs.Prelude.{_≡_, refl, sym, subst, _∙_, ℕ, List, [], _∷_, length, URA, fullShare, Val, SProp, ent, emp, id⊢, via, fst∗, Lft, Share, GName, ftrue, fsep, flft, fat, froom, fdies, Memory, Routine, Heap, Tables, WpFn, Atoms, Fun, givenOf, tables}
-use Rattle.walks.proofs.Prelude.{Given, Item, ‵, raw, ⋆, _$_, _∵_, !, qed, move, keep, drop, group, use1, split, join, rewrite, fsplit, fjoin, feqL, suffices, frame, done, agg, whole, sub, look-in, look, store, init, forget, stop, hop, fld, from, load, addr, lit, of-opd, bin, and-then, no-more, assigns, land, returns, enter, alloc1, alloc0, params1, pass1, pass0, free1, free0}
-use Rattle.walks.proofs.Prelude.{fmOf, u32, usize, bool, Is, now, sliceVal, Room, owned, nothing, Clauses, onEntry, cited, says, ends-at}
-use Prim.Native.Nat.{_<_, _≤_}
-use mathlib.Core.Bool.{Bool, true, false}
-use lib.Dec.{ltb}
-use package.mir.Syntax.{Body, Opd as Operand, Place, call, named, seq, tyBool, tyInt, w64}
-use package.mir.Val.{vbool, vint}
-use prog.Wp.{Env, Loops, Wp, afterBlock, afterSeq, afterTurn, atReturn}
-use contract.Running.{tablesOf}
+use Rattle.walks.proofs.Prelude.{_≡_, refl, sym, subst, _∙_, ℕ, _<_, _≤_, Bool, true, false, List, [], _∷_, ltb, length, URA, fullShare, Body, Place, Operand, call, named, seq, tyBool, tyInt, w64, Val, vbool, vint, SProp, ent, emp, id⊢, via, fst∗, Lft}
+use Rattle.walks.proofs.Prelude.{Share, GName, ftrue, fsep, flft, fat, froom, fdies, Memory, Routine, Heap, Env, Loops, Tables, Wp, WpFn, afterBlock, afterSeq, afterTurn, atReturn, Atoms, Fun, givenOf, tables, tablesOf, Given, Item, Seq, Sq, anyQ, atRet, lands, runs, ‵, raw, ⋆, _$_}
+use Rattle.walks.proofs.Prelude.{_∵_, !, qed, move, keep, drop, group, use1, split, join, rewrite, fsplit, fjoin, feqL, suffices, frame, done, agg, whole, sub, look-in, Below, Opds, look, store, init, forget, stop, hop, fld, from, load, addr, lit, of-opd, bin, and-then}
+use Rattle.walks.proofs.Prelude.{no-more, assigns, land, again, blocks, exec, first, leaves-loop, loops, goes-on, returns, enter, alloc1, alloc0, params1, pass1, pass0, free1, free0, fmOf, u32, usize, bool, Is, bool-makes, uint-makes, now, sliceVal, Room, owned, nothing, Clauses, onEntry, cited, says, ends-at}
 use types.Kit as Kit
-use types.Kit.{Seq, Sq, anyQ, atRet, lands, runs}
-use types.Run.{Below, Opds, again, blocks, exec, first, land-last, leaves-loop, loops, stays as goes-on}
+use types.Run.{land-last}
 use borrow.Author.Tests.{le-ltb, lt-ltb, ltb-false, ltb-true}
-use denote.Plain.{bool-makes, uint-makes}
 use denote.Enum.Laws as EL
 use denote.Struct.Laws as LL
 use Rattle.constraints.proofs.Constraint as CT
@@ -127,49 +119,22 @@ module _ {M : Type 1} (𝓤 : URA M) (H : Heap 𝓤) (A : Atoms 𝓤) (W : Given
 
     -- what the triples of this function, of `opening` and of `step` bind outside
     abbrev y : Walked f.ended params 𝓤 H A clauses .Ghost
-    y = (
-      (
-        lifetimes p (κ, tt),
-        shares p (q, tt),
-        tt,
-        (question, (p .header, (p .rows, (p .head, (p .ids, (p .conditions, (out-at b o γ os, tt))))))),
-        (question-val question ∷ [], (header-val (p .header) ∷ [], (slice-val (p .rows) ∷ [], (head-val p ∷ [], (slice-val (p .ids) ∷ [], (slice-val (p .conditions) ∷ [], (sz ∷ [], tt))))))),
-      ),
-      tt,
-    )
+    y = ((lifetimes p (κ, tt), shares p (q, tt), tt, (question, (p .header, (p .rows, (p .head, (p .ids, (p .conditions, (out-at b o γ os, tt))))))), (question-val question ∷ [], (header-val (p .header) ∷ [], (slice-val (p .rows) ∷ [], (head-val (p .head) ∷ [], (slice-val (p .ids) ∷ [], (slice-val (p .conditions) ∷ [], (sz ∷ [], tt)))))))), tt)
 
     abbrev Post : Val → SProp 𝓤
     Post = Walked f.ended params 𝓤 H A clauses .post y
 
     abbrev to-open : Asked 𝓤 H A opn.ended opening .Ghost
-    to-open = (
-      (
-        (p .κ₁, tt),
-        (p .q₁, tt),
-        tt,
-        (question, (p .header, (length rows, (p .head, (p .ids, (all-pass Known, (length os, tt))))))),
-        (question-val question ∷ [], (header-val (p .header) ∷ [], (vint w64 (length rows) ∷ [], (head-val p ∷ [], (slice-val (p .ids) ∷ [], (vbool (all-pass Known) ∷ [], (vint w64 (length os) ∷ [], tt))))))),
-      ),
-      tt,
-    )
+    to-open = (((p .κ₁, tt), (p .q₁, tt), tt, (question, (p .header, (length rows, (p .head, (p .ids, (all-pass Known, (length os, tt))))))), (question-val question ∷ [], (header-val (p .header) ∷ [], (vint w64 (length rows) ∷ [], (head-val (p .head) ∷ [], (slice-val (p .ids) ∷ [], (vbool (all-pass Known) ∷ [], (vint w64 (length os) ∷ [], tt)))))))), tt)
 
     abbrev to-step : ℕ → GName → Sweep → List ℕ → Asked 𝓤 H A stp.ended stepping .Ghost
-    to-step ν δ s zs = (
-      (
-        (p .κ₀, (p .κ₁, (ν ∷ [], tt))),
-        (p .q₀, (p .q₁, (fullShare, tt))),
-        tt,
-        (p .header, (p .rows, (p .head, (p .ids, (s, (hit s, (out-at b o δ zs, tt))))))),
-        (header-val (p .header) ∷ [], (slice-val (p .rows) ∷ [], (head-val p ∷ [], (slice-val (p .ids) ∷ [], (sweep-val s ∷ [], (vbool (hit s) ∷ [], (sliceVal (b, o) (length zs) ∷ [], tt))))))),
-      ),
-      tt,
-    )
+    to-step ν δ s zs = (((p .κ₀, (p .κ₁, (ν ∷ [], tt))), (p .q₀, (p .q₁, (fullShare, tt))), tt, (p .header, (p .rows, (p .head, (p .ids, (s, (hit s, (out-at b o δ zs, tt))))))), (header-val (p .header) ∷ [], (slice-val (p .rows) ∷ [], (head-val (p .head) ∷ [], (slice-val (p .ids) ∷ [], (sweep-val s ∷ [], (vbool (hit s) ∷ [], (sliceVal (b, o) (length zs) ∷ [], tt)))))))), tt)
 
     module _ (is-q : Is QT.the-row question (question-val question ∷ [])) (rooms : Rooms p) (room : Room u32 (length os)) where
       asks-open : ent 𝓤 (⋆ 𝓤 H A (‵ (flft (p .κ₁) (p .q₁)) ∷ ‵ (OwnIds p) ∷ [])) (Asked 𝓤 H A opn.ended opening .pre to-open)
       asks-open =
           qed W (‵ (flft (p .κ₁) (p .q₁)) ∷ ‵ (OwnIds p) ∷ []) ∵ nothing ! $ owned ! usize (Is usize) (uint-makes 𝓤 H A W w64) (length os) _ (refl, room .0) $ fjoin ! $ owned ! bool (Is bool) (bool-makes 𝓤 H A W) (all-pass Known) _ refl $ fjoin ! $
-          move ! (2 ∷ 0 ∷ []) $ fjoin ! $ own-head p ! is $ fjoin ! $ owned ! usize (Is usize) (uint-makes 𝓤 H A W w64) (length rows) _ (refl, rooms .0 .0) $ fjoin ! $ own-header ! (p .header) (is .0) $ fjoin ! $ own-question ! question is-q $ fjoin ! $
+          move ! (2 ∷ 0 ∷ []) $ fjoin ! $ own-head ! (p .head) (is .1) $ fjoin ! $ owned ! usize (Is usize) (uint-makes 𝓤 H A W w64) (length rows) _ (refl, rooms .0 .0) $ fjoin ! $ own-header ! (p .header) (is .0) $ fjoin ! $ own-question ! question is-q $ fjoin ! $
           nothing ! $ move ! (2 ∷ 0 ∷ []) $ join ! $ join ! $ frame ! $ done !
 
       module _ (𝓣 : Tables 𝓤 H) (known-all : Cites 𝓤 H A all.ended passing (𝓣 .C) #walks·all-pass) (known-open : Cites 𝓤 H A opn.ended opening (𝓣 .C) #sweeping·opening) (known-step : Cites 𝓤 H A stp.ended stepping (𝓣 .C) #sweeping·step)
@@ -180,8 +145,8 @@ module _ {M : Type 1} (𝓤 : URA M) (H : Heap 𝓤) (A : Atoms 𝓤) (W : Given
         -- the locals, the last first, with what is in _9 and _8
         abbrev Locals : Item 𝓤 → Item 𝓤 → List (Item 𝓤)
         Locals nine eight = ‵ (froom LentTy l₁₇ 0) ∷ ‵ (fdies LentTy l₁₇) ∷ ‵ (froom RefTy l₁₆ 0) ∷ ‵ (fdies RefTy l₁₆) ∷ ‵ (froom TT′.mir l₁₅ 0) ∷ ‵ (fdies TT′.mir l₁₅) ∷ ‵ (froom tyBool l₁₄ 0) ∷ ‵ (fdies tyBool l₁₄) ∷ ‵ (froom (tyInt w64) l₁₃ 0) ∷ ‵ (fdies (tyInt w64) l₁₃) ∷ ‵ (froom (tyInt w64) l₁₂ 0) ∷ ‵ (fdies (tyInt w64) l₁₂)
-          ∷ ‵ (froom TT′.mir l₁₁ 0) ∷ ‵ (fdies TT′.mir l₁₁) ∷ ‵ (froom tyBool l₁₀ 0) ∷ ‵ (fdies tyBool l₁₀) ∷ nine ∷ ‵ (fdies ST′.mir l₉) ∷ eight ∷ ‵ (fdies tyBool l₈) ∷ ‵ (fat fullShare OutTy l₇ 0 sz) ∷ ‵ (fdies OutTy l₇) ∷ ‵ (fat fullShare ConditionsTy l₆ 0 (slice-val (p .conditions))) ∷ ‵ (fdies ConditionsTy l₆)
-          ∷ ‵ (fat fullShare IdsTy l₅ 0 (slice-val (p .ids))) ∷ ‵ (fdies IdsTy l₅) ∷ ‵ (fat fullShare DT′.mir l₄ 0 (head-val p)) ∷ ‵ (fdies DT′.mir l₄) ∷ ‵ (fat fullShare RowsTy l₃ 0 (slice-val (p .rows))) ∷ ‵ (fdies RowsTy l₃) ∷ ‵ (fat fullShare HT′.mir l₂ 0 (header-val (p .header))) ∷ ‵ (fdies HT′.mir l₂) ∷ ‵ (fat fullShare QT′.mir l₁ 0 (question-val question)) ∷ ‵ (fdies QT′.mir l₁) ∷ ‵ (froom ST′.mir l₀ 0) ∷ ‵ (fdies ST′.mir l₀) ∷ []
+            ∷ ‵ (froom TT′.mir l₁₁ 0) ∷ ‵ (fdies TT′.mir l₁₁) ∷ ‵ (froom tyBool l₁₀ 0) ∷ ‵ (fdies tyBool l₁₀) ∷ nine ∷ ‵ (fdies ST′.mir l₉) ∷ eight ∷ ‵ (fdies tyBool l₈) ∷ ‵ (fat fullShare OutTy l₇ 0 sz) ∷ ‵ (fdies OutTy l₇) ∷ ‵ (fat fullShare ConditionsTy l₆ 0 (slice-val (p .conditions))) ∷ ‵ (fdies ConditionsTy l₆)
+            ∷ ‵ (fat fullShare IdsTy l₅ 0 (slice-val (p .ids))) ∷ ‵ (fdies IdsTy l₅) ∷ ‵ (fat fullShare DT′.mir l₄ 0 (head-val (p .head))) ∷ ‵ (fdies DT′.mir l₄) ∷ ‵ (fat fullShare RowsTy l₃ 0 (slice-val (p .rows))) ∷ ‵ (fdies RowsTy l₃) ∷ ‵ (fat fullShare HT′.mir l₂ 0 (header-val (p .header))) ∷ ‵ (fdies HT′.mir l₂) ∷ ‵ (fat fullShare QT′.mir l₁ 0 (question-val question)) ∷ ‵ (fdies QT′.mir l₁) ∷ ‵ (froom ST′.mir l₀ 0) ∷ ‵ (fdies ST′.mir l₀) ∷ []
 
         -- what is held, the output at a list, and the locals
         abbrev Around : List ℕ → Item 𝓤 → Item 𝓤 → List (Item 𝓤)
@@ -299,7 +264,7 @@ module _ {M : Type 1} (𝓤 : URA M) (H : Heap 𝓤) (A : Atoms 𝓤) (W : Given
           tokens-off p ! $ move ! (1 ∷ []) $ split ! $ move ! (3 ∷ []) $ fsplit ! $ drop ! $ slices-off p ! $ move ! (1 ∷ []) $ fsplit ! $ keep ! (5 ∷ 2 ∷ 3 ∷ 0 ∷ []) $
           enter ! (𝓣 .C) (𝓣 .Λ) code.function (Walked f.ended params 𝓤 H A clauses .args y) _ $
           alloc1 ! (λ l₀. alloc1 ! (λ l₁. alloc1 ! (λ l₂. alloc1 ! (λ l₃. alloc1 ! (λ l₄. alloc1 ! (λ l₅. alloc1 ! (λ l₆. alloc1 ! (λ l₇. alloc1 ! (λ l₈. alloc1 ! (λ l₉. alloc1 ! (λ l₁₀. alloc1 ! (λ l₁₁. alloc1 ! (λ l₁₂. alloc1 ! (λ l₁₃. alloc1 ! (λ l₁₄. alloc1 ! (λ l₁₅. alloc1 ! (λ l₁₆. alloc1 ! (λ l₁₇. alloc0 ! $ params1 ! $
-          pass1 ! (init ! 32 refl (question-typed W question is-q)) $ pass1 ! (init ! 30 refl (header-typed W (p .header) (is .0))) $ pass1 ! (init ! 28 refl (fits (rooms .0 .0))) $ pass1 ! (init ! 26 refl (head-typed p W is)) $ pass1 ! (init ! 24 refl (fits (rooms .1 .0 .0))) $ pass1 ! (init ! 22 refl (fits (rooms .1 .1 .0))) $ pass1 ! (init ! 20 refl (fits (room .0))) $ pass0 ! $
+          pass1 ! (init ! 32 refl (question-typed W question is-q)) $ pass1 ! (init ! 30 refl (header-typed W (p .header) (is .0))) $ pass1 ! (init ! 28 refl (fits (rooms .0 .0))) $ pass1 ! (init ! 26 refl (head-typed W (p .head) (is .1))) $ pass1 ! (init ! 24 refl (fits (rooms .1 .0 .0))) $ pass1 ! (init ! 22 refl (fits (rooms .1 .1 .0))) $ pass1 ! (init ! 20 refl (fits (room .0))) $ pass0 ! $
           move ! (36 ∷ 37 ∷ 38 ∷ 39 ∷ []) $ begins 𝓣 known-all known-open known-step l₀ l₁ l₂ l₃ l₄ l₅ l₆ l₇ l₈ l₉ l₁₀ l₁₁ l₁₂ l₁₃ l₁₄ l₁₅ l₁₆ l₁₇))))))))))))))))))
 
 pub ask-spec : {M : Type 1} → stated.statement M
