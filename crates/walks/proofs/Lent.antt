@@ -1,7 +1,7 @@
 -- What a question is lent and passes on: a table's header and rows, a subset's head and ids, and conditions; and the output, that comes and goes. Their
 -- machine values, what owning them is, and the steps by which a walk makes what a call is asked of them. Assumes `Given`.
-use Rattle.walks.proofs.Prelude.{refl, ap, subst, ℕ, _<_, _^_, List, [], _∷_, length, URA, Body, Place, Ty, erased, imm, mut, named, tyInt, tyRef, w32, w64, Val, Lft, Share, GName, Fml, fsep, flft, Heap, Calls, Env, Loops, Atoms, Given}
-use Rattle.walks.proofs.Prelude.{Goal, Item, Post, Seq, Step, lands, regoal, settles, step, ‵, _⊛_, _$_, move, drop, split, join, fsplit, fjoin, u32, yes, Is, shows, pointee, RefT, now, plain, sliceTy, sliceVal, ShrSlice, MutSlice, Room, facts, owned, only}
+use Rattle.walks.proofs.Prelude.{refl, ap, subst, ℕ, _<_, _^_, List, [], _∷_, length, URA, Body, Place, named, w64, Val, Lft, Share, GName, Fml, fsep, flft, Heap, Calls, Env, Loops, Atoms, Given, Goal, Item}
+use Rattle.walks.proofs.Prelude.{Post, Seq, Step, lands, regoal, settles, step, ‵, _⊛_, _$_, move, drop, split, join, fsplit, fjoin, u32, yes, Is, shows, RefT, now, plain, sliceVal, ShrSlice, MutSlice, Room, facts, owned, only}
 use lib.Dec.{T as Holds}
 use package.mir.Syntax.{Width}
 use package.mir.Val.{Fits, WT, hasTy}
@@ -45,26 +45,6 @@ module _ {n : ℕ} where
 
   abbrev pub passed-uint : (w : Width) → Passed {n = n} (plain (λ _. UInt w)) yes
   passed-uint w = by-value (UInt w) (uint-vals w) (uint-tells w) (λ x f. refl)
-
--- the types of the locals that hold slices
-abbrev pub RowsTy : Ty
-RowsTy = sliceTy (tyRef (named 0) imm (tyInt w32))
-
-abbrev pub IdsTy : Ty
-IdsTy = sliceTy (tyRef (named 1) imm (tyInt w32))
-
-abbrev pub ConditionsTy : Ty
-ConditionsTy = sliceTy (tyRef (named 2) imm (pointee (CT.the-row .written)))
-
-abbrev pub OutTy : Ty
-OutTy = sliceTy (tyRef (named 3) mut (tyInt w32))
-
--- and of those that hold the output as it is lent on
-abbrev pub RefTy : Ty
-RefTy = tyRef erased mut (tyInt w32)
-
-abbrev pub LentTy : Ty
-LentTy = sliceTy RefTy
 
 pub record Lent : Type 0 where
   pub κ₀ : Lft

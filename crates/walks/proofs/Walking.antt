@@ -1,5 +1,6 @@
 -- What every walk by hand does, said once, of any function:
 --     Tokens, tokens-are     the tokens of a call's lifetimes as an entry of the context
+--     env-of, Cells          a function's locals at their blocks, and what is in them as entries of the context, the last first
 --     Cites                  a callee's contract, as a walk knows it
 --     arg                    a call's next operand is a local, which stands at entry n of the context
 --     twice                  what is lent as `&` is had twice
@@ -9,10 +10,10 @@
 --     Passed s k             all that a walk is to know of a parameter: what is had of it at exit, and its machine values.       by-value, lent-slice, kept-slice, given-slice      the kinds
 --     walk-runs              from the walk of a function's MIR to its theorem
 -- Assumes `Given`.
-use Rattle.walks.proofs.Prelude.{_≡_, refl, ap, _∙_, ℕ, Bool, List, [], _∷_, URA, Body, Place, Operand, call, seq, Val, vbool, SProp, ent, id⊢, Lft, Share, ftrue, flft, fat, Heap, Calls, Env, Loops, WpFn, Atoms, Fun, givenOf, tables, tablesOf, Given, Goal, Item}
-use Rattle.walks.proofs.Prelude.{Post, Seq, Step, lands, regoal, runs, settles, step, ‵, raw, _⊛_, some, later, _$_, move, use1, split, pick, await, Opds, look, stop, from, load, and-then, FmC, bool, yes, Is, shows, RattleType, RefT, plain, ShrSlice, facts, only, Clauses, onEntry}
+use Rattle.walks.proofs.Prelude.{_≡_, refl, ap, _∙_, ℕ, Bool, List, [], _∷_, URA, fullShare, Body, Place, Ty, Operand, call, seq, Val, vbool, SProp, ent, id⊢, Lft, Share, ftrue, flft, fat, froom, fdies, Heap, Calls, Env, Loops, WpFn, Atoms, Fun, givenOf, tables, tablesOf, Given}
+use Rattle.walks.proofs.Prelude.{Goal, Item, Post, Seq, Step, lands, regoal, runs, settles, step, ‵, raw, _⊛_, some, later, _$_, move, use1, split, pick, await, Opds, look, stop, from, load, and-then, FmC, bool, yes, Is, shows, RattleType, RefT, plain, ShrSlice, facts, only, Clauses, onEntry}
 use Prim.Native.Nat.{zero, suc}
-use mir.Syntax.{Fn, Lifetime, place, copy}
+use mir.Syntax.{Fn, Lifetime, Local, local, place, copy}
 use base.Logic.{sep}
 use prog.Model.{Model}
 use prog.Routine.{Name, Env as Names}
@@ -36,6 +37,25 @@ use denote.Triple.Spec.{tripleOf}
 use denote.Triple.Statement.{Contract, Triple}
 use denote.Triple.Table.{entered}
 use denote.Triple.Walked.{Stay, Stays, Goes, AllGo, stay-none, stay-none-slice, stay-slice, gave-slice, goes-none, goes-none-slice, goes-slice, goes-gave-slice, walkOf, walked, walk-meets}
+
+pub data Cell : Type 0 where
+  empty : Cell
+  holds : Val → Cell
+
+abbrev pub env-of : List Local → List ℕ → List (Ty × ℕ)
+env-of [] ls = []
+env-of (local τ home ∷ locals) [] = []
+env-of (local τ home ∷ locals) (l ∷ ls) = (τ, l) ∷ env-of locals ls
+
+module _ {M : Type 1} (𝓤 : URA M) where
+  abbrev cell : Ty → ℕ → Cell → Item 𝓤
+  cell τ l empty = ‵ (froom τ l 0)
+  cell τ l (holds v) = ‵ (fat fullShare τ l 0 v)
+
+  abbrev pub Cells : List (Ty × ℕ) → List Cell → List (Item 𝓤) → List (Item 𝓤)
+  Cells [] cells Γ = Γ
+  Cells (e ∷ E) [] Γ = Γ
+  Cells (e ∷ E) (c ∷ cells) Γ = Cells E cells (cell (e .0) (e .1) c ∷ ‵ (fdies (e .0) (e .1)) ∷ Γ)
 
 module _ {M : Type 1} (𝓤 : URA M) (H : Heap 𝓤) (A : Atoms 𝓤) where
   abbrev pub Tokens : (n : ℕ) → Lfts n → Shares n → Item 𝓤

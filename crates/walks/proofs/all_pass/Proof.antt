@@ -1,10 +1,9 @@
 -- `walks::all_pass` meets its contract: a walk of its MIR, by hand. The loop's state at i: `ok` is whether the first i
 -- conditions pass. Each turn copies one record out of the slice and passes it to `passes_test`, of which the proof knows
 -- only its contract. Assumes nothing.
-use Rattle.walks.proofs.Prelude.{_≡_, refl, sym, _∙_, ℕ, _<_, _^_, Bool, true, false, List, [], _∷_, ltb, lit<, length, URA, fullShare, Ty, imm, named, tyBool, tyInt, tyRef, w64, Val, vbool, vint, SProp, ent, id⊢, Lft, Share, GName, Fml}
-use Rattle.walks.proofs.Prelude.{ftrue, fsep, flft, fat, froom, fdies, Memory, Routine, Heap, Env, Tables, Wp, WpFn, afterBlock, afterSeq, afterTurn, atReturn, Atoms, Fun, givenOf, tables, tablesOf, Given, Item, Sq, anyQ, atRet, runs, ‵, raw, ⋆, _$_, _∵_, !, qed}
-use Rattle.walks.proofs.Prelude.{move, drop, group, use1, split, join, rewrite, fsplit, fjoin, suffices, frame, done, whole, sub, look-in, Below, look, store, init, forget, stop, hop, fld, from, load, lit, of-opd, bin, no-more, assigns, land, again, blocks, exec, first}
-use Rattle.walks.proofs.Prelude.{leaves-loop, loops, goes-on, returns, enter, alloc1, alloc0, params1, pass1, pass0, free1, free0, fmOf, u32, bool, Is, shows, pointee, bool-makes, RefT, now, sliceTy, sliceVal, ShrSlice, Room, owned, nothing, Clauses, onEntry, cited, says, needs, ends-at}
+use Rattle.walks.proofs.Prelude.{_≡_, refl, sym, _∙_, ℕ, _<_, _^_, Bool, true, false, List, [], _∷_, ltb, lit<, length, URA, fullShare, named, tyBool, w64, Val, vbool, vint, SProp, ent, id⊢, Lft, Share, GName, Fml, ftrue, fsep, flft, fat, Memory, Routine, Heap, Env, Tables, Wp, WpFn, afterBlock, afterSeq}
+use Rattle.walks.proofs.Prelude.{atReturn, afterTurn, Atoms, Fun, givenOf, tables, tablesOf, Given, Item, Sq, anyQ, atRet, runs, ‵, raw, ⋆, _$_, _∵_, !, qed, move, drop, group, use1, split, join, rewrite, fsplit, fjoin, suffices, frame, done, whole, sub, look-in, Below, look, store, init, forget, stop, hop, fld, from}
+use Rattle.walks.proofs.Prelude.{load, lit, of-opd, bin, no-more, assigns, land, again, blocks, exec, first, leaves-loop, loops, goes-on, returns, enter, alloc1, alloc0, params1, pass1, pass0, free1, free0, fmOf, u32, bool, Is, shows, bool-makes, RefT, now, sliceVal, ShrSlice, Room, owned, nothing, Clauses, onEntry, cited, says, needs, ends-at}
 use Prim.Native.Nat.{_+_, _*_}
 use native.Mathlib.Numerals.{add-one-dec}
 use native.Mathlib.Omega.{arith}
@@ -23,14 +22,12 @@ use Rattle.constraints.proofs.Constraint as CT
 use Rattle.constraints.proofs.Constraint.Laws as CT′
 use Rattle.table.specs.declared.Header.{Header}
 use Rattle.table.proofs.Header as HT
-use Rattle.table.proofs.Header.Laws as HT′
 use Rattle.sweeping.specs.declared.Test.{Test}
 use Rattle.sweeping.specs.inner.Sweeping.{RowNeeded, starts, passes, allPass}
 use Rattle.sweeping.proofs.Test as TT
-use Rattle.sweeping.proofs.Test.Laws as TT′
-use Rattle.walks.proofs.Lent.{RowsTy, fits, header-typed, header-val, own-header, own-test, passed-header, passed-test, slice-val, test-typed, test-val}
+use Rattle.walks.proofs.Lent.{fits, header-typed, header-val, own-header, own-test, passed-header, passed-test, slice-val, test-typed, test-val}
 use Rattle.walks.proofs.WalkSteps.{none, passed, passed-none, passed-next, passed-all, Up, up-wf}
-use Rattle.walks.proofs.Walking.{AllPassed, Asked, Cites, Tokens, Walked, arg, bool-lands, calls, lent-slice, stays, twice, walk-runs}
+use Rattle.walks.proofs.Walking.{AllPassed, Asked, Cell, Cells, Cites, Tokens, Walked, arg, bool-lands, calls, empty, env-of, holds, lent-slice, stays, twice, walk-runs}
 use Rattle.sweeping.proofs.can_pass as can
 use Rattle.sweeping.proofs.can_pass.Symbol as can-def
 use Rattle.sweeping.proofs.can_pass.Symbol.{name as #sweeping·can-pass}
@@ -47,10 +44,6 @@ use Rattle.walks.proofs.all_pass.Code.Mir as mir
 
 abbrev params : AllPassed (f.ended .signature .params) (f.ended .kept)
 params = (passed-test, (passed-header, (lent-slice u32 0 tt, (lent-slice CT.the-row 1 tt, tt))))
-
--- the type of the local that holds the conditions
-abbrev SecondTy : Ty
-SecondTy = sliceTy (tyRef (named 1) imm (pointee (CT.the-row .written)))
 
 module _ {M : Type 1} (𝓤 : URA M) (H : Heap 𝓤) (A : Atoms 𝓤) (W : Given 𝓤 H A) (mem : Memory → SProp 𝓤) (run : Routine → Fun 𝓤)
     (κ κ′ : Lft) (q q′ : Share) (test : Test) (h : Header) (x : RefT (List ℕ)) (b o : ℕ) (γ : GName) (cs : List Constraint) where
@@ -112,17 +105,15 @@ module _ {M : Type 1} (𝓤 : URA M) (H : Heap 𝓤) (A : Atoms 𝓤) (W : Given
 
     module _ (𝓣 : Tables 𝓤 H) (known-can : Cites 𝓤 H A can.ended starting (𝓣 .C) #sweeping·can-pass) (known : Cites 𝓤 H A too.ended testing (𝓣 .C) #sweeping·passes-test) (room : Room CT.the-row n) (l₀ l₁ l₂ l₃ l₄ l₅ l₆ l₇ l₈ l₉ l₁₀ l₁₁ : ℕ) where
       abbrev E : Env 𝓤 H
-      E = (tyBool, l₀) ∷ (TT′.mir, l₁) ∷ (HT′.mir, l₂) ∷ (RowsTy, l₃) ∷ (SecondTy, l₄) ∷ (tyBool, l₅) ∷ (tyInt w64, l₆) ∷ (tyInt w64, l₇) ∷ (tyBool, l₈) ∷ (tyBool, l₉) ∷ (tyPtr, l₁₀) ∷ (CT′.mir, l₁₁) ∷ []
+      E = env-of mir.locals (l₀ ∷ l₁ ∷ l₂ ∷ l₃ ∷ l₄ ∷ l₅ ∷ l₆ ∷ l₇ ∷ l₈ ∷ l₉ ∷ l₁₀ ∷ l₁₁ ∷ [])
 
-      -- the tokens and what the slices own; then the locals, the last first, with what is in _5 and _6
-      abbrev Around : Item 𝓤 → Item 𝓤 → List (Item 𝓤)
-      Around five six = ‵ (flft κ q) ∷ ‵ (flft κ′ q′) ∷ ‵ OwnRows ∷ ‵ OwnConditions
-          ∷ ‵ (froom CT′.mir l₁₁ 0) ∷ ‵ (fdies CT′.mir l₁₁) ∷ ‵ (froom tyPtr l₁₀ 0) ∷ ‵ (fdies tyPtr l₁₀) ∷ ‵ (froom tyBool l₉ 0) ∷ ‵ (fdies tyBool l₉) ∷ ‵ (froom tyBool l₈ 0) ∷ ‵ (fdies tyBool l₈) ∷ ‵ (froom (tyInt w64) l₇ 0) ∷ ‵ (fdies (tyInt w64) l₇) ∷ six ∷ ‵ (fdies (tyInt w64) l₆) ∷ five ∷ ‵ (fdies tyBool l₅)
-          ∷ ‵ (fat fullShare SecondTy l₄ 0 (sliceVal (b, o) n)) ∷ ‵ (fdies SecondTy l₄) ∷ ‵ (fat fullShare RowsTy l₃ 0 (slice-val x)) ∷ ‵ (fdies RowsTy l₃) ∷ ‵ (fat fullShare HT′.mir l₂ 0 (header-val h)) ∷ ‵ (fdies HT′.mir l₂) ∷ ‵ (fat fullShare TT′.mir l₁ 0 (test-val test)) ∷ ‵ (fdies TT′.mir l₁) ∷ ‵ (froom tyBool l₀ 0) ∷ ‵ (fdies tyBool l₀) ∷ []
+      -- the tokens, what the slices own, and the locals, with what is in _5 and _6
+      abbrev Around : Cell → Cell → List (Item 𝓤)
+      Around five six = ‵ (flft κ q) ∷ ‵ (flft κ′ q′) ∷ ‵ OwnRows ∷ ‵ OwnConditions ∷ Cells 𝓤 E (empty ∷ holds (test-val test) ∷ holds (header-val h) ∷ holds (slice-val x) ∷ holds (sliceVal (b, o) n) ∷ five ∷ six ∷ empty ∷ empty ∷ empty ∷ empty ∷ empty ∷ []) []
 
       -- the loop's invariant at i
       abbrev I : ℕ → List (Item 𝓤)
-      I i = Around (‵ (fat fullShare tyBool l₅ 0 (vbool (ok i)))) (‵ (fat fullShare (tyInt w64) l₆ 0 (vint w64 i)))
+      I i = Around (holds (vbool (ok i))) (holds (vint w64 i))
 
       -- what is to hold where a turn ends
       abbrev Turned : ℕ → Kit.Post 𝓤 H
@@ -176,13 +167,13 @@ module _ {M : Type 1} (𝓤 : URA M) (H : Heap 𝓤) (A : Atoms 𝓤) (W : Given
       turn i false e = ends i e
 
       -- what is asked before any condition is answered: the loop
-      loop : Sq W (Around (‵ (fat fullShare tyBool l₅ 0 (vbool start))) (‵ (froom (tyInt w64) l₆ 0))) (runs (𝓣 .C) (𝓣 .Λ) E mir.t-2 (atRet E Post))
+      loop : Sq W (Around (holds (vbool start)) empty) (runs (𝓣 .C) (𝓣 .Λ) E mir.t-2 (atRet E Post))
       loop =
           assigns ! (of-opd ! (lit ! tt)) (from ! (stop !)) (init ! 14 refl (tt, record { fits = lit< tt })) $ rewrite ! 16 (λ (t : Bool). ‵ (fat fullShare tyBool l₅ 0 (vbool t))) (passed-none start pass cs) refl $
           first ! $ blocks ! $ loops ! 𝓣 (Up n) (up-wf n) I (λ i. turn i (ok i && ltb i n) refl) 0
 
       -- the body: `can_pass`
-      begins : Sq W (Around (‵ (froom tyBool l₅ 0)) (‵ (froom (tyInt w64) l₆ 0))) (runs (𝓣 .C) (𝓣 .Λ) E mir.t-1 (atRet E Post))
+      begins : Sq W (Around empty empty) (runs (𝓣 .C) (𝓣 .Λ) E mir.t-1 (atRet E Post))
       begins =
           move ! (2 ∷ []) $ twice ! (named 0) κ u32 x $ move ! (2 ∷ 0 ∷ []) $ group ! 2 $ use1 W (raw (Asked 𝓤 H A can.ended starting .pre to-can)) asks-can $
           calls can.ended starting to-can (λ r ws. r ≡ start) (λ r ws. id⊢ 𝓤 _) ! (fmOf 𝓤 H (W .laws) 𝓣) known-can (arg ! 24 refl (arg ! 22 refl (arg ! 20 refl (no-more !)))) (λ w r ws e.

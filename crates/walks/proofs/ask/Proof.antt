@@ -1,17 +1,15 @@
 -- `walks::ask` meets its contract: a walk of its MIR, by hand, cut at each call. The list of conditions is passed on whole. The loop's
 -- state is the sweep and the output, which each turn lends again to `step`. Assumes nothing.
-use Rattle.walks.proofs.Prelude.{_≡_, refl, sym, subst, _∙_, ℕ, _<_, _≤_, Bool, true, false, List, [], _∷_, ltb, length, URA, fullShare, Body, Place, Operand, call, named, seq, tyBool, tyInt, w64, Val, vbool, vint, SProp, ent, emp, id⊢, via, fst∗, Lft}
-use Rattle.walks.proofs.Prelude.{Share, GName, ftrue, fsep, flft, fat, froom, fdies, Memory, Routine, Heap, Env, Loops, Tables, Wp, WpFn, afterBlock, afterSeq, afterTurn, atReturn, Atoms, Fun, givenOf, tables, tablesOf, Given, Item, Seq, Sq, anyQ, atRet, lands, runs, ‵, raw, ⋆, _$_}
-use Rattle.walks.proofs.Prelude.{_∵_, !, qed, move, keep, drop, group, use1, split, join, rewrite, fsplit, fjoin, feqL, suffices, frame, done, agg, whole, sub, look-in, Below, Opds, look, store, init, forget, stop, hop, fld, from, load, addr, lit, of-opd, bin, and-then}
-use Rattle.walks.proofs.Prelude.{no-more, assigns, land, again, blocks, exec, first, leaves-loop, loops, goes-on, returns, enter, alloc1, alloc0, params1, pass1, pass0, free1, free0, fmOf, u32, usize, bool, Is, bool-makes, uint-makes, now, sliceVal, Room, owned, nothing, Clauses, onEntry, cited, says, ends-at}
+use Rattle.walks.proofs.Prelude.{_≡_, refl, sym, subst, _∙_, ℕ, _<_, _≤_, Bool, true, false, List, [], _∷_, ltb, length, URA, fullShare, Body, Place, Ty, Operand, call, erased, mut, named, seq, tyBool, tyInt, tyRef, w32, w64, Val, vbool, vint, SProp, ent, emp}
+use Rattle.walks.proofs.Prelude.{id⊢, via, fst∗, Lft, Share, GName, ftrue, fsep, flft, fat, Memory, Routine, Heap, Env, Loops, Tables, Wp, WpFn, afterBlock, afterSeq, atReturn, afterTurn, Atoms, Fun, givenOf, tables, tablesOf, Given, Item, Seq, Sq, anyQ, atRet, lands, runs, ‵, raw, ⋆}
+use Rattle.walks.proofs.Prelude.{_$_, _∵_, !, qed, move, keep, drop, group, use1, split, join, rewrite, fsplit, fjoin, feqL, suffices, frame, done, agg, whole, sub, look-in, Below, Opds, look, store, init, forget, stop, hop, fld, from, load, addr, lit, of-opd, bin, and-then}
+use Rattle.walks.proofs.Prelude.{no-more, assigns, land, again, blocks, exec, first, leaves-loop, loops, goes-on, returns, enter, alloc1, alloc0, params1, pass1, pass0, free1, free0, fmOf, u32, usize, bool, Is, bool-makes, uint-makes, now, sliceTy, sliceVal, Room, owned, nothing, Clauses, onEntry, cited, says, ends-at}
 use types.Kit as Kit
 use types.Run.{land-last}
 use borrow.Author.Tests.{le-ltb, lt-ltb, ltb-false, ltb-true}
 use denote.Enum.Laws as EL
 use denote.Struct.Laws as LL
 use Rattle.constraints.proofs.Constraint as CT
-use Rattle.offsets.proofs.SubsetHead.Laws as DT′
-use Rattle.table.proofs.Header.Laws as HT′
 use Rattle.queries.specs.Queries.{matches}
 use Rattle.sweeping.specs.declared.Question.{Question}
 use Rattle.sweeping.specs.declared.Sweep.{Sweep}
@@ -21,15 +19,14 @@ use Rattle.sweeping.specs.inner.Sweeping.{RowLies, RowNeeded, SweepBegins, Swee
 use Rattle.sweeping.proofs.AnswerSteps.{asked-all}
 use Rattle.sweeping.proofs.SweepSteps.{can-step, finished, next-lies, stepped, steps-less, swept-begin}
 use Rattle.sweeping.proofs.Question as QT
-use Rattle.sweeping.proofs.Question.Laws as QT′
 use Rattle.sweeping.proofs.Sweep as ST
 use Rattle.sweeping.proofs.Sweep.Laws as ST′
 use Rattle.sweeping.proofs.Test as TT
 use Rattle.sweeping.proofs.Test.Laws as TT′
 use Rattle.walks.proofs.Again.{lends, gets-back}
-use Rattle.walks.proofs.Lent.{ConditionsTy, IdsTy, Lent, LentTy, OutTy, OwnConditions, OwnIds, OwnOut, OwnRows, Owns, Ranged, RefTy, Rooms, RowsTy, Slices, Tokens₃, apart, fits, head-typed, head-val, header-typed, header-val, lent-of, lifetimes, out-at, own-head, own-header, own-question, own-sweep, own-test, owns-on, passed-head, passed-header, passed-question, question-typed, question-val, shares, slice-val, slices-off, slices-on, subset, sweep-lands, sweep-settles, sweep-typed, sweep-val, test-typed, test-val, together, tokens-off, tokens-on}
+use Rattle.walks.proofs.Lent.{Lent, OwnConditions, OwnIds, OwnOut, OwnRows, Owns, Ranged, Rooms, Slices, Tokens₃, apart, fits, head-typed, head-val, header-typed, header-val, lent-of, lifetimes, out-at, own-head, own-header, own-question, own-sweep, own-test, owns-on, passed-head, passed-header, passed-question, question-typed, question-val, shares, slice-val, slices-off, slices-on, subset, sweep-lands, sweep-settles, sweep-typed, sweep-val, test-typed, test-val, together, tokens-off, tokens-on}
 use Rattle.walks.proofs.WalkSteps.{Fewer, all-known, fewer-wf, row-matches}
-use Rattle.walks.proofs.Walking.{AllPassed, Asked, Cites, Tokens, Walked, arg, bool-lands, calls, calls-last, kept-slice, lent-slice, stays, walk-runs}
+use Rattle.walks.proofs.Walking.{AllPassed, Asked, Cell, Cells, Cites, Tokens, Walked, arg, bool-lands, calls, calls-last, empty, env-of, holds, kept-slice, lent-slice, stays, walk-runs}
 use Rattle.walks.proofs.all_pass as all
 use Rattle.walks.proofs.all_pass.Symbol as all-def
 use Rattle.walks.proofs.all_pass.Symbol.{name as #walks·all-pass}
@@ -47,6 +44,10 @@ use Rattle.walks.proofs.ask as f
 use Rattle.walks.proofs.ask.Statement as stated
 use Rattle.walks.proofs.ask.Code as code
 use Rattle.walks.proofs.ask.Code.Mir as mir
+
+-- the type of the local that holds the output as it is lent on
+abbrev LentTy : Ty
+LentTy = sliceTy (tyRef erased mut (tyInt w32))
 
 abbrev params : AllPassed (f.ended .signature .params) (f.ended .kept)
 params = (passed-question, (passed-header, (lent-slice u32 0 tt, (passed-head, (lent-slice u32 1 tt, (lent-slice CT.the-row 2 tt, (kept-slice u32 3 tt, tt)))))))
@@ -140,20 +141,15 @@ module _ {M : Type 1} (𝓤 : URA M) (H : Heap 𝓤) (A : Atoms 𝓤) (W : Given
       module _ (𝓣 : Tables 𝓤 H) (known-all : Cites 𝓤 H A all.ended passing (𝓣 .C) #walks·all-pass) (known-open : Cites 𝓤 H A opn.ended opening (𝓣 .C) #sweeping·opening) (known-step : Cites 𝓤 H A stp.ended stepping (𝓣 .C) #sweeping·step)
           (l₀ l₁ l₂ l₃ l₄ l₅ l₆ l₇ l₈ l₉ l₁₀ l₁₁ l₁₂ l₁₃ l₁₄ l₁₅ l₁₆ l₁₇ : ℕ) where
         abbrev E : Env 𝓤 H
-        E = (ST′.mir, l₀) ∷ (QT′.mir, l₁) ∷ (HT′.mir, l₂) ∷ (RowsTy, l₃) ∷ (DT′.mir, l₄) ∷ (IdsTy, l₅) ∷ (ConditionsTy, l₆) ∷ (OutTy, l₇) ∷ (tyBool, l₈) ∷ (ST′.mir, l₉) ∷ (tyBool, l₁₀) ∷ (TT′.mir, l₁₁) ∷ (tyInt w64, l₁₂) ∷ (tyInt w64, l₁₃) ∷ (tyBool, l₁₄) ∷ (TT′.mir, l₁₅) ∷ (RefTy, l₁₆) ∷ (LentTy, l₁₇) ∷ []
+        E = env-of mir.locals (l₀ ∷ l₁ ∷ l₂ ∷ l₃ ∷ l₄ ∷ l₅ ∷ l₆ ∷ l₇ ∷ l₈ ∷ l₉ ∷ l₁₀ ∷ l₁₁ ∷ l₁₂ ∷ l₁₃ ∷ l₁₄ ∷ l₁₅ ∷ l₁₆ ∷ l₁₇ ∷ [])
 
-        -- the locals, the last first, with what is in _9 and _8
-        abbrev Locals : Item 𝓤 → Item 𝓤 → List (Item 𝓤)
-        Locals nine eight = ‵ (froom LentTy l₁₇ 0) ∷ ‵ (fdies LentTy l₁₇) ∷ ‵ (froom RefTy l₁₆ 0) ∷ ‵ (fdies RefTy l₁₆) ∷ ‵ (froom TT′.mir l₁₅ 0) ∷ ‵ (fdies TT′.mir l₁₅) ∷ ‵ (froom tyBool l₁₄ 0) ∷ ‵ (fdies tyBool l₁₄) ∷ ‵ (froom (tyInt w64) l₁₃ 0) ∷ ‵ (fdies (tyInt w64) l₁₃) ∷ ‵ (froom (tyInt w64) l₁₂ 0) ∷ ‵ (fdies (tyInt w64) l₁₂)
-            ∷ ‵ (froom TT′.mir l₁₁ 0) ∷ ‵ (fdies TT′.mir l₁₁) ∷ ‵ (froom tyBool l₁₀ 0) ∷ ‵ (fdies tyBool l₁₀) ∷ nine ∷ ‵ (fdies ST′.mir l₉) ∷ eight ∷ ‵ (fdies tyBool l₈) ∷ ‵ (fat fullShare OutTy l₇ 0 sz) ∷ ‵ (fdies OutTy l₇) ∷ ‵ (fat fullShare ConditionsTy l₆ 0 (slice-val (p .conditions))) ∷ ‵ (fdies ConditionsTy l₆)
-            ∷ ‵ (fat fullShare IdsTy l₅ 0 (slice-val (p .ids))) ∷ ‵ (fdies IdsTy l₅) ∷ ‵ (fat fullShare DT′.mir l₄ 0 (head-val (p .head))) ∷ ‵ (fdies DT′.mir l₄) ∷ ‵ (fat fullShare RowsTy l₃ 0 (slice-val (p .rows))) ∷ ‵ (fdies RowsTy l₃) ∷ ‵ (fat fullShare HT′.mir l₂ 0 (header-val (p .header))) ∷ ‵ (fdies HT′.mir l₂) ∷ ‵ (fat fullShare QT′.mir l₁ 0 (question-val question)) ∷ ‵ (fdies QT′.mir l₁) ∷ ‵ (froom ST′.mir l₀ 0) ∷ ‵ (fdies ST′.mir l₀) ∷ []
+        -- what is held, the output at a list, and the locals, with what is in _8 and _9
+        abbrev Around : List ℕ → Cell → Cell → List (Item 𝓤)
+        Around zs eight nine = Tokens₃ p ∷ Slices p ∷ ‵ (flft κ q) ∷ OutNow zs ∷ Cells 𝓤 E (
+            empty ∷ holds (question-val question) ∷ holds (header-val (p .header)) ∷ holds (slice-val (p .rows)) ∷ holds (head-val (p .head)) ∷ holds (slice-val (p .ids)) ∷ holds (slice-val (p .conditions)) ∷ holds sz ∷ eight ∷ nine ∷ empty ∷ empty ∷ empty ∷ empty ∷ empty ∷ empty ∷ empty ∷ empty ∷ []) []
 
-        -- what is held, the output at a list, and the locals
-        abbrev Around : List ℕ → Item 𝓤 → Item 𝓤 → List (Item 𝓤)
-        Around zs nine eight = Tokens₃ p ∷ Slices p ∷ ‵ (flft κ q) ∷ OutNow zs ∷ Locals nine eight
-
-        abbrev knows : Item 𝓤
-        knows = ‵ (fat fullShare tyBool l₈ 0 (vbool (all-pass Known)))
+        abbrev knows : Cell
+        knows = holds (vbool (all-pass Known))
 
         -- from where the sweep begins
         module _ (s₀ : Sweep) (begun : Begun s₀) where
@@ -181,7 +177,7 @@ module _ {M : Type 1} (𝓤 : URA M) (H : Heap 𝓤) (A : Atoms 𝓤) (W : Given
               nothing ! $ move ! (4 ∷ 0 ∷ []) $ join ! $ move ! (3 ∷ 0 ∷ []) $ join ! $ move ! (2 ∷ 0 ∷ []) $ join ! $ join ! $ done !
 
           abbrev I : State → List (Item 𝓤)
-          I t = Around (t .1 .0) (‵ (fat fullShare ST′.mir l₉ 0 (sweep-val (at t)))) knows
+          I t = Around (t .1 .0) knows (holds (sweep-val (at t)))
 
           -- what is to hold where a turn ends
           abbrev Turned : State → Kit.Post 𝓤 H
@@ -238,7 +234,7 @@ module _ {M : Type 1} (𝓤 : URA M) (H : Heap 𝓤) (A : Atoms 𝓤) (W : Given
           sweeps is-s = first ! $ blocks ! $ loops ! 𝓣 Nearer (fewer-wf State at) I (λ t. turn (t .0) (t .1 .0) (t .1 .1) (ltb (t .0 .next) (t .0 .end)) refl) (s₀, (os, (swept-begin (p .header) rows (subset p) test s₀ os can, (refl, is-s))))
 
         -- whether the conditions are known is told: `opening`
-        opens : Sq W (Around os (‵ (froom ST′.mir l₉ 0)) knows) (runs (𝓣 .C) (𝓣 .Λ) E mir.t-3 (atRet E Post))
+        opens : Sq W (Around os knows empty) (runs (𝓣 .C) (𝓣 .Λ) E mir.t-3 (atRet E Post))
         opens =
             assigns ! (of-opd ! (load ! (from ! (fld ! refl (stop !))) (look-in ! 32 (sub ! 1 refl (whole !))))) (from ! (stop !)) (init ! 14 refl (tt, record { fits = rooms .0 .0 })) $
             assigns ! (of-opd ! (load ! (from ! (fld ! refl (stop !))) (look-in ! 24 (sub ! 1 refl (whole !))))) (from ! (stop !)) (init ! 12 refl (tt, record { fits = room .0 })) $
@@ -249,7 +245,7 @@ module _ {M : Type 1} (𝓤 : URA M) (H : Heap 𝓤) (A : Atoms 𝓤) (W : Given
             land ! (from ! (stop !)) (init ! 20 refl (sweep-typed W s is-s)) $ forget ! 12 refl $ forget ! 14 refl $ sweeps s begun is-s))
 
         -- the body: `all_pass`
-        begins : Sq W (Around os (‵ (froom ST′.mir l₉ 0)) (‵ (froom tyBool l₈ 0))) (runs (𝓣 .C) (𝓣 .Λ) E mir.t-1 (atRet E Post))
+        begins : Sq W (Around os empty empty) (runs (𝓣 .C) (𝓣 .Λ) E mir.t-1 (atRet E Post))
         begins =
             assigns ! (agg ! (and-then ! (lit ! tt) (no-more !))) (from ! (stop !)) (init ! 16 refl (test-typed W Known is-t)) $
             calls-all Known is-t tt ! 𝓣 known-all (arg ! 17 refl (arg ! 35 refl (arg ! 33 refl (arg ! 27 refl (no-more !))))) (land ! (from ! (stop !)) (init ! 22 refl (tt, tt)) $ forget ! 16 refl $ opens)
