@@ -9,8 +9,8 @@ use Rattle.sweeping.specs.inner.Sweeping.{SweepAnswered}
 use Rattle.sweeping.proofs.Question as QT
 use Rattle.sweeping.proofs.Sweep as ST
 use Rattle.walks.proofs.Again.{LentAgain, lends, gets-back}
-use Rattle.walks.proofs.Lent.{Lent, OwnOut, Ranged, Slices, Tokens₃, header-val, head-val, lifetimes, out-at, own-question, question-val, shares, slice-val, slices-on, slices-twice, subset, sweep-lands, sweep-val, tokens-off, tokens-on}
-use Rattle.walks.proofs.Walking.{Asked, Cites, calls}
+use Rattle.walks.proofs.Lent.{Lent, OwnOut, Ranged, Slices, Tokens₃, head-val, header-val, lifetimes, out-at, question-val, questions, shares, slice-val, slices-on, slices-twice, subset, sweep-lands, sweep-val, tokens-off, tokens-on}
+use Rattle.walks.proofs.Walking.{Asked, Cites, calls, own}
 use Rattle.walks.proofs.ask as ask
 use Rattle.walks.proofs.ask.Symbol.{name as #walks·ask}
 
@@ -39,7 +39,7 @@ module _ {M : Type 1} (𝓤 : URA M) (H : Heap 𝓤) (A : Atoms 𝓤) (mem : Mem
     module _ (W : Given 𝓤 H A) (is-q : Is QT.the-row question (question-val question ∷ [])) (is : Ranged p) where
       can-ask : (κ : Lft) (q : Share) (z : RefT (List ℕ)) → ent 𝓤 (⋆ 𝓤 H A (Tokens₃ p ∷ Slices p ∷ ‵ (flft κ q) ∷ ‵ (OwnOut κ z (slice-val z)) ∷ [])) (Asked 𝓤 H A ask.ended asking .pre (to-ask κ q z))
       can-ask κ q z =
-          qed W (Tokens₃ p ∷ Slices p ∷ ‵ (flft κ q) ∷ ‵ (OwnOut κ z (slice-val z)) ∷ []) ∵ nothing ! $ move ! (4 ∷ 0 ∷ []) $ fjoin ! $ move ! (2 ∷ 0 ∷ []) $ slices-on p ! is $ own-question ! question is-q $ fjoin ! $
+          qed W (Tokens₃ p ∷ Slices p ∷ ‵ (flft κ q) ∷ ‵ (OwnOut κ z (slice-val z)) ∷ []) ∵ nothing ! $ move ! (4 ∷ 0 ∷ []) $ fjoin ! $ move ! (2 ∷ 0 ∷ []) $ slices-on p ! is $ own ! questions question is-q $ fjoin ! $
           nothing ! $ move ! (3 ∷ 0 ∷ []) $ join ! $ move ! (2 ∷ 0 ∷ []) $ tokens-on p ! $ join ! $ frame ! $ done !
 
       module _ {K : Type 0} {Γ : List (Item 𝓤)} {E : Env 𝓤 H} {C : Calls 𝓤 H} {Λ : Loops 𝓤 H} {post : Post 𝓤 H} {d : Place} {xs : List Operand} {rest : Body} where

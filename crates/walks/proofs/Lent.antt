@@ -1,11 +1,10 @@
 -- What a question is lent and passes on: a table's header and rows, a subset's head and ids, and conditions; and the output, that comes and goes. Their
 -- machine values, what owning them is, and the steps by which a walk makes what a call is asked of them. Assumes `Given`.
-use Rattle.walks.proofs.Prelude.{refl, ap, subst, ℕ, _<_, _^_, List, [], _∷_, length, URA, Body, Place, named, w64, Val, Lft, Share, GName, Fml, fsep, flft, Heap, Calls, Env, Loops, Atoms, Given, Goal, Item}
-use Rattle.walks.proofs.Prelude.{Post, Seq, Step, lands, regoal, settles, step, ‵, _⊛_, _$_, move, drop, split, join, fsplit, fjoin, u32, yes, Is, shows, RefT, now, plain, sliceVal, ShrSlice, MutSlice, Room, facts, owned, only}
-use lib.Dec.{T as Holds}
+use Rattle.walks.proofs.Prelude.{refl, ap, subst, ℕ, _<_, _^_, List, [], _∷_, length, URA, Body, Place, named, w64, Val, vint, Lft, Share, GName, Fml, fsep, flft, Heap, Calls, Env, Loops, Atoms, Given, Goal}
+use Rattle.walks.proofs.Prelude.{Item, Post, Seq, Step, lands, regoal, settles, step, ‵, _⊛_, _$_, move, drop, split, join, fsplit, fjoin, u32, Is, shows, uint-makes, RefT, now, sliceVal, ShrSlice, MutSlice, Room, facts, only}
 use package.mir.Syntax.{Width}
-use package.mir.Val.{Fits, WT, hasTy}
-use denote.Plain.{UInt, uint-tells, uint-vals}
+use package.mir.Val.{Fits}
+use denote.Plain.{UInt, uint-lawful, uint-tells}
 use denote.Enum.Laws as EL
 use denote.Struct.Laws as LL
 use Rattle.constraints.specs.declared.Constraint.{Constraint}
@@ -27,24 +26,26 @@ use Rattle.sweeping.proofs.Question as QT
 use Rattle.sweeping.proofs.Question.Laws as QT′
 use Rattle.sweeping.proofs.Test as TT
 use Rattle.sweeping.proofs.Test.Laws as TT′
-use Rattle.walks.proofs.Walking.{Passed, by-value, twice}
+use Rattle.walks.proofs.Walking.{Value, own, twice}
 
--- the parameters that are passed by value
-module _ {n : ℕ} where
-  abbrev pub passed-header : Passed {n = n} (plain (λ _. HT.the-row)) yes
-  passed-header = by-value HT.the-row (LL.vals HT.the-type HT′.the-laws) (LL.tells HT.the-type HT′.the-laws) (λ x f. refl)
+-- the types of plain values that are passed
+abbrev pub headers : Value
+headers = record { row = HT.the-row; val = LL.val HT.the-type HT′.the-laws; tells = LL.tells HT.the-type HT′.the-laws; silent = λ x f. refl; makes = λ 𝓤 H A W. LL.makes HT.the-type HT′.the-plain 𝓤 H A; lawful = λ 𝓤 H A W. LL.lawful HT.the-type HT′.the-laws 𝓤 H A W }
 
-  abbrev pub passed-head : Passed {n = n} (plain (λ _. DT.the-row)) yes
-  passed-head = by-value DT.the-row (LL.vals DT.the-type DT′.the-laws) (LL.tells DT.the-type DT′.the-laws) (λ x f. refl)
+abbrev pub heads : Value
+heads = record { row = DT.the-row; val = LL.val DT.the-type DT′.the-laws; tells = LL.tells DT.the-type DT′.the-laws; silent = λ x f. refl; makes = λ 𝓤 H A W. LL.makes DT.the-type DT′.the-plain 𝓤 H A; lawful = λ 𝓤 H A W. LL.lawful DT.the-type DT′.the-laws 𝓤 H A W }
 
-  abbrev pub passed-question : Passed {n = n} (plain (λ _. QT.the-row)) yes
-  passed-question = by-value QT.the-row (EL.vals QT.the-type QT′.the-laws) (EL.tells QT.the-type QT′.the-laws) (λ x f. refl)
+abbrev pub sweeps : Value
+sweeps = record { row = ST.the-row; val = LL.val ST.the-type ST′.the-laws; tells = LL.tells ST.the-type ST′.the-laws; silent = λ x f. refl; makes = λ 𝓤 H A W. LL.makes ST.the-type ST′.the-plain 𝓤 H A; lawful = λ 𝓤 H A W. LL.lawful ST.the-type ST′.the-laws 𝓤 H A W }
 
-  abbrev pub passed-test : Passed {n = n} (plain (λ _. TT.the-row)) yes
-  passed-test = by-value TT.the-row (EL.vals TT.the-type TT′.the-laws) (EL.tells TT.the-type TT′.the-laws) (λ x f. refl)
+abbrev pub questions : Value
+questions = record { row = QT.the-row; val = EL.val QT.the-type QT′.the-laws; tells = EL.tells QT.the-type QT′.the-laws; silent = λ x f. refl; makes = λ 𝓤 H A W. EL.makes QT.the-type QT′.the-plain 𝓤 H A; lawful = λ 𝓤 H A W. EL.lawful QT.the-type QT′.the-laws 𝓤 H A W tt }
 
-  abbrev pub passed-uint : (w : Width) → Passed {n = n} (plain (λ _. UInt w)) yes
-  passed-uint w = by-value (UInt w) (uint-vals w) (uint-tells w) (λ x f. refl)
+abbrev pub tests : Value
+tests = record { row = TT.the-row; val = EL.val TT.the-type TT′.the-laws; tells = EL.tells TT.the-type TT′.the-laws; silent = λ x f. refl; makes = λ 𝓤 H A W. EL.makes TT.the-type TT′.the-plain 𝓤 H A; lawful = λ 𝓤 H A W. EL.lawful TT.the-type TT′.the-laws 𝓤 H A W tt }
+
+abbrev pub numbers : Width → Value
+numbers w = record { row = UInt w; val = vint w; tells = uint-tells w; silent = λ x f. refl; makes = λ 𝓤 H A W. uint-makes 𝓤 H A W w; lawful = λ 𝓤 H A W. uint-lawful 𝓤 H A W w }
 
 pub record Lent : Type 0 where
   pub κ₀ : Lft
@@ -80,39 +81,6 @@ head-val head = DT′.lowered head
 
 abbrev pub test-val : Test → Val
 test-val test = EL.val TT.the-type TT′.the-laws test
-
--- values in range: of their types, and owned for nothing
-module _ {M : Type 1} {𝓤 : URA M} {H : Heap 𝓤} {A : Atoms 𝓤} (W : Given 𝓤 H A) where
-  pub header-typed : (h : Header) → Is HT.the-row h (header-val h ∷ []) → Holds (hasTy HT′.mir (header-val h)) × WT (header-val h)
-  header-typed h is = LL.lawful HT.the-type HT′.the-laws 𝓤 H A W .typed h _ is .0
-
-  pub head-typed : (head : SubsetHead) → Is DT.the-row head (head-val head ∷ []) → Holds (hasTy DT′.mir (head-val head)) × WT (head-val head)
-  head-typed head is = LL.lawful DT.the-type DT′.the-laws 𝓤 H A W .typed head _ is .0
-
-  pub test-typed : (test : Test) → Is TT.the-row test (test-val test ∷ []) → Holds (hasTy TT′.mir (test-val test)) × WT (test-val test)
-  test-typed test is = EL.lawful TT.the-type TT′.the-laws 𝓤 H A W tt .typed test _ is .0
-
-  pub sweep-typed : (s : Sweep) → Is ST.the-row s (sweep-val s ∷ []) → Holds (hasTy ST′.mir (sweep-val s)) × WT (sweep-val s)
-  sweep-typed s is = LL.lawful ST.the-type ST′.the-laws 𝓤 H A W .typed s _ is .0
-
-  pub question-typed : (question : Question) → Is QT.the-row question (question-val question ∷ []) → Holds (hasTy QT′.mir (question-val question)) × WT (question-val question)
-  question-typed question is = EL.lawful QT.the-type QT′.the-laws 𝓤 H A W tt .typed question _ is .0
-
-module _ {M : Type 1} {𝓤 : URA M} {H : Heap 𝓤} {A : Atoms 𝓤} {K : Type 0} {W : Given 𝓤 H A} {Γ : List (Item 𝓤)} {G : Goal 𝓤 H} where
-  pub own-header : K → (h : Header) → Is HT.the-row h (header-val h ∷ []) → Step K W (‵ (HT.the-row .own h (header-val h ∷ [])) ∷ Γ) G Γ G
-  own-header t h is = owned t HT.the-row (Is HT.the-row) (LL.makes HT.the-type HT′.the-plain 𝓤 H A) h _ is
-
-  pub own-head : K → (head : SubsetHead) → Is DT.the-row head (head-val head ∷ []) → Step K W (‵ (DT.the-row .own head (head-val head ∷ [])) ∷ Γ) G Γ G
-  own-head t head is = owned t DT.the-row (Is DT.the-row) (LL.makes DT.the-type DT′.the-plain 𝓤 H A) head _ is
-
-  pub own-test : K → (test : Test) → Is TT.the-row test (test-val test ∷ []) → Step K W (‵ (TT.the-row .own test (test-val test ∷ [])) ∷ Γ) G Γ G
-  own-test t test is = owned t TT.the-row (Is TT.the-row) (EL.makes TT.the-type TT′.the-plain 𝓤 H A) test _ is
-
-  pub own-sweep : K → (s : Sweep) → Is ST.the-row s (sweep-val s ∷ []) → Step K W (‵ (ST.the-row .own s (sweep-val s ∷ [])) ∷ Γ) G Γ G
-  own-sweep t s is = owned t ST.the-row (Is ST.the-row) (LL.makes ST.the-type ST′.the-plain 𝓤 H A) s _ is
-
-  pub own-question : K → (question : Question) → Is QT.the-row question (question-val question ∷ []) → Step K W (‵ (QT.the-row .own question (question-val question ∷ [])) ∷ Γ) G Γ G
-  own-question t question is = owned t QT.the-row (Is QT.the-row) (EL.makes QT.the-type QT′.the-plain 𝓤 H A) question _ is
 
 module _ (p : Lent) where
   abbrev pub subset : Subset
@@ -155,7 +123,7 @@ module _ (p : Lent) where
 
   module _ {M : Type 1} {𝓤 : URA M} {H : Heap 𝓤} {A : Atoms 𝓤} {K : Type 0} {W : Given 𝓤 H A} {Γ : List (Item 𝓤)} {G : Goal 𝓤 H} where
     pub owns-on : K → Ranged → {rest : Fml} → Step K W (‵ (Owns rest) ∷ Γ) G (‵ OwnRows ∷ ‵ OwnIds ∷ ‵ rest ∷ Γ) G
-    owns-on t is = step (λ s. move t (1 ∷ 2 ∷ []) $ fjoin t $ own-head t (p .head) (is .1) $ fjoin t $ move t (1 ∷ 0 ∷ []) $ fjoin t $ own-header t (p .header) (is .0) $ fjoin t $ s)
+    owns-on t is = step (λ s. move t (1 ∷ 2 ∷ []) $ fjoin t $ own t heads (p .head) (is .1) $ fjoin t $ move t (1 ∷ 0 ∷ []) $ fjoin t $ own t headers (p .header) (is .0) $ fjoin t $ s)
 
     pub owns-off : K → {rest : Fml} → Step K W (‵ OwnRows ∷ ‵ OwnIds ∷ ‵ rest ∷ Γ) G (‵ (Owns rest) ∷ Γ) G
     owns-off t = step (λ s. fsplit t $ drop t $ fsplit t $ move t (1 ∷ []) $ fsplit t $ drop t $ fsplit t $ move t (2 ∷ 0 ∷ 1 ∷ []) $ s)

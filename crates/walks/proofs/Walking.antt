@@ -7,11 +7,12 @@
 --     bool-lands             a call's result that is known to be a truth value lands
 --     calls, calls-last      a call: what it is asked stands at the head of the context; then come its tokens, its result and the last values of what it was
 --                            lent, and what its contract says is learned
+--     Value, typed, own      types of plain values: their machine values are of their types, and owned for nothing
 --     Passed s k             all that a walk is to know of a parameter: what is had of it at exit, and its machine values.       by-value, lent-slice, kept-slice, given-slice      the kinds
 --     walk-runs              from the walk of a function's MIR to its theorem
 -- Assumes `Given`.
-use Rattle.walks.proofs.Prelude.{_≡_, refl, ap, _∙_, ℕ, Bool, List, [], _∷_, URA, fullShare, Body, Place, Ty, Operand, call, seq, Val, vbool, SProp, ent, id⊢, Lft, Share, ftrue, flft, fat, froom, fdies, Heap, Calls, Env, Loops, WpFn, Atoms, Fun, givenOf, tables, tablesOf, Given}
-use Rattle.walks.proofs.Prelude.{Goal, Item, Post, Seq, Step, lands, regoal, runs, settles, step, ‵, raw, _⊛_, some, later, _$_, move, use1, split, pick, await, Opds, look, stop, from, load, and-then, FmC, bool, yes, Is, shows, RattleType, RefT, plain, ShrSlice, facts, only, Clauses, onEntry}
+use Rattle.walks.proofs.Prelude.{_≡_, refl, ap, _∙_, ℕ, Bool, List, [], _∷_, URA, fullShare, Body, Place, Ty, Operand, call, seq, Val, vbool, SProp, ent, id⊢, Lft, Share, ftrue, flft, fat, froom, fdies, Heap, Calls, Env, Loops, WpFn, Atoms, Fun, givenOf, tables, tablesOf, Given, Goal}
+use Rattle.walks.proofs.Prelude.{Item, Post, Seq, Step, lands, regoal, runs, settles, step, ‵, raw, _⊛_, some, later, _$_, move, use1, split, pick, await, Opds, look, stop, from, load, and-then, FmC, bool, yes, Is, shows, RattleType, RefT, plain, ShrSlice, facts, owned, only, Clauses, onEntry}
 use Prim.Native.Nat.{zero, suc}
 use mir.Syntax.{Fn, Lifetime, Local, local, place, copy}
 use base.Logic.{sep}
@@ -25,7 +26,7 @@ use sound.WpLaws.{WpFn-mono}
 use types.Kit.{Soaks, mean, nth, recast}
 use denote.Exit.{Kept, Last, left}
 use denote.RattleType.{flat}
-use denote.Laws.{Are, Ises, Spells, Tells, Tellss, valss}
+use denote.Laws.{Are, Ises, Lawful, Makes, Spells, Tells, Tellss, Typed, valss}
 use denote.Signature.{Slot, AllWithin, meetAt, mutSliceOf, nameOf, shrSliceOf, typeAt, typesAt}
 use denote.Slice.{slice-vals, shr-slice-copy, shr-slice-tells, mut-slice-tells}
 use denote.Steps.{heard}
@@ -109,6 +110,21 @@ module _ {M : Type 1} {𝓤 : URA M} {H : Heap 𝓤} {A : Atoms 𝓤} {K : Type 
           → ((w : Val) (r : Res (T .signature) (y .0 .0)) (ws : Lasts T (y .0 .0) (y .0 .3)) → φ r ws → Seq K W (Back 𝓤 H A T c y w r ws Γ) (settles E d w q)) → Seq K W (raw (Asked 𝓤 H A T c .pre y) ∷ Γ) (runs C Λ E (call f xs d) q)
       calls-last t fm known os k = calls-at-last t fm (Asked 𝓤 H A T c) known y os (λ w. answers t tt w (k w))
 
+-- a type of plain values: one machine value for each, which is owned for nothing if it is in range
+pub record Value : Type 3 where
+  pub row : RattleType
+  pub val : row .Denot → Val
+  pub tells : Tells row (Is row) (λ x. val x ∷ [])
+  pub silent : (x : row .Denot) (f : Last (row .exit yes) x) → left (row .exit yes) x f ≡ ftrue
+  pub makes : {M : Type 1} (𝓤 : URA M) (H : Heap 𝓤) (A : Atoms 𝓤) → Given 𝓤 H A → Makes 𝓤 H A row (Is row)
+  pub lawful : {M : Type 1} (𝓤 : URA M) (H : Heap 𝓤) (A : Atoms 𝓤) → Given 𝓤 H A → Lawful 𝓤 H A row
+
+pub typed : {M : Type 1} {𝓤 : URA M} {H : Heap 𝓤} {A : Atoms 𝓤} (W : Given 𝓤 H A) (S : Value) (x : S .row .Denot) → Is (S .row) x (S .val x ∷ []) → Typed (S .row .mir) (S .val x ∷ [])
+typed {𝓤 = 𝓤} {H = H} {A = A} W S x is = S .lawful 𝓤 H A W .typed x (S .val x ∷ []) is
+
+pub own : {M : Type 1} {𝓤 : URA M} {H : Heap 𝓤} {A : Atoms 𝓤} {K : Type 0} {W : Given 𝓤 H A} {Γ : List (Item 𝓤)} {G : Goal 𝓤 H} → K → (S : Value) (x : S .row .Denot) → Is (S .row) x (S .val x ∷ []) → Step K W (‵ (S .row .own x (S .val x ∷ [])) ∷ Γ) G Γ G
+own {𝓤 = 𝓤} {H = H} {A = A} {W = W} t S x is = owned t (S .row) (Is (S .row)) (S .makes 𝓤 H A W) x (S .val x ∷ []) is
+
 module _ {n : ℕ} where
   pub record Passed (s : Slot n) (k : Kept) : Type 3 where
     pub stay : Stay s k
@@ -116,8 +132,8 @@ module _ {n : ℕ} where
     pub vals : (κs : Lfts n) → s .row κs .Denot → List Val
     pub tells : (κs : Lfts n) → Tells (s .row κs) (Is (s .row κs)) (vals κs)
 
-  abbrev pub by-value : (R : RattleType) (vals : R .Denot → List Val) → Tells R (Is R) vals → ((x : R .Denot) (f : Last (R .exit yes) x) → left (R .exit yes) x f ≡ ftrue) → Passed (plain (λ _. R)) yes
-  by-value R vals tells silent = record { stay = stay-none (λ _. R) yes; goes = λ 𝓤 H A W. goes-none 𝓤 H A W n (λ _. R) yes (λ _. silent); vals = λ _. vals; tells = λ _. tells }
+  abbrev pub by-value : (S : Value) → Passed (plain (λ _. S .row)) yes
+  by-value S = record { stay = stay-none (λ _. S .row) yes; goes = λ 𝓤 H A W. goes-none 𝓤 H A W n (λ _. S .row) yes (λ _. S .silent); vals = λ _ x. S .val x ∷ []; tells = λ _. S .tells }
 
   module _ (R : RattleType) (j : ℕ) (ok : AllWithin n (j ∷ [])) where
     abbrev slot : Slot n

@@ -1,8 +1,8 @@
 -- `condition_lists::refine_first` meets its contract: a walk of its MIR, by hand. The array is copied to a local, whose first
 -- conditions are lent for a lifetime that the walk makes; out is given up to the question. Assumes nothing.
-use Rattle.walks.proofs.Prelude.{_≡_, refl, sym, ℕ, _≤_, List, [], _∷_, lit<, length, URA, fullShare, Ty, erased, imm, named, tyRef, w64, Val, vint, SProp, ent, id⊢, Lft, Share, GName, flft, fat, froom, Memory, Routine, Heap, Tables, WpFn, Atoms, Fun, givenOf, tables, tablesOf, Given}
-use Rattle.walks.proofs.Prelude.{‵, raw, _⊛_, ⋆, some, later, _$_, _∵_, !, qed, move, keep, drop, group, use1, use2, split, join, pick, rewrite, fsplit, fjoin, feqL, suffices, frame, await, done, agg, whole, sub, look-in, look, init, forget, stop, hop, fld, from, load, addr}
-use Rattle.walks.proofs.Prelude.{of-opd, and-then, no-more, assigns, land, returns, enter, alloc1, alloc0, params1, pass1, pass0, free1, free0, lft-new, lft-end, fmOf, u32, usize, Is, shows, pointee, uint-makes, RattleType, RefT, now, sliceTy, sliceVal, Room, peeks, owned, nothing, only, Clauses, onEntry, cited, says, needs, ends-at}
+use Rattle.walks.proofs.Prelude.{_≡_, refl, sym, ℕ, _≤_, List, [], _∷_, lit<, length, URA, fullShare, Ty, erased, imm, named, tyRef, w64, Val, vint, SProp, ent, id⊢, Lft, Share, GName, flft, fat, froom, Memory, Routine, Heap, Tables, WpFn, Atoms, Fun, givenOf, tables, tablesOf}
+use Rattle.walks.proofs.Prelude.{Given, ‵, raw, _⊛_, ⋆, some, later, _$_, _∵_, !, qed, move, keep, drop, group, use1, use2, split, join, pick, rewrite, fsplit, fjoin, feqL, suffices, frame, await, done, agg, whole, sub, look-in, look, init, forget, stop, hop, fld, from}
+use Rattle.walks.proofs.Prelude.{load, addr, of-opd, and-then, no-more, assigns, land, returns, enter, alloc1, alloc0, params1, pass1, pass0, free1, free0, lft-new, lft-end, fmOf, u32, usize, Is, shows, pointee, RattleType, RefT, now, sliceTy, sliceVal, Room, peeks, nothing, only, Clauses, onEntry, cited, says, needs, ends-at}
 use lib.ListN.{take}
 use lib.Seq.{length-take-le}
 use native.Mathlib.Omega.{arith}
@@ -24,8 +24,8 @@ use Rattle.offsets.proofs.SubsetHead as DT
 use Rattle.table.specs.declared.Header.{Header}
 use Rattle.table.proofs.Header as HT
 use Rattle.queries.specs.Queries.{RefinedList}
-use Rattle.walks.proofs.Lent.{Lent, OwnOut, Ranged, Slices, Tokens₃, fits, head-typed, head-val, header-typed, header-val, lifetimes, owns-off, owns-on, passed-head, passed-header, passed-uint, shares, slice-val, slices-on, slices-twice, together, tokens-off, tokens-on}
-use Rattle.walks.proofs.Walking.{AllPassed, Asked, Cites, Tokens, Walked, arg, by-value, calls, given-slice, lent-slice, stays, walk-runs}
+use Rattle.walks.proofs.Lent.{Lent, OwnOut, Ranged, Slices, Tokens₃, fits, head-val, header-val, headers, heads, lifetimes, numbers, owns-off, owns-on, shares, slice-val, slices-on, slices-twice, together, tokens-off, tokens-on}
+use Rattle.walks.proofs.Walking.{AllPassed, Asked, Cites, Tokens, Value, Walked, arg, by-value, calls, given-slice, lent-slice, own, stays, typed, walk-runs}
 use Rattle.questions.proofs.refine_ref as ask
 use Rattle.questions.proofs.refine_ref.Symbol as ask-def
 use Rattle.questions.proofs.refine_ref.Symbol.{name as #questions·refine-ref}
@@ -47,8 +47,11 @@ FrontTy = sliceTy (tyRef erased imm (pointee (CT.the-row .written)))
 abbrev vals : List Constraint → List Val
 vals = array-vals (LL.vals CT.the-type CT′.the-laws)
 
+abbrev arrays : Value
+arrays = record { row = Arr; val = λ cs. only (vals cs); tells = array-tells CT.the-row (LL.vals CT.the-type CT′.the-laws) (LL.tells CT.the-type CT′.the-laws) 16; silent = λ x f. refl; makes = λ 𝓤 H A W. array-makes 𝓤 H A W CT.the-row (LL.makes CT.the-type CT′.the-plain 𝓤 H A) 16; lawful = λ 𝓤 H A W. array-lawful 𝓤 H A W CT.the-row (LL.lawful CT.the-type CT′.the-laws 𝓤 H A W) 16 }
+
 abbrev params : AllPassed (f.ended .signature .params) (f.ended .kept)
-params = (passed-header, (lent-slice u32 0 tt, (passed-head, (lent-slice u32 1 tt, (by-value Arr vals (array-tells CT.the-row (LL.vals CT.the-type CT′.the-laws) (LL.tells CT.the-type CT′.the-laws) 16) (λ x f. refl), (passed-uint w64, (given-slice u32 2 tt, tt)))))))
+params = (by-value headers, (lent-slice u32 0 tt, (by-value heads, (lent-slice u32 1 tt, (by-value arrays, (by-value (numbers w64), (given-slice u32 2 tt, tt)))))))
 
 module _ {M : Type 1} (𝓤 : URA M) (H : Heap 𝓤) (A : Atoms 𝓤) (W : Given 𝓤 H A) (mem : Memory → SProp 𝓤) (run : Routine → Fun 𝓤)
     (κ₀ κ₁ κ : Lft) (q₀ q₁ q : Share) (h : Header) (rows : RefT (List ℕ)) (head : SubsetHead) (ids : RefT (List ℕ)) (cs : List Constraint) (k : ℕ) (z : RefT (List ℕ)) where
@@ -85,17 +88,17 @@ module _ {M : Type 1} (𝓤 : URA M) (H : Heap 𝓤) (A : Atoms 𝓤) (W : Given
     walk : (𝓣 : Tables 𝓤 H) → Cites 𝓤 H A ask.ended asking (𝓣 .C) #questions·refine-ref → Room u32 (length (now rows)) → Room u32 (length (now ids)) → Room u32 (length (now z))
         → ent 𝓤 (onEntry 𝓤 H A f.signature (y .0 .0) (y .0 .1) (y .0 .3) (y .0 .4)) (WpFn 𝓤 H (𝓣 .C) (𝓣 .Λ) code.function (Walked f.ended params 𝓤 H A clauses .args y) (Walked f.ended params 𝓤 H A clauses .post y))
     walk 𝓣 known room-rows room-ids room =
-        let wt = array-lawful 𝓤 H A W CT.the-row (LL.lawful CT.the-type CT′.the-laws 𝓤 H A W) 16 .typed cs _ is-c .0 in
+        let wt = typed W arrays cs is-c .0 in
         qed W (Tokens 𝓤 H A 3 (y .0 .0) (y .0 .1) ∷ ‵ (owns (typesAt (f.signature .params) (y .0 .0)) (y .0 .3) (y .0 .4)) ∷ []) ∵ enter ! (𝓣 .C) (𝓣 .Λ) code.function (Walked f.ended params 𝓤 H A clauses .args y) _ $
         alloc1 ! (λ l₀. alloc1 ! (λ l₁. alloc1 ! (λ l₂. alloc1 ! (λ l₃. alloc1 ! (λ l₄. alloc1 ! (λ l₅. alloc1 ! (λ l₆. alloc1 ! (λ l₇. alloc1 ! (λ l₈. alloc1 ! (λ l₉. alloc1 ! (λ l₁₀. alloc1 ! (λ l₁₁. alloc1 ! (λ l₁₂. alloc0 ! $ params1 ! $
-        pass1 ! (init ! 22 refl (header-typed W h (is .0))) $ pass1 ! (init ! 20 refl (fits (room-rows .0))) $ pass1 ! (init ! 18 refl (head-typed W head (is .1))) $ pass1 ! (init ! 16 refl (fits (room-ids .0))) $ pass1 ! (init ! 14 refl wt) $ pass1 ! (init ! 12 refl (tt, record { fits = is-k .1 })) $ pass1 ! (init ! 10 refl (fits (room .0))) $ pass0 ! $
+        pass1 ! (init ! 22 refl (typed W headers h (is .0) .0)) $ pass1 ! (init ! 20 refl (fits (room-rows .0))) $ pass1 ! (init ! 18 refl (typed W heads head (is .1) .0)) $ pass1 ! (init ! 16 refl (fits (room-ids .0))) $ pass1 ! (init ! 14 refl wt) $ pass1 ! (init ! 12 refl (tt, record { fits = is-k .1 })) $ pass1 ! (init ! 10 refl (fits (room .0))) $ pass0 ! $
         -- the array is copied, the slice of its first conditions made, and out lent on
         assigns ! (of-opd ! (load ! (from ! (stop !)) (look ! 14 refl))) (from ! (stop !)) (init ! 8 refl wt) $
         assigns ! (addr ! (from ! (stop !))) (from ! (stop !)) (init ! 6 refl (tt, tt)) $
         assigns ! (agg ! (arg ! 6 refl (arg ! 12 refl (no-more !)))) (from ! (stop !)) (init ! 4 refl (fits (is-k .1))) $ rewrite ! 4 (λ (j : ℕ). ‵ (fat fullShare FrontTy l₁₀ 0 (sliceVal (l₈, 0) j))) (sym counted) refl $
         assigns ! (addr ! (from ! (fld ! refl (hop ! (look-in ! 10 (sub ! 0 refl (whole !))) (stop !))))) (from ! (stop !)) (init ! 2 refl (tt, tt)) $
         assigns ! (agg ! (arg ! 2 refl (and-then ! (load ! (from ! (fld ! refl (stop !))) (look-in ! 10 (sub ! 1 refl (whole !)))) (no-more !)))) (from ! (stop !)) (init ! 0 refl (fits (room .0))) $
-        lft-new ! tt (λ ν. owned ! Arr (Is Arr) (array-makes 𝓤 H A W CT.the-row (LL.makes CT.the-type CT′.the-plain 𝓤 H A) 16) cs _ is-c $
+        lft-new ! tt (λ ν. own ! arrays cs is-c $
         move ! (10 ∷ []) $ use2 W (later (some (λ (γ : GName). ‵ (LentFront CT.the-row k l₈ cs 𝓤 H A W 16 (named 2) (ν ∷ []) γ) ⊛ ‵ (Kept CT.the-row k l₈ cs (ν ∷ []))))) (lends-front CT.the-row k l₈ cs 𝓤 H A W 16 (named 2) (ν ∷ []) (only (vals cs)) tt (lit< tt, lit< tt)) $ await ! tt $ pick ! (λ γ. split ! $
         -- [the first conditions; what is kept; ν's token; _12; …; the tokens; what the parameters own]
         move ! (29 ∷ []) $ owns-off (p ν l₈ γ) ! $ move ! (2 ∷ []) $ fsplit ! $ drop ! $ fsplit ! $ drop ! $ fsplit ! $ move ! (3 ∷ 4 ∷ []) $ join ! $ move ! (3 ∷ 0 ∷ []) $ join ! $ slices-twice (p ν l₈ γ) ! $
@@ -116,7 +119,7 @@ module _ {M : Type 1} (𝓤 : URA M) (H : Heap 𝓤) (A : Atoms 𝓤) (W : Given
         suffices ! _ (ends-at 𝓤 H A f.ended (stays (f.ended .signature .params) (f.ended .kept) params) clauses W y w r (tt, (tt, (tt, (tt, (tt, (tt, (zs .1 .1 .1 .1 .1 .0, tt))))))) (tt, (tt, (tt, (tt, (tt, (tt, (l, tt)))))))) $ says ! e $
         move ! (0 ∷ 2 ∷ []) $ join ! $ move ! (1 ∷ 0 ∷ []) $ join ! $ frame ! $
         -- [the result; the last list; true; true; what is lent as `&`; true]
-        move ! (1 ∷ 2 ∷ []) $ fjoin ! $ owned ! usize (Is usize) (uint-makes 𝓤 H A W w64) k _ is-k $ fjoin ! $ owned ! Arr (Is Arr) (array-makes 𝓤 H A W CT.the-row (LL.makes CT.the-type CT′.the-plain 𝓤 H A) 16) cs _ is-c $ fjoin ! $
+        move ! (1 ∷ 2 ∷ []) $ fjoin ! $ own ! (numbers w64) k is-k $ fjoin ! $ own ! arrays cs is-c $ fjoin ! $
         move ! (3 ∷ []) $ split ! $ move ! (1 ∷ []) $ split ! $ keep ! (2 ∷ 0 ∷ 3 ∷ 4 ∷ []) $ owns-on (p ν l₈ γ) ! is $ done !))))))))))))))))))
 
 pub refine-first-spec : {M : Type 1} → stated.statement M

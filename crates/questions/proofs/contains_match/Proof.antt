@@ -16,8 +16,8 @@ use Rattle.sweeping.proofs.MatchSteps.{match-answered}
 use Rattle.sweeping.proofs.Sweep as ST
 use Rattle.sweeping.proofs.Question as QT
 use Rattle.sweeping.proofs.Question.Laws as QT′
-use Rattle.walks.proofs.Lent.{Lent, OwnConditions, OwnOut, Owns, Ranged, Rooms, fits, header-typed, header-val, head-typed, head-val, lent-of, lifetimes, out-at, own-sweep, passed-head, passed-header, question-typed, shares, slice-val, slices-off, slices-on, subset, sweep-typed, sweep-val, tokens-off, tokens-on}
-use Rattle.walks.proofs.Walking.{AllPassed, Asked, Cites, Tokens, Walked, arg, calls, lent-slice, stays, walk-runs}
+use Rattle.walks.proofs.Lent.{Lent, OwnConditions, OwnOut, Owns, Ranged, Rooms, fits, head-val, header-val, headers, heads, lent-of, lifetimes, out-at, questions, shares, slice-val, slices-off, slices-on, subset, sweep-val, sweeps, tokens-off, tokens-on}
+use Rattle.walks.proofs.Walking.{AllPassed, Asked, Cites, Tokens, Walked, arg, by-value, calls, lent-slice, own, stays, typed, walk-runs}
 use Rattle.walks.proofs.ask.Symbol as ask-def
 use Rattle.walks.proofs.ask.Symbol.{name as #walks·ask}
 use Rattle.walks.proofs.ask.Met as ask-thm
@@ -32,7 +32,7 @@ use Rattle.questions.proofs.contains_match.Statement as stated
 use Rattle.questions.proofs.contains_match.Code as code
 
 abbrev params : AllPassed (f.ended .signature .params) (f.ended .kept)
-params = (passed-header, (lent-slice u32 0 tt, (passed-head, (lent-slice u32 1 tt, (lent-slice CT.the-row 2 tt, tt)))))
+params = (by-value headers, (lent-slice u32 0 tt, (by-value heads, (lent-slice u32 1 tt, (lent-slice CT.the-row 2 tt, tt)))))
 
 is-q : Is QT.the-row Match (EL.vals QT.the-type QT′.the-laws Match)
 is-q = EL.owes QT.the-type QT′.the-laws Match tt
@@ -61,9 +61,9 @@ module _ {M : Type 1} (𝓤 : URA M) (H : Heap 𝓤) (A : Atoms 𝓤) (W : Given
         qed W (Tokens 𝓤 H A 3 (y .0 .0) (y .0 .1) ∷ ‵ (Owns p (fsep (OwnConditions p) ftrue)) ∷ []) ∵ tokens-off p ! $ move ! (2 ∷ []) $ slices-off p ! $ keep ! (2 ∷ 0 ∷ []) $
         enter ! (𝓣 .C) (𝓣 .Λ) code.function (Walked f.ended params 𝓤 H A clauses .args y) _ $
         alloc1 ! (λ l₀. alloc1 ! (λ l₁. alloc1 ! (λ l₂. alloc1 ! (λ l₃. alloc1 ! (λ l₄. alloc1 ! (λ l₅. alloc1 ! (λ l₆. alloc1 ! (λ l₇. alloc1 ! (λ l₈. alloc1 ! (λ l₉. alloc1 ! (λ l₁₀. alloc0 ! $ params1 ! $
-        pass1 ! (init ! 18 refl (header-typed W (p .header) (is .0))) $ pass1 ! (init ! 16 refl (fits (rooms .0 .0))) $ pass1 ! (init ! 14 refl (head-typed W (p .head) (is .1))) $ pass1 ! (init ! 12 refl (fits (rooms .1 .0 .0))) $ pass1 ! (init ! 10 refl (fits (rooms .1 .1 .0))) $ pass0 ! $
+        pass1 ! (init ! 18 refl (typed W headers (p .header) (is .0) .0)) $ pass1 ! (init ! 16 refl (fits (rooms .0 .0))) $ pass1 ! (init ! 14 refl (typed W heads (p .head) (is .1) .0)) $ pass1 ! (init ! 12 refl (fits (rooms .1 .0 .0))) $ pass1 ! (init ! 10 refl (fits (rooms .1 .1 .0))) $ pass0 ! $
         assigns ! (agg ! (no-more !)) (from ! (stop !)) (init ! 8 refl (tt, tt)) $
-        assigns ! (agg ! (and-then ! (lit ! tt) (no-more !))) (from ! (stop !)) (init ! 4 refl (question-typed W Match is-q)) $
+        assigns ! (agg ! (and-then ! (lit ! tt) (no-more !))) (from ! (stop !)) (init ! 4 refl (typed W questions Match is-q .0)) $
         assigns ! (addr ! (from ! (stop !))) (from ! (stop !)) (init ! 2 refl (tt, tt)) $
         assigns ! (agg ! (arg ! 2 refl (and-then ! (lit ! tt) (no-more !)))) (from ! (stop !)) (init ! 0 refl (fits (lit< tt))) $
         -- the empty slice is lent for a lifetime ν of the call
@@ -72,8 +72,8 @@ module _ {M : Type 1} (𝓤 : URA M) (H : Heap 𝓤) (A : Atoms 𝓤) (W : Given
         move ! (1 ∷ []) $ drop ! $ move ! (24 ∷ 25 ∷ 1 ∷ 0 ∷ []) $
         calls-ask 𝓤 H A mem run p Match W is-q is ! (fmOf 𝓤 H (W .laws) 𝓣) known-ask (ν ∷ []) fullShare (out-at l₆ 0 δ []) (arg ! 6 refl (arg ! 20 refl (arg ! 18 refl (arg ! 16 refl (arg ! 14 refl (arg ! 12 refl (arg ! 2 refl (no-more !)))))))) (λ s ws e l is-s.
         -- [the tokens; what is lent as `&`; ν's token; the last list; _10; …]
-        land ! (from ! (stop !)) (init ! 10 refl (sweep-typed W s is-s)) $ move ! (2 ∷ 3 ∷ []) $ drop ! $ drop ! $
-        own-sweep ! s is-s $ use1 W (raw (Asked 𝓤 H A cls.ended closing .pre (to-close s))) (asks-close s) $
+        land ! (from ! (stop !)) (init ! 10 refl (typed W sweeps s is-s .0)) $ move ! (2 ∷ 3 ∷ []) $ drop ! $ drop ! $
+        own ! sweeps s is-s $ use1 W (raw (Asked 𝓤 H A cls.ended closing .pre (to-close s))) (asks-close s) $
         calls cls.ended closing (to-close s) (λ t zs. MatchClosed s t) (λ t zs. id⊢ 𝓤 _) ! (fmOf 𝓤 H (W .laws) 𝓣) known-close (arg ! 9 refl (no-more !)) (λ w t zs e₂.
         move ! (2 ∷ 0 ∷ []) $ drop ! $ drop ! $ peeks ! AT.the-row (Is AT.the-row) (shows 𝓤 H A AT.the-row) t (w ∷ []) (λ is-t.
         -- [the result; the tokens; what is lent as `&`; _10; …]

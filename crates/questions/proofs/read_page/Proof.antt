@@ -2,7 +2,7 @@
 -- `ask` and comes back, and is given up to `close_page`. Assumes nothing.
 use Rattle.walks.proofs.Prelude.{refl, _∙_, ℕ, _<_, _^_, List, [], _∷_, length, URA, named, w32, w64, Val, vint, SProp, ent, emp, id⊢, via, fst∗, Lft, Share, GName, ftrue, fsep, flft, Memory, Routine, Heap, Tables, WpFn, Atoms, Fun}
 use Rattle.walks.proofs.Prelude.{givenOf, tables, tablesOf, Given, ‵, raw, ⋆, _$_, _∵_, !, qed, move, keep, drop, group, use1, split, join, fsplit, fjoin, feqL, suffices, frame, done, agg, whole, sub, look-in, look, init, forget, stop, hop, fld}
-use Rattle.walks.proofs.Prelude.{from, load, addr, lit, and-then, no-more, assigns, land, returns, enter, alloc1, alloc0, params1, pass1, pass0, free1, free0, fmOf, u32, usize, Is, shows, uint-makes, now, sliceVal, Room, peeks, owned, nothing, Clauses, onEntry, cited, says, ends-at}
+use Rattle.walks.proofs.Prelude.{from, load, addr, lit, and-then, no-more, assigns, land, returns, enter, alloc1, alloc0, params1, pass1, pass0, free1, free0, fmOf, u32, usize, Is, shows, now, sliceVal, Room, peeks, nothing, Clauses, onEntry, cited, says, ends-at}
 use denote.Enum.Laws as EL
 use Rattle.constraints.proofs.Constraint as CT
 use Rattle.queries.proofs.PageAnswer as AT
@@ -14,8 +14,8 @@ use Rattle.sweeping.proofs.PageSteps.{can-page, page-answered}
 use Rattle.sweeping.proofs.Sweep as ST
 use Rattle.sweeping.proofs.Question as QT
 use Rattle.sweeping.proofs.Question.Laws as QT′
-use Rattle.walks.proofs.Lent.{Lent, OwnConditions, OwnIds, OwnOut, Owns, Ranged, Rooms, fits, header-typed, header-val, head-typed, head-val, lent-of, lifetimes, out-at, own-head, own-sweep, owns-off, owns-on, passed-head, passed-header, passed-uint, question-typed, question-val, shares, slice-val, subset, sweep-typed, sweep-val, tokens-off}
-use Rattle.walks.proofs.Walking.{AllPassed, Asked, Cites, Tokens, Walked, arg, calls, given-slice, lent-slice, stays, twice, walk-runs}
+use Rattle.walks.proofs.Lent.{Lent, OwnConditions, OwnIds, OwnOut, Owns, Ranged, Rooms, fits, head-val, header-val, headers, heads, lent-of, lifetimes, numbers, out-at, owns-off, owns-on, question-val, questions, shares, slice-val, subset, sweep-val, sweeps, tokens-off}
+use Rattle.walks.proofs.Walking.{AllPassed, Asked, Cites, Tokens, Walked, arg, by-value, calls, given-slice, lent-slice, own, stays, twice, typed, walk-runs}
 use Rattle.walks.proofs.ask.Symbol as ask-def
 use Rattle.walks.proofs.ask.Symbol.{name as #walks·ask}
 use Rattle.walks.proofs.ask.Met as ask-thm
@@ -30,7 +30,7 @@ use Rattle.questions.proofs.read_page.Statement as stated
 use Rattle.questions.proofs.read_page.Code as code
 
 abbrev params : AllPassed (f.ended .signature .params) (f.ended .kept)
-params = (passed-header, (lent-slice u32 0 tt, (passed-head, (lent-slice u32 1 tt, (passed-uint w32, (passed-uint w64, (lent-slice CT.the-row 2 tt, (given-slice u32 3 tt, tt))))))))
+params = (by-value headers, (lent-slice u32 0 tt, (by-value heads, (lent-slice u32 1 tt, (by-value (numbers w32), (by-value (numbers w64), (lent-slice CT.the-row 2 tt, (given-slice u32 3 tt, tt))))))))
 
 module _ {M : Type 1} (𝓤 : URA M) (H : Heap 𝓤) (A : Atoms 𝓤) (W : Given 𝓤 H A) (mem : Memory → SProp 𝓤) (run : Routine → Fun 𝓤) (p : Lent) (start n : ℕ) (κ : Lft) (q : Share) (b o : ℕ) (γ : GName) (os : List ℕ) where
   abbrev sz : Val
@@ -57,7 +57,7 @@ module _ {M : Type 1} (𝓤 : URA M) (H : Heap 𝓤) (A : Atoms 𝓤) (W : Given
         → ent 𝓤 (⋆ 𝓤 H A (‵ (flft (p .κ₁) (p .q₁)) ∷ ‵ (OwnIds p) ∷ ‵ (flft κ q) ∷ ‵ (OwnOut κ (out-at b o γ ws) sz) ∷ [])) (Asked 𝓤 H A cls.ended closing .pre (to-close s ws))
     asks-close s ws is-s e =
         qed W (‵ (flft (p .κ₁) (p .q₁)) ∷ ‵ (OwnIds p) ∷ ‵ (flft κ q) ∷ ‵ (OwnOut κ (out-at b o γ ws) sz) ∷ []) ∵ says ! (can-page (p .header) (now (p .rows)) (subset p) start n (now (p .conditions)) os s ws e) $
-        nothing ! $ move ! (4 ∷ 0 ∷ []) $ fjoin ! $ own-sweep ! s is-s $ fjoin ! $ move ! (2 ∷ 0 ∷ []) $ fjoin ! $ own-head ! (p .head) (is .1) $ fjoin ! $ nothing ! $ move ! (3 ∷ 0 ∷ []) $ join ! $ move ! (2 ∷ 0 ∷ []) $ join ! $ join ! $ done !
+        nothing ! $ move ! (4 ∷ 0 ∷ []) $ fjoin ! $ own ! sweeps s is-s $ fjoin ! $ move ! (2 ∷ 0 ∷ []) $ fjoin ! $ own ! heads (p .head) (is .1) $ fjoin ! $ nothing ! $ move ! (3 ∷ 0 ∷ []) $ join ! $ move ! (2 ∷ 0 ∷ []) $ join ! $ join ! $ done !
 
     walk : (𝓣 : Tables 𝓤 H) → CitesAsk 𝓤 H A mem run (𝓣 .C) → Cites 𝓤 H A cls.ended closing (𝓣 .C) #sweeping·close-page
         → ent 𝓤 (onEntry 𝓤 H A f.signature (y .0 .0) (y .0 .1) (y .0 .3) (y .0 .4)) (WpFn 𝓤 H (𝓣 .C) (𝓣 .Λ) code.function (Walked f.ended params 𝓤 H A clauses .args y) (Walked f.ended params 𝓤 H A clauses .post y))
@@ -66,15 +66,15 @@ module _ {M : Type 1} (𝓤 : URA M) (H : Heap 𝓤) (A : Atoms 𝓤) (W : Given
         tokens-off p ! $ move ! (1 ∷ []) $ split ! $ move ! (3 ∷ []) $ owns-off p ! $ move ! (2 ∷ []) $ fsplit ! $ drop ! $ fsplit ! $ drop ! $ fsplit ! $ move ! (3 ∷ 0 ∷ []) $ join ! $ move ! (2 ∷ 0 ∷ []) $ join ! $ move ! (1 ∷ []) $ fsplit ! $ keep ! (5 ∷ 2 ∷ 3 ∷ 0 ∷ []) $
         enter ! (𝓣 .C) (𝓣 .Λ) code.function (Walked f.ended params 𝓤 H A clauses .args y) _ $
         alloc1 ! (λ l₀. alloc1 ! (λ l₁. alloc1 ! (λ l₂. alloc1 ! (λ l₃. alloc1 ! (λ l₄. alloc1 ! (λ l₅. alloc1 ! (λ l₆. alloc1 ! (λ l₇. alloc1 ! (λ l₈. alloc1 ! (λ l₉. alloc1 ! (λ l₁₀. alloc1 ! (λ l₁₁. alloc1 ! (λ l₁₂. alloc1 ! (λ l₁₃. alloc1 ! (λ l₁₄. alloc0 ! $ params1 ! $
-        pass1 ! (init ! 26 refl (header-typed W (p .header) (is .0))) $ pass1 ! (init ! 24 refl (fits (rooms .0 .0))) $ pass1 ! (init ! 22 refl (head-typed W (p .head) (is .1))) $ pass1 ! (init ! 20 refl (fits (rooms .1 .0 .0))) $ pass1 ! (init ! 18 refl (tt, record { fits = start-fits })) $ pass1 ! (init ! 16 refl (tt, record { fits = n-fits })) $ pass1 ! (init ! 14 refl (fits (rooms .1 .1 .0))) $ pass1 ! (init ! 12 refl (fits (room .0))) $ pass0 ! $
+        pass1 ! (init ! 26 refl (typed W headers (p .header) (is .0) .0)) $ pass1 ! (init ! 24 refl (fits (rooms .0 .0))) $ pass1 ! (init ! 22 refl (typed W heads (p .head) (is .1) .0)) $ pass1 ! (init ! 20 refl (fits (rooms .1 .0 .0))) $ pass1 ! (init ! 18 refl (tt, record { fits = start-fits })) $ pass1 ! (init ! 16 refl (tt, record { fits = n-fits })) $ pass1 ! (init ! 14 refl (fits (rooms .1 .1 .0))) $ pass1 ! (init ! 12 refl (fits (room .0))) $ pass0 ! $
         -- [_14; …; the tokens; what is lent as `&`; κ's token; what out owns]
-        assigns ! (agg ! (and-then ! (lit ! tt) (arg ! 18 refl (arg ! 16 refl (no-more !))))) (from ! (stop !)) (init ! 8 refl (question-typed W (Page start n) is-q)) $
+        assigns ! (agg ! (and-then ! (lit ! tt) (arg ! 18 refl (arg ! 16 refl (no-more !))))) (from ! (stop !)) (init ! 8 refl (typed W questions (Page start n) is-q .0)) $
         assigns ! (addr ! (from ! (fld ! refl (hop ! (look-in ! 12 (sub ! 0 refl (whole !))) (stop !))))) (from ! (stop !)) (init ! 6 refl (tt, tt)) $
         assigns ! (agg ! (arg ! 6 refl (and-then ! (load ! (from ! (fld ! refl (stop !))) (look-in ! 12 (sub ! 1 refl (whole !)))) (no-more !)))) (from ! (stop !)) (init ! 4 refl (fits (room .0))) $
         move ! (30 ∷ 31 ∷ 32 ∷ 33 ∷ []) $
         asked 𝓤 H A mem run p (Page start n) W is-q is ! (fmOf 𝓤 H (W .laws) 𝓣) known-ask κ q γ b o os room (λ ν δ. arg ! 11 refl (arg ! 29 refl (arg ! 27 refl (arg ! 25 refl (arg ! 23 refl (arg ! 17 refl (arg ! 7 refl (no-more !)))))))) (λ s ws e l is-s.
         -- [the tokens; what is lent as `&`; κ's token; what out owns; _14; …]
-        land ! (from ! (stop !)) (init ! 14 refl (sweep-typed W s is-s)) $
+        land ! (from ! (stop !)) (init ! 14 refl (typed W sweeps s is-s .0)) $
         assigns ! (addr ! (from ! (fld ! refl (hop ! (look-in ! 16 (sub ! 0 refl (whole !))) (stop !))))) (from ! (stop !)) (init ! 6 refl (tt, tt)) $
         assigns ! (agg ! (arg ! 6 refl (and-then ! (load ! (from ! (fld ! refl (stop !))) (look-in ! 16 (sub ! 1 refl (whole !)))) (no-more !)))) (from ! (stop !)) (init ! 4 refl (fits (room .0))) $
         move ! (1 ∷ []) $ split ! $ move ! (1 ∷ []) $ split ! $ twice ! (named 1) (p .κ₁) u32 (p .ids) $ move ! (4 ∷ []) $ split ! $ move ! (1 ∷ []) $ split ! $
@@ -90,7 +90,7 @@ module _ {M : Type 1} (𝓤 : URA M) (H : Heap 𝓤) (A : Atoms 𝓤) (W : Given
         says ! (page-answered (p .header) (now (p .rows)) (subset p) start n (now (p .conditions)) os s ws e t (zs .1 .1 .1 .0) e₂) $
         move ! (3 ∷ []) $ split ! $ move ! (5 ∷ 1 ∷ []) $ join ! $ move ! (1 ∷ 0 ∷ []) $ join ! $ move ! (4 ∷ 0 ∷ []) $ join ! $ frame ! $
         -- [the result; the last list; true; what ids, conditions and rows own]
-        move ! (1 ∷ 2 ∷ []) $ fjoin ! $ move ! (3 ∷ 0 ∷ []) $ fjoin ! $ owned ! usize (Is usize) (uint-makes 𝓤 H A W w64) n _ (refl, n-fits) $ fjoin ! $ owned ! u32 (Is u32) (uint-makes 𝓤 H A W w32) start _ (refl, start-fits) $ fjoin ! $ move ! (3 ∷ 2 ∷ 0 ∷ []) $ owns-on p ! is $ done !)))))))))))))))))))
+        move ! (1 ∷ 2 ∷ []) $ fjoin ! $ move ! (3 ∷ 0 ∷ []) $ fjoin ! $ own ! (numbers w64) n (refl, n-fits) $ fjoin ! $ own ! (numbers w32) start (refl, start-fits) $ fjoin ! $ move ! (3 ∷ 2 ∷ 0 ∷ []) $ owns-on p ! is $ done !)))))))))))))))))))
 
 pub read-page-spec : {M : Type 1} → stated.statement M
 unfolding code.routine tablesOf

@@ -14,8 +14,8 @@ use Rattle.sweeping.proofs.AnswerSteps.{can-close, list-answered}
 use Rattle.sweeping.proofs.Sweep as ST
 use Rattle.sweeping.proofs.Question as QT
 use Rattle.sweeping.proofs.Question.Laws as QT′
-use Rattle.walks.proofs.Lent.{Lent, OwnConditions, OwnOut, Owns, Ranged, Rooms, fits, header-typed, header-val, head-typed, head-val, lent-of, lifetimes, out-at, own-head, own-sweep, passed-head, passed-header, question-typed, shares, slice-val, slices-off, slices-on, sweep-typed, sweep-val, tokens-off, tokens-on}
-use Rattle.walks.proofs.Walking.{AllPassed, Asked, Cites, Tokens, Walked, arg, calls, given-slice, lent-slice, stays, walk-runs}
+use Rattle.walks.proofs.Lent.{Lent, OwnConditions, OwnOut, Owns, Ranged, Rooms, fits, head-val, header-val, headers, heads, lent-of, lifetimes, out-at, questions, shares, slice-val, slices-off, slices-on, sweep-val, sweeps, tokens-off, tokens-on}
+use Rattle.walks.proofs.Walking.{AllPassed, Asked, Cites, Tokens, Walked, arg, by-value, calls, given-slice, lent-slice, own, stays, typed, walk-runs}
 use Rattle.walks.proofs.ask.Symbol as ask-def
 use Rattle.walks.proofs.ask.Symbol.{name as #walks·ask}
 use Rattle.walks.proofs.ask.Met as ask-thm
@@ -30,7 +30,7 @@ use Rattle.questions.proofs.refine_ref.Statement as stated
 use Rattle.questions.proofs.refine_ref.Code as code
 
 abbrev params : AllPassed (f.ended .signature .params) (f.ended .kept)
-params = (passed-header, (lent-slice u32 0 tt, (passed-head, (lent-slice u32 1 tt, (lent-slice CT.the-row 2 tt, (given-slice u32 3 tt, tt))))))
+params = (by-value headers, (lent-slice u32 0 tt, (by-value heads, (lent-slice u32 1 tt, (lent-slice CT.the-row 2 tt, (given-slice u32 3 tt, tt))))))
 
 is-q : Is QT.the-row Refine (EL.vals QT.the-type QT′.the-laws Refine)
 is-q = EL.owes QT.the-type QT′.the-laws Refine tt
@@ -57,7 +57,7 @@ module _ {M : Type 1} (𝓤 : URA M) (H : Heap 𝓤) (A : Atoms 𝓤) (W : Given
         → ent 𝓤 (⋆ 𝓤 H A (‵ (flft κ q) ∷ ‵ (OwnOut κ (out-at b o γ ws) sz) ∷ [])) (Asked 𝓤 H A cls.ended closing .pre (to-close s ws))
     asks-close s ws is-s e =
         qed W (‵ (flft κ q) ∷ ‵ (OwnOut κ (out-at b o γ ws) sz) ∷ []) ∵ says ! (can-close (p .header) (now (p .rows)) (p .head) (now (p .ids)) (now (p .conditions)) os s ws e) $
-        nothing ! $ move ! (2 ∷ 0 ∷ []) $ fjoin ! $ own-sweep ! s is-s $ fjoin ! $ own-head ! (p .head) (is .1) $ fjoin ! $ nothing ! $ move ! (2 ∷ 0 ∷ []) $ join ! $ frame ! $ done !
+        nothing ! $ move ! (2 ∷ 0 ∷ []) $ fjoin ! $ own ! sweeps s is-s $ fjoin ! $ own ! heads (p .head) (is .1) $ fjoin ! $ nothing ! $ move ! (2 ∷ 0 ∷ []) $ join ! $ frame ! $ done !
 
     walk : (𝓣 : Tables 𝓤 H) → CitesAsk 𝓤 H A mem run (𝓣 .C) → Cites 𝓤 H A cls.ended closing (𝓣 .C) #sweeping·close-refine
         → ent 𝓤 (onEntry 𝓤 H A f.signature (y .0 .0) (y .0 .1) (y .0 .3) (y .0 .4)) (WpFn 𝓤 H (𝓣 .C) (𝓣 .Λ) code.function (Walked f.ended params 𝓤 H A clauses .args y) (Walked f.ended params 𝓤 H A clauses .post y))
@@ -66,15 +66,15 @@ module _ {M : Type 1} (𝓤 : URA M) (H : Heap 𝓤) (A : Atoms 𝓤) (W : Given
         tokens-off p ! $ move ! (1 ∷ []) $ split ! $ move ! (3 ∷ []) $ slices-off p ! $ move ! (1 ∷ []) $ fsplit ! $ keep ! (5 ∷ 2 ∷ 3 ∷ 0 ∷ []) $
         enter ! (𝓣 .C) (𝓣 .Λ) code.function (Walked f.ended params 𝓤 H A clauses .args y) _ $
         alloc1 ! (λ l₀. alloc1 ! (λ l₁. alloc1 ! (λ l₂. alloc1 ! (λ l₃. alloc1 ! (λ l₄. alloc1 ! (λ l₅. alloc1 ! (λ l₆. alloc1 ! (λ l₇. alloc1 ! (λ l₈. alloc1 ! (λ l₉. alloc1 ! (λ l₁₀. alloc1 ! (λ l₁₁. alloc1 ! (λ l₁₂. alloc0 ! $ params1 ! $
-        pass1 ! (init ! 22 refl (header-typed W (p .header) (is .0))) $ pass1 ! (init ! 20 refl (fits (rooms .0 .0))) $ pass1 ! (init ! 18 refl (head-typed W (p .head) (is .1))) $ pass1 ! (init ! 16 refl (fits (rooms .1 .0 .0))) $ pass1 ! (init ! 14 refl (fits (rooms .1 .1 .0))) $ pass1 ! (init ! 12 refl (fits (room .0))) $ pass0 ! $
+        pass1 ! (init ! 22 refl (typed W headers (p .header) (is .0) .0)) $ pass1 ! (init ! 20 refl (fits (rooms .0 .0))) $ pass1 ! (init ! 18 refl (typed W heads (p .head) (is .1) .0)) $ pass1 ! (init ! 16 refl (fits (rooms .1 .0 .0))) $ pass1 ! (init ! 14 refl (fits (rooms .1 .1 .0))) $ pass1 ! (init ! 12 refl (fits (room .0))) $ pass0 ! $
         -- [_12; …; the tokens; what is lent as `&`; κ's token; what out owns]
-        assigns ! (agg ! (and-then ! (lit ! tt) (no-more !))) (from ! (stop !)) (init ! 8 refl (question-typed W Refine is-q)) $
+        assigns ! (agg ! (and-then ! (lit ! tt) (no-more !))) (from ! (stop !)) (init ! 8 refl (typed W questions Refine is-q .0)) $
         assigns ! (addr ! (from ! (fld ! refl (hop ! (look-in ! 12 (sub ! 0 refl (whole !))) (stop !))))) (from ! (stop !)) (init ! 6 refl (tt, tt)) $
         assigns ! (agg ! (arg ! 6 refl (and-then ! (load ! (from ! (fld ! refl (stop !))) (look-in ! 12 (sub ! 1 refl (whole !)))) (no-more !)))) (from ! (stop !)) (init ! 4 refl (fits (room .0))) $
         move ! (26 ∷ 27 ∷ 28 ∷ 29 ∷ []) $
         asked 𝓤 H A mem run p Refine W is-q is ! (fmOf 𝓤 H (W .laws) 𝓣) known-ask κ q γ b o os room (λ ν δ. arg ! 11 refl (arg ! 25 refl (arg ! 23 refl (arg ! 21 refl (arg ! 19 refl (arg ! 17 refl (arg ! 7 refl (no-more !)))))))) (λ s ws e l is-s.
         -- [the tokens; what is lent as `&`; κ's token; what out owns; _12; …]
-        land ! (from ! (stop !)) (init ! 14 refl (sweep-typed W s is-s)) $
+        land ! (from ! (stop !)) (init ! 14 refl (typed W sweeps s is-s .0)) $
         assigns ! (addr ! (from ! (fld ! refl (hop ! (look-in ! 16 (sub ! 0 refl (whole !))) (stop !))))) (from ! (stop !)) (init ! 6 refl (tt, tt)) $
         assigns ! (agg ! (arg ! 6 refl (and-then ! (load ! (from ! (fld ! refl (stop !))) (look-in ! 16 (sub ! 1 refl (whole !)))) (no-more !)))) (from ! (stop !)) (init ! 4 refl (fits (room .0))) $
         move ! (2 ∷ 3 ∷ []) $ group ! 2 $ use1 W (raw (Asked 𝓤 H A cls.ended closing .pre (to-close s ws))) (asks-close s ws is-s e) $

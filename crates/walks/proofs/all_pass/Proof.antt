@@ -25,9 +25,9 @@ use Rattle.table.proofs.Header as HT
 use Rattle.sweeping.specs.declared.Test.{Test}
 use Rattle.sweeping.specs.inner.Sweeping.{RowNeeded, starts, passes, allPass}
 use Rattle.sweeping.proofs.Test as TT
-use Rattle.walks.proofs.Lent.{fits, header-typed, header-val, own-header, own-test, passed-header, passed-test, slice-val, test-typed, test-val}
+use Rattle.walks.proofs.Lent.{fits, header-val, headers, slice-val, test-val, tests}
 use Rattle.walks.proofs.WalkSteps.{none, passed, passed-none, passed-next, passed-all, Up, up-wf}
-use Rattle.walks.proofs.Walking.{AllPassed, Asked, Cell, Cells, Cites, Tokens, Walked, arg, bool-lands, calls, empty, env-of, holds, lent-slice, stays, twice, walk-runs}
+use Rattle.walks.proofs.Walking.{AllPassed, Asked, Cell, Cells, Cites, Tokens, Walked, arg, bool-lands, by-value, calls, empty, env-of, holds, lent-slice, own, stays, twice, typed, walk-runs}
 use Rattle.sweeping.proofs.can_pass as can
 use Rattle.sweeping.proofs.can_pass.Symbol as can-def
 use Rattle.sweeping.proofs.can_pass.Symbol.{name as #sweeping·can-pass}
@@ -43,7 +43,7 @@ use Rattle.walks.proofs.all_pass.Code as code
 use Rattle.walks.proofs.all_pass.Code.Mir as mir
 
 abbrev params : AllPassed (f.ended .signature .params) (f.ended .kept)
-params = (passed-test, (passed-header, (lent-slice u32 0 tt, (lent-slice CT.the-row 1 tt, tt))))
+params = (by-value tests, (by-value headers, (lent-slice u32 0 tt, (lent-slice CT.the-row 1 tt, tt))))
 
 module _ {M : Type 1} (𝓤 : URA M) (H : Heap 𝓤) (A : Atoms 𝓤) (W : Given 𝓤 H A) (mem : Memory → SProp 𝓤) (run : Routine → Fun 𝓤)
     (κ κ′ : Lft) (q q′ : Share) (test : Test) (h : Header) (x : RefT (List ℕ)) (b o : ℕ) (γ : GName) (cs : List Constraint) where
@@ -96,12 +96,12 @@ module _ {M : Type 1} (𝓤 : URA M) (H : Heap 𝓤) (A : Atoms 𝓤) (W : Given
 
   module _ (is-t : Is TT.the-row test (test-val test ∷ [])) (is-h : Is HT.the-row h (header-val h ∷ [])) (need : RowNeeded test h (length (now x))) where
     asks-can : ent 𝓤 (⋆ 𝓤 H A (‵ (flft κ q) ∷ ‵ OwnRows ∷ [])) (Asked 𝓤 H A can.ended starting .pre to-can)
-    asks-can = qed W (‵ (flft κ q) ∷ ‵ OwnRows ∷ []) ∵ says ! need $ nothing ! $ move ! (2 ∷ 0 ∷ []) $ fjoin ! $ own-header ! h is-h $ fjoin ! $ own-test ! test is-t $ fjoin ! $ nothing ! $ move ! (2 ∷ 0 ∷ []) $ join ! $ join ! $ done !
+    asks-can = qed W (‵ (flft κ q) ∷ ‵ OwnRows ∷ []) ∵ says ! need $ nothing ! $ move ! (2 ∷ 0 ∷ []) $ fjoin ! $ own ! headers h is-h $ fjoin ! $ own ! tests test is-t $ fjoin ! $ nothing ! $ move ! (2 ∷ 0 ∷ []) $ join ! $ join ! $ done !
 
     asks : (i : ℕ) → Is CT.the-row (c i) (LL.vals CT.the-type CT′.the-laws (c i)) → ent 𝓤 (⋆ 𝓤 H A (‵ (flft κ q) ∷ ‵ OwnRows ∷ [])) (Asked 𝓤 H A too.ended testing .pre (to i))
     asks i g =
         qed W (‵ (flft κ q) ∷ ‵ OwnRows ∷ []) ∵ says ! need $ nothing ! $ owned ! CT.the-row (Is CT.the-row) (LL.makes CT.the-type CT′.the-plain 𝓤 H A) (c i) _ g $ fjoin ! $
-        move ! (2 ∷ 0 ∷ []) $ fjoin ! $ own-header ! h is-h $ fjoin ! $ own-test ! test is-t $ fjoin ! $ nothing ! $ move ! (2 ∷ 0 ∷ []) $ join ! $ join ! $ done !
+        move ! (2 ∷ 0 ∷ []) $ fjoin ! $ own ! headers h is-h $ fjoin ! $ own ! tests test is-t $ fjoin ! $ nothing ! $ move ! (2 ∷ 0 ∷ []) $ join ! $ join ! $ done !
 
     module _ (𝓣 : Tables 𝓤 H) (known-can : Cites 𝓤 H A can.ended starting (𝓣 .C) #sweeping·can-pass) (known : Cites 𝓤 H A too.ended testing (𝓣 .C) #sweeping·passes-test) (room : Room CT.the-row n) (l₀ l₁ l₂ l₃ l₄ l₅ l₆ l₇ l₈ l₉ l₁₀ l₁₁ : ℕ) where
       abbrev E : Env 𝓤 H
@@ -159,7 +159,7 @@ module _ {M : Type 1} (𝓤 : URA M) (H : Heap 𝓤) (A : Atoms 𝓤) (W : Given
           assigns ! (of-opd ! (load ! (from ! (stop !)) (look ! 16 refl))) (from ! (stop !)) (init ! 26 refl (tt, tt)) $ returns ! (look ! 26 refl) $ forget ! 8 refl $ forget ! 10 refl $ forget ! 12 refl $ forget ! 14 refl $ forget ! 16 refl $ forget ! 18 refl $ forget ! 20 refl $ forget ! 22 refl $ forget ! 24 refl $ forget ! 26 refl $
           move ! (26 ∷ 27 ∷ []) $ free1 ! $ move ! (24 ∷ 25 ∷ []) $ free1 ! $ move ! (22 ∷ 23 ∷ []) $ free1 ! $ move ! (20 ∷ 21 ∷ []) $ free1 ! $ move ! (18 ∷ 19 ∷ []) $ free1 ! $ move ! (16 ∷ 17 ∷ []) $ free1 ! $ move ! (14 ∷ 15 ∷ []) $ free1 ! $ move ! (12 ∷ 13 ∷ []) $ free1 ! $ move ! (10 ∷ 11 ∷ []) $ free1 ! $ move ! (8 ∷ 9 ∷ []) $ free1 ! $ move ! (6 ∷ 7 ∷ []) $ free1 ! $ move ! (4 ∷ 5 ∷ []) $ free1 ! $ free0 ! $
           suffices ! _ (ends-at 𝓤 H A f.ended (stays (f.ended .signature .params) (f.ended .kept) params) clauses W y (vbool (ok i)) (ok i) (tt, (tt, (tt, (tt, tt)))) (tt, (tt, (tt, (tt, tt))))) $ says ! (passed-all start pass cs i stop-is) $
-          nothing ! $ move ! (2 ∷ 0 ∷ []) $ join ! $ move ! (1 ∷ 0 ∷ []) $ join ! $ frame ! $ nothing ! $ move ! (2 ∷ 0 ∷ []) $ fjoin ! $ move ! (1 ∷ 0 ∷ []) $ fjoin ! $ own-header ! h is-h $ fjoin ! $ own-test ! test is-t $ fjoin ! $ frame ! $
+          nothing ! $ move ! (2 ∷ 0 ∷ []) $ join ! $ move ! (1 ∷ 0 ∷ []) $ join ! $ frame ! $ nothing ! $ move ! (2 ∷ 0 ∷ []) $ fjoin ! $ move ! (1 ∷ 0 ∷ []) $ fjoin ! $ own ! headers h is-h $ fjoin ! $ own ! tests test is-t $ fjoin ! $ frame ! $
           owned ! bool (Is bool) (bool-makes 𝓤 H A W) (ok i) _ refl $ done !
 
       turn : (i : ℕ) (t : Bool) → (ok i && ltb i n) ≡ t → Sq W (I i) (runs (𝓣 .C) (𝓣 .Λ) E mir.turn-1 (Turned i))
@@ -186,7 +186,7 @@ module _ {M : Type 1} (𝓤 : URA M) (H : Heap 𝓤) (A : Atoms 𝓤) (W : Given
         split ! $ move ! (1 ∷ []) $ split ! $ move ! (1 ∷ []) $ drop ! $ move ! (2 ∷ []) $ fsplit ! $ drop ! $ fsplit ! $ drop ! $ fsplit ! $ move ! (1 ∷ []) $ fsplit ! $ move ! (1 ∷ []) $ drop ! $ move ! (3 ∷ 2 ∷ 1 ∷ 0 ∷ []) $
         enter ! (𝓣 .C) (𝓣 .Λ) code.function (Walked f.ended params 𝓤 H A clauses .args y) _ $
         alloc1 ! (λ l₀. alloc1 ! (λ l₁. alloc1 ! (λ l₂. alloc1 ! (λ l₃. alloc1 ! (λ l₄. alloc1 ! (λ l₅. alloc1 ! (λ l₆. alloc1 ! (λ l₇. alloc1 ! (λ l₈. alloc1 ! (λ l₉. alloc1 ! (λ l₁₀. alloc1 ! (λ l₁₁. alloc0 ! $ params1 ! $
-        pass1 ! (init ! 20 refl (test-typed W test is-t)) $ pass1 ! (init ! 18 refl (header-typed W h is-h)) $ pass1 ! (init ! 16 refl (fits (room-rows .0))) $ pass1 ! (init ! 14 refl (fits (room .0))) $ pass0 ! $
+        pass1 ! (init ! 20 refl (typed W tests test is-t .0)) $ pass1 ! (init ! 18 refl (typed W headers h is-h .0)) $ pass1 ! (init ! 16 refl (fits (room-rows .0))) $ pass1 ! (init ! 14 refl (fits (room .0))) $ pass0 ! $
         move ! (24 ∷ 25 ∷ 26 ∷ 27 ∷ []) $ begins 𝓣 known-can known room l₀ l₁ l₂ l₃ l₄ l₅ l₆ l₇ l₈ l₉ l₁₀ l₁₁))))))))))))
 
 pub all-pass-spec : {M : Type 1} → stated.statement M

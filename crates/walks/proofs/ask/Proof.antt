@@ -3,7 +3,7 @@
 use Rattle.walks.proofs.Prelude.{_≡_, refl, sym, subst, _∙_, ℕ, _<_, _≤_, Bool, true, false, List, [], _∷_, ltb, length, URA, fullShare, Body, Place, Ty, Operand, call, erased, mut, named, seq, tyBool, tyInt, tyRef, w32, w64, Val, vbool, vint, SProp, ent, emp}
 use Rattle.walks.proofs.Prelude.{id⊢, via, fst∗, Lft, Share, GName, ftrue, fsep, flft, fat, Memory, Routine, Heap, Env, Loops, Tables, Wp, WpFn, afterBlock, afterSeq, atReturn, afterTurn, Atoms, Fun, givenOf, tables, tablesOf, Given, Item, Seq, Sq, anyQ, atRet, lands, runs, ‵, raw, ⋆}
 use Rattle.walks.proofs.Prelude.{_$_, _∵_, !, qed, move, keep, drop, group, use1, split, join, rewrite, fsplit, fjoin, feqL, suffices, frame, done, agg, whole, sub, look-in, Below, Opds, look, store, init, forget, stop, hop, fld, from, load, addr, lit, of-opd, bin, and-then}
-use Rattle.walks.proofs.Prelude.{no-more, assigns, land, again, blocks, exec, first, leaves-loop, loops, goes-on, returns, enter, alloc1, alloc0, params1, pass1, pass0, free1, free0, fmOf, u32, usize, bool, Is, bool-makes, uint-makes, now, sliceTy, sliceVal, Room, owned, nothing, Clauses, onEntry, cited, says, ends-at}
+use Rattle.walks.proofs.Prelude.{no-more, assigns, land, again, blocks, exec, first, leaves-loop, loops, goes-on, returns, enter, alloc1, alloc0, params1, pass1, pass0, free1, free0, fmOf, u32, bool, Is, bool-makes, now, sliceTy, sliceVal, Room, owned, nothing, Clauses, onEntry, cited, says, ends-at}
 use types.Kit as Kit
 use types.Run.{land-last}
 use borrow.Author.Tests.{le-ltb, lt-ltb, ltb-false, ltb-true}
@@ -24,9 +24,9 @@ use Rattle.sweeping.proofs.Sweep.Laws as ST′
 use Rattle.sweeping.proofs.Test as TT
 use Rattle.sweeping.proofs.Test.Laws as TT′
 use Rattle.walks.proofs.Again.{lends, gets-back}
-use Rattle.walks.proofs.Lent.{Lent, OwnConditions, OwnIds, OwnOut, OwnRows, Owns, Ranged, Rooms, Slices, Tokens₃, apart, fits, head-typed, head-val, header-typed, header-val, lent-of, lifetimes, out-at, own-head, own-header, own-question, own-sweep, own-test, owns-on, passed-head, passed-header, passed-question, question-typed, question-val, shares, slice-val, slices-off, slices-on, subset, sweep-lands, sweep-settles, sweep-typed, sweep-val, test-typed, test-val, together, tokens-off, tokens-on}
+use Rattle.walks.proofs.Lent.{Lent, OwnConditions, OwnIds, OwnOut, OwnRows, Owns, Ranged, Rooms, Slices, Tokens₃, apart, fits, head-val, header-val, headers, heads, lent-of, lifetimes, numbers, out-at, owns-on, question-val, questions, shares, slice-val, slices-off, slices-on, subset, sweep-lands, sweep-settles, sweep-val, sweeps, test-val, tests, together, tokens-off, tokens-on}
 use Rattle.walks.proofs.WalkSteps.{Fewer, all-known, fewer-wf, row-matches}
-use Rattle.walks.proofs.Walking.{AllPassed, Asked, Cell, Cells, Cites, Tokens, Walked, arg, bool-lands, calls, calls-last, empty, env-of, holds, kept-slice, lent-slice, stays, walk-runs}
+use Rattle.walks.proofs.Walking.{AllPassed, Asked, Cell, Cells, Cites, Tokens, Walked, arg, bool-lands, by-value, calls, calls-last, empty, env-of, holds, kept-slice, lent-slice, own, stays, typed, walk-runs}
 use Rattle.walks.proofs.all_pass as all
 use Rattle.walks.proofs.all_pass.Symbol as all-def
 use Rattle.walks.proofs.all_pass.Symbol.{name as #walks·all-pass}
@@ -50,7 +50,7 @@ abbrev LentTy : Ty
 LentTy = sliceTy (tyRef erased mut (tyInt w32))
 
 abbrev params : AllPassed (f.ended .signature .params) (f.ended .kept)
-params = (passed-question, (passed-header, (lent-slice u32 0 tt, (passed-head, (lent-slice u32 1 tt, (lent-slice CT.the-row 2 tt, (kept-slice u32 3 tt, tt)))))))
+params = (by-value questions, (by-value headers, (lent-slice u32 0 tt, (by-value heads, (lent-slice u32 1 tt, (lent-slice CT.the-row 2 tt, (kept-slice u32 3 tt, tt)))))))
 
 module _ {M : Type 1} (𝓤 : URA M) (H : Heap 𝓤) (A : Atoms 𝓤) (W : Given 𝓤 H A) (mem : Memory → SProp 𝓤) (run : Routine → Fun 𝓤) (p : Lent) (is : Ranged p) where
   -- the rows, and whether all conditions pass a test
@@ -72,8 +72,8 @@ module _ {M : Type 1} (𝓤 : URA M) (H : Heap 𝓤) (A : Atoms 𝓤) (W : Given
   module _ (test : Test) (is-t : Is TT.the-row test (test-val test ∷ [])) (need : RowNeeded test (p .header) (length rows)) where
     can-ask : ent 𝓤 (⋆ 𝓤 H A (‵ (flft (p .κ₀) (p .q₀)) ∷ ‵ (flft (p .κ₂) (p .q₂)) ∷ ‵ (OwnRows p) ∷ ‵ (OwnConditions p) ∷ [])) (Asked 𝓤 H A all.ended passing .pre (to-all test))
     can-ask =
-        qed W (‵ (flft (p .κ₀) (p .q₀)) ∷ ‵ (flft (p .κ₂) (p .q₂)) ∷ ‵ (OwnRows p) ∷ ‵ (OwnConditions p) ∷ []) ∵ says ! need $ nothing ! $ move ! (4 ∷ 0 ∷ []) $ fjoin ! $ move ! (3 ∷ 0 ∷ []) $ fjoin ! $ own-header ! (p .header) (is .0) $ fjoin ! $
-        own-test ! test is-t $ fjoin ! $ nothing ! $ move ! (3 ∷ 0 ∷ []) $ join ! $ move ! (2 ∷ 0 ∷ []) $ join ! $ join ! $ done !
+        qed W (‵ (flft (p .κ₀) (p .q₀)) ∷ ‵ (flft (p .κ₂) (p .q₂)) ∷ ‵ (OwnRows p) ∷ ‵ (OwnConditions p) ∷ []) ∵ says ! need $ nothing ! $ move ! (4 ∷ 0 ∷ []) $ fjoin ! $ move ! (3 ∷ 0 ∷ []) $ fjoin ! $ own ! headers (p .header) (is .0) $ fjoin ! $
+        own ! tests test is-t $ fjoin ! $ nothing ! $ move ! (3 ∷ 0 ∷ []) $ join ! $ move ! (2 ∷ 0 ∷ []) $ join ! $ join ! $ done !
 
     -- the call of `all_pass`
     calls-all : {K : Type 0} {Γ : List (Item 𝓤)} {E : Env 𝓤 H} {Λ : Loops 𝓤 H} {post : Kit.Post 𝓤 H} {d : Place} {xs : List Operand} {rest : Body} → K → (𝓣 : Tables 𝓤 H) → Cites 𝓤 H A all.ended passing (𝓣 .C) #walks·all-pass
@@ -134,8 +134,8 @@ module _ {M : Type 1} (𝓤 : URA M) (H : Heap 𝓤) (A : Atoms 𝓤) (W : Given
     module _ (is-q : Is QT.the-row question (question-val question ∷ [])) (rooms : Rooms p) (room : Room u32 (length os)) where
       asks-open : ent 𝓤 (⋆ 𝓤 H A (‵ (flft (p .κ₁) (p .q₁)) ∷ ‵ (OwnIds p) ∷ [])) (Asked 𝓤 H A opn.ended opening .pre to-open)
       asks-open =
-          qed W (‵ (flft (p .κ₁) (p .q₁)) ∷ ‵ (OwnIds p) ∷ []) ∵ nothing ! $ owned ! usize (Is usize) (uint-makes 𝓤 H A W w64) (length os) _ (refl, room .0) $ fjoin ! $ owned ! bool (Is bool) (bool-makes 𝓤 H A W) (all-pass Known) _ refl $ fjoin ! $
-          move ! (2 ∷ 0 ∷ []) $ fjoin ! $ own-head ! (p .head) (is .1) $ fjoin ! $ owned ! usize (Is usize) (uint-makes 𝓤 H A W w64) (length rows) _ (refl, rooms .0 .0) $ fjoin ! $ own-header ! (p .header) (is .0) $ fjoin ! $ own-question ! question is-q $ fjoin ! $
+          qed W (‵ (flft (p .κ₁) (p .q₁)) ∷ ‵ (OwnIds p) ∷ []) ∵ nothing ! $ own ! (numbers w64) (length os) (refl, room .0) $ fjoin ! $ owned ! bool (Is bool) (bool-makes 𝓤 H A W) (all-pass Known) _ refl $ fjoin ! $
+          move ! (2 ∷ 0 ∷ []) $ fjoin ! $ own ! heads (p .head) (is .1) $ fjoin ! $ own ! (numbers w64) (length rows) (refl, rooms .0 .0) $ fjoin ! $ own ! headers (p .header) (is .0) $ fjoin ! $ own ! questions question is-q $ fjoin ! $
           nothing ! $ move ! (2 ∷ 0 ∷ []) $ join ! $ join ! $ frame ! $ done !
 
       module _ (𝓣 : Tables 𝓤 H) (known-all : Cites 𝓤 H A all.ended passing (𝓣 .C) #walks·all-pass) (known-open : Cites 𝓤 H A opn.ended opening (𝓣 .C) #sweeping·opening) (known-step : Cites 𝓤 H A stp.ended stepping (𝓣 .C) #sweeping·step)
@@ -173,7 +173,7 @@ module _ {M : Type 1} (𝓤 : URA M) (H : Heap 𝓤) (A : Atoms 𝓤) (W : Given
               → ent 𝓤 (⋆ 𝓤 H A (‵ (flft (p .κ₀) (p .q₀)) ∷ ‵ (flft (p .κ₁) (p .q₁)) ∷ ‵ (flft (ν ∷ []) fullShare) ∷ ‵ (OwnRows p) ∷ ‵ (OwnIds p) ∷ OutLent ν δ zs ∷ [])) (Asked 𝓤 H A stp.ended stepping .pre (to-step ν δ s zs))
           asks-step ν δ s zs g l =
               qed W (‵ (flft (p .κ₀) (p .q₀)) ∷ ‵ (flft (p .κ₁) (p .q₁)) ∷ ‵ (flft (ν ∷ []) fullShare) ∷ ‵ (OwnRows p) ∷ ‵ (OwnIds p) ∷ OutLent ν δ zs ∷ []) ∵ says ! (can-step (p .header) rows (subset p) test s₀ os can s zs (g .0) l (hit s) (hit-is s)) $
-              nothing ! $ move ! (6 ∷ 0 ∷ []) $ fjoin ! $ owned ! bool (Is bool) (bool-makes 𝓤 H A W) (hit s) _ refl $ fjoin ! $ own-sweep ! s (g .1 .1) $ fjoin ! $ move ! (4 ∷ 5 ∷ 0 ∷ []) $ owns-on p ! is $
+              nothing ! $ move ! (6 ∷ 0 ∷ []) $ fjoin ! $ owned ! bool (Is bool) (bool-makes 𝓤 H A W) (hit s) _ refl $ fjoin ! $ own ! sweeps s (g .1 .1) $ fjoin ! $ move ! (4 ∷ 5 ∷ 0 ∷ []) $ owns-on p ! is $
               nothing ! $ move ! (4 ∷ 0 ∷ []) $ join ! $ move ! (3 ∷ 0 ∷ []) $ join ! $ move ! (2 ∷ 0 ∷ []) $ join ! $ join ! $ done !
 
           abbrev I : State → List (Item 𝓤)
@@ -188,7 +188,7 @@ module _ {M : Type 1} (𝓤 : URA M) (H : Heap 𝓤) (A : Atoms 𝓤) (W : Given
           more s zs g l =
               assigns ! (bin ! (load ! (from ! (fld ! refl (stop !))) (look-in ! 20 (sub ! 1 refl (whole !)))) (load ! (from ! (fld ! refl (stop !))) (look-in ! 20 (sub ! 2 refl (whole !)))) tt) (from ! (stop !)) (init ! 10 refl (tt, tt)) $
               rewrite ! 10 (λ (t : Bool). ‵ (fat fullShare tyBool l₁₄ 0 (vbool t))) (lt-ltb (s .next) (s .end) l) refl $ goes-on ! (load ! (from ! (stop !)) (look ! 10 refl)) $
-              assigns ! (agg ! (and-then ! (lit ! tt) (and-then ! (load ! (from ! (fld ! refl (stop !))) (look-in ! 20 (sub ! 3 refl (whole !)))) (no-more !)))) (from ! (stop !)) (init ! 8 refl (test-typed W (Row (s .id)) is-t)) $
+              assigns ! (agg ! (and-then ! (lit ! tt) (and-then ! (load ! (from ! (fld ! refl (stop !))) (look-in ! 20 (sub ! 3 refl (whole !)))) (no-more !)))) (from ! (stop !)) (init ! 8 refl (typed W tests (Row (s .id)) is-t .0)) $
               calls-all (Row (s .id)) is-t lies ! 𝓣 known-all (arg ! 9 refl (arg ! 35 refl (arg ! 33 refl (arg ! 27 refl (no-more !))))) (
               land ! (from ! (stop !)) (init ! 18 refl (tt, tt)) $
               -- out is lent again, for a lifetime ν of the call
@@ -205,7 +205,7 @@ module _ {M : Type 1} (𝓤 : URA M) (H : Heap 𝓤) (A : Atoms 𝓤) (W : Given
               -- [ν's token, κ₁'s, κ₀'s; the last list; κ₂'s token; what is lent as `&`; what is lent; _17; …]
               move ! (0 ∷ 6 ∷ 3 ∷ []) $ gets-back u32 κ q γ b o (named 3) (named 2) zs ! tt ν δ (ws .1 .1 .1 .1 .1 .1 .0) (subst (Room u32) (sym (g .1 .0)) room) le $
               rewrite ! 1 (λ (j : ℕ). ‵ (OwnOut κ (out-at b o γ (ws .1 .1 .1 .1 .1 .1 .0)) (sliceVal (b, o) j))) (sym le) refl $ move ! (3 ∷ 2 ∷ 4 ∷ []) $ together p ! $ move ! (0 ∷ 3 ∷ []) $
-              land-last ! (from ! (stop !)) (store ! 20 refl (sweep-typed W r is-r)) $ forget ! 4 refl $ forget ! 6 refl $ forget ! 8 refl $ forget ! 10 refl $ forget ! 18 refl $
+              land-last ! (from ! (stop !)) (store ! 20 refl (typed W sweeps r is-r .0)) $ forget ! 4 refl $ forget ! 6 refl $ forget ! 8 refl $ forget ! 10 refl $ forget ! 18 refl $
               again ! Nearer I (s, (zs, g)) (r, (ws .1 .1 .1 .1 .1 .1 .0, (stepped (p .header) rows (subset p) test s₀ os can s zs (g .0) l (hit s) (hit-is s) r _ e, (le ∙ g .1 .0, is-r)))) (steps-less (p .header) rows (subset p) s (hit s) zs r _ l e))))))
             where
               lies : RowLies (p .header) (length rows) (s .id)
@@ -219,19 +219,19 @@ module _ {M : Type 1} (𝓤 : URA M) (H : Heap 𝓤) (A : Atoms 𝓤) (W : Given
           ends s zs g l =
               assigns ! (bin ! (load ! (from ! (fld ! refl (stop !))) (look-in ! 20 (sub ! 1 refl (whole !)))) (load ! (from ! (fld ! refl (stop !))) (look-in ! 20 (sub ! 2 refl (whole !)))) tt) (from ! (stop !)) (init ! 10 refl (tt, tt)) $
               rewrite ! 10 (λ (t : Bool). ‵ (fat fullShare tyBool l₁₄ 0 (vbool t))) (le-ltb (s .next) (s .end) l) refl $ leaves-loop ! (load ! (from ! (stop !)) (look ! 10 refl)) $ exec ! (𝓣 .C) (𝓣 .Λ) E mir.t-7 (atRet E Post) $
-              assigns ! (of-opd ! (load ! (from ! (stop !)) (look ! 20 refl))) (from ! (stop !)) (init ! 38 refl (sweep-typed W s (g .1 .1))) $ returns ! (look ! 38 refl) $ forget ! 10 refl $ forget ! 20 refl $ forget ! 22 refl $ forget ! 24 refl $ forget ! 26 refl $ forget ! 28 refl $ forget ! 30 refl $ forget ! 32 refl $ forget ! 34 refl $ forget ! 36 refl $ forget ! 38 refl $
+              assigns ! (of-opd ! (load ! (from ! (stop !)) (look ! 20 refl))) (from ! (stop !)) (init ! 38 refl (typed W sweeps s (g .1 .1) .0)) $ returns ! (look ! 38 refl) $ forget ! 10 refl $ forget ! 20 refl $ forget ! 22 refl $ forget ! 24 refl $ forget ! 26 refl $ forget ! 28 refl $ forget ! 30 refl $ forget ! 32 refl $ forget ! 34 refl $ forget ! 36 refl $ forget ! 38 refl $
               move ! (38 ∷ 39 ∷ []) $ free1 ! $ move ! (36 ∷ 37 ∷ []) $ free1 ! $ move ! (34 ∷ 35 ∷ []) $ free1 ! $ move ! (32 ∷ 33 ∷ []) $ free1 ! $ move ! (30 ∷ 31 ∷ []) $ free1 ! $ move ! (28 ∷ 29 ∷ []) $ free1 ! $ move ! (26 ∷ 27 ∷ []) $ free1 ! $ move ! (24 ∷ 25 ∷ []) $ free1 ! $ move ! (22 ∷ 23 ∷ []) $ free1 ! $ move ! (20 ∷ 21 ∷ []) $ free1 ! $ move ! (18 ∷ 19 ∷ []) $ free1 ! $ move ! (16 ∷ 17 ∷ []) $ free1 ! $ move ! (14 ∷ 15 ∷ []) $ free1 ! $ move ! (12 ∷ 13 ∷ []) $ free1 ! $ move ! (10 ∷ 11 ∷ []) $ free1 ! $ move ! (8 ∷ 9 ∷ []) $ free1 ! $ move ! (6 ∷ 7 ∷ []) $ free1 ! $ move ! (4 ∷ 5 ∷ []) $ free1 ! $ free0 ! $
               suffices ! _ (ends-at 𝓤 H A f.ended (stays (f.ended .signature .params) (f.ended .kept) params) clauses W y (sweep-val s) s (tt, (tt, (tt, (tt, (tt, (tt, (zs, tt))))))) (tt, (tt, (tt, (tt, (tt, (tt, (g .1 .0, tt)))))))) $
               says ! (asked-all question (p .header) rows (subset p) (now (p .conditions)) (all-pass Known) os s₀ (all-known (p .header) rows (now (p .conditions))) begun s zs (finished (p .header) rows (subset p) test s₀ os can s zs (g .0) l)) $
               rewrite ! 3 (λ (j : ℕ). ‵ (OwnOut κ (out-at b o γ zs) (sliceVal (b, o) j))) (g .1 .0) refl $ nothing ! $ move ! (3 ∷ 0 ∷ []) $ join ! $ move ! (1 ∷ 0 ∷ []) $ tokens-on p ! $ frame ! $
-              nothing ! $ move ! (2 ∷ 0 ∷ []) $ fjoin ! $ move ! (1 ∷ 0 ∷ []) $ slices-on p ! is $ own-question ! question is-q $ fjoin ! $ frame ! $ own-sweep ! s (g .1 .1) $ done !
+              nothing ! $ move ! (2 ∷ 0 ∷ []) $ fjoin ! $ move ! (1 ∷ 0 ∷ []) $ slices-on p ! is $ own ! questions question is-q $ fjoin ! $ frame ! $ own ! sweeps s (g .1 .1) $ done !
 
           turn : (s : Sweep) (zs : List ℕ) (g : Held s zs) (t : Bool) → ltb (s .next) (s .end) ≡ t → Sq W (I (s, (zs, g))) (runs (𝓣 .C) (𝓣 .Λ) E mir.turn-1 (Turned (s, (zs, g))))
           turn s zs g true e = more s zs g (ltb-true (s .next) (s .end) e)
           turn s zs g false e = ends s zs g (ltb-false (s .next) (s .end) e)
 
-          sweeps : (is-s : Is ST.the-row s₀ (sweep-val s₀ ∷ [])) → Sq W (I (s₀, (os, (swept-begin (p .header) rows (subset p) test s₀ os can, (refl, is-s))))) (runs (𝓣 .C) (𝓣 .Λ) E mir.t-6 (atRet E Post))
-          sweeps is-s = first ! $ blocks ! $ loops ! 𝓣 Nearer (fewer-wf State at) I (λ t. turn (t .0) (t .1 .0) (t .1 .1) (ltb (t .0 .next) (t .0 .end)) refl) (s₀, (os, (swept-begin (p .header) rows (subset p) test s₀ os can, (refl, is-s))))
+          loop : (is-s : Is ST.the-row s₀ (sweep-val s₀ ∷ [])) → Sq W (I (s₀, (os, (swept-begin (p .header) rows (subset p) test s₀ os can, (refl, is-s))))) (runs (𝓣 .C) (𝓣 .Λ) E mir.t-6 (atRet E Post))
+          loop is-s = first ! $ blocks ! $ loops ! 𝓣 Nearer (fewer-wf State at) I (λ t. turn (t .0) (t .1 .0) (t .1 .1) (ltb (t .0 .next) (t .0 .end)) refl) (s₀, (os, (swept-begin (p .header) rows (subset p) test s₀ os can, (refl, is-s))))
 
         -- whether the conditions are known is told: `opening`
         opens : Sq W (Around os knows empty) (runs (𝓣 .C) (𝓣 .Λ) E mir.t-3 (atRet E Post))
@@ -242,12 +242,12 @@ module _ {M : Type 1} (𝓤 : URA M) (H : Heap 𝓤) (A : Atoms 𝓤) (W : Given
             -- [what `opening` asks; κ₀'s token, κ₂'s; what is lent as `&`; κ's token; what out owns; _17; …]
             calls opn.ended opening to-open (λ s ws. Begun s) (λ s ws. id⊢ 𝓤 _) ! (fmOf 𝓤 H (W .laws) 𝓣) known-open (arg ! 38 refl (arg ! 36 refl (arg ! 16 refl (arg ! 32 refl (arg ! 30 refl (arg ! 24 refl (arg ! 14 refl (no-more !)))))))) (λ w s ws begun.
             move ! (2 ∷ []) $ drop ! $ move ! (1 ∷ []) $ sweep-lands ! s w (λ is-s. split ! $ move ! (1 ∷ []) $ drop ! $ move ! (1 ∷ 0 ∷ []) $ together p ! $
-            land ! (from ! (stop !)) (init ! 20 refl (sweep-typed W s is-s)) $ forget ! 12 refl $ forget ! 14 refl $ sweeps s begun is-s))
+            land ! (from ! (stop !)) (init ! 20 refl (typed W sweeps s is-s .0)) $ forget ! 12 refl $ forget ! 14 refl $ loop s begun is-s))
 
         -- the body: `all_pass`
         begins : Sq W (Around os empty empty) (runs (𝓣 .C) (𝓣 .Λ) E mir.t-1 (atRet E Post))
         begins =
-            assigns ! (agg ! (and-then ! (lit ! tt) (no-more !))) (from ! (stop !)) (init ! 16 refl (test-typed W Known is-t)) $
+            assigns ! (agg ! (and-then ! (lit ! tt) (no-more !))) (from ! (stop !)) (init ! 16 refl (typed W tests Known is-t .0)) $
             calls-all Known is-t tt ! 𝓣 known-all (arg ! 17 refl (arg ! 35 refl (arg ! 33 refl (arg ! 27 refl (no-more !))))) (land ! (from ! (stop !)) (init ! 22 refl (tt, tt)) $ forget ! 16 refl $ opens)
           where
             is-t : Is TT.the-row Known (test-val Known ∷ [])
@@ -260,7 +260,7 @@ module _ {M : Type 1} (𝓤 : URA M) (H : Heap 𝓤) (A : Atoms 𝓤) (W : Given
           tokens-off p ! $ move ! (1 ∷ []) $ split ! $ move ! (3 ∷ []) $ fsplit ! $ drop ! $ slices-off p ! $ move ! (1 ∷ []) $ fsplit ! $ keep ! (5 ∷ 2 ∷ 3 ∷ 0 ∷ []) $
           enter ! (𝓣 .C) (𝓣 .Λ) code.function (Walked f.ended params 𝓤 H A clauses .args y) _ $
           alloc1 ! (λ l₀. alloc1 ! (λ l₁. alloc1 ! (λ l₂. alloc1 ! (λ l₃. alloc1 ! (λ l₄. alloc1 ! (λ l₅. alloc1 ! (λ l₆. alloc1 ! (λ l₇. alloc1 ! (λ l₈. alloc1 ! (λ l₉. alloc1 ! (λ l₁₀. alloc1 ! (λ l₁₁. alloc1 ! (λ l₁₂. alloc1 ! (λ l₁₃. alloc1 ! (λ l₁₄. alloc1 ! (λ l₁₅. alloc1 ! (λ l₁₆. alloc1 ! (λ l₁₇. alloc0 ! $ params1 ! $
-          pass1 ! (init ! 32 refl (question-typed W question is-q)) $ pass1 ! (init ! 30 refl (header-typed W (p .header) (is .0))) $ pass1 ! (init ! 28 refl (fits (rooms .0 .0))) $ pass1 ! (init ! 26 refl (head-typed W (p .head) (is .1))) $ pass1 ! (init ! 24 refl (fits (rooms .1 .0 .0))) $ pass1 ! (init ! 22 refl (fits (rooms .1 .1 .0))) $ pass1 ! (init ! 20 refl (fits (room .0))) $ pass0 ! $
+          pass1 ! (init ! 32 refl (typed W questions question is-q .0)) $ pass1 ! (init ! 30 refl (typed W headers (p .header) (is .0) .0)) $ pass1 ! (init ! 28 refl (fits (rooms .0 .0))) $ pass1 ! (init ! 26 refl (typed W heads (p .head) (is .1) .0)) $ pass1 ! (init ! 24 refl (fits (rooms .1 .0 .0))) $ pass1 ! (init ! 22 refl (fits (rooms .1 .1 .0))) $ pass1 ! (init ! 20 refl (fits (room .0))) $ pass0 ! $
           move ! (36 ∷ 37 ∷ 38 ∷ 39 ∷ []) $ begins 𝓣 known-all known-open known-step l₀ l₁ l₂ l₃ l₄ l₅ l₆ l₇ l₈ l₉ l₁₀ l₁₁ l₁₂ l₁₃ l₁₄ l₁₅ l₁₆ l₁₇))))))))))))))))))
 
 pub ask-spec : {M : Type 1} → stated.statement M
