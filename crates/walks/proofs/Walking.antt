@@ -1,14 +1,15 @@
 -- What every walk by hand does, said once, of any function:
---     Tokens, tokens-are     the tokens of a call's lifetimes as an entry of the context
+--     Tokens                 the tokens of a call's lifetimes as an entry of the context
 --     env-of, Cells          a function's locals at their blocks, and what is in them as entries of the context, the last first
---     Cites                  a callee's contract, as a walk knows it
+--     Asked, Cites           a callee's contract; that a table of calls meets it
 --     arg                    a call's next operand is a local, which stands at entry n of the context
 --     twice                  what is lent as `&` is had twice
 --     bool-lands             a call's result that is known to be a truth value lands
 --     calls, calls-last      a call: what it is asked stands at the head of the context; then come its tokens, its result and the last values of what it was
 --                            lent, and what its contract says is learned
 --     Value, typed, own      types of plain values: their machine values are of their types, and owned for nothing
---     Passed s k             all that a walk is to know of a parameter: what is had of it at exit, and its machine values.       by-value, lent-slice, kept-slice, given-slice      the kinds
+--     Passed s k             all that a walk is to know of a parameter: what is had of it at exit, and its machine values.
+--                            By kind: by-value, lent-slice, kept-slice, given-slice
 --     walk-runs              from the walk of a function's MIR to its theorem
 -- Assumes `Given`.
 use Rattle.walks.proofs.Prelude.{_≡_, refl, ap, _∙_, ℕ, Bool, List, [], _∷_, URA, fullShare, Body, Place, Ty, Operand, call, seq, Val, vbool, SProp, ent, id⊢, Lft, Share, ftrue, flft, fat, froom, fdies, Heap, Calls, Env, Loops, WpFn, Atoms, Fun, givenOf, tables, tablesOf, Given, Goal}
@@ -39,6 +40,7 @@ use denote.Triple.Statement.{Contract, Triple}
 use denote.Triple.Table.{entered}
 use denote.Triple.Walked.{Stay, Stays, Goes, AllGo, stay-none, stay-none-slice, stay-slice, gave-slice, goes-none, goes-none-slice, goes-slice, goes-gave-slice, walkOf, walked, walk-meets}
 
+-- what is in a local
 pub data Cell : Type 0 where
   empty : Cell
   holds : Val → Cell
