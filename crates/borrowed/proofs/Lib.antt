@@ -1,1 +1,3 @@
 pub mod BorrowedSteps
+pub mod Locals
+pub mod Walking

@@ -34,11 +34,7 @@ pub extern "C" fn mouldgrey_refine_one(
     ensures { λ r. ⌜ QuestionInWords (λ answer. RefinedOne (headerIn (now (header .entry))) (now (rows .entry)) (subsetOf (record { dense = dense; start = start; end = end }) (now (ids .entry))) (record { kind = kind; column = column; value = value }) (now (output .entry)) answer (now (output .exit))) subsetNumber subsetWords 3 (now (header .entry)) (now (words .entry)) r (now (words .exit)) × (((length (now (header .entry)) ≡ 12) × (length (now (words .entry)) ≡ 3) → ⊥) → now (output .exit) ≡ now (output .entry)) ⌝ }
 {
     let h = header_asked(header, words.len(), 3);
-    let head = SubsetHead {
-        dense,
-        start,
-        end,
-    };
+    let head = SubsetHead { dense, start, end };
     let c = Constraint {
         kind,
         column,
