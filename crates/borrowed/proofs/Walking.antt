@@ -2,7 +2,9 @@
 --     Known R          a type's machine values, and that they are of its MIR types: `number`, `truth`, `reads`, `writes`, `struct`
 --     met              a function without a `requires` meets its contract: it is walked from its tokens and what its parameters own, at the machine values
 --     ends             the end of a walk: the tokens, the last values, the result, and what is said of it
+--     ends-saying      the same, with what is said of the result shown
 --     answers          a call of a function without a `requires`: its result is stored, and what it says of it is had
+--     last-out         what the last of some parameters owns is had apart
 --     skips, pads      k parameters of which no last value is said, before those of which one is
 --     proved           from a function's code to its entry in the table of calls
 -- Assumes `Given`.
@@ -39,7 +41,7 @@ use ghost.Atoms.{sem}
 use contract.Lifetimes.{Shares, AllOutlive}
 use contract.Running.{GhostRules, Running, tables, tablesOf}
 use sound.WpLaws.{fmOf}
-use types.Kit.{Go, Item, ‵, raw, _⊛_, some, later, Post, Goal, prop, runs, Seq, Step, step, use1, split, join, fjoin, frame, await, pick, updating, now as at-once, show, done}
+use types.Kit.{Go, Item, ‵, raw, _⊛_, some, later, Post, Goal, prop, runs, Seq, Step, step, use0, use1, split, join, fjoin, frame, await, pick, updating, now as at-once, show, done}
 use types.Run.{from, stop, land}
 use types.Part.{look-in}
 use denote.RattleType.{RattleType, owns, flat, mirs}
@@ -129,6 +131,10 @@ module _ {M : Type 1} (𝓤 : URA M) (H : Heap 𝓤) (A : Atoms 𝓤) (W : Given
           (prop (tripleOf 𝓤 H A S (closing 𝓤 H A T c) .post y v))
       ends = updating ! $ at-once ! $ show ! Result r $ move ! (0 ∷ 2 ∷ []) $ join ! $ frame ! $ show ! Last ws $ frame ! $ done !
 
+      pub ends-saying : ent 𝓤 (emp 𝓤) (c (y .0 .0) (y .0 .3) .ensures (y .1) r (atExit T (y .0 .0) (y .0 .3) ws))
+          → Seq (Go {0}) W (raw (alive 𝓤 H A S (y .0 .0) (y .0 .1)) ∷ ‵ (lasts T (y .0 .0) (y .0 .3) ws) ∷ ‵ (typeAt (S .result) (y .0 .0) .own r (v ∷ [])) ∷ []) (prop (tripleOf 𝓤 H A S (closing 𝓤 H A T c) .post y v))
+      ends-saying said = use0 W (raw (c (y .0 .0) (y .0 .3) .ensures (y .1) r (atExit T (y .0 .0) (y .0 .3) ws))) said $ move ! (1 ∷ 2 ∷ 3 ∷ 0 ∷ []) $ ends
+
 module _ {M : Type 1} {𝓤 : URA M} {H : Heap 𝓤} {A : Atoms 𝓤} {K : Type 0} {W : Given 𝓤 H A} {E : List (Ty × ℕ)} {hs : List (Option Val)} {Γ : List (Item 𝓤)} {C : Calls 𝓤 H} {Λ : Loops 𝓤 H} {q : Post 𝓤 H} {rest : Body} where
   pub answers : K → FmC 𝓤 H (W .laws) C → (T : Ended) (c : Clauses 𝓤 T) {f : Name} {xs : List Operand} {j : ℕ} → Triple 𝓤 (C f) (tripleOf 𝓤 H A (T .signature) (closing 𝓤 H A T c))
       → (x : tripleOf 𝓤 H A (T .signature) (closing 𝓤 H A T c) .Ghost) → ent 𝓤 (emp 𝓤) (c (x .0 .0) (x .0 .3) .requires (x .1)) → operands E hs xs ≡ just (passed 𝓤 H A (T .signature) (x .0))
@@ -160,6 +166,17 @@ module _ {M : Type 1} {𝓤 : URA M} {H : Heap 𝓤} {A : Atoms 𝓤} {K : Type 
   pub pads : K → (k : ℕ) {P : Fml} {Γ : List (Item 𝓤)} → Step K W (‵ (Behind k P) ∷ Γ) G (‵ P ∷ Γ) G
   pads t zero = step (λ s. s)
   pads t (suc k) = step (λ s. pads t k $ nothing t $ fjoin t $ s)
+
+-- ---- what parameters own
+abbrev Row : List Fml → Fml → Fml
+Row [] Q = Q
+Row (P ∷ Ps) Q = fsep P (Row Ps Q)
+
+-- that of the last is had apart
+module _ {M : Type 1} {𝓤 : URA M} {H : Heap 𝓤} {A : Atoms 𝓤} {K : Type 0} {W : Given 𝓤 H A} {G : Goal 𝓤 H} where
+  pub last-out : K → (Ps : List Fml) {Q : Fml} {Γ : List (Item 𝓤)} → Step K W (‵ (Row Ps ftrue) ∷ ‵ Q ∷ Γ) G (‵ (Row Ps (fsep Q ftrue)) ∷ Γ) G
+  last-out t [] = step (λ s. fsplit t $ move t (1 ∷ 0 ∷ []) $ s)
+  last-out t (P ∷ Ps) = step (λ s. fsplit t $ move t (1 ∷ []) $ last-out t Ps $ move t (2 ∷ 0 ∷ []) $ fjoin t $ s)
 
 -- a function that its code meets is met by its entry in the table, which is monotone under a frame
 pub proved : {M : Type 1} (𝓤 : URA M) (H : Heap 𝓤) (𝓜 : Model 𝓤 H) (𝓖 : GhostRules 𝓤 H) (𝓡 : Running 𝓤 H 𝓜) (γ : Env) (k : Name) (f : Fn) (c : Contract 𝓤)

@@ -1,2 +1,1 @@
-pub mod HeaderSteps
-pub mod SubsetSteps
+pub mod ExportSteps
