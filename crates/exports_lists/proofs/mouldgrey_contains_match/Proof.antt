@@ -3,38 +3,21 @@
 use mathlib.Core.Path.{refl}
 use mathlib.Core.List.{[], _∷_}
 use lib.Dec.{lit<}
-use lib.ListN.{length}
 use mir.Syntax.{erased, named, w32, w64}
-use mir.Val.{vint}
-use base.Fml.{ftrue, fsep}
-use base.Logic.{emp}
-use contract.Monad.{factI}
-use types.Kit.{keep, fjoin}
 use denote.Laws.{Is}
-use denote.Plain.{uint-makes, uint-lawful}
 use denote.Builtin.{usize}
-use denote.Ref.{NamedLft, now}
-use denote.Slice.{slice-vals}
-use denote.Steps.{owned, heard, nothing}
-use denote.Struct.Laws as LL
+use denote.Ref.{NamedLft}
 use Rattle.constraints.proofs.Constraint as CT
-use Rattle.offsets.specs.Answers.{subsetOf}
-use Rattle.borrowed.specs.Borrowed.{headOf}
 use Rattle.borrowed.specs.declared.SubsetRef.{SubsetRef}
 use Rattle.borrowed.proofs.SubsetRef.Laws as DT′
 use Rattle.borrowed.proofs.Locals.{enters, cell, copies, copies-field, makes, lends, leaves}
 use Rattle.borrowed.proofs.Walking.{URA, SProp, id⊢, Memory, Routine, Heap, Calls, Loops, WpFn, Atoms, Lfts, Fun, FmC, givenOf, Given, _$_, !, move, u32, typesAt, enum-lawful, Meets, tripleOf, Triple, cited, Knowns, number, truth, reads, writes, machine, met, ends-saying, answers, last-out, skips, pads, proved}
-use Rattle.table.specs.declared.Header.{Header}
-use Rattle.table.proofs.Header as HT
-use Rattle.table.proofs.Header.Laws as HT′
 use Rattle.queries.specs.declared.MatchAnswer.{MatchAnswer}
 use Rattle.queries.proofs.MatchAnswer as AT
 use Rattle.queries.proofs.MatchAnswer.Laws as AT′
 use Rattle.queries.specs.Queries.{Matched}
 use Rattle.asking.specs.Asking.{matchNumber, matchWords}
-use Rattle.asking.specs.inner.Steps.{HeaderAsked, Tells}
-use Rattle.asking.specs.Laws.Asking.{asked-told}
-use Rattle.exports_lists.proofs.ExportSteps.{between, between-shares, last, last-share, splits-tokens, gathers-tokens, lent, lent-typed, lays-out, Final}
+use Rattle.exports_lists.proofs.ExportSteps.{length, vint, emp, ftrue, fsep, factI, keep, fjoin, uint-lawful, now, slice-vals, heard, subsetOf, Header, headOf, Tells, asked-told, between, between-shares, last, last-share, splits-tokens, gathers-tokens, lent, lent-typed, lays-out, reads-header, hands-words, Final}
 use Rattle.asking.proofs.header_asked as hdr
 use Rattle.asking.proofs.header_asked.Symbol as hdr-def
 use Rattle.asking.proofs.header_asked.Met as hdr-thm
@@ -71,20 +54,19 @@ module _ {M : Type 1} (𝓤 : URA M) (H : Heap 𝓤) (A : Atoms 𝓤) (W : Given
       move ! (1 ∷ []) $ splits-tokens ! 3 κs qs $ move ! (4 ∷ []) $ lays-out α dense start end ids (are .1 .1 .1 .0) (are .1 .1 .1 .1 .0) ! (length (z .now)) 1 is-words (refl, lit< tt) $
       move ! (1 ∷ []) $ last-out ! (_ ∷ _ ∷ _ ∷ []) $ move ! (3 ∷ 2 ∷ 6 ∷ []) $
       -- [the header's token; what the call that reads it asks; the locals; what the question asks but for the header; what words owns; the other tokens]
-      answers ! fm hdr.ended (hdr.clauses 𝓤 H A mem run) known-header (((κs .0, tt), (qs .0, tt), tt, (e, (length (z .now), (1, tt))), (slice-vals e, (vint w64 (length (z .now)) ∷ [], (vint w64 1 ∷ [], tt)))), tt) (id⊢ 𝓤 _) refl (LL.lawful HT.the-type HT′.the-laws 𝓤 H A W) (λ v t. t .0) tt (λ hv h ws is.
-      move ! (4 ∷ []) $ heard ! (HeaderAsked (now e) (length (z .now)) 1 h) (λ header. makes ! refl tt (d-typed .0) $ copies ! refl tt (d-typed .0) $
-      move ! (3 ∷ 4 ∷ []) $ fjoin ! $ keep ! (5 ∷ 0 ∷ 1 ∷ 2 ∷ 4 ∷ 6 ∷ []) $
+      reads-header ! fm mem run known-header (κs .0) (qs .0) e (length (z .now)) 1 refl (λ v t. t .0) tt (λ hv h header. makes ! refl tt (d-typed .0) $ copies ! refl tt (d-typed .0) $
+      move ! (1 ∷ 3 ∷ []) $ fjoin ! $ move ! (4 ∷ 0 ∷ 1 ∷ []) $
       -- [the question's tokens; what it asks; the locals; the header's token; what words owns; its token]
       answers ! fm ask.ended (ask.clauses 𝓤 H A mem run) known-question ((between 3 (κs .1), between-shares 3 (qs .1), tt, (h, (x, (d, (y, tt)))), (hv ∷ [], (slice-vals x, (DT′.lowered d ∷ [], (slice-vals y, tt))))), tt) (id⊢ 𝓤 _) refl (enum-lawful AT.the-type AT′.the-laws 𝓤 H A W tt) (λ v t. t .0) tt (λ rv r ws is.
       move ! (4 ∷ []) $ heard ! (Asks h r) (λ asked. copies-field ! (cell ! 1 refl) refl refl tt (tt, typed .0 .1 .1 .0) $ lends ! refl refl tt (tt, tt) refl refl tt z-typed $
-      nothing ! $ move ! (6 ∷ 0 ∷ []) $ fjoin ! $ move ! (4 ∷ 0 ∷ []) $ fjoin ! $ owned ! usize (Is usize) (uint-makes 𝓤 H A W w64) (length (e .now)) _ (refl, are .0 .0 .1 .0) $ fjoin ! $ move ! (5 ∷ 0 ∷ 1 ∷ []) $
+      move ! (0 ∷ 3 ∷ 5 ∷ []) $ hands-words ! (length (e .now)) (refl, are .0 .0 .1 .0) $ move ! (5 ∷ 0 ∷ 1 ∷ []) $
       -- [words' token; what the call that tells asks; the locals; the question's tokens; its last values; the header's token]
       answers ! fm tel.ended (tel.clauses 𝓤 H A mem run) known-tell (((last 3 (κs .1), tt), (last-share 3 (qs .1), tt), tt, (length (e .now), (r, (z, tt))), (vint w64 (length (e .now)) ∷ [], (rv ∷ [], (slice-vals z, tt)))), tt) (id⊢ 𝓤 _) refl (uint-lawful 𝓤 H A W w32) (λ v t. t .0) tt (λ tv t zs is.
       move ! (4 ∷ []) $ heard ! (Tells matchNumber matchWords 1 (length (now e)) r (now z) t (zs .1 .1 .0)) (λ told. leaves ! refl tt $
       -- [words' token; the last values of the call that tells; the result; the question's tokens; its last values; the header's token]
       move ! (5 ∷ 3 ∷ 0 ∷ []) $ gathers-tokens ! 3 κs qs $ move ! (1 ∷ []) $ skips ! 2 (fsep (Final z (zs .1 .1 .0)) ftrue) $ pads ! 7 $ keep ! (1 ∷ 0 ∷ 2 ∷ []) $
       ends-saying 𝓤 H A W f.ended (f.clauses 𝓤 H A mem run) ((κs, qs, bounds, a, vals), g) tv t (tt, (tt, (tt, (tt, (tt, (tt, (tt, (zs .1 .1 .0, tt))))))))
-      (factI 𝓤 _ (emp 𝓤) (asked-told Asks header asked told))))))))))
+      (factI 𝓤 _ (emp 𝓤) (asked-told Asks header asked told)))))))))
 
 pub mouldgrey-contains-match-spec : {M : Type 1} → stated.statement M
 unfolding code.routine
