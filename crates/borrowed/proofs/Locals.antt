@@ -1,7 +1,7 @@
 -- A walk of straight-line code with all locals of the function as one entry of the context, the first. It says nothing of the crate.
 --     locals E hs      the locals of E, and for each what it holds, if anything
 --     enters           a function is entered: its parameters hold what is passed
---     cell, fills      what local i holds is read; local i is filled
+--     held, cell, fills       what local i holds, and that it is read; local i is filled
 --     copies, copies-field, lends, makes      a local, a field of one is copied; a `&mut [T]` is lent on; a struct is made of locals and numbers
 --     operands, all-read      what operands that are locals or numbers give, and that they are read
 --     leaves           the function returns: what local 0 holds is its result
@@ -24,30 +24,20 @@ use prog.Wp.{Heap, Calls, Loops, WpFn, spotOf}
 use ghost.Atoms.{Atoms}
 use types.Kit.{Given, Item, ‵, raw, _⊛_, given, mean, Post, atRet, Goal, prop, runs, allocs, params′, passes, frees, Seq, Step, step, _$_, _∵_, !, qed, by, move, use0, use1, use2, split, join, drop, frame, each, assume, check, done}
 use types.Run.{Reads, Writes, Opd, Opds, init, load, from, stop, hop, fld, lit, addr, and-then, no-more, of-opd, assigns, returns, enter, alloc1, alloc0, params1, pass1, pass0, free1, free0}
-use denote.Slice.{sliceTy, sliceVal}
 use types.Part.{Part, look-in, sub, agg}
+use denote.Slice.{sliceTy, sliceVal}
 
 -- what local i holds
-abbrev pub held : List (Option Val) → ℕ → Option Val
-held [] i = none
-held (h ∷ hs) zero = h
-held (h ∷ hs) (suc i) = held hs i
+abbrev pub held : List (Ty × ℕ) → List (Option Val) → ℕ → Option Val
+held [] hs i = none
+held (e ∷ E) [] i = none
+held (e ∷ E) (h ∷ hs) zero = h
+held (e ∷ E) (h ∷ hs) (suc i) = held E hs i
 
 abbrev pub set : List (Option Val) → ℕ → Val → List (Option Val)
 set [] i v = []
 set (h ∷ hs) zero v = just v ∷ hs
 set (h ∷ hs) (suc i) v = h ∷ set hs i v
-
-set-held : (hs : List (Option Val)) (i : ℕ) (v : Val) → held hs i ≡ just v → set hs i v ≡ hs
-set-held [] i v e = refl
-set-held (h ∷ hs) zero v e = ap (λ (x : Option Val). x ∷ hs) (sym e)
-set-held (h ∷ hs) (suc i) v e = ap (λ (x : List (Option Val)). h ∷ x) (set-held hs i v e)
-
-abbrev pub inside : List (Ty × ℕ) → List (Option Val) → ℕ → Option Val
-inside [] hs i = none
-inside (e ∷ E) [] i = none
-inside (e ∷ E) (h ∷ hs) zero = h
-inside (e ∷ E) (h ∷ hs) (suc i) = inside E hs i
 
 -- there is a local i
 abbrev pub Within : List (Ty × ℕ) → List (Option Val) → ℕ → Type 0
@@ -56,15 +46,16 @@ Within (e ∷ E) [] i = ⊥
 Within (e ∷ E) (h ∷ hs) zero = Unit {0}
 Within (e ∷ E) (h ∷ hs) (suc i) = Within E hs i
 
+-- there is one that holds v, and to set it to v changes nothing
 abbrev Nothing : Option Val → Type 0
 Nothing none = Unit {0}
 Nothing (just v) = ⊥
 
-within : (E : List (Ty × ℕ)) (hs : List (Option Val)) (i : ℕ) {v : Val} → inside E hs i ≡ just v → Within E hs i × (held hs i ≡ just v)
-within [] hs i e = absurd (subst Nothing e tt)
-within (e ∷ E) [] i p = absurd (subst Nothing p tt)
-within (e ∷ E) (h ∷ hs) zero p = (tt, p)
-within (e ∷ E) (h ∷ hs) (suc i) p = within E hs i p
+within : (E : List (Ty × ℕ)) (hs : List (Option Val)) (i : ℕ) (v : Val) → held E hs i ≡ just v → Within E hs i × (set hs i v ≡ hs)
+within [] hs i v p = absurd (subst Nothing p tt)
+within (e ∷ E) [] i v p = absurd (subst Nothing p tt)
+within (e ∷ E) (h ∷ hs) zero v p = (tt, ap (λ (x : Option Val). x ∷ hs) (sym p))
+within (e ∷ E) (h ∷ hs) (suc i) v p = (within E hs i v p .0, ap (λ (x : List (Option Val)). h ∷ x) (within E hs i v p .1))
 
 pub data Holding (E : List (Ty × ℕ)) (hs : List (Option Val)) : Type 0 where
   holding : Holding E hs
@@ -99,7 +90,7 @@ module _ {M : Type 1} (𝓤 : URA M) (H : Heap 𝓤) (A : Atoms 𝓤) (W : Given
 
   -- local i is taken out, and may be put back with any value
   opened : (E : List (Ty × ℕ)) (hs : List (Option Val)) (i : ℕ) → Within E hs i
-      → ent 𝓤 (locals 𝓤 H E hs) (sep 𝓤 (lies 𝓤 H (spotOf 𝓤 H E i .0, spotOf 𝓤 H E i .1) (held hs i)) (all 𝓤 (Filling E hs i)))
+      → ent 𝓤 (locals 𝓤 H E hs) (sep 𝓤 (lies 𝓤 H (spotOf 𝓤 H E i .0, spotOf 𝓤 H E i .1) (held E hs i)) (all 𝓤 (Filling E hs i)))
   unfolding locals
   opened [] hs i z = absurd z
   opened (e ∷ E) [] i z = absurd z
@@ -108,7 +99,7 @@ module _ {M : Type 1} (𝓤 : URA M) (H : Heap 𝓤) (A : Atoms 𝓤) (W : Given
       each ! (Filling (e ∷ E) (h ∷ hs) zero) (λ u. assume ! (‵ (fat fullShare (e .0) (e .1) zero u)) $ join ! $ join ! $ done !)
   opened (e ∷ E) (h ∷ hs) (suc i) z =
       qed W (((raw (lies 𝓤 H e h) ⊛ ‵ (fdies (e .0) (e .1))) ⊛ raw (locals 𝓤 H E hs)) ∷ []) ∵ split ! $ move ! (1 ∷ []) $
-      use1 W (raw (lies 𝓤 H (spotOf 𝓤 H E i .0, spotOf 𝓤 H E i .1) (held hs i)) ⊛ raw (all 𝓤 (Filling E hs i))) (opened E hs i z) $ split ! $ frame ! $
+      use1 W (raw (lies 𝓤 H (spotOf 𝓤 H E i .0, spotOf 𝓤 H E i .1) (held E hs i)) ⊛ raw (all 𝓤 (Filling E hs i))) (opened E hs i z) $ split ! $ frame ! $
       each ! (Filling (e ∷ E) (h ∷ hs) (suc i)) (λ u. assume ! (‵ (fat fullShare (spotOf 𝓤 H E i .0) (spotOf 𝓤 H E i .1) zero u)) $
       move ! (1 ∷ []) $ use1 W (raw (Filling E hs i u)) (allE 𝓤 (Filling E hs i) u) $ move ! (1 ∷ 0 ∷ []) $
       use2 W (raw (locals 𝓤 H E (set hs i u))) (apply∗ 𝓤 (H .at fullShare (spotOf 𝓤 H E i .0) (spotOf 𝓤 H E i .1) zero u) (locals 𝓤 H E (set hs i u))) $ move ! (1 ∷ 0 ∷ []) $ join ! $ done !)
@@ -118,10 +109,10 @@ module _ {M : Type 1} (𝓤 : URA M) (H : Heap 𝓤) (A : Atoms 𝓤) (W : Given
   Refilling E hs i u = wand 𝓤 (H .at fullShare (spotOf 𝓤 H E i .0) (spotOf 𝓤 H E i .1) zero u) (mean 𝓤 H A (Locals 𝓤 H E (set hs i u)))
 
   taken : (E : List (Ty × ℕ)) (hs : List (Option Val)) (i : ℕ) → Within E hs i
-      → ent 𝓤 (mean 𝓤 H A (Locals 𝓤 H E hs)) (sep 𝓤 (lies 𝓤 H (spotOf 𝓤 H E i .0, spotOf 𝓤 H E i .1) (held hs i)) (all 𝓤 (Refilling E hs i)))
+      → ent 𝓤 (mean 𝓤 H A (Locals 𝓤 H E hs)) (sep 𝓤 (lies 𝓤 H (spotOf 𝓤 H E i .0, spotOf 𝓤 H E i .1) (held E hs i)) (all 𝓤 (Refilling E hs i)))
   taken E hs i z =
       qed W (Locals 𝓤 H E hs ∷ []) ∵ use1 W (raw (locals 𝓤 H E hs)) (opens E hs) $
-      use1 W (raw (lies 𝓤 H (spotOf 𝓤 H E i .0, spotOf 𝓤 H E i .1) (held hs i)) ⊛ raw (all 𝓤 (Filling E hs i))) (opened E hs i z) $ split ! $ frame ! $
+      use1 W (raw (lies 𝓤 H (spotOf 𝓤 H E i .0, spotOf 𝓤 H E i .1) (held E hs i)) ⊛ raw (all 𝓤 (Filling E hs i))) (opened E hs i z) $ split ! $ frame ! $
       each ! (Refilling E hs i) (λ u. assume ! (‵ (fat fullShare (spotOf 𝓤 H E i .0) (spotOf 𝓤 H E i .1) zero u)) $
       move ! (1 ∷ []) $ use1 W (raw (Filling E hs i u)) (allE 𝓤 (Filling E hs i) u) $ move ! (1 ∷ 0 ∷ []) $
       use2 W (raw (locals 𝓤 H E (set hs i u))) (apply∗ 𝓤 (H .at fullShare (spotOf 𝓤 H E i .0) (spotOf 𝓤 H E i .1) zero u) (locals 𝓤 H E (set hs i u))) $
@@ -133,7 +124,7 @@ number true w n = just (vint w n)
 number false w n = none
 
 abbrev operand : List (Ty × ℕ) → List (Option Val) → Operand → Option Val
-operand E hs (copy (place i [])) = inside E hs i
+operand E hs (copy (place i [])) = held E hs i
 operand E hs (copy (place i (s ∷ st))) = none
 operand E hs (int w n) = number (ltb n (2 ^ bits w)) w n
 operand E hs (intNeg w k) = none
@@ -153,7 +144,7 @@ abbrev pub operands : List (Ty × ℕ) → List (Option Val) → List Operand �
 operands E hs [] = just []
 operands E hs (x ∷ xs) = both (operand E hs x) (operands E hs xs)
 
-module _ {M : Type 1} {𝓤 : URA M} {H : Heap 𝓤} {A : Atoms 𝓤} {K : Type 0} {W : Given 𝓤 H A} (t : K) (E : List (Ty × ℕ)) (hs : List (Option Val)) (Γ : List (Item 𝓤)) (at-locals : (i : ℕ) (v : Val) → inside E hs i ≡ just v → Reads K W Γ (spotOf 𝓤 H E i .0) (spotOf 𝓤 H E i .1) zero v) where
+module _ {M : Type 1} {𝓤 : URA M} {H : Heap 𝓤} {A : Atoms 𝓤} {K : Type 0} {W : Given 𝓤 H A} (t : K) (E : List (Ty × ℕ)) (hs : List (Option Val)) (Γ : List (Item 𝓤)) (at-locals : (i : ℕ) (v : Val) → held E hs i ≡ just v → Reads K W Γ (spotOf 𝓤 H E i .0) (spotOf 𝓤 H E i .1) zero v) where
   abbrev Gives : Operand → Option Val → Type 2
   Gives x none = Unit {2}
   Gives x (just v) = Opd K W Γ E x v
@@ -162,7 +153,7 @@ module _ {M : Type 1} {𝓤 : URA M} {H : Heap 𝓤} {A : Atoms 𝓤} {K : Type 
   Give xs none = Unit {2}
   Give xs (just vs) = Opds K W Γ E xs vs
 
-  local-gives : (i : ℕ) (o : Option Val) → inside E hs i ≡ o → Gives (copy (place i [])) o
+  local-gives : (i : ℕ) (o : Option Val) → held E hs i ≡ o → Gives (copy (place i [])) o
   local-gives i none e = tt
   local-gives i (just v) e = load t (from t (stop t)) (at-locals i v e)
 
@@ -171,7 +162,7 @@ module _ {M : Type 1} {𝓤 : URA M} {H : Heap 𝓤} {A : Atoms 𝓤} {K : Type 
   number-gives w n false e = tt
 
   gives : (x : Operand) → Gives x (operand E hs x)
-  gives (copy (place i [])) = local-gives i (inside E hs i) refl
+  gives (copy (place i [])) = local-gives i (held E hs i) refl
   gives (copy (place i (s ∷ st))) = tt
   gives (int w n) = number-gives w n (ltb n (2 ^ bits w)) refl
   gives (intNeg w k) = tt
@@ -271,11 +262,11 @@ module _ {M : Type 1} {𝓤 : URA M} {H : Heap 𝓤} {A : Atoms 𝓤} {K : Type 
       use1 W ((raw (lies 𝓤 H e h) ⊛ ‵ (fdies (e .0) (e .1))) ⊛ raw (locals 𝓤 H E hs)) (id⊢ 𝓤 _) $ split t $ split t $ use1 W (‵ (froom (e .0) (e .1) zero)) (lies-room 𝓤 H A W e h) $ free1 t $ releases t E hs ok s
 
   module _ {E : List (Ty × ℕ)} {hs : List (Option Val)} where
-    pub cell : K → (i : ℕ) {v : Val} → inside E hs i ≡ just v
+    pub cell : K → (i : ℕ) {v : Val} → held E hs i ≡ just v
         → Part K W (Locals 𝓤 H E hs) fullShare (spotOf 𝓤 H E i .0) (spotOf 𝓤 H E i .1) zero v (λ u. Locals 𝓤 H E (set hs i u))
     cell t i {v} e = record {
-      out = subst (λ (h : Option Val). ent 𝓤 (mean 𝓤 H A (Locals 𝓤 H E hs)) (sep 𝓤 (lies 𝓤 H (spotOf 𝓤 H E i .0, spotOf 𝓤 H E i .1) h) (all 𝓤 (Refilling 𝓤 H A W E hs i)))) (within E hs i e .1) (taken 𝓤 H A W E hs i (within E hs i e .0));
-      same = ap (λ (hs′ : List (Option Val)). Locals 𝓤 H E hs′) (set-held hs i v (within E hs i e .1));
+      out = subst (λ (h : Option Val). ent 𝓤 (mean 𝓤 H A (Locals 𝓤 H E hs)) (sep 𝓤 (lies 𝓤 H (spotOf 𝓤 H E i .0, spotOf 𝓤 H E i .1) h) (all 𝓤 (Refilling 𝓤 H A W E hs i)))) e (taken 𝓤 H A W E hs i (within E hs i v e .0));
+      same = ap (λ (hs′ : List (Option Val)). Locals 𝓤 H E hs′) (within E hs i v e .1);
     }
 
     module _ {Γ : List (Item 𝓤)} where
@@ -283,13 +274,13 @@ module _ {M : Type 1} {𝓤 : URA M} {H : Heap 𝓤} {A : Atoms 𝓤} {K : Type 
           → Writes K W (Locals 𝓤 H E hs ∷ Γ) (spotOf 𝓤 H E i .0) (spotOf 𝓤 H E i .1) zero v (Locals 𝓤 H E (set hs i v) ∷ Γ)
       fills t i {v} z wt = record {
         go = λ P h. qed W (Locals 𝓤 H E hs ∷ Γ) ∵ check ! wt $
-            use1 W (raw (lies 𝓤 H (spotOf 𝓤 H E i .0, spotOf 𝓤 H E i .1) (held hs i)) ⊛ raw (all 𝓤 (Refilling 𝓤 H A W E hs i))) (taken 𝓤 H A W E hs i z) $ split ! $
-            use1 W (‵ (froom (spotOf 𝓤 H E i .0) (spotOf 𝓤 H E i .1) zero)) (lies-room 𝓤 H A W (spotOf 𝓤 H E i .0, spotOf 𝓤 H E i .1) (held hs i)) $ frame ! $
+            use1 W (raw (lies 𝓤 H (spotOf 𝓤 H E i .0, spotOf 𝓤 H E i .1) (held E hs i)) ⊛ raw (all 𝓤 (Refilling 𝓤 H A W E hs i))) (taken 𝓤 H A W E hs i z) $ split ! $
+            use1 W (‵ (froom (spotOf 𝓤 H E i .0) (spotOf 𝓤 H E i .1) zero)) (lies-room 𝓤 H A W (spotOf 𝓤 H E i .0, spotOf 𝓤 H E i .1) (held E hs i)) $ frame ! $
             assume ! (‵ (fat fullShare (spotOf 𝓤 H E i .0) (spotOf 𝓤 H E i .1) zero v)) $ move ! (1 ∷ []) $ use1 W (raw (Refilling 𝓤 H A W E hs i v)) (allE 𝓤 (Refilling 𝓤 H A W E hs i) v) $ move ! (1 ∷ 0 ∷ []) $
             use2 W (Locals 𝓤 H E (set hs i v)) (apply∗ 𝓤 (H .at fullShare (spotOf 𝓤 H E i .0) (spotOf 𝓤 H E i .1) zero v) (mean 𝓤 H A (Locals 𝓤 H E (set hs i v)))) $ by ! h;
       }
 
-      pub leaves : K → {C : Calls 𝓤 H} {Λ : Loops 𝓤 H} {Kf : Val → SProp 𝓤} {v : Val} → inside E hs 0 ≡ just v → Filled E hs → Step K W Γ (prop (Kf v)) (Locals 𝓤 H E hs ∷ Γ) (runs C Λ E return (atRet E Kf))
+      pub leaves : K → {C : Calls 𝓤 H} {Λ : Loops 𝓤 H} {Kf : Val → SProp 𝓤} {v : Val} → held E hs 0 ≡ just v → Filled E hs → Step K W Γ (prop (Kf v)) (Locals 𝓤 H E hs ∷ Γ) (runs C Λ E return (atRet E Kf))
       leaves t e ok = step (λ s. returns t (look-in t 0 (cell t 0 e)) $ use1 W (raw (locals 𝓤 H E hs)) (opens 𝓤 H A W E hs) $ releases t E hs ok s)
 
 module _ {M : Type 1} {𝓤 : URA M} {H : Heap 𝓤} {A : Atoms 𝓤} {K : Type 0} {W : Given 𝓤 H A} {E : List (Ty × ℕ)} {hs : List (Option Val)} {Γ : List (Item 𝓤)} {C : Calls 𝓤 H} {Λ : Loops 𝓤 H} {q : Post 𝓤 H} {rest : Body} where
@@ -299,7 +290,7 @@ module _ {M : Type 1} {𝓤 : URA M} {H : Heap 𝓤} {A : Atoms 𝓤} {K : Type 
   makes t {j} {xs} e z wt = assigns t (agg t (all-read t E hs (Locals 𝓤 H E hs ∷ Γ) (λ i v p. look-in t 0 (cell t i p)) xs e)) (from t (stop t)) (fills t j z wt)
 
   -- local i is copied to local j
-  pub copies : K → {i j : ℕ} {v : Val} → inside E hs i ≡ just v → Within E hs j → T (hasTy (spotOf 𝓤 H E j .0) v) × WT v
+  pub copies : K → {i j : ℕ} {v : Val} → held E hs i ≡ just v → Within E hs j → T (hasTy (spotOf 𝓤 H E j .0) v) × WT v
       → Step K W (Locals 𝓤 H E (set hs j v) ∷ Γ) (runs C Λ E rest q) (Locals 𝓤 H E hs ∷ Γ) (runs C Λ E (seq (assign (place j []) (rvOpd (copy (place i [])))) rest) q)
   copies t {i} {j} e z wt = assigns t (of-opd t (load t (from t (stop t)) (look-in t 0 (cell t i e)))) (from t (stop t)) (fills t j z wt)
 
@@ -310,12 +301,12 @@ module _ {M : Type 1} {𝓤 : URA M} {H : Heap 𝓤} {A : Atoms 𝓤} {K : Type 
   copies-field t {i} {j} {k} p fo fa z wt = assigns t (of-opd t (load t (from t (fld t fo (stop t))) (look-in t 0 (sub t k fa p)))) (from t (stop t)) (fills t j z wt)
 
   -- local i, a `&mut [T]`, is lent on: its pointer to local j, and with its length to local k
-  pub lends : K → {i j k b o n : ℕ} {R τ : Ty} → spotOf 𝓤 H E i .0 ≡ sliceTy R → inside E hs i ≡ just (sliceVal (b, o) n) → Within E hs j → T (hasTy (spotOf 𝓤 H E j .0) (vptr b o)) × WT (vptr b o)
-      → inside E (set hs j (vptr b o)) i ≡ just (sliceVal (b, o) n) → inside E (set hs j (vptr b o)) j ≡ just (vptr b o) → Within E (set hs j (vptr b o)) k → T (hasTy (spotOf 𝓤 H E k .0) (sliceVal (b, o) n)) × WT (sliceVal (b, o) n)
+  pub lends : K → {i j k b o n : ℕ} {R τ : Ty} → spotOf 𝓤 H E i .0 ≡ sliceTy R → held E hs i ≡ just (sliceVal (b, o) n) → Within E hs j → T (hasTy (spotOf 𝓤 H E j .0) (vptr b o)) × WT (vptr b o)
+      → held E (set hs j (vptr b o)) i ≡ just (sliceVal (b, o) n) → held E (set hs j (vptr b o)) j ≡ just (vptr b o) → Within E (set hs j (vptr b o)) k → T (hasTy (spotOf 𝓤 H E k .0) (sliceVal (b, o) n)) × WT (sliceVal (b, o) n)
       → Step K W (Locals 𝓤 H E (set (set hs j (vptr b o)) k (sliceVal (b, o) n)) ∷ Γ) (runs C Λ E rest q)
       (Locals 𝓤 H E hs ∷ Γ) (runs C Λ E (seq (assign (place j []) (addrOf (place i (field 0 ∷ deref τ ∷ [])))) (seq (assign (place k []) (aggregate (copy (place j []) ∷ copy (place i (field 1 ∷ [])) ∷ []))) rest)) q)
   lends t {i} {j} {k} {b} {o} {n} {R} is e zj wt e′ ej zk wt′ =
-      let held-at : (hs′ : List (Option Val)) → inside E hs′ i ≡ just (sliceVal (b, o) n) → Part K W (Locals 𝓤 H E hs′) fullShare (sliceTy R) (spotOf 𝓤 H E i .1) zero (sliceVal (b, o) n) (λ u. Locals 𝓤 H E (set hs′ i u)) = λ hs′ p.
+      let held-at : (hs′ : List (Option Val)) → held E hs′ i ≡ just (sliceVal (b, o) n) → Part K W (Locals 𝓤 H E hs′) fullShare (sliceTy R) (spotOf 𝓤 H E i .1) zero (sliceVal (b, o) n) (λ u. Locals 𝓤 H E (set hs′ i u)) = λ hs′ p.
       subst (λ (σ : Ty). Part K W (Locals 𝓤 H E hs′) fullShare σ (spotOf 𝓤 H E i .1) zero (sliceVal (b, o) n) (λ u. Locals 𝓤 H E (set hs′ i u))) is (cell t i p) in
       let at-field : (m : ℕ) → fieldOf (spotOf 𝓤 H E i .0) m ≡ fieldOf (sliceTy R) m = λ m. ap (λ (σ : Ty). fieldOf σ m) is in
       step (λ s. assigns t (addr t (from t (fld t (at-field 0) (hop t (look-in t 0 (sub t 0 refl (held-at hs e))) (stop t))))) (from t (stop t)) (fills t j zj wt) $
