@@ -1,4 +1,4 @@
--- `exports::tables::bit_of` meets its contract. Assumes nothing.
+-- `words::bit_of` meets its contract. Assumes nothing.
 use mathlib.Core.Path.{refl}
 use Rattle.words.specs.Words.{bit}
 use Rattle.words.proofs.bit_of.Statement.{statement}

@@ -1,4 +1,4 @@
--- `columns_of` meets its contract. Assumes nothing.
+-- `words::columns_of` meets its contract. Assumes nothing.
 use native.Mathlib.Omega.{arith}
 use borrow.Author.Tests.{le-leb, lt-leb}
 use Rattle.words.specs.Words.{columnsIn}

@@ -1,4 +1,4 @@
--- `largest_of` meets its contract. Assumes nothing.
+-- `words::largest_of` meets its contract. Assumes nothing.
 use borrow.Author.Tests.{eq-eqb, ne-eqb}
 use Rattle.words.specs.Words.{largestIn}
 use Rattle.words.proofs.largest_of.Statement.{statement}

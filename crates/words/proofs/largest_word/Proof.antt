@@ -1,14 +1,8 @@
--- `largest_word` meets its contract. Assumes nothing.
+-- `words::largest_word` meets its contract. Assumes nothing.
 use borrow.Author.Needs.{needs}
 use Rattle.words.specs.Words.{largestWord}
 use Rattle.words.proofs.largest_word.Statement.{statement}
 use Rattle.words.proofs.largest_word.Tie as tie
-
-enum-told : tie.Need-enum-told
-enum-told c = search needs
-
-enum-known-largest : tie.Need-enum-known-largest
-enum-known-largest c = search needs
 
 returns : tie.Need-returns
 unfolding largestWord
@@ -19,4 +13,4 @@ unfolding largestWord
 returns-2 c = rw (c .before .largest .given .1)
 
 pub largest-word-spec : {M : Type 1} → statement M
-largest-word-spec = tie.close (tie.spec enum-told enum-known-largest returns returns-2)
+largest-word-spec = tie.close (tie.spec (λ c. search needs) (λ c. search needs) returns returns-2)

@@ -1,4 +1,4 @@
--- `write_five` meets its contract. Assumes nothing.
+-- `words::write_five` meets its contract. Assumes nothing.
 use native.Mathlib.Omega.{arith}
 use lib.ListN.{length-set}
 use Rattle.words.specs.Laws.Written.{written}
@@ -6,28 +6,12 @@ use borrow.Author.Needs.{needs}
 use Rattle.words.proofs.write_five.Statement.{statement}
 use Rattle.words.proofs.write_five.Tie as tie
 
-slice-write-words : tie.Need-slice-write-words
-slice-write-words c = search needs
-
-slice-write-words-2 : tie.Need-slice-write-words-2
-slice-write-words-2 c = search needs
-
-slice-write-words-3 : tie.Need-slice-write-words-3
-slice-write-words-3 c = search needs
-
-slice-write-words-4 : tie.Need-slice-write-words-4
-slice-write-words-4 c = simp length-set (omega arith)
-
-slice-write-words-5 : tie.Need-slice-write-words-5
-slice-write-words-5 c = simp length-set (omega arith)
-
-same-length : tie.Need-same-length
-same-length c = search needs
-
 returns : tie.Need-returns
 returns c = written (c .args .words .now) _ (c .pre)
 
 pub write-five-spec : {M : Type 1} → statement M
 write-five-spec =
     tie.close
-    (tie.spec slice-write-words slice-write-words-2 slice-write-words-3 slice-write-words-4 slice-write-words-5 same-length returns)
+    (tie.spec
+    (λ c. search needs) (λ c. search needs) (λ c. search needs) (λ c. simp length-set (omega arith))
+    (λ c. simp length-set (omega arith)) (λ c. search needs) returns)

@@ -1,54 +1,19 @@
 -- `words::write_row` meets its contract. Assumes nothing.
 use mathlib.Core.Path.{refl}
+use Rattle.words.specs.Laws.Words.{told-as}
 use Rattle.words.specs.Words.{rowNumber, rowWords}
 use borrow.Author.Needs.{needs}
 use Rattle.words.proofs.write_row.Statement.{statement}
 use Rattle.words.proofs.write_row.Tie as tie
 
-enum-known-answer : tie.Need-enum-known-answer
-enum-known-answer c = search needs
-
-enum-told : tie.Need-enum-told
-enum-told c = search needs
-
-write-two-requires : tie.Need-write-two-requires
-write-two-requires c κs = search needs
-
-enum-known-answer-2 : tie.Need-enum-known-answer-2
-enum-known-answer-2 c = search needs
-
-write-two-requires-2 : tie.Need-write-two-requires-2
-write-two-requires-2 c κs = search needs
-
-returns : tie.Need-returns
-unfolding rowNumber rowWords
-returns c = rw (c .before .answer .given .1) record { numbered = refl; worded = refl }
-
-same-length : tie.Need-same-length
-same-length c = search needs
-
-returns-2 : tie.Need-returns-2
-unfolding rowNumber rowWords
-returns-2 c = rw (c .before .before .before .before .enum-told .given .1) record { numbered = refl; worded = c .before .before .write-two .ensures }
-
-same-length-2 : tie.Need-same-length-2
-same-length-2 c = search needs
-
-returns-3 : tie.Need-returns-3
-unfolding rowNumber rowWords
-returns-3 c = rw (c .before .before .before .before .before .answer2 .given .1) record { numbered = refl; worded = c .before .before .write-two2 .ensures }
-
 pub write-row-spec : {M : Type 1} → statement M
+unfolding rowNumber rowWords
 write-row-spec =
     tie.close
     (tie.spec
-    enum-known-answer
-    enum-told
-    write-two-requires
-    enum-known-answer-2
-    write-two-requires-2
-    returns
-    same-length
-    returns-2
-    same-length-2
-    returns-3)
+    (λ c. search needs) (λ c. search needs) (λ c κs. search needs) (λ c. search needs) (λ c κs. search needs)
+    (λ c. told-as (c .before .answer .given .1) refl refl)
+    (λ c. search needs)
+    (λ c. told-as (c .before .before .before .before .enum-told .given .1) refl (c .before .before .write-two .ensures))
+    (λ c. search needs)
+    (λ c. told-as (c .before .before .before .before .before .answer2 .given .1) refl (c .before .before .write-two2 .ensures)))

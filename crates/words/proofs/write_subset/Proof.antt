@@ -1,54 +1,19 @@
 -- `words::write_subset` meets its contract. Assumes nothing.
 use mathlib.Core.Path.{refl}
+use Rattle.words.specs.Laws.Words.{told-as}
 use Rattle.words.specs.Words.{subsetNumber, subsetWords}
 use borrow.Author.Needs.{needs}
 use Rattle.words.proofs.write_subset.Statement.{statement}
 use Rattle.words.proofs.write_subset.Tie as tie
 
-enum-known-answer : tie.Need-enum-known-answer
-enum-known-answer c = search needs
-
-enum-known-answer-2 : tie.Need-enum-known-answer-2
-enum-known-answer-2 c = search needs
-
-write-three-requires : tie.Need-write-three-requires
-write-three-requires c κs = search needs
-
-enum-known-answer-3 : tie.Need-enum-known-answer-3
-enum-known-answer-3 c = search needs
-
-write-three-requires-2 : tie.Need-write-three-requires-2
-write-three-requires-2 c κs = search needs
-
-returns : tie.Need-returns
-unfolding subsetNumber subsetWords
-returns c = rw (c .before .answer .given .1) record { numbered = refl; worded = refl }
-
-same-length : tie.Need-same-length
-same-length c = search needs
-
-returns-2 : tie.Need-returns-2
-unfolding subsetNumber subsetWords
-returns-2 c = rw (c .before .before .before .before .before .answer2 .given .1) record { numbered = refl; worded = c .before .before .write-three .ensures }
-
-same-length-2 : tie.Need-same-length-2
-same-length-2 c = search needs
-
-returns-3 : tie.Need-returns-3
-unfolding subsetNumber subsetWords
-returns-3 c = rw (c .before .before .before .before .before .answer3 .given .1) record { numbered = refl; worded = c .before .before .write-three2 .ensures }
-
 pub write-subset-spec : {M : Type 1} → statement M
+unfolding subsetNumber subsetWords
 write-subset-spec =
     tie.close
     (tie.spec
-    enum-known-answer
-    enum-known-answer-2
-    write-three-requires
-    enum-known-answer-3
-    write-three-requires-2
-    returns
-    same-length
-    returns-2
-    same-length-2
-    returns-3)
+    (λ c. search needs) (λ c. search needs) (λ c κs. search needs) (λ c. search needs) (λ c κs. search needs)
+    (λ c. told-as (c .before .answer .given .1) refl refl)
+    (λ c. search needs)
+    (λ c. told-as (c .before .before .before .before .before .answer2 .given .1) refl (c .before .before .write-three .ensures))
+    (λ c. search needs)
+    (λ c. told-as (c .before .before .before .before .before .answer3 .given .1) refl (c .before .before .write-three2 .ensures)))

@@ -52,6 +52,10 @@ pub flag-refused : (words : List ℕ) → 1 < getD words 10 0 → outside (heade
 unfolding headerIn columnsIn outside openable
 flag-refused words h = rw (lt-leb (getD words 10 0) 1 h)
 
+-- what is told of an answer, by which answer it is
+pub told-as : {A : Type 0} {number : A → ℕ} {words : A → List ℕ} {answer a : A} {r : ℕ} {words′ : List ℕ} → answer ≡ a → r ≡ number a → words′ ≡ words a → Told number words answer r words′
+told-as e n w = rw e record { numbered = n; worded = w }
+
 module _ {promise : TableAnswer → Type 0} {unchanged : Type 0} {header : List ℕ} where
   pub called-unheaded : (length header ≡ 12 → ⊥) → unchanged → CallInWords promise unchanged header 1 header
   called-unheaded n u = record { done = λ e. absurd (n e); unheaded = λ e. (u, refl, refl) }
