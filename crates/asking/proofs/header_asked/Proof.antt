@@ -6,9 +6,6 @@ use borrow.Author.Needs.{needs}
 use Rattle.asking.proofs.header_asked.Statement.{statement}
 use Rattle.asking.proofs.header_asked.Tie as tie
 
-header-of-requires : tie.Need-header-of-requires
-header-of-requires c κs = search needs
-
 returns : tie.Need-returns
 returns c =
     record { held = λ e d. c .header-of .ensures; turned-away = λ n. absurd (n (c .before .before .if1 .taken, c .before .if2 .taken)) }
@@ -22,4 +19,4 @@ unfolding outside openable
 returns-3 c = record { held = λ e d. absurd (c .if1 .left e); turned-away = λ n. refl }
 
 pub header-asked-spec : {M : Type 1} → statement M
-header-asked-spec = tie.close (tie.spec header-of-requires returns returns-2 returns-3)
+header-asked-spec = tie.close (tie.spec (λ c κs. search needs) returns returns-2 returns-3)

@@ -10,12 +10,6 @@ returns c = tells-unheaded (c .if1 .taken)
 returns-2 : tie.Need-returns-2
 returns-2 c = tells-unworded (c .before .if1 .left) (c .if2 .taken)
 
-write-match-requires : tie.Need-write-match-requires
-write-match-requires c κs = search needs
-
-same-length : tie.Need-same-length
-same-length c = search needs
-
 returns-3 : tie.Need-returns-3
 returns-3 c =
     let w = c .before .before in
@@ -23,4 +17,6 @@ returns-3 c =
     tells-done (t .before .if1 .left) (t .if2 .left) (w .write-match .ensures)
 
 pub tell-match-spec : {M : Type 1} → statement M
-tell-match-spec = tie.close (tie.spec returns returns-2 write-match-requires same-length returns-3)
+tell-match-spec =
+    tie.close
+    (tie.spec returns returns-2 (λ c κs. search needs) (λ c. search needs) returns-3)

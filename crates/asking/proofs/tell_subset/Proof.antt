@@ -10,12 +10,6 @@ returns c = tells-unheaded (c .if1 .taken)
 returns-2 : tie.Need-returns-2
 returns-2 c = tells-unworded (c .before .if1 .left) (c .if2 .taken)
 
-write-subset-requires : tie.Need-write-subset-requires
-write-subset-requires c κs = search needs
-
-same-length : tie.Need-same-length
-same-length c = search needs
-
 returns-3 : tie.Need-returns-3
 returns-3 c =
     let w = c .before .before in
@@ -24,4 +18,5 @@ returns-3 c =
 
 pub tell-subset-spec : {M : Type 1} → statement M
 tell-subset-spec =
-    tie.close (tie.spec returns returns-2 write-subset-requires same-length returns-3)
+    tie.close
+    (tie.spec returns returns-2 (λ c κs. search needs) (λ c. search needs) returns-3)

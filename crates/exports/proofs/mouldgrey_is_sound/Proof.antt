@@ -1,44 +1,17 @@
--- `exports::tables::mouldgrey_is_sound` meets its contract. Assumes nothing.
+-- `exports::mouldgrey_is_sound` meets its contract. Assumes nothing.
 use mathlib.Core.Path.{sym}
 use Rattle.words.specs.Laws.Words.{asked-unheaded, asked-unworded, asked-done}
 use borrow.Author.Needs.{needs}
 use Rattle.exports.proofs.mouldgrey_is_sound.Statement.{statement}
 use Rattle.exports.proofs.mouldgrey_is_sound.Tie as tie
 
-returns : tie.Need-returns
-returns c = asked-unheaded (c .if1 .taken)
-
-returns-2 : tie.Need-returns-2
-returns-2 c = asked-unworded (c .before .if1 .left) (c .if2 .taken)
-
-header-of-requires : tie.Need-header-of-requires
-header-of-requires c κs = search needs
-
-is-sound-requires : tie.Need-is-sound-requires
-is-sound-requires c κs = search needs
-
-write-sound-requires : tie.Need-write-sound-requires
-write-sound-requires c κs = search needs
-
-same-length : tie.Need-same-length
-same-length c = search needs
-
-returns-3 : tie.Need-returns-3
-returns-3 c =
-    let w = c .before .before in
-    let q = w .before .before in
-    let h = q .before in
-    let t = h .before in
-    rw (sym (h .header-of .ensures)) (asked-done (t .before .if1 .left) (t .if2 .left) (q .is-sound .ensures) (w .write-sound .ensures))
-
 pub mouldgrey-is-sound-spec : {M : Type 1} → statement M
 mouldgrey-is-sound-spec =
     tie.close
     (tie.spec
-    returns
-    returns-2
-    header-of-requires
-    is-sound-requires
-    write-sound-requires
-    same-length
-    returns-3)
+    (λ c. asked-unheaded (c .if1 .taken))
+    (λ c. asked-unworded (c .before .if1 .left) (c .if2 .taken))
+    (λ c κs. search needs) (λ c κs. search needs) (λ c κs. search needs) (λ c. search needs)
+    (λ c.
+    let h = c .before .before .before .before .before in
+    rw (sym (h .header-of .ensures)) (asked-done (h .before .before .if1 .left) (h .before .if2 .left) (c .before .before .before .before .is-sound .ensures) (c .before .before .write-sound .ensures))))

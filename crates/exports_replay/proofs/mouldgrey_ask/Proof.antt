@@ -11,24 +11,6 @@ returns c = (asked-unheaded (c .if1 .taken), λ n. (refl, refl))
 returns-2 : tie.Need-returns-2
 returns-2 c = (asked-unworded (c .before .if1 .left) (c .if2 .taken), λ n. (refl, refl))
 
-header-of-requires : tie.Need-header-of-requires
-header-of-requires c κs = search needs
-
-ask-requires : tie.Need-ask-requires
-ask-requires c κs = search needs
-
-write-run-requires : tie.Need-write-run-requires
-write-run-requires c κs = search needs
-
-same-length : tie.Need-same-length
-same-length c = search needs
-
-same-length-2 : tie.Need-same-length-2
-same-length-2 c = search needs
-
-same-length-3 : tie.Need-same-length-3
-same-length-3 c = search needs
-
 returns-3 : tie.Need-returns-3
 returns-3 c =
     let w = c .before .before in
@@ -44,12 +26,5 @@ pub mouldgrey-ask-spec : {M : Type 1} → statement M
 mouldgrey-ask-spec =
     tie.close
     (tie.spec
-    returns
-    returns-2
-    header-of-requires
-    ask-requires
-    write-run-requires
-    same-length
-    same-length-2
-    same-length-3
-    returns-3)
+    returns returns-2 (λ c κs. search needs) (λ c κs. search needs) (λ c κs. search needs) (λ c. search needs)
+    (λ c. search needs) (λ c. search needs) returns-3)
