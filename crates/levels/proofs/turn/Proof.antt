@@ -6,9 +6,6 @@ use borrow.Author.Needs.{needs}
 use Rattle.levels.proofs.turn.Statement.{statement}
 use Rattle.levels.proofs.turn.Tie as tie
 
-next-line-requires : tie.Need-next-line-requires
-next-line-requires c κs = search needs
-
 returns : tie.Need-returns
 returns c = turned-over (c .before .before .next-line .ensures) (search needs) _ (c .if1 .taken)
 
@@ -19,10 +16,4 @@ returns-2 : tie.Need-returns-2
 returns-2 c = turned-line (c .before .before .before .before .before .before .before .before .before .before .next-line .ensures) (search needs) (lent-program (stores (c .before .before .before .before .before .before .before .before .before .before .before .before .before .before .before .args .state .header) (c .before .before .before .before .before .before .before .before .before .before .before .before .before .before .before .args .rows .now) (c .before .before .before .before .before .before .before .before .before .before .before .before .before .before .before .args .keys .now) (c .before .before .before .before .before .before .before .before .before .before .before .before .before .before .before .args .sorts .now) (c .before .before .before .before .before .before .before .before .before .before .before .before .before .before .before .args .pending .now)) (search needs) (search needs) (search needs) (search needs)) (c .before .before .before .before .before .before .before .before .if1 .left) (c .write-answer .ensures)
 
 pub turn-spec : {M : Type 1} → statement M
-turn-spec =
-    tie.close
-    (tie.spec
-    next-line-requires
-    returns
-    write-answer-requires
-    returns-2)
+turn-spec = tie.close (tie.spec (λ c κs. search needs) returns write-answer-requires returns-2)

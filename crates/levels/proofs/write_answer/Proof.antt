@@ -8,17 +8,11 @@ use Rattle.levels.proofs.write_answer.Tie as tie
 slice-aggregate-answer : tie.Need-slice-aggregate-answer
 slice-aggregate-answer c = simp length-take (omega (arith, c .before .before .before .before .before .before .before .pre .0))
 
-answer-requires : tie.Need-answer-requires
-answer-requires c κs = search needs
-
 slice-reshare-prefix-write-all : tie.Need-slice-reshare-prefix-write-all
 slice-reshare-prefix-write-all c = c .before .before .before .before .before .before .before .before .before .before .answer .ensures .inside
 
 slice-aggregate-write-all : tie.Need-slice-aggregate-write-all
 slice-aggregate-write-all c = simp length-take (omega (arith, c .before .before .before .before .before .before .before .before .before .before .before .answer .ensures .inside))
-
-write-all-requires : tie.Need-write-all-requires
-write-all-requires c κs = search needs
 
 same-length : tie.Need-same-length
 same-length c = c .before .before .before .before .before .before .before .before .before .before .before .before .rows .given
@@ -42,14 +36,5 @@ pub write-answer-spec : {M : Type 1} → statement M
 write-answer-spec =
     tie.close
     (tie.spec
-    slice-aggregate-answer
-    answer-requires
-    slice-reshare-prefix-write-all
-    slice-aggregate-write-all
-    write-all-requires
-    same-length
-    same-length-2
-    same-length-3
-    same-length-4
-    same-length-5
-    returns)
+    slice-aggregate-answer (λ c κs. search needs) slice-reshare-prefix-write-all slice-aggregate-write-all
+    (λ c κs. search needs) same-length same-length-2 same-length-3 same-length-4 same-length-5 returns)
