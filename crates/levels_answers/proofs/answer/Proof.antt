@@ -5,12 +5,6 @@ use borrow.Author.Needs.{needs}
 use Rattle.levels_answers.proofs.answer.Statement.{statement}
 use Rattle.levels_answers.proofs.answer.Tie as tie
 
-respond-requires : tie.Need-respond-requires
-respond-requires c κs = search needs
-
-tell-requires : tie.Need-tell-requires
-tell-requires c κs = search needs
-
 same-length : tie.Need-same-length
 same-length c = c .before .before .before .before .before .before .before .before .before .before .before .before .before .rows .given
 
@@ -33,11 +27,5 @@ pub answer-spec : {M : Type 1} → statement M
 answer-spec =
     tie.close
     (tie.spec
-    respond-requires
-    tell-requires
-    same-length
-    same-length-2
-    same-length-3
-    same-length-4
-    same-length-5
+    (λ c κs. search needs) (λ c κs. search needs) same-length same-length-2 same-length-3 same-length-4 same-length-5
     returns)

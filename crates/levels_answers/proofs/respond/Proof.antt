@@ -7,18 +7,6 @@ use borrow.Author.Needs.{needs}
 use Rattle.levels_answers.proofs.respond.Statement.{statement}
 use Rattle.levels_answers.proofs.respond.Tie as tie
 
-slice-aggregate-parse : tie.Need-slice-aggregate-parse
-slice-aggregate-parse c = search needs
-
-parse-requires : tie.Need-parse-requires
-parse-requires c κs = search needs
-
-enum-told : tie.Need-enum-told
-enum-told c = search needs
-
-enum-known-letter : tie.Need-enum-known-letter
-enum-known-letter c = search needs
-
 array-share-prefix-numbers : tie.Need-array-share-prefix-numbers
 array-share-prefix-numbers c = omega (arith, parsed-fits _ _ _ _ (c .before .before .before .before .parse .ensures) _ _ (c .before .letter .given .1), c .before .before .before .numbers2 .given)
 
@@ -50,16 +38,5 @@ pub respond-spec : {M : Type 1} → statement M
 respond-spec =
     tie.close
     (tie.spec
-    slice-aggregate-parse
-    parse-requires
-    enum-told
-    enum-known-letter
-    array-share-prefix-numbers
-    slice-aggregate-serve
-    serve-requires
-    returns
-    same-length
-    same-length-2
-    same-length-3
-    same-length-4
-    returns-2)
+    (λ c. search needs) (λ c κs. search needs) (λ c. search needs) (λ c. search needs) array-share-prefix-numbers
+    slice-aggregate-serve serve-requires returns same-length same-length-2 same-length-3 same-length-4 returns-2)

@@ -4,15 +4,6 @@ use borrow.Author.Needs.{needs}
 use Rattle.levels_calls.proofs.merge_taken.Statement.{statement}
 use Rattle.levels_calls.proofs.merge_taken.Tie as tie
 
-enum-known-answer : tie.Need-enum-known-answer
-enum-known-answer c = search needs
-
-enum-known-answer-2 : tie.Need-enum-known-answer-2
-enum-known-answer-2 c = search needs
-
-digit-of-requires : tie.Need-digit-of-requires
-digit-of-requires c κs = search needs
-
 returns : tie.Need-returns
 returns c = merge-refused _ _ _ (c .before .answer .given .1)
 
@@ -21,4 +12,5 @@ returns-2 c = merge-table _ _ _ _ (c .before .before .before .answer2 .given .1)
 
 pub merge-taken-spec : {M : Type 1} → statement M
 merge-taken-spec =
-    tie.close (tie.spec enum-known-answer enum-known-answer-2 digit-of-requires returns returns-2)
+    tie.close
+    (tie.spec (λ c. search needs) (λ c. search needs) (λ c κs. search needs) returns returns-2)

@@ -4,12 +4,6 @@ use borrow.Author.Needs.{needs}
 use Rattle.levels_calls.proofs.taken.Statement.{statement}
 use Rattle.levels_calls.proofs.taken.Tie as tie
 
-enum-known-answer : tie.Need-enum-known-answer
-enum-known-answer c = search needs
-
-enum-known-answer-2 : tie.Need-enum-known-answer-2
-enum-known-answer-2 c = search needs
-
 returns : tie.Need-returns
 returns c = taken-refused _ _ _ (c .before .answer .given .1)
 
@@ -17,4 +11,4 @@ returns-2 : tie.Need-returns-2
 returns-2 c = taken-table _ _ _ (c .before .answer2 .given .1)
 
 pub taken-spec : {M : Type 1} → statement M
-taken-spec = tie.close (tie.spec enum-known-answer enum-known-answer-2 returns returns-2)
+taken-spec = tie.close (tie.spec (λ c. search needs) (λ c. search needs) returns returns-2)

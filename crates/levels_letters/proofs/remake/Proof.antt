@@ -21,17 +21,11 @@ same-length-3 c = refl
 returns : tie.Need-returns
 returns c = as-letter (c .before .before .before .before .before .before .if1 .taken) (c .before .before .open-table .ensures)
 
-clear-requires : tie.Need-clear-requires
-clear-requires c κs = search needs
-
 same-length-4 : tie.Need-same-length-4
 same-length-4 c = c .before .keys2 .given
 
 returns-2 : tie.Need-returns-2
 returns-2 c = as-letter (c .before .before .before .before .if2 .taken) (c .before .before .clear .ensures .serving _ _ _ _)
-
-compact-requires : tie.Need-compact-requires
-compact-requires c κs = search needs
 
 same-length-5 : tie.Need-same-length-5
 same-length-5 c = c .before .before .before .before .before .rows .given
@@ -49,16 +43,5 @@ pub remake-spec : {M : Type 1} → statement M
 remake-spec =
     tie.close
     (tie.spec
-    open-table-requires
-    same-length
-    same-length-2
-    same-length-3
-    returns
-    clear-requires
-    same-length-4
-    returns-2
-    compact-requires
-    same-length-5
-    same-length-6
-    same-length-7
-    returns-3)
+    open-table-requires same-length same-length-2 same-length-3 returns (λ c κs. search needs) same-length-4 returns-2
+    (λ c κs. search needs) same-length-5 same-length-6 same-length-7 returns-3)

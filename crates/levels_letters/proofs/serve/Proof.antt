@@ -8,9 +8,6 @@ use Rattle.levels_letters.proofs.serve.Tie as tie
 stage-requires : tie.Need-stage-requires
 stage-requires c κs = let letters = c .before .match .keys1 in (letters, staging-some _ (c .before .before .before .before .before .before .before .pre) letters)
 
-merge-pending-requires : tie.Need-merge-pending-requires
-merge-pending-requires c κs = search needs
-
 remake-requires : tie.Need-remake-requires
 remake-requires c κs = (c .before .before .before .before .before .before .before .before .before .before .pre, c .before .before .before .before .match .keys3)
 
@@ -63,21 +60,6 @@ pub serve-spec : {M : Type 1} → statement M
 serve-spec =
     tie.close
     (tie.spec
-    stage-requires
-    merge-pending-requires
-    remake-requires
-    ask-requires
-    same-length
-    returns
-    same-length-2
-    same-length-3
-    same-length-4
-    same-length-5
-    returns-2
-    same-length-6
-    same-length-7
-    same-length-8
-    same-length-9
-    returns-3
-    same-length-10
-    returns-4)
+    stage-requires (λ c κs. search needs) remake-requires ask-requires same-length returns same-length-2 same-length-3
+    same-length-4 same-length-5 returns-2 same-length-6 same-length-7 same-length-8 same-length-9 returns-3
+    same-length-10 returns-4)
