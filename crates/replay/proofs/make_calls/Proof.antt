@@ -18,14 +18,8 @@ Inv-loop calls rows₀ keys₀ sorts₀ pending₀ live₀ base₀ n₀ at₀ wo
 abbrev μ-loop : tie.MeasureT-loop
 μ-loop calls rows₀ keys₀ sorts₀ pending₀ live₀ base₀ n₀ at₀ words₀ rows keys sorts pending live base n at words = length calls - at
 
-frame-length-requires : tie.Need-frame-length-requires Inv-loop μ-loop
-frame-length-requires c κs = omega arith
-
 loop-holds : tie.Need-loop-holds Inv-loop μ-loop
 loop-holds c = going-begin (c .frame-length .ensures)
-
-mul-make-call : tie.Need-mul-make-call Inv-loop μ-loop
-mul-make-call c = search needs
 
 shared-slice-read-make-call : tie.Need-shared-slice-read-make-call Inv-loop μ-loop
 shared-slice-read-make-call c = let v = c .before .before .loop .inv .here in omega (arith, v .inside, v .whole (c .before .loop-test .taken))
@@ -47,9 +41,6 @@ part-make-call-start c = let v = c .before .before .loop .inv .here in omega (ar
 
 part-make-call-end : tie.Need-part-make-call-end Inv-loop μ-loop
 part-make-call-end c = let v = c .before .before .loop .inv .here in omega (arith, v .inside, v .whole (c .before .loop-test .taken))
-
-make-call-requires : tie.Need-make-call-requires Inv-loop μ-loop
-make-call-requires c κs = search needs
 
 add-at : tie.Need-add-at Inv-loop μ-loop
 add-at c =
@@ -97,27 +88,7 @@ pub make-calls-spec : {M : Type 1} → statement M
 make-calls-spec =
     tie.close
     (tie.spec
-    Inv-loop
-    μ-loop
-    frame-length-requires
-    loop-holds
-    mul-make-call
-    shared-slice-read-make-call
-    add-make-call
-    add-make-call-2
-    mul-make-call-2
-    sub-make-call
-    part-make-call-start
-    part-make-call-end
-    make-call-requires
-    add-at
-    frame-length-requires-2
-    loop-less
-    loop-again
-    same-length
-    same-length-2
-    same-length-3
-    same-length-4
-    same-length-5
-    same-length-6
-    returns)
+    Inv-loop μ-loop (λ c κs. omega arith) loop-holds (λ c. search needs) shared-slice-read-make-call add-make-call
+    add-make-call-2 mul-make-call-2 sub-make-call part-make-call-start part-make-call-end (λ c κs. search needs) add-at
+    frame-length-requires-2 loop-less loop-again same-length same-length-2 same-length-3 same-length-4 same-length-5
+    same-length-6 returns)
