@@ -4,12 +4,6 @@ use borrow.Author.Needs.{needs}
 use Rattle.call_words.proofs.header_after.Statement.{statement}
 use Rattle.call_words.proofs.header_after.Tie as tie
 
-enum-told : tie.Need-enum-told
-enum-told c = search needs
-
-enum-known-answer : tie.Need-enum-known-answer
-enum-known-answer c = search needs
-
 returns : tie.Need-returns
 returns c = after-refused _ _ _ (c .enum-told .given .1)
 
@@ -17,4 +11,4 @@ returns-2 : tie.Need-returns-2
 returns-2 c = after-table _ _ _ (c .before .answer .given .1)
 
 pub header-after-spec : {M : Type 1} → statement M
-header-after-spec = tie.close (tie.spec enum-told enum-known-answer returns returns-2)
+header-after-spec = tie.close (tie.spec (λ c. search needs) (λ c. search needs) returns returns-2)
