@@ -33,192 +33,85 @@ row number cells = record { number = number; cells = cells }
 abbrev level : ℕ → ℕ → ℕ → List ℕ
 level key value stamp = key ∷ value ∷ stamp ∷ []
 
+abbrev levelsUnder : ℕ → ℕ → Opening
+levelsUnder rule capacity = record { columns = 3; keys = 1; sort = 2; rule = rule; capacity = capacity }
+
 abbrev levels : ℕ → Opening
-levels capacity = record { columns = 3; keys = 1; sort = 2; rule = 1; capacity = capacity }
+levels = levelsUnder 1
+
+abbrev write : ℕ → ℕ → ℕ → Call
+write key value stamp = staging (insert (level key value stamp))
+
+abbrev remove : ℕ → Call
+remove key = staging (removeKey (key ∷ []))
 
 -- keys 1 to 17, all of stamp 12, are merged and staged for removal; then they are merged away, and a compaction is due
 abbrev removed : List Call
 removed =
-    map (λ key. staging (insert (level key 5 12))) (countFrom 1 17)
-    ++ (merging ∷ map (λ key. staging (removeKey (key ∷ []))) (countFrom 1 17))
+    map (λ key. write key 5 12) (countFrom 1 17) ++ (merging ∷ map remove (countFrom 1 17))
 
 abbrev dropped : List Call
 dropped = removed ++ (merging ∷ [])
 
+-- a merge that compacts nothing, by its answer, and by how many rows are dead and which are live after it
+abbrev merges : ℕ → ℕ → Bool → Opening → List Call → ℕ → List Numbered → Turn
+merges status place added opening before dead-after live-after =
+    record {
+      opening = opening;
+      before = before;
+      status = status;
+      place = place;
+      added = added;
+      keeps = 0;
+      drops = 0;
+      dead-after = dead-after;
+      live-after = live-after;
+    }
+
+-- one that does not stop, and appends a row or none
+abbrev appends : Opening → List Call → ℕ → List Numbered → Turn
+appends = merges 0 0 true
+
+abbrev leaves : Opening → List Call → ℕ → List Numbered → Turn
+leaves = merges 0 0 false
+
 unfoldable pub turns : List Turn
 turns =
     -- "Testing the sort order before the rule (l)": equal cells, a lower stamp
-    record {
-      opening = levels 9;
-      before = staging (insert (level 1 5 12)) ∷ merging ∷ staging (insert (level 1 5 11)) ∷ [];
-      status = 0;
-      place = 0;
-      added = false;
-      keeps = 0;
-      drops = 0;
-      dead-after = 0;
-      live-after = row 0 (level 1 5 12) ∷ [];
-    }
+    leaves (levels 9) (write 1 5 12 ∷ merging ∷ write 1 5 11 ∷ []) 0 (row 0 (level 1 5 12) ∷ [])
     -- "Inserting before removing, which loses a key removed and staged again in one batch"
-    ∷ record {
-      opening = levels 9;
-      before = staging (insert (level 1 5 12)) ∷ merging ∷ staging (insert (level 1 5 12)) ∷ staging (removeKey (1 ∷ [])) ∷ [];
-      status = 0;
-      place = 0;
-      added = true;
-      keeps = 0;
-      drops = 0;
-      dead-after = 1;
-      live-after = row 1 (level 1 5 12) ∷ [];
-    }
+    ∷ appends (levels 9) (write 1 5 12 ∷ merging ∷ write 1 5 12 ∷ remove 1 ∷ []) 1 (row 1 (level 1 5 12) ∷ [])
     -- "Reading the sort cell of a dead row when the sort column is 0": the last row is dead, its sort cell was 7
-    ∷ record {
-      opening = record { columns = 1; keys = 1; sort = 0; rule = 0; capacity = 9 };
-      before = staging (insert (7 ∷ [])) ∷ merging ∷ staging (removeKey (7 ∷ [])) ∷ staging (insert (8 ∷ [])) ∷ [];
-      status = 0;
-      place = 0;
-      added = true;
-      keeps = 0;
-      drops = 0;
-      dead-after = 1;
-      live-after = row 1 (8 ∷ []) ∷ [];
-    }
+    ∷ appends (record { columns = 1; keys = 1; sort = 0; rule = 0; capacity = 9 })
+    (staging (insert (7 ∷ [])) ∷ merging ∷ remove 7 ∷ staging (insert (8 ∷ [])) ∷ []) 1 (row 1 (8 ∷ []) ∷ [])
     -- a known key with another level: the row made is appended and the old row dies
-    ∷ record {
-      opening = levels 9;
-      before = staging (insert (level 1 5 12)) ∷ merging ∷ staging (insert (level 1 6 12)) ∷ [];
-      status = 0;
-      place = 0;
-      added = true;
-      keeps = 0;
-      drops = 0;
-      dead-after = 1;
-      live-after = row 1 (level 1 6 12) ∷ [];
-    }
+    ∷ appends (levels 9) (write 1 5 12 ∷ merging ∷ write 1 6 12 ∷ []) 1 (row 1 (level 1 6 12) ∷ [])
     -- a full table and an old stamp: 8 comes before 9; the stopping row is not appended, its old row lives
-    ∷ record {
-      opening = levels 1;
-      before = staging (insert (level 1 5 12)) ∷ merging ∷ staging (insert (level 1 6 11)) ∷ [];
-      status = 8;
-      place = 0;
-      added = false;
-      keeps = 0;
-      drops = 0;
-      dead-after = 0;
-      live-after = row 0 (level 1 5 12) ∷ [];
-    }
+    ∷ merges 8 0 false (levels 1) (write 1 5 12 ∷ merging ∷ write 1 6 11 ∷ []) 0 (row 0 (level 1 5 12) ∷ [])
     -- a full table takes a row that the rule keeps
-    ∷ record {
-      opening = levels 1;
-      before = staging (insert (level 1 5 12)) ∷ merging ∷ staging (insert (level 1 5 11)) ∷ [];
-      status = 0;
-      place = 0;
-      added = false;
-      keeps = 0;
-      drops = 0;
-      dead-after = 0;
-      live-after = row 0 (level 1 5 12) ∷ [];
-    }
+    ∷ leaves (levels 1) (write 1 5 12 ∷ merging ∷ write 1 5 11 ∷ []) 0 (row 0 (level 1 5 12) ∷ [])
     -- a skipped insert counts for the place; what came before the stop stands, the rest is dropped
-    ∷ record {
-      opening = levels 9;
-      before = staging (insert (level 1 5 12)) ∷ staging (insert (level 4294967295 5 12)) ∷ staging (insert (level 2 5 11)) ∷ staging (insert (level 3 5 12)) ∷ [];
-      status = 9;
-      place = 2;
-      added = true;
-      keeps = 0;
-      drops = 0;
-      dead-after = 0;
-      live-after = row 0 (level 1 5 12) ∷ [];
-    }
+    ∷ merges 9 2 true (levels 9)
+    (write 1 5 12 ∷ write 4294967295 5 12 ∷ write 2 5 11 ∷ write 3 5 12 ∷ []) 0 (row 0 (level 1 5 12) ∷ [])
     -- a row dies once, by key and by row; another key's removal by row does nothing
-    ∷ record {
-      opening = levels 9;
-      before = staging (insert (level 1 5 12)) ∷ staging (insert (level 2 5 12)) ∷ merging ∷ staging (removeRow 0 (1 ∷ [])) ∷ staging (removeKey (1 ∷ [])) ∷ staging (removeRow 1 (1 ∷ [])) ∷ [];
-      status = 0;
-      place = 0;
-      added = false;
-      keeps = 0;
-      drops = 0;
-      dead-after = 1;
-      live-after = row 1 (level 2 5 12) ∷ [];
-    }
+    ∷ leaves (levels 9)
+    (write 1 5 12 ∷ write 2 5 12 ∷ merging ∷ staging (removeRow 0 (1 ∷ [])) ∷ remove 1 ∷ staging (removeRow 1 (1 ∷ [])) ∷ []) 1 (row 1 (level 2 5 12) ∷ [])
     -- a merge that stops compacts nothing, though all its 17 rows are dead
-    ∷ record {
-      opening = levels 20;
-      before = removed ++ (staging (insert (level 30 5 11)) ∷ []);
-      status = 9;
-      place = 0;
-      added = false;
-      keeps = 0;
-      drops = 0;
-      dead-after = 17;
-      live-after = [];
-    }
+    ∷ merges 9 0 false (levels 20) (removed ++ (write 30 5 11 ∷ [])) 17 []
     -- "4294967295 means minus one": rule 2 takes it for 5
-    ∷ record {
-      opening = record { columns = 3; keys = 1; sort = 2; rule = 2; capacity = 9 };
-      before = staging (insert (level 1 5 12)) ∷ merging ∷ staging (insert (level 1 4294967295 12)) ∷ [];
-      status = 0;
-      place = 0;
-      added = true;
-      keeps = 0;
-      drops = 0;
-      dead-after = 1;
-      live-after = row 1 (level 1 4294967295 12) ∷ [];
-    }
+    ∷ appends (levelsUnder 2 9) (write 1 5 12 ∷ merging ∷ write 1 4294967295 12 ∷ []) 1 (row 1 (level 1 4294967295 12) ∷ [])
     -- 2147483648 means the least number: rule 3 keeps minus one
-    ∷ record {
-      opening = record { columns = 3; keys = 1; sort = 2; rule = 3; capacity = 9 };
-      before = staging (insert (level 1 4294967295 12)) ∷ merging ∷ staging (insert (level 1 2147483648 12)) ∷ [];
-      status = 0;
-      place = 0;
-      added = false;
-      keeps = 0;
-      drops = 0;
-      dead-after = 0;
-      live-after = row 0 (level 1 4294967295 12) ∷ [];
-    }
+    ∷ leaves (levelsUnder 3 9) (write 1 4294967295 12 ∷ merging ∷ write 1 2147483648 12 ∷ []) 0 (row 0 (level 1 4294967295 12) ∷ [])
     -- a compaction drops every row of stamp 12, and 11 still stays out
-    ∷ record {
-      opening = levels 20;
-      before = dropped ++ (staging (insert (level 30 5 11)) ∷ []);
-      status = 9;
-      place = 0;
-      added = false;
-      keeps = 0;
-      drops = 0;
-      dead-after = 0;
-      live-after = [];
-    }
+    ∷ merges 9 0 false (levels 20) (dropped ++ (write 30 5 11 ∷ [])) 0 []
     -- so it does after a clear of that table, which has no rows
-    ∷ record {
-      opening = levels 20;
-      before = dropped ++ (clearing ∷ staging (insert (level 30 5 11)) ∷ []);
-      status = 9;
-      place = 0;
-      added = false;
-      keeps = 0;
-      drops = 0;
-      dead-after = 0;
-      live-after = [];
-    }
+    ∷ merges 9 0 false (levels 20) (dropped ++ (clearing ∷ write 30 5 11 ∷ [])) 0 []
     -- a clear that empties rows, here a dead one alone, begins anew
-    ∷ record {
-      opening = levels 9;
-      before = staging (insert (level 1 5 12)) ∷ merging ∷ staging (removeKey (1 ∷ [])) ∷ merging ∷ clearing ∷ staging (insert (level 2 5 11)) ∷ [];
-      status = 0;
-      place = 0;
-      added = true;
-      keeps = 0;
-      drops = 0;
-      dead-after = 0;
-      live-after = row 0 (level 2 5 11) ∷ [];
-    }
+    ∷ appends (levels 9) (write 1 5 12 ∷ merging ∷ remove 1 ∷ merging ∷ clearing ∷ write 2 5 11 ∷ []) 0 (row 0 (level 2 5 11) ∷ [])
     -- a merge answers what its compaction kept and dropped: 17 dead rows of 19
     ∷ record {
       opening = levels 20;
-      before = removed ++ (staging (insert (level 30 5 12)) ∷ staging (insert (level 31 5 13)) ∷ []);
+      before = removed ++ (write 30 5 12 ∷ write 31 5 13 ∷ []);
       status = 0;
       place = 0;
       added = true;
@@ -228,17 +121,7 @@ turns =
       live-after = row 0 (level 30 5 12) ∷ row 1 (level 31 5 13) ∷ [];
     }
     -- a row appended before a stop counts
-    ∷ record {
-      opening = levels 9;
-      before = staging (insert (level 1 5 12)) ∷ staging (insert (level 2 5 11)) ∷ merging ∷ staging (insert (level 3 5 11)) ∷ [];
-      status = 9;
-      place = 0;
-      added = false;
-      keeps = 0;
-      drops = 0;
-      dead-after = 0;
-      live-after = row 0 (level 1 5 12) ∷ [];
-    }
+    ∷ merges 9 0 false (levels 9) (write 1 5 12 ∷ write 2 5 11 ∷ merging ∷ write 3 5 11 ∷ []) 0 (row 0 (level 1 5 12) ∷ [])
     ∷ []
 
 abbrev sameRow : Numbered → Numbered → Bool
