@@ -1,18 +1,18 @@
 -- The tests of the questions one by one: what each way out of a ladder says of it. Assumes nothing.
 use Prim.Native.Nat.{ℕ, _-_, _≤_, _<_, min}
-use mathlib.Core.Path.{_≡_, refl, sym, ap, _∙_}
+use mathlib.Core.Path.{_≡_, sym, ap, _∙_}
 use mathlib.Core.Logic.{inl, inr}
-use mathlib.Core.Bool.{Bool, true, false, not}
+use mathlib.Core.Bool.{Bool, true, false, not, _||_}
 use mathlib.Core.List.{List, [], _∷_}
 use native.Mathlib.Omega.{arith}
 use lib.Dec.{ltb}
 use borrow.Author.Tests.{lt-ltb, le-ltb}
 use Rattle.lists.specs.Lists.{every}
 use Rattle.lists.specs.Laws.Keep.{split}
-use Rattle.refusals.specs.Refusals.{rung, first}
+use Rattle.refusals.specs.Refusals.{Rung, rung, first}
 use Rattle.offsets.specs.declared.BoundsAnswer.{BoundsAnswer}
 use Rattle.offsets.specs.declared.BoundsAnswer.the-variants.{None, Ends}
-use Rattle.offsets.specs.Subsets.{Subset, wellFormed, size, endOf}
+use Rattle.offsets.specs.Subsets.{Subset, wellFormed, size}
 use Rattle.offsets.specs.Laws.Forms.{end-none, end-some}
 use Rattle.offsets.specs.inner.Writing.{bounds, boundsSays}
 use Rattle.constraints.specs.declared.Constraint.{Constraint}
@@ -72,26 +72,32 @@ module _ (h : Header) (rows : ℕ) (subset : Subset) where
         ]
       ]
 
+  -- where one of them applies, no later test matters; a question may read 5 more widely
+  refused-early : (beyond : Bool) (rest : List Rung) → (pastRows h subset ≡ true → beyond ≡ true) → (subsetRefusal h rows subset ≡ 0 → ⊥)
+      → subsetRefusal h rows subset ≡ first (rung (outside h) 1 ∷ rung (rowsShort h rows) 2 ∷ rung (not (wellFormed subset)) 4 ∷ rung beyond 5 ∷ rest)
+  unfolding subsetRefusal first
+  refused-early beyond rest wide n =
+      elim (split (outside h)) [
+        | inl a ↦ rw a
+        | inr a ↦ elim (split (rowsShort h rows)) [
+          | inl b ↦ rw (a, b)
+          | inr b ↦ elim (split (wellFormed subset)) [
+            | inl c ↦ elim (split (pastRows h subset)) [
+              | inl d ↦ rw (a, b, c, d, wide d)
+              | inr d ↦ absurd (n (rw (a, b, c, d)))
+            ]
+            | inr c ↦ rw (a, b, c)
+          ]
+        ]
+      ]
+
   -- ---- refine
 
   module _ (output : ℕ) where
     module _ (conditions : List Constraint) where
       refine-shared : (subsetRefusal h rows subset ≡ 0 → ⊥) → subsetRefusal h rows subset ≡ refineRefusal h rows subset conditions output
-      unfolding subsetRefusal refineRefusal first tests
-      refine-shared n =
-          elim (split (outside h)) [
-            | inl a ↦ rw a
-            | inr a ↦ elim (split (rowsShort h rows)) [
-              | inl b ↦ rw (a, b)
-              | inr b ↦ elim (split (wellFormed subset)) [
-                | inl c ↦ elim (split (pastRows h subset)) [
-                  | inl d ↦ rw (a, b, c, d)
-                  | inr d ↦ absurd (n (rw (a, b, c, d)))
-                ]
-                | inr c ↦ rw (a, b, c)
-              ]
-            ]
-          ]
+      unfolding refineRefusal tests
+      refine-shared n = refused-early (pastRows h subset) _ (λ d. d) n
 
       refine-rest : (knows : Bool) → Askable h rows subset → knows ≡ every (known (h .columns)) conditions
           → refineRefusal h rows subset conditions output ≡ first (rung (not knows) 6 ∷ rung (ltb output (size subset)) 2 ∷ [])
@@ -137,21 +143,8 @@ module _ (h : Header) (rows : ℕ) (subset : Subset) where
   -- ---- any match
 
   match-shared : (conditions : List Constraint) → (subsetRefusal h rows subset ≡ 0 → ⊥) → subsetRefusal h rows subset ≡ matchRefusal h rows subset conditions
-  unfolding subsetRefusal matchRefusal first tests
-  match-shared conditions n =
-      elim (split (outside h)) [
-        | inl a ↦ rw a
-        | inr a ↦ elim (split (rowsShort h rows)) [
-          | inl b ↦ rw (a, b)
-          | inr b ↦ elim (split (wellFormed subset)) [
-            | inl c ↦ elim (split (pastRows h subset)) [
-              | inl d ↦ rw (a, b, c, d)
-              | inr d ↦ absurd (n (rw (a, b, c, d)))
-            ]
-            | inr c ↦ rw (a, b, c)
-          ]
-        ]
-      ]
+  unfolding matchRefusal tests
+  match-shared conditions n = refused-early (pastRows h subset) _ (λ d. d) n
 
   match-rest : (conditions : List Constraint) (knows : Bool) → Askable h rows subset → knows ≡ every (known (h .columns)) conditions
       → matchRefusal h rows subset conditions ≡ first (rung (not knows) 6 ∷ [])
@@ -175,21 +168,8 @@ module _ (h : Header) (rows : ℕ) (subset : Subset) where
   module _ (start n output : ℕ) where
     module _ (conditions : List Constraint) where
       page-shared : (subsetRefusal h rows subset ≡ 0 → ⊥) → subsetRefusal h rows subset ≡ pageRefusal h rows subset start n conditions output
-      unfolding subsetRefusal pageRefusal first tests
-      page-shared m =
-          elim (split (outside h)) [
-            | inl a ↦ rw a
-            | inr a ↦ elim (split (rowsShort h rows)) [
-              | inl b ↦ rw (a, b)
-              | inr b ↦ elim (split (wellFormed subset)) [
-                | inl c ↦ elim (split (pastRows h subset)) [
-                  | inl d ↦ rw (a, b, c, d)
-                  | inr d ↦ absurd (m (rw (a, b, c, d)))
-                ]
-                | inr c ↦ rw (a, b, c)
-              ]
-            ]
-          ]
+      unfolding pageRefusal tests
+      page-shared m = refused-early (pastRows h subset || ltb (size subset) start) _ (λ d. rw d) m
 
       page-rest : (knows : Bool) → Askable h rows subset → knows ≡ every (known (h .columns)) conditions
           → pageRefusal h rows subset start n conditions output ≡ first (rung (ltb (size subset) start) 5 ∷ rung (not knows) 6 ∷ rung (ltb output (min n (size subset - start))) 2 ∷ [])
