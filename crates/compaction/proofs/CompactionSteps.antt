@@ -24,9 +24,10 @@ use Rattle.marks.specs.inner.Marking.{Spaced, otherAt}
 use Rattle.marks.specs.Laws.Lowest.{marks-same, onward, onward-all, Next, next-mark, no-more}
 use Rattle.key_index.specs.declared.Keyed.{Keyed}
 use Rattle.key_index.specs.Slots.{slots}
-use Rattle.key_index.specs.inner.Index.{RowsIn, Fits}
+use Rattle.key_index.specs.inner.Index.{Fits}
 use Rattle.key_index.specs.Laws.Index.{rows-in}
-use Rattle.key_index.specs.Laws.Rooms.{room-most}
+use Rattle.key_index.specs.Laws.Places.{Inside, row-inside, fits-stores}
+use Rattle.key_index.specs.Laws.Rooms.{room-most, fits-room}
 use Rattle.key_growth.specs.inner.Growth.{Rebuilt}
 use Rattle.renumbering.specs.inner.Renumbering.{renumbered, Ranked}
 use Rattle.renumbering.specs.Laws.Renumbering.{live-first, below-number, live-among}
@@ -46,27 +47,16 @@ use Rattle.compaction.specs.Laws.Compaction.{length-live, live-one, live
 
 -- ---- a row is kept
 
--- where a row's cells stand
-pub record Placed (columns cells row : ℕ) : Type 0 where
-  pub inside : row * columns + columns ≤ cells
-  pub fits : row * columns ≤ 524288
-
-pub placed : (h : Header) (rows : List ℕ) (row : ℕ) → RowsIn (wholeOf h) rows → row < h .rows → Placed (h .columns) (length rows) row
-placed h rows row r k =
-    let a = row-in row (h .capacity) (h .columns) (omega (arith, r .count)) in
-    let b : row * h .columns ≤ 65536 * h .columns = mul-le-mul-right (h .columns) (omega (arith, r .count, r .most)) in
-    record { inside = omega (arith, r .cells); fits = omega (arith, r .most-columns) }
-
 module _ {h : Header} {rows sorts : List ℕ} {row : ℕ} {kept : Kept} (k : Keepable h rows sorts row kept) where
   -- the row, and the place that it moves to
-  pub from-place : Placed (h .columns) (length rows) row
-  from-place = placed h rows row (k .within) (k .row-below)
+  pub from-place : Inside rows (h .columns) row
+  from-place = row-inside (wholeOf h) rows row (k .within) (k .row-below)
 
   pub to-place : kept .rows * h .columns ≤ row * h .columns
   to-place = mul-le-mul-right (h .columns) (k .moves-down)
 
   wide : length (take (h .columns) (drop (row * h .columns) rows)) ≡ h .columns
-  wide = simp (length-take, length-drop) (omega (arith, from-place .inside))
+  wide = simp (length-take, length-drop) (omega (arith, from-place .in-store))
 
   pub row-kept : (r : ℕ) (rows′ sorts′ : List ℕ)
       → rows′ ≡ putAt rows (kept .rows * h .columns) (take (h .columns) (drop (row * h .columns) rows))
@@ -75,7 +65,7 @@ module _ {h : Header} {rows sorts : List ℕ} {row : ℕ} {kept : Kept} (k : Kee
   unfolding rowAt
   row-kept r rows′ sorts′ m b =
       let cells = take (h .columns) (drop (row * h .columns) rows) in
-      let fits : kept .rows * h .columns + length cells ≤ length rows = omega (arith, wide, to-place, from-place .inside) in
+      let fits : kept .rows * h .columns + length cells ≤ length rows = omega (arith, wide, to-place, from-place .in-store) in
       let cell : getD rows′ (kept .rows * h .columns + h .sort) 0 ≡ getD cells (h .sort) 0 =
       rw m (getD-putAt-in rows cells (kept .rows * h .columns) fits (h .sort) 0 (omega (arith, wide, k .sort-column))) in
       record { moved = m; recorded = rw cell at b }
@@ -121,7 +111,7 @@ module _ {h : Header} {rows₀ sorts₀ : List ℕ} where
     module _ (m : Movable h rows₀ sorts₀) where
       -- a later row stands as it stood
       pub later-same : (i : ℕ) → row ≤ i → i < h .rows → rowAt (h .columns) i rows ≡ rowAt (h .columns) i rows₀
-      later-same i low more = rw (s .closed) (later-row (h .columns) row i rows₀ low (placed h rows₀ i (m .within) more .inside))
+      later-same i low more = rw (s .closed) (later-row (h .columns) row i rows₀ low (row-inside (wholeOf h) rows₀ i (m .within) more .in-store))
 
       module _ (more : row < h .rows) where
         -- the row can be kept
@@ -171,7 +161,7 @@ module _ {h : Header} {rows₀ sorts₀ : List ℕ} where
               k .moved
               ∙ ap₂ (λ (l m : List ℕ). putAt l (kept .rows * h .columns) m) (s .closed) next-same
               ∙ ap (λ (n : ℕ). putAt (putAt rows₀ 0 (flat lv)) (n * h .columns) (rowAt (h .columns) row rows₀)) (s .counted)
-              ∙ close-one (h .columns) row rows₀ (placed h rows₀ row (m .within) more .inside) lives
+              ∙ close-one (h .columns) row rows₀ (row-inside (wholeOf h) rows₀ row (m .within) more .in-store) lives
 
           pub close-kept : length rows′ ≡ length rows → length sorts′ ≡ length sorts
               → Closing h rows₀ sorts₀ rows′ sorts′ (record { rows = kept .rows + 1; entries = r }) (row + 1)
@@ -293,8 +283,8 @@ module _ {h : Header} {rows₀ sorts₀ live₀ base₀ : List ℕ} (c : Closabl
         (omega (arith, s .live-same, c .live-long, c .movable .within .count), omega (arith, s .base-same, c .base-long, c .movable .within .count))
 
     -- so are its cells
-    pub cells-in : Placed (h .columns) (length rows) first
-    cells-in = rw (s .closing .rows-same) (placed h rows₀ first (c .movable .within) more)
+    pub cells-in : Inside rows (h .columns) first
+    cells-in = let i = row-inside (wholeOf h) rows₀ first (c .movable .within) more in record { in-store = rw (s .closing .rows-same) (i .in-store); small = i .small }
 
     pub spaced : Spaced rows (first * h .columns) (h .columns) count
     spaced =
@@ -386,17 +376,7 @@ module _ {h : Header} {rows keys sorts live base : List ℕ} (lent : Lendable h 
       let few : kept .rows ≤ h .rows = omega (arith, c .rows-counted, length-live (h .columns) (h .rows) rows) in (
         record { room = f .most; count = f .count; marks = omega (arith, lent .live-long); firsts = omega (arith, lent .base-long) },
         rw ek (f .long),
-        whole-fits (closedHeader h kept) rows′ keys′ (record {
-          some-columns = w .some-columns;
-          most-columns = w .most-columns;
-          some-keys = w .some-keys;
-          most-keys = w .most-keys;
-          some = w .some;
-          most = w .most;
-          count = omega (arith, w .count);
-          cells = rw er (w .cells);
-          long = rw ek (w .long);
-        }),
+        whole-fits (closedHeader h kept) rows′ keys′ (fits-stores (fits-room (wholeOf h) (wholeOf (closedHeader h kept)) rows keys w refl refl (w .some) (omega (arith, w .count)) (omega arith)) rows′ keys′ er ek),
       )
 
   pub compact-end : {kept : Kept} {rows′ keys′ sorts′ live′ base′ : List ℕ} → h .generation < 4294967295 → Closed h rows sorts live base kept rows′ sorts′ live′ base′

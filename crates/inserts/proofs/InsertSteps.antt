@@ -2,7 +2,6 @@
 -- nothing.
 use Prim.Native.Nat.{ℕ, _+_, _-_, _*_, _≤_, _<_}
 use mathlib.Core.Path.{_≡_, refl, sym, ap, ap₂, _∙_}
-use mathlib.Core.Logic.{inl, inr}
 use mathlib.Core.Bool.{Bool, true, false, cond, false≢true}
 use mathlib.Core.List.{List}
 use native.Mathlib.Nat.{add-zero}
@@ -11,12 +10,12 @@ use lib.ListN.{length, take, drop, getD, length-take, length-drop}
 use lib.Seq.{take-take, getD-take, getD-drop}
 use borrow.Author.Tests.{le-leb, lt-leb}
 use Rattle.lists.specs.Lists.{putAt, rowAt}
-use Rattle.lists.specs.Laws.Parts.{part-putAt}
+use Rattle.lists.specs.Laws.Parts.{part-width, part-putAt}
 use Rattle.lists.specs.Laws.Rows.{row-in}
 use Rattle.cells.specs.Cells.{isDead}
-use Rattle.lists.specs.Laws.Keep.{split}
 use Rattle.merge_rules.specs.Rules.{changesFrom, madeFrom}
 use Rattle.merge_rules.specs.Survivor.{survivor}
+use Rattle.merge_rules.specs.Laws.Rules.{handed-width}
 use Rattle.key_index.specs.declared.Keyed.{Keyed}
 use Rattle.key_index.specs.declared.Found.{Found}
 use Rattle.key_index.specs.declared.Found.the-variants.{None, At}
@@ -36,19 +35,13 @@ use Rattle.inserts.specs.Laws.Inserts.{length-made, skip-inserts, new-in
 
 -- ---- the row made
 
--- a part that is lent, by its width
-part-width : (l : List ℕ) (at width : ℕ) → take (at + width - at) (drop at l) ≡ take width (drop at l)
-part-width l at width = let e : at + width - at ≡ width = omega arith in rw e
-
 module _ (h : Header) (rows pending out : List ℕ) (old from : ℕ) where
   -- the surviving row has a place
   pub survivor-fits : Makeable h rows pending out old from → (b : Bool) (row : List ℕ)
       → row ≡ cond b (take (h .columns) (drop from pending)) (take (h .columns) (drop (old * h .columns) rows))
       → 0 + length row ≤ length out
   survivor-fits m b row e =
-      let o : length (take (h .columns) (drop (old * h .columns) rows)) ≡ h .columns = simp (length-take, length-drop) (omega (arith, m .old-in)) in
-      let p : length (take (h .columns) (drop from pending)) ≡ h .columns = simp (length-take, length-drop) (omega (arith, m .new-in)) in
-      let n : length row ≡ h .columns = ap length e ∙ elim (split b) [ inl q ↦ rw q p | inr q ↦ rw q o ] in
+      let n : length row ≡ h .columns = ap length e ∙ handed-width (h .columns) rows (old * h .columns) pending from b (m .old-in) (m .new-in) in
       omega (arith, m .few-columns, m .out-long)
 
   module _ (b : Bool)

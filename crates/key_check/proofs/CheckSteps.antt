@@ -4,15 +4,15 @@ use mathlib.Core.Path.{_≡_, refl, sym, ap, _∙_}
 use mathlib.Core.Logic.{_⊎_, inl, inr}
 use mathlib.Core.Bool.{true, false, false≢true}
 use mathlib.Core.List.{List}
-use native.Mathlib.Nat.{mod-lt, mul-le-mul}
+use native.Mathlib.Nat.{mod-lt}
 use native.Mathlib.Decide.{decLt, ℕ-discrete}
 use native.Mathlib.Omega.{arith}
 use lib.Dec.{ltb, eqb}
 use lib.ListN.{length, take, drop, getD, set, replicate, length-set, length-replicate, getD-replicate}
-use lib.Seq.{take-take, getD-set-same, getD-set-other}
+use lib.Seq.{getD-set-same, getD-set-other}
 use borrow.Author.Tests.{lt-ltb, le-ltb, ltb-true, ltb-false, eqb-true, eqb-false}
 use Rattle.lists.specs.Lists.{rowAt}
-use Rattle.lists.specs.Laws.Rows.{row-in}
+use Rattle.lists.specs.Laws.Parts.{part-width}
 use Rattle.cells.specs.Cells.{compact, keyHash}
 use Rattle.constraints.specs.Constraints.{isLive}
 use Rattle.key_index.specs.declared.Keyed.{Keyed}
@@ -23,35 +23,15 @@ use Rattle.key_index.specs.Laws.Unrolled.{away, slot-zero, line}
 use Rattle.key_index.specs.inner.Index.{Fits, homeOf}
 use Rattle.key_index.specs.Laws.Lines.{small, Stored, lineHome, unroll, roll}
 use Rattle.key_index.specs.Laws.Index.{free-slot}
-use Rattle.key_check.specs.inner.Check.{RowsLie, isLiveRow, tally, liveCount, FreeIs, named, Stands, StandsIs, RoundFits, KeysChecked}
+use Rattle.key_check.specs.inner.Check.{isLiveRow, tally, liveCount, FreeIs, named, Stands, StandsIs, RoundFits, KeysChecked}
 use Rattle.key_check.specs.Laws.Check.{tally-yes, tally-no, tally-le, without, without-other, tally-without, matched, Front, Joins, front-none, front-more, front-all, Run, run-none, run-more, near-line, far-line}
 
 -- ---- rows
 
-pub fits-lie : (t : Keyed) (rows store : List ℕ) → Fits t rows store → RowsLie t rows
-fits-lie t rows store f =
-    record { most-columns = f .most-columns; most-keys = f .most-keys; some = f .some; most = f .most; count = f .count; cells = f .cells }
-
--- a row lies in the store, which is small
-pub record Inside (t : Keyed) (rows : List ℕ) (row : ℕ) : Type 0 where
-  pub in-store : row * t .columns + t .columns ≤ length rows
-  pub small : row * t .columns + t .columns ≤ 524288
-
-pub inside : (t : Keyed) (rows : List ℕ) (row : ℕ) → RowsLie t rows → row < t .rows → Inside t rows row
-inside t rows row s h =
-    let e = row-in row (t .room) (t .columns) (omega (arith, s .count)) in
-    record { in-store = omega (arith, s .cells); small = omega (arith, mul-le-mul (s .most) (s .most-columns)) }
-
--- the part of the store that is lent is the row, or its key
+-- the part of the store that is lent is the row
 pub row-part : (t : Keyed) (rows : List ℕ) (row : ℕ) → isLive (take (row * t .columns + t .columns - row * t .columns) (drop (row * t .columns) rows)) ≡ isLiveRow t rows row
 unfolding rowAt isLiveRow
-row-part t rows row = let k : row * t .columns + t .columns - row * t .columns ≡ t .columns = omega arith in rw k
-
-pub key-part : (t : Keyed) (rows : List ℕ) (row : ℕ) → t .keys ≤ t .columns → take (row * t .columns + t .keys - row * t .columns) (drop (row * t .columns) rows) ≡ keyAt t rows row
-unfolding rowAt
-key-part t rows row h =
-    let k : row * t .columns + t .keys - row * t .columns ≡ t .keys = omega arith in
-    rw k (sym (take-take (t .keys) (t .columns) (drop (row * t .columns) rows) h))
+row-part t rows row = ap isLive (part-width rows (row * t .columns) (t .columns))
 
 live-is : (t : Keyed) (rows : List ℕ) (row : ℕ) → row < t .rows → isLiveRow t rows row ≡ true → LiveAt t rows row
 unfolding isLiveRow

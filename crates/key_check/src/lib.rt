@@ -5,8 +5,8 @@ ghost use mathlib.Core.Path.{_≡_};
 ghost use Prim.Native.Nat.{_<_, _≤_};
 ghost use lib.ListN.{length};
 ghost use Rattle.key_index.specs.Slots.{slots};
-ghost use Rattle.key_index.specs.inner.Index.{Fits};
-ghost use Rattle.key_check.specs.inner.Check.{RowsLie, isLiveRow, liveCount, StandsIs, FreeIs, RoundFits, KeysChecked};
+ghost use Rattle.key_index.specs.inner.Index.{RowsIn, Fits};
+ghost use Rattle.key_check.specs.inner.Check.{isLiveRow, liveCount, StandsIs, FreeIs, RoundFits, KeysChecked};
 use key_index::Keyed;
 use key_index::ROW_RANGE;
 use key_index::home_slot;
@@ -14,7 +14,7 @@ use key_index::slot_word;
 
 // Whether a row is live.
 fn row_live(t: Keyed, rows: &[u32], row: u32) -> bool
-    requires { ⌜ RowsLie t (now rows) × (row < t .rows) ⌝ }
+    requires { ⌜ RowsIn t (now rows) × (row < t .rows) ⌝ }
     ensures { λ r. ⌜ r ≡ isLiveRow t (now (rows .entry)) row ⌝ }
 {
     let from = (row * t.columns) as usize;
@@ -24,7 +24,7 @@ fn row_live(t: Keyed, rows: &[u32], row: u32) -> bool
 
 // How many rows are live.
 fn count_live(t: Keyed, rows: &[u32]) -> u32
-    requires { ⌜ RowsLie t (now rows) ⌝ }
+    requires { ⌜ RowsIn t (now rows) ⌝ }
     ensures { λ r. ⌜ r ≡ liveCount t (now (rows .entry)) ⌝ }
 {
     let mut live: u32 = 0;
@@ -57,7 +57,7 @@ fn free_slot(n: u32, store: &[u32]) -> u32
 // Whether the word in slot `at`, the last of `run` taken slots in a row, is that of a live row whose home lies in the run:
 // then no slot from the home to here is free, and none of them has to be looked at again.
 fn stands(t: Keyed, rows: &[u32], word: u32, at: u32, run: u32) -> bool
-    requires { ⌜ RowsLie t (now rows) × (at < slots t) ⌝ }
+    requires { ⌜ RowsIn t (now rows) × (at < slots t) ⌝ }
     ensures { λ r. ⌜ StandsIs t (now (rows .entry)) word at run r ⌝ }
 {
     let number = word % ROW_RANGE;

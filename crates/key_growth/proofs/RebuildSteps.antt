@@ -3,11 +3,11 @@ use Prim.Native.Nat.{ℕ, _+_, _*_, _≤_, _<_}
 use mathlib.Core.Path.{_≡_, refl, ap, sym, _∙_}
 use mathlib.Core.Bool.{Bool, true, false, not, false≢true}
 use mathlib.Core.List.{List}
-use native.Mathlib.Nat.{add-zero, mul-le-mul}
+use native.Mathlib.Nat.{add-zero}
 use native.Mathlib.Omega.{arith}
 use lib.ListN.{length, getD, drop}
 use Rattle.lists.specs.Lists.{rowAt}
-use Rattle.lists.specs.Laws.Rows.{row-in, getD-rowAt}
+use Rattle.lists.specs.Laws.Rows.{getD-rowAt}
 use Rattle.cells.specs.Cells.{isDead, compact, keyHash}
 use Rattle.constraints.specs.Constraints.{isLive}
 use Rattle.key_index.specs.declared.Keyed.{Keyed}
@@ -18,17 +18,7 @@ use Rattle.key_index.specs.Laws.Rooms.{fits-room}
 use Rattle.key_index.specs.Laws.Rows.{grown-rows}
 use Rattle.key_growth.specs.inner.Growth.{firstRows, RowPut, Rebuilt}
 
--- a row lies in its store, which is small
-pub record Inside (t : Keyed) (rows : List ℕ) (row : ℕ) : Type 0 where
-  pub in-store : row * t .columns + t .columns ≤ length rows
-  pub small : row * t .columns + t .columns ≤ 524288
-
 module _ (t : Keyed) (rows store : List ℕ) (row : ℕ) (f : Fits t rows store) (h : row < t .rows) where
-  pub inside : Inside t rows row
-  inside =
-      let e = row-in row (t .room) (t .columns) (omega (arith, f .count)) in
-      record { in-store = omega (arith, f .cells); small = omega (arith, mul-le-mul (f .most) (f .most-columns)) }
-
   first-cell : isLive (rowAt (t .columns) row rows) ≡ not (isDead (getD rows (row * t .columns) 0))
   unfolding isLive
   first-cell = ap (λ (x : ℕ). not (isDead x)) (rw add-zero at (getD-rowAt (t .columns) row rows 0 0 (omega (arith, f .some-columns))))
@@ -58,21 +48,6 @@ module _ (t : Keyed) (rows store : List ℕ) (row : ℕ) (f : Fits t rows store)
             hash-is put;
         rest = put .tail;
       }
-
--- a store of the same length will do too
-pub fits-on : (t : Keyed) (rows store store′ : List ℕ) → Fits t rows store → length store′ ≡ length store → Fits t rows store′
-fits-on t rows store store′ f e =
-    record {
-      some-columns = f .some-columns;
-      most-columns = f .most-columns;
-      some-keys = f .some-keys;
-      most-keys = f .most-keys;
-      some = f .some;
-      most = f .most;
-      count = f .count;
-      cells = f .cells;
-      long = omega (arith, f .long);
-    }
 
 -- what holds at the loop's head
 pub record Turn (t : Keyed) (rows store₀ store : List ℕ) (row : ℕ) : Type 0 where

@@ -4,39 +4,22 @@ use Prim.Native.Nat.{ℕ, _+_, _-_, _*_, _/_, _%_, _^_, _≤_, _<_}
 use mathlib.Core.Path.{_≡_, sym, ap, _∙_}
 use mathlib.Core.Bool.{Bool, true, false, false≢true}
 use mathlib.Core.List.{List}
-use native.Mathlib.Nat.{mul-le-mul}
 use native.Mathlib.Omega.{arith}
 use lib.Dec.{leb}
-use lib.ListN.{length, take, drop}
+use lib.ListN.{length}
 use borrow.Author.Tests.{lt-ltb}
 use Rattle.lists.specs.Lists.{same}
 use Rattle.lists.specs.Laws.Rising.{same-refl, same-eq}
-use Rattle.lists.specs.Laws.Rows.{row-in}
-use Rattle.row_buffer.specs.Laws.Rows.{key-row}
 use Rattle.key_index.specs.declared.Keyed.{Keyed}
 use Rattle.key_index.specs.Slots.{keyAt}
 use Rattle.key_index.specs.inner.Ring.{tagged, namesRow}
 use Rattle.key_index.specs.Laws.Ring.{tagged-row, tagged-bits, tagged-of, names-yes, names-number}
+use Rattle.key_index.specs.Laws.Places.{row-inside}
 use Rattle.key_index.specs.inner.Index.{RowsIn, Leads, HitIs}
 
 pub names-some : (t : Keyed) (w : ℕ) → (w % 2 ^ 17 ≡ 0 → ⊥) → leb (w % 2 ^ 17) (t .rows) ≡ namesRow t w
 unfolding namesRow
 names-some t w ne = let p : 0 < w % 2 ^ 17 = omega arith in rw (lt-ltb 0 (w % 2 ^ 17) p)
-
--- a row lies in its store
-pub row-inside : (t : Keyed) (rows : List ℕ) (row : ℕ) → RowsIn t rows → row < t .rows
-    → (row * t .columns + t .columns ≤ length rows) × (row * t .columns + t .columns ≤ 524288)
-row-inside t rows row f h =
-    let i = row-in row (t .room) (t .columns) (omega (arith, f .count)) in
-    (omega (arith, f .cells), omega (arith, mul-le-mul (f .most) (f .most-columns)))
-
--- its part that is lent is its key
-pub key-part : (t : Keyed) (rows : List ℕ) (row : ℕ) → t .keys ≤ t .columns → let from = row * t .columns in
-    take (from + t .keys - from) (drop from rows) ≡ keyAt t rows row
-key-part t rows row h =
-    let from = row * t .columns in
-    let k : from + t .keys - from ≡ t .keys = omega arith in
-    rw k (sym (key-row (t .columns) row (t .keys) rows h))
 
 -- a word that names a row has its number, from 1 on, and the row lies in its store
 pub record Named (t : Keyed) (rows : List ℕ) (w : ℕ) : Type 0 where
@@ -50,7 +33,7 @@ named t rows w f e =
     let n = names-number t w e in
     let r : w % 2 ^ 17 - 1 < t .rows = omega (arith, n) in
     let i = row-inside t rows (w % 2 ^ 17 - 1) f r in
-    record { some = n .0; row = r; inside = i .0; small = i .1 }
+    record { some = n .0; row = r; inside = i .in-store; small = i .small }
 
 module _ (t : Keyed) (rows key : List ℕ) (hash w row : ℕ) (few : t .rows ≤ 65536) where
   pub hit-bits : (w / 2 ^ 17 ≡ hash % 2 ^ 15 → ⊥) → HitIs t rows key hash w row false

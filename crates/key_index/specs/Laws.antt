@@ -2,6 +2,7 @@
 pub mod Index
 pub mod Lines
 pub mod Pigeons
+pub mod Places
 pub mod Rows
 pub mod Unrolled
 pub mod Ring

@@ -13,7 +13,7 @@ use lib.ListN.{length, take, drop, getD, set, drop-of-length-le}
 use lib.Seq.{drop-cons, take-length}
 use borrow.Author.Tests.{eq-eqb, ne-eqb}
 use Rattle.lists.specs.Lists.{putAt}
-use Rattle.lists.specs.Laws.Parts.{copy-step}
+use Rattle.lists.specs.Laws.Parts.{copy-step, part-width}
 use Rattle.merge_rules.specs.Rules.{ruledColumn, taken, madeCell, madeFrom, changesFrom}
 use Rattle.merge_rules.specs.Laws.Rules.{made-length, made-at}
 
@@ -92,14 +92,10 @@ module _ (rule keys sort : ℕ) (old new out : List ℕ) (n : length old ≡ len
       let m : i ≡ length (madeFrom rule keys sort 0 old new) = omega (arith, made-length rule keys sort old new n) in
       rw (m, take-length (madeFrom rule keys sort 0 old new), zero-add (length (madeFrom rule keys sort 0 old new)))
 
--- a part that is lent from a place to its end
-part-is : (l : List ℕ) (at width : ℕ) → take (at + width - at) (drop at l) ≡ take width (drop at l)
-part-is l at width = let e : at + width - at ≡ width = omega arith in rw e
-
 -- the row handed back
 module _ (b : Bool) (width : ℕ) (rows : List ℕ) (old : ℕ) (pending : List ℕ) (new : ℕ) where
   pub new-survives : b ≡ true → take (new + width - new) (drop new pending) ≡ cond b (take width (drop new pending)) (take width (drop old rows))
-  new-survives q = part-is pending new width ∙ rw q
+  new-survives q = part-width pending new width ∙ rw q
 
   pub old-survives : b ≡ false → take (old + width - old) (drop old rows) ≡ cond b (take width (drop new pending)) (take width (drop old rows))
-  old-survives q = part-is rows old width ∙ rw q
+  old-survives q = part-width rows old width ∙ rw q

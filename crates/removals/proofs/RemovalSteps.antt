@@ -5,7 +5,7 @@ use mathlib.Core.Path.{_≡_, refl, sym, ap, _∙_}
 use mathlib.Core.Bool.{Bool, true, false, not, false≢true}
 use mathlib.Core.Logic.{inl, inr}
 use mathlib.Core.List.{List}
-use native.Mathlib.Nat.{add-zero, mul-le-mul}
+use native.Mathlib.Nat.{add-zero}
 use native.Mathlib.Omega.{arith}
 use lib.Dec.{eqb}
 use lib.ListN.{length, getD}
@@ -20,6 +20,8 @@ use Rattle.key_index.specs.declared.Found.{Found}
 use Rattle.key_index.specs.declared.Found.the-variants.{None, At}
 use Rattle.key_index.specs.Slots.{LiveAt, keyAt, slots, KeysSound}
 use Rattle.key_index.specs.inner.Index.{Fits, FoundAt, FoundIs}
+use Rattle.key_index.specs.Laws.Index.{rows-in}
+use Rattle.key_index.specs.Laws.Places.{row-inside}
 use Rattle.key_index.specs.Laws.Rooms.{past-room}
 use Rattle.key_gaps.specs.inner.Gaps.{TakenOut}
 use Rattle.plain.specs.Staged.{removeKey, removeRow}
@@ -40,9 +42,7 @@ use Rattle.pending.specs.Laws.Dying.{dying, dying-steps, withoutKey-none, witho
 -- its first cell lies in the store
 pub first-cell : (t : Keyed) (rows keys : List ℕ) (row : ℕ) → Fits t rows keys → row < t .rows → (row * t .columns < length rows) × (row * t .columns < 524288)
 first-cell t rows keys row f h =
-    let a = row-in row (t .room) (t .columns) (omega (arith, f .count)) in
-    let b = mul-le-mul (f .most) (f .most-columns) in
-    (omega (arith, f .cells, f .some-columns), omega (arith, f .some-columns))
+    let i = row-inside t rows row (rows-in t rows keys f) h in (omega (arith, i, f .some-columns), omega (arith, i, f .some-columns))
 
 pub killed : (t : Keyed) (rows keys : List ℕ) (row slot : ℕ) (was : Bool) (rows′ keys′ : List ℕ) → Fits t rows keys
     → TakenOut t rows keys slot keys′ → Staled rows (row * t .columns) was rows′ → Kills t rows keys row slot (not was) rows′ keys′

@@ -5,7 +5,7 @@ use mathlib.Core.Path.{_≡_, refl, sym, ap, _∙_}
 use mathlib.Core.Bool.{Bool, true, false, not, false≢true}
 use mathlib.Core.List.{List, [], _∷_}
 use mathlib.Core.Option.{Option, none as no-value, some as a-value}
-use native.Mathlib.Nat.{add-zero, mul-le-mul}
+use native.Mathlib.Nat.{add-zero}
 use native.Mathlib.Decide.{ℕ-discrete}
 use native.Mathlib.Omega.{arith}
 use lib.Dec.{leb, eqb}
@@ -16,10 +16,10 @@ use Rattle.refusals.specs.Refusals.{reply, verdict}
 use Rattle.refusals.specs.Laws.Replies.{verdict-refused}
 use Rattle.lists.specs.Lists.{every, count, rowAt, rowsOf}
 use Rattle.lists.specs.Laws.Keep.{count-append, count-le}
-use Rattle.lists.specs.Laws.Rows.{row-in, length-rowsOf, rowsOf-snoc, getD-rowAt}
+use Rattle.lists.specs.Laws.Rows.{length-rowsOf, rowsOf-snoc, getD-rowAt}
 use Rattle.cells.specs.Cells.{isDead, compact, keyHash}
-use Rattle.row_buffer.specs.Laws.Rows.{key-row}
 use Rattle.constraints.specs.Constraints.{isLive}
+use Rattle.key_index.specs.Laws.Places.{key-part}
 use Rattle.key_index.specs.declared.Keyed.{Keyed}
 use Rattle.key_index.specs.declared.Found.{Found}
 use Rattle.key_index.specs.declared.Found.the-variants.{None, At}
@@ -68,20 +68,6 @@ module _ (w n : ℕ) (rows : List ℕ) where
 
   pub dead-few : deadAmong w n rows ≤ n
   dead-few = omega (arith, count-le (λ row. not (isLive row)) (rowsOf w n rows), length-rowsOf w n rows)
-
--- a row lies in the store, which is small
-pub record RowInside (rows : List ℕ) (w i : ℕ) : Type 0 where
-  pub in-store : i * w + w ≤ length rows
-  pub small : i * w + w ≤ 524288
-
-pub row-inside : (rows : List ℕ) (w n i : ℕ) → n ≤ 65536 → w ≤ 8 → n * w ≤ length rows → i < n → RowInside rows w i
-row-inside rows w n i few narrow long h =
-    let a = row-in i n w h in
-    let b = mul-le-mul few narrow in
-    record { in-store = omega arith; small = omega arith }
-
-pub row-inside-fits : (t : Keyed) (rows keys : List ℕ) (i : ℕ) → Fits t rows keys → i < t .rows → RowInside rows (t .columns) i
-row-inside-fits t rows keys i f h = row-inside rows (t .columns) (t .room) i (f .most) (f .most-columns) (f .cells) (omega (arith, f .count))
 
 -- where entries rise, the last one's value decides whether one exceeds the largest
 
@@ -144,12 +130,6 @@ module _ (h : Header) (rows sorts : List ℕ) where
       }
 
 -- ---- keys
-
--- the part of the store that is lent is the row's key
-key-part : (t : Keyed) (rows : List ℕ) (row : ℕ) → t .keys ≤ t .columns → take (row * t .columns + t .keys - row * t .columns) (drop (row * t .columns) rows) ≡ keyAt t rows row
-key-part t rows row h =
-    let k : row * t .columns + t .keys - row * t .columns ≡ t .keys = omega arith in
-    rw k (sym (key-row (t .columns) row (t .keys) rows h))
 
 -- the answers of `finds_itself`, after the row's key is looked up
 module _ (t : Keyed) (rows keys : List ℕ) (row : ℕ) (fits : Fits t rows keys) (sound : KeysSound t rows keys) (below : row < t .rows) where

@@ -11,6 +11,7 @@ use lib.ListN.{length, take, drop, getD}
 use borrow.Author.Tests.{ltb-false}
 use Rattle.lists.specs.Lists.{putAt, keep, count, every, countFrom, rising, rowAt}
 use Rattle.lists.specs.Laws.Keep.{split, keep-append}
+use Rattle.lists.specs.Laws.Parts.{part-width}
 use Rattle.lists.specs.Laws.Rising.{rising-keep, rising-take, rising-drop}
 use Rattle.lists.specs.Laws.Rows.{row-in, getD-rowAt}
 use Rattle.cells.specs.Cells.{isDead}
@@ -65,7 +66,7 @@ module _ (head : SubsetHead) (ids : List ℕ) where
 -- the part of the store that is lent is the row
 pub row-part : (columns id : ℕ) (rows : List ℕ) → take (id * columns + columns - id * columns) (drop (id * columns) rows) ≡ rowAt columns id rows
 unfolding rowAt
-row-part columns id rows = let k : id * columns + columns - id * columns ≡ columns = omega arith in rw k
+row-part columns id rows = part-width rows (id * columns) columns
 
 -- the first cell says whether the row is live
 pub live-first : (columns id : ℕ) (rows : List ℕ) → 0 < columns → not (isDead (getD rows (id * columns) 0)) ≡ isLive (rowAt columns id rows)

@@ -6,7 +6,8 @@ use lib.ListN.{length, getD, length-set}
 use borrow.Author.Tests.{not-true, not-false}
 use Rattle.key_index.specs.Slots.{slots}
 use Rattle.key_check.specs.inner.Check.{named, Stands}
-use Rattle.key_check.proofs.CheckSteps.{fits-lie, Walk, Few, round-begin, slot-in, counted, round-end, turn-free, turn-wrong, turn-twice, turn-taken}
+use Rattle.key_index.specs.Laws.Index.{rows-in}
+use Rattle.key_check.proofs.CheckSteps.{Walk, Few, round-begin, slot-in, counted, round-end, turn-free, turn-wrong, turn-twice, turn-taken}
 use Rattle.key_check.proofs.round_holds.Statement.{statement}
 use Rattle.key_check.proofs.round_holds.Tie as tie
 
@@ -63,7 +64,7 @@ add-taken : tie.Need-add-taken Inv-loop μ-loop
 add-taken c = omega (arith, small (c .before .before .before), c .before .before .loop-test .taken)
 
 stands-requires : tie.Need-stands-requires Inv-loop μ-loop
-stands-requires c κs = (fits-lie _ _ _ (c .before .before .before .before .before .before .before .before .pre .fits), at-in (c .before .before .before))
+stands-requires c κs = (rows-in _ _ _ (c .before .before .before .before .before .before .before .before .pre .fits), at-in (c .before .before .before))
 
 same-length : tie.Need-same-length Inv-loop μ-loop
 same-length c = c .before .before .before .before .before .loop .inv .1

@@ -1,7 +1,7 @@
 -- The check of a key store: what its parts ask and promise, and why it is enough. The ring is unrolled at a free slot, and
 -- each taken place of the line is found to hold a live row that stands right. No two hold the same one, so that where taken
 -- places and live rows are equally many no live row is missed. Assumes nothing.
-use Prim.Native.Nat.{ℕ, zero, suc, _-_, _*_, _%_, _^_, _≤_, _<_}
+use Prim.Native.Nat.{ℕ, zero, suc, _-_, _%_, _^_, _≤_, _<_}
 use mathlib.Core.Path.{_≡_}
 use mathlib.Core.Bool.{Bool, true, false, cond}
 use mathlib.Core.List.{List}
@@ -14,15 +14,6 @@ use Rattle.key_index.specs.Laws.Unrolled.{away}
 use Rattle.key_index.specs.inner.Index.{Fits}
 
 -- ---- what the parts ask and promise
-
--- a table's rows lie in their store
-pub record RowsLie (t : Keyed) (rows : List ℕ) : Type 0 where
-  pub most-columns : t .columns ≤ 8
-  pub most-keys : t .keys ≤ t .columns
-  pub some : 1 ≤ t .room
-  pub most : t .room ≤ 65536
-  pub count : t .rows ≤ t .room
-  pub cells : t .room * t .columns ≤ length rows
 
 unfoldable pub isLiveRow : Keyed → List ℕ → ℕ → Bool
 isLiveRow t rows i = isLive (rowAt (t .columns) i rows)

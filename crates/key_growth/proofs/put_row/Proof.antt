@@ -3,12 +3,13 @@ use mathlib.Core.Path.{sym, _∙_}
 use native.Mathlib.Omega.{arith}
 use borrow.Author.Needs.{needs}
 use Rattle.key_index.specs.Laws.Index.{rows-in}
-use Rattle.key_growth.proofs.RebuildSteps.{Inside, inside, row-dead, row-live}
+use Rattle.key_index.specs.Laws.Places.{Inside, row-inside}
+use Rattle.key_growth.proofs.RebuildSteps.{row-dead, row-live}
 use Rattle.key_growth.proofs.put_row.Statement.{statement}
 use Rattle.key_growth.proofs.put_row.Tie as tie
 
-lies : (s : tie.Start) → Inside (s .args .t) (s .args .rows .now) (s .args .row)
-lies s = inside _ _ _ (s .args .row) (s .pre .0) (s .pre .1)
+lies : (s : tie.Start) → Inside (s .args .rows .now) (s .args .t .columns) (s .args .row)
+lies s = row-inside _ _ _ (rows-in _ _ _ (s .pre .0)) (s .pre .1)
 
 mul-at : tie.Need-mul-at
 mul-at c = omega (arith, lies (c .before .before .before))
@@ -27,12 +28,6 @@ returns c =
 row-hash-requires : tie.Need-row-hash-requires
 row-hash-requires c κs = (rows-in _ _ _ (c .before .before .before .before .before .pre .0), c .before .before .before .before .before .pre .1)
 
-put-requires : tie.Need-put-requires
-put-requires c κs = search needs
-
-same-length : tie.Need-same-length
-same-length c = search needs
-
 returns-2 : tie.Need-returns-2
 returns-2 c =
     let s = c .before .before .before .before .before .before .before .before .before .before in
@@ -42,11 +37,4 @@ pub put-row-spec : {M : Type 1} → statement M
 put-row-spec =
     tie.close
     (tie.spec
-    mul-at
-    cast-at
-    is-dead-requires
-    returns
-    row-hash-requires
-    put-requires
-    same-length
-    returns-2)
+    mul-at cast-at is-dead-requires returns row-hash-requires (λ c κs. search needs) (λ c. search needs) returns-2)

@@ -1,9 +1,10 @@
 -- `key_growth::rebuild` meets its contract. Assumes nothing.
 use Prim.Native.Nat.{_-_}
-use mathlib.Core.Path.{_∙_}
+use mathlib.Core.Path.{refl, _∙_}
 use native.Mathlib.Omega.{arith}
 use borrow.Author.Needs.{needs}
-use Rattle.key_growth.proofs.RebuildSteps.{fits-on, Turn, turn-begin, turn-on, turn-end}
+use Rattle.key_index.specs.Laws.Places.{fits-stores}
+use Rattle.key_growth.proofs.RebuildSteps.{Turn, turn-begin, turn-on, turn-end}
 use Rattle.key_growth.proofs.rebuild.Statement.{statement}
 use Rattle.key_growth.proofs.rebuild.Tie as tie
 
@@ -13,22 +14,13 @@ Inv-loop t rows store₀ row₀ store row = Turn t rows store₀ store row
 abbrev μ-loop : tie.MeasureT-loop
 μ-loop t rows store₀ row₀ store row = t .rows - row
 
-empty-requires : tie.Need-empty-requires Inv-loop μ-loop
-empty-requires c κs = search needs
-
 loop-holds : tie.Need-loop-holds Inv-loop μ-loop
 loop-holds c = turn-begin _ _ _ _ (c .before .before .empty .ensures) (c .before .before .before .before .before .before .pre .long)
 
 put-row-requires : tie.Need-put-row-requires Inv-loop μ-loop
 put-row-requires c κs =
     let f = c .before .before .before .before .before .before .before .before .before .before .pre in
-    (fits-on _ _ _ _ f (c .before .before .before .loop .inv .same ∙ c .before .before .before .before .before .store .given), omega (arith, c .before .if1 .taken))
-
-add-row : tie.Need-add-row Inv-loop μ-loop
-add-row c = omega arith
-
-loop-less : tie.Need-loop-less Inv-loop μ-loop
-loop-less c = omega arith
+    (fits-stores f _ _ refl (c .before .before .before .loop .inv .same ∙ c .before .before .before .before .before .store .given), omega (arith, c .before .if1 .taken))
 
 loop-again : tie.Need-loop-again Inv-loop μ-loop
 loop-again c =
@@ -45,13 +37,5 @@ pub rebuild-spec : {M : Type 1} → statement M
 rebuild-spec =
     tie.close
     (tie.spec
-    Inv-loop
-    μ-loop
-    empty-requires
-    loop-holds
-    put-row-requires
-    add-row
-    loop-less
-    loop-again
-    same-length
-    returns)
+    Inv-loop μ-loop (λ c κs. search needs) loop-holds put-row-requires (λ c. omega arith) (λ c. omega arith) loop-again
+    same-length returns)

@@ -17,6 +17,10 @@ module _ {A : Type 0} where
   take-drop (suc n) m [] = take-nil m ∙ sym (ap (drop (suc n)) (take-nil (suc n + m)))
   take-drop (suc n) m (x ∷ xs) = rw suc-add (take-drop n m xs)
 
+  -- a part that is lent, by its width
+  pub part-width : (l : List A) (at width : ℕ) → take (at + width - at) (drop at l) ≡ take width (drop at l)
+  part-width l at width = let e : at + width - at ≡ width = omega arith in rw e
+
   module _ (l w : List A) (at : ℕ) (fits : at + length w ≤ length l) where
     head-length : length (take at l) ≡ at
     head-length = simp length-take (omega arith)

@@ -9,7 +9,7 @@ use native.Mathlib.Nat.{add-zero}
 use native.Mathlib.Decide.{decLt, ℕ-discrete}
 use native.Mathlib.Omega.{arith}
 use lib.Dec.{leb, eqb}
-use lib.ListN.{length, take, getD, length-take}
+use lib.ListN.{length, take, drop, getD, length-take, length-drop}
 use lib.Seq.{getD-take, ext-getD}
 use borrow.Author.Tests.{eq-eqb, ne-eqb, le-leb, lt-leb}
 use Rattle.lists.specs.Laws.Keep.{split}
@@ -163,6 +163,14 @@ module _ (keys sort : ℕ) (old new : List ℕ) (n : length old ≡ length new) 
 pub survivor-length : (rule keys sort : ℕ) (old new : List ℕ) → length old ≡ length new → length (survivor rule keys sort old new) ≡ length old
 unfolding survivor
 survivor-length rule keys sort old new n = elim (split (changesFrom rule keys sort 0 old new)) [ inl e ↦ rw e (sym n) | inr e ↦ rw e ]
+
+-- either part may be handed back, and both are as wide
+pub handed-width : (width : ℕ) (rows : List ℕ) (old : ℕ) (pending : List ℕ) (new : ℕ) (b : Bool) → old + width ≤ length rows → new + width ≤ length pending
+    → length (cond b (take width (drop new pending)) (take width (drop old rows))) ≡ width
+handed-width width rows old pending new b h k =
+    let o : length (take width (drop old rows)) ≡ width = simp (length-take, length-drop) (omega arith) in
+    let n : length (take width (drop new pending)) ≡ width = simp (length-take, length-drop) (omega arith) in
+    elim (split b) [ inl q ↦ rw q n | inr q ↦ rw q o ]
 
 -- ---- what a row that is made is
 

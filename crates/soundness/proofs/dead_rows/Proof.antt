@@ -3,7 +3,8 @@ use Prim.Native.Nat.{ℕ, _+_, _-_, _≤_, _<_}
 use mathlib.Core.Path.{_≡_, refl, sym, ap, _∙_}
 use native.Mathlib.Omega.{arith}
 use Rattle.lists.specs.Lists.{count, rowsOf}
-use Rattle.soundness.proofs.CheckingSteps.{deadAmong, dead-more, dead-same, dead-few, RowInside, row-inside}
+use Rattle.key_index.specs.Laws.Places.{Inside, inside}
+use Rattle.soundness.proofs.CheckingSteps.{deadAmong, dead-more, dead-same, dead-few}
 use Rattle.soundness.proofs.dead_rows.Statement.{statement}
 use Rattle.soundness.proofs.dead_rows.Tie as tie
 
@@ -16,8 +17,8 @@ abbrev μ-loop : tie.MeasureT-loop
 loop-holds : tie.Need-loop-holds Inv-loop μ-loop
 loop-holds c = (omega arith, unfold count rowsOf in refl)
 
-lies : (s : tie.Start Inv-loop μ-loop) (row : ℕ) → row < s .args .h .rows → RowInside (s .args .rows .now) (s .args .h .columns) row
-lies s row = row-inside _ _ (s .args .h .rows) row (s .pre .few) (s .pre .narrow) (s .pre .words)
+lies : (s : tie.Start Inv-loop μ-loop) (row : ℕ) → row < s .args .h .rows → Inside (s .args .rows .now) (s .args .h .columns) row
+lies s row = inside _ _ (s .args .h .rows) row (s .pre .few) (s .pre .narrow) (s .pre .words)
 
 mul-at : tie.Need-mul-at Inv-loop μ-loop
 mul-at c = omega (arith, lies (c .before .before .before .before .before) _ (c .before .if1 .taken))
@@ -28,17 +29,11 @@ cast-at c = omega (arith, lies (c .before .before .before .before .before) _ (c 
 is-dead-requires : tie.Need-is-dead-requires Inv-loop μ-loop
 is-dead-requires c κs = omega (arith, lies (c .before .before .before .before .before) _ (c .before .if1 .taken), c .before .before .before .before .before .pre .column)
 
-add-row : tie.Need-add-row Inv-loop μ-loop
-add-row c = omega arith
-
 add-dead : tie.Need-add-dead Inv-loop μ-loop
 add-dead c =
     let l = c .before .before .before .before .before .loop in
     let a = c .before .before .before .before .before .before .before .args in
     omega (arith, l .inv .1, dead-few (a .h .columns) (l .row) (a .rows .now), c .before .before .before .if1 .taken)
-
-loop-less : tie.Need-loop-less Inv-loop μ-loop
-loop-less c = omega arith
 
 some : (s : tie.Start Inv-loop μ-loop) → 0 < s .args .h .columns
 some s = omega (arith, s .pre .column)
@@ -46,9 +41,6 @@ some s = omega (arith, s .pre .column)
 loop-again : tie.Need-loop-again Inv-loop μ-loop
 loop-again c =
     (omega arith, ap (λ (n : ℕ). n + 1) (c .before .before .before .before .before .loop .inv .1) ∙ sym (dead-more _ _ _ (some (c .before .before .before .before .before .before .before)) (sym (c .before .is-dead .ensures) ∙ c .if2 .taken)))
-
-loop-less-2 : tie.Need-loop-less-2 Inv-loop μ-loop
-loop-less-2 c = omega arith
 
 loop-again-2 : tie.Need-loop-again-2 Inv-loop μ-loop
 loop-again-2 c =
@@ -65,16 +57,5 @@ pub dead-rows-spec : {M : Type 1} → statement M
 dead-rows-spec =
     tie.close
     (tie.spec
-    Inv-loop
-    μ-loop
-    loop-holds
-    mul-at
-    cast-at
-    is-dead-requires
-    add-row
-    add-dead
-    loop-less
-    loop-again
-    loop-less-2
-    loop-again-2
-    returns)
+    Inv-loop μ-loop loop-holds mul-at cast-at is-dead-requires (λ c. omega arith) add-dead (λ c. omega arith)
+    loop-again (λ c. omega arith) loop-again-2 returns)
