@@ -1,6 +1,6 @@
 -- Steps of an append in the code's form: what an admission says once its answer is known, the key store with the row, and the
 -- answers of the parts put together. Assumes nothing.
-use Prim.Native.Nat.{ℕ, _+_, _*_, _<_}
+use Prim.Native.Nat.{ℕ, _+_, _*_, _≤_, _<_}
 use mathlib.Core.Path.{_≡_, refl, sym, ap, _∙_}
 use mathlib.Core.Bool.{Bool, true, false, false≢true}
 use mathlib.Core.List.{List}
@@ -13,7 +13,8 @@ use Rattle.key_index.specs.Slots.{slots}
 use Rattle.key_index.specs.inner.Ring.{tagged}
 use Rattle.key_index.specs.inner.Index.{Fits, PutIs}
 use Rattle.key_index.specs.Laws.Index.{replace-tail}
-use Rattle.key_index.specs.Laws.Rooms.{past-room}
+use Rattle.key_index.specs.Laws.Places.{fits-stores}
+use Rattle.key_index.specs.Laws.Rooms.{past-room, fits-room}
 use Rattle.key_growth.specs.inner.Growth.{Rebuilt}
 use Rattle.table.specs.declared.Header.{Header}
 use Rattle.appending.specs.declared.Insertion.{Insertion}
@@ -22,7 +23,9 @@ use Rattle.appending.specs.declared.Admission.the-variants.{Stop, Entrie
 use Rattle.table.specs.Sound.{keyedOf}
 use Rattle.table.specs.Promises.{SlotsPast}
 use Rattle.table.specs.Laws.Refusals.{whole-fits}
-use Rattle.appending.specs.inner.Appending.{grownTo, Stops, Entered, AdmissionIs, outgrown, Leading, Rebuildable, RebuiltGrown, Stayed, Grew, NewIs, Replaced, ReplaceIs}
+use Rattle.table.specs.inner.Whole.{wholeOf}
+use Rattle.appending.specs.Laws.Places.{Placed, placed}
+use Rattle.appending.specs.inner.Appending.{grownTo, Stops, Entered, AdmissionIs, outgrown, Leading, Rebuildable, RebuiltGrown, Growable, Stayed, Grew, NewIs, Replaced, ReplaceIs}
 
 -- ---- admissions
 
@@ -33,39 +36,39 @@ module _ (h : Header) (sorts : List ℕ) (value : ℕ) (sorts′ : List ℕ) (r 
   pub entered-of : (n : ℕ) → r ≡ Entries n → Entered h sorts value n sorts′
   entered-of n e = rw e at a
 
--- ---- the key store
+-- what a row that has entered finds: its place, slots for its number, and counts that can grow
+pub record Entering (h : Header) (rows keys cells : List ℕ) : Type 0 where
+  pub fits : Fits (wholeOf h) rows keys
+  pub slots-fit : Fits (keyedOf h) rows keys
+  pub room : h .rows < h .capacity
+  pub place : Placed h rows (h .rows)
+  pub dead-fits : h .dead + 1 ≤ 4294967295
+  pub width : length cells ≡ h .columns
 
--- rows of the same length will do too
-pub fits-rows : {t : Keyed} {rows keys : List ℕ} → Fits t rows keys → (rows′ keys′ : List ℕ) → length rows′ ≡ length rows → length keys′ ≡ length keys → Fits t rows′ keys′
-fits-rows {t} {rows} {keys} f rows′ keys′ er ek =
+pub entering : {h : Header} {rows keys sorts cells : List ℕ} → Growable h rows keys sorts cells → h .rows < h .capacity → Entering h rows keys cells
+entering {h} {rows} {keys} g room =
     record {
-      some-columns = f .some-columns;
-      most-columns = f .most-columns;
-      some-keys = f .some-keys;
-      most-keys = f .most-keys;
-      some = f .some;
-      most = f .most;
-      count = f .count;
-      cells = rw er (f .cells);
-      long = rw ek (f .long);
+      fits = g .fits;
+      slots-fit = whole-fits h rows keys (g .fits);
+      room = room;
+      place = placed h rows keys (g .fits) (h .rows) room;
+      dead-fits = omega (arith, g .dead-fits);
+      width = g .width;
     }
 
--- it can be rebuilt with the row
+-- ---- the key store
+
+-- it can be rebuilt with the row, once that is written
+pub rebuilds : {h : Header} {rows keys cells : List ℕ} → Entering h rows keys cells → (rows′ : List ℕ) → length rows′ ≡ length rows → (died : ℕ) → died ≤ 1
+    → Rebuildable h rows′ keys died
+rebuilds {h} {rows} {keys} e rows′ same died k =
+    record { fits = fits-stores (e .fits) rows′ keys same refl; place = e .room; dead-fits = omega (arith, e .dead-fits) }
+
 pub rebuildable : (h : Header) (rows keys : List ℕ) (died entries value : ℕ) → Rebuildable h rows keys died → (n : Header) → n ≡ grownTo h (h .dead + died) entries value
     → (t : Keyed) → t ≡ keyedOf n → Fits t rows keys
 rebuildable h rows keys died entries value b n e t k =
-    let f = b .fits in
-    rw (k, e) (whole-fits (grownTo h (h .dead + died) entries value) rows keys (record {
-      some-columns = f .some-columns;
-      most-columns = f .most-columns;
-      some-keys = f .some-keys;
-      most-keys = f .most-keys;
-      some = f .some;
-      most = f .most;
-      count = omega (arith, b .place);
-      cells = f .cells;
-      long = f .long;
-    }))
+    let h′ = grownTo h (h .dead + died) entries value in
+    rw (k, e) (whole-fits h′ rows keys (fits-room (wholeOf h) (wholeOf h′) rows keys (b .fits) refl refl (b .fits .some) (omega (arith, b .place)) (omega arith)))
 
 pub rebuilt-grown : (h : Header) (rows keys keys′ : List ℕ) (died entries value : ℕ) (n : Header) → n ≡ grownTo h (h .dead + died) entries value
     → (t : Keyed) → t ≡ keyedOf n → Rebuilt t rows keys keys′ → (Rebuilt (keyedOf (grownTo h (h .dead + died) entries value)) rows keys keys′)
@@ -89,19 +92,19 @@ module _ (h : Header) (rows keys sorts cells : List ℕ) where
   stayed-of sorts′ n s = record { stops = s .0; same-rows = refl; same-keys = refl; same-sorts = s .1 }
 
   module _ (hash n : ℕ) (sorts′ : List ℕ) (entered : Entered h sorts (getD cells (h .sort) 0) n sorts′) (rows′ keys′ : List ℕ) (same : length keys′ ≡ length keys) where
+    -- the header counts the entries
+    counted : (dead : ℕ) (h′ : Header) → h′ ≡ grownTo h dead n (getD cells (h .sort) 0)
+        → Entered h sorts (getD cells (h .sort) 0) (h′ .entries) sorts′ × (h′ ≡ grownTo h dead (h′ .entries) (getD cells (h .sort) 0))
+    counted dead h′ e =
+        let m : n ≡ h′ .entries = sym (ap (λ (x : Header). x .entries) e) in
+        (rw m at entered, e ∙ ap (λ (k : ℕ). grownTo h dead k (getD cells (h .sort) 0)) m)
+
     -- a new key's row appended
     module _ (rows-is : rows′ ≡ putAt rows (h .rows * h .columns) cells) where
       grew : (h′ : Header) → h′ ≡ grownTo h (h .dead + 0) n (getD cells (h .sort) 0)
           → Leading h h′ rows′ keys ((r : Bool) × PutIs (slots (keyedOf h)) keys hash (h .rows) r keys′) keys′ → Grew h rows keys sorts cells hash h′ rows′ keys′ sorts′
       grew h′ e led =
-          let m : n ≡ h′ .entries = sym (ap (λ (x : Header). x .entries) e) in
-          let z : h .dead + 0 ≡ h .dead = add-zero (h .dead) in
-          record {
-            entered = rw m at entered;
-            header = e ∙ λ k. grownTo h (z k) (m k) (getD cells (h .sort) 0);
-            rows-after = rows-is;
-            keys-after = led;
-          }
+          let k = counted (h .dead) h′ (rw add-zero at e) in record { entered = k .0; header = k .1; rows-after = rows-is; keys-after = led }
 
       pub grew-stepped : outgrown h ≡ false → (t : Keyed) → t ≡ keyedOf h → (r : Bool) → PutIs (slots t) keys hash (h .rows) r keys′
           → (h′ : Header) → h′ ≡ grownTo h (h .dead + 0) n (getD cells (h .sort) 0) → Grew h rows keys sorts cells hash h′ rows′ keys′ sorts′
@@ -117,13 +120,7 @@ module _ (h : Header) (rows keys sorts cells : List ℕ) where
       replaced : (h′ : Header) → h′ ≡ grownTo h (h .dead + 1) n (getD cells (h .sort) 0)
           → Leading h h′ rows′ keys (keys′ ≡ set keys slot (tagged hash (h .rows))) keys′ → Replaced h rows keys sorts cells hash old slot h′ rows′ keys′ sorts′
       replaced h′ e led =
-          let m : n ≡ h′ .entries = sym (ap (λ (x : Header). x .entries) e) in
-          record {
-            entered = rw m at entered;
-            header = e ∙ λ k. grownTo h (h .dead + 1) (m k) (getD cells (h .sort) 0);
-            rows-after = rows-is;
-            keys-after = led;
-          }
+          let k = counted (h .dead + 1) h′ e in record { entered = k .0; header = k .1; rows-after = rows-is; keys-after = led }
 
       pub replaced-stepped : outgrown h ≡ false → slot < slots (keyedOf h) → keys′ ≡ set keys slot (tagged hash (h .rows))
           → (h′ : Header) → h′ ≡ grownTo h (h .dead + 1) n (getD cells (h .sort) 0) → Replaced h rows keys sorts cells hash old slot h′ rows′ keys′ sorts′

@@ -9,17 +9,8 @@ use Rattle.appending.proofs.admit.Tie as tie
 returns : tie.Need-returns
 returns c = (stops-full _ _ (omega arith), refl)
 
-is-old-requires : tie.Need-is-old-requires
-is-old-requires c κs = search needs
-
 returns-2 : tie.Need-returns-2
 returns-2 c = (stops-old _ _ (c .before .before .if1 .left) (sym (c .before .is-old .ensures) ∙ c .if2 .taken), refl)
-
-append-entry-requires : tie.Need-append-entry-requires
-append-entry-requires c κs = search needs
-
-same-length : tie.Need-same-length
-same-length c = search needs
 
 returns-3 : tie.Need-returns-3
 returns-3 c = admit-entered _ _ _ (c .before .before .before .before .before .before .before .before .before .pre) (c .before .before .before .before .before .before .if1 .left) _ _ (c .before .before .append-entry .ensures) (sym (c .before .before .before .before .before .is-old .ensures) ∙ c .before .before .before .before .if2 .left)
@@ -27,4 +18,4 @@ returns-3 c = admit-entered _ _ _ (c .before .before .before .before .before .be
 pub admit-spec : {M : Type 1} → statement M
 admit-spec =
     tie.close
-    (tie.spec returns is-old-requires returns-2 append-entry-requires same-length returns-3)
+    (tie.spec returns (λ c κs. search needs) returns-2 (λ c κs. search needs) (λ c. search needs) returns-3)

@@ -5,12 +5,6 @@ use Rattle.table.specs.Numbers.{largestSays}
 use Rattle.appending.proofs.is_old.Statement.{statement}
 use Rattle.appending.proofs.is_old.Tie as tie
 
-enum-told : tie.Need-enum-told
-enum-told c = search needs
-
-enum-known-largest : tie.Need-enum-known-largest
-enum-known-largest c = search needs
-
 returns : tie.Need-returns
 unfolding below largestSays
 returns c = rw (c .enum-told .given .1)
@@ -20,4 +14,4 @@ unfolding below largestSays
 returns-2 c = rw (c .before .largest .given .1)
 
 pub is-old-spec : {M : Type 1} → statement M
-is-old-spec = tie.close (tie.spec enum-told enum-known-largest returns returns-2)
+is-old-spec = tie.close (tie.spec (λ c. search needs) (λ c. search needs) returns returns-2)

@@ -6,17 +6,8 @@ use Rattle.appending.proofs.AppendSteps.{rebuildable, rebuilt-grown}
 use Rattle.appending.proofs.rebuild_grown.Statement.{statement}
 use Rattle.appending.proofs.rebuild_grown.Tie as tie
 
-grown-requires : tie.Need-grown-requires
-grown-requires c κs = search needs
-
-keyed-requires : tie.Need-keyed-requires
-keyed-requires c κs = search needs
-
 rebuild-requires : tie.Need-rebuild-requires
 rebuild-requires c κs = let s = c .before .before .before .before .before in rebuildable _ _ _ _ _ _ (s .pre) _ (c .before .before .grown .ensures) _ (c .before .keyed .ensures)
-
-same-length : tie.Need-same-length
-same-length c = search needs
 
 returns : tie.Need-returns
 returns c =
@@ -26,4 +17,6 @@ returns c =
     }
 
 pub rebuild-grown-spec : {M : Type 1} → statement M
-rebuild-grown-spec = tie.close (tie.spec grown-requires keyed-requires rebuild-requires same-length returns)
+rebuild-grown-spec =
+    tie.close
+    (tie.spec (λ c κs. search needs) (λ c κs. search needs) rebuild-requires (λ c. search needs) returns)
