@@ -4,19 +4,9 @@ use borrow.Author.Needs.{needs}
 use Rattle.asking.proofs.tell_page.Statement.{statement}
 use Rattle.asking.proofs.tell_page.Tie as tie
 
-returns : tie.Need-returns
-returns c = tells-unheaded (c .if1 .taken)
-
-returns-2 : tie.Need-returns-2
-returns-2 c = tells-unworded (c .before .if1 .left) (c .if2 .taken)
-
-returns-3 : tie.Need-returns-3
-returns-3 c =
-    let w = c .before .before in
-    let t = w .before .before in
-    tells-done (t .before .if1 .left) (t .if2 .left) (w .write-page .ensures)
-
 pub tell-page-spec : {M : Type 1} → statement M
 tell-page-spec =
     tie.close
-    (tie.spec returns returns-2 (λ c κs. search needs) (λ c. search needs) returns-3)
+    (tie.spec
+    (λ c. tells-unheaded (c .if1 .taken)) (λ c. tells-unworded (c .before .if1 .left) (c .if2 .taken)) (λ c κs. search needs) (λ c. search needs)
+    (λ c. tells-done (c .before .before .before .before .before .if1 .left) (c .before .before .before .before .if2 .left) (c .before .before .write-page .ensures)))

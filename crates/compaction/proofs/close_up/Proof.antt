@@ -18,9 +18,6 @@ loop-holds c = turn-begin _ _ _ _ _
 sub-block : tie.Need-sub-block Inv-loop μ-loop
 sub-block c = omega (arith, c .before .if1 .taken)
 
-block-requires : tie.Need-block-requires Inv-loop μ-loop
-block-requires c κs = search needs
-
 add-next : tie.Need-add-next Inv-loop μ-loop
 add-next c = omega (arith, c .block .ensures, c .before .before .if1 .taken)
 
@@ -30,23 +27,11 @@ mul-from c = omega (arith, cells-in (c .before .before .before .before .before .
 cast-from : tie.Need-cast-from Inv-loop μ-loop
 cast-from c = omega (arith, cells-in (c .before .before .before .before .before .before .before .before .before .before .pre) (c .before .before .before .before .before .loop .inv) (c .before .before .before .if1 .taken) _ (c .before .block .ensures))
 
-cast-marks-other : tie.Need-cast-marks-other Inv-loop μ-loop
-cast-marks-other c = search needs
-
 marks-other-requires : tie.Need-marks-other-requires Inv-loop μ-loop
 marks-other-requires c κs = spaced (c .before .before .before .before .before .before .before .before .before .before .before .before .pre) (c .before .before .before .before .before .before .before .loop .inv) (c .before .before .before .before .before .if1 .taken) _ (c .before .before .before .block .ensures)
 
-cast-at : tie.Need-cast-at Inv-loop μ-loop
-cast-at c = search needs
-
-mul-live : tie.Need-mul-live Inv-loop μ-loop
-mul-live c = search needs
-
 slice-write-live : tie.Need-slice-write-live Inv-loop μ-loop
 slice-write-live c = words-in (c .before .before .before .before .before .before .before .before .before .before .before .before .before .pre) (c .before .before .before .before .before .before .before .before .loop .inv) (c .before .before .before .before .before .before .if1 .taken) _ (c .before .before .before .before .block .ensures) .0
-
-mul-base : tie.Need-mul-base Inv-loop μ-loop
-mul-base c = search needs
 
 slice-write-base : tie.Need-slice-write-base Inv-loop μ-loop
 slice-write-base c = words-in (c .before .before .before .before .before .before .before .before .before .before .before .before .before .pre) (c .before .before .before .before .before .before .before .before .loop .inv) (c .before .before .before .before .before .before .if1 .taken) _ (c .before .before .before .before .block .ensures) .1
@@ -79,26 +64,6 @@ pub close-up-spec : {M : Type 1} → statement M
 close-up-spec =
     tie.close
     (tie.spec
-    Inv-loop
-    μ-loop
-    loop-holds
-    sub-block
-    block-requires
-    add-next
-    mul-from
-    cast-from
-    cast-marks-other
-    marks-other-requires
-    cast-at
-    mul-live
-    slice-write-live
-    mul-base
-    slice-write-base
-    keep-block-requires
-    loop-less
-    loop-again
-    same-length
-    same-length-2
-    same-length-3
-    same-length-4
-    returns)
+    Inv-loop μ-loop loop-holds sub-block (λ c κs. search needs) add-next mul-from cast-from (λ c. search needs)
+    marks-other-requires (λ c. search needs) (λ c. search needs) slice-write-live (λ c. search needs) slice-write-base
+    keep-block-requires loop-less loop-again same-length same-length-2 same-length-3 same-length-4 returns)

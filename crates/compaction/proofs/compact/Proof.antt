@@ -5,29 +5,11 @@ use Rattle.compaction.proofs.CompactionSteps.{compact-refused, compact-
 use Rattle.compaction.proofs.compact.Statement.{statement}
 use Rattle.compaction.proofs.compact.Tie as tie
 
-compact-refusal-requires : tie.Need-compact-refusal-requires
-compact-refusal-requires c κs = search needs
-
 returns : tie.Need-returns
 returns c = compact-refused _ _ _ _ _ _ _ (c .before .compact-refusal .ensures) (c .if1 .taken)
 
 compact-rows-requires : tie.Need-compact-rows-requires
 compact-rows-requires c κs = compact-lendable _ _ _ _ _ _ _ (c .before .before .before .before .before .before .compact-refusal .ensures) (c .before .before .before .before .before .if1 .left) (omega arith)
-
-same-length : tie.Need-same-length
-same-length c = search needs
-
-same-length-2 : tie.Need-same-length-2
-same-length-2 c = search needs
-
-same-length-3 : tie.Need-same-length-3
-same-length-3 c = search needs
-
-same-length-4 : tie.Need-same-length-4
-same-length-4 c = search needs
-
-same-length-5 : tie.Need-same-length-5
-same-length-5 c = search needs
 
 returns-2 : tie.Need-returns-2
 returns-2 c =
@@ -37,12 +19,5 @@ pub compact-spec : {M : Type 1} → statement M
 compact-spec =
     tie.close
     (tie.spec
-    compact-refusal-requires
-    returns
-    compact-rows-requires
-    same-length
-    same-length-2
-    same-length-3
-    same-length-4
-    same-length-5
-    returns-2)
+    (λ c κs. search needs) returns compact-rows-requires (λ c. search needs) (λ c. search needs) (λ c. search needs)
+    (λ c. search needs) (λ c. search needs) returns-2)

@@ -15,25 +15,12 @@ add-n c = omega (arith, c .before .before .before .before .before .before .befor
 lead-requires : tie.Need-lead-requires
 lead-requires c κs = can-lead (c .before .before .before .before .before .before .before .before .before .before .before .before .before .before .before .before .before .before .before .before .before .before .before .pre .0) (c .before .before .before .before .before .before .before .before .before .before .before .before .before .close-up .ensures) (c .before .before .before .before .before .before .before .before .before .before .before .before .rows .given) refl (c .before .before .before .before .before .before .before .before .live .given) (c .before .before .before .before .before .before .base .given)
 
-same-length : tie.Need-same-length
-same-length c = search needs
-
-same-length-2 : tie.Need-same-length-2
-same-length-2 c = search needs
-
-same-length-3 : tie.Need-same-length-3
-same-length-3 c = search needs
-
-same-length-4 : tie.Need-same-length-4
-same-length-4 c = search needs
-
-same-length-5 : tie.Need-same-length-5
-same-length-5 c = search needs
-
 returns : tie.Need-returns
 returns c = compact-end (c .before .before .before .before .before .before .before .before .before .before .before .before .before .before .before .before .before .before .before .before .before .before .before .before .before .before .pre .0) (c .before .before .before .before .before .before .before .before .before .before .before .before .before .before .before .before .before .before .before .before .before .before .before .before .before .before .pre .1) (c .before .before .before .before .before .before .before .before .before .before .before .before .before .before .before .before .close-up .ensures) (c .before .before .lead .ensures) (c .before .keys .given)
 
 pub compact-rows-spec : {M : Type 1} → statement M
 compact-rows-spec =
     tie.close
-    (tie.spec close-up-requires add-n lead-requires same-length same-length-2 same-length-3 same-length-4 same-length-5 returns)
+    (tie.spec
+    close-up-requires add-n lead-requires (λ c. search needs) (λ c. search needs) (λ c. search needs)
+    (λ c. search needs) (λ c. search needs) returns)

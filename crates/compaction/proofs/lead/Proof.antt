@@ -4,17 +4,8 @@ use Rattle.compaction.proofs.CompactionSteps.{lead-fits, lead-ranked, l
 use Rattle.compaction.proofs.lead.Statement.{statement}
 use Rattle.compaction.proofs.lead.Tie as tie
 
-keyed-requires : tie.Need-keyed-requires
-keyed-requires c κs = search needs
-
-keyed-requires-2 : tie.Need-keyed-requires-2
-keyed-requires-2 c κs = search needs
-
 rebuild-requires : tie.Need-rebuild-requires
 rebuild-requires c κs = lead-fits _ (c .before .before .before .before .keyed2 .ensures) (c .before .before .before .before .before .before .before .before .before .before .pre .2)
-
-same-length : tie.Need-same-length
-same-length c = search needs
 
 returns : tie.Need-returns
 returns c = let a = c .before .before .before .before .before .before .before .before .before .before .before .before .before .args in led-anew (a .h) (a .n) _ (c .before .before .before .before .before .before .before .before .keyed .ensures) _ (c .before .before .before .before .before .before .before .keyed2 .ensures) (c .before .before .before .before .if1 .taken) (c .before .before .rebuild .ensures)
@@ -22,13 +13,12 @@ returns c = let a = c .before .before .before .before .before .before .before .b
 renumber-requires : tie.Need-renumber-requires
 renumber-requires c κs = lead-ranked _ (c .before .before .before .before .before .keyed .ensures) (c .before .before .before .before .before .before .before .before .before .before .pre .0) (c .before .before .before .before .before .before .before .before .before .before .pre .1)
 
-same-length-2 : tie.Need-same-length-2
-same-length-2 c = search needs
-
 returns-2 : tie.Need-returns-2
 returns-2 c = let a = c .before .before .before .before .before .before .before .before .before .before .before .before .before .args in led-renumbered (a .h) (a .n) _ (c .before .before .before .before .before .before .before .before .keyed .ensures) _ (c .before .before .before .before .before .before .before .keyed2 .ensures) (c .before .before .before .before .if1 .left) (c .before .before .renumber .ensures)
 
 pub lead-spec : {M : Type 1} → statement M
 lead-spec =
     tie.close
-    (tie.spec keyed-requires keyed-requires-2 rebuild-requires same-length returns renumber-requires same-length-2 returns-2)
+    (tie.spec
+    (λ c κs. search needs) (λ c κs. search needs) rebuild-requires (λ c. search needs) returns renumber-requires
+    (λ c. search needs) returns-2)

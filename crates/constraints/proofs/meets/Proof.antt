@@ -5,12 +5,6 @@ use Rattle.constraints.proofs.Laws.{meets-live, meets-dead}
 use Rattle.constraints.proofs.meets.Statement.{statement}
 use Rattle.constraints.proofs.meets.Tie as tie
 
-is-live-requires : tie.Need-is-live-requires
-is-live-requires c κs = search needs
-
-met-requires : tie.Need-met-requires
-met-requires c κs = search needs
-
 returns : tie.Need-returns
 returns c = c .met .ensures ∙ sym (meets-live _ _ (sym (c .before .before .is-live .ensures) ∙ c .before .if1 .taken))
 
@@ -18,4 +12,4 @@ returns-2 : tie.Need-returns-2
 returns-2 c = sym (meets-dead _ _ (sym (c .before .is-live .ensures) ∙ c .if1 .left))
 
 pub meets-spec : {M : Type 1} → statement M
-meets-spec = tie.close (tie.spec is-live-requires met-requires returns returns-2)
+meets-spec = tie.close (tie.spec (λ c κs. search needs) (λ c κs. search needs) returns returns-2)

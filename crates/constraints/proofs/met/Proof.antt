@@ -7,15 +7,6 @@ use Rattle.constraints.proofs.Laws.{met-by}
 use Rattle.constraints.proofs.met.Statement.{statement}
 use Rattle.constraints.proofs.met.Tie as tie
 
-cell-requires : tie.Need-cell-requires
-cell-requires c κs = search needs
-
-cell-requires-2 : tie.Need-cell-requires-2
-cell-requires-2 c κs = search needs
-
-compares-requires : tie.Need-compares-requires
-compares-requires c κs = search needs
-
 returns : tie.Need-returns
 returns c =
     let a = c .before .before .before .before .before .args in
@@ -26,4 +17,6 @@ returns c =
     (c .before .if1 .came))
 
 pub met-spec : {M : Type 1} → statement M
-met-spec = tie.close (tie.spec cell-requires cell-requires-2 compares-requires returns)
+met-spec =
+    tie.close
+    (tie.spec (λ c κs. search needs) (λ c κs. search needs) (λ c κs. search needs) returns)

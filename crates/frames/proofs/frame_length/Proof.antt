@@ -6,20 +6,8 @@ use borrow.Author.Needs.{needs}
 use Rattle.frames.proofs.frame_length.Statement.{statement}
 use Rattle.frames.proofs.frame_length.Tie as tie
 
-sub-left : tie.Need-sub-left
-sub-left c = search needs
-
 returns : tie.Need-returns
 returns c = length-end _ _ (c .before .pre) (c .if1 .taken)
-
-add-count : tie.Need-add-count
-add-count c = search needs
-
-mul-count : tie.Need-mul-count
-mul-count c = search needs
-
-shared-slice-read-count : tie.Need-shared-slice-read-count
-shared-slice-read-count c = search needs
 
 cast-count : tie.Need-cast-count
 cast-count c = omega (arith, c .shared-slice-known .given (c .before .before .args .at + 1))
@@ -30,9 +18,6 @@ add-if2 c = omega (arith, c .shared-slice-known .given (c .before .before .args 
 returns-2 : tie.Need-returns-2
 returns-2 c = length-cut _ _ (c .before .before .before .pre) (c .if2 .taken)
 
-add-result : tie.Need-add-result
-add-result c = search needs
-
 returns-3 : tie.Need-returns-3
 returns-3 c = length-whole _ _ (c .before .before .before .pre) (c .if2 .left)
 
@@ -40,13 +25,5 @@ pub frame-length-spec : {M : Type 1} → statement M
 frame-length-spec =
     tie.close
     (tie.spec
-    sub-left
-    returns
-    add-count
-    mul-count
-    shared-slice-read-count
-    cast-count
-    add-if2
-    returns-2
-    add-result
-    returns-3)
+    (λ c. search needs) returns (λ c. search needs) (λ c. search needs) (λ c. search needs) cast-count add-if2
+    returns-2 (λ c. search needs) returns-3)

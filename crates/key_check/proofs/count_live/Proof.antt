@@ -19,24 +19,15 @@ loop-holds c = (omega arith, unfold tally in refl)
 row-live-requires : tie.Need-row-live-requires Inv-loop μ-loop
 row-live-requires c κs = (c .before .before .before .before .pre, omega (arith, c .if1 .taken))
 
-add-row : tie.Need-add-row Inv-loop μ-loop
-add-row c = omega arith
-
 add-live : tie.Need-add-live Inv-loop μ-loop
 add-live c =
     let s = c .before .before .before .before in
     let a = s .before .before .args in
     omega (arith, s .loop .inv .1, tally-le (isLiveRow (a .t) (a .rows .now)) (s .loop .row), c .before .before .if1 .taken)
 
-loop-less : tie.Need-loop-less Inv-loop μ-loop
-loop-less c = omega arith
-
 loop-again : tie.Need-loop-again Inv-loop μ-loop
 loop-again c =
     (omega arith, ap (λ (n : ℕ). n + 1) (c .before .before .before .before .loop .inv .1) ∙ sym (tally-yes _ _ (sym (c .before .row-live .ensures) ∙ c .if2 .taken)))
-
-loop-less-2 : tie.Need-loop-less-2 Inv-loop μ-loop
-loop-less-2 c = omega arith
 
 loop-again-2 : tie.Need-loop-again-2 Inv-loop μ-loop
 loop-again-2 c = (omega arith, c .before .before .before .before .loop .inv .1 ∙ sym (tally-no _ _ (sym (c .before .row-live .ensures) ∙ c .if2 .left)))
@@ -51,14 +42,5 @@ pub count-live-spec : {M : Type 1} → statement M
 count-live-spec =
     tie.close
     (tie.spec
-    Inv-loop
-    μ-loop
-    loop-holds
-    row-live-requires
-    add-row
-    add-live
-    loop-less
-    loop-again
-    loop-less-2
-    loop-again-2
-    returns)
+    Inv-loop μ-loop loop-holds row-live-requires (λ c. omega arith) add-live (λ c. omega arith) loop-again
+    (λ c. omega arith) loop-again-2 returns)

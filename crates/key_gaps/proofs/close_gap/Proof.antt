@@ -14,29 +14,11 @@ Inv-loop t rows store₀ slot n hole₀ held₀ gap₀ at₀ left₀ store hole 
 abbrev μ-loop : tie.MeasureT-loop
 μ-loop t rows store₀ slot n hole₀ held₀ gap₀ at₀ left₀ store hole held gap at left = left
 
-mul-n : tie.Need-mul-n Inv-loop μ-loop
-mul-n c = omega arith
-
-mul-held : tie.Need-mul-held Inv-loop μ-loop
-mul-held c = omega arith
-
-slice-read-held : tie.Need-slice-read-held Inv-loop μ-loop
-slice-read-held c = omega arith
-
 loop-holds : tie.Need-loop-holds Inv-loop μ-loop
 loop-holds c = begin _ _ _ _ (c .before .before .before .before .pre .1)
 
 next-slot-requires : tie.Need-next-slot-requires Inv-loop μ-loop
 next-slot-requires c κs = c .before .loop .inv .at-in
-
-cast-word : tie.Need-cast-word Inv-loop μ-loop
-cast-word c = search needs
-
-mul-word : tie.Need-mul-word Inv-loop μ-loop
-mul-word c = omega arith
-
-slice-read-word : tie.Need-slice-read-word Inv-loop μ-loop
-slice-read-word c = omega arith
 
 names-row-requires : tie.Need-names-row-requires Inv-loop μ-loop
 names-row-requires c κs = tt
@@ -48,12 +30,6 @@ returns : tie.Need-returns Inv-loop μ-loop
 returns c =
     stop _ _ _ _ _ _ _ _ _ _ (c .before .before .before .before .before .loop .inv) _ (c .before .before .before .next-slot .ensures) (omega (arith, c .before .before .before .before .loop-test .taken)) (sym (c .before .names-row .ensures) ∙ not-true _ (c .if1 .taken))
 
-add-gap : tie.Need-add-gap Inv-loop μ-loop
-add-gap c = omega arith
-
-sub-left : tie.Need-sub-left Inv-loop μ-loop
-sub-left c = omega arith
-
 home-away-requires : tie.Need-home-away-requires Inv-loop μ-loop
 home-away-requires c κs =
     let f = c .before .before .before .before .before .before .before .before .before .before .pre .0 in
@@ -62,23 +38,11 @@ home-away-requires c κs =
 either-requires : tie.Need-either-requires Inv-loop μ-loop
 either-requires c κs = tt
 
-cast-store : tie.Need-cast-store Inv-loop μ-loop
-cast-store c = search needs
-
-mul-store : tie.Need-mul-store Inv-loop μ-loop
-mul-store c = omega arith
-
-slice-write-store : tie.Need-slice-write-store Inv-loop μ-loop
-slice-write-store c = omega arith
-
 either-requires-2 : tie.Need-either-requires-2 Inv-loop μ-loop
 either-requires-2 c κs = tt
 
 either-requires-3 : tie.Need-either-requires-3 Inv-loop μ-loop
 either-requires-3 c κs = tt
-
-loop-less : tie.Need-loop-less Inv-loop μ-loop
-loop-less c = omega arith
 
 loop-again : tie.Need-loop-again Inv-loop μ-loop
 loop-again c =
@@ -98,29 +62,7 @@ pub close-gap-spec : {M : Type 1} → statement M
 close-gap-spec =
     tie.close
     (tie.spec
-    Inv-loop
-    μ-loop
-    mul-n
-    mul-held
-    slice-read-held
-    loop-holds
-    next-slot-requires
-    cast-word
-    mul-word
-    slice-read-word
-    names-row-requires
-    same-length
-    returns
-    add-gap
-    sub-left
-    home-away-requires
-    either-requires
-    cast-store
-    mul-store
-    slice-write-store
-    either-requires-2
-    either-requires-3
-    loop-less
-    loop-again
-    same-length-2
-    returns-2)
+    Inv-loop μ-loop (λ c. omega arith) (λ c. omega arith) (λ c. omega arith) loop-holds next-slot-requires
+    (λ c. search needs) (λ c. omega arith) (λ c. omega arith) names-row-requires same-length returns (λ c. omega arith)
+    (λ c. omega arith) home-away-requires either-requires (λ c. search needs) (λ c. omega arith) (λ c. omega arith)
+    either-requires-2 either-requires-3 (λ c. omega arith) loop-again same-length-2 returns-2)

@@ -16,15 +16,6 @@ sub-row-hash c = omega (arith, names-number _ _ (c .before .pre .1))
 row-hash-requires : tie.Need-row-hash-requires
 row-hash-requires c κs = (c .before .pre .0, omega (arith, names-number _ _ (c .before .pre .1)))
 
-mul-n : tie.Need-mul-n
-mul-n c = search needs
-
-home-slot-requires : tie.Need-home-slot-requires
-home-slot-requires c κs = search needs
-
-slots-away-requires : tie.Need-slots-away-requires
-slots-away-requires c κs = search needs
-
 returns : tie.Need-returns
 returns c =
     let a = c .before .before .before .before .before .args in
@@ -33,4 +24,5 @@ returns c =
 
 pub home-away-spec : {M : Type 1} → statement M
 home-away-spec =
-    tie.close (tie.spec sub-row-hash row-hash-requires mul-n home-slot-requires slots-away-requires returns)
+    tie.close
+    (tie.spec sub-row-hash row-hash-requires (λ c. search needs) (λ c κs. search needs) (λ c κs. search needs) returns)

@@ -7,14 +7,8 @@ use Rattle.key_gaps.proofs.slots_away.Tie as tie
 returns : tie.Need-returns
 returns c = away-ahead _ _ _ (c .before .pre .1) (c .if1 .taken)
 
-add-result : tie.Need-add-result
-add-result c = search needs
-
-sub-result : tie.Need-sub-result
-sub-result c = search needs
-
 returns-2 : tie.Need-returns-2
 returns-2 c = away-behind _ _ _ (c .before .pre .0) (c .if1 .left)
 
 pub slots-away-spec : {M : Type 1} → statement M
-slots-away-spec = tie.close (tie.spec returns add-result sub-result returns-2)
+slots-away-spec = tie.close (tie.spec returns (λ c. search needs) (λ c. search needs) returns-2)

@@ -17,34 +17,13 @@ Inv-loop room store₀ slots at₀ store at = (at ≤ slots) × (length store �
 abbrev μ-loop : tie.MeasureT-loop
 μ-loop room store₀ slots at₀ store at = slots - at
 
-mul-slots : tie.Need-mul-slots Inv-loop μ-loop
-mul-slots c = search needs
-
-cast-slots : tie.Need-cast-slots Inv-loop μ-loop
-cast-slots c = search needs
-
 loop-holds : tie.Need-loop-holds Inv-loop μ-loop
 loop-holds c = (search needs, refl, empty-begin _)
-
-mul-store : tie.Need-mul-store Inv-loop μ-loop
-mul-store c = search needs
-
-slice-write-store : tie.Need-slice-write-store Inv-loop μ-loop
-slice-write-store c = search needs
-
-add-at : tie.Need-add-at Inv-loop μ-loop
-add-at c = search needs
-
-loop-less : tie.Need-loop-less Inv-loop μ-loop
-loop-less c = search needs
 
 loop-again : tie.Need-loop-again Inv-loop μ-loop
 loop-again c =
     let l = c .before in
     (search needs, search needs, ap (λ (s : List ℕ). set s (l .loop .at) 0) (l .loop .inv .2) ∙ empty-step _ (l .loop .at) (omega arith))
-
-same-length : tie.Need-same-length Inv-loop μ-loop
-same-length c = search needs
 
 returns : tie.Need-returns Inv-loop μ-loop
 returns c =
@@ -57,15 +36,5 @@ pub empty-spec : {M : Type 1} → statement M
 empty-spec =
     tie.close
     (tie.spec
-    Inv-loop
-    μ-loop
-    mul-slots
-    cast-slots
-    loop-holds
-    mul-store
-    slice-write-store
-    add-at
-    loop-less
-    loop-again
-    same-length
-    returns)
+    Inv-loop μ-loop (λ c. search needs) (λ c. search needs) loop-holds (λ c. search needs) (λ c. search needs)
+    (λ c. search needs) (λ c. search needs) loop-again (λ c. search needs) returns)

@@ -18,9 +18,6 @@ few s = omega (arith, s .pre .0)
 returns : tie.Need-returns
 returns c = hit-bits _ _ _ _ _ _ (few (c .before .before .before)) (c .if1 .taken)
 
-names-row-requires : tie.Need-names-row-requires
-names-row-requires c κs = search needs
-
 returns-2 : tie.Need-returns-2
 returns-2 c =
     hit-nameless _ _ _ _ _ _ (few (c .before .before .before .before .before)) (sym (c .before .names-row .ensures) ∙ not-true _ (c .if2 .taken))
@@ -55,4 +52,6 @@ returns-3 c =
     ∙ ap (λ (k : List ℕ). same k (a .key .now)) (sym (key-row (a .t .columns) i (a .t .keys) (a .rows .now) (s .pre .0 .most-keys))))
 
 pub is-hit-spec : {M : Type 1} → statement M
-is-hit-spec = tie.close (tie.spec returns names-row-requires returns-2 sub-row mul-at cast-at same-key-requires returns-3)
+is-hit-spec =
+    tie.close
+    (tie.spec returns (λ c κs. search needs) returns-2 sub-row mul-at cast-at same-key-requires returns-3)

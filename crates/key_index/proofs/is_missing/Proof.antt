@@ -8,35 +8,14 @@ use Rattle.key_index.proofs.WindowSteps.{soon-home, soon-window}
 use Rattle.key_index.proofs.is_missing.Statement.{statement}
 use Rattle.key_index.proofs.is_missing.Tie as tie
 
-sub-if1 : tie.Need-sub-if1
-sub-if1 c = search needs
-
 returns : tie.Need-returns
 returns c = λ e. absurd (false≢true e)
-
-add-some-bits : tie.Need-add-some-bits
-add-some-bits c = search needs
-
-some-bits-requires : tie.Need-some-bits-requires
-some-bits-requires c κs = search needs
 
 returns-2 : tie.Need-returns-2
 returns-2 c = λ e. absurd (false≢true e)
 
-add-some-free : tie.Need-add-some-free
-add-some-free c = search needs
-
-some-free-requires : tie.Need-some-free-requires
-some-free-requires c κs = search needs
-
 returns-3 : tie.Need-returns-3
 returns-3 c = λ _. soon-window _ _ _ _ (omega arith) (sym (c .before .before .before .some-bits .ensures) ∙ c .before .before .if2 .left) (sym (c .before .some-free .ensures) ∙ c .if3 .taken)
-
-mul-result : tie.Need-mul-result
-mul-result c = search needs
-
-shared-slice-read-result : tie.Need-shared-slice-read-result
-shared-slice-read-result c = search needs
 
 returns-4 : tie.Need-returns-4
 returns-4 c = λ e. soon-home _ _ _ _ (c .before .before .before .before .before .before .before .pre .0) (eqb-true _ 0 e)
@@ -45,14 +24,5 @@ pub is-missing-spec : {M : Type 1} → statement M
 is-missing-spec =
     tie.close
     (tie.spec
-    sub-if1
-    returns
-    add-some-bits
-    some-bits-requires
-    returns-2
-    add-some-free
-    some-free-requires
-    returns-3
-    mul-result
-    shared-slice-read-result
-    returns-4)
+    (λ c. search needs) returns (λ c. search needs) (λ c κs. search needs) returns-2 (λ c. search needs)
+    (λ c κs. search needs) returns-3 (λ c. search needs) (λ c. search needs) returns-4)

@@ -6,9 +6,6 @@ use borrow.Author.Needs.{needs}
 use Rattle.key_index.proofs.next_slot.Statement.{statement}
 use Rattle.key_index.proofs.next_slot.Tie as tie
 
-add-up : tie.Need-add-up
-add-up c = search needs
-
 returns : tie.Need-returns
 returns c = (sym (slot-low _ _ _ (c .if1 .taken)), search needs)
 
@@ -16,4 +13,4 @@ returns-2 : tie.Need-returns-2
 returns-2 c = (sym (slot-wraps _ _ (c .before .pre) (c .if1 .left)), omega arith)
 
 pub next-slot-spec : {M : Type 1} → statement M
-next-slot-spec = tie.close (tie.spec add-up returns returns-2)
+next-slot-spec = tie.close (tie.spec (λ c. search needs) returns returns-2)

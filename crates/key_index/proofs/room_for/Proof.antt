@@ -5,9 +5,6 @@ use Rattle.key_index.specs.Slots.{roomFor}
 use Rattle.key_index.proofs.room_for.Statement.{statement}
 use Rattle.key_index.proofs.room_for.Tie as tie
 
-room-step-requires : tie.Need-room-step-requires
-room-step-requires c κs = search needs
-
 returns : tie.Need-returns
 unfolding roomFor
 returns c = omega (arith, c .before .room-step .ensures)
@@ -17,4 +14,4 @@ unfolding roomFor
 returns-2 c = omega (arith, c .before .room-step .ensures)
 
 pub room-for-spec : {M : Type 1} → statement M
-room-for-spec = tie.close (tie.spec room-step-requires returns returns-2)
+room-for-spec = tie.close (tie.spec (λ c κs. search needs) returns returns-2)

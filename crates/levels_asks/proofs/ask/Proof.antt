@@ -11,20 +11,8 @@ ask-range-requires c κs = form-range _ _ (c .if1 .taken) (c .before .before .be
 returns : tie.Need-returns
 returns c = range-letter (c .before .if1 .taken) (c .ask-range .ensures)
 
-version-requires : tie.Need-version-requires
-version-requires c κs = search needs
-
-say-version-requires : tie.Need-say-version-requires
-say-version-requires c κs = search needs
-
 returns-2 : tie.Need-returns-2
 returns-2 c = version-served (c .before .before .if2 .taken) (c .say-version .ensures) (c .before .version .ensures)
-
-version-requires-2 : tie.Need-version-requires-2
-version-requires-2 c κs = search needs
-
-say-listing-requires : tie.Need-say-listing-requires
-say-listing-requires c κs = search needs
 
 returns-3 : tie.Need-returns-3
 returns-3 c = list-served (list-letter (c .before .before .before .before .before .before .pre .1) (c .before .before .before .if1 .left) (c .before .before .if2 .left)) (c .say-listing .ensures) (c .before .version2 .ensures)
@@ -33,11 +21,5 @@ pub ask-spec : {M : Type 1} → statement M
 ask-spec =
     tie.close
     (tie.spec
-    ask-range-requires
-    returns
-    version-requires
-    say-version-requires
-    returns-2
-    version-requires-2
-    say-listing-requires
-    returns-3)
+    ask-range-requires returns (λ c κs. search needs) (λ c κs. search needs) returns-2 (λ c κs. search needs)
+    (λ c κs. search needs) returns-3)

@@ -4,15 +4,6 @@ use borrow.Author.Needs.{needs}
 use Rattle.levels_asks.proofs.say_range.Statement.{statement}
 use Rattle.levels_asks.proofs.say_range.Tie as tie
 
-enum-known-answer : tie.Need-enum-known-answer
-enum-known-answer c = search needs
-
-enum-told : tie.Need-enum-told
-enum-told c = search needs
-
-enum-known-answer-2 : tie.Need-enum-known-answer-2
-enum-known-answer-2 c = search needs
-
 returns : tie.Need-returns
 returns c = range-refused _ _ (c .before .answer .given .1)
 
@@ -25,10 +16,4 @@ returns-3 c = range-ends _ _ _ (c .before .answer2 .given .1)
 pub say-range-spec : {M : Type 1} → statement M
 say-range-spec =
     tie.close
-    (tie.spec
-    enum-known-answer
-    enum-told
-    enum-known-answer-2
-    returns
-    returns-2
-    returns-3)
+    (tie.spec (λ c. search needs) (λ c. search needs) (λ c. search needs) returns returns-2 returns-3)

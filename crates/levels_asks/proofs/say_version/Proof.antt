@@ -5,12 +5,6 @@ use borrow.Author.Needs.{needs}
 use Rattle.levels_asks.proofs.say_version.Statement.{statement}
 use Rattle.levels_asks.proofs.say_version.Tie as tie
 
-enum-known-answer : tie.Need-enum-known-answer
-enum-known-answer c = search needs
-
-enum-known-answer-2 : tie.Need-enum-known-answer-2
-enum-known-answer-2 c = search needs
-
 returns : tie.Need-returns
 returns c = version-refused _ _ saysVersion (c .before .answer .given .1)
 
@@ -18,10 +12,4 @@ returns-2 : tie.Need-returns-2
 returns-2 c = version-says _ _ saysVersion (c .before .answer2 .given .1)
 
 pub say-version-spec : {M : Type 1} → statement M
-say-version-spec =
-    tie.close
-    (tie.spec
-    enum-known-answer
-    enum-known-answer-2
-    returns
-    returns-2)
+say-version-spec = tie.close (tie.spec (λ c. search needs) (λ c. search needs) returns returns-2)

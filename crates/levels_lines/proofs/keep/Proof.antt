@@ -7,17 +7,10 @@ use Rattle.levels_lines.proofs.keep.Tie as tie
 returns : tie.Need-returns
 returns c = kept-full _ _ _ (c .if1 .taken)
 
-slice-write-line : tie.Need-slice-write-line
-slice-write-line c = search needs
-
-add-result : tie.Need-add-result
-add-result c = search needs
-
-same-length : tie.Need-same-length
-same-length c = search needs
-
 returns-2 : tie.Need-returns-2
 returns-2 c = kept-one _ _ _ (search needs)
 
 pub keep-spec : {M : Type 1} → statement M
-keep-spec = tie.close (tie.spec returns slice-write-line add-result same-length returns-2)
+keep-spec =
+    tie.close
+    (tie.spec returns (λ c. search needs) (λ c. search needs) (λ c. search needs) returns-2)

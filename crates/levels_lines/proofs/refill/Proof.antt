@@ -7,12 +7,6 @@ use Rattle.levels_lines.proofs.refill.Tie as tie
 returns : tie.Need-returns
 returns c = refilled-same _ _ (c .before .before .before .pre)
 
-read-requires : tie.Need-read-requires
-read-requires c κs = search needs
-
-count-requires : tie.Need-count-requires
-count-requires c κs = search needs
-
 same-length : tie.Need-same-length
 same-length c = c .before .before .before .chunk .given
 
@@ -20,4 +14,6 @@ returns-2 : tie.Need-returns-2
 returns-2 c = refilled-read _ _ _ _ (c .before .before .before .before .before .before .if1 .left) (c .count .ensures .0 .0)
 
 pub refill-spec : {M : Type 1} → statement M
-refill-spec = tie.close (tie.spec returns read-requires count-requires same-length returns-2)
+refill-spec =
+    tie.close
+    (tie.spec returns (λ c κs. search needs) (λ c κs. search needs) same-length returns-2)

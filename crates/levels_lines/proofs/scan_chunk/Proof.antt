@@ -16,12 +16,6 @@ abbrev μ-loop : tie.MeasureT-loop
 loop-holds : tie.Need-loop-holds Inv-loop μ-loop
 loop-holds c = scanning-begin _ _ _ _ (c .before .before .pre .0)
 
-shared-slice-read-byte : tie.Need-shared-slice-read-byte Inv-loop μ-loop
-shared-slice-read-byte c = search needs
-
-add-at : tie.Need-add-at Inv-loop μ-loop
-add-at c = search needs
-
 same-length : tie.Need-same-length Inv-loop μ-loop
 same-length c = c .before .before .before .loop .inv .same-length
 
@@ -30,9 +24,6 @@ returns c = scanning-newline _ _ (c .before .before .before .loop .inv) (c .befo
 
 keep-requires : tie.Need-keep-requires Inv-loop μ-loop
 keep-requires c κs = omega (arith, c .before .before .before .before .loop .inv .inside, c .before .before .before .before .loop .inv .same-length)
-
-loop-less : tie.Need-loop-less Inv-loop μ-loop
-loop-less c = search needs
 
 loop-again : tie.Need-loop-again Inv-loop μ-loop
 loop-again c = scanning-again _ _ (c .before .before .before .before .before .before .before .loop .inv) (c .before .before .before .before .before .before .loop-test .taken) (c .before .before .before .before .before .before .before .before .before .before .pre .1 .1) (c .before .before .before .before .if1 .left) (c .before .line .given) (c .before .before .keep .ensures)
@@ -47,15 +38,5 @@ pub scan-chunk-spec : {M : Type 1} → statement M
 scan-chunk-spec =
     tie.close
     (tie.spec
-    Inv-loop
-    μ-loop
-    loop-holds
-    shared-slice-read-byte
-    add-at
-    same-length
-    returns
-    keep-requires
-    loop-less
-    loop-again
-    same-length-2
-    returns-2)
+    Inv-loop μ-loop loop-holds (λ c. search needs) (λ c. search needs) same-length returns keep-requires
+    (λ c. search needs) loop-again same-length-2 returns-2)

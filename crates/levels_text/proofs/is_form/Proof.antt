@@ -6,29 +6,6 @@ use borrow.Author.Needs.{needs}
 use Rattle.levels_text.proofs.is_form.Statement.{statement}
 use Rattle.levels_text.proofs.is_form.Tie as tie
 
-returns : tie.Need-returns
-unfolding isForm
-returns c = rw (c .if1 .taken)
-
-returns-2 : tie.Need-returns-2
-unfolding isForm
-returns-2 c = rw (c .if2 .taken)
-
-returns-3 : tie.Need-returns-3
-unfolding isForm
-returns-3 c = rw (c .if3 .taken)
-
-returns-4 : tie.Need-returns-4
-unfolding isForm
-returns-4 c = rw (c .if4 .taken)
-
-returns-5 : tie.Need-returns-5
-unfolding isForm
-returns-5 c = rw (c .if5 .taken)
-
-is-bare-requires : tie.Need-is-bare-requires
-is-bare-requires c κs = search needs
-
 returns-6 : tie.Need-returns-6
 unfolding isForm
 returns-6 c = simp (ne-eqb _ _ (c .before .before .before .before .before .before .if1 .left), ne-eqb _ _ (c .before .before .before .before .before .if2 .left), ne-eqb _ _ (c .before .before .before .before .if3 .left), ne-eqb _ _ (c .before .before .before .if4 .left), ne-eqb _ _ (c .before .before .if5 .left), sym (c .before .is-bare .ensures) ∙ c .if6 .taken)
@@ -38,6 +15,9 @@ unfolding isForm
 returns-7 c = simp (ne-eqb _ _ (c .before .before .before .before .before .before .if1 .left), ne-eqb _ _ (c .before .before .before .before .before .if2 .left), ne-eqb _ _ (c .before .before .before .before .if3 .left), ne-eqb _ _ (c .before .before .before .if4 .left), ne-eqb _ _ (c .before .before .if5 .left), sym (c .before .is-bare .ensures) ∙ c .if6 .left)
 
 pub is-form-spec : {M : Type 1} → statement M
+unfolding isForm
 is-form-spec =
     tie.close
-    (tie.spec returns returns-2 returns-3 returns-4 returns-5 is-bare-requires returns-6 returns-7)
+    (tie.spec
+    (λ c. rw (c .if1 .taken)) (λ c. rw (c .if2 .taken)) (λ c. rw (c .if3 .taken)) (λ c. rw (c .if4 .taken)) (λ c. rw (c .if5 .taken))
+    (λ c κs. search needs) returns-6 returns-7)

@@ -26,17 +26,11 @@ returns-2 c = parsed-wrong _ _ _ (no-bytes (c .before .before .before .before .a
 returns-3 : tie.Need-returns-3 Inv-loop μ-loop
 returns-3 c = parsed-no-room _ _ (c .if3 .taken)
 
-shared-slice-read-letter : tie.Need-shared-slice-read-letter Inv-loop μ-loop
-shared-slice-read-letter c = search needs
-
 returns-4 : tie.Need-returns-4 Inv-loop μ-loop
 returns-4 c = parsed-wrong _ _ _ (comma-first (c .before .before .before .before .before .before .before .args .line .now) (c .before .before .before .if2 .left) (c .if4 .taken)) (λ h. refl)
 
 loop-holds : tie.Need-loop-holds Inv-loop μ-loop
 loop-holds c = numbers-begin _ _ (c .before .before .before .before .if1 .left) (c .before .before .if3 .left) (c .before .before .before .if2 .left) (c .if4 .left)
-
-shared-slice-read-if5 : tie.Need-shared-slice-read-if5 Inv-loop μ-loop
-shared-slice-read-if5 c = search needs
 
 same-length : tie.Need-same-length Inv-loop μ-loop
 same-length c = c .before .before .before .loop .inv .same
@@ -44,26 +38,11 @@ same-length c = c .before .before .before .loop .inv .same
 returns-5 : tie.Need-returns-5 Inv-loop μ-loop
 returns-5 c = wrong-letter _ _ _ _ _ (c .before .before .before .loop .inv) (c .before .before .loop-test .taken) (c .if5 .taken)
 
-add-read-field : tie.Need-add-read-field Inv-loop μ-loop
-add-read-field c = search needs
-
-read-field-requires : tie.Need-read-field-requires Inv-loop μ-loop
-read-field-requires c κs = search needs
-
-enum-told : tie.Need-enum-told Inv-loop μ-loop
-enum-told c = search needs
-
 same-length-2 : tie.Need-same-length-2 Inv-loop μ-loop
 same-length-2 c = c .before .before .before .before .before .before .loop .inv .same
 
 returns-6 : tie.Need-returns-6 Inv-loop μ-loop
 returns-6 c = wrong-number _ _ _ _ _ (c .before .before .before .before .before .before .loop .inv) (c .before .before .before .before .before .loop-test .taken) (c .before .before .before .if5 .left) _ (c .before .before .read-field .ensures) (c .enum-told .given .1)
-
-enum-known-value : tie.Need-enum-known-value Inv-loop μ-loop
-enum-known-value c = search needs
-
-mul-numbers : tie.Need-mul-numbers Inv-loop μ-loop
-mul-numbers c = search needs
 
 slice-write-numbers : tie.Need-slice-write-numbers Inv-loop μ-loop
 slice-write-numbers c = fits _ _ _ _ _ (c .before .before .before .before .before .before .before .loop .inv) (c .before .before .before .before .before .before .loop-test .taken) (c .before .before .before .before .if5 .left) _ (c .before .before .before .read-field .ensures) _ _ (c .before .value .given .1)
@@ -76,9 +55,6 @@ loop-less c = omega (arith, next-place _ _ _ _ _ (c .before .before .before .bef
 
 loop-again : tie.Need-loop-again Inv-loop μ-loop
 loop-again c = numbers-more _ _ _ _ _ (c .before .before .before .before .before .before .before .loop .inv) (c .before .before .before .before .before .before .loop-test .taken) (c .before .before .before .before .if5 .left) _ (c .before .before .before .read-field .ensures) _ _ (c .before .value .given .1)
-
-is-form-requires : tie.Need-is-form-requires Inv-loop μ-loop
-is-form-requires c κs = search needs
 
 same-length-3 : tie.Need-same-length-3 Inv-loop μ-loop
 same-length-3 c = c .before .before .before .loop .inv .same
@@ -98,30 +74,7 @@ pub parse-spec : {M : Type 1} → statement M
 parse-spec =
     tie.close
     (tie.spec
-    Inv-loop
-    μ-loop
-    returns
-    returns-2
-    returns-3
-    shared-slice-read-letter
-    returns-4
-    loop-holds
-    shared-slice-read-if5
-    same-length
-    returns-5
-    add-read-field
-    read-field-requires
-    enum-told
-    same-length-2
-    returns-6
-    enum-known-value
-    mul-numbers
-    slice-write-numbers
-    add-count
-    loop-less
-    loop-again
-    is-form-requires
-    same-length-3
-    returns-7
-    same-length-4
-    returns-8)
+    Inv-loop μ-loop returns returns-2 returns-3 (λ c. search needs) returns-4 loop-holds (λ c. search needs)
+    same-length returns-5 (λ c. search needs) (λ c κs. search needs) (λ c. search needs) same-length-2 returns-6
+    (λ c. search needs) (λ c. search needs) slice-write-numbers add-count loop-less loop-again (λ c κs. search needs)
+    same-length-3 returns-7 same-length-4 returns-8)

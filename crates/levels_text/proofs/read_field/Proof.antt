@@ -17,9 +17,6 @@ abbrev μ-loop : tie.MeasureT-loop
 loop-holds : tie.Need-loop-holds Inv-loop μ-loop
 loop-holds c = digits-begin _ _
 
-shared-slice-read-byte : tie.Need-shared-slice-read-byte Inv-loop μ-loop
-shared-slice-read-byte c = search needs
-
 returns : tie.Need-returns Inv-loop μ-loop
 returns c = wrong-below _ _ _ _ (c .before .before .before .before .loop .inv) (c .before .before .before .loop-test .taken) (c .before .if1 .left) (c .if2 .taken)
 
@@ -28,15 +25,6 @@ returns-2 c = wrong-above _ _ _ _ (c .before .before .before .before .before .lo
 
 returns-3 : tie.Need-returns-3 Inv-loop μ-loop
 returns-3 c = wrong-zero _ _ _ _ (c .before .before .before .before .before .before .before .loop .inv) (c .before .before .before .before .before .before .loop-test .taken) (c .before .before .before .before .if1 .left) (c .before .before .before .if2 .left) (c .before .before .if3 .left) (c .before .if4 .taken) (c .if5 .taken)
-
-mul-value : tie.Need-mul-value Inv-loop μ-loop
-mul-value c = search needs
-
-cast-value : tie.Need-cast-value Inv-loop μ-loop
-cast-value c = search needs
-
-add-value : tie.Need-add-value Inv-loop μ-loop
-add-value c = search needs
 
 returns-4 : tie.Need-returns-4 Inv-loop μ-loop
 returns-4 c =
@@ -47,12 +35,6 @@ returns-4 c =
     wrong-large _ _ _ _ (c .before .before .before .before .before .before .before .loop .inv) byte-at (c .before .before .before .before .if1 .left) (c .before .before .before .if2 .left) (c .before .before .if3 .left)
     (⊎-elim (λ w. later-digit start at value (w .1 .left)) (λ w. first-digit start at value (w .left)) (c .before .if4 .came))
     (c .if6 .taken)
-
-add-at : tie.Need-add-at Inv-loop μ-loop
-add-at c = search needs
-
-loop-less : tie.Need-loop-less Inv-loop μ-loop
-loop-less c = search needs
 
 loop-again : tie.Need-loop-again Inv-loop μ-loop
 loop-again c =
@@ -70,9 +52,6 @@ returns-5 c =
     (⊎-elim (λ w. first-end _ _ (w .left)) (λ w. first-at-comma _ _ (w .0 .taken) (w .2 .taken)) (c .before .loop-test .came))
     (c .if7 .taken)
 
-cast-t14 : tie.Need-cast-t14 Inv-loop μ-loop
-cast-t14 c = search needs
-
 returns-6 : tie.Need-returns-6 Inv-loop μ-loop
 returns-6 c =
     field-read _ _ _ _ (c .before .before .loop .inv)
@@ -83,20 +62,6 @@ pub read-field-spec : {M : Type 1} → statement M
 read-field-spec =
     tie.close
     (tie.spec
-    Inv-loop
-    μ-loop
-    loop-holds
-    shared-slice-read-byte
-    returns
-    returns-2
-    returns-3
-    mul-value
-    cast-value
-    add-value
-    returns-4
-    add-at
-    loop-less
-    loop-again
-    returns-5
-    cast-t14
+    Inv-loop μ-loop loop-holds (λ c. search needs) returns returns-2 returns-3 (λ c. search needs) (λ c. search needs)
+    (λ c. search needs) returns-4 (λ c. search needs) (λ c. search needs) loop-again returns-5 (λ c. search needs)
     returns-6)

@@ -5,15 +5,6 @@ use borrow.Author.Needs.{needs}
 use Rattle.levels_told.proofs.list_row.Statement.{statement}
 use Rattle.levels_told.proofs.list_row.Tie as tie
 
-is-live-requires : tie.Need-is-live-requires
-is-live-requires c κs = search needs
-
-put-line-requires : tie.Need-put-line-requires
-put-line-requires c κs = search needs
-
-same-length : tie.Need-same-length
-same-length c = search needs
-
 returns : tie.Need-returns
 returns c = listed-live _ (sym (c .before .before .before .before .before .is-live .ensures) ∙ c .before .before .before .before .if1 .taken) (c .before .before .put-line .ensures)
 
@@ -22,4 +13,5 @@ returns-2 c = listed-dead _ (sym (c .before .is-live .ensures) ∙ c .if1 .left)
 
 pub list-row-spec : {M : Type 1} → statement M
 list-row-spec =
-    tie.close (tie.spec is-live-requires put-line-requires same-length returns returns-2)
+    tie.close
+    (tie.spec (λ c κs. search needs) (λ c κs. search needs) (λ c. search needs) returns returns-2)

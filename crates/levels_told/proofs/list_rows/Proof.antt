@@ -37,12 +37,6 @@ list-row-requires c κs =
     let pre = c .before .before .before .before .before .before .pre in
     (simp (length-take, length-drop) (omega (arith, pre .0)), omega (arith, v .few, v .same-length, pre .1 .1, c .before .before .loop-test .taken))
 
-sub-left : tie.Need-sub-left Inv-loop μ-loop
-sub-left c = search needs
-
-loop-less : tie.Need-loop-less Inv-loop μ-loop
-loop-less c = search needs
-
 loop-again : tie.Need-loop-again Inv-loop μ-loop
 loop-again c = listing-again (c .before .before .before .before .before .before .loop .inv) (c .before .before .before .before .before .loop-test .taken) (c .before .before .before .before .before .before .before .before .before .pre .0) (search needs) (c .before .before .list-row .ensures)
 
@@ -56,17 +50,5 @@ pub list-rows-spec : {M : Type 1} → statement M
 list-rows-spec =
     tie.close
     (tie.spec
-    Inv-loop
-    μ-loop
-    loop-holds
-    add-next
-    mul-list-row
-    sub-list-row
-    part-list-row-start
-    part-list-row-end
-    list-row-requires
-    sub-left
-    loop-less
-    loop-again
-    same-length
-    returns)
+    Inv-loop μ-loop loop-holds add-next mul-list-row sub-list-row part-list-row-start part-list-row-end
+    list-row-requires (λ c. search needs) (λ c. search needs) loop-again same-length returns)

@@ -6,12 +6,6 @@ use borrow.Author.Needs.{needs}
 use Rattle.levels_told.proofs.list_table.Statement.{statement}
 use Rattle.levels_told.proofs.list_table.Tie as tie
 
-cast-columns : tie.Need-cast-columns
-cast-columns c = search needs
-
-cast-count : tie.Need-cast-count
-cast-count c = search needs
-
 returns : tie.Need-returns
 returns c = listed-nothing _ _ _ (λ l. omega (arith, l .narrow, c .if1 .taken))
 
@@ -23,26 +17,11 @@ mul-if2 c =
 returns-2 : tie.Need-returns-2
 returns-2 c = listed-nothing _ _ _ (λ l. omega (arith, l .stored, c .if2 .taken))
 
-mul-if3 : tie.Need-mul-if3
-mul-if3 c = search needs
-
-add-if3 : tie.Need-add-if3
-add-if3 c = search needs
-
 returns-3 : tie.Need-returns-3
 returns-3 c = listed-nothing _ _ _ (λ l. omega (arith, l .room, c .if3 .taken))
 
-slice-aggregate-put-line : tie.Need-slice-aggregate-put-line
-slice-aggregate-put-line c = search needs
-
-put-line-requires : tie.Need-put-line-requires
-put-line-requires c κs = search needs
-
 list-rows-requires : tie.Need-list-rows-requires
 list-rows-requires c κs = (c .before .before .before .before .before .before .before .before .if1 .left, (c .before .before .before .before .before .before .before .if2 .left, omega (arith, head-written (c .before .before .before .before .before .before .before .before .before .before .before .before .before .args .h) (c .before .before .before .put-line .ensures) .counted, c .before .before .before .before .before .before .if3 .left, c .before .before .text .given, length-head (c .before .before .before .before .before .before .before .before .before .before .before .before .before .args .h))))
-
-same-length : tie.Need-same-length
-same-length c = search needs
 
 returns-4 : tie.Need-returns-4
 returns-4 c =
@@ -53,16 +32,5 @@ pub list-table-spec : {M : Type 1} → statement M
 list-table-spec =
     tie.close
     (tie.spec
-    cast-columns
-    cast-count
-    returns
-    mul-if2
-    returns-2
-    mul-if3
-    add-if3
-    returns-3
-    slice-aggregate-put-line
-    put-line-requires
-    list-rows-requires
-    same-length
-    returns-4)
+    (λ c. search needs) (λ c. search needs) returns mul-if2 returns-2 (λ c. search needs) (λ c. search needs) returns-3
+    (λ c. search needs) (λ c κs. search needs) list-rows-requires (λ c. search needs) returns-4)

@@ -4,17 +4,8 @@ use Rattle.levels_written.specs.inner.Appending.{appended-one}
 use Rattle.levels_written.proofs.put.Statement.{statement}
 use Rattle.levels_written.proofs.put.Tie as tie
 
-slice-write-text : tie.Need-slice-write-text
-slice-write-text c = search needs
-
-add-result : tie.Need-add-result
-add-result c = search needs
-
-same-length : tie.Need-same-length
-same-length c = search needs
-
 returns : tie.Need-returns
 returns c = appended-one _ _ _ (search needs)
 
 pub put-spec : {M : Type 1} → statement M
-put-spec = tie.close (tie.spec slice-write-text add-result same-length returns)
+put-spec = tie.close (tie.spec (λ c. search needs) (λ c. search needs) (λ c. search needs) returns)

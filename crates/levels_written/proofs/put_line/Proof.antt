@@ -6,22 +6,14 @@ use borrow.Author.Needs.{needs}
 use Rattle.levels_written.proofs.put_line.Statement.{statement}
 use Rattle.levels_written.proofs.put_line.Tie as tie
 
-put-requires : tie.Need-put-requires
-put-requires c κs = search needs
-
-put-numbers-requires : tie.Need-put-numbers-requires
-put-numbers-requires c κs = search needs
-
 put-requires-2 : tie.Need-put-requires-2
 put-requires-2 c κs =
     omega (arith, c .before .before .before .put-numbers .ensures .counted, c .before .before .before .before .before .before .before .put .ensures .counted, length-fields (c .before .before .before .before .before .before .before .before .before .before .before .args .numbers .now))
-
-same-length : tie.Need-same-length
-same-length c = search needs
 
 returns : tie.Need-returns
 returns c = appended-line _ (c .before .before .before .before .before .before .before .before .before .before .put .ensures) (c .before .before .before .before .before .before .put-numbers .ensures) (c .before .before .put2 .ensures)
 
 pub put-line-spec : {M : Type 1} → statement M
 put-line-spec =
-    tie.close (tie.spec put-requires put-numbers-requires put-requires-2 same-length returns)
+    tie.close
+    (tie.spec (λ c κs. search needs) (λ c κs. search needs) put-requires-2 (λ c. search needs) returns)

@@ -4,14 +4,8 @@ use borrow.Author.Needs.{needs}
 use Rattle.levels_written.proofs.write_line.Statement.{statement}
 use Rattle.levels_written.proofs.write_line.Tie as tie
 
-put-line-requires : tie.Need-put-line-requires
-put-line-requires c κs = search needs
-
-same-length : tie.Need-same-length
-same-length c = search needs
-
 returns : tie.Need-returns
 returns c = line-wrote _ _ (search needs) (c .before .before .put-line .ensures)
 
 pub write-line-spec : {M : Type 1} → statement M
-write-line-spec = tie.close (tie.spec put-line-requires same-length returns)
+write-line-spec = tie.close (tie.spec (λ c κs. search needs) (λ c. search needs) returns)

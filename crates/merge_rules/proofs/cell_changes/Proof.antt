@@ -4,12 +4,6 @@ use mathlib.Core.Path.{sym, _∙_}
 use Rattle.merge_rules.proofs.cell_changes.Statement.{statement}
 use Rattle.merge_rules.proofs.cell_changes.Tie as tie
 
-ruled-column-requires : tie.Need-ruled-column-requires
-ruled-column-requires c κs = search needs
-
-taken-requires : tie.Need-taken-requires
-taken-requires c κs = search needs
-
 returns : tie.Need-returns
 returns c = simp (sym (c .before .before .ruled-column .ensures) ∙ c .before .if1 .taken, c .taken .ensures)
 
@@ -17,4 +11,6 @@ returns-2 : tie.Need-returns-2
 returns-2 c = simp (sym (c .before .ruled-column .ensures) ∙ c .if1 .left)
 
 pub cell-changes-spec : {M : Type 1} → statement M
-cell-changes-spec = tie.close (tie.spec ruled-column-requires taken-requires returns returns-2)
+cell-changes-spec =
+    tie.close
+    (tie.spec (λ c κs. search needs) (λ c κs. search needs) returns returns-2)

@@ -22,31 +22,10 @@ loop-holds c = (search needs, refl)
 returns : tie.Need-returns Inv-loop μ-loop
 returns c = let l = c .before .before .loop in sym (l .inv .1 ∙ new-ended _ _ _ _ _ (l .i) (c .if1 .taken))
 
-mul-cell-changes : tie.Need-mul-cell-changes Inv-loop μ-loop
-mul-cell-changes c = search needs
-
-shared-slice-read-cell-changes : tie.Need-shared-slice-read-cell-changes Inv-loop μ-loop
-shared-slice-read-cell-changes c = search needs
-
-mul-cell-changes-2 : tie.Need-mul-cell-changes-2 Inv-loop μ-loop
-mul-cell-changes-2 c = search needs
-
-shared-slice-read-cell-changes-2 : tie.Need-shared-slice-read-cell-changes-2 Inv-loop μ-loop
-shared-slice-read-cell-changes-2 c = search needs
-
-cell-changes-requires : tie.Need-cell-changes-requires Inv-loop μ-loop
-cell-changes-requires c κs = search needs
-
 returns-2 : tie.Need-returns-2 Inv-loop μ-loop
 returns-2 c =
     let l = c .before .before .before .before .before .before .loop in
     sym (l .inv .1 ∙ changed _ _ _ _ _ (l .i) (c .before .before .before .before .before .loop-test .taken) (c .before .before .before .before .if1 .left) (c .before .cell-changes .result) (c .before .cell-changes .ensures) (c .if2 .taken))
-
-add-i : tie.Need-add-i Inv-loop μ-loop
-add-i c = search needs
-
-loop-less : tie.Need-loop-less Inv-loop μ-loop
-loop-less c = search needs
 
 loop-again : tie.Need-loop-again Inv-loop μ-loop
 loop-again c =
@@ -62,17 +41,5 @@ pub changes-spec : {M : Type 1} → statement M
 changes-spec =
     tie.close
     (tie.spec
-    Inv-loop
-    μ-loop
-    loop-holds
-    returns
-    mul-cell-changes
-    shared-slice-read-cell-changes
-    mul-cell-changes-2
-    shared-slice-read-cell-changes-2
-    cell-changes-requires
-    returns-2
-    add-i
-    loop-less
-    loop-again
-    returns-3)
+    Inv-loop μ-loop loop-holds returns (λ c. search needs) (λ c. search needs) (λ c. search needs) (λ c. search needs)
+    (λ c κs. search needs) returns-2 (λ c. search needs) (λ c. search needs) loop-again returns-3)

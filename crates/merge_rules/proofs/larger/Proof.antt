@@ -5,9 +5,6 @@ use Rattle.merge_rules.specs.Rules.{larger}
 use Rattle.merge_rules.proofs.larger.Statement.{statement}
 use Rattle.merge_rules.proofs.larger.Tie as tie
 
-signed-less-requires : tie.Need-signed-less-requires
-signed-less-requires c κs = search needs
-
 returns : tie.Need-returns
 unfolding larger
 returns c = simp (sym (c .before .signed-less .ensures) ∙ c .if1 .taken)
@@ -17,4 +14,4 @@ unfolding larger
 returns-2 c = simp (sym (c .before .signed-less .ensures) ∙ c .if1 .left)
 
 pub larger-spec : {M : Type 1} → statement M
-larger-spec = tie.close (tie.spec signed-less-requires returns returns-2)
+larger-spec = tie.close (tie.spec (λ c κs. search needs) returns returns-2)

@@ -5,12 +5,6 @@ use Rattle.merge_rules.proofs.Laws.{cell-ruled, cell-new, cell-old}
 use Rattle.merge_rules.proofs.made_cell.Statement.{statement}
 use Rattle.merge_rules.proofs.made_cell.Tie as tie
 
-ruled-column-requires : tie.Need-ruled-column-requires
-ruled-column-requires c κs = search needs
-
-taken-requires : tie.Need-taken-requires
-taken-requires c κs = search needs
-
 returns : tie.Need-returns
 returns c =
     c .taken .ensures
@@ -26,4 +20,5 @@ returns-3 c =
 
 pub made-cell-spec : {M : Type 1} → statement M
 made-cell-spec =
-    tie.close (tie.spec ruled-column-requires taken-requires returns returns-2 returns-3)
+    tie.close
+    (tie.spec (λ c κs. search needs) (λ c κs. search needs) returns returns-2 returns-3)

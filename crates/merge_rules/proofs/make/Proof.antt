@@ -21,41 +21,11 @@ abbrev μ-loop : tie.MeasureT-loop
 loop-holds : tie.Need-loop-holds Inv-loop μ-loop
 loop-holds c = (search needs, refl, refl)
 
-mul-made-cell : tie.Need-mul-made-cell Inv-loop μ-loop
-mul-made-cell c = search needs
-
-shared-slice-read-made-cell : tie.Need-shared-slice-read-made-cell Inv-loop μ-loop
-shared-slice-read-made-cell c = search needs
-
-mul-made-cell-2 : tie.Need-mul-made-cell-2 Inv-loop μ-loop
-mul-made-cell-2 c = search needs
-
-shared-slice-read-made-cell-2 : tie.Need-shared-slice-read-made-cell-2 Inv-loop μ-loop
-shared-slice-read-made-cell-2 c = search needs
-
-made-cell-requires : tie.Need-made-cell-requires Inv-loop μ-loop
-made-cell-requires c κs = search needs
-
-mul-out : tie.Need-mul-out Inv-loop μ-loop
-mul-out c = search needs
-
-slice-write-out : tie.Need-slice-write-out Inv-loop μ-loop
-slice-write-out c = search needs
-
-add-i : tie.Need-add-i Inv-loop μ-loop
-add-i c = search needs
-
-loop-less : tie.Need-loop-less Inv-loop μ-loop
-loop-less c = search needs
-
 loop-again : tie.Need-loop-again Inv-loop μ-loop
 loop-again c =
     let s = c .before .before .before .before .before .before .before .before in
     let l = c .before .before .before .before .loop in
     (search needs, simp length-set (l .inv .1), make-step _ _ _ _ _ _ (s .pre .0) _ (l .i) _ (omega arith) (omega arith) (l .inv .2) (c .made-cell .ensures))
-
-same-length : tie.Need-same-length Inv-loop μ-loop
-same-length c = search needs
 
 returns : tie.Need-returns Inv-loop μ-loop
 returns c =
@@ -67,18 +37,6 @@ pub make-spec : {M : Type 1} → statement M
 make-spec =
     tie.close
     (tie.spec
-    Inv-loop
-    μ-loop
-    loop-holds
-    mul-made-cell
-    shared-slice-read-made-cell
-    mul-made-cell-2
-    shared-slice-read-made-cell-2
-    made-cell-requires
-    mul-out
-    slice-write-out
-    add-i
-    loop-less
-    loop-again
-    same-length
-    returns)
+    Inv-loop μ-loop loop-holds (λ c. search needs) (λ c. search needs) (λ c. search needs) (λ c. search needs)
+    (λ c κs. search needs) (λ c. search needs) (λ c. search needs) (λ c. search needs) (λ c. search needs) loop-again
+    (λ c. search needs) returns)

@@ -5,16 +5,10 @@ use Rattle.merge_rules.specs.Laws.Signed.{less-lifted}
 use Rattle.merge_rules.proofs.signed_less.Statement.{statement}
 use Rattle.merge_rules.proofs.signed_less.Tie as tie
 
-lifted-requires : tie.Need-lifted-requires
-lifted-requires c κs = search needs
-
-lifted-requires-2 : tie.Need-lifted-requires-2
-lifted-requires-2 c κs = search needs
-
 returns : tie.Need-returns
 returns c =
     let s = c .before .before in
     sym (less-lifted (s .args .a) (s .args .b) _ _ (s .fits .a .fits) (s .fits .b .fits) (c .before .lifted .ensures) (c .lifted2 .ensures))
 
 pub signed-less-spec : {M : Type 1} → statement M
-signed-less-spec = tie.close (tie.spec lifted-requires lifted-requires-2 returns)
+signed-less-spec = tie.close (tie.spec (λ c κs. search needs) (λ c κs. search needs) returns)

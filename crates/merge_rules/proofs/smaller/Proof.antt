@@ -5,9 +5,6 @@ use Rattle.merge_rules.specs.Rules.{smaller}
 use Rattle.merge_rules.proofs.smaller.Statement.{statement}
 use Rattle.merge_rules.proofs.smaller.Tie as tie
 
-signed-less-requires : tie.Need-signed-less-requires
-signed-less-requires c κs = search needs
-
 returns : tie.Need-returns
 unfolding smaller
 returns c = simp (sym (c .before .signed-less .ensures) ∙ c .if1 .taken)
@@ -17,4 +14,4 @@ unfolding smaller
 returns-2 c = simp (sym (c .before .signed-less .ensures) ∙ c .if1 .left)
 
 pub smaller-spec : {M : Type 1} → statement M
-smaller-spec = tie.close (tie.spec signed-less-requires returns returns-2)
+smaller-spec = tie.close (tie.spec (λ c κs. search needs) returns returns-2)

@@ -9,15 +9,9 @@ returns : tie.Need-returns
 unfolding taken
 returns c = simp (eq-eqb _ _ (c .if1 .taken))
 
-smaller-requires : tie.Need-smaller-requires
-smaller-requires c κs = search needs
-
 returns-2 : tie.Need-returns-2
 unfolding taken
 returns-2 c = simp (ne-eqb _ _ (c .before .before .if1 .left), eq-eqb _ _ (c .before .if2 .taken), c .smaller .ensures)
-
-larger-requires : tie.Need-larger-requires
-larger-requires c κs = search needs
 
 returns-3 : tie.Need-returns-3
 unfolding taken
@@ -29,4 +23,5 @@ returns-4 c = simp (ne-eqb _ _ (c .before .before .if1 .left), ne-eqb _ _ (c .be
 
 pub taken-spec : {M : Type 1} → statement M
 taken-spec =
-    tie.close (tie.spec returns smaller-requires returns-2 larger-requires returns-3 returns-4)
+    tie.close
+    (tie.spec returns (λ c κs. search needs) returns-2 (λ c κs. search needs) returns-3 returns-4)

@@ -4,12 +4,9 @@ use borrow.Author.Needs.{needs}
 use Rattle.offset_search.proofs.binary_search_by_id.Statement.{statement}
 use Rattle.offset_search.proofs.binary_search_by_id.Tie as tie
 
-binary-search-from-requires : tie.Need-binary-search-from-requires
-binary-search-from-requires c κs = search needs
-
 returns : tie.Need-returns
 returns c = let s = c .binary-search-from .ensures in
     record { within = s .within; first = λ e. s .first e (omega arith) }
 
 pub binary-search-by-id-spec : {M : Type 1} → statement M
-binary-search-by-id-spec = tie.close (tie.spec binary-search-from-requires returns)
+binary-search-by-id-spec = tie.close (tie.spec (λ c κs. search needs) returns)

@@ -17,15 +17,6 @@ abbrev μ-loop : tie.MeasureT-loop
 loop-holds : tie.Need-loop-holds Inv-loop μ-loop
 loop-holds c = bracket _ _ _ _ _ (c .pre .1)
 
-sub-mid : tie.Need-sub-mid Inv-loop μ-loop
-sub-mid c = search needs
-
-add-mid : tie.Need-add-mid Inv-loop μ-loop
-add-mid c = search needs
-
-cast-if1 : tie.Need-cast-if1 Inv-loop μ-loop
-cast-if1 c = search needs
-
 -- the number in the middle is in the store
 middle : (c : tie.In-loop Inv-loop μ-loop) → c .before .before .args .width * (c .before .loop .low + (c .before .loop .high - c .before .loop .low) / 2) < length (c .before .before .args .cells .now)
 middle c =
@@ -40,17 +31,8 @@ mul-if1-2 c = omega (arith, middle c)
 shared-slice-read-if1 : tie.Need-shared-slice-read-if1 Inv-loop μ-loop
 shared-slice-read-if1 c = middle (c .before)
 
-add-low : tie.Need-add-low Inv-loop μ-loop
-add-low c = search needs
-
-loop-less : tie.Need-loop-less Inv-loop μ-loop
-loop-less c = search needs
-
 loop-again : tie.Need-loop-again Inv-loop μ-loop
 loop-again c = bracket-up _ _ _ _ _ _ _ (c .before .before .before .loop .inv) _ (omega arith) (omega arith) (c .if1 .taken)
-
-loop-less-2 : tie.Need-loop-less-2 Inv-loop μ-loop
-loop-less-2 c = search needs
 
 loop-again-2 : tie.Need-loop-again-2 Inv-loop μ-loop
 loop-again-2 c = bracket-down _ _ _ _ _ _ _ (c .before .before .before .loop .inv) _ (omega arith) (omega arith) (c .if1 .left)
@@ -62,18 +44,5 @@ pub binary-search-cells-spec : {M : Type 1} → statement M
 binary-search-cells-spec =
     tie.close
     (tie.spec
-    Inv-loop
-    μ-loop
-    loop-holds
-    sub-mid
-    add-mid
-    cast-if1
-    mul-if1
-    mul-if1-2
-    shared-slice-read-if1
-    add-low
-    loop-less
-    loop-again
-    loop-less-2
-    loop-again-2
-    returns)
+    Inv-loop μ-loop loop-holds (λ c. search needs) (λ c. search needs) (λ c. search needs) mul-if1 mul-if1-2
+    shared-slice-read-if1 (λ c. search needs) (λ c. search needs) loop-again (λ c. search needs) loop-again-2 returns)

@@ -4,15 +4,9 @@ use Rattle.lists.specs.Laws.Search.{notBelow-le}
 use Rattle.offset_search.proofs.binary_search_from.Statement.{statement}
 use Rattle.offset_search.proofs.binary_search_from.Tie as tie
 
-cast-end : tie.Need-cast-end
-cast-end c = search needs
-
-binary-search-part-requires : tie.Need-binary-search-part-requires
-binary-search-part-requires c κs = search needs
-
 returns : tie.Need-returns
 returns c = let s = c .binary-search-part .ensures in
     record { from = s .from; within = s .upto; first = λ e h. s .first e h (notBelow-le _ _) }
 
 pub binary-search-from-spec : {M : Type 1} → statement M
-binary-search-from-spec = tie.close (tie.spec cast-end binary-search-part-requires returns)
+binary-search-from-spec = tie.close (tie.spec (λ c. search needs) (λ c κs. search needs) returns)

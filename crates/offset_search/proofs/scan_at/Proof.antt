@@ -7,12 +7,6 @@ use Rattle.offset_search.proofs.scan_at.Tie as tie
 returns : tie.Need-returns
 returns c = at-end _ _ _ (c .before .pre) (c .if1 .taken)
 
-mul-if2 : tie.Need-mul-if2
-mul-if2 c = search needs
-
-shared-slice-read-if2 : tie.Need-shared-slice-read-if2
-shared-slice-read-if2 c = search needs
-
 returns-2 : tie.Need-returns-2
 returns-2 c = at-hit _ _ _ (c .before .before .if1 .left) (c .if2 .taken)
 
@@ -20,4 +14,6 @@ returns-3 : tie.Need-returns-3
 returns-3 c = at-miss _ _ _ (c .before .before .before .pre) (c .if2 .left)
 
 pub scan-at-spec : {M : Type 1} → statement M
-scan-at-spec = tie.close (tie.spec returns mul-if2 shared-slice-read-if2 returns-2 returns-3)
+scan-at-spec =
+    tie.close
+    (tie.spec returns (λ c. search needs) (λ c. search needs) returns-2 returns-3)

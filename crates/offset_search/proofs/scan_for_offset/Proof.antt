@@ -7,17 +7,8 @@ use Rattle.offset_search.proofs.Search.{scanned-end, scanned-hit, scann
 use Rattle.offset_search.proofs.scan_for_offset.Statement.{statement}
 use Rattle.offset_search.proofs.scan_for_offset.Tie as tie
 
-cast-t13 : tie.Need-cast-t13
-cast-t13 c = search needs
-
 returns : tie.Need-returns
 returns c = scanned-end _ _ _ (c .if1 .taken)
-
-mul-id : tie.Need-mul-id
-mul-id c = search needs
-
-shared-slice-read-id : tie.Need-shared-slice-read-id
-shared-slice-read-id c = search needs
 
 returns-2 : tie.Need-returns-2
 returns-2 c = scanned-hit _ _ _ _ (c .before .before .if1 .left) (c .if2 .taken)
@@ -27,12 +18,6 @@ returns-3 c = scanned-before _ _ _ (c .before .before .before .if1 .left) (c .if
 
 gallop-requires : tie.Need-gallop-requires
 gallop-requires c κs = (c .before .before .before .before .before .pre, c .before .before .before .if1 .left, λ e. notBelow-past _ _ e _ (c .before .before .before .if1 .left) (omega arith))
-
-enum-known-p : tie.Need-enum-known-p
-enum-known-p c = search needs
-
-enum-known-low : tie.Need-enum-known-low
-enum-known-low c = search needs
 
 binary-search-part-requires : tie.Need-binary-search-part-requires
 unfolding Reached
@@ -56,16 +41,5 @@ pub scan-for-offset-spec : {M : Type 1} → statement M
 scan-for-offset-spec =
     tie.close
     (tie.spec
-    cast-t13
-    returns
-    mul-id
-    shared-slice-read-id
-    returns-2
-    returns-3
-    gallop-requires
-    enum-known-p
-    enum-known-low
-    binary-search-part-requires
-    scan-at-requires
-    returns-4
-    returns-5)
+    (λ c. search needs) returns (λ c. search needs) (λ c. search needs) returns-2 returns-3 gallop-requires
+    (λ c. search needs) (λ c. search needs) binary-search-part-requires scan-at-requires returns-4 returns-5)

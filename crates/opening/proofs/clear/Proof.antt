@@ -9,9 +9,6 @@ use borrow.Author.Needs.{needs}
 use Rattle.opening.proofs.clear.Statement.{statement}
 use Rattle.opening.proofs.clear.Tie as tie
 
-clear-refusal-requires : tie.Need-clear-refusal-requires
-clear-refusal-requires c κs = search needs
-
 returns : tie.Need-returns
 returns c =
     let a = c .before .before .before .args in
@@ -21,9 +18,6 @@ returns-2 : tie.Need-returns-2
 returns-2 c =
     let a = c .before .before .before .before .before .args in
     clear-pending (a .h) (a .keys .now) (sym (c .before .before .before .clear-refusal .ensures) ∙ c .before .before .if1 .left) (c .if2 .taken)
-
-room-for-requires : tie.Need-room-for-requires
-room-for-requires c κs = search needs
 
 empty-requires : tie.Need-empty-requires
 empty-requires c κs =
@@ -37,9 +31,6 @@ add-n c =
     let k = clear-accepted (a .h) (length (a .keys .now)) (sym (c .before .before .before .before .before .before .before .before .before .clear-refusal .ensures) ∙ c .before .before .before .before .before .before .before .before .if1 .left) in
     omega (arith, next-fits (a .h .generation) (a .h .rows) (omega (arith, c .struct-known2 .given)) (k .last-empty) (omega (arith, c .before .before .before .before .before .before .if2 .left)))
 
-same-length : tie.Need-same-length
-same-length c = search needs
-
 returns-3 : tie.Need-returns-3
 returns-3 c =
     let a = c .before .before .before .before .before .before .before .before .before .before .before .args in
@@ -48,4 +39,5 @@ returns-3 c =
 pub clear-spec : {M : Type 1} → statement M
 clear-spec =
     tie.close
-    (tie.spec clear-refusal-requires returns returns-2 room-for-requires empty-requires add-n same-length returns-3)
+    (tie.spec
+    (λ c κs. search needs) returns returns-2 (λ c κs. search needs) empty-requires add-n (λ c. search needs) returns-3)

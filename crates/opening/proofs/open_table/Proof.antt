@@ -10,25 +10,16 @@ use borrow.Author.Needs.{needs}
 use Rattle.opening.proofs.open_table.Statement.{statement}
 use Rattle.opening.proofs.open_table.Tie as tie
 
-open-refusal-requires : tie.Need-open-refusal-requires
-open-refusal-requires c κs = search needs
-
 returns : tie.Need-returns
 returns c =
     let a = c .before .before .before .before .before .before .args in
     opened-refused (opening (a .columns) (a .key-columns) (a .sort) (a .rule) (a .capacity)) (a .generation) (a .rows .now) (a .keys .now) (a .sorts .now) (a .pending .now) _ (c .before .open-refusal .ensures) (c .if1 .taken)
-
-room-for-requires : tie.Need-room-for-requires
-room-for-requires c κs = search needs
 
 empty-requires : tie.Need-empty-requires
 empty-requires c κs =
     let a = c .before .before .before .before .before .before .before .before .args in
     let k = open-accepted (opening (a .columns) (a .key-columns) (a .sort) (a .rule) (a .capacity)) (lengths (a .rows .now) (a .keys .now) (a .sorts .now) (a .pending .now) [] []) (sym (c .before .before .before .open-refusal .ensures) ∙ c .before .before .if1 .left) in
     omega (arith, k, room-some (a .capacity) 0 (k .bounds .capacity-some), room-most (a .capacity) 0, c .before .room-for .ensures)
-
-same-length : tie.Need-same-length
-same-length c = search needs
 
 returns-2 : tie.Need-returns-2
 returns-2 c =
@@ -39,4 +30,5 @@ returns-2 c =
 
 pub open-table-spec : {M : Type 1} → statement M
 open-table-spec =
-    tie.close (tie.spec open-refusal-requires returns room-for-requires empty-requires same-length returns-2)
+    tie.close
+    (tie.spec (λ c κs. search needs) returns (λ c κs. search needs) empty-requires (λ c. search needs) returns-2)

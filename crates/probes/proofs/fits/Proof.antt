@@ -47,33 +47,12 @@ cast-if8 c =
 returns-8 : tie.Need-returns-8
 returns-8 c = λ e. absurd (false≢true e)
 
-mul-if9 : tie.Need-mul-if9
-mul-if9 c = search needs
-
-cast-if9 : tie.Need-cast-if9
-cast-if9 c = search needs
-
 returns-9 : tie.Need-returns-9
 returns-9 c = λ e. absurd (false≢true e)
-
-returns-10 : tie.Need-returns-10
-returns-10 c = search needs
 
 pub fits-spec : {M : Type 1} → statement M
 fits-spec =
     tie.close
     (tie.spec
-    returns
-    returns-2
-    returns-3
-    returns-4
-    returns-5
-    returns-6
-    returns-7
-    mul-if8
-    cast-if8
-    returns-8
-    mul-if9
-    cast-if9
-    returns-9
-    returns-10)
+    returns returns-2 returns-3 returns-4 returns-5 returns-6 returns-7 mul-if8 cast-if8 returns-8 (λ c. search needs)
+    (λ c. search needs) returns-9 (λ c. search needs))

@@ -11,12 +11,6 @@ returns c = made-nothing _ _ _ _ _ _ (λ f. c .if1 .taken (f .0))
 returns-2 : tie.Need-returns-2
 returns-2 c = made-nothing _ _ _ _ _ _ (λ f. let h = f .1 in omega arith)
 
-make-requires : tie.Need-make-requires
-make-requires c κs = search needs
-
-same-length : tie.Need-same-length
-same-length c = search needs
-
 returns-3 : tie.Need-returns-3
 returns-3 c =
     let m = c .before .before .make in
@@ -24,4 +18,6 @@ returns-3 c =
     made-done _ _ _ _ _ _ _ (t .left) (m .ensures)
 
 pub mouldgrey-make-spec : {M : Type 1} → statement M
-mouldgrey-make-spec = tie.close (tie.spec returns returns-2 make-requires same-length returns-3)
+mouldgrey-make-spec =
+    tie.close
+    (tie.spec returns returns-2 (λ c κs. search needs) (λ c. search needs) returns-3)

@@ -11,29 +11,17 @@ returns c = survives-nothing _ _ _ _ _ _ _ _ _ (λ f. let h = f .0 in omega arit
 returns-2 : tie.Need-returns-2
 returns-2 c = survives-nothing _ _ _ _ _ _ _ _ _ (λ f. let h = f .1 in omega arith)
 
-sub-if3 : tie.Need-sub-if3
-sub-if3 c = search needs
-
 returns-3 : tie.Need-returns-3
 returns-3 c = survives-nothing _ _ _ _ _ _ _ _ _ (λ f. let h = f .1 in omega arith)
 
 returns-4 : tie.Need-returns-4
 returns-4 c = survives-nothing _ _ _ _ _ _ _ _ _ (λ f. let h = f .2 in omega arith)
 
-sub-if5 : tie.Need-sub-if5
-sub-if5 c = search needs
-
 returns-5 : tie.Need-returns-5
 returns-5 c = survives-nothing _ _ _ _ _ _ _ _ _ (λ f. let h = f .2 in omega arith)
 
 returns-6 : tie.Need-returns-6
 returns-6 c = survives-nothing _ _ _ _ _ _ _ _ _ (λ f. let h = f .3 in omega arith)
-
-copy-survivor-requires : tie.Need-copy-survivor-requires
-copy-survivor-requires c κs = search needs
-
-same-length : tie.Need-same-length
-same-length c = search needs
 
 returns-7 : tie.Need-returns-7
 returns-7 c =
@@ -44,14 +32,5 @@ pub mouldgrey-surviving-row-spec : {M : Type 1} → statement M
 mouldgrey-surviving-row-spec =
     tie.close
     (tie.spec
-    returns
-    returns-2
-    sub-if3
-    returns-3
-    returns-4
-    sub-if5
-    returns-5
-    returns-6
-    copy-survivor-requires
-    same-length
-    returns-7)
+    returns returns-2 (λ c. search needs) returns-3 returns-4 (λ c. search needs) returns-5 returns-6
+    (λ c κs. search needs) (λ c. search needs) returns-7)

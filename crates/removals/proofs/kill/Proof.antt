@@ -5,9 +5,6 @@ use Rattle.removals.proofs.RemovalSteps.{first-cell, killed}
 use Rattle.removals.proofs.kill.Statement.{statement}
 use Rattle.removals.proofs.kill.Tie as tie
 
-take-out-requires : tie.Need-take-out-requires
-take-out-requires c κs = search needs
-
 mul-at : tie.Need-mul-at
 mul-at c =
     let s = c .before .before .before .before .before .before .before .before in
@@ -23,12 +20,6 @@ set-stale-requires c κs =
     let s = c .before .before .before .before .before .before .before .before .before in
     first-cell _ _ _ _ (s .pre .0) (s .pre .1) .0
 
-same-length : tie.Need-same-length
-same-length c = search needs
-
-same-length-2 : tie.Need-same-length-2
-same-length-2 c = search needs
-
 returns : tie.Need-returns
 returns c =
     let s = c .before .before .before .before .before .before .before .before .before .before .before .before in
@@ -37,4 +28,4 @@ returns c =
 pub kill-spec : {M : Type 1} → statement M
 kill-spec =
     tie.close
-    (tie.spec take-out-requires mul-at cast-at set-stale-requires same-length same-length-2 returns)
+    (tie.spec (λ c κs. search needs) mul-at cast-at set-stale-requires (λ c. search needs) (λ c. search needs) returns)

@@ -6,26 +6,8 @@ use borrow.Author.Needs.{needs}
 use Rattle.removals.proofs.remove_one.Statement.{statement}
 use Rattle.removals.proofs.remove_one.Tie as tie
 
-keyed-requires : tie.Need-keyed-requires
-keyed-requires c κs = search needs
-
 find-requires : tie.Need-find-requires
 find-requires c κs = find-fits (c .before .before .before .before .before .before .args .h) (c .before .before .keyed .ensures) (c .before .before .before .before .before .before .pre)
-
-enum-told : tie.Need-enum-told
-enum-told c = search needs
-
-enum-known-found : tie.Need-enum-known-found
-enum-known-found c = search needs
-
-is-spared-requires : tie.Need-is-spared-requires
-is-spared-requires c κs = search needs
-
-same-length : tie.Need-same-length
-same-length c = search needs
-
-same-length-2 : tie.Need-same-length-2
-same-length-2 c = search needs
 
 returns : tie.Need-returns
 returns c =
@@ -37,22 +19,10 @@ kill-requires c κs =
     let f = c .before .before .before .before .before .before .before in
     kill-fits (f .before .before .before .before .before .before .before .args .h) _ _ (f .before .before .before .keyed .ensures) (f .before .before .before .before .before .before .before .pre .0) (f .find .ensures) (c .before .before .before .before .before .found .given .1)
 
-same-length-3 : tie.Need-same-length-3
-same-length-3 c = search needs
-
-same-length-4 : tie.Need-same-length-4
-same-length-4 c = search needs
-
 returns-2 : tie.Need-returns-2
 returns-2 c =
     let f = c .before .before in
     absent _ _ _ _ _ _ (f .before .before .before .keyed .ensures) _ (f .find .ensures) _ _ (c .enum-told .given .1)
-
-same-length-5 : tie.Need-same-length-5
-same-length-5 c = search needs
-
-same-length-6 : tie.Need-same-length-6
-same-length-6 c = search needs
 
 returns-3 : tie.Need-returns-3
 returns-3 c =
@@ -65,18 +35,6 @@ pub remove-one-spec : {M : Type 1} → statement M
 remove-one-spec =
     tie.close
     (tie.spec
-    keyed-requires
-    find-requires
-    enum-told
-    enum-known-found
-    is-spared-requires
-    same-length
-    same-length-2
-    returns
-    kill-requires
-    same-length-3
-    same-length-4
-    returns-2
-    same-length-5
-    same-length-6
-    returns-3)
+    (λ c κs. search needs) find-requires (λ c. search needs) (λ c. search needs) (λ c κs. search needs)
+    (λ c. search needs) (λ c. search needs) returns kill-requires (λ c. search needs) (λ c. search needs) returns-2
+    (λ c. search needs) (λ c. search needs) returns-3)

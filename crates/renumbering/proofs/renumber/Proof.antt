@@ -13,17 +13,11 @@ Inv-loop t store₀ live base n at₀ store at = Pass t live base store₀ store
 abbrev μ-loop : tie.MeasureT-loop
 μ-loop t store₀ live base n at₀ store at = slots t - at
 
-mul-n : tie.Need-mul-n Inv-loop μ-loop
-mul-n c = omega arith
-
 loop-holds : tie.Need-loop-holds Inv-loop μ-loop
 loop-holds c = pass-begin _ _ _ _
 
 sub-block : tie.Need-sub-block Inv-loop μ-loop
 sub-block c = omega (arith, c .loop-test .taken)
-
-block-requires : tie.Need-block-requires Inv-loop μ-loop
-block-requires c κs = search needs
 
 renumber-block-requires : tie.Need-renumber-block-requires Inv-loop μ-loop
 renumber-block-requires c κs =
@@ -48,15 +42,5 @@ pub renumber-spec : {M : Type 1} → statement M
 renumber-spec =
     tie.close
     (tie.spec
-    Inv-loop
-    μ-loop
-    mul-n
-    loop-holds
-    sub-block
-    block-requires
-    renumber-block-requires
-    add-at
-    loop-less
-    loop-again
-    same-length
-    returns)
+    Inv-loop μ-loop (λ c. omega arith) loop-holds sub-block (λ c κs. search needs) renumber-block-requires add-at
+    loop-less loop-again same-length returns)

@@ -12,9 +12,6 @@ use Rattle.renumbering.proofs.RenumberSteps.{stays, too-large, has-new,
 use Rattle.renumbering.proofs.renumber_word.Statement.{statement}
 use Rattle.renumbering.proofs.renumber_word.Tie as tie
 
-names-row-requires : tie.Need-names-row-requires
-names-row-requires c κs = search needs
-
 returns : tie.Need-returns
 returns c = stays _ _ _ _ (sym (c .before .names-row .ensures) ∙ not-true _ (c .if1 .taken))
 
@@ -29,29 +26,14 @@ inside c = in-words _ _ _ _ (names c) (c .before .before .before .before .pre)
 sub-row : tie.Need-sub-row
 sub-row c = omega (arith, inside c)
 
-cast-at : tie.Need-cast-at
-cast-at c = search needs
-
-mul-first : tie.Need-mul-first
-mul-first c = search needs
-
 shared-slice-read-first : tie.Need-shared-slice-read-first
 shared-slice-read-first c = omega (arith, inside (c .before))
 
 returns-2 : tie.Need-returns-2
 returns-2 c = too-large _ _ _ _ (names (c .before .before)) (c .if2 .taken)
 
-mul-result : tie.Need-mul-result
-mul-result c = search needs
-
-mul-rank : tie.Need-mul-rank
-mul-rank c = search needs
-
 shared-slice-read-rank : tie.Need-shared-slice-read-rank
 shared-slice-read-rank c = omega (arith, inside (c .before .before .before))
-
-rank-requires : tie.Need-rank-requires
-rank-requires c κs = search needs
 
 -- the new number is small
 few : (c : tie.After-rank) → c .rank .result ≤ 65600
@@ -72,17 +54,6 @@ pub renumber-word-spec : {M : Type 1} → statement M
 renumber-word-spec =
     tie.close
     (tie.spec
-    names-row-requires
-    returns
-    sub-row
-    cast-at
-    mul-first
-    shared-slice-read-first
-    returns-2
-    mul-result
-    mul-rank
-    shared-slice-read-rank
-    rank-requires
-    add-result
-    add-result-2
+    (λ c κs. search needs) returns sub-row (λ c. search needs) (λ c. search needs) shared-slice-read-first returns-2
+    (λ c. search needs) (λ c. search needs) shared-slice-read-rank (λ c κs. search needs) add-result add-result-2
     returns-3)

@@ -9,9 +9,6 @@ use Rattle.retain.proofs.add_row_sorted.Tie as tie
 push-id-requires : tie.Need-push-id-requires
 push-id-requires c κs = let s = sure _ _ _ (c .before .before .before .before .pre) in (s .room (s .some (c .before .if1 .taken)), s .few)
 
-same-length : tie.Need-same-length
-same-length c = search needs
-
 returns : tie.Need-returns
 returns c = rw (c .before .before .push-id .ensures .0, c .before .before .push-id .ensures .1) (adds-more _ _ _ (c .before .before .before .before .if1 .taken))
 
@@ -43,14 +40,5 @@ pub add-row-sorted-spec : {M : Type 1} → statement M
 add-row-sorted-spec =
     tie.close
     (tie.spec
-    push-id-requires
-    same-length
-    returns
-    returns-2
-    add-if3
-    add-more
-    returns-3
-    fill-from-dense-requires
-    push-id-requires-2
-    same-length-2
-    returns-4)
+    push-id-requires (λ c. search needs) returns returns-2 add-if3 add-more returns-3 fill-from-dense-requires
+    push-id-requires-2 same-length-2 returns-4)

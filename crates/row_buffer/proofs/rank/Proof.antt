@@ -8,9 +8,6 @@ use Rattle.row_buffer.proofs.Laws.{shl-pos, counted}
 use Rattle.row_buffer.proofs.rank.Statement.{statement}
 use Rattle.row_buffer.proofs.rank.Tie as tie
 
-shl-below : tie.Need-shl-below
-shl-below c = search needs
-
 sub-below : tie.Need-sub-below
 sub-below c = shl-pos _ (c .pre .0)
 
@@ -21,4 +18,4 @@ returns : tie.Need-returns
 returns c = ap (λ (n : ℕ). c .args .base + n) (counted (c .args .live) (c .args .bit) (c .pre .0))
 
 pub rank-spec : {M : Type 1} → statement M
-rank-spec = tie.close (tie.spec shl-below sub-below add-result returns)
+rank-spec = tie.close (tie.spec (λ c. search needs) sub-below add-result returns)

@@ -8,24 +8,6 @@ use borrow.Author.Needs.{needs}
 use Rattle.row_buffer.proofs.write_row.Statement.{statement}
 use Rattle.row_buffer.proofs.write_row.Tie as tie
 
-mul-copy-row : tie.Need-mul-copy-row
-mul-copy-row c = search needs
-
-sub-copy-row : tie.Need-sub-copy-row
-sub-copy-row c = search needs
-
-part-copy-row-start : tie.Need-part-copy-row-start
-part-copy-row-start c = search needs
-
-part-copy-row-end : tie.Need-part-copy-row-end
-part-copy-row-end c = search needs
-
-copy-row-requires : tie.Need-copy-row-requires
-copy-row-requires c κs = search needs
-
-same-length : tie.Need-same-length
-same-length c = search needs
-
 returns : tie.Need-returns
 returns c =
     let a = c .before .before .before .before .before .before .args in
@@ -36,10 +18,5 @@ pub write-row-spec : {M : Type 1} → statement M
 write-row-spec =
     tie.close
     (tie.spec
-    mul-copy-row
-    sub-copy-row
-    part-copy-row-start
-    part-copy-row-end
-    copy-row-requires
-    same-length
-    returns)
+    (λ c. search needs) (λ c. search needs) (λ c. search needs) (λ c. search needs) (λ c κs. search needs)
+    (λ c. search needs) returns)

@@ -30,9 +30,6 @@ mul-is-stale c = omega (arith, inside (c .before))
 shared-slice-read-is-stale : tie.Need-shared-slice-read-is-stale
 shared-slice-read-is-stale c = omega (arith, inside (c .before .before))
 
-is-stale-requires : tie.Need-is-stale-requires
-is-stale-requires c κs = search needs
-
 returns : tie.Need-returns
 returns c = dead-row _ _ _ _ _ (omega (arith, c .before .before .before .before .pre)) (sym (c .before .is-stale .ensures) ∙ c .if1 .taken)
 
@@ -52,13 +49,5 @@ pub cell-sound-spec : {M : Type 1} → statement M
 cell-sound-spec =
     tie.close
     (tie.spec
-    mul-at
-    cast-at
-    mul-is-stale
-    shared-slice-read-is-stale
-    is-stale-requires
-    returns
-    add-cell
-    mul-cell
-    shared-slice-read-cell
-    returns-2)
+    mul-at cast-at mul-is-stale shared-slice-read-is-stale (λ c κs. search needs) returns add-cell mul-cell
+    shared-slice-read-cell returns-2)

@@ -15,26 +15,14 @@ Inv-loop sorts entries rows i₀ i = (i ≤ entries) × ((j : ℕ) → j < i →
 abbrev μ-loop : tie.MeasureT-loop
 μ-loop sorts entries rows i₀ i = entries - i
 
-row-from-requires : tie.Need-row-from-requires Inv-loop μ-loop
-row-from-requires c κs = search needs
-
 returns : tie.Need-returns Inv-loop μ-loop
 returns c = starts-late _ _ _ _ (c .before .row-from .ensures) (c .if1 .taken)
 
 loop-holds : tie.Need-loop-holds Inv-loop μ-loop
 loop-holds c = (search needs, λ j h. absurd (omega arith))
 
-entry-sound-requires : tie.Need-entry-sound-requires Inv-loop μ-loop
-entry-sound-requires c κs = search needs
-
 returns-2 : tie.Need-returns-2 Inv-loop μ-loop
 returns-2 c = breaks _ _ _ _ (c .before .before .loop-test .taken) (c .before .entry-sound .ensures .no (not-true _ (c .if2 .taken)))
-
-add-i : tie.Need-add-i Inv-loop μ-loop
-add-i c = search needs
-
-loop-less : tie.Need-loop-less Inv-loop μ-loop
-loop-less c = search needs
 
 loop-again : tie.Need-loop-again Inv-loop μ-loop
 loop-again c = (search needs, below-more _ _ (c .before .before .before .loop .inv .1) (c .before .entry-sound .ensures .yes (not-false _ (c .if2 .left))))
@@ -46,14 +34,5 @@ pub entries-sound-spec : {M : Type 1} → statement M
 entries-sound-spec =
     tie.close
     (tie.spec
-    Inv-loop
-    μ-loop
-    row-from-requires
-    returns
-    loop-holds
-    entry-sound-requires
-    returns-2
-    add-i
-    loop-less
-    loop-again
-    returns-3)
+    Inv-loop μ-loop (λ c κs. search needs) returns loop-holds (λ c κs. search needs) returns-2 (λ c. search needs)
+    (λ c. search needs) loop-again returns-3)

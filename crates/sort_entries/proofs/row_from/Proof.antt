@@ -7,25 +7,12 @@ use Rattle.sort_entries.proofs.row_from.Statement.{statement}
 returns : tie.Need-returns
 returns c = row-past _ _ _ _ (c .if1 .taken)
 
-mul-row-word : tie.Need-mul-row-word
-mul-row-word c = search needs
-
-add-row-word : tie.Need-add-row-word
-add-row-word c = search needs
-
-cast-row-word : tie.Need-cast-row-word
-cast-row-word c = search needs
-
-mul-result : tie.Need-mul-result
-mul-result c = search needs
-
-shared-slice-read-result : tie.Need-shared-slice-read-result
-shared-slice-read-result c = search needs
-
 returns-2 : tie.Need-returns-2
 returns-2 c = row-at _ _ _ _ (c .before .if1 .left)
 
 pub row-from-spec : {M : Type 1} → statement M
 row-from-spec =
     tie.close
-    (tie.spec returns mul-row-word add-row-word cast-row-word mul-result shared-slice-read-result returns-2)
+    (tie.spec
+    returns (λ c. search needs) (λ c. search needs) (λ c. search needs) (λ c. search needs) (λ c. search needs)
+    returns-2)

@@ -5,9 +5,6 @@ use Rattle.soundness.proofs.CheckingSteps.{index-astray, index-told}
 use Rattle.soundness.proofs.index_sound.Statement.{statement}
 use Rattle.soundness.proofs.index_sound.Tie as tie
 
-keys-sound-requires : tie.Need-keys-sound-requires
-keys-sound-requires c κs = search needs
-
 returns : tie.Need-returns
 returns c = index-astray _ _ _ (c .before .keys-sound .ensures .no (not-true _ (c .if1 .taken)))
 
@@ -18,4 +15,6 @@ returns-2 : tie.Need-returns-2
 returns-2 c = index-told _ _ _ (c .before .before .keys-sound .ensures .yes (not-false _ (c .before .if1 .left))) _ (c .keys-differ .ensures)
 
 pub index-sound-spec : {M : Type 1} → statement M
-index-sound-spec = tie.close (tie.spec keys-sound-requires returns keys-differ-requires returns-2)
+index-sound-spec =
+    tie.close
+    (tie.spec (λ c κs. search needs) returns keys-differ-requires returns-2)

@@ -5,9 +5,6 @@ use Rattle.soundness.proofs.CheckingSteps.{checked-refused, checked-ans
 use Rattle.soundness.proofs.is_sound.Statement.{statement}
 use Rattle.soundness.proofs.is_sound.Tie as tie
 
-sound-refusal-requires : tie.Need-sound-refusal-requires
-sound-refusal-requires c κs = search needs
-
 returns : tie.Need-returns
 returns c = checked-refused _ _ _ _ _ _ (c .before .sound-refusal .ensures) (c .if1 .taken)
 
@@ -18,4 +15,4 @@ returns-2 : tie.Need-returns-2
 returns-2 c = checked-answered _ _ _ _ _ _ (c .before .before .sound-refusal .ensures) (c .before .if1 .left) _ (c .stores-sound .ensures)
 
 pub is-sound-spec : {M : Type 1} → statement M
-is-sound-spec = tie.close (tie.spec sound-refusal-requires returns stores-sound-requires returns-2)
+is-sound-spec = tie.close (tie.spec (λ c κs. search needs) returns stores-sound-requires returns-2)

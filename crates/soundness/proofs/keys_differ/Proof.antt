@@ -25,12 +25,6 @@ finds-itself-requires c κs = let p = c .before .before .before .before .before 
 returns : tie.Need-returns Inv-loop μ-loop
 returns c = decides-no (c .before .finds-itself .ensures .no (not-true _ (c .if2 .taken)))
 
-add-row : tie.Need-add-row Inv-loop μ-loop
-add-row c = omega arith
-
-loop-less : tie.Need-loop-less Inv-loop μ-loop
-loop-less c = omega arith
-
 loop-again : tie.Need-loop-again Inv-loop μ-loop
 loop-again c = (omega arith, below-more _ _ (c .before .before .before .before .loop .inv .1) (c .before .finds-itself .ensures .yes (not-false _ (c .if2 .left))))
 
@@ -41,12 +35,4 @@ pub keys-differ-spec : {M : Type 1} → statement M
 keys-differ-spec =
     tie.close
     (tie.spec
-    Inv-loop
-    μ-loop
-    loop-holds
-    finds-itself-requires
-    returns
-    add-row
-    loop-less
-    loop-again
-    returns-2)
+    Inv-loop μ-loop loop-holds finds-itself-requires returns (λ c. omega arith) (λ c. omega arith) loop-again returns-2)

@@ -5,22 +5,13 @@ use Rattle.soundness.specs.inner.Checks.{kindWords}
 use Rattle.soundness.proofs.kind_words.Statement.{statement}
 use Rattle.soundness.proofs.kind_words.Tie as tie
 
-add-result : tie.Need-add-result
-add-result c = search needs
-
 returns : tie.Need-returns
 unfolding kindWords
 returns c = simp (eq-eqb _ _ (c .before .if1 .taken))
 
-add-result-2 : tie.Need-add-result-2
-add-result-2 c = search needs
-
 returns-2 : tie.Need-returns-2
 unfolding kindWords
 returns-2 c = simp (ne-eqb _ _ (c .before .before .if1 .left), eq-eqb _ _ (c .before .if2 .taken))
-
-add-result-3 : tie.Need-add-result-3
-add-result-3 c = search needs
 
 returns-3 : tie.Need-returns-3
 unfolding kindWords
@@ -32,4 +23,5 @@ returns-4 c = simp (ne-eqb _ _ (c .before .before .if1 .left), ne-eqb _ _ (c .be
 
 pub kind-words-spec : {M : Type 1} → statement M
 kind-words-spec =
-    tie.close (tie.spec add-result returns add-result-2 returns-2 add-result-3 returns-3 returns-4)
+    tie.close
+    (tie.spec (λ c. search needs) returns (λ c. search needs) returns-2 (λ c. search needs) returns-3 returns-4)

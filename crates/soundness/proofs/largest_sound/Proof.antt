@@ -7,27 +7,6 @@ use Rattle.soundness.proofs.largest_sound.Tie as tie
 returns : tie.Need-returns
 returns c = let a = c .before .before .args in largest-empty (a .h) (a .sorts .now) (c .if1 .taken)
 
-enum-told : tie.Need-enum-told
-enum-told c = search needs
-
-enum-known-largest : tie.Need-enum-known-largest
-enum-known-largest c = search needs
-
-mul-at : tie.Need-mul-at
-mul-at c = search needs
-
-sub-at : tie.Need-sub-at
-sub-at c = search needs
-
-cast-at : tie.Need-cast-at
-cast-at c = search needs
-
-mul-result : tie.Need-mul-result
-mul-result c = search needs
-
-shared-slice-read-result : tie.Need-shared-slice-read-result
-shared-slice-read-result c = search needs
-
 returns-2 : tie.Need-returns-2
 returns-2 c =
     let a = c .before .before .before .before .args in
@@ -42,13 +21,5 @@ pub largest-sound-spec : {M : Type 1} → statement M
 largest-sound-spec =
     tie.close
     (tie.spec
-    returns
-    enum-told
-    enum-known-largest
-    mul-at
-    sub-at
-    cast-at
-    mul-result
-    shared-slice-read-result
-    returns-2
-    returns-3)
+    returns (λ c. search needs) (λ c. search needs) (λ c. search needs) (λ c. search needs) (λ c. search needs)
+    (λ c. search needs) (λ c. search needs) returns-2 returns-3)

@@ -16,9 +16,6 @@ abbrev μ-loop : tie.MeasureT-loop
 loop-holds : tie.Need-loop-holds Inv-loop μ-loop
 loop-holds c = reach-start _ _ _
 
-record-words-requires : tie.Need-record-words-requires Inv-loop μ-loop
-record-words-requires c κs = search needs
-
 returns : tie.Need-returns Inv-loop μ-loop
 returns c = reach-broken _ _ _ (c .before .before .before .before .loop .inv) (c .before .before .if1 .taken) (rw (c .if2 .taken) at (c .before .record-words .ensures))
 
@@ -41,13 +38,4 @@ returns-2 c = reach-end _ _ _ (c .before .before .loop .inv) (c .if1 .left)
 pub pending-whole-spec : {M : Type 1} → statement M
 pending-whole-spec =
     tie.close
-    (tie.spec
-    Inv-loop
-    μ-loop
-    loop-holds
-    record-words-requires
-    returns
-    add-at
-    loop-less
-    loop-again
-    returns-2)
+    (tie.spec Inv-loop μ-loop loop-holds (λ c κs. search needs) returns add-at loop-less loop-again returns-2)

@@ -6,26 +6,14 @@ use Rattle.soundness.proofs.CheckingSteps.{rows-miscounted, rows-unsort
 use Rattle.soundness.proofs.rows_sound.Statement.{statement}
 use Rattle.soundness.proofs.rows_sound.Tie as tie
 
-dead-rows-requires : tie.Need-dead-rows-requires
-dead-rows-requires c κs = search needs
-
 returns : tie.Need-returns
 returns c = rows-miscounted _ _ _ (λ e. c .if1 .taken (e ∙ sym (c .before .before .dead-rows .ensures)))
-
-entries-sound-requires : tie.Need-entries-sound-requires
-entries-sound-requires c κs = search needs
 
 returns-2 : tie.Need-returns-2
 returns-2 c = rows-unsorted _ _ _ (sym (not-true _ (c .if2 .taken)) ∙ c .before .entries-sound .ensures)
 
-largest-sound-requires : tie.Need-largest-sound-requires
-largest-sound-requires c κs = search needs
-
 returns-3 : tie.Need-returns-3
 returns-3 c = rows-exceeding _ _ _ (sym (not-false _ (c .before .before .if2 .left)) ∙ c .before .before .before .entries-sound .ensures) (sym (not-true _ (c .if3 .taken)) ∙ c .before .largest-sound .ensures)
-
-sort-cells-sound-requires : tie.Need-sort-cells-sound-requires
-sort-cells-sound-requires c κs = search needs
 
 returns-4 : tie.Need-returns-4
 returns-4 c =
@@ -34,4 +22,8 @@ returns-4 c =
     (sym (not-false _ (c .before .if3 .left)) ∙ c .before .before .largest-sound .ensures) _ (c .sort-cells-sound .ensures)
 
 pub rows-sound-spec : {M : Type 1} → statement M
-rows-sound-spec = tie.close (tie.spec dead-rows-requires returns entries-sound-requires returns-2 largest-sound-requires returns-3 sort-cells-sound-requires returns-4)
+rows-sound-spec =
+    tie.close
+    (tie.spec
+    (λ c κs. search needs) returns (λ c κs. search needs) returns-2 (λ c κs. search needs) returns-3
+    (λ c κs. search needs) returns-4)

@@ -14,9 +14,6 @@ rows-sound-requires c κs =
 returns : tie.Need-returns
 returns c = stores-rows _ _ _ _ _ (c .before .rows-sound .ensures .no (not-true _ (c .if1 .taken)))
 
-keyed-requires : tie.Need-keyed-requires
-keyed-requires c κs = search needs
-
 index-sound-requires : tie.Need-index-sound-requires
 index-sound-requires c κs =
     let s = c .before .before .before .before .before .before .before in
@@ -37,4 +34,6 @@ returns-3 c =
 
 pub stores-sound-spec : {M : Type 1} → statement M
 stores-sound-spec =
-    tie.close (tie.spec rows-sound-requires returns keyed-requires index-sound-requires returns-2 pending-whole-requires returns-3)
+    tie.close
+    (tie.spec
+    rows-sound-requires returns (λ c κs. search needs) index-sound-requires returns-2 pending-whole-requires returns-3)

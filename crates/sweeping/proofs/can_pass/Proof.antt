@@ -4,12 +4,6 @@ use Rattle.sweeping.specs.inner.Sweeping.{starts}
 use Rattle.sweeping.proofs.can_pass.Statement.{statement}
 use Rattle.sweeping.proofs.can_pass.Tie as tie
 
-enum-told : tie.Need-enum-told
-enum-told c = search needs
-
-enum-known-test : tie.Need-enum-known-test
-enum-known-test c = search needs
-
 is-live-at-requires : tie.Need-is-live-at-requires
 is-live-at-requires c κs = rw (c .before .test .given .1) at (c .before .before .before .before .pre)
 
@@ -23,4 +17,5 @@ returns-2 c = rw (c .before .before .test .given .1) (c .is-live-at .ensures)
 
 pub can-pass-spec : {M : Type 1} → statement M
 can-pass-spec =
-    tie.close (tie.spec enum-told enum-known-test is-live-at-requires returns returns-2)
+    tie.close
+    (tie.spec (λ c. search needs) (λ c. search needs) is-live-at-requires returns returns-2)

@@ -17,13 +17,10 @@ returns-2 c = closed-whole _ _ _ (c .before .before .if1 .left) (sym (c .before 
 write-found-requires : tie.Need-write-found-requires
 write-found-requires c κs = c .before .before .before .before .before .before .pre (c .before .before .before .if1 .left) .can-write
 
-same-length : tie.Need-same-length
-same-length c = search needs
-
 returns-3 : tie.Need-returns-3
 returns-3 c = closed-list _ _ _ _ _ (c .before .before .before .before .before .before .if1 .left) (sym (c .before .before .before .before .before .is-whole .ensures) ∙ c .before .before .before .before .if2 .left) (c .before .before .write-found .ensures)
 
 pub close-refine-spec : {M : Type 1} → statement M
 close-refine-spec =
     tie.close
-    (tie.spec returns is-whole-requires returns-2 write-found-requires same-length returns-3)
+    (tie.spec returns is-whole-requires returns-2 write-found-requires (λ c. search needs) returns-3)

@@ -5,9 +5,6 @@ use Rattle.sweeping.proofs.SweepSteps.{dead-none, dead-one}
 use Rattle.sweeping.proofs.dead_at.Statement.{statement}
 use Rattle.sweeping.proofs.dead_at.Tie as tie
 
-is-live-at-requires : tie.Need-is-live-at-requires
-is-live-at-requires c κs = search needs
-
 returns : tie.Need-returns
 returns c = dead-none _ _ _ (sym (c .before .is-live-at .ensures) ∙ c .if1 .taken)
 
@@ -15,4 +12,4 @@ returns-2 : tie.Need-returns-2
 returns-2 c = dead-one _ _ _ (sym (c .before .is-live-at .ensures) ∙ c .if1 .left)
 
 pub dead-at-spec : {M : Type 1} → statement M
-dead-at-spec = tie.close (tie.spec is-live-at-requires returns returns-2)
+dead-at-spec = tie.close (tie.spec (λ c κs. search needs) returns returns-2)

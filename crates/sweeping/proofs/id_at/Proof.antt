@@ -11,9 +11,6 @@ add-result c = let k = size-dense (c .before .before .args .head) (c .before .be
 returns : tie.Need-returns
 returns c = id-dense _ _ _ (c .before .if1 .taken) (c .before .before .pre)
 
-mul-result : tie.Need-mul-result
-mul-result c = search needs
-
 shared-slice-read-result : tie.Need-shared-slice-read-result
 shared-slice-read-result c = let k = size-sparse (c .before .before .args .head) (c .before .before .args .ids .now) (c .before .if1 .left) in omega (arith, c .before .before .pre)
 
@@ -21,4 +18,6 @@ returns-2 : tie.Need-returns-2
 returns-2 c = id-sparse _ _ _ (c .before .if1 .left)
 
 pub id-at-spec : {M : Type 1} → statement M
-id-at-spec = tie.close (tie.spec add-result returns mul-result shared-slice-read-result returns-2)
+id-at-spec =
+    tie.close
+    (tie.spec add-result returns (λ c. search needs) shared-slice-read-result returns-2)

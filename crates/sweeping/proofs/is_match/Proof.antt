@@ -6,17 +6,11 @@ use Rattle.sweeping.proofs.SweepSteps.{match-unmet, match-met}
 use Rattle.sweeping.proofs.is_match.Statement.{statement}
 use Rattle.sweeping.proofs.is_match.Tie as tie
 
-is-met-at-requires : tie.Need-is-met-at-requires
-is-met-at-requires c κs = search needs
-
 returns : tie.Need-returns
 returns c = match-unmet _ _ _ _ (sym (c .before .is-met-at .ensures) ∙ not-true _ (c .if1 .taken))
-
-is-live-at-requires : tie.Need-is-live-at-requires
-is-live-at-requires c κs = search needs
 
 returns-2 : tie.Need-returns-2
 returns-2 c = match-met _ _ _ _ _ (sym (c .before .before .is-met-at .ensures) ∙ not-false _ (c .before .if1 .left)) (c .is-live-at .ensures)
 
 pub is-match-spec : {M : Type 1} → statement M
-is-match-spec = tie.close (tie.spec is-met-at-requires returns is-live-at-requires returns-2)
+is-match-spec = tie.close (tie.spec (λ c κs. search needs) returns (λ c κs. search needs) returns-2)

@@ -6,9 +6,6 @@ use Rattle.sweeping.proofs.SweepSteps.{next-below, next-dense}
 use Rattle.sweeping.proofs.move_on.Statement.{statement}
 use Rattle.sweeping.proofs.move_on.Tie as tie
 
-add-n : tie.Need-add-n
-add-n c = search needs
-
 add-n-2 : tie.Need-add-n-2
 add-n-2 c = let b = c .before .before .before .before in omega (arith, next-below (b .args .head) (b .args .ids .now) (b .args .s) (c .before .if1 .taken) (b .pre))
 
@@ -25,14 +22,7 @@ returns c =
       id-is = next-dense (b .args .head) (b .args .ids .now) (b .args .s) (c .before .if1 .taken) (b .pre);
     }
 
-id-at-requires : tie.Need-id-at-requires
-id-at-requires c κs = search needs
-
-returns-2 : tie.Need-returns-2
-returns-2 c = search needs
-
-returns-3 : tie.Need-returns-3
-returns-3 c = search needs
-
 pub move-on-spec : {M : Type 1} → statement M
-move-on-spec = tie.close (tie.spec add-n add-n-2 returns id-at-requires returns-2 returns-3)
+move-on-spec =
+    tie.close
+    (tie.spec (λ c. search needs) add-n-2 returns (λ c κs. search needs) (λ c. search needs) (λ c. search needs))

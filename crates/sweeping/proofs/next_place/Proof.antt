@@ -5,9 +5,6 @@ use Rattle.sweeping.proofs.PageSteps.{next-some, next-none}
 use Rattle.sweeping.proofs.next_place.Statement.{statement}
 use Rattle.sweeping.proofs.next_place.Tie as tie
 
-size-requires : tie.Need-size-requires
-size-requires c κs = search needs
-
 returns : tie.Need-returns
 returns c = next-some _ _ (omega (arith, c .before .size .ensures, c .if1 .taken))
 
@@ -15,4 +12,4 @@ returns-2 : tie.Need-returns-2
 returns-2 c = next-none _ _ (omega (arith, c .before .size .ensures, c .if1 .left))
 
 pub next-place-spec : {M : Type 1} → statement M
-next-place-spec = tie.close (tie.spec size-requires returns returns-2)
+next-place-spec = tie.close (tie.spec (λ c κs. search needs) returns returns-2)

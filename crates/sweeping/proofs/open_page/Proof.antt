@@ -6,23 +6,11 @@ use Rattle.sweeping.proofs.AnswerSteps.{page-stopped, page-opened}
 use Rattle.sweeping.proofs.open_page.Statement.{statement}
 use Rattle.sweeping.proofs.open_page.Tie as tie
 
-page-refusal-requires : tie.Need-page-refusal-requires
-page-refusal-requires c κs = search needs
-
-at-place-requires : tie.Need-at-place-requires
-at-place-requires c κs = search needs
-
 returns : tie.Need-returns
 returns c = page-stopped _ _ _ _ _ _ _ _ _ (c .before .before .page-refusal .ensures) (c .before .if1 .taken) (c .at-place .ensures)
 
-size-requires : tie.Need-size-requires
-size-requires c κs = search needs
-
 sub-left : tie.Need-sub-left
 sub-left c = omega (arith, c .size .ensures, c .before .before .page-refusal .ensures .within (c .before .if1 .left))
-
-smaller-requires : tie.Need-smaller-requires
-smaller-requires c κs = search needs
 
 cast-places : tie.Need-cast-places
 cast-places c = omega (arith, c .smaller .ensures, c .before .size .ensures, size-few _ _ _ (c .before .before .before .page-refusal .ensures .askable (c .before .before .if1 .left)))
@@ -40,13 +28,5 @@ pub open-page-spec : {M : Type 1} → statement M
 open-page-spec =
     tie.close
     (tie.spec
-    page-refusal-requires
-    at-place-requires
-    returns
-    size-requires
-    sub-left
-    smaller-requires
-    cast-places
-    add-at-place
-    at-place-requires-2
-    returns-2)
+    (λ c κs. search needs) (λ c κs. search needs) returns (λ c κs. search needs) sub-left (λ c κs. search needs)
+    cast-places add-at-place at-place-requires-2 returns-2)

@@ -6,23 +6,11 @@ use Rattle.sweeping.proofs.AnswerSteps.{refine-stopped, refine-opened}
 use Rattle.sweeping.proofs.open_refine.Statement.{statement}
 use Rattle.sweeping.proofs.open_refine.Tie as tie
 
-refine-refusal-requires : tie.Need-refine-refusal-requires
-refine-refusal-requires c κs = search needs
-
-at-place-requires : tie.Need-at-place-requires
-at-place-requires c κs = search needs
-
 returns : tie.Need-returns
 returns c = refine-stopped _ _ _ _ _ _ _ (c .before .before .refine-refusal .ensures) (c .before .if1 .taken) (c .at-place .ensures)
 
-size-requires : tie.Need-size-requires
-size-requires c κs = search needs
-
 cast-size : tie.Need-cast-size
 cast-size c = omega (arith, c .size .ensures, size-few _ _ _ (c .before .before .refine-refusal .ensures .askable (c .before .if1 .left)))
-
-at-place-requires-2 : tie.Need-at-place-requires-2
-at-place-requires-2 c κs = search needs
 
 returns-2 : tie.Need-returns-2
 returns-2 c = refine-opened _ _ _ _ _ _ _ (c .before .before .before .refine-refusal .ensures) (c .before .before .if1 .left) (rw (c .before .size .ensures) at (c .at-place2 .ensures))
@@ -31,10 +19,5 @@ pub open-refine-spec : {M : Type 1} → statement M
 open-refine-spec =
     tie.close
     (tie.spec
-    refine-refusal-requires
-    at-place-requires
-    returns
-    size-requires
-    cast-size
-    at-place-requires-2
+    (λ c κs. search needs) (λ c κs. search needs) returns (λ c κs. search needs) cast-size (λ c κs. search needs)
     returns-2)

@@ -3,24 +3,6 @@ use borrow.Author.Needs.{needs}
 use Rattle.sweeping.proofs.opening.Statement.{statement}
 use Rattle.sweeping.proofs.opening.Tie as tie
 
-enum-told : tie.Need-enum-told
-enum-told c = search needs
-
-open-refine-requires : tie.Need-open-refine-requires
-open-refine-requires c κs = search needs
-
-enum-told-2 : tie.Need-enum-told-2
-enum-told-2 c = search needs
-
-open-match-requires : tie.Need-open-match-requires
-open-match-requires c κs = search needs
-
-enum-known-question : tie.Need-enum-known-question
-enum-known-question c = search needs
-
-open-page-requires : tie.Need-open-page-requires
-open-page-requires c κs = search needs
-
 returns : tie.Need-returns
 returns c = rw (c .before .enum-told .given .1) (c .open-refine .ensures)
 
@@ -34,12 +16,5 @@ pub opening-spec : {M : Type 1} → statement M
 opening-spec =
     tie.close
     (tie.spec
-    enum-told
-    open-refine-requires
-    enum-told-2
-    open-match-requires
-    enum-known-question
-    open-page-requires
-    returns
-    returns-2
-    returns-3)
+    (λ c. search needs) (λ c κs. search needs) (λ c. search needs) (λ c κs. search needs) (λ c. search needs)
+    (λ c κs. search needs) returns returns-2 returns-3)

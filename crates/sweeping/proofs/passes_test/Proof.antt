@@ -4,15 +4,6 @@ use Rattle.sweeping.specs.inner.Sweeping.{passes}
 use Rattle.sweeping.proofs.passes_test.Statement.{statement}
 use Rattle.sweeping.proofs.passes_test.Tie as tie
 
-enum-told : tie.Need-enum-told
-enum-told c = search needs
-
-known-requires : tie.Need-known-requires
-known-requires c κs = search needs
-
-enum-known-test : tie.Need-enum-known-test
-enum-known-test c = search needs
-
 is-met-at-requires : tie.Need-is-met-at-requires
 is-met-at-requires c κs = rw (c .before .test .given .1) at (c .before .before .before .before .pre)
 
@@ -27,4 +18,4 @@ returns-2 c = rw (c .before .before .test .given .1) (c .is-met-at .ensures)
 pub passes-test-spec : {M : Type 1} → statement M
 passes-test-spec =
     tie.close
-    (tie.spec enum-told known-requires enum-known-test is-met-at-requires returns returns-2)
+    (tie.spec (λ c. search needs) (λ c κs. search needs) (λ c. search needs) is-met-at-requires returns returns-2)

@@ -6,14 +6,8 @@ use Rattle.sweeping.proofs.SweepSteps.{dead-at-most, steps-miss, steps-
 use Rattle.sweeping.proofs.step.Statement.{statement}
 use Rattle.sweeping.proofs.step.Tie as tie
 
-dead-at-requires : tie.Need-dead-at-requires
-dead-at-requires c κs = search needs
-
 add-n : tie.Need-add-n
 add-n c = let a = c .before .before .before .before .before .args in omega (arith, c .before .before .before .before .before .pre .few, c .before .dead-at .ensures, dead-at-most (a .h) (a .rows .now) (a .s .id))
-
-move-on-requires : tie.Need-move-on-requires
-move-on-requires c κs = search needs
 
 returns : tie.Need-returns
 returns c = steps-miss _ _ _ _ _ _ (c .before .before .before .dead-at .ensures) _ (not-true _ (c .before .if1 .taken)) _ (c .move-on .ensures)
@@ -24,9 +18,6 @@ keep-id-requires c κs = let p = c .before .before .before .before .before .befo
 move-on-requires-2 : tie.Need-move-on-requires-2
 move-on-requires-2 c κs = let p = c .before .before .before .before .before .before .before .before .before .before .pre .can-move in keeps-moves _ _ _ _ _ (record { id-is = p .id-is; more = p .more; within = p .within }) (c .before .before .keep-id .ensures)
 
-same-length : tie.Need-same-length
-same-length c = search needs
-
 returns-2 : tie.Need-returns-2
 returns-2 c = steps-hit _ _ _ _ _ _ (c .before .before .before .before .before .before .before .dead-at .ensures) _ (not-false _ (c .before .before .before .before .before .if1 .left)) _ _ _ (c .before .before .before .keep-id .ensures) (c .move-on2 .ensures)
 
@@ -34,11 +25,5 @@ pub step-spec : {M : Type 1} → statement M
 step-spec =
     tie.close
     (tie.spec
-    dead-at-requires
-    add-n
-    move-on-requires
-    returns
-    keep-id-requires
-    move-on-requires-2
-    same-length
+    (λ c κs. search needs) add-n (λ c κs. search needs) returns keep-id-requires move-on-requires-2 (λ c. search needs)
     returns-2)

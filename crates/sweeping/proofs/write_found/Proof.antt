@@ -7,9 +7,6 @@ use Rattle.sweeping.proofs.write_found.Tie as tie
 fill-from-dense-requires : tie.Need-fill-from-dense-requires
 fill-from-dense-requires c κs = can-fill _ _ (c .before .before .before .before .pre) (c .before .if1 .taken)
 
-same-length : tie.Need-same-length
-same-length c = search needs
-
 returns : tie.Need-returns
 returns c = wrote-range _ _ _ (c .before .before .before .before .if1 .taken) (c .before .before .fill-from-dense .ensures)
 
@@ -17,4 +14,6 @@ returns-2 : tie.Need-returns-2
 returns-2 c = wrote-list _ _ (c .if1 .left)
 
 pub write-found-spec : {M : Type 1} → statement M
-write-found-spec = tie.close (tie.spec fill-from-dense-requires same-length returns returns-2)
+write-found-spec =
+    tie.close
+    (tie.spec fill-from-dense-requires (λ c. search needs) returns returns-2)

@@ -3,11 +3,8 @@ use borrow.Author.Needs.{needs}
 use Rattle.table.proofs.keyed.Statement.{statement}
 use Rattle.table.proofs.keyed.Tie as tie
 
-room-for-requires : tie.Need-room-for-requires
-room-for-requires c κs = search needs
-
 returns : tie.Need-returns
 returns c = rw (c .room-for .ensures)
 
 pub keyed-spec : {M : Type 1} → statement M
-keyed-spec = tie.close (tie.spec room-for-requires returns)
+keyed-spec = tie.close (tie.spec (λ c κs. search needs) returns)

@@ -8,17 +8,11 @@ use Rattle.vault.proofs.cell_above.Tie as tie
 returns : tie.Need-returns
 returns c = above-none _ _ _ _ (c .if1 .taken)
 
-mul-at : tie.Need-mul-at
-mul-at c = search needs
-
 add-at : tie.Need-add-at
 add-at c = let a = c .before .args in let h = above-inside (a .width) (a .column) (a .row) (a .cells .now) (c .if1 .left) (c .before .pre .0) (c .before .pre .1) in omega (arith, h .0, h .1)
 
 sub-result : tie.Need-sub-result
 sub-result c = let a = c .before .args in let h = above-inside (a .width) (a .column) (a .row) (a .cells .now) (c .if1 .left) (c .before .pre .0) (c .before .pre .1) in omega (arith, h .0, h .1)
-
-mul-result : tie.Need-mul-result
-mul-result c = search needs
 
 shared-slice-read-result : tie.Need-shared-slice-read-result
 shared-slice-read-result c = let a = c .before .before .args in let h = above-inside (a .width) (a .column) (a .row) (a .cells .now) (c .before .if1 .left) (c .before .before .pre .0) (c .before .before .pre .1) in omega (arith, h .0, h .1)
@@ -29,4 +23,4 @@ returns-2 c = above-some _ _ _ _ (c .before .if1 .left)
 pub cell-above-spec : {M : Type 1} → statement M
 cell-above-spec =
     tie.close
-    (tie.spec returns mul-at add-at sub-result mul-result shared-slice-read-result returns-2)
+    (tie.spec returns (λ c. search needs) add-at sub-result (λ c. search needs) shared-slice-read-result returns-2)

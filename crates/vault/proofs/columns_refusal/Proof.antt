@@ -10,9 +10,6 @@ returns c = too-narrow _ _ _ (c .if1 .taken)
 returns-2 : tie.Need-returns-2
 returns-2 c = too-wide _ _ _ (c .before .if1 .left) (c .if2 .taken)
 
-rem-rest : tie.Need-rem-rest
-rem-rest c = search needs
-
 returns-3 : tie.Need-returns-3
 returns-3 c = broken _ _ _ (c .before .before .if1 .left) (c .before .if2 .left) (c .if3 .taken)
 
@@ -23,4 +20,6 @@ returns-5 : tie.Need-returns-5
 returns-5 c = none _ _ _ (c .before .before .before .if1 .left) (c .before .before .if2 .left) (c .before .if3 .left) (c .if4 .left)
 
 pub columns-refusal-spec : {M : Type 1} → statement M
-columns-refusal-spec = tie.close (tie.spec returns returns-2 rem-rest returns-3 returns-4 returns-5)
+columns-refusal-spec =
+    tie.close
+    (tie.spec returns returns-2 (λ c. search needs) returns-3 returns-4 returns-5)

@@ -33,9 +33,6 @@ mul-cell-2 c = let p = c .before .before .before .before .before .pre in omega (
 shared-slice-read-cell : tie.Need-shared-slice-read-cell Inv-loop μ-loop
 shared-slice-read-cell c = let p = c .before .before .before .before .before .before .pre in from-inside (p .0) (p .1) (c .before .loop-test .taken) (p .2)
 
-wrapping-sub-u32-requires : tie.Need-wrapping-sub-u32-requires Inv-loop μ-loop
-wrapping-sub-u32-requires c κs = search needs
-
 add-output : tie.Need-add-output Inv-loop μ-loop
 add-output c = let p = c .before .before .before .before .before .before .before .pre in omega (arith, to-inside (p .0) (p .1) (c .before .before .loop-test .taken) (p .2), p .0 .room, c .before .before .before .loop .inv .filled .same)
 
@@ -64,21 +61,5 @@ pub difference-column-spec : {M : Type 1} → statement M
 difference-column-spec =
     tie.close
     (tie.spec
-    Inv-loop
-    μ-loop
-    mul-base
-    cell-above-requires
-    loop-holds
-    mul-cell
-    add-cell
-    mul-cell-2
-    shared-slice-read-cell
-    wrapping-sub-u32-requires
-    add-output
-    mul-output
-    slice-write-output
-    add-row
-    loop-less
-    loop-again
-    same-length
-    returns)
+    Inv-loop μ-loop mul-base cell-above-requires loop-holds mul-cell add-cell mul-cell-2 shared-slice-read-cell
+    (λ c κs. search needs) add-output mul-output slice-write-output add-row loop-less loop-again same-length returns)

@@ -6,9 +6,6 @@ use Rattle.vault.proofs.Answers.{rearranged-refused, shaped, all-writte
 use Rattle.vault.proofs.rearrange.Statement.{statement}
 use Rattle.vault.proofs.rearrange.Tie as tie
 
-columns-refusal-requires : tie.Need-columns-refusal-requires
-columns-refusal-requires c κs = search needs
-
 returns : tie.Need-returns
 returns c = rearranged-refused _ _ _ _ _ (c .before .columns-refusal .ensures) (c .if1 .taken)
 
@@ -27,4 +24,4 @@ returns-2 c = all-written _ _ _ (sym (c .before .before .before .before .before 
 pub rearrange-spec : {M : Type 1} → statement M
 rearrange-spec =
     tie.close
-    (tie.spec columns-refusal-requires returns div-rows rearrange-rows-requires same-length returns-2)
+    (tie.spec (λ c κs. search needs) returns div-rows rearrange-rows-requires same-length returns-2)

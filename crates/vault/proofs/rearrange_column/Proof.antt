@@ -8,9 +8,6 @@ use Rattle.vault.proofs.rearrange_column.Tie as tie
 sum-column-requires : tie.Need-sum-column-requires
 sum-column-requires c κs = let p = c .before .before .before .before .pre in let a = c .before .before .before .before .args in (p .0, p .1, p .2, asked-begun (a .back) true (c .before .if1 .taken) (a .width) (a .rows) (a .cells .now) (a .output .now) (a .start) (p .3))
 
-difference-column-requires : tie.Need-difference-column-requires
-difference-column-requires c κs = search needs
-
 same-length : tie.Need-same-length
 same-length c = c .before .before .sum-column .ensures .same
 
@@ -26,10 +23,4 @@ returns-2 c = let a = c .before .before .before .before .before .before .before 
 pub rearrange-column-spec : {M : Type 1} → statement M
 rearrange-column-spec =
     tie.close
-    (tie.spec
-    sum-column-requires
-    difference-column-requires
-    same-length
-    returns
-    same-length-2
-    returns-2)
+    (tie.spec sum-column-requires (λ c κs. search needs) same-length returns same-length-2 returns-2)

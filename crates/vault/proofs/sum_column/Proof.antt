@@ -31,9 +31,6 @@ mul-wrapping-add-u32 c = let p = c .before .before .before .before .before .befo
 shared-slice-read-wrapping-add-u32 : tie.Need-shared-slice-read-wrapping-add-u32 Inv-loop μ-loop
 shared-slice-read-wrapping-add-u32 c = let p = c .before .before .before .before .before .before .before .pre in to-inside (p .0) (p .1) (c .before .loop-test .taken) (p .2)
 
-wrapping-add-u32-requires : tie.Need-wrapping-add-u32-requires Inv-loop μ-loop
-wrapping-add-u32-requires c κs = search needs
-
 mul-output : tie.Need-mul-output Inv-loop μ-loop
 mul-output c = let p = c .before .before .before .before .before .before .before .before .pre in omega (arith, from-inside (p .0) (p .1) (c .before .before .loop-test .taken) (p .2), p .0 .room, c .before .before .before .loop .inv .filled .same)
 
@@ -65,21 +62,6 @@ pub sum-column-spec : {M : Type 1} → statement M
 sum-column-spec =
     tie.close
     (tie.spec
-    Inv-loop
-    μ-loop
-    mul-base
-    cell-above-requires
-    loop-holds
-    add-wrapping-add-u32
-    mul-wrapping-add-u32
-    shared-slice-read-wrapping-add-u32
-    wrapping-add-u32-requires
-    mul-output
-    add-output
-    mul-output-2
-    slice-write-output
-    add-row
-    loop-less
-    loop-again
-    same-length
-    returns)
+    Inv-loop μ-loop mul-base cell-above-requires loop-holds add-wrapping-add-u32 mul-wrapping-add-u32
+    shared-slice-read-wrapping-add-u32 (λ c κs. search needs) mul-output add-output mul-output-2 slice-write-output
+    add-row loop-less loop-again same-length returns)

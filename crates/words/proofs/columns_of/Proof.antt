@@ -1,5 +1,4 @@
 -- `words::columns_of` meets its contract. Assumes nothing.
-use native.Mathlib.Omega.{arith}
 use borrow.Author.Tests.{le-leb, lt-leb}
 use Rattle.words.specs.Words.{columnsIn}
 use Rattle.words.proofs.columns_of.Statement.{statement}
