@@ -16,6 +16,7 @@ use Rattle.lists.specs.Laws.Keep.{length-keep}
 use Rattle.lists.specs.Laws.Rows.{row-in}
 use Rattle.cells.specs.Cells.{isDead}
 use Rattle.constraints.specs.Constraints.{isLive}
+use Rattle.constraints.specs.Laws.Rows.{live-first}
 use Rattle.sort_entries.specs.Entries.{Entry, entryWords, push, pushAll, rebuilt}
 use Rattle.sort_entries.specs.inner.Append.{Append}
 use Rattle.sort_entries.specs.Laws.Push.{push-few}
@@ -30,7 +31,7 @@ use Rattle.key_index.specs.Laws.Places.{Inside, row-inside, fits-stores}
 use Rattle.key_index.specs.Laws.Rooms.{room-most, fits-room}
 use Rattle.key_growth.specs.inner.Growth.{Rebuilt}
 use Rattle.renumbering.specs.inner.Renumbering.{renumbered, Ranked}
-use Rattle.renumbering.specs.Laws.Renumbering.{live-first, below-number, live-among}
+use Rattle.renumbering.specs.Laws.Renumbering.{below-number, live-among}
 use Rattle.refusals.specs.Laws.Replies.{verdict-refused, verdict-accepted}
 use Rattle.table.specs.declared.Header.{Header}
 use Rattle.table.specs.declared.TableAnswer.the-variants.{Refused as TableRefused, Table}

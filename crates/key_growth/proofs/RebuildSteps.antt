@@ -3,13 +3,12 @@ use Prim.Native.Nat.{ℕ, _+_, _*_, _≤_, _<_}
 use mathlib.Core.Path.{_≡_, refl, ap, sym, _∙_}
 use mathlib.Core.Bool.{Bool, true, false, not, false≢true}
 use mathlib.Core.List.{List}
-use native.Mathlib.Nat.{add-zero}
 use native.Mathlib.Omega.{arith}
 use lib.ListN.{length, getD, drop}
 use Rattle.lists.specs.Lists.{rowAt}
-use Rattle.lists.specs.Laws.Rows.{getD-rowAt}
 use Rattle.cells.specs.Cells.{isDead, compact, keyHash}
 use Rattle.constraints.specs.Constraints.{isLive}
+use Rattle.constraints.specs.Laws.Rows.{live-first}
 use Rattle.key_index.specs.declared.Keyed.{Keyed}
 use Rattle.key_index.specs.Slots.{keyAt, slots, KeysSound}
 use Rattle.key_index.specs.inner.Index.{Fits, PutIs, EmptyIs}
@@ -19,14 +18,13 @@ use Rattle.key_index.specs.Laws.Rows.{grown-rows}
 use Rattle.key_growth.specs.inner.Growth.{firstRows, RowPut, Rebuilt}
 
 module _ (t : Keyed) (rows store : List ℕ) (row : ℕ) (f : Fits t rows store) (h : row < t .rows) where
-  first-cell : isLive (rowAt (t .columns) row rows) ≡ not (isDead (getD rows (row * t .columns) 0))
-  unfolding isLive
-  first-cell = ap (λ (x : ℕ). not (isDead x)) (rw add-zero at (getD-rowAt (t .columns) row rows 0 0 (omega (arith, f .some-columns))))
+  by-first : isLive (rowAt (t .columns) row rows) ≡ not (isDead (getD rows (row * t .columns) 0))
+  by-first = live-first (t .columns) row rows (f .some-columns)
 
   -- a dead row
   pub row-dead : isDead (getD rows (row * t .columns) 0) ≡ true → RowPut t rows store row store
   row-dead e =
-      let dead : isLive (rowAt (t .columns) row rows) ≡ false = first-cell ∙ ap not e in
+      let dead : isLive (rowAt (t .columns) row rows) ≡ false = by-first ∙ ap not e in
       record {
         sound = λ s. keys-same (firstRows t row) (firstRows t (row + 1)) rows rows store s (record {
           room = refl;
@@ -44,7 +42,7 @@ module _ (t : Keyed) (rows store : List ℕ) (row : ℕ) (f : Fits t rows store)
       let before : Fits (firstRows t row) rows store = fits-room t (firstRows t row) rows store f refl refl (f .some) (omega (arith, f .count)) (omega arith) in
       record {
         sound = λ s. put-sound (firstRows t row) (firstRows t (row + 1)) rows rows store store′ hash r before s
-            (grown-rows (firstRows t row) (firstRows t (row + 1)) rows rows (record { columns = refl; keys = refl; room = refl; count = refl }) (omega (arith, f .count)) (λ i k. refl) (first-cell ∙ ap not e))
+            (grown-rows (firstRows t row) (firstRows t (row + 1)) rows rows (record { columns = refl; keys = refl; room = refl; count = refl }) (omega (arith, f .count)) (λ i k. refl) (by-first ∙ ap not e))
             hash-is put;
         rest = put .tail;
       }

@@ -8,12 +8,12 @@ use mathlib.Core.List.{List}
 use native.Mathlib.Nat.{add-zero}
 use native.Mathlib.Omega.{arith}
 use lib.Dec.{eqb}
-use lib.ListN.{length, getD}
+use lib.ListN.{length}
 use borrow.Author.Tests.{eqb-true, eqb-false, eq-eqb, ne-eqb, not-true, not-false}
 use Rattle.lists.specs.Laws.Keep.{split}
-use Rattle.lists.specs.Laws.Rows.{row-in, getD-rowAt}
-use Rattle.cells.specs.Cells.{isDead, compact, keyHash}
-use Rattle.constraints.specs.Constraints.{isLive}
+use Rattle.lists.specs.Laws.Rows.{row-in}
+use Rattle.cells.specs.Cells.{compact, keyHash}
+use Rattle.constraints.specs.Laws.Rows.{live-first}
 use Rattle.row_buffer.specs.inner.Rows.{Staled}
 use Rattle.key_index.specs.declared.Keyed.{Keyed}
 use Rattle.key_index.specs.declared.Found.{Found}
@@ -46,15 +46,10 @@ first-cell t rows keys row f h =
 
 pub killed : (t : Keyed) (rows keys : List ℕ) (row slot : ℕ) (was : Bool) (rows′ keys′ : List ℕ) → Fits t rows keys
     → TakenOut t rows keys slot keys′ → Staled rows (row * t .columns) was rows′ → Kills t rows keys row slot (not was) rows′ keys′
-unfolding isLive
 killed t rows keys row slot was rows′ keys′ f taken staled =
     record {
       marks = staled .cells;
-      was-live =
-          let some : 0 < t .columns = omega (arith, f .some-columns) in
-          ap not
-          (staled .before
-          ∙ ap isDead (ap (λ (at : ℕ). getD rows at 0) (sym (add-zero (row * t .columns))) ∙ sym (getD-rowAt (t .columns) row rows 0 0 some)));
+      was-live = ap not (staled .before) ∙ sym (live-first (t .columns) row rows (f .some-columns));
       past = taken .rest;
       keyed = λ sound live word. rw (staled .cells) (taken .sound sound row live word);
     }

@@ -4,18 +4,19 @@ use mathlib.Core.Path.{_≡_, refl, sym, ap, _∙_}
 use mathlib.Core.Logic.{inl, inr}
 use mathlib.Core.Bool.{Bool, true, false, _&&_}
 use mathlib.Core.List.{List, [], _∷_}
-use native.Mathlib.Nat.{add-zero, sub-zero}
+use native.Mathlib.Nat.{sub-zero}
 use native.Mathlib.Numerals.{add-one}
 use native.Mathlib.Omega.{arith}
 use lib.ListN.{length, drop, getD, length-drop, drop-of-length-le}
 use lib.Seq.{drop-cons}
 use lib.Dec.{eqb, ltb}
 use borrow.Author.Tests.{ltb-true, ltb-false, le-leb, lt-leb}
-use Rattle.lists.specs.Lists.{every, countFrom, rowAt}
+use Rattle.lists.specs.Lists.{every, countFrom}
 use Rattle.lists.specs.Laws.Keep.{split}
 use Rattle.lists.specs.Laws.Rows.{getD-rowAt}
 use Rattle.cells.specs.Cells.{isDead}
 use Rattle.constraints.specs.Constraints.{isLive}
+use Rattle.constraints.specs.Laws.Rows.{first-cell}
 use Rattle.sort_entries.specs.Entries.{Entry, entry, entriesOf, firstRow, valueAt, entriesSound}
 use Rattle.sort_entries.specs.Laws.Stores.{length-entriesOf}
 use Rattle.sort_entries.specs.Laws.Sound.{valueOf, entryRow, value-word, row-word, sound-first, sound-facts, sound-of}
@@ -200,18 +201,15 @@ value-past store n k h =
 -- ---- one row
 
 module _ (store : List ℕ) (columns sort row value : ℕ) where
-  first-cell : 0 < columns → getD (rowAt columns row store) 0 0 ≡ getD store (row * columns) 0
-  first-cell h = getD-rowAt columns row store 0 0 h ∙ rw add-zero
-
   pub dead-row : 0 < columns → isDead (getD store (row * columns) 0) ≡ true → true ≡ cellSound store columns sort row value
   unfolding cellSound isLive
-  dead-row h e = rw (first-cell h, e)
+  dead-row h e = rw (first-cell columns row store h, e)
 
   pub live-row : sort < columns → isDead (getD store (row * columns) 0) ≡ false → eqb (getD store (row * columns + sort) 0) value ≡ cellSound store columns sort row value
   unfolding cellSound isLive
   live-row h e =
       let k : 0 < columns = omega arith in
-      rw (first-cell k, e, getD-rowAt columns row store sort 0 h)
+      rw (first-cell columns row store k, e, getD-rowAt columns row store sort 0 h)
 
 -- ---- all rows
 

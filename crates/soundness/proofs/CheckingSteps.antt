@@ -16,9 +16,10 @@ use Rattle.refusals.specs.Refusals.{reply, verdict}
 use Rattle.refusals.specs.Laws.Replies.{verdict-refused}
 use Rattle.lists.specs.Lists.{every, count, rowAt, rowsOf}
 use Rattle.lists.specs.Laws.Keep.{count-append, count-le}
-use Rattle.lists.specs.Laws.Rows.{length-rowsOf, rowsOf-snoc, getD-rowAt}
+use Rattle.lists.specs.Laws.Rows.{length-rowsOf, rowsOf-snoc}
 use Rattle.cells.specs.Cells.{isDead, compact, keyHash}
 use Rattle.constraints.specs.Constraints.{isLive}
+use Rattle.constraints.specs.Laws.Rows.{live-first}
 use Rattle.key_index.specs.Laws.Places.{key-part}
 use Rattle.key_index.specs.declared.Keyed.{Keyed}
 use Rattle.key_index.specs.declared.Found.{Found}
@@ -45,11 +46,6 @@ use Rattle.soundness.specs.Laws.Checks.{parts-sound, sound-rows, sound-i
 
 -- ---- rows
 
--- a row's first cell
-first-dead : (w i : ℕ) (rows : List ℕ) → 0 < w → isLive (rowAt w i rows) ≡ not (isDead (getD rows (i * w) 0))
-unfolding isLive
-first-dead w i rows h = ap (λ (x : ℕ). not (isDead x)) (getD-rowAt w i rows 0 0 h ∙ rw add-zero)
-
 abbrev pub deadAmong : ℕ → ℕ → List ℕ → ℕ
 deadAmong w n rows = count (λ row. not (isLive row)) (rowsOf w n rows)
 
@@ -60,11 +56,11 @@ module _ (w n : ℕ) (rows : List ℕ) where
   -- one row more, dead or live
   pub dead-more : 0 < w → isDead (getD rows (n * w) 0) ≡ true → deadAmong w (n + 1) rows ≡ deadAmong w n rows + 1
   unfolding count
-  dead-more h e = dead-next ∙ rw (first-dead w n rows h, e)
+  dead-more h e = dead-next ∙ rw (live-first w n rows h, e)
 
   pub dead-same : 0 < w → isDead (getD rows (n * w) 0) ≡ false → deadAmong w (n + 1) rows ≡ deadAmong w n rows
   unfolding count
-  dead-same h e = dead-next ∙ rw (first-dead w n rows h, e, add-zero)
+  dead-same h e = dead-next ∙ rw (live-first w n rows h, e, add-zero)
 
   pub dead-few : deadAmong w n rows ≤ n
   dead-few = omega (arith, count-le (λ row. not (isLive row)) (rowsOf w n rows), length-rowsOf w n rows)
@@ -137,11 +133,11 @@ module _ (t : Keyed) (rows keys : List ℕ) (row : ℕ) (fits : Fits t rows keys
   lent = take (row * t .columns + t .keys - row * t .columns) (drop (row * t .columns) rows)
 
   pub itself-dead : isDead (getD rows (row * t .columns) 0) ≡ true → OwnIs t rows keys row true
-  itself-dead e = own-dead t rows keys row (first-dead (t .columns) row rows (fits .some-columns) ∙ ap not e)
+  itself-dead e = own-dead t rows keys row (live-first (t .columns) row rows (fits .some-columns) ∙ ap not e)
 
   module _ (first : isDead (getD rows (row * t .columns) 0) ≡ false) (hash : ℕ) (r : Found) (h : hash ≡ compact (keyHash lent)) (f : FoundIs t rows keys lent hash r) where
     live : LiveAt t rows row
-    live = (below, first-dead (t .columns) row rows (fits .some-columns) ∙ ap not first)
+    live = (below, live-first (t .columns) row rows (fits .some-columns) ∙ ap not first)
 
     found : FoundIs t rows keys (keyAt t rows row) (compact (keyHash (keyAt t rows row))) r
     found = rw (← key-part t rows row (fits .most-keys), ← h) f

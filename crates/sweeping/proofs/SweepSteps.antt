@@ -2,10 +2,9 @@
 use Prim.Native.Nat.{ℕ, _+_, _-_, _*_, _≤_, _<_}
 use mathlib.Core.Path.{_≡_, refl, sym, ap, ap₂, subst, _∙_}
 use mathlib.Core.Logic.{inl, inr}
-use mathlib.Core.Bool.{Bool, true, false, not, and-true, and-false, false≢true}
+use mathlib.Core.Bool.{Bool, true, false, and-true, and-false, false≢true}
 use mathlib.Core.List.{List, [], _∷_, _++_, append-assoc, append-nil}
 use native.Mathlib.Decide.{ℕ-discrete}
-use native.Mathlib.Nat.{add-zero}
 use native.Mathlib.Omega.{arith}
 use lib.ListN.{length, take, drop, getD}
 use borrow.Author.Tests.{ltb-false}
@@ -13,8 +12,7 @@ use Rattle.lists.specs.Lists.{putAt, keep, count, every, countFrom, rising, row
 use Rattle.lists.specs.Laws.Keep.{split, keep-append}
 use Rattle.lists.specs.Laws.Parts.{part-width}
 use Rattle.lists.specs.Laws.Rising.{rising-keep, rising-take, rising-drop}
-use Rattle.lists.specs.Laws.Rows.{row-in, getD-rowAt}
-use Rattle.cells.specs.Cells.{isDead}
+use Rattle.lists.specs.Laws.Rows.{row-in}
 use Rattle.offsets.specs.declared.SubsetHead.{SubsetHead}
 use Rattle.retain.specs.declared.Growing.{Growing}
 use Rattle.offsets.specs.Subsets.{Subset, range, list, members, size, endOf}
@@ -25,8 +23,7 @@ use Rattle.offsets.specs.Laws.Forms.{size-range, end-range, getD-range, size-li
 use Rattle.constraints.specs.declared.Constraint.{Constraint}
 use Rattle.constraints.specs.Constraints.{isLive, met, meets}
 use Rattle.table.specs.declared.Header.{Header}
-use Rattle.table.specs.Refusing.{rowsShort}
-use Rattle.table.specs.Laws.Refusals.{outside-inside}
+use Rattle.table.specs.Laws.Refusals.{rows-long-of, outside-inside}
 use Rattle.sweeping.specs.declared.Sweep.{Sweep}
 use Rattle.queries.specs.Queries.{matches, pastRows, deadAmong, visited}
 use Rattle.sweeping.specs.inner.Sweeping.{RowLies, upTo, places, sweptIds, Sweepable, Swept, Keeps, CanMove, Moves, CanStep, SweepSteps, Finished, CanWrite, Writes}
@@ -68,15 +65,6 @@ pub row-part : (columns id : ℕ) (rows : List ℕ) → take (id * columns + col
 unfolding rowAt
 row-part columns id rows = part-width rows (id * columns) columns
 
--- the first cell says whether the row is live
-pub live-first : (columns id : ℕ) (rows : List ℕ) → 0 < columns → not (isDead (getD rows (id * columns) 0)) ≡ isLive (rowAt columns id rows)
-unfolding isLive
-live-first columns id rows h = rw (getD-rowAt columns id rows 0 0 h, add-zero (id * columns)) refl
-
-long-of : (h : Header) (rows : ℕ) → rowsShort h rows ≡ false → h .capacity * h .columns ≤ rows
-unfolding rowsShort
-long-of h rows e = ltb-false _ _ e
-
 below-of : (h : Header) (subset : Subset) → pastRows h subset ≡ false → endOf subset ≤ h .rows
 unfolding pastRows
 below-of h subset e = ltb-false _ _ e
@@ -97,7 +85,7 @@ module _ (h : Header) (rows : ℕ) (subset : Subset) (a : Askable h rows subset)
     id-lies =
         let i = outside-inside h (a .inside) in
         let r = row-in id-of (h .capacity) (h .columns) (omega (arith, id-below, i .rows-fit)) in
-        (omega (arith, i .bounds .columns-some), omega (arith, long-of h rows (a .long)))
+        (omega (arith, i .bounds .columns-some), omega (arith, rows-long-of h rows (a .long)))
 
 pub size-few : (h : Header) (rows : ℕ) (subset : Subset) → Askable h rows subset → size subset ≤ 65536
 size-few h rows (range a b) q =

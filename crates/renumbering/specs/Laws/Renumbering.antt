@@ -2,9 +2,8 @@
 -- compaction gives are such. Assumes nothing.
 use Prim.Native.Nat.{ℕ, _+_, _-_, _*_, _/_, _%_, _^_, _≤_, _<_}
 use mathlib.Core.Path.{_≡_, sym, ap, _∙_}
-use mathlib.Core.Bool.{true, false, not}
+use mathlib.Core.Bool.{true, false}
 use mathlib.Core.List.{List, []}
-use native.Mathlib.Nat.{add-zero}
 use native.Mathlib.Decide.{decLt, ℕ-discrete}
 use native.Mathlib.Omega.{arith}
 use lib.ListN.{length, getD}
@@ -12,9 +11,8 @@ use borrow.Author.Tests.{le-leb}
 use Rattle.lists.specs.Lists.{count, rowAt, rowsOf}
 use Rattle.lists.specs.inner.Searching.{mapFront}
 use Rattle.lists.specs.Laws.Keep.{count-le}
-use Rattle.lists.specs.Laws.Rows.{length-rowsOf, getD-rowsOf, getD-rowAt, rowsOf-take}
+use Rattle.lists.specs.Laws.Rows.{length-rowsOf, getD-rowsOf, rowsOf-take}
 use Rattle.lists.specs.Laws.Front.{getD-mapFront, drop-mapFront}
-use Rattle.cells.specs.Cells.{isDead}
 use Rattle.constraints.specs.Constraints.{isLive}
 use Rattle.row_buffer.specs.Ranks.{liveAt, newNumber}
 use Rattle.row_buffer.specs.Laws.Rows.{liveAt-in, number-live, number-dead, number-rises, number-back}
@@ -118,11 +116,6 @@ module _ (t : Keyed) (rows : List ℕ) (t′ : Keyed) (rows′ store : List ℕ)
         }
 
 -- ---- the numbers that a compaction gives
-
--- a row is live by its first cell
-pub live-first : (w i : ℕ) (rows : List ℕ) → 0 < w → isLive (rowAt w i rows) ≡ not (isDead (getD rows (i * w) 0))
-unfolding isLive
-live-first w i rows h = ap (λ (cell : ℕ). not (isDead cell)) (getD-rowAt w i rows 0 0 h ∙ ap (λ (k : ℕ). getD rows k 0) (add-zero (i * w)))
 
 module _ (t : Keyed) (rows : List ℕ) where
   pub live-few : (n : ℕ) → liveBelow t rows n ≤ n

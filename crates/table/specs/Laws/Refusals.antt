@@ -72,7 +72,7 @@ words-long o l e =
       base-long = ltb-false _ _ (or-no-right (ltb (l .liveWords) ((o .capacity + 63) / 64)) _ e);
     }
 
-rows-long-of : (h : Header) (rows : ℕ) → rowsShort h rows ≡ false → h .capacity * h .columns ≤ rows
+pub rows-long-of : (h : Header) (rows : ℕ) → rowsShort h rows ≡ false → h .capacity * h .columns ≤ rows
 unfolding rowsShort
 rows-long-of h rows e = ltb-false _ _ e
 
