@@ -4,7 +4,7 @@ use mathlib.Core.Path.{_≡_, refl, _∙_}
 use mathlib.Core.Bool.{true}
 use mathlib.Core.List.{List, []}
 use lib.ListN.{length}
-use Rattle.refusals.specs.Refusals.{Reply, refused, accepted, reply, first, verdict}
+use Rattle.refusals.specs.Refusals.{reply, first, verdict}
 use Rattle.plain.specs.Staged.{Staged}
 use Rattle.plain.specs.Refusing.{Lengths, stageLadder, mergeLadder, compactLadder, clearLadder, storesShort, wordsShort}
 use Rattle.plain.specs.Plain.{Plain}
@@ -24,14 +24,6 @@ use Rattle.levels_said.specs.inner.Saying.{textOf, saidOf, saysNothing, 
 use Rattle.levels_said.specs.Laws.Turns.{said-refused, said-accepted, nothing-said, told-table, Does, calls-refused, calls-done}
 
 -- ---- the header after a call
-
-pub header-refused : (h : Header) (r : Reply Header) (n : ℕ) → r ≡ refused n → headerAfter h r ≡ h
-unfolding headerAfter
-header-refused h r n e = rw e
-
-pub header-accepted : (h : Header) (r : Reply Header) (h′ : Header) → r ≡ accepted h′ → headerAfter h r ≡ h′
-unfolding headerAfter
-header-accepted h r h′ e = rw e
 
 pub reply-ruled : {A : Type 0} (n : ℕ) (a : A) → verdict (reply n a) ≡ reply n tt
 unfolding verdict reply

@@ -17,14 +17,14 @@ use Rattle.table.specs.Numbers.{tableSays}
 use Rattle.table.specs.Stores.{headerOf}
 use Rattle.table.specs.Promises.{Stores, stores, body, lengths, headerAfter, Opened}
 use Rattle.table.specs.Laws.Replies.{reply-accepted}
-use Rattle.table.specs.Laws.Keeps.{opening-done}
+use Rattle.table.specs.Laws.Keeps.{after-refused, after-accepted, opening-done}
 use Rattle.levels_said.specs.declared.Said.the-variants.{Refused}
 use Rattle.levels_said.specs.declared.Served.{Served}
 use Rattle.levels_said.specs.Said.{printing, replied, openNumber, opens}
 use Rattle.levels_said.specs.Answers.{Held, lent}
 use Rattle.levels_said.specs.inner.Saying.{saidOf, saysNothing, Taken, Told}
 use Rattle.levels_said.specs.Laws.Turns.{said-refused, nothing-said, told-refused, told-table}
-use Rattle.levels_said.specs.Laws.Calls.{reply-ruled, header-refused, header-accepted}
+use Rattle.levels_said.specs.Laws.Calls.{reply-ruled}
 
 number-small : (l : Lengths) (o : Opening) → o .capacity ≤ 1024 → openNumber l o ≡ openRefusal o l
 unfolding openNumber
@@ -61,10 +61,10 @@ module _ {o : Opening} {generation : ℕ} {h : Header} {rows keys sorts pending 
       elim (some-number n) [
         | inl zero ↦
             let a : tableSays answer ≡ accepted (headerOf (opened o generation)) = m .answers ∙ reply-accepted n _ zero in
-            let same : r .header ≡ headerOf (opened o generation) = k .header-same ∙ header-accepted h (tableSays answer) _ a in
+            let same : r .header ≡ headerOf (opened o generation) = k .header-same ∙ after-accepted h (tableSays answer) _ a in
             rw (opens-done l t o generation n number zero, k .said-same)
             (told-table (nothing-said (r .header) rows (tableSays answer) n ruled zero) (rw same (opening-done m (headerOf (opened o generation)) a)))
         | inr more ↦
-            rw (opens-refused l t o generation n number more, k .said-same, said-refused saysNothing (tableSays answer) n ruled more, k .header-same, header-refused h (tableSays answer) n (ruled-refused (tableSays answer) n ruled more), m .unchanged more)
+            rw (opens-refused l t o generation n number more, k .said-same, said-refused saysNothing (tableSays answer) n ruled more, k .header-same, after-refused h (tableSays answer) n (ruled-refused (tableSays answer) n ruled more), m .unchanged more)
             (told-refused n held more)
       ]

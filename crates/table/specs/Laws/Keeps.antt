@@ -31,11 +31,11 @@ use Rattle.table.specs.Laws.Sound.{represents-sound, sound-represents}
 -- ---- what each call leaves, of the plain table that the stores show
 
 -- the header after a refused call, and after an accepted one
-after-refused : (h : Header) (r : Reply Header) (n : ℕ) → r ≡ refused n → headerAfter h r ≡ h
+pub after-refused : (h : Header) (r : Reply Header) (n : ℕ) → r ≡ refused n → headerAfter h r ≡ h
 unfolding headerAfter
 after-refused h r n e = rw e
 
-after-accepted : (h : Header) (r : Reply Header) (h′ : Header) → r ≡ accepted h′ → headerAfter h r ≡ h′
+pub after-accepted : (h : Header) (r : Reply Header) (h′ : Header) → r ≡ accepted h′ → headerAfter h r ≡ h′
 unfolding headerAfter
 after-accepted h r h′ e = rw e
 
