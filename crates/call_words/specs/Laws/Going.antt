@@ -2,16 +2,14 @@
 use Prim.Native.Nat.{_≤_}
 use mathlib.Core.Path.{_≡_, refl, _∙_}
 use mathlib.Core.Logic.{inl, inr}
-use mathlib.Core.List.{List, [], _∷_}
-use native.Mathlib.Decide.{ℕ-discrete}
+use mathlib.Core.List.{List}
 use native.Mathlib.Omega.{arith}
 use lib.Dec.{ltb}
 use lib.ListN.{length}
 use Rattle.lists.specs.Laws.Keep.{split}
-use Rattle.plain.specs.Refusing.{Lengths}
 use Rattle.plain.specs.Plain.{Plain, stage, applied, compacted, unstaged, compactsAfter, merged, cleared, opened}
-use Rattle.plain.specs.Calls.{Call, staging, merging, compacting, clearing, refusal, done, after, LentCall, afterAll}
-use Rattle.plain.specs.Laws.Calls.{refused-nothing, accepted-done}
+use Rattle.plain.specs.Calls.{Call, staging, merging, compacting, clearing, done, LentCall, afterAll}
+use Rattle.plain.specs.Laws.Calls.{leads-all}
 use Rattle.plain.specs.Laws.Counts.{applied-alike}
 
 pub record Onward (p q : Plain) : Type 0 where
@@ -46,14 +44,5 @@ onward-done p compacting = onward-compacted p
 onward-done p clearing =
     elim (split (ltb 0 (length (p .rows)))) [ inl e ↦ rw e (record { opening = refl; generation = omega arith }) | inr e ↦ rw e (onward-unstaged p) ]
 
-onward-after : (p : Plain) (l : Lengths) (c : Call) → Onward p (after p l c)
-onward-after p l c =
-    elim (ℕ-discrete (refusal p l c) 0) [
-      | yes e ↦ rw (accepted-done p l c e) (onward-done p c)
-      | no e ↦ rw (refused-nothing p l c (omega arith)) (onward-same p)
-    ]
-
 pub onward-all : (p : Plain) (cs : List LentCall) → Onward p (afterAll p cs)
-unfolding afterAll
-onward-all p [] = onward-same p
-onward-all p (c ∷ cs) = onward-then (onward-after p (c .lengths) (c .call)) (onward-all (after p (c .lengths) (c .call)) cs)
+onward-all = leads-all Onward onward-same (λ p q r a b. onward-then a b) onward-done

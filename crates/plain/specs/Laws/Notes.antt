@@ -4,7 +4,6 @@ use mathlib.Core.Path.{_≡_, refl, sym, ap, _∙_}
 use mathlib.Core.Logic.{inl, inr}
 use mathlib.Core.Bool.{Bool, true, false, false≢true}
 use mathlib.Core.List.{List, [], _∷_, _++_}
-use native.Mathlib.Decide.{ℕ-discrete}
 use native.Mathlib.Nat.{add-zero}
 use native.Mathlib.Omega.{arith}
 use lib.Dec.{ltb}
@@ -12,11 +11,10 @@ use lib.ListN.{length, drop, getD}
 use Rattle.lists.specs.Lists.{keep}
 use Rattle.lists.specs.Laws.Keep.{split}
 use Rattle.plain.specs.Staged.{inserts}
-use Rattle.plain.specs.Refusing.{Lengths}
 use Rattle.plain.specs.Plain.{Row, deadRow, Plain, liveFrom, stage, liveWithKey, killIf, dies, removed, insertAll, applied, compacted, unstaged, compactsAfter, merged, cleared, opened}
-use Rattle.plain.specs.Calls.{Call, staging, merging, compacting, clearing, refusal, done, after, LentCall, afterAll}
+use Rattle.plain.specs.Calls.{Call, staging, merging, compacting, clearing, done, LentCall, afterAll}
 use Rattle.plain.specs.Laws.Rows.{noRow}
-use Rattle.plain.specs.Laws.Calls.{refused-nothing, accepted-done}
+use Rattle.plain.specs.Laws.Calls.{leads-all}
 use Rattle.plain.specs.Laws.Counts.{Appended, new, again, insertion-appended, removed-keeps, every-true, insertAll-keeps, applied-alike}
 
 -- the second list is the first, some rows dead and others behind them
@@ -120,17 +118,8 @@ onward-done p merging = onward-merged p
 onward-done p compacting = onward-compacted p
 onward-done p clearing = onward-cleared p
 
-onward-after : (p : Plain) (l : Lengths) (c : Call) → Onward p (after p l c)
-onward-after p l c =
-    elim (ℕ-discrete (refusal p l c) 0) [
-      | yes e ↦ rw (accepted-done p l c e) (onward-done p c)
-      | no e ↦ rw (refused-nothing p l c (omega arith)) (onward-same p)
-    ]
-
 onward-all : (p : Plain) (cs : List LentCall) → Onward p (afterAll p cs)
-unfolding afterAll
-onward-all p [] = onward-same p
-onward-all p (c ∷ cs) = onward-then (onward-after p (c .lengths) (c .call)) (onward-all (after p (c .lengths) (c .call)) cs)
+onward-all = leads-all Onward onward-same (λ p q r a b. onward-then a b) onward-done
 
 -- calls that leave the generation as it was, refused and stopped ones and clears of an empty table among them
 pub calls-follow : (p : Plain) (cs : List LentCall) → afterAll p cs .generation ≡ p .generation → Follows (p .rows) (afterAll p cs .rows)
