@@ -5,9 +5,6 @@ use borrow.Author.Needs.{needs}
 use Rattle.insertions.proofs.first_place.Statement.{statement}
 use Rattle.insertions.proofs.first_place.Tie as tie
 
-record-length-requires : tie.Need-record-length-requires
-record-length-requires c κs = search needs
-
 returns : tie.Need-returns
 returns c = first-here
 
@@ -19,19 +16,10 @@ shared-slice-read-if2 c =
 returns-2 : tie.Need-returns-2
 returns-2 c = first-here
 
-next-record-requires : tie.Need-next-record-requires
-next-record-requires c κs = search needs
-
 returns-3 : tie.Need-returns-3
 returns-3 c = first-later (c .before .before .before .before .record-length .ensures) (c .before .before .before .if1 .left) (c .before .if2 .left) (c .next-record .ensures)
 
 pub first-place-spec : {M : Type 1} → statement M
 first-place-spec =
     tie.close
-    (tie.spec
-    record-length-requires
-    returns
-    shared-slice-read-if2
-    returns-2
-    next-record-requires
-    returns-3)
+    (tie.spec (λ c κs. search needs) returns shared-slice-read-if2 returns-2 (λ c κs. search needs) returns-3)

@@ -1,4 +1,4 @@
--- `merge::passes::insert_all` meets its contract. The loop's invariant: what all inserts come to is what those of the records
+-- `insertions::insert_all` meets its contract. The loop's invariant: what all inserts come to is what those of the records
 -- still to come do from here. Assumes nothing.
 use Prim.Native.Nat.{_-_}
 use native.Mathlib.Omega.{arith}
@@ -30,15 +30,6 @@ insert-next-requires c κs =
     let p = l .before .before .before .before .before .before .before .before .pre in
     let v = l .before .loop .inv in
     filling-requires p v (l .loop-test .taken)
-
-same-length : tie.Need-same-length Inv-loop μ-loop
-same-length c = search needs
-
-same-length-2 : tie.Need-same-length-2 Inv-loop μ-loop
-same-length-2 c = search needs
-
-same-length-3 : tie.Need-same-length-3 Inv-loop μ-loop
-same-length-3 c = search needs
 
 returns : tie.Need-returns Inv-loop μ-loop
 returns c =
@@ -87,21 +78,6 @@ pub insert-all-spec : {M : Type 1} → statement M
 insert-all-spec =
     tie.close
     (tie.spec
-    Inv-loop
-    μ-loop
-    first-place-requires
-    record-length-requires
-    loop-holds
-    insert-next-requires
-    same-length
-    same-length-2
-    same-length-3
-    returns
-    add-at
-    record-length-requires-2
-    loop-less
-    loop-again
-    same-length-4
-    same-length-5
-    same-length-6
-    returns-2)
+    Inv-loop μ-loop first-place-requires record-length-requires loop-holds insert-next-requires (λ c. search needs)
+    (λ c. search needs) (λ c. search needs) returns add-at record-length-requires-2 loop-less loop-again same-length-4
+    same-length-5 same-length-6 returns-2)

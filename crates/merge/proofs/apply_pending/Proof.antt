@@ -5,9 +5,6 @@ use Rattle.merge.proofs.MergingSteps.{second-ready, third-ready, passed
 use Rattle.merge.proofs.apply_pending.Statement.{statement}
 use Rattle.merge.proofs.apply_pending.Tie as tie
 
-remove-all-requires : tie.Need-remove-all-requires
-remove-all-requires c κs = search needs
-
 remove-all-requires-2 : tie.Need-remove-all-requires-2
 remove-all-requires-2 c κs =
     let s = c .before .before .before .before .before .before .before .before .before .before .before .before .before in
@@ -18,15 +15,6 @@ insert-all-requires c κs =
     let s = c .before .before .before .before .before .before .before .before .before .before .before .before .before .before .before .before .before .before .before .before .before in
     third-ready _ _ _ _ _ (s .pre .0) (s .pre .1) (omega arith) _ _ _ (c .before .before .before .before .before .before .before .before .before .before .before .before .before .before .remove-all .ensures) _ _ _ (c .before .before .before .before .before .before .before .remove-all2 .ensures) (omega arith) (omega arith)
 
-same-length : tie.Need-same-length
-same-length c = search needs
-
-same-length-2 : tie.Need-same-length-2
-same-length-2 c = search needs
-
-same-length-3 : tie.Need-same-length-3
-same-length-3 c = search needs
-
 returns : tie.Need-returns
 returns c =
     let s = c .before .before .before .before .before .before .before .before .before .before .before .before .before .before .before .before .before .before .before .before .before .before .before .before .before .before .before .before in
@@ -36,10 +24,5 @@ pub apply-pending-spec : {M : Type 1} → statement M
 apply-pending-spec =
     tie.close
     (tie.spec
-    remove-all-requires
-    remove-all-requires-2
-    insert-all-requires
-    same-length
-    same-length-2
-    same-length-3
-    returns)
+    (λ c κs. search needs) remove-all-requires-2 insert-all-requires (λ c. search needs) (λ c. search needs)
+    (λ c. search needs) returns)

@@ -10,9 +10,6 @@ use Rattle.merge.proofs.finish.Tie as tie
 returns : tie.Need-returns
 returns c = finish-stopped _ _ _ _ _ _ (c .if1 .taken)
 
-is-due-requires : tie.Need-is-due-requires
-is-due-requires c κs = search needs
-
 returns-2 : tie.Need-returns-2
 returns-2 c = finish-kept _ _ _ _ _ _ (c .before .before .if1 .left) (sym (c .before .is-due .ensures) ∙ not-true _ (c .if2 .taken))
 
@@ -20,21 +17,6 @@ compact-rows-requires : tie.Need-compact-rows-requires
 compact-rows-requires c κs =
     let s = c .before .before .before .before .before .before .before .before .before .before .before .before .before .before .before in
     (lendable-emptied (s .pre), due-left (s .args .m .header .dead) (s .args .m .header .rows) (s .args .m .header .generation) (sym (c .before .before .before .before .before .before .is-due .ensures) ∙ not-false _ (c .before .before .before .before .before .if2 .left)) (omega (arith, c .before .before .before .before .before .before .before .before .struct-known .given .0 .1 .1 .1 .1 .1 .1 .1 .1 .1 .0)))
-
-same-length : tie.Need-same-length
-same-length c = search needs
-
-same-length-2 : tie.Need-same-length-2
-same-length-2 c = search needs
-
-same-length-3 : tie.Need-same-length-3
-same-length-3 c = search needs
-
-same-length-4 : tie.Need-same-length-4
-same-length-4 c = search needs
-
-same-length-5 : tie.Need-same-length-5
-same-length-5 c = search needs
 
 returns-3 : tie.Need-returns-3
 returns-3 c =
@@ -44,13 +26,5 @@ pub finish-spec : {M : Type 1} → statement M
 finish-spec =
     tie.close
     (tie.spec
-    returns
-    is-due-requires
-    returns-2
-    compact-rows-requires
-    same-length
-    same-length-2
-    same-length-3
-    same-length-4
-    same-length-5
-    returns-3)
+    returns (λ c κs. search needs) returns-2 compact-rows-requires (λ c. search needs) (λ c. search needs)
+    (λ c. search needs) (λ c. search needs) (λ c. search needs) returns-3)
