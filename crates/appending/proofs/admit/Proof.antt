@@ -1,4 +1,4 @@
--- `admit` meets its contract: a stop, or the entries with the next row's. Assumes nothing.
+-- `appending::admit` meets its contract: a stop, or the entries with the next row's. Assumes nothing.
 use borrow.Author.Needs.{needs}
 use native.Mathlib.Omega.{arith}
 use mathlib.Core.Path.{refl, sym, _∙_}

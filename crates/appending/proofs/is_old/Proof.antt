@@ -1,4 +1,4 @@
--- `is_old` meets its contract. Assumes nothing.
+-- `appending::is_old` meets its contract. Assumes nothing.
 use borrow.Author.Needs.{needs}
 use Rattle.plain.specs.Plain.{below}
 use Rattle.table.specs.Numbers.{largestSays}

@@ -1,4 +1,4 @@
--- `is_outgrown` meets its contract. Assumes nothing.
+-- `appending::is_outgrown` meets its contract. Assumes nothing.
 use borrow.Author.Needs.{needs}
 use Rattle.appending.specs.inner.Appending.{outgrown}
 use Rattle.appending.proofs.is_outgrown.Statement.{statement}

@@ -1,4 +1,4 @@
--- `rebuild_grown` meets its contract. Assumes nothing.
+-- `appending::rebuild_grown` meets its contract. Assumes nothing.
 use mathlib.Core.Path.{ap}
 use borrow.Author.Needs.{needs}
 use Rattle.appending.specs.declared.Insertion.the-variants.{Appended}

@@ -1,4 +1,4 @@
--- `insert_known` meets its contract. Assumes nothing.
+-- `inserts::insert_known` meets its contract. Assumes nothing.
 use mathlib.Core.Path.{refl}
 use borrow.Author.Needs.{needs}
 use borrow.Author.Tests.{not-true, not-false}

@@ -1,4 +1,4 @@
--- `insert_row` meets its contract. Assumes nothing.
+-- `inserts::insert_row` meets its contract. Assumes nothing.
 use native.Mathlib.Omega.{arith}
 use borrow.Author.Needs.{needs}
 use Rattle.inserts.proofs.InsertSteps.{inserts-skipped, findable, growable, found-row, found-slot, inserts-new, inserts-known}

@@ -1,4 +1,4 @@
--- `make_row` meets its contract. Assumes nothing.
+-- `inserts::make_row` meets its contract. Assumes nothing.
 use native.Mathlib.Omega.{arith}
 use borrow.Author.Needs.{needs}
 use borrow.Author.Tests.{not-true, not-false}

@@ -1,4 +1,4 @@
--- `key_index::check::count_live` meets its contract. Assumes nothing.
+-- `key_check::count_live` meets its contract. Assumes nothing.
 use Prim.Native.Nat.{ℕ, _+_, _-_, _≤_}
 use mathlib.Core.Path.{_≡_, refl, sym, ap, _∙_}
 use native.Mathlib.Omega.{arith}

@@ -1,4 +1,4 @@
--- `key_index::check::free_slot` meets its contract. Assumes nothing.
+-- `key_check::free_slot` meets its contract. Assumes nothing.
 use Prim.Native.Nat.{ℕ, _-_, _≤_, _<_}
 use mathlib.Core.Path.{_≡_}
 use native.Mathlib.Omega.{arith}

@@ -1,4 +1,4 @@
--- `key_index::check::keys_sound` meets its contract. Assumes nothing.
+-- `key_check::keys_sound` meets its contract. Assumes nothing.
 use native.Mathlib.Omega.{arith}
 use borrow.Author.Needs.{needs}
 use Rattle.key_check.proofs.CheckSteps.{none-free, round-fits}

@@ -1,4 +1,4 @@
--- `key_index::check::round_holds` meets its contract. Assumes nothing.
+-- `key_check::round_holds` meets its contract. Assumes nothing.
 use Prim.Native.Nat.{_+_, _-_, _%_, _<_}
 use mathlib.Core.Path.{_≡_, refl}
 use native.Mathlib.Omega.{arith}

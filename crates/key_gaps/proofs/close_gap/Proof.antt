@@ -1,4 +1,4 @@
--- `key_index::gaps::close_gap` meets its contract. Assumes nothing.
+-- `key_gaps::close_gap` meets its contract. Assumes nothing.
 use mathlib.Core.Path.{sym, _∙_}
 use native.Mathlib.Omega.{arith}
 use borrow.Author.Needs.{needs}

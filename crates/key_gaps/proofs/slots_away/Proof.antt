@@ -1,4 +1,4 @@
--- `key_index::gaps::slots_away` meets its contract. Assumes nothing.
+-- `key_gaps::slots_away` meets its contract. Assumes nothing.
 use borrow.Author.Needs.{needs}
 use Rattle.key_gaps.proofs.GapSteps.{away-ahead, away-behind}
 use Rattle.key_gaps.proofs.slots_away.Statement.{statement}

@@ -1,4 +1,4 @@
--- `key_index::gaps::take_out` meets its contract. Assumes nothing.
+-- `key_gaps::take_out` meets its contract. Assumes nothing.
 use borrow.Author.Needs.{needs}
 use Rattle.key_gaps.proofs.GapSteps.{taken}
 use Rattle.key_gaps.proofs.take_out.Statement.{statement}

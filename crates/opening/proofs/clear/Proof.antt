@@ -1,4 +1,4 @@
--- `table::opening::clear` meets its contract. Assumes nothing.
+-- `opening::clear` meets its contract. Assumes nothing.
 use mathlib.Core.Path.{sym, _∙_}
 use native.Mathlib.Omega.{arith}
 use lib.ListN.{length}

@@ -1,4 +1,4 @@
--- `table::opening::open_table` meets its contract. Assumes nothing.
+-- `opening::open_table` meets its contract. Assumes nothing.
 use mathlib.Core.Path.{sym, _∙_}
 use mathlib.Core.List.{[]}
 use native.Mathlib.Omega.{arith}

@@ -1,4 +1,4 @@
--- `merge::passes::record_length` meets its contract. Assumes nothing.
+-- `pending::record_length` meets its contract. Assumes nothing.
 use mathlib.Core.Logic.{⊎-elim}
 use native.Mathlib.Omega.{arith}
 use lib.ListN.{getD}

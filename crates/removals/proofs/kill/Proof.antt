@@ -1,4 +1,4 @@
--- `merge::removals::kill` meets its contract. Assumes nothing.
+-- `removals::kill` meets its contract. Assumes nothing.
 use native.Mathlib.Omega.{arith}
 use borrow.Author.Needs.{needs}
 use Rattle.removals.proofs.RemovalSteps.{first-cell, killed}

@@ -1,4 +1,4 @@
--- `merge::passes::remove_next` meets its contract. Assumes nothing.
+-- `removals::remove_next` meets its contract. Assumes nothing.
 use mathlib.Core.Path.{sym, ap}
 use Rattle.removals.specs.inner.Removals.{died}
 use Rattle.removals.proofs.PassRemovals.{removed-other, removed-kind}

@@ -1,4 +1,4 @@
--- `queries::sweeping::is_met_at` meets its contract. Assumes nothing.
+-- `sweeping::is_met_at` meets its contract. Assumes nothing.
 use Prim.Native.Nat.{ℕ}
 use mathlib.Core.Path.{ap, _∙_}
 use mathlib.Core.List.{List}

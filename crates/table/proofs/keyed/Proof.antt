@@ -1,4 +1,4 @@
--- `keyed` meets its contract. Assumes nothing.
+-- `table::keyed` meets its contract. Assumes nothing.
 use borrow.Author.Needs.{needs}
 use Rattle.table.proofs.keyed.Statement.{statement}
 use Rattle.table.proofs.keyed.Tie as tie
