@@ -1,7 +1,8 @@
 /*
  * Mouldgrey: a table for an archive. Rows of uint32_t cells, kept by key, in the order of a sort
  * column, in stores that the caller lends. Link libexports_lists.a, libexports_questions.a and
- * libexports.a; for column order, which needs no table, libexports_vault.a.
+ * libexports.a; for the check of precedence libexports_precedence.a; for column order, which needs no
+ * table, libexports_vault.a.
  *
  * A table is a header of twelve words and four stores. docs/FORMAT.md says what each word means.
  *
@@ -57,7 +58,7 @@ extern "C" {
 #define MOULDGREY_MALFORMED_SUBSET 4
 /* A row or a subset's end past the row count. */
 #define MOULDGREY_PAST_THE_ROWS 5
-/* No such column, or a condition's kind above 5. */
+/* No such column, or not a key column where one is asked for; a condition's kind above 5. */
 #define MOULDGREY_NO_SUCH_COLUMN 6
 /* Fewer free pending words than the record takes. */
 #define MOULDGREY_PENDING_FULL 7
@@ -69,6 +70,8 @@ extern "C" {
 #define MOULDGREY_LAST_GENERATION 10
 /* A number of cells that is not a multiple of the width. */
 #define MOULDGREY_BROKEN_ROW 13
+/* A number of pairs outside 1 to 16. */
+#define MOULDGREY_PAIR_COUNT 14
 /* A noted version of another generation, or of more rows than there are. */
 #define MOULDGREY_OLD_NOTE 18
 
@@ -250,6 +253,23 @@ uint32_t mouldgrey_updates_since(const uint32_t *header, size_t header_len, uint
 uint32_t mouldgrey_rows_since_version(const uint32_t *header, size_t header_len,
                                       uint32_t generation, uint32_t count, uint32_t *words,
                                       size_t words_len);
+
+/*
+ * Before comes first: a live row with a pair's first value in a key column needs a live row with the
+ * pair's second value there, the same other key cells and a sort cell no larger. pairs has two words
+ * for each of 1 to 16 pairs, the first value and the second; a row that several name must meet them
+ * all, and a pair of two equal values is met by the row itself. words, 3: 0, 0, 0 if every row meets
+ * its pairs, else 1, the lowest row that fails, and the place, from 0, of the first pair it fails.
+ * Refuses: 1, 2, 6 if the column is not a key column, 14 if the pairs are not 1 to 16 or pairs_len is
+ * odd.
+ *
+ * Only live rows count. An earlier row that is corrected under a later stamp dies and comes again
+ * behind: a row that needs it and met its pair before may then fail.
+ */
+uint32_t mouldgrey_check_precedence(const uint32_t *header, size_t header_len, const uint32_t *rows,
+                                    size_t rows_len, const uint32_t *keys, size_t keys_len,
+                                    uint32_t column, const uint32_t *pairs, size_t pairs_len,
+                                    uint32_t *words, size_t words_len);
 
 /*
  * words, 2: generation and row count. Refuses: 1.

@@ -4,10 +4,11 @@
 use std::env;
 use std::path::{Path, PathBuf};
 
-const LIBRARIES: [&str; 5] = [
+const LIBRARIES: [&str; 6] = [
     "exports",
     "exports_questions",
     "exports_lists",
+    "exports_precedence",
     "exports_vault",
     "exports_replay",
 ];

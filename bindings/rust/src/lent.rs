@@ -385,6 +385,35 @@ pub fn rows_since_version(header: &Header, noted: Version) -> Result<(u32, u32),
     Ok((words[1], words[2]))
 }
 
+/// The lowest live row that fails one of these pairs of values in a key column, and the place of the first pair that it fails;
+/// none if every row meets its pairs. Two words are a pair. Refused by 1, 2, 6 and 14.
+#[inline]
+pub fn check_precedence(
+    header: &Header,
+    rows: &[u32],
+    keys: &[u32],
+    column: u32,
+    pairs: &[u32],
+) -> Result<Option<(u32, u32)>, Refusal> {
+    let mut words = [0; 3];
+    verdict(unsafe {
+        raw::mouldgrey_check_precedence(
+            words_in(header),
+            HEADER_WORDS,
+            rows.as_ptr(),
+            rows.len(),
+            keys.as_ptr(),
+            keys.len(),
+            column,
+            pairs.as_ptr(),
+            pairs.len(),
+            words.as_mut_ptr(),
+            words.len(),
+        )
+    })?;
+    Ok((words[0] == 1).then_some((words[1], words[2])))
+}
+
 /// The live rows of a subset that meet a condition. Refused by 1, 2, 4, 5, 6 and, if the output is shorter than the subset, 2.
 #[inline]
 pub fn refine_one(

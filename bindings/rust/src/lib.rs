@@ -10,8 +10,8 @@
 //! Calls that the library turns away answer a [`Refusal`] with the paper's number, and have changed nothing.
 //!
 //! The static libraries are looked for in target/staticlib of the repository, where `rt staticlib exports`, `rt staticlib
-//! exports_questions`, `rt staticlib exports_lists`, `rt staticlib exports_vault` and `rt staticlib exports_replay` leave them,
-//! or in the folder that the environment variable MOULDGREY_LIBRARIES names.
+//! exports_questions`, `rt staticlib exports_lists`, `rt staticlib exports_precedence`, `rt staticlib exports_vault` and `rt
+//! staticlib exports_replay` leave them, or in the folder that the environment variable MOULDGREY_LIBRARIES names.
 
 mod header;
 pub mod lent;

@@ -150,6 +150,19 @@ unsafe extern "C" {
         words: *mut u32,
         words_len: usize,
     ) -> u32;
+    pub fn mouldgrey_check_precedence(
+        header: *const u32,
+        header_len: usize,
+        rows: *const u32,
+        rows_len: usize,
+        keys: *const u32,
+        keys_len: usize,
+        column: u32,
+        pairs: *const u32,
+        pairs_len: usize,
+        words: *mut u32,
+        words_len: usize,
+    ) -> u32;
     pub fn mouldgrey_version(
         header: *const u32,
         header_len: usize,

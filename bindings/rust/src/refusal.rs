@@ -16,7 +16,7 @@ pub enum Refusal {
     MalformedSubset = 4,
     /// A row number, a subset's end or a start place past what there is.
     PastTheRows = 5,
-    /// A column that does not exist, or a condition of an unknown kind.
+    /// A column that does not exist, or is not a key column where one is asked for, or a condition of an unknown kind.
     NoSuchColumn = 6,
     /// The pending store has no room for the record.
     PendingFull = 7,
@@ -24,6 +24,8 @@ pub enum Refusal {
     LastGeneration = 10,
     /// A number of cells that is not a multiple of the width.
     BrokenRow = 13,
+    /// A number of pairs outside 1 to 16.
+    PairCount = 14,
     /// A noted version of another generation, or of more rows than there are.
     OldNote = 18,
 }
@@ -38,7 +40,7 @@ pub enum Stop {
 }
 
 impl Refusal {
-    pub const ALL: [Refusal; 10] = [
+    pub const ALL: [Refusal; 11] = [
         Refusal::OutOfBounds,
         Refusal::TooShort,
         Refusal::WrongWidth,
@@ -48,6 +50,7 @@ impl Refusal {
         Refusal::PendingFull,
         Refusal::LastGeneration,
         Refusal::BrokenRow,
+        Refusal::PairCount,
         Refusal::OldNote,
     ];
 
@@ -71,6 +74,7 @@ impl Refusal {
             Refusal::PendingFull => "no room in the pending store",
             Refusal::LastGeneration => "the generation cannot rise",
             Refusal::BrokenRow => "not a multiple of the width",
+            Refusal::PairCount => "a number of pairs outside 1 to 16",
             Refusal::OldNote => "a noted version of another generation or of more rows",
         }
     }

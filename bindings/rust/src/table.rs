@@ -260,6 +260,20 @@ impl Table {
         Ok(Subset::Range(start, end))
     }
 
+    /// Whether what comes before is on file: a live row with a pair's first value in this key column needs a live row with the
+    /// second value there, the same other key cells and a sort cell no larger. The lowest row that fails and the place of the
+    /// first pair that it fails; none if every row meets its pairs. Refused by 6, a column that is not a key column, and 14, a
+    /// number of pairs outside 1 to 16. Only live rows count: an earlier row that is corrected under a later stamp makes fail
+    /// what was met.
+    pub fn check_precedence(
+        &self,
+        column: u32,
+        pairs: &[[u32; 2]],
+    ) -> Result<Option<(u32, u32)>, Refusal> {
+        let s = &self.stores;
+        lent::check_precedence(&s.header, &s.rows, &s.keys, column, pairs.as_flattened())
+    }
+
     /// All row numbers, dead rows among them.
     pub fn all(&self) -> Subset {
         Subset::Range(0, self.stores.header.rows)

@@ -164,6 +164,13 @@ fn questions() {
     assert_eq!(noted(5, 20), Ok(Subset::Range(20, 20)));
     assert_eq!(noted(5, 21), Err(Refusal::OldNote));
     assert_eq!(noted(4, 18), Err(Refusal::OldNote));
+    let check = |column, pairs: &[[u32; 2]]| table.check_precedence(column, pairs);
+    assert_eq!(check(0, &[[7, 3], [7, 7], [99, 0]]), Ok(None));
+    assert_eq!(check(0, &[[7, 3], [3, 7]]), Ok(Some((3, 1))));
+    assert_eq!(check(1, &[]), Err(Refusal::NoSuchColumn));
+    assert_eq!(check(0, &[]), Err(Refusal::PairCount));
+    assert_eq!(check(0, &[[1, 1]; 16]), Ok(None));
+    assert_eq!(check(0, &[[1, 1]; 17]), Err(Refusal::PairCount));
 }
 
 #[test]

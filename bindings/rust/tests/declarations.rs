@@ -142,6 +142,7 @@ fn shipped() -> Vec<Exported> {
     let mut functions = exported("crates/exports/src/lib.rt");
     functions.extend(exported("crates/exports_questions/src/lib.rt"));
     functions.extend(exported("crates/exports_lists/src/lib.rt"));
+    functions.extend(exported("crates/exports_precedence/src/lib.rt"));
     functions.extend(exported("crates/exports_vault/src/lib.rt"));
     functions.extend(exported("crates/exports_replay/src/lib.rt"));
     functions

@@ -101,7 +101,7 @@ fn write_two(words: &mut [u32], first: u32, second: u32)
     words[1] = second;
 }
 
-fn write_three(words: &mut [u32], first: u32, second: u32, third: u32)
+pub fn write_three(words: &mut [u32], first: u32, second: u32, third: u32)
     requires { ⌜ length (now words) ≡ 3 ⌝ }
     ensures { λ _. ⌜ now (words .exit) ≡ first ∷ second ∷ third ∷ [] ⌝ }
 {

@@ -154,6 +154,11 @@ pub enum Question {
     RowsSince(u32),
     /// The rows since a noted version: generation and row count.
     RowsSinceNote(u32, u32),
+    /// Whether what comes before is on file: a key column and pairs of values, two words each.
+    Precedence {
+        column: u32,
+        pairs: Vec<u32>,
+    },
     RefineOne {
         subset: Subset,
         condition: Condition,
@@ -198,7 +203,7 @@ pub enum Answer {
         kept: u32,
         dropped: u32,
     },
-    /// A lookup that found no live row, or a fast range that is none.
+    /// A lookup that found no live row, a fast range that is none, or pairs that every row meets.
     None,
     /// The live row of a key: its number and cells.
     Row(u32, Vec<u32>),
@@ -209,6 +214,8 @@ pub enum Answer {
         rows: u32,
     },
     Match(bool),
+    /// The lowest row that fails a pair, and the place of the first pair that it fails.
+    Fails(u32, u32),
     /// The ids written, how many of those visited have a dead row, and the next place, if any.
     Page {
         ids: Vec<u32>,

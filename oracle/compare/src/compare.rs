@@ -298,6 +298,7 @@ impl<'a, J: Judge> Pair<'a, J> {
         let answer = self.plain.ask(&step.lent, asked);
         counts.step(&self.opening, step, &answer);
         counts.note(asked, &answer, self.seen.generation);
+        counts.precedence(asked, &answer, &self.opening, &self.seen);
         if !self.is_asked(asked, &answer) {
             return Ok(answer);
         }

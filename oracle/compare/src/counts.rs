@@ -1,7 +1,7 @@
 //! What a run has seen, so that a generator which misses a case is found out.
 
 use crate::history::{Act, Step, needed, size};
-use calls::{Answer, Call, Contents, Opening, Question, Subset};
+use calls::{Answer, Call, Contents, DEAD, Opening, Question, Subset};
 use std::collections::BTreeMap;
 
 /// A kind of call or question with the refusals that it has, in order. `AGAIN` is the second test 2, of the output.
@@ -9,7 +9,7 @@ type Kind = (&'static str, &'static [usize]);
 
 pub const AGAIN: usize = 19;
 
-const KINDS: [Kind; 18] = [
+const KINDS: [Kind; 19] = [
     ("open", &[1, 2]),
     ("insert", &[1, 3, 7]),
     ("remove by key", &[1, 3, 7]),
@@ -28,7 +28,11 @@ const KINDS: [Kind; 18] = [
     ("page", &[1, 2, 4, 5, 6, AGAIN]),
     ("intersect", &[4, AGAIN]),
     ("rows since a note", &[1, 18]),
+    ("precedence", &[1, 2, 6, 14]),
 ];
+
+/// Those before this one are in the recorded list too; of its refusals a gate's run must have seen each often.
+pub const PRECEDENCE: usize = 18;
 
 /// Answers and turns that every full run must have seen.
 const FEATURES: [&str; 62] = [
@@ -115,7 +119,7 @@ const RULES: [&str; 4] = [
 ];
 
 /// What a gate's run must have seen besides; the recorded list is too small for it.
-const GATE: [&str; 26] = [
+const GATE: [&str; 37] = [
     "merge: compacts more than 64 rows",
     "key store: grows past 128 rows, new key",
     "key store: grows past 128 rows, known key",
@@ -142,6 +146,17 @@ const GATE: [&str; 26] = [
     "full size: intersect, 65537 ids refused",
     "full size: all 65536 ids kept",
     "page: n above 2^32",
+    "precedence: no row is named",
+    "precedence: met by another row",
+    "precedence: met by the row itself",
+    "precedence: a row meets several pairs",
+    "precedence: fails the first pair",
+    "precedence: fails a later pair",
+    "precedence: fails by the sort cell alone",
+    "precedence: fails, its need the dead mark",
+    "precedence: 16 pairs",
+    "precedence: in the sort column",
+    "precedence: the sort column another key column",
 ];
 
 /// Refusals that a gate's run must have seen so many times, by their reasons.
@@ -210,6 +225,7 @@ fn question_kind(question: &Question) -> usize {
         Question::Page { .. } => 15,
         Question::Intersect { .. } => 16,
         Question::RowsSinceNote(..) => 17,
+        Question::Precedence { .. } => PRECEDENCE,
     }
 }
 
@@ -374,6 +390,7 @@ impl Counts {
             (Question::RowsSince(_), _) => "rows since: rows",
             (Question::RowsSinceNote(..), of) if is_empty(of) => "rows since a note: empty",
             (Question::RowsSinceNote(..), _) => "rows since a note: rows",
+            (Question::Precedence { .. }, _) => return,
             (Question::RefineOne { .. }, Answer::Subset(Subset::Range(0, 0))) => {
                 "refine by one: 0..0"
             }
@@ -411,6 +428,82 @@ impl Counts {
     pub fn note(&mut self, question: &Question, answer: &Answer, generation: u32) {
         if let (Question::RowsSinceNote(noted, _), Answer::Refused(18)) = (question, answer) {
             self.feature(OFTEN[usize::from(*noted == generation)]);
+        }
+    }
+
+    /// Counts accepted checks of precedence by the rows that are named and what they meet or fail.
+    pub fn precedence(
+        &mut self,
+        question: &Question,
+        answer: &Answer,
+        o: &Opening,
+        seen: &Contents,
+    ) {
+        let Question::Precedence { column, pairs } = question else {
+            return;
+        };
+        let column = *column as usize;
+        match answer {
+            Answer::None => self.precedence_met(column, pairs, seen),
+            Answer::Fails(row, place) => {
+                let need = pairs[2 * *place as usize + 1];
+                self.precedence_fails((column, need), *place, *row, o, seen);
+            }
+            _ => return,
+        }
+        if pairs.len() == 32 {
+            self.feature("precedence: 16 pairs");
+        }
+        match o.sort as usize {
+            sort if sort == column => self.feature("precedence: in the sort column"),
+            sort if sort < o.keys as usize => {
+                self.feature("precedence: the sort column another key column");
+            }
+            _ => {}
+        }
+    }
+
+    fn precedence_met(&mut self, column: usize, pairs: &[u32], seen: &Contents) {
+        let (mut itself, mut another, mut several) = (false, false, false);
+        for (_, cells) in &seen.live {
+            let naming = pairs.chunks(2).filter(|pair| pair[0] == cells[column]);
+            let (own, others): (Vec<&[u32]>, Vec<&[u32]>) =
+                naming.partition(|pair| pair[1] == pair[0]);
+            itself |= !own.is_empty();
+            another |= !others.is_empty();
+            several |= own.len() + others.len() > 1;
+        }
+        for (is_so, name) in [
+            (!itself && !another, "precedence: no row is named"),
+            (itself, "precedence: met by the row itself"),
+            (another, "precedence: met by another row"),
+            (several, "precedence: a row meets several pairs"),
+        ] {
+            if is_so {
+                self.feature(name);
+            }
+        }
+    }
+
+    fn precedence_fails(
+        &mut self,
+        (column, need): (usize, u32),
+        place: u32,
+        row: u32,
+        o: &Opening,
+        seen: &Contents,
+    ) {
+        self.feature(match place {
+            0 => "precedence: fails the first pair",
+            _ => "precedence: fails a later pair",
+        });
+        let mut key = live_row(seen, row).map_or(vec![], |cells| cells[..o.keys as usize].to_vec());
+        key[column] = need;
+        if seen.live.iter().any(|(_, cells)| cells.starts_with(&key)) {
+            self.feature("precedence: fails by the sort cell alone");
+        }
+        if column == 0 && need == DEAD {
+            self.feature("precedence: fails, its need the dead mark");
         }
     }
 
@@ -606,10 +699,15 @@ impl Counts {
         }
     }
 
-    /// Names of what was never seen. Refusals are left out that `is_wanted` says no to.
-    pub fn missing(&self, names: &[&'static str], is_wanted: fn(usize) -> bool) -> Vec<String> {
+    /// Names of what was never seen, of so many kinds. Refusals are left out that `is_wanted` says no to.
+    pub fn missing(
+        &self,
+        kinds: usize,
+        names: &[&'static str],
+        is_wanted: fn(usize) -> bool,
+    ) -> Vec<String> {
         let mut missing = Vec::new();
-        for (kind, (name, refusals)) in KINDS.iter().enumerate() {
+        for (kind, (name, refusals)) in KINDS[..kinds].iter().enumerate() {
             let outcomes = self.steps.get(&kind).copied().unwrap_or_default();
             let wanted = refusals.iter().filter(|&&number| is_wanted(number));
             for &number in [0].iter().chain(wanted) {
@@ -630,7 +728,14 @@ impl Counts {
     /// What a gate's run has missed: kinds, refusals and turns never seen, and kinds that the other judge was never asked; also
     /// their refusals, if it follows the paper.
     pub fn missed_by_gate(&self, follows_paper: bool) -> Vec<String> {
-        let mut missing = self.missing(&GATE, |_| true);
+        let mut missing = self.missing(KINDS.len(), &GATE, |_| true);
+        let outcomes = self.steps.get(&PRECEDENCE).copied().unwrap_or_default();
+        for &number in KINDS[PRECEDENCE].1 {
+            if outcomes[number] < TIMES {
+                let times = outcomes[number];
+                missing.push(format!("precedence: refused {number} only {times} times"));
+            }
+        }
         for name in OFTEN {
             let times = self.features.get(name).copied().unwrap_or_default();
             if times < TIMES {

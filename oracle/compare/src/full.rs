@@ -160,6 +160,7 @@ impl Writer {
 
     fn ask(&mut self) {
         self.ask_about_keys();
+        self.ask_about_precedence();
         self.ask_about_rows();
     }
 
@@ -182,6 +183,22 @@ impl Writer {
             for rise in 0..3 {
                 let generation = o.generation.wrapping_add(rise);
                 self.ask_one(Question::RowsSinceNote(generation, row));
+            }
+        }
+    }
+
+    /// Pairs that name few rows each: a row's neighbour in the order of making, itself, and a value that no live row has.
+    fn ask_about_precedence(&mut self) {
+        for i in [1, 777, ROWS / 2, ROWS - 1, ROWS + 5] {
+            let [own, neighbour] = [i, i ^ 1].map(|i| self.cells(i)[0]);
+            for pairs in [
+                vec![own, own, own, neighbour],
+                vec![neighbour, own],
+                [own, own].repeat(16),
+                [own, own].repeat(17),
+                vec![own, own, own, u32::MAX],
+            ] {
+                self.ask_one(Question::Precedence { column: 0, pairs });
             }
         }
     }

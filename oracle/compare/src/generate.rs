@@ -213,7 +213,7 @@ impl Writer {
         ] {
             self.call(call);
         }
-        for kind in 0..questions::KINDS {
+        for kind in 0..self.kinds() {
             questions::ask(self, kind);
         }
     }
@@ -227,7 +227,22 @@ impl Writer {
         self.remembered.clear();
         let count = self.rng.pick(&[1, 2, 3, 5, 8, 20, 50, 200]);
         self.flavour.keys = (0..count).map(|_| self.new_key()).collect();
+        if !self.manner.thorough {
+            self.vary_keys();
+        }
         answer
+    }
+
+    /// Some keys become such as differ from another in one cell alone.
+    fn vary_keys(&mut self) {
+        for place in 1..self.flavour.keys.len() {
+            if self.rng.percent(30) {
+                let mut key = self.flavour.keys[self.rng.place(place)].clone();
+                let cell = self.rng.place(key.len());
+                key[cell] = self.rng.below(12);
+                self.flavour.keys[place] = key;
+            }
+        }
     }
 
     fn good_numbers(&mut self) -> Opening {
@@ -307,9 +322,17 @@ impl Writer {
         self.ask_some();
     }
 
+    /// How many kinds of question there are to ask.
+    fn kinds(&self) -> u32 {
+        match self.manner.thorough {
+            true => questions::RECORDED_KINDS,
+            false => questions::KINDS,
+        }
+    }
+
     fn ask_some(&mut self) {
         for _ in 0..self.rng.within(0, self.flavour.questions) {
-            let kind = self.rng.below(questions::KINDS);
+            let kind = self.rng.below(self.kinds());
             questions::ask(self, kind);
         }
     }
@@ -325,6 +348,20 @@ impl Writer {
     pub fn a_live_row(&mut self) -> Option<(u32, Vec<u32>)> {
         let place = self.rng.place(self.seen.live.len());
         self.seen.live.get(place).cloned()
+    }
+
+    /// What a live row with the same other key cells has in a key column; of several rows, any but this one itself.
+    pub fn a_row_beside(&mut self, cells: &[u32], column: usize) -> Option<u32> {
+        let keys = self.opening.keys as usize;
+        let is_beside = |other: &[u32]| {
+            let mut others = (0..keys).filter(|&key| key != column);
+            column < keys
+                && other[column] != cells[column]
+                && others.all(|key| other[key] == cells[key])
+        };
+        let live = self.seen.live.iter().filter(|row| is_beside(&row.1));
+        let values: Vec<u32> = live.map(|row| row.1[column]).collect();
+        values.get(self.rng.place(values.len())).copied()
     }
 
     /// Mostly one of the last few.

@@ -6,7 +6,10 @@ use crate::lists;
 use calls::{Condition, Question, Subset};
 
 /// How many kinds of question there are.
-pub const KINDS: u32 = 11;
+pub const KINDS: u32 = 12;
+
+/// How many of them the recorded list has: the program that replays it checks no precedence.
+pub const RECORDED_KINDS: u32 = 11;
 
 /// Writes one question of this kind.
 pub fn ask(w: &mut Writer, kind: u32) {
@@ -32,7 +35,8 @@ pub fn ask(w: &mut Writer, kind: u32) {
         },
         8 => page(w),
         9 => note(w),
-        _ => lists::intersection(&mut w.rng, w.manner.loose),
+        10 => lists::intersection(&mut w.rng, w.manner.loose),
+        _ => precedence(w),
     };
     let output = output(w, needed_output(&question));
     w.ask(with_output(question, output));
@@ -115,6 +119,47 @@ fn note(w: &mut Writer) -> Question {
         _ => w.an_earlier_version(),
     };
     Question::RowsSinceNote(generation, rows)
+}
+
+/// Pairs of values in a key column, mostly such that rows have them; now and then another column, or not 1 to 16 pairs.
+fn precedence(w: &mut Writer) -> Question {
+    let keys = w.opening.keys;
+    let column = match w.rng.below(25) {
+        0 => keys,
+        1 => u32::MAX,
+        _ => w.rng.below(keys),
+    };
+    let count = match w.rng.below(30) {
+        0 => 0,
+        1 => 17,
+        2 => 16,
+        _ => w.rng.pick(&[1, 1, 2, 3, 6]),
+    };
+    let mut pairs = Vec::new();
+    for _ in 0..count {
+        let pair = pair(w, column);
+        pairs.extend(pair);
+    }
+    if w.rng.below(40) == 0 {
+        pairs.pop();
+    }
+    Question::Precedence { column, pairs }
+}
+
+/// A value of a live row and one of a row beside it, which has the same other key cells, if there is one; or twice the same; or
+/// any two.
+fn pair(w: &mut Writer, column: u32) -> [u32; 2] {
+    let first = value(w, column);
+    let beside = w.a_live_row().and_then(|(_, cells)| {
+        let other = w.a_row_beside(&cells, column as usize)?;
+        Some([*cells.get(column as usize)?, other])
+    });
+    match (w.rng.below(8), beside) {
+        (0..=4, Some(pair)) => pair,
+        (5, _) => [first, first],
+        (6, _) => [first, u32::MAX],
+        _ => [first, value(w, column)],
+    }
 }
 
 /// A value to compare with: a cell of that column, one beside it, an edge, a small number.

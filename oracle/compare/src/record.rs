@@ -2,7 +2,7 @@
 //! them without Rust. Both judges answer while it is made and whenever it is replayed.
 
 use crate::compare::{Pair, Rival};
-use crate::counts::{AGAIN, Counts};
+use crate::counts::{AGAIN, Counts, PRECEDENCE};
 use crate::generate::{Manner, history};
 use crate::history::{Act, Step, needed};
 use crate::text::{answer_line, parse, step_line};
@@ -233,9 +233,9 @@ impl<'a, J: Judge> List<'a, J> {
     }
 }
 
-/// What the list must show: all but the refusals for short stores.
+/// What the list must show: all but the refusals for short stores, and checks of precedence.
 fn missing(counts: &Counts) -> Vec<String> {
-    counts.missing(&[], |number| number != 2 && number != AGAIN)
+    counts.missing(PRECEDENCE, &[], |number| number != 2 && number != AGAIN)
 }
 
 /// A table of three rows, and each refusal that has nothing to do with the lengths of stores.

@@ -88,6 +88,7 @@ fn small_table(rule: u32) -> Family {
         "F,2,2,2",
         "F,3,2,1",
         "W,0,1",
+        "B,0,1,0,0,1",
     ];
     Family::new(&[&open], &letters, 6, &end)
 }
@@ -105,7 +106,15 @@ fn sort_column_0(generation: u32) -> Family {
         "M",
         "G",
     ];
-    let end = ["M", "L,4", "F,1,0,4", "F,4,0,3", "F,5,0,4294967295"];
+    let end = [
+        "M",
+        "L,4",
+        "F,1,0,4",
+        "F,4,0,3",
+        "F,5,0,4294967295",
+        "B,0,4,3",
+        "B,0,3,3,3,4,3,4294967295",
+    ];
     Family::new(&[&open], &letters, 6, &end)
 }
 

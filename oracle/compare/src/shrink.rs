@@ -148,7 +148,7 @@ fn without_column(act: &Act, column: u32, keys: &mut Option<u32>) -> Act {
     act
 }
 
-/// Acts that are a little simpler: an id or a condition less, or a smaller number.
+/// Acts that are a little simpler: an id, a pair or a condition less, or a smaller number.
 fn simpler_acts(act: &Act) -> Vec<Act> {
     let mut simpler = Vec::new();
     if let Act::Ask(question) = act {
@@ -170,7 +170,7 @@ fn simpler_acts(act: &Act) -> Vec<Act> {
     simpler
 }
 
-/// The question with an id or a condition less.
+/// The question with an id, a pair or a condition less.
 fn fewer_parts(question: &Question) -> Vec<Question> {
     let mut fewer = Vec::new();
     let mut change = |edit: &dyn Fn(&mut Question)| {
@@ -183,6 +183,15 @@ fn fewer_parts(question: &Question) -> Vec<Question> {
     for place in 0..64 {
         change(&|question| drop_id(first_subset(question), place));
         change(&|question| drop_id(second_subset(question), place));
+    }
+    for place in 0..16 {
+        change(&|question| {
+            if let Question::Precedence { pairs, .. } = question
+                && 2 * place + 1 < pairs.len()
+            {
+                pairs.drain(2 * place..2 * place + 2);
+            }
+        });
     }
     for place in 0..4 {
         change(&|question| {

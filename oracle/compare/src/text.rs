@@ -43,6 +43,9 @@ fn question_line(question: &Question) -> String {
         Question::Version => line("V", &[]),
         Question::RowsSince(row) => line("S", &[*row]),
         Question::RowsSinceNote(generation, rows) => line("W", &[*generation, *rows]),
+        Question::Precedence { column, pairs } => {
+            line("B", &[&[*column], pairs.as_slice()].concat())
+        }
         Question::RefineOne {
             subset, condition, ..
         } => {
@@ -109,6 +112,7 @@ pub fn answer_line(answer: &Answer) -> String {
         Answer::Subset(subset) => line("=S", &subset_numbers(subset)),
         Answer::Version { generation, rows } => line("=V", &[*generation, *rows]),
         Answer::Match(yes) => line("=B", &[u32::from(*yes)]),
+        Answer::Fails(row, place) => line("=F", &[*row, *place]),
         Answer::Page { ids, dead, next } => {
             let next = next.map_or(vec![0], |place| vec![1, place]);
             let count = [ids.len() as u32];
@@ -207,6 +211,10 @@ fn question(letter: &str, numbers: &mut Numbers) -> Option<Question> {
         "V" => Some(Question::Version),
         "S" => Some(Question::RowsSince(numbers.one()?)),
         "W" => Some(Question::RowsSinceNote(numbers.one()?, numbers.one()?)),
+        "B" => Some(Question::Precedence {
+            column: numbers.one()?,
+            pairs: numbers.rest()?,
+        }),
         "N" => Some(Question::RefineOne {
             subset: numbers.subset()?,
             condition: numbers.condition()?,

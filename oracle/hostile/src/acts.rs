@@ -203,9 +203,27 @@ fn page(rng: &mut Rng, image: &Image) -> Question {
     }
 }
 
+/// Pairs of values in a key column, or nearly.
+fn precedence(rng: &mut Rng, image: &Image) -> Question {
+    let h = image.numbers();
+    let column = match rng.percent(90) {
+        true => rng.below(h.keys),
+        false => hostile_number(rng, &image.header),
+    };
+    let count = match rng.below(8) {
+        0 => rng.below(40),
+        1 => rng.pick(&[0, 32, 33, 34]),
+        _ => 2 * rng.within(1, 4),
+    };
+    Question::Precedence {
+        column,
+        pairs: (0..count).map(|_| cell(rng, image)).collect(),
+    }
+}
+
 fn question(rng: &mut Rng, image: &Image) -> Question {
     let h = image.numbers();
-    match rng.below(14) {
+    match rng.below(16) {
         0 => Question::Lookup(cells(rng, image, h.keys)),
         1 => {
             let column = match rng.percent(80) {
@@ -245,6 +263,7 @@ fn question(rng: &mut Rng, image: &Image) -> Question {
             conditions: conditions(rng, image),
         },
         11 | 12 => page(rng, image),
+        13 | 14 => precedence(rng, image),
         _ => {
             let (first, second) = (subset(rng, image), subset(rng, image));
             let needed = match (&first, &second) {

@@ -196,6 +196,16 @@ impl Session {
             Question::RowsSinceNote(generation, rows) => unsafe {
                 raw::mouldgrey_rows_since_version(h, h_len, *generation, *rows, w, w_len)
             },
+            Question::Precedence { column, pairs } => {
+                let rows = self.read(rng, Slot::Rows, &image.rows);
+                let keys = self.read(rng, Slot::Keys, &image.keys);
+                let (p, p_len) = self.read(rng, Slot::Cells, pairs);
+                unsafe {
+                    raw::mouldgrey_check_precedence(
+                        h, h_len, rows.0, rows.1, keys.0, keys.1, *column, p, p_len, w, w_len,
+                    )
+                }
+            }
             Question::RefineOne {
                 subset,
                 condition,

@@ -7,7 +7,7 @@ use std::collections::BTreeMap;
 /// not fit".
 type Kind = (&'static str, &'static [usize]);
 
-pub const SHIPPED: [Kind; 23] = [
+pub const SHIPPED: [Kind; 24] = [
     ("mouldgrey_open_table", &[1, 2]),
     ("mouldgrey_stage_insert", &[1, 3, 7]),
     ("mouldgrey_stage_remove", &[1, 3, 7]),
@@ -21,6 +21,7 @@ pub const SHIPPED: [Kind; 23] = [
     ("mouldgrey_fast_subset", &[1, 2, 6]),
     ("mouldgrey_updates_since", &[1, 2, 5]),
     ("mouldgrey_rows_since_version", &[1, 2, 18]),
+    ("mouldgrey_check_precedence", &[1, 2, 6, 14]),
     ("mouldgrey_version", &[1, 2]),
     ("mouldgrey_refine_one", &[1, 2, 4, 5, 6]),
     ("mouldgrey_refine_ref", &[1, 2, 4, 5, 6]),

@@ -34,6 +34,7 @@ pub fn name(act: &Act) -> &'static str {
         Act::Ask(Question::Version) => "mouldgrey_version",
         Act::Ask(Question::RowsSince(_)) => "mouldgrey_updates_since",
         Act::Ask(Question::RowsSinceNote(..)) => "mouldgrey_rows_since_version",
+        Act::Ask(Question::Precedence { .. }) => "mouldgrey_check_precedence",
         Act::Ask(Question::RefineOne { .. }) => "mouldgrey_refine_one",
         Act::Ask(Question::RefineList { .. }) => "mouldgrey_refine_ref",
         Act::Ask(Question::AnyMatch { .. }) => "mouldgrey_contains_match",
@@ -163,6 +164,7 @@ fn answer_words(act: &Act, answer: &Answer) -> Vec<u32> {
         Answer::Subset(Subset::Range(start, end)) => vec![1, *start, *end],
         Answer::Subset(Subset::List(ids)) => vec![2, ids.len() as u32, 0],
         Answer::Match(yes) => vec![u32::from(*yes)],
+        Answer::Fails(row, place) => vec![1, *row, *place],
         Answer::Page { ids, dead, next } => {
             let (more, place) = next.map_or((0, 0), |place| (1, place));
             vec![ids.len() as u32, *dead, more, place]

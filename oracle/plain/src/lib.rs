@@ -162,6 +162,7 @@ impl Judge for Plain {
             Question::Version => self.version(),
             Question::RowsSince(row) => self.rows_since(*row),
             Question::RowsSinceNote(_, count) => self.rows_since(*count),
+            Question::Precedence { column, pairs } => self.precedence(*column as usize, pairs),
             Question::RefineOne {
                 subset, condition, ..
             } => self.refine_one(subset, condition),

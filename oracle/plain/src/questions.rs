@@ -62,6 +62,32 @@ impl Plain {
         Answer::Subset(Subset::Range(row, self.row_count()))
     }
 
+    /// *Precedence*: "The answer is the lowest row that fails with the place, from 0, of the first pair it fails, or none."
+    pub(crate) fn precedence(&self, column: usize, pairs: &[u32]) -> Answer {
+        for id in (0..self.row_count()).filter(|&id| self.is_live(id)) {
+            let mut values = pairs.chunks(2);
+            if let Some(place) = values.position(|pair| self.fails_pair(id, column, pair)) {
+                return Answer::Fails(id, place as u32);
+            }
+        }
+        Answer::None
+    }
+
+    /// "Each live row with a pair's first value in that column needs a live row with the second value there, the same other key
+    /// cells and a sort cell no larger."
+    fn fails_pair(&self, id: u32, column: usize, pair: &[u32]) -> bool {
+        let row = self.cells(id);
+        let sort = self.opening.sort as usize;
+        let is_before = |before: &[u32]| {
+            let mut keys = 0..self.opening.keys as usize;
+            before[column] == pair[1]
+                && keys.all(|key| key == column || before[key] == row[key])
+                && before[sort] <= row[sort]
+        };
+        let mut others = (0..self.row_count()).filter(|&other| self.is_live(other));
+        row[column] == pair[0] && !others.any(|other| is_before(self.cells(other)))
+    }
+
     /// *Refine by one*.
     pub(crate) fn refine_one(&self, subset: &Subset, condition: &Condition) -> Answer {
         let kept = self.matching(&ids(subset), std::slice::from_ref(condition));

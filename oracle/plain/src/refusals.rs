@@ -92,6 +92,15 @@ pub fn test_question(h: &Header, lent: &Lengths, question: &Question) -> Result<
             test_header(h)?;
             refuse(18, *generation != h.generation || *count > h.rows)
         }
+        // *Precedence*: "After 1 and 2 comes 6, a column that is not a key column, then 14, a number of pairs outside 1 to 16".
+        Question::Precedence { column, pairs } => {
+            test_header(h)?;
+            test_rows(&h.opening(), lent)?;
+            test_keys(&h.opening(), lent)?;
+            refuse(6, *column >= h.keys)?;
+            refuse(14, !pairs.len().is_multiple_of(2))?;
+            refuse(14, !(1..=16).contains(&(pairs.len() / 2)))
+        }
         // *Refine by one*: 1, 2, 4, 5, 6, "2 again, output shorter than the subset".
         Question::RefineOne {
             subset,

@@ -134,6 +134,16 @@ impl ProvedTable {
                 };
                 answer(lent::rows_since_version(h, noted), range_answer)
             }
+            Question::Precedence { column, pairs } => answer(
+                lent::check_precedence(
+                    h,
+                    &s.rows[..lent.rows],
+                    &s.keys[..lent.keys],
+                    *column,
+                    pairs,
+                ),
+                |failing| found(failing, |(row, place)| Answer::Fails(row, place)),
+            ),
             Question::RefineOne {
                 subset,
                 condition,

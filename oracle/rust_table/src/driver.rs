@@ -43,6 +43,8 @@ struct OpenTable {
     table: SortedWritesTable,
     /// The Rust counts generations from 0; the paper from the one given at opening.
     first_generation: u32,
+    keys: usize,
+    sort: usize,
     /// The one staging buffer, made when something is staged. In a cell, so that cloning can hand it over first.
     staging: RefCell<Option<Box<dyn Staging>>>,
 }
@@ -59,6 +61,8 @@ impl OpenTable {
                 rule_closure(opening.rule, keys, sort),
             ),
             first_generation: opening.generation,
+            keys,
+            sort,
             staging: RefCell::new(None),
         }
     }
@@ -100,6 +104,8 @@ impl Clone for OpenTable {
         OpenTable {
             table: self.table.clone(),
             first_generation: self.first_generation,
+            keys: self.keys,
+            sort: self.sort,
             staging: RefCell::new(None),
         }
     }
@@ -157,6 +163,26 @@ impl RustTable {
             |_, _| live += 1,
         );
         live
+    }
+
+    /// The Rust has no such check: its own rows are scanned, each for each.
+    fn precedence(&self, column: usize, pairs: &[u32]) -> Answer {
+        let OpenTable { keys, sort, .. } = *self.open();
+        let live = self.contents().live;
+        let others = |row: &[u32]| [&row[..column], &row[column + 1..keys]].concat();
+        for (id, row) in &live {
+            for (place, pair) in pairs.chunks(2).enumerate() {
+                let is_met = |(_, before): &(u32, Vec<u32>)| {
+                    before[column] == pair[1]
+                        && before[sort] <= row[sort]
+                        && others(before) == others(row)
+                };
+                if row[column] == pair[0] && !live.iter().any(is_met) {
+                    return Answer::Fails(*id, place as u32);
+                }
+            }
+        }
+        Answer::None
     }
 
     /// `Subset::retain`, which no call reaches with a test of the caller's own.
@@ -218,6 +244,7 @@ impl Judge for RustTable {
                 let since = Offset::new(u64::from(*count));
                 Answer::Subset(answered(&self.open().table.updates_since(since)))
             }
+            Question::Precedence { column, pairs } => self.precedence(*column as usize, pairs),
             Question::RefineOne {
                 subset, condition, ..
             } => {

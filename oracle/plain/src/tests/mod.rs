@@ -2,6 +2,7 @@
 
 mod columns;
 mod examples;
+mod precedence;
 mod refusals;
 mod sound;
 mod stores;
@@ -102,6 +103,11 @@ fn fast(table: &Plain, kind: u32, a: u32, b: u32) -> Answer {
 
 fn lookup(table: &Plain, key: &[u32]) -> Answer {
     table.ask(&LENT, &Question::Lookup(key.to_vec()))
+}
+
+fn precedence(column: u32, pairs: &[u32]) -> Question {
+    let pairs = pairs.to_vec();
+    Question::Precedence { column, pairs }
 }
 
 /// `count` rows of one key column and one sort column, of which the first `dead` are then removed.

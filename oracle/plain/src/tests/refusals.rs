@@ -88,6 +88,7 @@ fn questions() -> Vec<(Question, Vec<usize>)> {
         (Question::Version, vec![]),
         (Question::RowsSince(0), vec![]),
         (Question::RowsSinceNote(0, 0), vec![]),
+        (precedence(0, &[1, 1]), vec![0, 1]),
         (
             Question::RefineOne {
                 subset: subset.clone(),
@@ -204,6 +205,11 @@ fn keys_columns_rows() {
     assert_eq!(ask(Question::RowsSinceNote(1, 3)), refused(18));
     assert_eq!(ask(Question::RowsSinceNote(0, 3)), range(3, 3));
     assert_eq!(ask(Question::RowsSinceNote(0, 1)), range(1, 3));
+    assert_eq!(ask(precedence(1, &[])), refused(6));
+    assert_eq!(ask(precedence(0, &[])), refused(14));
+    assert_eq!(ask(precedence(0, &[1, 1, 1])), refused(14));
+    assert_eq!(ask(precedence(0, &[1; 34])), refused(14));
+    assert_eq!(ask(precedence(0, &[1; 32])), Answer::None);
     assert_eq!(fast(&table, 6, 0, 0), refused(6));
     assert_eq!(fast(&table, 1, 3, 0), refused(6));
     assert_eq!(fast(&table, 0, 0, 3), refused(6));

@@ -1,0 +1,4 @@
+-- What follows from the definitions.
+pub mod Scan
+pub mod Meeting
+pub mod Determined

@@ -1,0 +1,3 @@
+pub mod Precedence
+pub mod inner
+pub mod Laws
