@@ -2,7 +2,8 @@
  * Mouldgrey: a table for an archive. Rows of uint32_t cells, kept by key, in the order of a sort
  * column, in stores that the caller lends. Link libexports_lists.a, libexports_questions.a and
  * libexports.a; for the check of precedence libexports_precedence.a; for column order, which needs no
- * table, libexports_vault.a.
+ * table, libexports_vault.a; for every short history, which needs none either,
+ * libexports_short_histories.a.
  *
  * A table is a header of twelve words and four stores. docs/FORMAT.md says what each word means.
  *
@@ -72,6 +73,10 @@ extern "C" {
 #define MOULDGREY_BROKEN_ROW 13
 /* A number of pairs outside 1 to 16. */
 #define MOULDGREY_PAIR_COUNT 14
+/* A sequence of more than six steps, or a step above 6. */
+#define MOULDGREY_UNKNOWN_SEQUENCE 15
+/* A position past that of the last sequence, 137256. */
+#define MOULDGREY_PAST_THE_LAST 16
 /* A noted version of another generation, or of more rows than there are. */
 #define MOULDGREY_OLD_NOTE 18
 
@@ -355,6 +360,39 @@ uint32_t mouldgrey_to_columns(uint32_t width, const uint32_t *cells, size_t cell
  */
 uint32_t mouldgrey_from_columns(uint32_t width, const uint32_t *cells, size_t cells_len,
                                 uint32_t *output, size_t output_len);
+
+/*
+ * Every short history; needs no table. A sequence is a list of 0 to 6 steps, each from 0 to 6. They
+ * stand in one order, shorter before longer, equal lengths in the order of their first differing
+ * step; a position is a place in it, from 0 to 137256.
+ */
+
+/*
+ * What a step does, on a table of three columns, one key and sort column 1. words, 4: for an insert
+ * 0, key, stamp and third cell; for a removal by key 1, the key, 0 and 0; for a merge 2 and three
+ * times 0. words_len must be 4, else 2. Refuses: 15.
+ */
+uint32_t mouldgrey_step_at(uint32_t step, uint32_t *words, size_t words_len);
+
+/* The position of a sequence. words, 1. words_len must be 1, else 2. Refuses: 15. */
+uint32_t mouldgrey_position_of(const uint32_t *sequence, size_t sequence_len, uint32_t *words,
+                               size_t words_len);
+
+/*
+ * Writes the sequence at a position to the start of output; past it output is unchanged. words, 2: 1
+ * and how many steps it has. words_len must be 2, else 2, and nothing is written. Refuses: 16; 2,
+ * output shorter than the sequence.
+ */
+uint32_t mouldgrey_sequence_at(uint32_t position, uint32_t *output, size_t output_len,
+                               uint32_t *words, size_t words_len);
+
+/*
+ * Writes the sequence after this one, as mouldgrey_sequence_at does; from the empty sequence on it
+ * gives all others. After the last words are 0 and 0, and output is unchanged. Refuses: 15; 2, output
+ * shorter than the next sequence.
+ */
+uint32_t mouldgrey_next_sequence(const uint32_t *sequence, size_t sequence_len, uint32_t *output,
+                                 size_t output_len, uint32_t *words, size_t words_len);
 
 /*
  * Lists, from the library exports_replay. A list of calls or of questions goes as words: for each a

@@ -4,12 +4,13 @@
 use std::env;
 use std::path::{Path, PathBuf};
 
-const LIBRARIES: [&str; 6] = [
+const LIBRARIES: [&str; 7] = [
     "exports",
     "exports_questions",
     "exports_lists",
     "exports_precedence",
     "exports_vault",
+    "exports_short_histories",
     "exports_replay",
 ];
 

@@ -8,8 +8,8 @@
 
 use crate::header::HEADER_WORDS;
 use crate::{
-    Constraint, Header, Left, LeftIn, Merge, Opening, Page, Refusal, Stop, SubsetRef, Version,
-    Written, raw,
+    Constraint, Header, Left, LeftIn, Merge, Opening, Page, Refusal, Step, Stop, SubsetRef,
+    Version, Written, raw,
 };
 
 /// The words of a header to write to.
@@ -615,6 +615,68 @@ pub fn from_columns(width: u32, cells: &[u32], output: &mut [u32]) -> Result<(),
             output.len(),
         )
     })
+}
+
+/// What a step of a short history does. Refused by 15.
+pub fn step_at(step: u32) -> Result<Step, Refusal> {
+    let mut words = [0; 4];
+    verdict(unsafe { raw::mouldgrey_step_at(step, words.as_mut_ptr(), words.len()) })?;
+    let [kind, key, stamp, third] = words;
+    Ok(match kind {
+        0 => Step::Insert([key, stamp, third]),
+        1 => Step::Remove([key]),
+        _ => Step::Merge,
+    })
+}
+
+/// The position of a sequence of steps among all of at most six. Refused by 15.
+#[inline]
+pub fn position_of(sequence: &[u32]) -> Result<u32, Refusal> {
+    let mut words = [0];
+    verdict(unsafe {
+        raw::mouldgrey_position_of(
+            sequence.as_ptr(),
+            sequence.len(),
+            words.as_mut_ptr(),
+            words.len(),
+        )
+    })?;
+    Ok(words[0])
+}
+
+/// Writes the sequence at a position to the start of the output, and answers how many steps it has. Output past them is
+/// unchanged. Refused by 16 and 2.
+#[inline]
+pub fn sequence_at(position: u32, output: &mut [u32]) -> Result<usize, Refusal> {
+    let mut words = [0; 2];
+    verdict(unsafe {
+        raw::mouldgrey_sequence_at(
+            position,
+            output.as_mut_ptr(),
+            output.len(),
+            words.as_mut_ptr(),
+            words.len(),
+        )
+    })?;
+    Ok(words[1] as usize)
+}
+
+/// Writes the sequence after this one as [`sequence_at`] does; none, and nothing is written, after the last. Refused by 15 and 2.
+#[inline]
+pub fn next_sequence(sequence: &[u32], output: &mut [u32]) -> Result<Option<usize>, Refusal> {
+    let mut words = [0; 2];
+    verdict(unsafe {
+        raw::mouldgrey_next_sequence(
+            sequence.as_ptr(),
+            sequence.len(),
+            output.as_mut_ptr(),
+            output.len(),
+            words.as_mut_ptr(),
+            words.len(),
+        )
+    })?;
+    let [found, steps] = words;
+    Ok((found == 1).then_some(steps as usize))
 }
 
 /// Makes an empty table of the stores and makes the calls on it, in order, also after one that is refused. They go as words, each

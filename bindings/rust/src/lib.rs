@@ -5,18 +5,22 @@
 //! - [`lent`] has the same calls over stores that the caller keeps, such as those of a mapped file.
 //! - [`lent::replay`] makes a list of calls, [`lent::ask`] puts a list of questions, each in one call of the library.
 //! - [`to_columns`] and [`from_columns`] put rows into column order, for the vault, and back.
+//! - [`ShortHistories`] gives every sequence of at most six steps, in order; [`position_of`] and [`sequence_at`] lead from a
+//!   sequence to its position and back.
 //! - [`raw`] has the C functions themselves.
 //!
 //! Calls that the library turns away answer a [`Refusal`] with the paper's number, and have changed nothing.
 //!
 //! The static libraries are looked for in target/staticlib of the repository, where `rt staticlib exports`, `rt staticlib
-//! exports_questions`, `rt staticlib exports_lists`, `rt staticlib exports_precedence`, `rt staticlib exports_vault` and `rt
-//! staticlib exports_replay` leave them, or in the folder that the environment variable MOULDGREY_LIBRARIES names.
+//! exports_questions`, `rt staticlib exports_lists`, `rt staticlib exports_precedence`, `rt staticlib exports_vault`, `rt
+//! staticlib exports_short_histories` and `rt staticlib exports_replay` leave them, or in the folder that the environment variable
+//! MOULDGREY_LIBRARIES names.
 
 mod header;
 pub mod lent;
 pub mod raw;
 mod refusal;
+mod short_histories;
 mod subset;
 mod table;
 #[cfg(test)]
@@ -25,6 +29,7 @@ mod vault;
 
 pub use header::{DEAD, Header, Lengths, Merge, Opening, Version};
 pub use refusal::{Refusal, Stop};
+pub use short_histories::{LONGEST, ShortHistories, Step, position_of, sequence_at};
 pub use subset::{Constraint, Left, LeftIn, Page, Subset, SubsetRef, Written};
 pub use table::{NoTable, Row, Rows, Stores, Table, intersect};
 pub use vault::{from_columns, to_columns};

@@ -268,6 +268,28 @@ unsafe extern "C" {
         output: *mut u32,
         output_len: usize,
     ) -> u32;
+    pub fn mouldgrey_step_at(step: u32, words: *mut u32, words_len: usize) -> u32;
+    pub fn mouldgrey_position_of(
+        sequence: *const u32,
+        sequence_len: usize,
+        words: *mut u32,
+        words_len: usize,
+    ) -> u32;
+    pub fn mouldgrey_sequence_at(
+        position: u32,
+        output: *mut u32,
+        output_len: usize,
+        words: *mut u32,
+        words_len: usize,
+    ) -> u32;
+    pub fn mouldgrey_next_sequence(
+        sequence: *const u32,
+        sequence_len: usize,
+        output: *mut u32,
+        output_len: usize,
+        words: *mut u32,
+        words_len: usize,
+    ) -> u32;
     pub fn mouldgrey_replay(
         columns: u32,
         key_columns: u32,

@@ -26,6 +26,10 @@ pub enum Refusal {
     BrokenRow = 13,
     /// A number of pairs outside 1 to 16.
     PairCount = 14,
+    /// A sequence of more than six steps, or a step that does not exist.
+    UnknownSequence = 15,
+    /// A position past that of the last sequence.
+    PastTheLast = 16,
     /// A noted version of another generation, or of more rows than there are.
     OldNote = 18,
 }
@@ -40,7 +44,7 @@ pub enum Stop {
 }
 
 impl Refusal {
-    pub const ALL: [Refusal; 11] = [
+    pub const ALL: [Refusal; 13] = [
         Refusal::OutOfBounds,
         Refusal::TooShort,
         Refusal::WrongWidth,
@@ -51,6 +55,8 @@ impl Refusal {
         Refusal::LastGeneration,
         Refusal::BrokenRow,
         Refusal::PairCount,
+        Refusal::UnknownSequence,
+        Refusal::PastTheLast,
         Refusal::OldNote,
     ];
 
@@ -75,6 +81,8 @@ impl Refusal {
             Refusal::LastGeneration => "the generation cannot rise",
             Refusal::BrokenRow => "not a multiple of the width",
             Refusal::PairCount => "a number of pairs outside 1 to 16",
+            Refusal::UnknownSequence => "more than six steps, or an unknown step",
+            Refusal::PastTheLast => "a position past the last",
             Refusal::OldNote => "a noted version of another generation or of more rows",
         }
     }

@@ -423,6 +423,33 @@ fn column_order_and_back() {
     assert_eq!((&output[..6], &output[6..]), (&columns[..], &[1, 1][..]));
 }
 
+#[test]
+fn every_short_history() {
+    let mut sequences = ShortHistories::new();
+    let first: Vec<Vec<u32>> = sequences.by_ref().take(9).collect();
+    assert_eq!(first[..3], [vec![], vec![0], vec![1]]);
+    assert_eq!(first[7..], [vec![6], vec![0, 0]]);
+    assert_eq!(sequences.count(), 137_257 - 9);
+    assert_eq!(sequence_at(137_256), Ok(vec![6; LONGEST]));
+    assert_eq!(sequence_at(137_257), Err(Refusal::PastTheLast));
+    assert_eq!(position_of(&[0, 0]), Ok(8));
+    assert_eq!(position_of(&[7]), Err(Refusal::UnknownSequence));
+    assert_eq!(position_of(&[0; 7]), Err(Refusal::UnknownSequence));
+    assert_eq!(Step::numbered(2), Ok(Step::Insert([1, 0, 1])));
+    assert_eq!(Step::numbered(5), Ok(Step::Remove([1])));
+    assert_eq!(Step::numbered(6), Ok(Step::Merge));
+    assert_eq!(Step::numbered(7), Err(Refusal::UnknownSequence));
+    let mut output = [9; 3];
+    assert_eq!(lent::next_sequence(&[6], &mut output), Ok(Some(2)));
+    assert_eq!(output, [0, 0, 9]);
+    assert_eq!(lent::next_sequence(&[6; 6], &mut output), Ok(None));
+    assert_eq!(
+        lent::sequence_at(137_256, &mut output),
+        Err(Refusal::TooShort)
+    );
+    assert_eq!(output, [0, 0, 9]);
+}
+
 /// A kind, a count and so many words.
 fn item(words: &mut Vec<u32>, kind: u32, cells: &[u32]) {
     words.extend([kind, cells.len() as u32]);

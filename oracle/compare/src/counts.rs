@@ -196,6 +196,9 @@ pub struct Counts {
 /// Places for the numbers 0, accepted, to 18 and `AGAIN`.
 type Outcomes = BTreeMap<usize, [u64; 20]>;
 
+/// The place of merges in `KINDS`.
+const MERGE: usize = 4;
+
 /// The place of a step's kind in `KINDS`.
 fn kind(act: &Act) -> usize {
     match act {
@@ -204,7 +207,7 @@ fn kind(act: &Act) -> usize {
             Call::Insert(_) => 1,
             Call::RemoveKey(_) => 2,
             Call::RemoveRow(..) => 3,
-            Call::Merge => 4,
+            Call::Merge => MERGE,
             Call::Compact => 5,
             Call::Clear => 6,
         },
@@ -264,6 +267,16 @@ impl Counts {
     /// Answers that both judges gave.
     pub fn compared(&self) -> u64 {
         self.asked.values().flatten().sum()
+    }
+
+    /// Merges that both judges answered.
+    pub fn merges(&self) -> u64 {
+        self.asked.get(&MERGE).into_iter().flatten().sum()
+    }
+
+    /// How often something was seen.
+    pub fn times(&self, name: &str) -> u64 {
+        self.features.get(name).copied().unwrap_or_default()
     }
 
     /// Counts questions about lists as long as a list may be, or longer by one.
@@ -737,7 +750,7 @@ impl Counts {
             }
         }
         for name in OFTEN {
-            let times = self.features.get(name).copied().unwrap_or_default();
+            let times = self.times(name);
             if times < TIMES {
                 missing.push(format!("{name}: only {times} times"));
             }

@@ -14,6 +14,7 @@ mod questions;
 mod record;
 mod replays;
 mod run;
+mod sequences;
 mod short;
 mod shrink;
 #[cfg(test)]
@@ -31,6 +32,7 @@ usage: oracle                   the gate's run: all short histories, many by cha
        oracle proved COUNT SEED the same for the proved table beside the plain one
        oracle full              histories of the largest tables, for the Rust and the proved table
        oracle lists N SEED      lists of calls and of questions, each by one call of the proved library
+       oracle sequences         every short history of document 02, under all four rules
        oracle batches N SEED    so many batches of inserts, each cut at every place
        oracle hostile           the gate's calls on stores that nobody made, a part of its run
        oracle hostile N SEED    at least N calls of all C functions on stores that nobody made
@@ -85,6 +87,7 @@ fn command(arguments: &[&str]) -> Result<(), String> {
             run::full(&RUST)?;
             run::full(&PROVED)
         }
+        ["sequences"] => print(every_sequence()?),
         ["batches", count, seed] => print(vec![batches::gate(number(count)?, number(seed)?)?]),
         ["hostile"] => print(hostile::gate(HOSTILE_CALLS, HOSTILE_SEED)?),
         ["hostile", calls, seed] => print(hostile::run(number(calls)?, number(seed)?)?),
@@ -109,12 +112,36 @@ fn gate() -> Result<(), String> {
         "lists of calls and of questions, each by one call of the proved library, and the plain table:"
     );
     print(replays::gate()?)?;
+    println!("every short history, from the proved generator, under all four rules:");
+    print(every_sequence()?)?;
     println!("batches of inserts cut anywhere:");
     println!("  {}", batches::gate(BATCHES, BATCH_SEED)?);
     println!("the proved library and the Rust:");
     print(proved::compare()?)?;
     println!("the proved library on hostile stores:");
     end_hostile(hostile)
+}
+
+/// A line for each rival. Only the Rust ends at a stop.
+fn every_sequence() -> Result<Vec<String>, String> {
+    let proved = run::every_sequence(&PROVED)?;
+    let rust = run::every_sequence(&RUST)?;
+    Ok(vec![
+        format!(
+            "{} histories beside the proved table: {} answers, {} of them of merges; {} merges stop with 9",
+            proved.short_histories,
+            proved.compared(),
+            proved.merges(),
+            proved.times("merge: stop 9"),
+        ),
+        format!(
+            "{} histories beside the Rust: {} answers, {} of them of merges; {} end at the first stop",
+            rust.short_histories,
+            rust.compared(),
+            rust.merges(),
+            rust.times("ended: stop 9, the Rust panics"),
+        ),
+    ])
 }
 
 /// Hostile stores are a process of their own beside the rest: a fault there is theirs alone, and neither waits for the other.

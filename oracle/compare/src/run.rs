@@ -6,6 +6,7 @@ use crate::full;
 use crate::generate::{ANY, history};
 use crate::history::Step;
 use crate::known;
+use crate::sequences;
 use crate::short::{families, small_questions};
 use crate::shrink::{lines, shrink};
 use calls::Judge;
@@ -59,6 +60,17 @@ pub fn gate_proved<J: Judge>(proved: &Rival<J>) -> Result<String, String> {
         counts.full_histories,
         counts.compared()
     ))
+}
+
+/// Every short history of document 02, under all four rules. None of them compacts, and none fills its table.
+pub fn every_sequence<J: Judge>(rival: &Rival<J>) -> Result<Counts, String> {
+    let mut counts = Counts::default();
+    in_parts(rival, &mut counts, &sequence_part)?;
+    let wrong = ["merge: compacts by itself", "merge: stop 8"];
+    match wrong.iter().find(|name| counts.times(name) > 0) {
+        None => Ok(counts),
+        Some(name) => Err(format!("a short history that should not: {name}")),
+    }
 }
 
 /// The histories of full size alone.
@@ -155,7 +167,7 @@ fn chance_part<J: Judge>(
 
 fn short_part<J: Judge>(
     rival: &Rival<J>,
-    (part, parts): Part,
+    part: Part,
     counts: &mut Counts,
     stop: &AtomicBool,
 ) -> Option<Found> {
@@ -163,7 +175,32 @@ fn short_part<J: Judge>(
     let sequences = families
         .iter()
         .flat_map(|family| (0..family.count()).map(|index| family.history(index)));
-    let histories = sequences.chain(small_questions());
+    shared_out(
+        rival,
+        sequences.chain(small_questions()),
+        part,
+        counts,
+        stop,
+    )
+}
+
+fn sequence_part<J: Judge>(
+    rival: &Rival<J>,
+    part: Part,
+    counts: &mut Counts,
+    stop: &AtomicBool,
+) -> Option<Found> {
+    shared_out(rival, sequences::histories(), part, counts, stop)
+}
+
+/// Compares a part's share of some short histories.
+fn shared_out<J: Judge>(
+    rival: &Rival<J>,
+    histories: impl Iterator<Item = Vec<Step>>,
+    (part, parts): Part,
+    counts: &mut Counts,
+    stop: &AtomicBool,
+) -> Option<Found> {
     for (number, steps) in histories.enumerate() {
         if number as u64 % parts != part {
             continue;

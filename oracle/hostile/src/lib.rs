@@ -10,6 +10,7 @@ mod lists;
 mod memory;
 mod parts;
 mod report;
+mod sequences;
 mod session;
 #[cfg(test)]
 mod tests;

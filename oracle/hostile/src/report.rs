@@ -7,7 +7,7 @@ use std::collections::BTreeMap;
 /// not fit".
 type Kind = (&'static str, &'static [usize]);
 
-pub const SHIPPED: [Kind; 24] = [
+pub const SHIPPED: [Kind; 28] = [
     ("mouldgrey_open_table", &[1, 2]),
     ("mouldgrey_stage_insert", &[1, 3, 7]),
     ("mouldgrey_stage_remove", &[1, 3, 7]),
@@ -30,6 +30,10 @@ pub const SHIPPED: [Kind; 24] = [
     ("mouldgrey_intersect", &[2, 4]),
     ("mouldgrey_to_columns", &[1, 2, 13]),
     ("mouldgrey_from_columns", &[1, 2, 13]),
+    ("mouldgrey_step_at", &[2, 15]),
+    ("mouldgrey_position_of", &[2, 15]),
+    ("mouldgrey_sequence_at", &[2, 16]),
+    ("mouldgrey_next_sequence", &[2, 15]),
     ("mouldgrey_replay", &[1, 2]),
     ("mouldgrey_ask", &[1, 2]),
 ];

@@ -6,6 +6,7 @@ use crate::image::{Image, hostile_number};
 use crate::lists;
 use crate::parts;
 use crate::report::Change;
+use crate::sequences;
 use crate::session::Session;
 use calls::{Call, Header, Opening};
 use chance::Rng;
@@ -29,13 +30,14 @@ pub fn trial(session: &mut Session, seed: u64) -> Result<(), String> {
     if rng.below(3_000) == 0 {
         return large(session, rng);
     }
-    match rng.below(23) {
+    match rng.below(24) {
         0..=10 => one_word(session, rng),
         11..=13 => many_words(session, rng),
         14..=16 => garbage(session, rng),
         17 => hostile_header(session, rng),
         18 => columns::calls(session, rng),
         19 | 20 => lists::calls(session, rng),
+        21 => sequences::calls(session, rng),
         _ => parts::calls(session, rng),
     }
 }

@@ -7,6 +7,7 @@ mod model;
 mod questions;
 mod refusals;
 mod rules;
+mod sequences;
 mod sound;
 mod subsets;
 mod table;
@@ -18,6 +19,7 @@ pub use columns::{from_columns, test_columns, to_columns};
 pub use layout::{key_hash, record, slots_in_use};
 use model::Model;
 pub use refusals::{test_call, test_question, test_soundness};
+pub use sequences::{sequences, short_opening, steps, test_output, test_position, test_sequence};
 pub use sound::is_sound;
 use std::collections::BTreeMap;
 

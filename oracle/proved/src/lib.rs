@@ -7,6 +7,7 @@ mod keys;
 mod offsets;
 mod ranges;
 mod rules;
+mod sequences;
 
 /// Everything that is exported so far, a line for each part.
 pub fn compare() -> Result<Vec<String>, String> {
@@ -21,5 +22,6 @@ pub fn compare() -> Result<Vec<String>, String> {
         keys::index()?,
         ranges::fast_ranges()?,
         columns::compare()?,
+        sequences::compare()?,
     ])
 }

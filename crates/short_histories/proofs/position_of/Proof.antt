@@ -1,0 +1,22 @@
+-- `short_histories::position_of` meets its contract. Assumes nothing.
+use mathlib.Core.Path.{sym, _∙_}
+use borrow.Author.Needs.{needs}
+use borrow.Author.Tests.{not-true, not-false}
+use Rattle.short_histories.specs.Laws.Refusals.{position-refused, position-told}
+use Rattle.short_histories.proofs.position_of.Statement.{statement}
+use Rattle.short_histories.proofs.position_of.Tie as tie
+
+is-known-requires : tie.Need-is-known-requires
+is-known-requires c κs = search needs
+
+returns : tie.Need-returns
+returns c = position-refused _ (sym (c .before .is-known .ensures) ∙ not-true _ (c .if1 .taken))
+
+known-position-requires : tie.Need-known-position-requires
+known-position-requires c κs = sym (c .before .is-known .ensures) ∙ not-false _ (c .if1 .left)
+
+returns-2 : tie.Need-returns-2
+returns-2 c = position-told _ (sym (c .before .before .is-known .ensures) ∙ not-false _ (c .before .if1 .left)) _ (c .known-position .ensures .0)
+
+pub position-of-spec : {M : Type 1} → statement M
+position-of-spec = tie.close (tie.spec is-known-requires returns known-position-requires returns-2)

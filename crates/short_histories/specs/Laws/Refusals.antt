@@ -1,0 +1,96 @@
+-- The ladders' tests one by one, and the ways out of the entry points. Assumes nothing.
+use Prim.Native.Nat.{ℕ, suc, _+_, _≤_, _<_}
+use mathlib.Core.Path.{_≡_, refl, sym}
+use mathlib.Core.Bool.{true, false}
+use mathlib.Core.List.{List}
+use mathlib.Core.Option.{none, some}
+use native.Mathlib.Omega.{arith}
+use lib.ListN.{length}
+use borrow.Author.Tests.{lt-ltb, le-ltb, lt-leb, le-leb}
+use Rattle.lists.specs.Lists.{putAt}
+use Rattle.lists.specs.Laws.Parts.{putAt-nil}
+use Rattle.refusals.specs.Refusals.{first, reply}
+use Rattle.short_histories.specs.declared.PositionAnswer.the-variants.{Refused as PositionRefused, Position}
+use Rattle.short_histories.specs.declared.SequenceAnswer.{SequenceAnswer}
+use Rattle.short_histories.specs.declared.SequenceAnswer.the-variants.{Refused, None, Written}
+use Rattle.short_histories.specs.Sequences.{shortHistories, positionOf, sequenceAt, nextAfter, known, positionRefusal, sequenceRefusal, stepsOf, nextRefusal, positionSays, sequenceSays, lengthOf, PositionTold, SequenceFound, NextFound}
+use Rattle.short_histories.specs.Laws.Positions.{short-histories-counted}
+
+-- ---- the position of a sequence
+
+module _ (sequence : List ℕ) where
+  pub position-refused : known sequence ≡ false → PositionTold sequence (PositionRefused 15)
+  unfolding positionSays positionRefusal first reply
+  position-refused e = rw e
+
+  pub position-told : known sequence ≡ true → (position : ℕ) → position ≡ positionOf sequence → PositionTold sequence (Position position)
+  unfolding positionSays positionRefusal first reply
+  position-told e position p = rw (e, p)
+
+-- ---- the sequence at a position
+
+module _ (position : ℕ) (output : List ℕ) where
+  past-last : 137257 ≤ position → sequenceRefusal position (length output) ≡ 16
+  unfolding sequenceRefusal first
+  past-last h = rw (le-leb (length shortHistories) position (let q = short-histories-counted in omega arith))
+
+  no-room : position < 137257 → length output < length (sequenceAt position) → sequenceRefusal position (length output) ≡ 2
+  unfolding sequenceRefusal first
+  no-room h k = rw (lt-leb (length shortHistories) position (let q = short-histories-counted in omega arith), lt-ltb _ _ k)
+
+  fits : position < 137257 → length (sequenceAt position) ≤ length output → sequenceRefusal position (length output) ≡ 0
+  unfolding sequenceRefusal first
+  fits h k = rw (lt-leb (length shortHistories) position (let q = short-histories-counted in omega arith), le-ltb _ _ k)
+
+  pub sequence-past-last : 137257 ≤ position → SequenceFound position output (Refused 16) output
+  unfolding sequenceSays reply
+  sequence-past-last h =
+      rw (past-last h) (record { answers = refl; written = λ e. absurd (omega arith); unchanged = λ k. refl })
+
+  pub sequence-no-room : position < 137257 → (steps : ℕ) → steps ≡ length (sequenceAt position) → length output < steps
+      → SequenceFound position output (Refused 2) output
+  unfolding sequenceSays reply
+  sequence-no-room h steps e k =
+      rw (no-room h (rw (← e) k)) (record { answers = refl; written = λ e. absurd (omega arith); unchanged = λ l. refl })
+
+  pub sequence-written : position < 137257 → (steps : ℕ) → steps ≡ length (sequenceAt position) → steps ≤ length output → (output′ : List ℕ)
+      → output′ ≡ putAt output 0 (sequenceAt position) → SequenceFound position output (Written steps) output′
+  unfolding sequenceSays reply lengthOf stepsOf
+  sequence-written h steps e k output′ w =
+      rw (fits h (rw (← e) k), e, w) (record { answers = refl; written = λ z. refl; unchanged = λ l. absurd (omega arith) })
+
+-- ---- the next sequence
+
+module _ (sequence output : List ℕ) where
+  pub next-unknown : known sequence ≡ false → NextFound sequence output (Refused 15) output
+  unfolding sequenceSays reply nextRefusal first
+  next-unknown e = rw e (record { answers = refl; written = λ z. absurd (omega arith); unchanged = λ l. refl })
+
+  last : 137257 ≤ suc (positionOf sequence) → nextAfter sequence ≡ none
+  unfolding nextAfter
+  last h = rw (le-ltb (suc (positionOf sequence)) (length shortHistories) (let q = short-histories-counted in omega arith))
+
+  pub next-none : known sequence ≡ true → (position : ℕ) → position ≡ positionOf sequence → 137257 ≤ position + 1
+      → NextFound sequence output None output
+  unfolding sequenceSays reply nextRefusal first stepsOf lengthOf
+  next-none e position p h =
+      let room : length (stepsOf none) ≤ length output = omega arith in
+      rw (e, last (omega arith), le-ltb (length output) (length (stepsOf none)) room)
+      (record { answers = refl; written = λ z. sym (putAt-nil output 0); unchanged = λ l. absurd (omega arith) })
+
+  further : suc (positionOf sequence) < 137257 → nextAfter sequence ≡ some (sequenceAt (suc (positionOf sequence)))
+  unfolding nextAfter
+  further h = rw (lt-ltb (suc (positionOf sequence)) (length shortHistories) (let q = short-histories-counted in omega arith))
+
+  -- past the first test it is the sequence at the next position
+  next-is : known sequence ≡ true → suc (positionOf sequence) < 137257
+      → nextRefusal sequence (length output) ≡ sequenceRefusal (suc (positionOf sequence)) (length output)
+  unfolding nextRefusal sequenceRefusal first stepsOf
+  next-is e h = rw (e, further h, lt-leb (length shortHistories) (suc (positionOf sequence)) (let q = short-histories-counted in omega arith))
+
+  pub next-written : known sequence ≡ true → (position : ℕ) → position ≡ positionOf sequence → position + 1 < 137257
+      → (answer : SequenceAnswer) (output′ : List ℕ) → SequenceFound (position + 1) output answer output′ → NextFound sequence output answer output′
+  next-written e position p h answer output′ f =
+      let k : suc (positionOf sequence) < 137257 = omega arith in
+      let n : position + 1 ≡ suc (positionOf sequence) = omega arith in
+      rw (next-is e k, further k, ← n) f

@@ -1,0 +1,54 @@
+-- The seven steps spelled out, and that their table takes them. Assumes nothing.
+use Prim.Native.Nat.{ℕ, suc, _≤_}
+use mathlib.Core.Path.{_≡_, refl}
+use mathlib.Core.Logic.{_≢_}
+use mathlib.Core.Bool.{Bool, true, false}
+use native.Mathlib.Omega.{arith}
+use lib.Dec.{eqb}
+use borrow.Author.Tests.{le-leb}
+use Rattle.lists.specs.Lists.{every}
+use Rattle.refusals.specs.Refusals.{first, reply}
+use Rattle.plain.specs.Staged.{openable, wordsOf}
+use Rattle.plain.specs.Refusing.{wrongWidth, noSuchRow, overfull, stageLadder}
+use Rattle.plain.specs.Calls.{Call, staging, merging, compacting, clearing}
+use Rattle.short_histories.specs.declared.StepAnswer.{StepAnswer}
+use Rattle.short_histories.specs.declared.StepAnswer.the-variants.{Refused, Insert, Remove, Merge}
+use Rattle.short_histories.specs.Sequences.{shortOpening, thirdCell, inserting, removing, steps, stepCall, stepRefusal, stepSays, StepTold}
+
+-- the table is one that can be opened, under each of the four rules
+pub short-openable : (rule : ℕ) → rule ≤ 3 → openable (shortOpening rule) ≡ true
+unfolding openable shortOpening
+short-openable rule h = rw (le-leb rule 3 h)
+
+-- a staging is not turned away where five words are free, as many as an insert takes
+unfoldable pub fits : ℕ → Call → Bool
+fits rule (staging r) = eqb (stageLadder false (shortOpening rule) 0 0 5 r) 0
+fits rule merging = true
+fits rule compacting = false
+fits rule clearing = false
+
+pub steps-fit : (rule : ℕ) → every (fits rule) steps ≡ true
+unfolding every fits steps inserting removing thirdCell shortOpening stageLadder first wrongWidth noSuchRow overfull wordsOf
+steps-fit rule = refl
+
+-- step, key, stamp, third cell
+pub steps-told : StepTold 0 (Insert 0 0 0) × StepTold 1 (Insert 0 1 1) × StepTold 2 (Insert 1 0 1) × StepTold 3 (Insert 1 1 0) × StepTold 4 (Remove 0) × StepTold 5 (Remove 1) × StepTold 6 Merge
+unfolding stepSays reply stepRefusal first stepCall steps inserting removing thirdCell
+steps-told = (refl, refl, refl, refl, refl, refl, refl)
+
+pub told-at : (k step : ℕ) (answer : StepAnswer) → StepTold k answer → step ≡ k → StepTold step answer
+told-at k step answer t e = rw e t
+
+above : (n step : ℕ) → n ≤ step → step ≢ n → suc n ≤ step
+above n step h k = omega arith
+
+above-none : (step : ℕ) → step ≢ 0 → 1 ≤ step
+above-none step k = omega arith
+
+pub past-six : (step : ℕ) → step ≢ 0 → step ≢ 1 → step ≢ 2 → step ≢ 3 → step ≢ 4 → step ≢ 5 → step ≢ 6 → 7 ≤ step
+past-six step a b c d e f g =
+    above 6 step (above 5 step (above 4 step (above 3 step (above 2 step (above 1 step (above-none step a) b) c) d) e) f) g
+
+pub step-unknown : (step : ℕ) → 7 ≤ step → StepTold step (Refused 15)
+unfolding stepSays reply stepRefusal first
+step-unknown step h = rw (le-leb 7 step h)

@@ -1,0 +1,148 @@
+-- Every short history (document 02, change 10): the seven steps, all sequences of at most six of them in one list, and the ways
+-- between a sequence and its place in that list. Assumes nothing.
+use Prim.Native.Nat.{ℕ, zero, suc, _-_, _<_}
+use mathlib.Core.Path.{_≡_}
+use mathlib.Core.Bool.{Bool, not, cond, _&&_}
+use mathlib.Core.List.{List, [], _∷_, _++_, map}
+use mathlib.Core.Option.{Option, none, some}
+use lib.ListN.{length, getD}
+use lib.Dec.{leb, ltb}
+use Rattle.lists.specs.Lists.{putAt, every, flat, countFrom, same}
+use Rattle.refusals.specs.Refusals.{rung, first, Reply, refused, accepted, reply}
+use Rattle.plain.specs.Staged.{Opening, insert, removeKey}
+use Rattle.plain.specs.Calls.{Call, staging, merging}
+use Rattle.short_histories.specs.declared.StepAnswer.{StepAnswer}
+use Rattle.short_histories.specs.declared.StepAnswer.the-variants.{Refused as StepRefused, Insert, Remove, Merge}
+use Rattle.short_histories.specs.declared.PositionAnswer.{PositionAnswer}
+use Rattle.short_histories.specs.declared.PositionAnswer.the-variants.{Refused as PositionRefused, Position}
+use Rattle.short_histories.specs.declared.SequenceAnswer.{SequenceAnswer}
+use Rattle.short_histories.specs.declared.SequenceAnswer.the-variants.{Refused as SequenceRefused, None as NoSequence, Written}
+
+-- ---- the steps
+
+-- "three columns, one key, sort column 1, capacity 6"; "all four rules": the tables that the steps are for. The comparison opens
+-- them so; no promise below speaks of a table
+unfoldable pub shortOpening : ℕ → Opening
+shortOpening rule = record { columns = 3; keys = 1; sort = 1; rule = rule; capacity = 6 }
+
+-- "the third cell being the stamp for key 0 and 1 minus the stamp for key 1"
+unfoldable pub thirdCell : ℕ → ℕ → ℕ
+thirdCell zero stamp = stamp
+thirdCell (suc key) stamp = 1 - stamp
+
+unfoldable pub inserting : ℕ → ℕ → Call
+inserting key stamp = staging (insert (key ∷ stamp ∷ thirdCell key stamp ∷ []))
+
+unfoldable pub removing : ℕ → Call
+removing key = staging (removeKey (key ∷ []))
+
+-- "seven steps, numbered from 0 in this order: four inserts (key, then stamp rising), two removals by key (key rising), merge"
+unfoldable pub steps : List Call
+steps = inserting 0 0 ∷ inserting 0 1 ∷ inserting 1 0 ∷ inserting 1 1 ∷ removing 0 ∷ removing 1 ∷ merging ∷ []
+
+-- a step by its number, one of the seven
+unfoldable pub stepCall : ℕ → Call
+stepCall step = getD steps step merging
+
+-- ---- the sequences
+
+-- the sequences of n steps, "in the order of their first differing step": those that begin with step 0, with step 1, and so on
+unfoldable pub sequences : ℕ → List (List ℕ)
+sequences zero = [] ∷ []
+sequences (suc n) = flat (map (λ step. map (λ rest. step ∷ rest) (sequences n)) (countFrom 0 7))
+
+-- those of 0 to n steps, "shorter before longer"
+unfoldable pub sequencesTo : ℕ → List (List ℕ)
+sequencesTo zero = sequences zero
+sequencesTo (suc n) = sequencesTo n ++ sequences (suc n)
+
+-- "every sequence of 0 to 6 steps"
+unfoldable pub shortHistories : List (List ℕ)
+shortHistories = sequencesTo 6
+
+-- the place of a sequence in a list of them, "from 0"
+unfoldable pub placeIn : List (List ℕ) → List ℕ → ℕ
+placeIn [] sequence = 0
+placeIn (s ∷ ss) sequence = cond (same s sequence) 0 (suc (placeIn ss sequence))
+
+-- "the way from a sequence to its position, from 0, and back"
+unfoldable pub positionOf : List ℕ → ℕ
+positionOf sequence = placeIn shortHistories sequence
+
+unfoldable pub sequenceAt : ℕ → List ℕ
+sequenceAt position = getD shortHistories position []
+
+-- the generator: the sequence after this one, none after the last. It is started with the first, the empty one, and gives all
+-- others; that each stands in the list "exactly once" is a law (Laws/Positions)
+unfoldable pub nextAfter : List ℕ → Option (List ℕ)
+nextAfter sequence =
+    cond (ltb (suc (positionOf sequence)) (length shortHistories)) (some (sequenceAt (suc (positionOf sequence)))) none
+
+-- ---- refusals
+
+-- no "length above 6 or an unknown step"
+unfoldable pub known : List ℕ → Bool
+known sequence = leb (length sequence) 6 && every (λ step. ltb step 7) sequence
+
+-- "15, .. an unknown step"
+unfoldable pub stepRefusal : ℕ → ℕ
+stepRefusal step = first (rung (leb 7 step) 15 ∷ [])
+
+unfoldable pub positionRefusal : List ℕ → ℕ
+positionRefusal sequence = first (rung (not (known sequence)) 15 ∷ [])
+
+-- "16, a position past the last", then 2, an output shorter than what is to be written
+unfoldable pub sequenceRefusal : ℕ → ℕ → ℕ
+sequenceRefusal position output =
+    first (rung (leb (length shortHistories) position) 16 ∷ rung (ltb output (length (sequenceAt position))) 2 ∷ [])
+
+-- the steps of what is found, none where nothing is
+unfoldable pub stepsOf : Option (List ℕ) → List ℕ
+stepsOf none = []
+stepsOf (some sequence) = sequence
+
+unfoldable pub nextRefusal : List ℕ → ℕ → ℕ
+nextRefusal sequence output =
+    first (rung (not (known sequence)) 15 ∷ rung (ltb output (length (stepsOf (nextAfter sequence)))) 2 ∷ [])
+
+-- ---- answers
+
+unfoldable pub stepSays : StepAnswer → Reply Call
+stepSays (StepRefused n) = refused n
+stepSays (Insert key stamp third) = accepted (staging (insert (key ∷ stamp ∷ third ∷ [])))
+stepSays (Remove key) = accepted (staging (removeKey (key ∷ [])))
+stepSays Merge = accepted merging
+
+unfoldable pub positionSays : PositionAnswer → Reply ℕ
+positionSays (PositionRefused n) = refused n
+positionSays (Position position) = accepted position
+
+-- how many steps were written, if a sequence was
+unfoldable pub sequenceSays : SequenceAnswer → Reply (Option ℕ)
+sequenceSays (SequenceRefused n) = refused n
+sequenceSays NoSequence = accepted none
+sequenceSays (Written n) = accepted (some n)
+
+unfoldable pub lengthOf : Option (List ℕ) → Option ℕ
+lengthOf none = none
+lengthOf (some sequence) = some (length sequence)
+
+-- ---- promises
+
+abbrev pub StepTold : ℕ → StepAnswer → Type 0
+StepTold step answer = stepSays answer ≡ reply (stepRefusal step) (stepCall step)
+
+abbrev pub PositionTold : List ℕ → PositionAnswer → Type 0
+PositionTold sequence answer = positionSays answer ≡ reply (positionRefusal sequence) (positionOf sequence)
+
+-- What is found stands at the start of the output, and nothing is changed past it; on refusal nothing is changed at all.
+pub record SequenceTold (refusal : ℕ) (found : Option (List ℕ)) (output : List ℕ) (answer : SequenceAnswer) (output′ : List ℕ) : Type 0 where
+  pub answers : sequenceSays answer ≡ reply refusal (lengthOf found)
+  pub written : refusal ≡ 0 → output′ ≡ putAt output 0 (stepsOf found)
+  pub unchanged : 0 < refusal → output′ ≡ output
+
+abbrev pub SequenceFound : ℕ → List ℕ → SequenceAnswer → List ℕ → Type 0
+SequenceFound position output = SequenceTold (sequenceRefusal position (length output)) (some (sequenceAt position)) output
+
+abbrev pub NextFound : List ℕ → List ℕ → SequenceAnswer → List ℕ → Type 0
+NextFound sequence output = SequenceTold (nextRefusal sequence (length output)) (nextAfter sequence) output

@@ -1,0 +1,151 @@
+// Every sequence of at most six steps, shorter before longer, equal lengths in the order of their first differing step. A
+// position is its sequence read as a number in base 7 with the digits 1 to 7, a step's digit being its number plus 1: so 0 is
+// the empty sequence, and each number has one sequence.
+ghost use mathlib.Core.Path.{_≡_};
+ghost use mathlib.Core.Bool.{true};
+ghost use Prim.Native.Nat.{_≤_, _<_};
+ghost use lib.ListN.{length};
+ghost use Rattle.lists.specs.Lists.{putAt};
+ghost use Rattle.short_histories.specs.Sequences.{sequenceAt, positionOf, known, StepTold, PositionTold, SequenceFound, NextFound};
+
+// How many sequences there are: 1 + 7 + 49 + ... + 117649.
+const SEQUENCES: u32 = 137257;
+
+const STEPS: u32 = 7;
+
+const LONGEST: usize = 6;
+
+pub enum StepAnswer {
+    Refused(u32),
+    // key, stamp, third cell
+    Insert(u32, u32, u32),
+    Remove(u32),
+    Merge,
+}
+
+pub enum PositionAnswer {
+    Refused(u32),
+    Position(u32),
+}
+
+pub enum SequenceAnswer {
+    Refused(u32),
+    None,
+    // how many steps
+    Written(u32),
+}
+
+// What a step is.
+pub fn step_at(step: u32) -> StepAnswer
+    ensures { λ r. ⌜ StepTold step r ⌝ }
+{
+    match step {
+        0 => StepAnswer::Insert(0, 0, 0),
+        1 => StepAnswer::Insert(0, 1, 1),
+        2 => StepAnswer::Insert(1, 0, 1),
+        3 => StepAnswer::Insert(1, 1, 0),
+        4 => StepAnswer::Remove(0),
+        5 => StepAnswer::Remove(1),
+        6 => StepAnswer::Merge,
+        _ => StepAnswer::Refused(15),
+    }
+}
+
+// Whether a sequence has at most six steps, each a known one.
+fn is_known(sequence: &[u32]) -> bool
+    ensures { λ r. ⌜ r ≡ known (now (sequence .entry)) ⌝ }
+{
+    if sequence.len() > LONGEST {
+        return false;
+    }
+    let mut i = 0;
+    while i < sequence.len() {
+        if sequence[i] >= STEPS {
+            return false;
+        }
+        i += 1;
+    }
+    true
+}
+
+// The position of a known sequence.
+fn known_position(sequence: &[u32]) -> u32
+    requires { ⌜ known (now sequence) ≡ true ⌝ }
+    ensures { λ r. ⌜ (r ≡ positionOf (now (sequence .entry))) × (r < 137257) ⌝ }
+{
+    let mut position = 0;
+    let mut i = 0;
+    while i < sequence.len() {
+        position = position * STEPS + sequence[i] + 1;
+        i += 1;
+    }
+    position
+}
+
+// How many steps the sequence at a position has.
+fn length_at(position: u32) -> usize
+    requires { ⌜ position < 137257 ⌝ }
+    ensures { λ r. ⌜ (r ≡ length (sequenceAt position)) × (r ≤ 6) ⌝ }
+{
+    let mut steps = 0;
+    let mut rest = position;
+    while rest > 0 {
+        rest = (rest - 1) / STEPS;
+        steps += 1;
+    }
+    steps
+}
+
+// Writes the sequence at a position, its last step first.
+fn write_sequence(position: u32, steps: usize, output: &mut [u32])
+    requires { ⌜ (position < 137257) × (steps ≡ length (sequenceAt position)) × (steps ≤ length (now output)) ⌝ }
+    ensures { λ _. ⌜ now (output .exit) ≡ putAt (now (output .entry)) 0 (sequenceAt position) ⌝ }
+{
+    let mut at = steps;
+    let mut rest = position;
+    while rest > 0 {
+        at -= 1;
+        output[at] = (rest - 1) % STEPS;
+        rest = (rest - 1) / STEPS;
+    }
+}
+
+// The position of a sequence, or its refusal.
+pub fn position_of(sequence: &[u32]) -> PositionAnswer
+    ensures { λ r. ⌜ PositionTold (now (sequence .entry)) r ⌝ }
+{
+    if !is_known(sequence) {
+        return PositionAnswer::Refused(15);
+    }
+    PositionAnswer::Position(known_position(sequence))
+}
+
+// Writes the sequence at a position to the start of the output, and tells how many steps it has.
+pub fn sequence_at(position: u32, output: &mut [u32]) -> SequenceAnswer
+    ensures { λ r. ⌜ SequenceFound position (now (output .entry)) r (now (output .exit)) ⌝ }
+{
+    if position >= SEQUENCES {
+        return SequenceAnswer::Refused(16);
+    }
+    let steps = length_at(position);
+    if output.len() < steps {
+        return SequenceAnswer::Refused(2);
+    }
+    write_sequence(position, steps, output);
+    SequenceAnswer::Written(steps as u32)
+}
+
+// Writes the sequence after this one to the start of the output, and tells how many steps it has; none after the last. From the
+// empty sequence on it gives all others.
+pub fn next_sequence(sequence: &[u32], output: &mut [u32]) -> SequenceAnswer
+    ensures { λ r. ⌜ NextFound (now (sequence .entry)) (now (output .entry)) r (now (output .exit)) ⌝ }
+{
+    if !is_known(sequence) {
+        return SequenceAnswer::Refused(15);
+    }
+    let position = known_position(sequence) + 1;
+    if position >= SEQUENCES {
+        return SequenceAnswer::None;
+    }
+    sequence_at(position, output)
+}
