@@ -1,16 +1,17 @@
 -- What each answer says, and the tests of an intersection one by one. Assumes nothing.
 use Prim.Native.Nat.{ℕ, zero, suc, _≤_, _<_, min, max}
-use mathlib.Core.Path.{_≡_, refl, _∙_}
+use mathlib.Core.Path.{_≡_, refl, sym, _∙_}
 use mathlib.Core.Logic.{inl, inr}
-use mathlib.Core.Bool.{Bool, true, false}
+use mathlib.Core.Bool.{Bool, true, false, _&&_}
 use mathlib.Core.List.{List, [], _∷_}
 use native.Mathlib.Decide.{decLt}
 use native.Mathlib.Omega.{arith}
+use lib.Dec.{leb}
 use lib.ListN.{length}
-use borrow.Author.Tests.{lt-ltb, le-ltb}
+use borrow.Author.Tests.{lt-ltb, le-ltb, lt-leb, le-leb}
 use Rattle.lists.specs.Lists.{keep, within}
 use Rattle.lists.specs.Laws.Parts.{putAt-nil}
-use Rattle.lists.specs.Laws.Keep.{split, length-keep, count-le}
+use Rattle.lists.specs.Laws.Keep.{split, and-left, and-right, length-keep, count-le}
 use Rattle.refusals.specs.Refusals.{first, refused, accepted, reply}
 use Rattle.offsets.specs.declared.SubsetHead.{SubsetHead}
 use Rattle.offsets.specs.declared.SubsetAnswer.{SubsetAnswer}
@@ -97,9 +98,49 @@ pub replied : (a b : Subset) (n : ℕ) → intersectRefusal a b n ≡ 0 → inte
 unfolding intersectReply reply
 replied a b n e = rw e
 
+-- two ranges: one that starts above its end is refused, as is the other; else the reply is their range
+formed-said : (a b : ℕ) → leb a b ≡ wellFormed (range a b)
+unfolding wellFormed
+formed-said a b = refl
+
+no-room : (a b c d n : ℕ) → roomNeeded (range a b) (range c d) ≤ n
+unfolding roomNeeded
+no-room a b c d n = omega arith
+
+intersect-said : (a b c d : ℕ) → intersect (range a b) (range c d) ≡ range (max a c) (max (max a c) (min b d))
+unfolding intersect
+intersect-said a b c d = refl
+
+module _ (a b c d : ℕ) (output : List ℕ) where
+  pub ranges-first : b < a → Answered (intersectReply (range a b) (range c d) (length output)) output (Refused 4) output
+  ranges-first h = answered-refused _ _ _ output 4 (refusal-first _ _ _ (rw (← formed-said a b) (lt-leb a b h))) (λ e. omega arith)
+
+  pub ranges-second : a ≤ b → d < c → Answered (intersectReply (range a b) (range c d) (length output)) output (Refused 4) output
+  ranges-second h i =
+      answered-refused _ _ _ output 4 (refusal-second _ _ _ (rw (← formed-said a b) (le-leb a b h)) (rw (← formed-said c d) (lt-leb c d i))) (λ e. omega arith)
+
+  pub ranges-answered : a ≤ b → c ≤ d
+      → Answered (intersectReply (range a b) (range c d) (length output)) output (Range (max a c) (max (max a c) (min b d))) output
+  ranges-answered h i =
+      let e = refusal-none (range a b) (range c d) (length output) (rw (← formed-said a b) (le-leb a b h)) (rw (← formed-said c d) (le-leb c d i)) (no-room a b c d (length output)) in
+      rw (replied (range a b) (range c d) (length output) (sym e), intersect-said a b c d) (answered-range _ _ output)
+
 -- ---- by kind: the room, what may be kept, and the reply
 
+-- not both are dense
+pub one-list : (f g : Bool) → f && g ≡ false → f ≡ true → g ≡ false
+one-list f g e p = rw p at e
+
 module _ (f g : SubsetHead) (ids others : List ℕ) where
+  -- both are ranges, or one of them is not
+  pub as-ranges : (output : List ℕ) (r : SubsetAnswer) → f .dense && g .dense ≡ true
+      → Answered (intersectReply (range (f .start) (f .end)) (range (g .start) (g .end)) (length output)) output r output
+      → Answered (intersectReply (subsetOf f ids) (subsetOf g others) (length output)) output r output
+  as-ranges output r e w =
+      let p = and-left (f .dense) (g .dense) e in
+      let q = and-right (f .dense) (g .dense) e in
+      rw (dense-is f ids p, dense-is g others q) w
+
   pub room-ranges : f .dense ≡ true → g .dense ≡ true → 0 ≡ roomNeeded (subsetOf f ids) (subsetOf g others)
   unfolding roomNeeded
   room-ranges p q = rw (dense-is f ids p, dense-is g others q)
@@ -138,11 +179,6 @@ module _ (f g : SubsetHead) (ids others output : List ℕ) (e : intersectRefusal
       (fitting-of ids output (searchable-of f ids p (can .formed)) (rw (room-list f g ids others p) (can .fits)), searchable-of g others q (can .formed-other))
 
   module _ (r : SubsetAnswer) (output′ : List ℕ) where
-    pub as-ranges : f .dense ≡ true → g .dense ≡ true → Answered (accepted (range (max (f .start) (g .start)) (max (max (f .start) (g .start)) (min (f .end) (g .end))))) output r output′
-        → Answered (intersectReply (subsetOf f ids) (subsetOf g others) (length output)) output r output′
-    unfolding intersect
-    as-ranges p q w = rw (replied _ _ _ e, dense-is f ids p, dense-is g others q) w
-
     pub as-range-list : f .dense ≡ true → g .dense ≡ false → Answered (accepted (listOrNothing (keep (within (f .start) (f .end)) others))) output r output′
         → Answered (intersectReply (subsetOf f ids) (subsetOf g others) (length output)) output r output′
     unfolding intersect

@@ -1,11 +1,12 @@
 // `intersect` of offsets/mod.rs, with the Rust's forms and thresholds. Lists of like length are walked in step; else the
 // longer one is searched for the ids of the shorter.
 ghost use mathlib.Core.Path.{_≡_};
-ghost use Prim.Native.Nat.{_≤_, min, max};
+ghost use Prim.Native.Nat.{ℕ, _≤_, min, max};
+ghost use mathlib.Core.List.{List};
 ghost use lib.ListN.{length};
 ghost use Rattle.lists.specs.Lists.{putAt, keep, within};
 ghost use Rattle.refusals.specs.Refusals.{accepted};
-ghost use Rattle.offsets.specs.Subsets.{list, listOrNothing};
+ghost use Rattle.offsets.specs.Subsets.{range, list, listOrNothing};
 ghost use Rattle.offsets.specs.Answers.{subsetOf, Answered, roomNeeded, intersectRefusal, intersectReply};
 ghost use Rattle.offsets.specs.inner.Writing.{Wrote};
 ghost use Rattle.intersection.specs.inner.Common.{Fitting, Searchable, common, alike};
@@ -146,8 +147,14 @@ fn smaller(a: u32, b: u32) -> u32
 
 // Two ranges give a range. Where they do not meet it starts and ends at the larger start.
 fn intersect_ranges(a: u32, b: u32, c: u32, d: u32) -> SubsetAnswer
-    ensures { λ r. ⌜ r ≡ SubsetAnswer.Range (max a c) (max (max a c) (min b d)) ⌝ }
+    ensures { λ r. ⌜ ((output : List ℕ) → Answered (intersectReply (range a b) (range c d) (length output)) output r output) ⌝ }
 {
+    if b < a {
+        return SubsetAnswer::Refused(4);
+    }
+    if d < c {
+        return SubsetAnswer::Refused(4);
+    }
     let start = larger(a, c);
     let end = smaller(b, d);
     SubsetAnswer::Range(start, larger(start, end))
@@ -224,7 +231,8 @@ fn intersect_refusal(
     0
 }
 
-// The ids that two subsets have in common, with the Rust's forms. A list is written to the start of the output.
+// The ids that two subsets have in common, with the Rust's forms. A list is written to the start of the output. Two ranges are asked
+// for first: they need no test of a list, which goes through memory, being too long to be inlined.
 pub fn intersect(
     first: SubsetHead,
     first_ids: &[u32],
@@ -234,14 +242,15 @@ pub fn intersect(
 ) -> SubsetAnswer
     ensures { λ r. ⌜ Answered (intersectReply (subsetOf first (now («first_ids» .entry))) (subsetOf second (now («second_ids» .entry))) (length (now (output .entry)))) (now (output .entry)) r (now (output .exit)) ⌝ }
 {
+    let ranges = first.dense & second.dense;
+    if ranges {
+        return intersect_ranges(first.start, first.end, second.start, second.end);
+    }
     let number = intersect_refusal(first, first_ids, second, second_ids, output.len());
     if number != 0 {
         return SubsetAnswer::Refused(number);
     }
     if first.dense {
-        if second.dense {
-            return intersect_ranges(first.start, first.end, second.start, second.end);
-        }
         return intersect_range_list(first.start, first.end, second_ids, output);
     }
     if second.dense {
