@@ -31,20 +31,20 @@ pub const ROW_RANGE: u32 = 0x2_0000;
 
 const HASH_RANGE: u32 = 0x8000;
 
-// The room that so many rows are given, whatever the capacity.
+// The room that so many rows are given, whatever the capacity. A large table takes the shortest way.
 fn room_step(rows: u32) -> u32
     ensures { λ r. ⌜ r ≡ roomStep rows ⌝ }
 {
-    if rows <= 128 {
-        return 128;
+    if 8192 < rows {
+        return 65536;
     }
-    if rows <= 1024 {
-        return 1024;
-    }
-    if rows <= 8192 {
+    if 1024 < rows {
         return 8192;
     }
-    65536
+    if 128 < rows {
+        return 1024;
+    }
+    128
 }
 
 // How many rows the slots in use have room for.

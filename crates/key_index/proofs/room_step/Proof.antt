@@ -7,19 +7,19 @@ use Rattle.key_index.proofs.room_step.Tie as tie
 
 returns : tie.Need-returns
 unfolding roomStep
-returns c = let r = c .before .args .rows in rw (le-leb r 128 (omega arith))
+returns c = let r = c .before .args .rows in rw (lt-leb r 128 (omega arith), lt-leb r 1024 (omega arith), lt-leb r 8192 (omega arith))
 
 returns-2 : tie.Need-returns-2
 unfolding roomStep
-returns-2 c = let r = c .before .before .args .rows in rw (lt-leb r 128 (omega arith), le-leb r 1024 (omega arith))
+returns-2 c = let r = c .before .before .args .rows in rw (lt-leb r 128 (omega arith), lt-leb r 1024 (omega arith), le-leb r 8192 (omega arith))
 
 returns-3 : tie.Need-returns-3
 unfolding roomStep
-returns-3 c = let r = c .before .before .before .args .rows in rw (lt-leb r 128 (omega arith), lt-leb r 1024 (omega arith), le-leb r 8192 (omega arith))
+returns-3 c = let r = c .before .before .before .args .rows in rw (lt-leb r 128 (omega arith), le-leb r 1024 (omega arith))
 
 returns-4 : tie.Need-returns-4
 unfolding roomStep
-returns-4 c = let r = c .before .before .before .args .rows in rw (lt-leb r 128 (omega arith), lt-leb r 1024 (omega arith), lt-leb r 8192 (omega arith))
+returns-4 c = let r = c .before .before .before .args .rows in rw (le-leb r 128 (omega arith))
 
 pub room-step-spec : {M : Type 1} → statement M
 room-step-spec = tie.close (tie.spec returns returns-2 returns-3 returns-4)
