@@ -20,7 +20,7 @@ use Rattle.appending.specs.declared.Insertion.the-variants.{Kept, Appended, Sto
 use Rattle.table.specs.Numbers.{openingOf}
 use Rattle.table.specs.Promises.{Stores, stores, Represents, SlotsPast}
 use Rattle.pending.specs.inner.Becoming.{Becomes, Recounted, Ready, Waiting, kindOf, RecordLength, ofKind, Left, NextRecord}
-use Rattle.insertions.specs.inner.Insertions.{InsertedTable, Insertions, FirstInsert, InsertNext, InsertGoes, InsertedNext}
+use Rattle.insertions.specs.inner.Insertions.{hasAdded, InsertedTable, Insertions, FirstInsert, InsertNext, InsertGoes, InsertedNext}
 use Rattle.inserts.specs.inner.Inserting.{Comes, Inserting}
 use Rattle.pending.specs.Laws.Steps.{steps-refl, steps-then, waiting-start, words-some, waiting-next, waiting-kind, waiting-hash, waiting-cells, recounted-refl, recounted-capacity, recounted-then, recounted-waiting}
 use Rattle.pending.proofs.PassRecords.{Next, record-long}
@@ -43,7 +43,7 @@ goes-stopped : (cells : List ℕ) (rest : List Staged) (place : ℕ) (added : Bo
 unfolding insertAll inserts
 goes-stopped cells rest place added p n e = rw e
 
-abbrev passed : Header → ℕ → ℕ → Bool → Passed
+abbrev passed : Header → ℕ → ℕ → ℕ → Passed
 passed h status place added = record { header = h; status = status; place = place; added = added }
 
 module _ {m : Passed} {rows keys sorts pending : List ℕ} {at : ℕ} (a : InsertNext m rows keys sorts pending at) where
@@ -101,28 +101,28 @@ module _ {m : Passed} {rows keys sorts pending : List ℕ} {at : ℕ} (a : Inser
             record {
               next = p;
               steps = same-steps (λ h′ q. let z : _≡_ {A = ℕ} 0 1 = cc in omega arith) p t;
-              goes-on = λ z. goes-kept cells rest (m .place) (m .added) p (rw e at (comes w p t));
+              goes-on = λ z. goes-kept cells rest (m .place) (hasAdded m) p (rw e at (comes w p t));
               stops = λ f. absurd (f refl);
             }
 
     -- it is appended
-    pub inserted-appended : (h′ : Header) → one ≡ Appended h′ → InsertedNext m rows keys sorts pending at (passed h′ 0 (m .place + 1) true) rows′ keys′ sorts′
+    pub inserted-appended : (h′ : Header) → one ≡ Appended h′ → InsertedNext m rows keys sorts pending at (passed h′ 0 (m .place + 1) 1) rows′ keys′ sorts′
     inserted-appended h′ e =
         record {
           past = i .past;
           header = i .header h′ e;
           place-fits = omega arith;
-          table = λ z. an-insert (passed h′ 0 (m .place + 1) true) goes;
+          table = λ z. an-insert (passed h′ 0 (m .place + 1) 1) goes;
         }
       where
         goes : (cells : List ℕ) (rest : List Staged) → Next (m .header) pending at (insert cells) rest → (p : Plain) → Represents p Before
-            → Goes (passed h′ 0 (m .place + 1) true) (insert cells) rest p
+            → Goes (passed h′ 0 (m .place + 1) 1) (insert cells) rest p
         goes cells rest w p t =
             let x = rw e at (comes w p t) in
             record {
               next = x .0;
               steps = x .2;
-              goes-on = λ z. goes-appended cells rest (m .place) (m .added) p (x .0) (x .1);
+              goes-on = λ z. goes-appended cells rest (m .place) (hasAdded m) p (x .0) (x .1);
               stops = λ f. absurd (f refl);
             }
 
@@ -144,7 +144,7 @@ module _ {m : Passed} {rows keys sorts pending : List ℕ} {at : ℕ} (a : Inser
               next = p;
               steps = same-steps (λ h′ q. let z : _≡_ {A = ℕ} 0 1 = cc in omega arith) p t;
               goes-on = λ z. absurd (omega (arith, x .1));
-              stops = λ f. goes-stopped cells rest (m .place) (m .added) p n (x .0);
+              stops = λ f. goes-stopped cells rest (m .place) (hasAdded m) p n (x .0);
             }
 
 -- ---- where the pass begins
@@ -187,7 +187,7 @@ pub record Inserts (at : ℕ) (m : Passed) (p : Plain) (s s′ : Stores) : Type 
   pub now : Plain
   pub rest : List Staged
   pub waiting : Waiting (openingOf (s .header)) (s .pending) (s .header .pending) at rest
-  pub same : insertAll (inserts (p .staged)) 0 false p ≡ insertAll (inserts rest) (m .place) (m .added) now
+  pub same : insertAll (inserts (p .staged)) 0 false p ≡ insertAll (inserts rest) (m .place) (hasAdded m) now
   pub steps : Becomes p now s s′
 
 -- the loop's invariant
@@ -224,7 +224,7 @@ module _ {h : Header} {rows keys sorts pending : List ℕ} (a : Ready h rows key
   abbrev Start : Stores
   Start = stores h rows keys sorts pending
 
-  pub filling-begin : {at words : ℕ} → FirstInsert h pending at → RecordLength h pending at words → Filling h rows keys sorts pending rows keys sorts (passed h 0 0 false) at words
+  pub filling-begin : {at words : ℕ} → FirstInsert h pending at → RecordLength h pending at words → Filling h rows keys sorts pending rows keys sorts (passed h 0 0 0) at words
   filling-begin f l =
       record {
         here = l;
@@ -280,8 +280,8 @@ module _ {h : Header} {rows keys sorts pending : List ℕ} (a : Ready h rows key
           pub next : Plain
           pub waiting : Waiting (openingOf h) pending (h .pending) (at + words) rest
           pub steps : Becomes p next Start (stores (r .header) rows″ keys″ sorts″ pending)
-          pub goes-on : r .status ≡ 0 → insertAll (inserts (p .staged)) 0 false p ≡ insertAll (inserts rest) (r .place) (r .added) next
-          pub stops : (r .status ≡ 0 → ⊥) → insertAll (inserts (p .staged)) 0 false p ≡ inserted next (r .status) (r .place) (r .added)
+          pub goes-on : r .status ≡ 0 → insertAll (inserts (p .staged)) 0 false p ≡ insertAll (inserts rest) (r .place) (hasAdded r) next
+          pub stops : (r .status ≡ 0 → ⊥) → insertAll (inserts (p .staged)) 0 false p ≡ inserted next (r .status) (r .place) (hasAdded r)
 
         turn : (p : Plain) → Represents p Start → Turn p
         turn p t = go (v .table p t .rest) refl
@@ -293,7 +293,7 @@ module _ {h : Header} {rows keys sorts pending : List ℕ} (a : Ready h rows key
                 let w : Next h pending at first rest = rw e at (g .waiting) in
                 let n : words ≡ wordsOf (openingOf h) first = v .here .next first rest w in
                 let x = one .table (v .going) first rest (recounted-waiting (v .header) w) (g .now) (g .steps .represents) in
-                let q : insertAll (inserts (p .staged)) 0 false p ≡ insertAll (inserts (first ∷ rest)) (m .place) (m .added) (g .now) = rw (← e) (g .same) in
+                let q : insertAll (inserts (p .staged)) 0 false p ≡ insertAll (inserts (first ∷ rest)) (m .place) (hasAdded m) (g .now) = rw (← e) (g .same) in
                 record {
                   rest = rest;
                   next = x .next;
@@ -348,7 +348,7 @@ module _ {h : Header} {rows keys sorts pending : List ℕ} (a : Ready h rows key
             → InsertedTable p Start (stores (m .header) rows′ keys′ sorts′ pending) (passed (m .header) (m .status) 0 (m .added))
         done p t [] e =
             let g = v .table p t in
-            let q : insertAll (inserts (p .staged)) 0 false p ≡ inserted (g .now) 0 0 (m .added) = g .same ∙ rw e (unfold inserts insertAll in refl) in
+            let q : insertAll (inserts (p .staged)) 0 false p ≡ inserted (g .now) 0 0 (hasAdded m) = g .same ∙ rw e (unfold inserts insertAll in refl) in
             record {
               steps = rw q (g .steps);
               status = v .going ∙ sym (ap (λ (y : Inserted). y .status) q);

@@ -10,12 +10,13 @@ use pending::record_length;
 use table::Header;
 use table::INSERT;
 
-// What the passes over the pending records have come to: a merge's answer, before the compaction that may follow.
+// What the passes over the pending records have come to: a merge's answer, before the compaction that may follow. `added` is 1 if
+// a row was appended, and no bool: a struct with a bool is copied byte by byte, and this one is in each turn of a loop.
 pub struct Passed {
     pub header: Header,
     pub status: u32,
     pub place: u32,
-    pub added: bool,
+    pub added: u32,
 }
 
 // Where a pass over the inserts begins: at the first record or, if that is a removal, behind all of its kind that follow it.
@@ -64,7 +65,7 @@ fn insert_next(
             r.header = next;
             r.status = 0;
             r.place = m.place + 1;
-            r.added = true;
+            r.added = 1;
             r
         }
         Insertion::Stopped(number) => {
@@ -89,7 +90,7 @@ pub fn insert_all(
         header: h,
         status: 0,
         place: 0,
-        added: false,
+        added: 0,
     };
     let mut at = first_place(h, pending);
     let mut words = record_length(h, pending, at);

@@ -68,7 +68,7 @@ fn finish(
         header: n,
         status: m.status,
         place: m.place,
-        added: m.added,
+        added: m.added == 1,
         kept: 0,
         dropped: 0,
     };

@@ -1,9 +1,10 @@
 -- What all inserts of a merge promise. Assumes nothing.
 use Prim.Native.Nat.{ℕ, _+_, _≤_, _<_}
 use mathlib.Core.Path.{_≡_}
-use mathlib.Core.Bool.{false}
+use mathlib.Core.Bool.{Bool, false}
 use mathlib.Core.List.{List, _∷_}
 use lib.ListN.{getD}
+use lib.Dec.{eqb}
 use Rattle.plain.specs.Staged.{Staged, inserts}
 use Rattle.plain.specs.Plain.{insertAll, inserted, Plain}
 use Rattle.table.specs.declared.Header.{Header}
@@ -12,12 +13,16 @@ use Rattle.table.specs.Numbers.{openingOf}
 use Rattle.table.specs.Promises.{Stores, stores, Represents, SlotsPast}
 use Rattle.pending.specs.inner.Becoming.{Becomes, Recounted, Ready, Waiting, Left}
 
+-- a row was appended
+abbrev pub hasAdded : Passed → Bool
+hasAdded m = eqb (m .added) 1
+
 -- all inserts
 pub record InsertedTable (p : Plain) (s s′ : Stores) (m : Passed) : Type 0 where
   pub steps : Becomes p (insertAll (inserts (p .staged)) 0 false p .table) s s′
   pub status : m .status ≡ insertAll (inserts (p .staged)) 0 false p .status
   pub place : m .place ≡ insertAll (inserts (p .staged)) 0 false p .place
-  pub added : m .added ≡ insertAll (inserts (p .staged)) 0 false p .added
+  pub added : hasAdded m ≡ insertAll (inserts (p .staged)) 0 false p .added
 
 pub record Insertions (h : Header) (rows keys sorts pending : List ℕ) (m : Passed) (rows′ keys′ sorts′ : List ℕ) : Type 0 where
   pub past : SlotsPast (h .capacity) keys keys′
@@ -42,9 +47,9 @@ pub record InsertGoes (m : Passed) (r : Passed) (one : Staged) (rest : List Stag
   pub next : Plain
   pub steps : Becomes p next s s′
   pub goes-on : r .status ≡ 0
-      → insertAll (inserts (one ∷ rest)) (m .place) (m .added) p ≡ insertAll (inserts rest) (r .place) (r .added) next
+      → insertAll (inserts (one ∷ rest)) (m .place) (hasAdded m) p ≡ insertAll (inserts rest) (r .place) (hasAdded r) next
   pub stops : (r .status ≡ 0 → ⊥)
-      → insertAll (inserts (one ∷ rest)) (m .place) (m .added) p ≡ inserted next (r .status) (r .place) (r .added)
+      → insertAll (inserts (one ∷ rest)) (m .place) (hasAdded m) p ≡ inserted next (r .status) (r .place) (hasAdded r)
 
 pub record InsertedNext (m : Passed) (rows keys sorts pending : List ℕ) (at : ℕ) (r : Passed) (rows′ keys′ sorts′ : List ℕ) : Type 0 where
   pub past : SlotsPast (m .header .capacity) keys keys′

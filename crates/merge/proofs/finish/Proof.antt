@@ -15,8 +15,8 @@ returns-2 c = finish-kept _ _ _ _ _ _ (c .before .before .if1 .left) (sym (c .be
 
 compact-rows-requires : tie.Need-compact-rows-requires
 compact-rows-requires c κs =
-    let s = c .before .before .before .before .before .before .before .before .before .before .before .before .before .before .before in
-    (lendable-emptied (s .pre), due-left (s .args .m .header .dead) (s .args .m .header .rows) (s .args .m .header .generation) (sym (c .before .before .before .before .before .before .is-due .ensures) ∙ not-false _ (c .before .before .before .before .before .if2 .left)) (omega (arith, c .before .before .before .before .before .before .before .before .struct-known .given .0 .1 .1 .1 .1 .1 .1 .1 .1 .1 .0)))
+    let s = c .before .before .before .before .before .before .before .before .before .before .before .before .before .before .before .before in
+    (lendable-emptied (s .pre), due-left (s .args .m .header .dead) (s .args .m .header .rows) (s .args .m .header .generation) (sym (c .before .before .before .before .before .before .is-due .ensures) ∙ not-false _ (c .before .before .before .before .before .if2 .left)) (omega (arith, c .before .before .before .before .before .before .before .before .before .struct-known .given .0 .1 .1 .1 .1 .1 .1 .1 .1 .1 .0)))
 
 returns-3 : tie.Need-returns-3
 returns-3 c =

@@ -9,6 +9,7 @@ use Rattle.plain.specs.Plain.{Plain, applied, live, dead, compacted, unstaged, 
 use Rattle.table.specs.declared.Header.{Header}
 use Rattle.table.specs.declared.Merge.{Merge}
 use Rattle.insertions.specs.declared.Passed.{Passed}
+use Rattle.insertions.specs.inner.Insertions.{hasAdded}
 use Rattle.table.specs.Stores.{headerOf, rowStore, sortStore}
 use Rattle.table.specs.Promises.{Stores, stores, Represents, SlotsPast, PastNeeded}
 use Rattle.pending.specs.inner.Becoming.{Becomes, withCounts}
@@ -20,7 +21,7 @@ pub record AppliedTable (p : Plain) (s s′ : Stores) (m : Passed) : Type 0 wher
   pub steps : Becomes p (applied p .table) s s′
   pub status : m .status ≡ applied p .status
   pub place : m .place ≡ applied p .place
-  pub added : m .added ≡ applied p .added
+  pub added : hasAdded m ≡ applied p .added
 
 pub record Applying (h : Header) (rows keys sorts pending : List ℕ) (m : Passed) (rows′ keys′ sorts′ : List ℕ) : Type 0 where
   pub past : SlotsPast (h .capacity) keys keys′
@@ -38,7 +39,7 @@ finished status p = cond (compactsAfter status p) (compacted (unstaged p)) (unst
 -- what the passes came to, with the header that is left, and what was kept and dropped
 abbrev pub finishedAs : Passed → Header → ℕ → ℕ → Merge
 finishedAs m h kept dropped =
-    record { header = h; status = m .status; place = m .place; added = m .added; kept = kept; dropped = dropped }
+    record { header = h; status = m .status; place = m .place; added = hasAdded m; kept = kept; dropped = dropped }
 
 -- the same of a plain table
 abbrev pub answerOf : Passed → Plain → Merge
