@@ -6,6 +6,7 @@ ghost use Rattle.words.specs.Words.{headerIn, soundNumber, soundWords, CallInWo
 use words::header_of;
 use words::write_merge;
 use words::write_sound;
+use words::write_staged;
 use words::write_table;
 
 #[no_mangle]
@@ -54,7 +55,7 @@ pub extern "C" fn mouldgrey_stage_insert(
         return 1;
     }
     let answer = staging::stage_insert(header_of(header), pending, cells);
-    write_table(answer, header)
+    write_staged(answer, header)
 }
 
 #[no_mangle]
@@ -69,7 +70,7 @@ pub extern "C" fn mouldgrey_stage_remove(
         return 1;
     }
     let answer = staging::stage_remove(header_of(header), pending, key);
-    write_table(answer, header)
+    write_staged(answer, header)
 }
 
 #[no_mangle]
@@ -85,7 +86,7 @@ pub extern "C" fn mouldgrey_stage_remove_row(
         return 1;
     }
     let answer = staging::stage_remove_row(header_of(header), pending, row, key);
-    write_table(answer, header)
+    write_staged(answer, header)
 }
 
 // The answer goes into five words: the stop's number and place, 1 if a row was appended, and how many rows its compaction kept and

@@ -1,3 +1,4 @@
 -- What follows from the definitions.
 pub mod Words
 pub mod Written
+pub mod Staged

@@ -1,2 +1,3 @@
 pub mod Words
+pub mod inner
 pub mod Laws

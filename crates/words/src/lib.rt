@@ -3,6 +3,7 @@
 ghost use mathlib.Core.Path.{_≡_};
 ghost use mathlib.Core.List.{[], _∷_};
 ghost use lib.ListN.{length};
+ghost use Rattle.words.specs.inner.Staged.{PendingAlone};
 ghost use Rattle.words.specs.Words.{bit, largestIn, columnsIn, largestFlag, largestWord, headerIn, headerWords, tableNumber, tableHeader, rowNumber, rowWords, cellNumber, cellWords, rangeNumber, rangeWords, versionNumber, versionWords, soundNumber, soundWords, Told, MergeTold, subsetNumber, subsetWords};
 use offsets::SubsetAnswer;
 use table::CellAnswer;
@@ -139,6 +140,23 @@ pub fn write_table(answer: TableAnswer, words: &mut [u32]) -> u32
         TableAnswer::Refused(number) => number,
         TableAnswer::Table(h) => {
             write_header(h, words);
+            0
+        }
+    }
+}
+
+// Of a staging. It changes no number but that of the pending words, so only that is written, and the last word, which says nothing
+// where there is no largest value.
+pub fn write_staged(answer: TableAnswer, words: &mut [u32]) -> u32
+    requires { ⌜ (length (now words) ≡ 12) × PendingAlone (now words) answer ⌝ }
+    ensures { λ r. ⌜ Told tableNumber (tableHeader (now (words .entry))) answer r (now (words .exit)) ⌝ }
+{
+    match answer {
+        TableAnswer::Refused(number) => number,
+        TableAnswer::Table(h) => {
+            words[8] = h.pending;
+            let largest = h.largest;
+            words[11] = largest_word(largest);
             0
         }
     }

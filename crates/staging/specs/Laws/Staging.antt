@@ -10,7 +10,7 @@ use borrow.Author.Tests.{ltb-false, eqb-true, not-false}
 use Rattle.lists.specs.Lists.{putAt}
 use Rattle.lists.specs.Laws.Parts.{putAt-then, set-putAt, set-set-putAt}
 use Rattle.lists.specs.Laws.Every.{or-no-left, or-no-right}
-use Rattle.refusals.specs.Refusals.{reply}
+use Rattle.refusals.specs.Refusals.{accepted, reply}
 use Rattle.plain.specs.Staged.{Staged, insert, removeKey, removeRow, wordsOf}
 use Rattle.plain.specs.Refusing.{wrongWidth, noSuchRow, stageLadder, overfull}
 use Rattle.plain.specs.Laws.Calls.{first-no, first-rest}
@@ -21,7 +21,8 @@ use Rattle.table.specs.Refusing.{stageRefusal}
 use Rattle.table.specs.Stores.{recordWords}
 use Rattle.table.specs.Promises.{withPending, Staging}
 use Rattle.staging.specs.inner.Staging.{ladder}
-use Rattle.table.specs.Laws.Refusals.{PendingInside, pending-inside}
+use Rattle.table.specs.Laws.Refusals.{Inside, PendingInside, pending-inside}
+use Rattle.table.specs.Laws.Staging.{stage-accepted}
 
 -- ---- the ladder
 
@@ -82,3 +83,15 @@ module _ (h : Header) (pending : List ℕ) (r : Staged) where
       → Staging h pending r (Table (withPending h (h .pending + wordsOf (openingOf h) r))) pending′
   unfolding tableSays reply
   staging-written pending′ e w = record { answers = rw e; unchanged = λ k. absurd (omega arith); written = λ z. w }
+
+  -- of one that is taken: the header has passed test 1, and is changed in its pending words alone
+  pub staging-taken : {pending′ : List ℕ} {h′ : Header} → Staging h pending r (Table h′) pending′ → (h′ ≡ withPending h (h′ .pending)) × Inside h
+  unfolding tableSays reply
+  staging-taken {pending′} {h′} m = go (stageRefusal h (length pending) r) refl (m .answers)
+    where
+      n : ℕ
+      n = h .pending + wordsOf (openingOf h) r
+
+      go : (k : ℕ) → stageRefusal h (length pending) r ≡ k → accepted h′ ≡ reply k (withPending h n) → (h′ ≡ withPending h (h′ .pending)) × Inside h
+      go zero e a = let q : h′ ≡ withPending h n = cc in (rw q, pending-inside h (length pending) (stage-accepted h (length pending) r e .inside) .inside)
+      go (suc k) e a = absurd (let z : _≡_ {A = ℕ} 0 1 = cc in omega arith)
