@@ -23,12 +23,18 @@ fn words_in(header: &Header) -> *const u32 {
     (header as *const Header).cast()
 }
 
+/// The refusal of this number. Apart and not inlined: else its search becomes a jump by number that accepted calls take too.
+#[cold]
+fn refusal(number: u32) -> Refusal {
+    Refusal::from_number(number).expect("a refusal's number is the paper's")
+}
+
 /// Accepted, or refused by this number.
 fn verdict(number: u32) -> Result<(), Refusal> {
-    if number == 0 {
-        return Ok(());
+    match number {
+        0 => Ok(()),
+        _ => Err(refusal(number)),
     }
-    Err(Refusal::from_number(number).expect("a refusal's number is the paper's"))
 }
 
 /// The second and third of three words, if the first says that there are any.

@@ -227,6 +227,7 @@ impl Table {
     }
 
     /// One cell of the live row of a key. Refused by 3 and 6.
+    #[inline]
     pub fn get_row_column(&self, key: &[u32], column: u32) -> Result<Option<u32>, Refusal> {
         let s = &self.stores;
         lent::get_row_column(&s.header, &s.rows, &s.keys, key, column)
