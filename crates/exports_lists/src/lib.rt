@@ -1,6 +1,6 @@
-// The questions over a subset under C names: refine by one and by a list, any match, page. Each reads, asks and tells. A condition
-// is a struct of three words, so a list of them is lent as it is; with it the subset is made of its words as a struct that holds
-// the ids, and the function is proved by hand. Refine by one has no list, and asks with plain parameters.
+// The questions over a subset under C names: refine by one and by a list, any match, page. A condition is a struct of three
+// words, so a list of them is lent as it is; the subset is made of its words as a struct that holds the ids, and the question asked
+// through `borrowed`. So each function is proved by hand: it reads, asks and tells.
 ghost use mathlib.Core.Path.{_≡_};
 ghost use lib.ListN.{length};
 ghost use Rattle.offsets.specs.Answers.{subsetOf};
@@ -13,7 +13,6 @@ use asking::tell_page;
 use asking::tell_subset;
 use borrowed::SubsetRef;
 use constraints::Constraint;
-use offsets::SubsetHead;
 
 // The answer goes into three words, as that of `mouldgrey_intersect`. Nothing is written to the output where the header is not
 // twelve words or the answer's words not three.
@@ -34,13 +33,18 @@ pub extern "C" fn mouldgrey_refine_one(
     ensures { λ r. ⌜ QuestionInWords (λ answer. RefinedOne (headerIn (now (header .entry))) (now (rows .entry)) (subsetOf (record { dense = dense; start = start; end = end }) (now (ids .entry))) (record { kind = kind; column = column; value = value }) (now (output .entry)) answer (now (output .exit))) subsetNumber subsetWords 3 (now (header .entry)) (now (words .entry)) r (now (words .exit)) × (((length (now (header .entry)) ≡ 12) × (length (now (words .entry)) ≡ 3) → ⊥) → now (output .exit) ≡ now (output .entry)) ⌝ }
 {
     let h = header_asked(header, words.len(), 3);
-    let head = SubsetHead { dense, start, end };
+    let subset = SubsetRef {
+        dense,
+        start,
+        end,
+        ids,
+    };
     let c = Constraint {
         kind,
         column,
         value,
     };
-    let answer = questions::refine_one(h, rows, head, ids, c, output);
+    let answer = borrowed::refine_one(h, rows, subset, c, output);
     tell_subset(header.len(), answer, words)
 }
 
