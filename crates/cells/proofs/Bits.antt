@@ -1,5 +1,5 @@
 -- The masks and shifts of `from_full` and `probe` as the definitions' quotients and remainders. Assumes nothing.
-use Prim.Native.Nat.{ℕ, _+_, _-_, _*_, _/_, _%_, _^_, _<_}
+use Prim.Native.Nat.{ℕ, _-_, _*_, _/_, _%_, _^_, _<_}
 use mathlib.Core.Path.{_≡_, ap, ap₂, _∙_}
 use native.Mathlib.Nat.{add-comm}
 use native.Mathlib.Omega.{arith}

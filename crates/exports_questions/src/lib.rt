@@ -1,6 +1,6 @@
 // The questions without a subset under C names: lookups, fast range, versions; and intersect.
 ghost use Rattle.table.specs.Promises.{LookedUp, CellRead, RangeRead, RowsSince, RowsSinceVersion, VersionRead};
-ghost use Rattle.words.specs.Words.{headerIn, rowNumber, rowWords, cellNumber, cellWords, rangeNumber, rangeWords, versionNumber, versionWords, QuestionInWords, subsetNumber, subsetWords};
+ghost use Rattle.words.specs.Words.{headerIn, rowNumber, rowWords, cellNumber, cellWords, rangeNumber, rangeWords, versionNumber, versionWords, QuestionInWords};
 ghost use Rattle.offsets.specs.Answers.{subsetOf};
 ghost use Rattle.exports_questions.specs.Intersecting.{IntersectInWords};
 use constraints::Constraint;

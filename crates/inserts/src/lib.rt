@@ -1,6 +1,5 @@
 // One insert of a merge. A new key's row is appended; a known key's goes through the rule, and a row so made is appended while the
 // old one dies.
-ghost use mathlib.Core.Path.{_≡_};
 ghost use Prim.Native.Nat.{_≤_, _+_, _<_};
 ghost use Rattle.key_index.specs.Slots.{slots};
 ghost use Rattle.table.specs.Sound.{keyedOf};

@@ -1,7 +1,7 @@
 -- A row enters the sort entries, or stops the merge: what the tests and appending an entry leave, said by the stop's number, and
 -- that a table that shows a plain table stops where the plain one does. Assumes nothing.
 use Prim.Native.Nat.{ℕ, _+_, _*_, _≤_, _<_}
-use mathlib.Core.Path.{_≡_, refl, sym, ap, _∙_}
+use mathlib.Core.Path.{_≡_, sym, ap, _∙_}
 use mathlib.Core.Logic.{inl, inr}
 use mathlib.Core.Bool.{true, false}
 use mathlib.Core.List.{List, [], _∷_}

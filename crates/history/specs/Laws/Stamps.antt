@@ -1,6 +1,5 @@
 -- Old stamps stay out of every history, from the promises alone. Assumes nothing.
-use mathlib.Core.Path.{sym, ap, _∙_}
-use Rattle.plain.specs.Plain.{opened}
+use mathlib.Core.Path.{ap, _∙_}
 use Rattle.plain.specs.Laws.Stamps.{stamped-history}
 use Rattle.table.specs.declared.Header.{Header}
 use Rattle.table.specs.Numbers.{largestSays}

@@ -1,18 +1,15 @@
 -- What reading a line promises. Assumes nothing.
 use Prim.Native.Nat.{ℕ, zero, suc, _+_, _-_, _≤_, _<_, min}
 use mathlib.Core.Path.{_≡_, refl, sym, ap, _∙_}
-use mathlib.Core.Logic.{inl, inr}
 use mathlib.Core.Bool.{true, false, cond}
 use mathlib.Core.List.{List, [], _∷_, _++_, append-nil, append-assoc}
 use native.Mathlib.Numerals.{add-one}
 use native.Mathlib.Omega.{arith}
 use lib.ListN.{length, take, drop, getD, set, length-append, length-take}
 use lib.Dec.{eqb}
-use lib.Seq.{take-all, take-nil, take-suc-set, drop-cons, take-append-le}
-use borrow.Author.Tests.{eq-eqb, ne-eqb, eqb-false}
+use lib.Seq.{take-all, take-suc-set, drop-cons, take-append-le}
+use borrow.Author.Tests.{eq-eqb, ne-eqb}
 use Rattle.lists.specs.Lists.{has}
-use Rattle.lists.specs.Laws.Keep.{split}
-use Rattle.lists.specs.Laws.Rising.{has-append}
 use Rattle.levels_lines.specs.declared.Scan.{Scan}
 
 -- bytes put behind those of a line, as far as its store goes

@@ -15,7 +15,7 @@ use Rattle.lists.specs.Lists.{putAt, keep, count, rising, has, within}
 use Rattle.lists.specs.inner.Searching.{firstNotBelow}
 use Rattle.lists.specs.Laws.Parts.{length-putAt, putAt-then, set-putAt}
 use Rattle.lists.specs.Laws.Keep.{split, keep-no, keep-append}
-use Rattle.lists.specs.Laws.Rising.{above-at, rising-tail, rising-at, rising-count-lt, keep-within-part, has-at, has-of}
+use Rattle.lists.specs.Laws.Rising.{rising-tail, rising-at, rising-count-lt, keep-within-part, has-at, has-of}
 
 notBelow-yes : (t x : ℕ) (xs : List ℕ) → x < t → firstNotBelow t (x ∷ xs) ≡ suc (firstNotBelow t xs)
 unfolding firstNotBelow

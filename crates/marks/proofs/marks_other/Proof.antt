@@ -1,7 +1,6 @@
 -- `marks::marks_other` meets its contract. Assumes nothing.
 use Prim.Native.Nat.{_-_}
 use native.Mathlib.Omega.{arith}
-use borrow.Author.Needs.{needs}
 use Rattle.marks.proofs.MarkSteps.{Marked, marked-begin, word-below, place-in, marked-other, marked-same, marked-end}
 use Rattle.marks.proofs.marks_other.Statement.{statement}
 use Rattle.marks.proofs.marks_other.Tie as tie

@@ -1,17 +1,17 @@
 -- A word of marks read from its lowest mark up: where that stands, and the word without it. Assumes nothing.
 use Prim.Native.Nat.{ℕ, zero, suc, _+_, _-_, _*_, _/_, _%_, _^_, _≤_, _<_, min}
-use mathlib.Core.Path.{_≡_, refl, sym, ap, ap₂, _∙_}
+use mathlib.Core.Path.{_≡_, refl, sym, _∙_}
 use mathlib.Core.Logic.{inl, inr}
 use mathlib.Core.Bool.{Bool, true, false, cond, _&&_, false≢true}
 use native.Mathlib.Nat.{pow-suc}
 use native.Mathlib.Decide.{decLt}
 use native.Mathlib.Omega.{arith}
 use lib.Bits.{bitAnd, and-step, and-self}
-use lib.Count.{trailingZeros, under}
+use lib.Count.{trailingZeros}
 use lib.Dec.{leb}
 use lib.Pow.{pow-pos}
-use borrow.Author.Tests.{le-leb, lt-leb, leb-true}
-use Rattle.lists.specs.Laws.Keep.{split, and-left, and-right}
+use borrow.Author.Tests.{le-leb, lt-leb}
+use Rattle.lists.specs.Laws.Keep.{split}
 use Rattle.row_buffer.specs.Ranks.{marks}
 
 -- the marks of two tests that agree

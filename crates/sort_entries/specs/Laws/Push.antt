@@ -1,14 +1,13 @@
 -- Laws of appending: the entries after one more row, and the rebuilt ones. Assumes nothing.
 use Prim.Native.Nat.{ℕ, suc, _+_, _≤_}
-use mathlib.Core.Path.{_≡_, refl, sym, ap, _∙_}
+use mathlib.Core.Path.{_≡_, sym, ap, _∙_}
 use mathlib.Core.Logic.{inl, inr}
-use mathlib.Core.Bool.{Bool, true, false, true≢false}
+use mathlib.Core.Bool.{true, false}
 use mathlib.Core.List.{List, [], _∷_, _++_}
 use native.Mathlib.Nat.{zero-add, add-zero}
 use native.Mathlib.Omega.{arith}
 use lib.ListN.{length, length-append}
-use lib.Dec.{leb, ltb}
-use borrow.Author.Tests.{ltb-true, le-leb}
+use lib.Dec.{ltb}
 use Rattle.lists.specs.Laws.Keep.{split}
 use Rattle.sort_entries.specs.Entries.{Entry, entry, last, push, pushAll, rebuilt}
 
