@@ -1,7 +1,7 @@
 // The calls that change a table, and the soundness check, under C names. Slices go as a pointer and a length.
 ghost use mathlib.Core.Path.{_≡_};
 ghost use Rattle.plain.specs.Staged.{insert, removeKey, removeRow};
-ghost use Rattle.table.specs.Promises.{stores, body, compactionWords, opening, Opened, Staging, Merging, Compacting, Clearing, Checked};
+ghost use Rattle.table.specs.Promises.{stores, body, compactionWords, Opened, Staging, Merging, Compacting, Clearing, Checked};
 ghost use Rattle.words.specs.Words.{headerIn, soundNumber, soundWords, CallInWords, MergeInWords, QuestionInWords};
 use words::header_of;
 use words::write_merge;
@@ -23,7 +23,7 @@ pub extern "C" fn mouldgrey_open_table(
     sorts: &[u32],
     pending: &[u32],
 ) -> u32
-    ensures { λ r. ⌜ CallInWords (λ answer. Opened (opening columns «key_columns» sort rule capacity) generation (body (now (rows .entry)) (now (keys .entry)) (now (sorts .entry))) (now (pending .entry)) answer (now (keys .exit))) (now (keys .exit) ≡ now (keys .entry)) (now (header .entry)) r (now (header .exit)) ⌝ }
+    ensures { λ r. ⌜ CallInWords (λ answer. Opened (record { columns = columns; keys = «key_columns»; sort = sort; rule = rule; capacity = capacity }) generation (body (now (rows .entry)) (now (keys .entry)) (now (sorts .entry))) (now (pending .entry)) answer (now (keys .exit))) (now (keys .exit) ≡ now (keys .entry)) (now (header .entry)) r (now (header .exit)) ⌝ }
 {
     if header.len() != 12 {
         return 1;

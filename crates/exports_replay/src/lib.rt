@@ -3,7 +3,7 @@ ghost use mathlib.Core.Path.{_≡_};
 ghost use Prim.Native.Nat.{min};
 ghost use lib.ListN.{length};
 ghost use Rattle.offsets.specs.Answers.{subsetOf};
-ghost use Rattle.table.specs.Promises.{body, compactionWords, opening};
+ghost use Rattle.table.specs.Promises.{body, compactionWords};
 ghost use Rattle.call_words.specs.Encoding.{decoded};
 ghost use Rattle.replay.specs.Replays.{Replayed};
 ghost use Rattle.question_words.specs.Encoding.{questionsIn};
@@ -34,7 +34,7 @@ pub extern "C" fn mouldgrey_replay(
     live: &mut [u64],
     base: &mut [u32],
 ) -> u32
-    ensures { λ r. ⌜ CallInWords (λ answer. Replayed (opening columns «key_columns» sort rule capacity) generation (decoded (now (calls .entry))) (body (now (rows .entry)) (now (keys .entry)) (now (sorts .entry))) (now (pending .entry)) (compactionWords (now (live .entry)) (now (base .entry))) answer (body (now (rows .exit)) (now (keys .exit)) (now (sorts .exit))) (now (pending .exit)) (compactionWords (now (live .exit)) (now (base .exit)))) ((now (rows .exit) ≡ now (rows .entry)) × (now (keys .exit) ≡ now (keys .entry)) × (now (sorts .exit) ≡ now (sorts .entry)) × (now (pending .exit) ≡ now (pending .entry)) × (now (live .exit) ≡ now (live .entry)) × (now (base .exit) ≡ now (base .entry))) (now (header .entry)) r (now (header .exit)) ⌝ }
+    ensures { λ r. ⌜ CallInWords (λ answer. Replayed (record { columns = columns; keys = «key_columns»; sort = sort; rule = rule; capacity = capacity }) generation (decoded (now (calls .entry))) (body (now (rows .entry)) (now (keys .entry)) (now (sorts .entry))) (now (pending .entry)) (compactionWords (now (live .entry)) (now (base .entry))) answer (body (now (rows .exit)) (now (keys .exit)) (now (sorts .exit))) (now (pending .exit)) (compactionWords (now (live .exit)) (now (base .exit)))) ((now (rows .exit) ≡ now (rows .entry)) × (now (keys .exit) ≡ now (keys .entry)) × (now (sorts .exit) ≡ now (sorts .entry)) × (now (pending .exit) ≡ now (pending .entry)) × (now (live .exit) ≡ now (live .entry)) × (now (base .exit) ≡ now (base .entry))) (now (header .entry)) r (now (header .exit)) ⌝ }
 {
     if header.len() != 12 {
         return 1;

@@ -16,7 +16,7 @@ use Rattle.plain.specs.Refusing.{Lengths, openRefusal}
 use Rattle.plain.specs.Plain.{Plain, liveRows, opened, merged}
 use Rattle.plain.specs.Calls.{Call, staging, merging, compacting, clearing, refusal, after}
 use Rattle.table.specs.Stores.{entries, headerOf}
-use Rattle.table.specs.Promises.{opening, fastSubset}
+use Rattle.table.specs.Promises.{fastSubset}
 use Rattle.levels_text.specs.Lines.{letter, numbers, ofForms}
 use Rattle.levels_text.specs.Written.{textLine}
 
@@ -72,7 +72,8 @@ listText p =
 
 -- "O,columns,keys,sort,rule,capacity,generation"
 abbrev pub openingIn : List ℕ → Opening
-openingIn ns = opening (getD ns 0 0) (getD ns 1 0) (getD ns 2 0) (getD ns 3 0) (getD ns 4 0)
+openingIn ns =
+    record { columns = getD ns 0 0; keys = getD ns 1 0; sort = getD ns 2 0; rule = getD ns 3 0; capacity = getD ns 4 0 }
 
 -- A line on a table, by its letter: "I,cells" (73), "R,key cells" (82), "K,row,key cells" (75), M (77), "C clear" (67), "G
 -- compact" (71), "F,kind,a,b" (70), where a kind or column that is not known is 6, V (86), else L.

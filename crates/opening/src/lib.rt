@@ -1,5 +1,5 @@
 // Open and clear.
-ghost use Rattle.table.specs.Promises.{body, Opened, Clearing, opening};
+ghost use Rattle.table.specs.Promises.{body, Opened, Clearing};
 use table::Header;
 use table::Largest;
 use table::Lent;
@@ -21,7 +21,7 @@ pub fn open_table(
     sorts: &[u32],
     pending: &[u32],
 ) -> TableAnswer
-    ensures { λ r. ⌜ Opened (opening columns «key_columns» sort rule capacity) generation (body (now (rows .entry)) (now (keys .entry)) (now (sorts .entry))) (now (pending .entry)) r (now (keys .exit)) ⌝ }
+    ensures { λ r. ⌜ Opened (record { columns = columns; keys = «key_columns»; sort = sort; rule = rule; capacity = capacity }) generation (body (now (rows .entry)) (now (keys .entry)) (now (sorts .entry))) (now (pending .entry)) r (now (keys .exit)) ⌝ }
 {
     let h = Header {
         columns: columns,

@@ -4,6 +4,7 @@ use Prim.Native.Nat.{ℕ, _+_, _-_, _<_, min}
 use mathlib.Core.Path.{_≡_}
 use mathlib.Core.Bool.{Bool, cond, not, _||_}
 use mathlib.Core.List.{List, [], _∷_, _++_}
+use mathlib.Core.Option.{Option, none, some}
 use lib.ListN.{length, take, drop}
 use lib.Dec.{ltb}
 use Rattle.lists.specs.Lists.{putAt, keep, count, every, any, rowAt}
@@ -19,7 +20,6 @@ use Rattle.queries.specs.declared.MatchAnswer.{MatchAnswer}
 use Rattle.queries.specs.declared.MatchAnswer.the-variants.{Refused as MatchRefused, Match}
 use Rattle.queries.specs.declared.NextPlace.{NextPlace}
 use Rattle.queries.specs.declared.NextPlace.the-variants.{None, At}
-use Rattle.queries.specs.declared.Page.{Page}
 use Rattle.queries.specs.declared.PageAnswer.{PageAnswer}
 use Rattle.queries.specs.declared.PageAnswer.the-variants.{Refused as PageRefused, Page as Paged}
 
@@ -79,11 +79,16 @@ unfoldable pub pageIds : Header → List ℕ → Subset → ℕ → ℕ → List
 pageIds h rows subset start n conditions = keep (matches h rows conditions) (visited subset start n)
 
 -- "the next place or *none*. n = 0 gives the start place back unless nothing remains"
-unfoldable pub nextPlace : Subset → ℕ → ℕ → NextPlace
-nextPlace subset start n = cond (ltb (start + n) (size subset)) (At (start + n)) None
+unfoldable pub nextPlace : Subset → ℕ → ℕ → Option ℕ
+nextPlace subset start n = cond (ltb (start + n) (size subset)) (some (start + n)) none
 
 -- a page answers how many ids were written, how many of those visited have a dead row, and the next place
-unfoldable pub pageReply : Header → List ℕ → Subset → ℕ → ℕ → List Constraint → ℕ → Reply Page
+pub record PageReply : Type 0 where
+  pub written : ℕ
+  pub dead : ℕ
+  pub next : Option ℕ
+
+unfoldable pub pageReply : Header → List ℕ → Subset → ℕ → ℕ → List Constraint → ℕ → Reply PageReply
 pageReply h rows subset start n conditions output =
     reply
     (pageRefusal h (length rows) subset start n conditions output)
@@ -98,9 +103,13 @@ unfoldable pub matchSays : MatchAnswer → Reply Bool
 matchSays (MatchRefused n) = refused n
 matchSays (Match answer) = accepted answer
 
-unfoldable pub pageSays : PageAnswer → Reply Page
+unfoldable pub nextSays : NextPlace → Option ℕ
+nextSays None = none
+nextSays (At place) = some place
+
+unfoldable pub pageSays : PageAnswer → Reply PageReply
 pageSays (PageRefused n) = refused n
-pageSays (Paged page) = accepted page
+pageSays (Paged page) = accepted (record { written = page .written; dead = page .dead; next = nextSays (page .next) })
 
 -- the promises
 

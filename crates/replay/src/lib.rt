@@ -1,6 +1,6 @@
 // Lists of calls, read from words and made one after another on lent stores, from the opening on: what is claimed of histories
 // holds of running code.
-ghost use Rattle.table.specs.Promises.{stores, body, compactionWords, lengths, opening};
+ghost use Rattle.table.specs.Promises.{stores, body, compactionWords, lengths};
 ghost use Rattle.call_words.specs.Encoding.{decoded};
 ghost use Rattle.call_words.specs.inner.Making.{Made};
 ghost use Rattle.replay.specs.Replays.{Replayed};
@@ -60,7 +60,7 @@ pub fn replay(
     live: &mut [u64],
     base: &mut [u32],
 ) -> TableAnswer
-    ensures { λ r. ⌜ Replayed (opening columns «key_columns» sort rule capacity) generation (decoded (now (calls .entry))) (body (now (rows .entry)) (now (keys .entry)) (now (sorts .entry))) (now (pending .entry)) (compactionWords (now (live .entry)) (now (base .entry))) r (body (now (rows .exit)) (now (keys .exit)) (now (sorts .exit))) (now (pending .exit)) (compactionWords (now (live .exit)) (now (base .exit))) ⌝ }
+    ensures { λ r. ⌜ Replayed (record { columns = columns; keys = «key_columns»; sort = sort; rule = rule; capacity = capacity }) generation (decoded (now (calls .entry))) (body (now (rows .entry)) (now (keys .entry)) (now (sorts .entry))) (now (pending .entry)) (compactionWords (now (live .entry)) (now (base .entry))) r (body (now (rows .exit)) (now (keys .exit)) (now (sorts .exit))) (now (pending .exit)) (compactionWords (now (live .exit)) (now (base .exit))) ⌝ }
 {
     let opened = open_table(
         columns,

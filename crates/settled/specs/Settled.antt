@@ -2,7 +2,7 @@
 -- The definitions that it runs are those that the contracts cite. Assumes nothing.
 use Prim.Native.Nat.{ℕ, suc, _-_}
 use mathlib.Core.Bool.{Bool, true, false, _&&_, Bool·beq}
-use mathlib.Core.Option.{some}
+use mathlib.Core.Option.{Option, none, some}
 use mathlib.Core.List.{List, [], _∷_, _++_, map}
 use lib.ListN.{length, getD, replicate}
 use lib.Dec.{eqb}
@@ -20,10 +20,7 @@ use Rattle.plain.specs.Refusing.{Lengths}
 use Rattle.plain.specs.Calls.{staging, merging, LentCall, afterAll}
 use Rattle.table.specs.declared.Header.{Header}
 use Rattle.table.specs.declared.Largest.the-variants.{None as NoLargest}
-use Rattle.queries.specs.declared.NextPlace.{NextPlace}
-use Rattle.queries.specs.declared.NextPlace.the-variants.{None, At}
-use Rattle.queries.specs.declared.Page.{Page}
-use Rattle.queries.specs.Queries.{refineOneReply, refineListReply, pageIds, pageReply}
+use Rattle.queries.specs.Queries.{refineOneReply, refineListReply, pageIds, PageReply, pageReply}
 
 pub data Example : Type 0 where
   -- a hash and its compact hash
@@ -33,7 +30,7 @@ pub data Example : Type 0 where
   -- a table of one column with these cells, and the rows of a range whose cell is 7: refined by one, and by a list
   refines : List ℕ → Subset → Subset → Subset → Example
   -- a subset of a table of so many live rows, a start place, n, the ids written and the next place
-  pages : ℕ → Subset → ℕ → ℕ → List ℕ → NextPlace → Example
+  pages : ℕ → Subset → ℕ → ℕ → List ℕ → Option ℕ → Example
   -- dead rows, row count, and whether a merge of such a table, with nothing staged, compacts
   goes : ℕ → ℕ → Bool → Example
   -- which rows are live, a row, and its number after a compaction: as the rows close up, and by its word of live marks
@@ -56,11 +53,11 @@ examples =
     -- (e)
     ∷ refines (5 ∷ 7 ∷ 7 ∷ 5 ∷ []) (range 0 4) (range 1 3) (list (1 ∷ 2 ∷ []))
     -- (f)
-    ∷ pages 10 (range 0 10) 4 5 (4 ∷ 5 ∷ 6 ∷ 7 ∷ 8 ∷ []) (At 9)
-    ∷ pages 10 (range 0 10) 4 6 (4 ∷ 5 ∷ 6 ∷ 7 ∷ 8 ∷ 9 ∷ []) None
+    ∷ pages 10 (range 0 10) 4 5 (4 ∷ 5 ∷ 6 ∷ 7 ∷ 8 ∷ []) (some 9)
+    ∷ pages 10 (range 0 10) 4 6 (4 ∷ 5 ∷ 6 ∷ 7 ∷ 8 ∷ 9 ∷ []) none
     -- (g)
-    ∷ pages 10 (list (2 ∷ 4 ∷ 6 ∷ [])) 1 0 [] (At 1)
-    ∷ pages 10 (list (2 ∷ 4 ∷ 6 ∷ [])) 3 0 [] None
+    ∷ pages 10 (list (2 ∷ 4 ∷ 6 ∷ [])) 1 0 [] (some 1)
+    ∷ pages 10 (list (2 ∷ 4 ∷ 6 ∷ [])) 3 0 [] none
     -- (h)
     ∷ goes 16 32 false
     ∷ goes 16 16 false
@@ -90,13 +87,13 @@ abbrev pub isSubset : Reply Subset → Subset → Bool
 isSubset (refused n) subset = false
 isSubset (accepted answer) subset = sameSubset answer subset
 
-abbrev pub sameNext : NextPlace → NextPlace → Bool
-sameNext None None = true
-sameNext None (At b) = false
-sameNext (At a) None = false
-sameNext (At a) (At b) = eqb a b
+abbrev pub sameNext : Option ℕ → Option ℕ → Bool
+sameNext none none = true
+sameNext none (some b) = false
+sameNext (some a) none = false
+sameNext (some a) (some b) = eqb a b
 
-abbrev pub isPage : Reply Page → ℕ → NextPlace → Bool
+abbrev pub isPage : Reply PageReply → ℕ → Option ℕ → Bool
 isPage (refused n) written next = false
 isPage (accepted page) written next = eqb (page .written) written && sameNext (page .next) next
 

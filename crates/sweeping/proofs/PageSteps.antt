@@ -2,6 +2,7 @@
 use Prim.Native.Nat.{ℕ, _+_, _-_, _≤_, _<_, min}
 use mathlib.Core.Path.{_≡_, refl, sym, ap, ap₂, _∙_}
 use mathlib.Core.Bool.{Bool, false, cond}
+use mathlib.Core.Option.{Option, none, some}
 use mathlib.Core.List.{List}
 use native.Mathlib.Decide.{decLt, ℕ-discrete}
 use native.Mathlib.Omega.{arith}
@@ -17,31 +18,30 @@ use Rattle.constraints.specs.declared.Constraint.{Constraint}
 use Rattle.table.specs.declared.Header.{Header}
 use Rattle.queries.specs.declared.NextPlace.{NextPlace}
 use Rattle.queries.specs.declared.NextPlace.the-variants.{None, At}
-use Rattle.queries.specs.declared.Page.{Page as PageNumbers}
 use Rattle.queries.specs.declared.PageAnswer.{PageAnswer}
 use Rattle.queries.specs.declared.PageAnswer.the-variants.{Refused as PageIsRefused, Page as Paged}
 use Rattle.sweeping.specs.declared.Sweep.{Sweep}
 use Rattle.sweeping.specs.declared.Question.the-variants.{Page}
-use Rattle.queries.specs.Queries.{matches, deadAmong, pageRefusal, visited, nextPlace, pageIds, pageSays, pageReply, PageRead}
-use Rattle.sweeping.specs.inner.Sweeping.{visits, firstPlace, roomAsked, refusalOf, SweepAnswered, CanWrite, Writes, nextAt, PageClosed}
+use Rattle.queries.specs.Queries.{matches, deadAmong, pageRefusal, visited, nextPlace, pageIds, PageReply, nextSays, pageSays, pageReply, PageRead}
+use Rattle.sweeping.specs.inner.Sweeping.{visits, firstPlace, roomAsked, refusalOf, SweepAnswered, CanWrite, Writes, nextOf, nextAt, PageClosed}
 use Rattle.sweeping.proofs.Visits.{length-visited, visited-end, kept-few}
 
 -- ---- the end
 
 module _ (subset : Subset) (next : ℕ) where
-  pub next-some : next < size subset → At next ≡ nextAt subset next
-  unfolding nextAt
+  pub next-some : next < size subset → At next ≡ nextOf (nextAt subset next)
+  unfolding nextAt nextOf
   next-some l = rw (lt-ltb next (size subset) l)
 
-  pub next-none : size subset ≤ next → None ≡ nextAt subset next
-  unfolding nextAt
+  pub next-none : size subset ≤ next → None ≡ nextOf (nextAt subset next)
+  unfolding nextAt nextOf
   next-none l = rw (le-ltb next (size subset) l)
 
 module _ (subset : Subset) (s : Sweep) (output : List ℕ) where
   pub page-refused : (s .refused ≡ 0 → ⊥) → PageClosed subset s output (PageIsRefused (s .refused)) output
   page-refused m = record { refuses = λ _. (refl, refl); pages = λ z. absurd (m z) }
 
-  pub page-written : (next : NextPlace) (count : ℕ) (output′ : List ℕ) → s .refused ≡ 0 → next ≡ nextAt subset (s .next) → Writes output (s .found) count output′
+  pub page-written : (next : NextPlace) (count : ℕ) (output′ : List ℕ) → s .refused ≡ 0 → next ≡ nextOf (nextAt subset (s .next)) → Writes output (s .found) count output′
       → PageClosed subset s output (Paged (record { written = count; dead = s .dead; next = next })) output′
   page-written next count output′ z e w =
       record {
@@ -52,11 +52,16 @@ module _ (subset : Subset) (s : Sweep) (output : List ℕ) where
 
 -- ---- the answer
 
+next-back : (m : Option ℕ) → nextSays (nextOf m) ≡ m
+unfolding nextSays nextOf
+next-back none = refl
+next-back (some place) = refl
+
 next-is : (subset : Subset) (start n next : ℕ) → start ≤ size subset → next ≡ start + min n (size subset - start) → nextAt subset next ≡ nextPlace subset start n
 unfolding nextAt nextPlace
 next-is subset start n next l e =
     elim (decLt (start + n) (size subset)) [
-      | yes q ↦ let m : next ≡ start + n = omega arith in ap (λ (i : ℕ). cond (ltb i (size subset)) (At i) None) m
+      | yes q ↦ let m : next ≡ start + n = omega arith in ap (λ (i : ℕ). cond (ltb i (size subset)) (some i) none) m
       | no q ↦
           let a : ltb next (size subset) ≡ false = le-ltb next (size subset) (omega arith) in
           let b : ltb (start + n) (size subset) ≡ false = le-ltb (start + n) (size subset) (omega arith) in
@@ -93,24 +98,24 @@ module _ (h : Header) (rows : List ℕ) (subset : Subset) (start n : ℕ) (condi
       ids : List ℕ
       ids = keep keeps (visited subset start n)
 
-      read : PageNumbers
+      read : PageReply
       read = record { written = length ids; dead = deadAmong h rows (visited subset start n); next = nextPlace subset start n }
 
       dead-is : s .refused ≡ 0 → s .dead ≡ read .dead
       dead-is z = unfold visits in a .dead-is z
 
-      goes-on : s .refused ≡ 0 → nextAt subset (s .next) ≡ nextPlace subset start n
+      goes-on : s .refused ≡ 0 → nextSays (nextOf (nextAt subset (s .next))) ≡ nextPlace subset start n
       goes-on z = unfold visits firstPlace in
           let l : start ≤ size subset = a .within z in
           let k : length (visited subset start n) ≡ min n (size subset - start) = rw (← visited-end subset start n) (length-visited subset start (min n (size subset - start)) (omega arith)) in
-          next-is subset start n (s .next) l (a .next-is z ∙ ap (λ (i : ℕ). start + i) k)
+          next-back _ ∙ next-is subset start n (s .next) l (a .next-is z ∙ ap (λ (i : ℕ). start + i) k)
 
-      accepts : s .refused ≡ 0 → pageRefusal h (length rows) subset start n conditions (length output) ≡ 0 → answer ≡ Paged (record { written = length ids; dead = s .dead; next = nextAt subset (s .next) })
+      accepts : s .refused ≡ 0 → pageRefusal h (length rows) subset start n conditions (length output) ≡ 0 → answer ≡ Paged (record { written = length ids; dead = s .dead; next = nextOf (nextAt subset (s .next)) })
           → output″ ≡ putAt output 0 ids → PageRead h rows subset start n conditions output answer output″
       accepts y z p q = unfold pageReply pageIds pageSays in
           record {
             answers =
-                ap pageSays p ∙ ap₂ (λ (d : ℕ) (m : NextPlace). accepted (record { written = length ids; dead = d; next = m })) (dead-is y) (goes-on y)
+                ap pageSays p ∙ ap₂ (λ (d : ℕ) (m : Option ℕ). accepted (record { written = length ids; dead = d; next = m })) (dead-is y) (goes-on y)
                 ∙ reply-accepted (accepted read) (pageRefusal h (length rows) subset start n conditions (length output)) read refl z;
             unchanged = λ m. absurd (omega (arith, z, m));
             written = λ _. q;

@@ -13,7 +13,7 @@ ghost use Rattle.offsets.specs.Subsets as subsets;
 ghost use Rattle.offsets.specs.Subsets.{members};
 ghost use Rattle.retain.specs.inner.Growing.{CanAdd};
 ghost use Rattle.queries.specs.Queries.{matches, deadAmong};
-ghost use Rattle.sweeping.specs.inner.Sweeping.{RowLies, RowNeeded, starts, passes, BeginsAt, CanMove, Moves, Keeps, CanStep, SweepSteps, Sweepable, Finished, SweepBegins, CanWrite, Writes, whole, CanClose, RefineClosed, nextAt, PageClosed, MatchClosed};
+ghost use Rattle.sweeping.specs.inner.Sweeping.{RowLies, RowNeeded, starts, passes, BeginsAt, CanMove, Moves, Keeps, CanStep, SweepSteps, Sweepable, Finished, SweepBegins, CanWrite, Writes, whole, CanClose, RefineClosed, nextOf, nextAt, PageClosed, MatchClosed};
 use constraints::Constraint;
 use offsets::SubsetAnswer;
 use offsets::SubsetHead;
@@ -342,7 +342,7 @@ pub fn close_refine(head: SubsetHead, s: Sweep, out: &mut [u32]) -> SubsetAnswer
 
 // The place to go on from.
 fn next_place(head: SubsetHead, ids: &[u32], next: u32) -> NextPlace
-    ensures { λ r. ⌜ r ≡ nextAt (subsetOf head (now (ids .entry))) next ⌝ }
+    ensures { λ r. ⌜ r ≡ nextOf (nextAt (subsetOf head (now (ids .entry))) next) ⌝ }
 {
     if (next as usize) < offsets::size(head, ids) {
         return NextPlace::At(next);

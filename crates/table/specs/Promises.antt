@@ -107,11 +107,6 @@ WordsPast capacity w w′ = PastNeeded capacity (w .live) (w′ .live) × PastNe
 -- Where the choice is the program's: of the key store only soundness is promised, and that no slot past it is written; of
 -- the compaction words needed, after a compaction, nothing.
 
--- the numbers given to an opening
-abbrev pub opening : ℕ → ℕ → ℕ → ℕ → ℕ → Opening
-opening columns keys sort rule capacity =
-    record { columns = columns; keys = keys; sort = sort; rule = rule; capacity = capacity }
-
 -- *Open*: lent rows, keys, sort entries and pending; all but keys are lent shared, so that they stay as they are
 pub record Opened (o : Opening) (generation : ℕ) (b : Body) (pending : List ℕ) (answer : TableAnswer) (keys′ : List ℕ) : Type 0 where
   pub answers : tableSays answer ≡ reply (openRefusal o (lengths (b .rows) (b .keys) (b .sorts) pending [] [])) (headerOf (opened o generation))

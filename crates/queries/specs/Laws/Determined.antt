@@ -2,7 +2,7 @@
 -- the same output, so that it shuts out every other program at once. A question goes by the header and the row store alone,
 -- so no choice is left on any stores. Assumes nothing.
 use Prim.Native.Nat.{ℕ}
-use mathlib.Core.Path.{_≡_, sym, _∙_}
+use mathlib.Core.Path.{_≡_, sym, ap, _∙_}
 use mathlib.Core.Logic.{⊎-elim}
 use mathlib.Core.List.{List}
 use Rattle.refusals.specs.Laws.Replies.{some-number}
@@ -14,17 +14,31 @@ use Rattle.constraints.specs.declared.Constraint.{Constraint}
 use Rattle.table.specs.declared.Header.{Header}
 use Rattle.queries.specs.declared.MatchAnswer.{MatchAnswer}
 use Rattle.queries.specs.declared.MatchAnswer.the-variants.{Refused, Match}
+use Rattle.queries.specs.declared.NextPlace.{NextPlace}
+use Rattle.queries.specs.declared.NextPlace.the-variants.{None, At}
 use Rattle.queries.specs.declared.PageAnswer.{PageAnswer}
 use Rattle.queries.specs.declared.PageAnswer.the-variants.{Refused as PageRefused, Page as Paged}
-use Rattle.queries.specs.Queries.{pageSays, matchSays, RefinedOne, RefinedList, Matched, PageRead}
+use Rattle.queries.specs.Queries.{nextSays, PageReply, pageSays, matchSays, RefinedOne, RefinedList, Matched, PageRead}
 
 -- an answer is known by what it says
+next-said : (a b : NextPlace) → nextSays a ≡ nextSays b → a ≡ b
+unfolding nextSays
+next-said None None e = cc
+next-said None (At b) e = cc
+next-said (At a) None e = cc
+next-said (At a) (At b) e = cc
+
 page-said : (a b : PageAnswer) → pageSays a ≡ pageSays b → a ≡ b
 unfolding pageSays
 page-said (PageRefused n) (PageRefused m) e = cc
 page-said (PageRefused n) (Paged q) e = cc
 page-said (Paged p) (PageRefused m) e = cc
-page-said (Paged p) (Paged q) e = cc
+page-said (Paged p) (Paged q) e =
+    let told : _≡_ {A = PageReply} (record { written = p .written; dead = p .dead; next = nextSays (p .next) }) (record { written = q .written; dead = q .dead; next = nextSays (q .next) }) = cc in
+    let written : p .written ≡ q .written = ap (λ (t : PageReply). t .written) told in
+    let dead : p .dead ≡ q .dead = ap (λ (t : PageReply). t .dead) told in
+    let next : p .next ≡ q .next = next-said (p .next) (q .next) (ap (λ (t : PageReply). t .next) told) in
+    λ i. Paged (record { written = written i; dead = dead i; next = next i })
 
 match-said : (a b : MatchAnswer) → matchSays a ≡ matchSays b → a ≡ b
 unfolding matchSays

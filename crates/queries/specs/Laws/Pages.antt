@@ -10,7 +10,7 @@ use native.Mathlib.Omega.{arith}
 use lib.ListN.{length}
 use Rattle.lists.specs.Lists.{keep, count, every, rowAt}
 use Rattle.lists.specs.Laws.Keep.{split}
-use Rattle.refusals.specs.Refusals.{refused, accepted}
+use Rattle.refusals.specs.Refusals.{Reply, refused, accepted}
 use Rattle.refusals.specs.Laws.Replies.{reply-refused, reply-accepted}
 use Rattle.offsets.specs.Subsets.{Subset}
 use Rattle.constraints.specs.declared.Constraint.{Constraint}
@@ -18,7 +18,7 @@ use Rattle.constraints.specs.Constraints.{met, isLive, meets}
 use Rattle.table.specs.declared.Header.{Header}
 use Rattle.queries.specs.declared.Page.{Page}
 use Rattle.queries.specs.declared.PageAnswer.the-variants.{Page as Paged}
-use Rattle.queries.specs.Queries.{matches, deadAmong, pageRefusal, visited, nextPlace, pageIds, pageReply, pageSays, PageRead}
+use Rattle.queries.specs.Queries.{matches, deadAmong, pageRefusal, visited, nextPlace, pageIds, nextSays, PageReply, pageReply, pageSays, PageRead}
 
 -- how many of these ids have a live row that fails a condition
 unfoldable pub failedAmong : Header → List ℕ → List Constraint → List ℕ → ℕ
@@ -47,18 +47,20 @@ unfolding pageReply pageIds pageSays
 page-parts h rows subset start n conditions output page output′ p =
     elim (ℕ-discrete number 0) [
       | yes z ↦
-          let told : accepted page ≡ accepted read = p .answers ∙ sym (reply-accepted (accepted read) number read refl z) in
-          let same : page ≡ read = cc in
-          let written : page .written ≡ read .written = ap (λ (t : Page). t .written) same in
-          let dead : page .dead ≡ read .dead = ap (λ (t : Page). t .dead) same in
+          let told : _≡_ {A = Reply PageReply} (accepted (record { written = page .written; dead = page .dead; next = nextSays (page .next) })) (accepted read) =
+          p .answers ∙ sym (reply-accepted (accepted read) number read refl z) in
+          let same : _≡_ {A = PageReply} (record { written = page .written; dead = page .dead; next = nextSays (page .next) }) read = cc in
+          let written : page .written ≡ read .written = ap (λ (t : PageReply). t .written) same in
+          let dead : page .dead ≡ read .dead = ap (λ (t : PageReply). t .dead) same in
           rw (written, dead) (visited-parts h rows conditions (visited subset start n))
       | no m ↦
-          let told : accepted page ≡ refused number = p .answers ∙ sym (reply-refused (refused number) number number read refl refl m) in
+          let told : _≡_ {A = Reply PageReply} (accepted (record { written = page .written; dead = page .dead; next = nextSays (page .next) })) (refused number) =
+          p .answers ∙ sym (reply-refused (refused number) number number read refl refl m) in
           cc
     ]
   where
     number : ℕ
     number = pageRefusal h (length rows) subset start n conditions (length output)
 
-    read : Page
+    read : PageReply
     read = record { written = length (keep (matches h rows conditions) (visited subset start n)); dead = deadAmong h rows (visited subset start n); next = nextPlace subset start n }
