@@ -46,9 +46,9 @@ Intersected a b output answer output′ =
     Answered (intersectReply a b (length output)) output answer output′
     ⊎ Answered (intersectReply b a (length output)) output answer output′
 
--- one question on a table, on the ids that are left, each with an output of its own, of a length that `fit` lets through: the ids
--- that it leaves, and the question itself if it counts. "where [the fast range] is *none*, the step and its condition count for
--- nothing", as where it is refused
+-- one question on a table, on the ids that are left, each with an output of its own, of a length that `fit` lets through (the claim
+-- is of every `fit`; `ask` lends each question the same length): the ids that it leaves, and the question itself if it counts.
+-- "where [the fast range] is *none*, the step and its condition count for nothing", as where it is refused
 pub data Asked (s : Stores) (fit : ℕ → Bool) (a : Subset) : Question → Subset → List Question → Type 0 where
   one-refined : (c : Constraint) (output output′ : List ℕ) (answer : SubsetAnswer)
       → fit (length output) ≡ true → RefinedOne (s .header) (s .rows) a c output answer output′

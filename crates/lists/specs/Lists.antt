@@ -7,7 +7,7 @@ use lib.ListN.{length, take, drop}
 use lib.Dec.{leb, ltb, eqb}
 
 module _ {A : Type 0} where
-  -- l with w from place `at` on: what a store holds after w is written there
+  -- l with w from place `at` on: what a store in which w has room there holds after w is written
   unfoldable pub putAt : List A → ℕ → List A → List A
   putAt l at w = take at l ++ (w ++ drop (at + length w) l)
 

@@ -36,7 +36,8 @@ module _ (o : Opening) (generation : ℕ) (calls : List Call) (b : Body) (pendin
     pub calls-made : (h : Header) → tableSays answer ≡ accepted h → MadeFrom (joined h b′ pending′)
     pub claimed : (h : Header) → tableSays answer ≡ accepted h → Claimed o generation (callsLent calls b pending w) (joined h b′ pending′)
     -- slots and compaction words past those needed are never written; while the generation is the opening's nothing was
-    -- compacted, and no compaction word is. Of those needed nothing is promised else
+    -- compacted, and no compaction word is written either. After a compaction or a clear that emptied rows, nothing is promised of
+    -- the compaction words needed
     pub slots-past : SlotsPast (o .capacity) (b .keys) (b′ .keys)
     pub words-past : WordsPast (o .capacity) w w′
     pub words-kept : (h : Header) → tableSays answer ≡ accepted h → h .generation ≡ generation → w′ ≡ w

@@ -1,5 +1,6 @@
--- What each entry point promises: of every input, and of a table that shows a plain table. Each record is one function's
--- `ensures`, over what the function is lent and what it leaves, and what a history of calls is made of. Assumes nothing.
+-- What each entry point promises: of every input, and of a table that shows a plain table. A function's `ensures` is the record
+-- that is named after its operation, over what it is lent and what it leaves; a history of calls is made of these. First come the
+-- stores as records, and when they are a plain table's (`Represents`). Assumes nothing.
 use Prim.Native.Nat.{ℕ, _+_, _*_, _/_, _<_}
 use mathlib.Core.Path.{_≡_}
 use mathlib.Core.Bool.{true, false, cond, not, _||_}
