@@ -345,6 +345,13 @@ uint32_t mouldgrey_intersect(bool dense, uint32_t start, uint32_t end, const uin
                              size_t words_len);
 
 /*
+ * The same of two ranges: no id is written, so that there is no output, and the arguments fit in
+ * registers. words, 3, as for mouldgrey_intersect. Refuses: 2 if words_len is not 3; 4.
+ */
+uint32_t mouldgrey_intersect_ranges(uint32_t start, uint32_t end, uint32_t other_start,
+                                    uint32_t other_end, uint32_t *words, size_t words_len);
+
+/*
  * Column order for the vault; needs no table. cells are rows of this width, one after another; any
  * number of them, also none. In output stand all cells of the first column, then the second, and so
  * on, each cell but a column's first as its difference from the cell above, modulo 2^32. Output past

@@ -570,6 +570,38 @@ pub fn intersect(
     second: SubsetRef<'_>,
     output: &mut [u32],
 ) -> Result<Written, Refusal> {
+    match (first, second) {
+        (SubsetRef::Range(start, end), SubsetRef::Range(other_start, other_end)) => {
+            intersect_ranges((start, end), (other_start, other_end))
+        }
+        _ => intersect_any(first, second, output),
+    }
+}
+
+/// Two ranges, by the C name whose arguments fit in registers.
+#[inline]
+fn intersect_ranges(first: (u32, u32), second: (u32, u32)) -> Result<Written, Refusal> {
+    let mut words = [0; 3];
+    verdict(unsafe {
+        raw::mouldgrey_intersect_ranges(
+            first.0,
+            first.1,
+            second.0,
+            second.1,
+            words.as_mut_ptr(),
+            words.len(),
+        )
+    })?;
+    Ok(written(words))
+}
+
+/// Two subsets of any kind.
+#[inline]
+fn intersect_any(
+    first: SubsetRef<'_>,
+    second: SubsetRef<'_>,
+    output: &mut [u32],
+) -> Result<Written, Refusal> {
     let (dense, start, end, ids) = parts(first);
     let (other_dense, other_start, other_end, other_ids) = parts(second);
     let mut words = [0; 3];

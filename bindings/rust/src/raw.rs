@@ -254,6 +254,14 @@ unsafe extern "C" {
         words: *mut u32,
         words_len: usize,
     ) -> u32;
+    pub fn mouldgrey_intersect_ranges(
+        start: u32,
+        end: u32,
+        other_start: u32,
+        other_end: u32,
+        words: *mut u32,
+        words_len: usize,
+    ) -> u32;
     pub fn mouldgrey_to_columns(
         width: u32,
         cells: *const u32,

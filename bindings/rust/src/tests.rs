@@ -310,6 +310,14 @@ fn intersections() {
         intersect(&list(&[2, 1]), &Subset::Range(0, 9)),
         Err(Refusal::MalformedSubset)
     );
+    assert_eq!(
+        intersect(&Subset::Range(2, 6), &Subset::Range(4, 9)),
+        Ok(Subset::Range(4, 6))
+    );
+    assert_eq!(
+        intersect(&Subset::Range(0, 9), &Subset::Range(7, 6)),
+        Err(Refusal::MalformedSubset)
+    );
     let long = Subset::List((0..65_536).collect());
     assert_eq!(intersect(&long, &long).map(|both| both.size()), Ok(65_536));
 }

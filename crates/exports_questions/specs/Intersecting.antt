@@ -1,4 +1,4 @@
--- What `mouldgrey_intersect` promises. Assumes nothing.
+-- What `mouldgrey_intersect` and `mouldgrey_intersect_ranges` promise. Assumes nothing.
 use Prim.Native.Nat.{ℕ}
 use mathlib.Core.Path.{_≡_, refl}
 use mathlib.Core.List.{List}

@@ -1,6 +1,9 @@
 // The questions without a subset under C names: lookups, fast range, versions; and intersect.
+ghost use Prim.Native.Nat.{ℕ};
+ghost use mathlib.Core.List.{List};
 ghost use Rattle.table.specs.Promises.{LookedUp, CellRead, RangeRead, RowsSince, RowsSinceVersion, VersionRead};
 ghost use Rattle.words.specs.Words.{headerIn, rowNumber, rowWords, cellNumber, cellWords, rangeNumber, rangeWords, versionNumber, versionWords, QuestionInWords};
+ghost use Rattle.offsets.specs.Subsets.{range};
 ghost use Rattle.offsets.specs.Answers.{subsetOf};
 ghost use Rattle.exports_questions.specs.Intersecting.{IntersectInWords};
 use constraints::Constraint;
@@ -153,5 +156,24 @@ pub extern "C" fn mouldgrey_intersect(
         end: other_end,
     };
     let answer = intersection::intersect(first, ids, second, other_ids, output);
+    write_subset(answer, words)
+}
+
+// The common ids of two ranges, as `mouldgrey_intersect` gives them whatever the output. Its arguments fit in registers, where
+// most of those of two subsets go by the stack.
+#[no_mangle]
+pub extern "C" fn mouldgrey_intersect_ranges(
+    start: u32,
+    end: u32,
+    other_start: u32,
+    other_end: u32,
+    words: &mut [u32],
+) -> u32
+    ensures { λ r. ⌜ ((output : List ℕ) → IntersectInWords (range start end) (range «other_start» «other_end») output (now (words .entry)) r output (now (words .exit))) ⌝ }
+{
+    if words.len() != 3 {
+        return 2;
+    }
+    let answer = intersection::intersect_ranges(start, end, other_start, other_end);
     write_subset(answer, words)
 }

@@ -146,7 +146,7 @@ fn smaller(a: u32, b: u32) -> u32
 }
 
 // Two ranges give a range. Where they do not meet it starts and ends at the larger start.
-fn intersect_ranges(a: u32, b: u32, c: u32, d: u32) -> SubsetAnswer
+pub fn intersect_ranges(a: u32, b: u32, c: u32, d: u32) -> SubsetAnswer
     ensures { λ r. ⌜ ((output : List ℕ) → Answered (intersectReply (range a b) (range c d) (length output)) output r output) ⌝ }
 {
     if b < a {

@@ -9,6 +9,8 @@ use chance::Rng;
 pub enum Act {
     Call(Call),
     Ask(Question),
+    /// Two ranges, each with its ends, by the name that takes nothing else.
+    IntersectRanges([(u32, u32); 2]),
     IsSound,
 }
 
@@ -128,18 +130,23 @@ fn ids(rng: &mut Rng, bound: u32) -> Vec<u32> {
         .collect()
 }
 
+/// A range's ends: among the rows, one or both anything now and then.
+fn range(rng: &mut Rng, image: &Image) -> (u32, u32) {
+    let end = rng.below(image.numbers().rows.saturating_add(1));
+    let start = rng.below(end.saturating_add(1));
+    let mut wild = |number: u32| match rng.percent(85) {
+        true => number,
+        false => hostile_number(rng, &image.header),
+    };
+    (wild(start), wild(end))
+}
+
 pub fn subset(rng: &mut Rng, image: &Image) -> Subset {
-    let rows = image.numbers().rows;
     if rng.percent(50) {
-        let end = rng.below(rows.saturating_add(1));
-        let start = rng.below(end.saturating_add(1));
-        let mut wild = |number: u32| match rng.percent(85) {
-            true => number,
-            false => hostile_number(rng, &image.header),
-        };
-        return Subset::Range(wild(start), wild(end));
+        let (start, end) = range(rng, image);
+        return Subset::Range(start, end);
     }
-    let mut list = ids(rng, rows);
+    let mut list = ids(rng, image.numbers().rows);
     match rng.below(400) {
         0 => list = (0..rng.within(65_535, 65_537)).collect(),
         1..=39 => list.push(hostile_number(rng, &image.header)),
@@ -218,6 +225,14 @@ fn precedence(rng: &mut Rng, image: &Image) -> Question {
     Question::Precedence {
         column,
         pairs: (0..count).map(|_| cell(rng, image)).collect(),
+    }
+}
+
+/// A question, or two ranges as often as each of the rarer ones.
+fn ask(rng: &mut Rng, image: &Image) -> Act {
+    match rng.below(17) {
+        0 => Act::IntersectRanges([range(rng, image), range(rng, image)]),
+        _ => Act::Ask(question(rng, image)),
     }
 }
 
@@ -320,6 +335,6 @@ pub fn act(rng: &mut Rng, image: &Image) -> Act {
         9 | 10 => Act::Call(Call::Compact),
         11 => Act::Call(Call::Clear),
         12 => Act::IsSound,
-        _ => Act::Ask(question(rng, image)),
+        _ => ask(rng, image),
     }
 }

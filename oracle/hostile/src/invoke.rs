@@ -24,6 +24,7 @@ impl Session {
             Act::Call(call) => self.run_call(rng, image, call, words),
             Act::IsSound => self.is_sound(rng, image, words),
             Act::Ask(question) => return self.run_question(rng, image, question, words),
+            Act::IntersectRanges(ranges) => self.intersect_ranges(rng, *ranges, words),
         };
         (number, Vec::new())
     }
@@ -420,5 +421,17 @@ impl Session {
             )
         };
         (number, before)
+    }
+
+    fn intersect_ranges(
+        &mut self,
+        rng: &mut Rng,
+        [first, second]: [(u32, u32); 2],
+        words: &[u32],
+    ) -> u32 {
+        let words = self.write(rng, Slot::Words, words);
+        unsafe {
+            raw::mouldgrey_intersect_ranges(first.0, first.1, second.0, second.1, words.0, words.1)
+        }
     }
 }

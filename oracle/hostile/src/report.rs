@@ -7,7 +7,7 @@ use std::collections::BTreeMap;
 /// not fit".
 type Kind = (&'static str, &'static [usize]);
 
-pub const SHIPPED: [Kind; 28] = [
+pub const SHIPPED: [Kind; 29] = [
     ("mouldgrey_open_table", &[1, 2]),
     ("mouldgrey_stage_insert", &[1, 3, 7]),
     ("mouldgrey_stage_remove", &[1, 3, 7]),
@@ -28,6 +28,7 @@ pub const SHIPPED: [Kind; 28] = [
     ("mouldgrey_contains_match", &[1, 2, 4, 5, 6]),
     ("mouldgrey_read_page", &[1, 2, 4, 5, 6]),
     ("mouldgrey_intersect", &[2, 4]),
+    ("mouldgrey_intersect_ranges", &[2, 4]),
     ("mouldgrey_to_columns", &[1, 2, 13]),
     ("mouldgrey_from_columns", &[1, 2, 13]),
     ("mouldgrey_step_at", &[2, 15]),

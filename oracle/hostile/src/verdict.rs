@@ -40,6 +40,7 @@ pub fn name(act: &Act) -> &'static str {
         Act::Ask(Question::AnyMatch { .. }) => "mouldgrey_contains_match",
         Act::Ask(Question::Page { .. }) => "mouldgrey_read_page",
         Act::Ask(Question::Intersect { .. }) => "mouldgrey_intersect",
+        Act::IntersectRanges(_) => "mouldgrey_intersect_ranges",
     }
 }
 
@@ -51,7 +52,7 @@ fn words_of(act: &Act) -> usize {
         Act::IsSound | Act::Ask(Question::AnyMatch { .. }) => 1,
         Act::Ask(Question::Lookup(_) | Question::Cell(..) | Question::Version) => 2,
         Act::Ask(Question::Page { .. }) => 4,
-        Act::Ask(_) => 3,
+        Act::Ask(_) | Act::IntersectRanges(_) => 3,
     }
 }
 
@@ -65,10 +66,22 @@ pub fn words_lent(rng: &mut Rng, act: &Act) -> Vec<u32> {
     (0..count).map(|_| rng.number()).collect()
 }
 
+/// The question that two ranges are to the judge, which writes no id.
+fn of_ranges([first, second]: [(u32, u32); 2]) -> Question {
+    Question::Intersect {
+        first: Subset::Range(first.0, first.1),
+        second: Subset::Range(second.0, second.1),
+        output: 0,
+    }
+}
+
 /// The number by the judge's own tests, on whatever header; 0 if the call is accepted.
 fn number(act: &Act, image: &Image, words: usize) -> u32 {
-    let is_intersect = matches!(act, Act::Ask(Question::Intersect { .. }));
-    if image.header.len() != HEADER_WORDS && !is_intersect {
+    let has_header = !matches!(
+        act,
+        Act::Ask(Question::Intersect { .. }) | Act::IntersectRanges(_)
+    );
+    if image.header.len() != HEADER_WORDS && has_header {
         return 1;
     }
     if words != words_of(act) {
@@ -78,6 +91,7 @@ fn number(act: &Act, image: &Image, words: usize) -> u32 {
     let test = match act {
         Act::Call(call) => plain::test_call(&h, &lent, call),
         Act::Ask(question) => plain::test_question(&h, &lent, question),
+        Act::IntersectRanges(ranges) => plain::test_question(&h, &lent, &of_ranges(*ranges)),
         Act::IsSound => plain::test_soundness(&h, &lent),
     };
     test.err().unwrap_or(0)
@@ -126,6 +140,10 @@ pub fn expected(act: &Act, image: &Image, words: &[u32], plain: Option<&Plain>) 
             if let Answer::Subset(Subset::List(ids)) | Answer::Page { ids, .. } = answer {
                 expected.ids = ids;
             }
+        }
+        Act::IntersectRanges(ranges) => {
+            let answer = answer(&of_ranges(*ranges), image, plain);
+            expected.words = answer.map(|answer| answer_words(act, &answer));
         }
     }
     expected
