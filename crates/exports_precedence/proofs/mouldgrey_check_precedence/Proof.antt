@@ -11,18 +11,6 @@ returns c = asked-unheaded (c .if1 .taken)
 returns-2 : tie.Need-returns-2
 returns-2 c = asked-unworded (c .before .if1 .left) (c .if2 .taken)
 
-header-of-requires : tie.Need-header-of-requires
-header-of-requires c κs = search needs
-
-check-precedence-requires : tie.Need-check-precedence-requires
-check-precedence-requires c κs = search needs
-
-write-precedence-requires : tie.Need-write-precedence-requires
-write-precedence-requires c κs = search needs
-
-same-length : tie.Need-same-length
-same-length c = search needs
-
 returns-3 : tie.Need-returns-3
 returns-3 c =
     let w = c .before .before in
@@ -37,8 +25,5 @@ mouldgrey-check-precedence-spec =
     (tie.spec
     returns
     returns-2
-    header-of-requires
-    check-precedence-requires
-    write-precedence-requires
-    same-length
+    (λ c κs. search needs) (λ c κs. search needs) (λ c κs. search needs) (λ c. search needs)
     returns-3)

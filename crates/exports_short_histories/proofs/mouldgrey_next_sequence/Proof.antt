@@ -8,18 +8,6 @@ use Rattle.exports_short_histories.proofs.mouldgrey_next_sequence.Tie a
 returns : tie.Need-returns
 returns c = words-wrong (c .if1 .taken) refl
 
-next-sequence-requires : tie.Need-next-sequence-requires
-next-sequence-requires c κs = search needs
-
-write-sequence-requires : tie.Need-write-sequence-requires
-write-sequence-requires c κs = search needs
-
-same-length : tie.Need-same-length
-same-length c = search needs
-
-same-length-2 : tie.Need-same-length-2
-same-length-2 c = search needs
-
 returns-2 : tie.Need-returns-2
 returns-2 c = words-told (c .before .before .before .before .before .before .before .before .if1 .left) _ (c .before .before .before .before .before .before .next-sequence .ensures) (c .before .before .write-sequence .ensures)
 
@@ -28,8 +16,5 @@ mouldgrey-next-sequence-spec =
     tie.close
     (tie.spec
     returns
-    next-sequence-requires
-    write-sequence-requires
-    same-length
-    same-length-2
+    (λ c κs. search needs) (λ c κs. search needs) (λ c. search needs) (λ c. search needs)
     returns-2)

@@ -8,18 +8,12 @@ use Rattle.exports_short_histories.proofs.mouldgrey_step_at.Tie as tie
 returns : tie.Need-returns
 returns c = words-wrong (c .if1 .taken) refl
 
-step-at-requires : tie.Need-step-at-requires
-step-at-requires c κs = search needs
-
-write-step-requires : tie.Need-write-step-requires
-write-step-requires c κs = search needs
-
-same-length : tie.Need-same-length
-same-length c = search needs
-
 returns-2 : tie.Need-returns-2
 returns-2 c = words-told (c .before .before .before .before .before .if1 .left) _ (c .before .before .before .before .step-at .ensures) (c .before .before .write-step .ensures)
 
 pub mouldgrey-step-at-spec : {M : Type 1} → statement M
 mouldgrey-step-at-spec =
-    tie.close (tie.spec returns step-at-requires write-step-requires same-length returns-2)
+    tie.close (tie.spec
+    returns
+    (λ c κs. search needs) (λ c κs. search needs) (λ c. search needs)
+    returns-2)

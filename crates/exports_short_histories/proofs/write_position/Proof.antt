@@ -6,21 +6,9 @@ use Rattle.exports_short_histories.specs.Words.{positionNumber, position
 use Rattle.exports_short_histories.proofs.write_position.Statement.{statement}
 use Rattle.exports_short_histories.proofs.write_position.Tie as tie
 
-enum-known-answer : tie.Need-enum-known-answer
-enum-known-answer c = search needs
-
-enum-known-answer-2 : tie.Need-enum-known-answer-2
-enum-known-answer-2 c = search needs
-
-slice-write-words : tie.Need-slice-write-words
-slice-write-words c = search needs
-
 returns : tie.Need-returns
 unfolding positionNumber positionWords
 returns c = rw (c .before .answer .given .1) record { numbered = refl; worded = refl }
-
-same-length : tie.Need-same-length
-same-length c = search needs
 
 returns-2 : tie.Need-returns-2
 unfolding positionNumber positionWords
@@ -30,9 +18,7 @@ pub write-position-spec : {M : Type 1} → statement M
 write-position-spec =
     tie.close
     (tie.spec
-    enum-known-answer
-    enum-known-answer-2
-    slice-write-words
+    (λ c. search needs) (λ c. search needs) (λ c. search needs)
     returns
-    same-length
+    (λ c. search needs)
     returns-2)

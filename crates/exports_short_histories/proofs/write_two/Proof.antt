@@ -4,17 +4,10 @@ use Rattle.words.specs.Laws.Written.{written}
 use Rattle.exports_short_histories.proofs.write_two.Statement.{statement}
 use Rattle.exports_short_histories.proofs.write_two.Tie as tie
 
-slice-write-words : tie.Need-slice-write-words
-slice-write-words c = search needs
-
-slice-write-words-2 : tie.Need-slice-write-words-2
-slice-write-words-2 c = search needs
-
-same-length : tie.Need-same-length
-same-length c = search needs
-
 returns : tie.Need-returns
 returns c = written (c .args .words .now) _ (c .pre)
 
 pub write-two-spec : {M : Type 1} → statement M
-write-two-spec = tie.close (tie.spec slice-write-words slice-write-words-2 same-length returns)
+write-two-spec = tie.close (tie.spec
+    (λ c. search needs) (λ c. search needs) (λ c. search needs)
+    returns)

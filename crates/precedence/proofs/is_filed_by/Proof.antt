@@ -9,20 +9,8 @@ use Rattle.precedence.proofs.is_filed_by.Tie as tie
 lies : (c : tie.After-struct-known) → let a = c .before .before .before .before .before .before .before .before .before .before .args in RowLies (a .h) (a .rows .now) (c .before .before .found .given .0 .0)
 lies c = found-lies _ _ _ _ _ _ _ (c .before .before .before .before .before .before .keyed .ensures) (c .before .before .before .before .look-up .ensures) (c .before .before .before .before .before .before .before .before .before .before .pre .0) _ _ (c .before .before .found .given .1)
 
-keyed-requires : tie.Need-keyed-requires
-keyed-requires c κs = search needs
-
-compact-hash-requires : tie.Need-compact-hash-requires
-compact-hash-requires c κs = search needs
-
 look-up-requires : tie.Need-look-up-requires
 look-up-requires c κs = let s = c .before .before .before .before .before in asks _ _ _ (s .args .key .now) _ (c .before .keyed .ensures) (s .pre .0) (s .pre .1)
-
-enum-told : tie.Need-enum-told
-enum-told c = search needs
-
-enum-known-found : tie.Need-enum-known-found
-enum-known-found c = search needs
 
 mul-at : tie.Need-mul-at
 mul-at c = omega (arith, lies c)
@@ -49,11 +37,9 @@ pub is-filed-by-spec : {M : Type 1} → statement M
 is-filed-by-spec =
     tie.close
     (tie.spec
-    keyed-requires
-    compact-hash-requires
+    (λ c κs. search needs) (λ c κs. search needs)
     look-up-requires
-    enum-told
-    enum-known-found
+    (λ c. search needs) (λ c. search needs)
     mul-at
     add-at
     cast-at

@@ -27,9 +27,6 @@ shared-slice-read-if1 c = omega (arith, lies (c .before .before .before .before)
 returns : tie.Need-returns
 returns c = λ sound differ. let s = c .before .before .before .before .before in not-named _ _ _ (s .pre .0) _ _ 0 (s .pre .1) (s .pre .2) _ _ (c .if1 .taken)
 
-is-row-filed-requires : tie.Need-is-row-filed-requires
-is-row-filed-requires c κs = search needs
-
 returns-2 : tie.Need-returns-2
 returns-2 c = λ sound differ. let s = c .before .before .before .before .before .before in c .is-row-filed .ensures sound differ ∙ named _ _ _ (s .pre .0) _ _ 0 (s .pre .1) (s .pre .2) _ _ (c .before .if1 .left)
 
@@ -43,5 +40,5 @@ meets-pair-spec =
     mul-if1
     shared-slice-read-if1
     returns
-    is-row-filed-requires
+    (λ c κs. search needs)
     returns-2)

@@ -5,12 +5,6 @@ use Rattle.precedence.proofs.Ladder.{lookup-turned, no-key-column, odd-
 use Rattle.precedence.proofs.precedence_refusal.Statement.{statement}
 use Rattle.precedence.proofs.precedence_refusal.Tie as tie
 
-cast-lookup-refusal : tie.Need-cast-lookup-refusal
-cast-lookup-refusal c = search needs
-
-lookup-refusal-requires : tie.Need-lookup-refusal-requires
-lookup-refusal-requires c κs = search needs
-
 returns : tie.Need-returns
 returns c = let e = c .before .lookup-refusal .ensures in e ∙ lookup-turned _ _ _ _ _ (λ z. c .if1 .taken (e ∙ z))
 
@@ -33,8 +27,7 @@ pub precedence-refusal-spec : {M : Type 1} → statement M
 precedence-refusal-spec =
     tie.close
     (tie.spec
-    cast-lookup-refusal
-    lookup-refusal-requires
+    (λ c. search needs) (λ c κs. search needs)
     returns
     returns-2
     returns-3

@@ -6,26 +6,14 @@ use Rattle.short_histories.specs.Laws.Refusals.{next-unknown, next-none,
 use Rattle.short_histories.proofs.next_sequence.Statement.{statement}
 use Rattle.short_histories.proofs.next_sequence.Tie as tie
 
-is-known-requires : tie.Need-is-known-requires
-is-known-requires c κs = search needs
-
 returns : tie.Need-returns
 returns c = next-unknown _ _ (sym (c .before .is-known .ensures) ∙ not-true _ (c .if1 .taken))
 
 known-position-requires : tie.Need-known-position-requires
 known-position-requires c κs = sym (c .before .is-known .ensures) ∙ not-false _ (c .if1 .left)
 
-add-position : tie.Need-add-position
-add-position c = search needs
-
 returns-2 : tie.Need-returns-2
 returns-2 c = next-none _ _ (sym (c .before .before .before .is-known .ensures) ∙ not-false _ (c .before .before .if1 .left)) _ (c .before .known-position .ensures .0) (c .if2 .taken)
-
-sequence-at-requires : tie.Need-sequence-at-requires
-sequence-at-requires c κs = search needs
-
-same-length : tie.Need-same-length
-same-length c = search needs
 
 returns-3 : tie.Need-returns-3
 returns-3 c = next-written _ _ (sym (c .before .before .before .before .before .before .before .is-known .ensures) ∙ not-false _ (c .before .before .before .before .before .before .if1 .left)) _ (c .before .before .before .before .before .known-position .ensures .0) (c .before .before .before .before .if2 .left) _ _ (c .before .before .sequence-at .ensures)
@@ -34,11 +22,10 @@ pub next-sequence-spec : {M : Type 1} → statement M
 next-sequence-spec =
     tie.close
     (tie.spec
-    is-known-requires
+    (λ c κs. search needs)
     returns
     known-position-requires
-    add-position
+    (λ c. search needs)
     returns-2
-    sequence-at-requires
-    same-length
+    (λ c κs. search needs) (λ c. search needs)
     returns-3)

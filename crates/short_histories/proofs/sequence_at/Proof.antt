@@ -7,20 +7,8 @@ use Rattle.short_histories.proofs.sequence_at.Tie as tie
 returns : tie.Need-returns
 returns c = sequence-past-last _ _ (c .if1 .taken)
 
-length-at-requires : tie.Need-length-at-requires
-length-at-requires c κs = search needs
-
 returns-2 : tie.Need-returns-2
 returns-2 c = sequence-no-room _ _ (c .before .before .if1 .left) _ (c .before .length-at .ensures .0) (c .if2 .taken)
-
-write-sequence-requires : tie.Need-write-sequence-requires
-write-sequence-requires c κs = search needs
-
-cast-t9 : tie.Need-cast-t9
-cast-t9 c = search needs
-
-same-length : tie.Need-same-length
-same-length c = search needs
 
 returns-3 : tie.Need-returns-3
 returns-3 c = sequence-written _ _ (c .before .before .before .before .before .before .if1 .left) _ (c .before .before .before .before .before .length-at .ensures .0) (c .before .before .before .before .if2 .left) _ (c .before .before .write-sequence .ensures)
@@ -30,9 +18,7 @@ sequence-at-spec =
     tie.close
     (tie.spec
     returns
-    length-at-requires
+    (λ c κs. search needs)
     returns-2
-    write-sequence-requires
-    cast-t9
-    same-length
+    (λ c κs. search needs) (λ c. search needs) (λ c. search needs)
     returns-3)
