@@ -1,7 +1,6 @@
 // What a function under a C name that asks over a subset does before and after its question: the header is read, and the answer
 // told. The function itself, proved by hand, has no test of its own.
 ghost use mathlib.Core.Path.{_≡_};
-ghost use mathlib.Core.List.{[], _∷_};
 ghost use lib.ListN.{length};
 ghost use Rattle.words.specs.Words.{subsetNumber, subsetWords, Told};
 ghost use Rattle.asking.specs.Asking.{matchNumber, matchWords, pageNumber, pageWords};
@@ -14,6 +13,7 @@ use table::Header;
 use table::Largest;
 use words::bit_of;
 use words::header_of;
+use words::write_four;
 use words::write_subset;
 
 // The header that its words hold; where they are not twelve, or the answer's words not so many as needed, one that every question
@@ -77,16 +77,6 @@ pub fn tell_match(headed: usize, answer: MatchAnswer, words: &mut [u32]) -> u32
         return 2;
     }
     write_match(answer, words)
-}
-
-fn write_four(words: &mut [u32], first: u32, second: u32, third: u32, fourth: u32)
-    requires { ⌜ length (now words) ≡ 4 ⌝ }
-    ensures { λ _. ⌜ now (words .exit) ≡ first ∷ second ∷ third ∷ fourth ∷ [] ⌝ }
-{
-    words[0] = first;
-    words[1] = second;
-    words[2] = third;
-    words[3] = fourth;
 }
 
 fn write_page(answer: PageAnswer, words: &mut [u32]) -> u32

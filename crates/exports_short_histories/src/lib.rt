@@ -1,7 +1,6 @@
 // Every short history under C names: the number of the refusal, 0 if there is none, and the answer in words. Where
 // those are not as many as the answer has, that is told first, as by every C name: 2, and nothing is done.
 ghost use mathlib.Core.Path.{_≡_};
-ghost use mathlib.Core.List.{[], _∷_};
 ghost use lib.ListN.{length};
 ghost use Rattle.short_histories.specs.Sequences.{StepTold, PositionTold, SequenceFound, NextFound};
 ghost use Rattle.words.specs.Words.{Told};
@@ -9,16 +8,8 @@ ghost use Rattle.exports_short_histories.specs.Words.{stepNumber, stepWo
 use short_histories::PositionAnswer;
 use short_histories::SequenceAnswer;
 use short_histories::StepAnswer;
-
-fn write_four(words: &mut [u32], kind: u32, key: u32, stamp: u32, third: u32)
-    requires { ⌜ length (now words) ≡ 4 ⌝ }
-    ensures { λ _. ⌜ now (words .exit) ≡ kind ∷ key ∷ stamp ∷ third ∷ [] ⌝ }
-{
-    words[0] = kind;
-    words[1] = key;
-    words[2] = stamp;
-    words[3] = third;
-}
+use words::write_four;
+use words::write_two;
 
 fn write_step(answer: StepAnswer, words: &mut [u32]) -> u32
     requires { ⌜ length (now words) ≡ 4 ⌝ }
@@ -44,14 +35,6 @@ fn write_position(answer: PositionAnswer, words: &mut [u32]) -> u32
             0
         }
     }
-}
-
-fn write_two(words: &mut [u32], found: u32, steps: u32)
-    requires { ⌜ length (now words) ≡ 2 ⌝ }
-    ensures { λ _. ⌜ now (words .exit) ≡ found ∷ steps ∷ [] ⌝ }
-{
-    words[0] = found;
-    words[1] = steps;
 }
 
 fn write_sequence(answer: SequenceAnswer, words: &mut [u32]) -> u32

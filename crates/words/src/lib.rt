@@ -94,7 +94,7 @@ fn write_header(h: Header, words: &mut [u32])
     words[11] = largest_word(largest);
 }
 
-fn write_two(words: &mut [u32], first: u32, second: u32)
+pub fn write_two(words: &mut [u32], first: u32, second: u32)
     requires { ⌜ length (now words) ≡ 2 ⌝ }
     ensures { λ _. ⌜ now (words .exit) ≡ first ∷ second ∷ [] ⌝ }
 {
@@ -109,6 +109,16 @@ pub fn write_three(words: &mut [u32], first: u32, second: u32, third: u32)
     words[0] = first;
     words[1] = second;
     words[2] = third;
+}
+
+pub fn write_four(words: &mut [u32], first: u32, second: u32, third: u32, fourth: u32)
+    requires { ⌜ length (now words) ≡ 4 ⌝ }
+    ensures { λ _. ⌜ now (words .exit) ≡ first ∷ second ∷ third ∷ fourth ∷ [] ⌝ }
+{
+    words[0] = first;
+    words[1] = second;
+    words[2] = third;
+    words[3] = fourth;
 }
 
 fn write_five(words: &mut [u32], first: u32, second: u32, third: u32, fourth: u32, fifth: u32)

@@ -1,8 +1,8 @@
--- `asking::write_four` meets its contract. Assumes nothing.
+-- `words::write_four` meets its contract. Assumes nothing.
 use Rattle.words.specs.Laws.Written.{written}
 use borrow.Author.Needs.{needs}
-use Rattle.asking.proofs.write_four.Statement.{statement}
-use Rattle.asking.proofs.write_four.Tie as tie
+use Rattle.words.proofs.write_four.Statement.{statement}
+use Rattle.words.proofs.write_four.Tie as tie
 
 returns : tie.Need-returns
 returns c = written (c .args .words .now) _ (c .pre)
