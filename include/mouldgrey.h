@@ -2,8 +2,8 @@
  * Mouldgrey: a table for an archive. Rows of uint32_t cells, kept by key, in the order of a sort
  * column, in stores that the caller lends. Link libexports_lists.a, libexports_questions.a and
  * libexports.a; for the check of precedence libexports_precedence.a; for column order, which needs no
- * table, libexports_vault.a; for every short history, which needs none either,
- * libexports_short_histories.a.
+ * table, libexports_vault.a; for every short history and for listings as text, which need none
+ * either, libexports_short_histories.a and libexports_listings.a.
  *
  * A table is a header of twelve words and four stores. docs/FORMAT.md says what each word means.
  *
@@ -69,6 +69,8 @@ extern "C" {
 #define MOULDGREY_OLD_SORT_VALUE 9
 /* The generation is 4294967295 and cannot rise. */
 #define MOULDGREY_LAST_GENERATION 10
+/* A text that is no listing of the form named. */
+#define MOULDGREY_NO_LISTING 11
 /* A number of cells that is not a multiple of the width. */
 #define MOULDGREY_BROKEN_ROW 13
 /* A number of pairs outside 1 to 16. */
@@ -77,6 +79,8 @@ extern "C" {
 #define MOULDGREY_UNKNOWN_SEQUENCE 15
 /* A position past that of the last sequence, 137256. */
 #define MOULDGREY_PAST_THE_LAST 16
+/* A listing in which a number below the count has no row. */
+#define MOULDGREY_MISSING_ROW 17
 /* A noted version of another generation, or of more rows than there are. */
 #define MOULDGREY_OLD_NOTE 18
 
@@ -400,6 +404,55 @@ uint32_t mouldgrey_sequence_at(uint32_t position, uint32_t *output, size_t outpu
  */
 uint32_t mouldgrey_next_sequence(const uint32_t *sequence, size_t sequence_len, uint32_t *output,
                                  size_t output_len, uint32_t *words, size_t words_len);
+
+/*
+ * Listings as text; needs no table. A text is so many bytes, no 0 at its end. Each line is a letter
+ * and decimals up to 4294967295 without leading zeros, each behind a comma, and ends in one newline,
+ * also the last. Old form, which the program levels prints for L:
+ *
+ *   T,columns,keys,sort,rule,generation
+ *   D,cells            for each row
+ *
+ * New form, where row numbers rise strictly and are below the count:
+ *
+ *   U,columns,keys,sort,rule,generation,count
+ *   D,number,cells     for each row
+ *
+ * The head's numbers are within the bounds of mouldgrey_open_table. There are at most 65536 rows, the
+ * count is at most 65536, each row has one cell for each column, and none begins with MOULDGREY_DEAD.
+ *
+ * Words of the wrong number are refused by 2 before the text is looked at; else 11 comes first.
+ */
+
+/*
+ * Reads a listing in the old form: writes the cells of each row in turn to the start of output; past
+ * them output is unchanged. words, 6: the head's five numbers and how many rows there are. words_len
+ * must be 6, else 2, and nothing is written. Refuses: 11; 2, output shorter than the cells.
+ */
+uint32_t mouldgrey_read_listing(const uint8_t *text, size_t text_len, uint32_t *output,
+                                size_t output_len, uint32_t *words, size_t words_len);
+
+/*
+ * Reads a listing in the new form: writes the number and then the cells of each row, likewise. words,
+ * 7: the head's six numbers and how many rows there are. words_len must be 7, else 2. Refuses: 11; 2.
+ */
+uint32_t mouldgrey_read_numbered(const uint8_t *text, size_t text_len, uint32_t *output,
+                                 size_t output_len, uint32_t *words, size_t words_len);
+
+/*
+ * Writes a listing in the old form to the start of output in the new one, its rows numbered from 0;
+ * past it output is unchanged. words, 1: how many bytes that are. words_len must be 1, else 2, and
+ * nothing is written. Refuses: 11; 2, output shorter than the text to be written.
+ */
+uint32_t mouldgrey_to_numbered(const uint8_t *text, size_t text_len, uint8_t *output,
+                               size_t output_len, uint64_t *words, size_t words_len);
+
+/*
+ * Writes a listing in the new form to the start of output in the old one, likewise. Refuses: 11; 17,
+ * some number below the count has no row; 2.
+ */
+uint32_t mouldgrey_from_numbered(const uint8_t *text, size_t text_len, uint8_t *output,
+                                 size_t output_len, uint64_t *words, size_t words_len);
 
 /*
  * Lists, from the library exports_replay. A list of calls or of questions goes as words: for each a

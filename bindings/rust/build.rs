@@ -4,13 +4,14 @@
 use std::env;
 use std::path::{Path, PathBuf};
 
-const LIBRARIES: [&str; 7] = [
+const LIBRARIES: [&str; 8] = [
     "exports",
     "exports_questions",
     "exports_lists",
     "exports_precedence",
     "exports_vault",
     "exports_short_histories",
+    "exports_listings",
     "exports_replay",
 ];
 

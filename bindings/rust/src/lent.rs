@@ -8,8 +8,8 @@
 
 use crate::header::HEADER_WORDS;
 use crate::{
-    Constraint, Header, Left, LeftIn, Merge, Opening, Page, Refusal, Step, Stop, SubsetRef,
-    Version, Written, raw,
+    Constraint, Header, Left, LeftIn, ListingHead, Merge, Opening, Page, Refusal, Step, Stop,
+    SubsetRef, Version, Written, raw,
 };
 
 /// The words of a header to write to.
@@ -715,6 +715,92 @@ pub fn next_sequence(sequence: &[u32], output: &mut [u32]) -> Result<Option<usiz
     })?;
     let [found, steps] = words;
     Ok((found == 1).then_some(steps as usize))
+}
+
+/// Reads a listing in the old form: the head's numbers and how many rows it has. Their cells are written to the start of the
+/// output, and output past them is unchanged. Refused by 11 and 2.
+pub fn read_listing(text: &[u8], output: &mut [u32]) -> Result<(ListingHead, usize), Refusal> {
+    let mut words = [0; 6];
+    verdict(unsafe {
+        raw::mouldgrey_read_listing(
+            text.as_ptr(),
+            text.len(),
+            output.as_mut_ptr(),
+            output.len(),
+            words.as_mut_ptr(),
+            words.len(),
+        )
+    })?;
+    let [columns, keys, sort, rule, generation, rows] = words;
+    let head = ListingHead {
+        columns,
+        keys,
+        sort,
+        rule,
+        generation,
+    };
+    Ok((head, rows as usize))
+}
+
+/// Reads a listing in the new form: the head's numbers, the row count and how many rows it has. Their numbers, each before the
+/// row's cells, are written as [`read_listing`] does. Refused by 11 and 2.
+pub fn read_numbered(
+    text: &[u8],
+    output: &mut [u32],
+) -> Result<(ListingHead, u32, usize), Refusal> {
+    let mut words = [0; 7];
+    verdict(unsafe {
+        raw::mouldgrey_read_numbered(
+            text.as_ptr(),
+            text.len(),
+            output.as_mut_ptr(),
+            output.len(),
+            words.as_mut_ptr(),
+            words.len(),
+        )
+    })?;
+    let [columns, keys, sort, rule, generation, count, rows] = words;
+    let head = ListingHead {
+        columns,
+        keys,
+        sort,
+        rule,
+        generation,
+    };
+    Ok((head, count, rows as usize))
+}
+
+/// Writes a listing in the old form to the start of the output in the new one, its rows numbered from 0, and answers how many
+/// bytes that are. Output past them is unchanged. Refused by 11 and 2.
+pub fn to_numbered(text: &[u8], output: &mut [u8]) -> Result<usize, Refusal> {
+    let mut words = [0];
+    verdict(unsafe {
+        raw::mouldgrey_to_numbered(
+            text.as_ptr(),
+            text.len(),
+            output.as_mut_ptr(),
+            output.len(),
+            words.as_mut_ptr(),
+            words.len(),
+        )
+    })?;
+    Ok(words[0] as usize)
+}
+
+/// Writes a listing in the new form to the output in the old one, as [`to_numbered`] does. Refused by 11, 17 and 2.
+pub fn from_numbered(text: &[u8], output: &mut [u8]) -> Result<usize, Refusal> {
+    let mut words = [0];
+    verdict(unsafe {
+        raw::mouldgrey_from_numbered(
+            text.as_ptr(),
+            text.len(),
+            output.as_mut_ptr(),
+            output.len(),
+            words.as_mut_ptr(),
+            words.len(),
+        )
+    })?;
+    Ok(words[0] as usize)
 }
 
 /// Makes an empty table of the stores and makes the calls on it, in order, also after one that is refused. They go as words, each

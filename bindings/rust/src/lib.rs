@@ -7,17 +7,20 @@
 //! - [`to_columns`] and [`from_columns`] put rows into column order, for the vault, and back.
 //! - [`ShortHistories`] gives every sequence of at most six steps, in order; [`position_of`] and [`sequence_at`] lead from a
 //!   sequence to its position and back.
+//! - [`read_listing`] and [`read_numbered`] read a listing as text, without and with row numbers; [`to_numbered`] and
+//!   [`from_numbered`] lead from one form to the other.
 //! - [`raw`] has the C functions themselves.
 //!
 //! Calls that the library turns away answer a [`Refusal`] with the paper's number, and have changed nothing.
 //!
 //! The static libraries are looked for in target/staticlib of the repository, where `rt staticlib exports`, `rt staticlib
 //! exports_questions`, `rt staticlib exports_lists`, `rt staticlib exports_precedence`, `rt staticlib exports_vault`, `rt
-//! staticlib exports_short_histories` and `rt staticlib exports_replay` leave them, or in the folder that the environment variable
-//! MOULDGREY_LIBRARIES names.
+//! staticlib exports_short_histories`, `rt staticlib exports_listings` and `rt staticlib exports_replay` leave them, or in the
+//! folder that the environment variable MOULDGREY_LIBRARIES names.
 
 mod header;
 pub mod lent;
+mod listings;
 pub mod raw;
 mod refusal;
 mod short_histories;
@@ -28,6 +31,7 @@ mod tests;
 mod vault;
 
 pub use header::{DEAD, Header, Lengths, Merge, Opening, Version};
+pub use listings::{Listing, ListingHead, from_numbered, read_listing, read_numbered, to_numbered};
 pub use refusal::{Refusal, Stop};
 pub use short_histories::{LONGEST, ShortHistories, Step, position_of, sequence_at};
 pub use subset::{Constraint, Left, LeftIn, Page, Subset, SubsetRef, Written};

@@ -298,6 +298,38 @@ unsafe extern "C" {
         words: *mut u32,
         words_len: usize,
     ) -> u32;
+    pub fn mouldgrey_read_listing(
+        text: *const u8,
+        text_len: usize,
+        output: *mut u32,
+        output_len: usize,
+        words: *mut u32,
+        words_len: usize,
+    ) -> u32;
+    pub fn mouldgrey_read_numbered(
+        text: *const u8,
+        text_len: usize,
+        output: *mut u32,
+        output_len: usize,
+        words: *mut u32,
+        words_len: usize,
+    ) -> u32;
+    pub fn mouldgrey_to_numbered(
+        text: *const u8,
+        text_len: usize,
+        output: *mut u8,
+        output_len: usize,
+        words: *mut u64,
+        words_len: usize,
+    ) -> u32;
+    pub fn mouldgrey_from_numbered(
+        text: *const u8,
+        text_len: usize,
+        output: *mut u8,
+        output_len: usize,
+        words: *mut u64,
+        words_len: usize,
+    ) -> u32;
     pub fn mouldgrey_replay(
         columns: u32,
         key_columns: u32,

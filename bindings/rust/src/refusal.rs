@@ -22,6 +22,8 @@ pub enum Refusal {
     PendingFull = 7,
     /// The generation is 4294967295 and cannot rise.
     LastGeneration = 10,
+    /// A text that is no listing of the form named.
+    NoListing = 11,
     /// A number of cells that is not a multiple of the width.
     BrokenRow = 13,
     /// A number of pairs outside 1 to 16.
@@ -30,6 +32,8 @@ pub enum Refusal {
     UnknownSequence = 15,
     /// A position past that of the last sequence.
     PastTheLast = 16,
+    /// A listing in which a number below the count has no row.
+    MissingRow = 17,
     /// A noted version of another generation, or of more rows than there are.
     OldNote = 18,
 }
@@ -44,7 +48,7 @@ pub enum Stop {
 }
 
 impl Refusal {
-    pub const ALL: [Refusal; 13] = [
+    pub const ALL: [Refusal; 15] = [
         Refusal::OutOfBounds,
         Refusal::TooShort,
         Refusal::WrongWidth,
@@ -53,10 +57,12 @@ impl Refusal {
         Refusal::NoSuchColumn,
         Refusal::PendingFull,
         Refusal::LastGeneration,
+        Refusal::NoListing,
         Refusal::BrokenRow,
         Refusal::PairCount,
         Refusal::UnknownSequence,
         Refusal::PastTheLast,
+        Refusal::MissingRow,
         Refusal::OldNote,
     ];
 
@@ -79,10 +85,12 @@ impl Refusal {
             Refusal::NoSuchColumn => "no such column or kind of condition",
             Refusal::PendingFull => "no room in the pending store",
             Refusal::LastGeneration => "the generation cannot rise",
+            Refusal::NoListing => "no listing of the form named",
             Refusal::BrokenRow => "not a multiple of the width",
             Refusal::PairCount => "a number of pairs outside 1 to 16",
             Refusal::UnknownSequence => "more than six steps, or an unknown step",
             Refusal::PastTheLast => "a position past the last",
+            Refusal::MissingRow => "a number below the count has no row",
             Refusal::OldNote => "a noted version of another generation or of more rows",
         }
     }

@@ -395,7 +395,7 @@ fn numbers_and_names() {
     for stop in Stop::ALL {
         assert_eq!(Stop::from_number(stop.number()), Some(stop));
     }
-    for number in [0, 8, 9, 11] {
+    for number in [0, 8, 9, 12, 19] {
         assert_eq!(Refusal::from_number(number), None);
     }
     assert_eq!(
@@ -456,6 +456,43 @@ fn every_short_history() {
         Err(Refusal::TooShort)
     );
     assert_eq!(output, [0, 0, 9]);
+}
+
+#[test]
+fn listings_in_both_forms() {
+    let old = b"T,2,1,1,3,0\nD,7,163\nD,0,4294967295\n";
+    let new = b"U,2,1,1,3,0,2\nD,0,7,163\nD,1,0,4294967295\n";
+    let gap = b"U,2,1,1,3,0,3\nD,0,7,163\nD,2,8,9\n";
+    let head = ListingHead {
+        columns: 2,
+        keys: 1,
+        sort: 1,
+        rule: 3,
+        generation: 0,
+    };
+    let rows = vec![vec![7, 163], vec![0, u32::MAX]];
+    assert_eq!(read_listing(old), Ok((head, rows)));
+    assert_eq!(read_listing(new), Err(Refusal::NoListing));
+    let read = read_numbered(gap).expect("a listing");
+    assert_eq!((read.head, read.count), (head, 3));
+    assert_eq!(read.rows, [(0, vec![7, 163]), (2, vec![8, 9])]);
+    assert_eq!(to_numbered(old), Ok(new.to_vec()));
+    assert_eq!(from_numbered(new), Ok(old.to_vec()));
+    assert_eq!(from_numbered(old), Err(Refusal::NoListing));
+    assert_eq!(from_numbered(gap), Err(Refusal::MissingRow));
+    let mut output = [9; 5];
+    assert_eq!(
+        lent::read_listing(old, &mut output[..3]),
+        Err(Refusal::TooShort)
+    );
+    assert_eq!(output, [9; 5]);
+    assert_eq!(lent::read_listing(old, &mut output), Ok((head, 2)));
+    assert_eq!(output, [7, 163, 0, u32::MAX, 9]);
+    let mut text = [b'?'; 40];
+    let short = &mut text[..old.len() - 1];
+    assert_eq!(lent::from_numbered(new, short), Err(Refusal::TooShort));
+    assert_eq!(lent::from_numbered(new, &mut text), Ok(old.len()));
+    assert_eq!((&text[..old.len()], text[old.len()]), (&old[..], b'?'));
 }
 
 /// A kind, a count and so many words.

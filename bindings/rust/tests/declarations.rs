@@ -59,6 +59,7 @@ fn slice(kind: &str) -> Option<(&str, bool)> {
 
 fn in_c(kind: &str) -> &'static str {
     match kind {
+        "u8" => "uint8_t",
         "u32" => "uint32_t",
         "u64" => "uint64_t",
         "usize" => "size_t",
@@ -145,6 +146,7 @@ fn shipped() -> Vec<Exported> {
     functions.extend(exported("crates/exports_precedence/src/lib.rt"));
     functions.extend(exported("crates/exports_vault/src/lib.rt"));
     functions.extend(exported("crates/exports_short_histories/src/lib.rt"));
+    functions.extend(exported("crates/exports_listings/src/lib.rt"));
     functions.extend(exported("crates/exports_replay/src/lib.rt"));
     functions
 }

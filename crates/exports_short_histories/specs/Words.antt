@@ -1,10 +1,6 @@
--- The answers on short histories in words, and what their functions under C names promise: the library's own promise, of an
--- answer that the number and the words tell. Assumes nothing.
+-- The answers on short histories in words. Assumes nothing.
 use Prim.Native.Nat.{ℕ}
-use mathlib.Core.Path.{_≡_, refl}
 use mathlib.Core.List.{List, [], _∷_}
-use lib.ListN.{length}
-use Rattle.words.specs.Words.{Told}
 use Rattle.short_histories.specs.declared.StepAnswer.{StepAnswer}
 use Rattle.short_histories.specs.declared.StepAnswer.the-variants.{Refused as StepRefused, Insert, Remove, Merge}
 use Rattle.short_histories.specs.declared.PositionAnswer.{PositionAnswer}
@@ -45,16 +41,3 @@ unfoldable pub sequenceWords : List ℕ → SequenceAnswer → List ℕ
 sequenceWords words (SequenceRefused n) = words
 sequenceWords words NoSequence = 0 ∷ 0 ∷ []
 sequenceWords words (Written steps) = 1 ∷ steps ∷ []
-
--- A call whose answer goes into so many words. Where they are not so many, the number is 2 and nothing has changed.
-pub record InWords {A : Type 0} (promise : A → Type 0) (unchanged : Type 0) (number : A → ℕ) (told : List ℕ → A → List ℕ) (count : ℕ) (words : List ℕ) (r : ℕ) (words′ : List ℕ) : Type 0 where
-  pub done : length words ≡ count → (answer : A) × promise answer × (r ≡ number answer) × (words′ ≡ told words answer)
-  pub unworded : (length words ≡ count → ⊥) → unchanged × (r ≡ 2) × (words′ ≡ words)
-
-module _ {A : Type 0} {promise : A → Type 0} {unchanged : Type 0} {number : A → ℕ} {told : List ℕ → A → List ℕ} {count : ℕ} {words : List ℕ} where
-  pub words-wrong : (length words ≡ count → ⊥) → unchanged → InWords promise unchanged number told count words 2 words
-  words-wrong n u = record { done = λ e. absurd (n e); unworded = λ e. (u, refl, refl) }
-
-  pub words-told : {r : ℕ} {words′ : List ℕ} → length words ≡ count → (answer : A) → promise answer → Told number (told words) answer r words′
-      → InWords promise unchanged number told count words r words′
-  words-told e answer p t = record { done = λ l. (answer, p, t .numbered, t .worded); unworded = λ n. absurd (n e) }

@@ -3,8 +3,8 @@
 ghost use mathlib.Core.Path.{_≡_};
 ghost use lib.ListN.{length};
 ghost use Rattle.short_histories.specs.Sequences.{StepTold, PositionTold, SequenceFound, NextFound};
-ghost use Rattle.words.specs.Words.{Told};
-ghost use Rattle.exports_short_histories.specs.Words.{stepNumber, stepWords, positionNumber, positionWords, sequenceNumber, sequenceWords, InWords};
+ghost use Rattle.words.specs.Words.{Told, InWords};
+ghost use Rattle.exports_short_histories.specs.Words.{stepNumber, stepWords, positionNumber, positionWords, sequenceNumber, sequenceWords};
 use short_histories::PositionAnswer;
 use short_histories::SequenceAnswer;
 use short_histories::StepAnswer;

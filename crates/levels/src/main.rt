@@ -18,8 +18,8 @@ use table::Largest;
 // The bytes of a line that are kept: one more than a line may have, so that a longer one is seen to be.
 const KEPT: usize = 121;
 
-// The most bytes that a line prints: a listing's head of five numbers, then 1,024 rows of eight.
-const MOST_TEXT: usize = 92217;
+// The most bytes that a line prints: a listing's head of six numbers, then 1,024 rows of nine.
+const MOST_TEXT: usize = 103492;
 
 // The header before the first opening, which every operation refuses.
 fn no_table() -> Header
@@ -53,7 +53,7 @@ fn write_answer(
 ) -> Header
     requires { ⌜ length ≤ len (now line) ⌝ }
     requires { ⌜ len (now keys) ≤ 2048 ⌝ }
-    requires { ⌜ 92217 ≤ len (now text) ⌝ }
+    requires { ⌜ 103492 ≤ len (now text) ⌝ }
     ensures { λ r. ⌜ Replied (take length (now (line .entry))) (stores h (now (rows .entry)) (now (keys .entry)) (now (sorts .entry)) (now (pending .entry))) (stores r (now (rows .exit)) (now (keys .exit)) (now (sorts .exit)) (now (pending .exit))) (now (text .exit)) ⌝ }
 {
     let answered = answer(h, &line[..length], rows, keys, sorts, pending, text);

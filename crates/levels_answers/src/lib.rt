@@ -47,7 +47,7 @@ pub struct LineAnswer {
     pub used: usize,
 }
 
-// Any line. The text has room for a listing of 1,024 rows of eight cells.
+// Any line. The text has room for a listing of 1,024 rows, each of a number and eight cells.
 pub fn answer(
     h: Header,
     line: &[u8],
@@ -58,7 +58,7 @@ pub fn answer(
     text: &mut [u8],
 ) -> LineAnswer
     requires { ⌜ length (now keys) ≤ 2048 ⌝ }
-    requires { ⌜ 92217 ≤ length (now text) ⌝ }
+    requires { ⌜ 103492 ≤ length (now text) ⌝ }
     ensures { λ r. ⌜ Answering (now (line .entry)) (stores h (now (rows .entry)) (now (keys .entry)) (now (sorts .entry)) (now (pending .entry))) (stores (r .header) (now (rows .exit)) (now (keys .exit)) (now (sorts .exit)) (now (pending .exit))) (now (text .exit)) (r .used) ⌝ }
 {
     let served = respond(h, line, rows, keys, sorts, pending);

@@ -32,13 +32,13 @@ fn say_version(answer: VersionAnswer) -> Said
     }
 }
 
-// A listing, unless the version is refused.
-fn say_listing(answer: VersionAnswer) -> Said
-    ensures { λ r. ⌜ r ≡ saidOf saysListing (versionSays answer) ⌝ }
+// A listing, with row numbers or without, unless the version is refused.
+fn say_listing(numbered: bool, answer: VersionAnswer) -> Said
+    ensures { λ r. ⌜ r ≡ saidOf (saysListing numbered) (versionSays answer) ⌝ }
 {
     match answer {
         VersionAnswer::Refused(number) => Said::Refused(number),
-        VersionAnswer::Version(v) => Said::Listing,
+        VersionAnswer::Version(v) => Said::Listing(numbered),
     }
 }
 
@@ -55,10 +55,10 @@ fn ask_range(h: Header, numbers: &[u32], sorts: &[u32]) -> Said
     say_range(reading::fast_subset(h, sorts, c))
 }
 
-// F, V and L.
+// F, V, U and L.
 pub fn ask(h: Header, letter: u8, numbers: &[u32], sorts: &[u32]) -> Said
     requires { ⌜ isForm letter (length (now numbers)) ≡ true ⌝ }
-    requires { ⌜ (letter ≡ 70) ⊎ ((letter ≡ 76) ⊎ (letter ≡ 86)) ⌝ }
+    requires { ⌜ (letter ≡ 70) ⊎ ((letter ≡ 76) ⊎ ((letter ≡ 85) ⊎ (letter ≡ 86))) ⌝ }
     ensures { λ r. ⌜ OnSorts letter (now (numbers .entry)) h (now (sorts .entry)) r ⌝ }
 {
     if letter == b'F' {
@@ -67,5 +67,8 @@ pub fn ask(h: Header, letter: u8, numbers: &[u32], sorts: &[u32]) -> Said
     if letter == b'V' {
         return say_version(reading::version(h));
     }
-    say_listing(reading::version(h))
+    if letter == b'U' {
+        return say_listing(true, reading::version(h));
+    }
+    say_listing(false, reading::version(h))
 }

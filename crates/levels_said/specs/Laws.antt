@@ -8,3 +8,4 @@ pub mod Questions
 pub mod Determined
 pub mod Session
 pub mod Example
+pub mod Listings

@@ -45,7 +45,7 @@ opens l t o generation =
 unfoldable pub calls : Lengths → Plain → Call → List ℕ → Turn
 calls l p c text = printing (replied (refusal p l c) text) (some (after p l c))
 
--- F, V and L: the number of its refusal, and what it prints unless it is refused; the table stays
+-- F, V, L and U: the number of its refusal, and what it prints unless it is refused; the table stays
 unfoldable pub asks : Plain → ℕ → List ℕ → Turn
 asks p number text = printing (replied number text) (some p)
 
@@ -63,12 +63,21 @@ rangeText (some (list ids)) = []
 unfoldable pub versionText : Plain → List ℕ
 versionText p = textLine 86 (p .generation ∷ length (p .rows) ∷ [])
 
--- "T,4,2,3,1,0 (columns, keys, sort, rule, generation)" (T is 84), then "D,7,1,163,12 (each live row, rising)" (D is 68)
+-- "T,4,2,3,1,0 (columns, keys, sort, rule, generation)" (T is 84), then "D,7,1,163,12 (each live row, rising)" (D is 68): a
+-- listing in the old form (law `plain-listed`)
 unfoldable pub listText : Plain → List ℕ
 listText p =
     let o = p .opening in
     textLine 84 (o .columns ∷ o .keys ∷ o .sort ∷ o .rule ∷ p .generation ∷ [])
     ++ flat (map (λ row. textLine 68 (row .cells)) (liveRows p))
+
+-- "The new form, which `levels` prints for a line U" (document 02, change 11): "the head line is U in place of T with the row count
+-- added as a last field, and each D line has the row number as its first field after D" (U is 85; law `numbered-listed`)
+unfoldable pub numberedText : Plain → List ℕ
+numberedText p =
+    let o = p .opening in
+    textLine 85 (o .columns ∷ o .keys ∷ o .sort ∷ o .rule ∷ p .generation ∷ length (p .rows) ∷ [])
+    ++ flat (map (λ row. textLine 68 (row .number ∷ row .cells)) (liveRows p))
 
 -- "O,columns,keys,sort,rule,capacity,generation"
 abbrev pub openingIn : List ℕ → Opening
@@ -76,7 +85,7 @@ openingIn ns =
     record { columns = getD ns 0 0; keys = getD ns 1 0; sort = getD ns 2 0; rule = getD ns 3 0; capacity = getD ns 4 0 }
 
 -- A line on a table, by its letter: "I,cells" (73), "R,key cells" (82), "K,row,key cells" (75), M (77), "C clear" (67), "G
--- compact" (71), "F,kind,a,b" (70), where a kind or column that is not known is 6, V (86), else L.
+-- compact" (71), "F,kind,a,b" (70), where a kind or column that is not known is 6, V (86), U (85), else L.
 unfoldable pub served : Lengths → Plain → ℕ → List ℕ → Turn
 served l p letter ns =
     cond (eqb letter 73) (calls l p (staging (insert ns)) [])
@@ -86,7 +95,8 @@ served l p letter ns =
     (cond (eqb letter 67) (calls l p clearing [])
     (cond (eqb letter 71) (calls l p compacting [])
     (cond (eqb letter 70) (asks p (cond (known (p .opening .columns) (conditionIn ns 0)) 0 6) (rangeText (fastSubset (headerOf p) (entryWords (entries p)) (conditionIn ns 0))))
-    (cond (eqb letter 86) (asks p 0 (versionText p)) (asks p 0 (listText p)))))))))
+    (cond (eqb letter 86) (asks p 0 (versionText p))
+    (cond (eqb letter 85) (asks p 0 (numberedText p)) (asks p 0 (listText p))))))))))
 
 -- "before O every table line prints X,1"
 unfoldable pub onTable : Option Plain → (Plain → Turn) → Turn

@@ -11,8 +11,8 @@ pub enum Said {
     Range(u32, u32),
     // generation, row count
     Version(u32, u32),
-    // the head line and the live rows
-    Listing,
+    // the head line and the live rows; where it says so, in the form with row numbers
+    Listing(bool),
 }
 
 // That, and the header after the line.

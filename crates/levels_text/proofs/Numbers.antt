@@ -1,7 +1,7 @@
--- The ways through `parse`: the numbers read so far, and what is to come behind them. Assumes nothing.
+-- The ways through `read_line`: the numbers read so far, and what is to come behind them. Assumes nothing.
 use Prim.Native.Nat.{ℕ, _+_, _*_, _≤_, _<_}
 use mathlib.Core.Path.{_≡_, refl, sym, ap, _∙_}
-use mathlib.Core.Bool.{Bool, true, false, _&&_}
+use mathlib.Core.Bool.{true, false, _&&_}
 use mathlib.Core.List.{List, [], _∷_, _++_, map, append-nil, append-assoc}
 use native.Mathlib.Numerals.{add-one}
 use native.Mathlib.Omega.{arith}
@@ -10,12 +10,12 @@ use lib.Seq.{take-suc-set}
 use Rattle.lists.specs.Lists.{putAt, every}
 use Rattle.lists.specs.Laws.Parts.{putAt-nil}
 use Rattle.lists.specs.Laws.Search.{put-more}
-use Rattle.levels_text.specs.Lines.{valueFrom, isDecimal, isForm, letter, numbers, ofForms}
+use Rattle.levels_text.specs.Lines.{valueFrom, isDecimal, isLine, letter, numbers}
 use Rattle.levels_text.specs.declared.Field.{Field}
 use Rattle.levels_text.specs.declared.Field.the-variants.{Wrong as NoField, Decimal}
 use Rattle.levels_text.specs.declared.Parsed.the-variants.{Wrong, Line}
-use Rattle.levels_text.specs.inner.Reading.{fieldAt, FieldIs, ParsedIs, parsed-wrong, parsed-right}
-use Rattle.levels_text.specs.Laws.Lines.{first, others, first-end, others-end, first-at-comma, first-at-more, others-at-comma, others-at-more, next-first, next-others, next-inside, decimal-some, no-letter, no-decimal, forms-line}
+use Rattle.levels_text.specs.inner.Reading.{fieldAt, FieldIs, LineIs, read-wrong, read-right}
+use Rattle.levels_text.specs.Laws.Lines.{first, others, first-end, others-end, first-at-comma, first-at-more, others-at-comma, others-at-more, next-first, next-others, next-inside, decimal-some, no-letter, no-decimal, is-line}
 
 -- count numbers are read from the bytes before a place, and stored; the letter stands alone if nothing stands before the next comma
 pub record Numbers (line lent stored : List ℕ) (at count : ℕ) : Type 0 where
@@ -45,12 +45,12 @@ module _ (line lent : List ℕ) (short : length line ≤ 120) (long : 59 ≤ len
   }
 
 module _ (line lent stored : List ℕ) (at count : ℕ) (s : Numbers line lent stored at count) where
-  -- no line of the forms
-  pub wrong-line : ofForms line ≡ false → ParsedIs line lent Wrong stored
-  wrong-line e = parsed-wrong line lent stored e (λ h. absurd (let l = s .long in omega arith))
+  -- no letter and decimals
+  wrong-line : isLine line ≡ false → LineIs line lent Wrong stored
+  wrong-line e = read-wrong line lent stored e (λ h. absurd (let l = s .long in omega arith))
 
   module _ (before : at < length line) where
-    pub wrong-letter : (getD line at 0 ≡ 44 → ⊥) → ParsedIs line lent Wrong stored
+    pub wrong-letter : (getD line at 0 ≡ 44 → ⊥) → LineIs line lent Wrong stored
     wrong-letter ne =
         let more = ap length (first-at-more line at before ne) in
         wrong-line (no-letter line (λ e. omega (arith, s .alone, more)))
@@ -60,7 +60,7 @@ module _ (line lent stored : List ℕ) (at count : ℕ) (s : Numbers line lent s
       unfolding fieldAt first every
       field-cons = ap (every isDecimal) (others-at-comma line at before comma)
 
-      pub wrong-number : (r : Field) → FieldIs line (at + 1) r → r ≡ NoField → ParsedIs line lent Wrong stored
+      pub wrong-number : (r : Field) → FieldIs line (at + 1) r → r ≡ NoField → LineIs line lent Wrong stored
       wrong-number r f e = wrong-line (no-decimal line (s .decimals ∙ field-cons ∙ rw (f .wrong e)))
 
       module _ (r : Field) (f : FieldIs line (at + 1) r) (value next : ℕ) (told : r ≡ Decimal value next) where
@@ -127,16 +127,9 @@ module _ (line lent stored : List ℕ) (at count : ℕ) (s : Numbers line lent s
     counted : length (numbers line) ≡ count
     counted = ap length all-read ∙ rw length-take (omega (arith, s .room, s .inside, s .same, s .short, s .long))
 
-    form : ofForms line ≡ isForm (letter line) count
-    form =
+    pub line-read : LineIs line lent (Line (letter line) count) stored
+    line-read =
         let one : length (first line) ≡ 1 = let e = ap length (first-end line at ended) in omega (arith, s .alone, e) in
-        forms-line line (s .short) one (s .decimals ∙ rw (others-end line at ended) (unfold every in refl))
-        ∙ ap (isForm (letter line)) counted
-
-    pub parsed-line : (b : Bool) → b ≡ isForm (letter line) count → b ≡ true → ParsedIs line lent (Line (letter line) count) stored
-    parsed-line b e t =
-        parsed-right line lent (letter line) count stored (s .long) (form ∙ sym e ∙ t) refl (sym counted)
+        let decimals : every isDecimal (others line) ≡ true = s .decimals ∙ rw (others-end line at ended) (unfold every in refl) in
+        read-right line lent (letter line) count stored (s .long) (is-line line (s .short) one decimals) refl (sym counted)
         (s .put ∙ ap (putAt lent 0) (sym all-read))
-
-    pub wrong-form : (b : Bool) → b ≡ isForm (letter line) count → b ≡ false → ParsedIs line lent Wrong stored
-    wrong-form b e t = wrong-line (form ∙ sym e ∙ t)

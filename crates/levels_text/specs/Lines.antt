@@ -41,9 +41,9 @@ letter bytes = getD bytes 0 0
 unfoldable pub numbers : List ℕ → List ℕ
 numbers bytes = map (valueFrom 0) (drop 1 (fields bytes))
 
--- the letters that stand alone: M (77), V (86), L (76), C (67), G (71)
+-- the letters that stand alone: M (77), V (86), L (76), U (85; document 02, change 11), C (67), G (71)
 unfoldable pub isBare : ℕ → Bool
-isBare letter = eqb letter 77 || eqb letter 86 || eqb letter 76 || eqb letter 67 || eqb letter 71
+isBare letter = eqb letter 77 || eqb letter 86 || eqb letter 76 || eqb letter 85 || eqb letter 67 || eqb letter 71
 
 -- the forms of a line: how many numbers O (79), I (73), R (82), K (75), F (70) and the bare letters take
 unfoldable pub isForm : ℕ → ℕ → Bool

@@ -2,7 +2,7 @@
 // asked of a caller: where there is no room for the numbers, every line is wrong.
 ghost use mathlib.Core.Path.{_≡_};
 ghost use Rattle.levels_text.specs.Lines.{isBare, isForm};
-ghost use Rattle.levels_text.specs.inner.Reading.{FieldIs, ParsedIs};
+ghost use Rattle.levels_text.specs.inner.Reading.{FieldIs, LineIs, ParsedIs};
 
 // At most 120 bytes hold a letter and 59 numbers.
 pub const MOST_NUMBERS: usize = 59;
@@ -55,7 +55,7 @@ fn read_field(line: &[u8], start: usize) -> Field
     Field::Decimal(value as u32, at)
 }
 
-// M, V, L, C and G: a letter that takes no number.
+// M, V, L, U, C and G: a letter that takes no number.
 fn is_bare(letter: u8) -> bool
     ensures { λ r. ⌜ r ≡ isBare letter ⌝ }
 {
@@ -66,6 +66,9 @@ fn is_bare(letter: u8) -> bool
         return true;
     }
     if letter == b'L' {
+        return true;
+    }
+    if letter == b'U' {
         return true;
     }
     if letter == b'C' {
@@ -99,10 +102,10 @@ fn is_form(letter: u8, count: usize) -> bool
     false
 }
 
-// Reads a line without its end. The lent numbers must have room for the most that a line can hold; what stands in them if the
-// line is wrong is of no meaning.
-pub fn parse(line: &[u8], numbers: &mut [u32]) -> Parsed
-    ensures { λ r. ⌜ ParsedIs (now (line .entry)) (now (numbers .entry)) r (now (numbers .exit)) ⌝ }
+// Reads a letter and decimals, a line without its end. The lent numbers must have room for the most that a line can hold; what
+// stands in them if the line is wrong is of no meaning.
+pub fn read_line(line: &[u8], numbers: &mut [u32]) -> Parsed
+    ensures { λ r. ⌜ LineIs (now (line .entry)) (now (numbers .entry)) r (now (numbers .exit)) ⌝ }
 {
     if LONGEST < line.len() {
         return Parsed::Wrong;
@@ -134,8 +137,20 @@ pub fn parse(line: &[u8], numbers: &mut [u32]) -> Parsed
             }
         }
     }
-    if is_form(letter, count) {
-        return Parsed::Line(letter, count);
+    Parsed::Line(letter, count)
+}
+
+// Reads a line of the forms.
+pub fn parse(line: &[u8], numbers: &mut [u32]) -> Parsed
+    ensures { λ r. ⌜ ParsedIs (now (line .entry)) (now (numbers .entry)) r (now (numbers .exit)) ⌝ }
+{
+    match read_line(line, numbers) {
+        Parsed::Wrong => Parsed::Wrong,
+        Parsed::Line(letter, count) => {
+            if is_form(letter, count) {
+                return Parsed::Line(letter, count);
+            }
+            Parsed::Wrong
+        }
     }
-    Parsed::Wrong
 }

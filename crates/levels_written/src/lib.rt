@@ -1,4 +1,5 @@
 // A line of output, as specs/Written.antt of `levels_text` says it, behind the bytes that a lent text has already.
+ghost use mathlib.Core.Path.{_≡_};
 ghost use mathlib.Core.List.{[], _∷_, map};
 ghost use Prim.Native.Nat.{_+_, _*_, _≤_, _<_};
 ghost use lib.ListN.{length};
@@ -28,9 +29,18 @@ pub fn put_bytes(text: &mut [u8], used: usize, bytes: &[u8]) -> usize
     end
 }
 
+// How many bytes a comma and a number take.
+pub fn number_length(number: u32) -> usize
+    ensures { λ r. ⌜ r ≡ length (field number) ⌝ }
+{
+    let mut digits = [0u8; 20];
+    let count = io::decimal(number as u64, &mut digits);
+    count + 1
+}
+
 // A comma and a number.
 fn put_number(text: &mut [u8], used: usize, number: u32) -> usize
-    requires { ⌜ used + 11 ≤ length (now text) ⌝ }
+    requires { ⌜ used + length (field number) ≤ length (now text) ⌝ }
     ensures { λ r. ⌜ Appended (now (text .entry)) used (field number) (now (text .exit)) r ⌝ }
 {
     let mut digits = [0u8; 20];
@@ -40,7 +50,7 @@ fn put_number(text: &mut [u8], used: usize, number: u32) -> usize
 }
 
 fn put_numbers(text: &mut [u8], used: usize, numbers: &[u32]) -> usize
-    requires { ⌜ used + 11 * length (now numbers) ≤ length (now text) ⌝ }
+    requires { ⌜ used + length (flat (map field (now numbers))) ≤ length (now text) ⌝ }
     ensures { λ r. ⌜ Appended (now (text .entry)) used (flat (map field (now (numbers .entry)))) (now (text .exit)) r ⌝ }
 {
     let mut end = used;
@@ -54,12 +64,23 @@ fn put_numbers(text: &mut [u8], used: usize, numbers: &[u32]) -> usize
 
 // A letter, numbers and the end of the line.
 pub fn put_line(text: &mut [u8], used: usize, letter: u8, numbers: &[u32]) -> usize
-    requires { ⌜ used + (11 * length (now numbers) + 2) ≤ length (now text) ⌝ }
+    requires { ⌜ used + length (textLine letter (now numbers)) ≤ length (now text) ⌝ }
     ensures { λ r. ⌜ Appended (now (text .entry)) used (textLine letter (now (numbers .entry))) (now (text .exit)) r ⌝ }
 {
     let lettered = put(text, used, letter);
     let numbered = put_numbers(text, lettered, numbers);
     put(text, numbered, b'\n')
+}
+
+// The same with a number before the others.
+pub fn put_numbered(text: &mut [u8], used: usize, letter: u8, number: u32, numbers: &[u32]) -> usize
+    requires { ⌜ used + length (textLine letter (number ∷ now numbers)) ≤ length (now text) ⌝ }
+    ensures { λ r. ⌜ Appended (now (text .entry)) used (textLine letter (number ∷ now (numbers .entry))) (now (text .exit)) r ⌝ }
+{
+    let lettered = put(text, used, letter);
+    let numbered = put_number(text, lettered, number);
+    let filled = put_numbers(text, numbered, numbers);
+    put(text, filled, b'\n')
 }
 
 // A line at the start of the text.

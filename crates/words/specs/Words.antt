@@ -195,3 +195,8 @@ pub record QuestionInWords {A : Type 0} (promise : A → Type 0) (number : A →
   pub done : length header ≡ 12 → length words ≡ count → (answer : A) × promise answer × (r ≡ number answer) × (words′ ≡ told words answer)
   pub unheaded : (length header ≡ 12 → ⊥) → (r ≡ 1) × (words′ ≡ words)
   pub unworded : length header ≡ 12 → (length words ≡ count → ⊥) → (r ≡ 2) × (words′ ≡ words)
+
+-- A call without a header, whose answer goes into so many words. Where they are not so many, the number is 2 and nothing has changed.
+pub record InWords {A : Type 0} (promise : A → Type 0) (unchanged : Type 0) (number : A → ℕ) (told : List ℕ → A → List ℕ) (count : ℕ) (words : List ℕ) (r : ℕ) (words′ : List ℕ) : Type 0 where
+  pub done : length words ≡ count → (answer : A) × promise answer × (r ≡ number answer) × (words′ ≡ told words answer)
+  pub unworded : (length words ≡ count → ⊥) → unchanged × (r ≡ 2) × (words′ ≡ words)

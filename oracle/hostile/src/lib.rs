@@ -6,6 +6,7 @@ mod columns;
 mod giant;
 mod image;
 mod invoke;
+mod listings;
 mod lists;
 mod memory;
 mod parts;

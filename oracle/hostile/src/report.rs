@@ -7,7 +7,7 @@ use std::collections::BTreeMap;
 /// not fit".
 type Kind = (&'static str, &'static [usize]);
 
-pub const SHIPPED: [Kind; 29] = [
+pub const SHIPPED: [Kind; 33] = [
     ("mouldgrey_open_table", &[1, 2]),
     ("mouldgrey_stage_insert", &[1, 3, 7]),
     ("mouldgrey_stage_remove", &[1, 3, 7]),
@@ -35,6 +35,10 @@ pub const SHIPPED: [Kind; 29] = [
     ("mouldgrey_position_of", &[2, 15]),
     ("mouldgrey_sequence_at", &[2, 16]),
     ("mouldgrey_next_sequence", &[2, 15]),
+    ("mouldgrey_read_listing", &[2, 11]),
+    ("mouldgrey_read_numbered", &[2, 11]),
+    ("mouldgrey_to_numbered", &[2, 11]),
+    ("mouldgrey_from_numbered", &[2, 11, 17]),
     ("mouldgrey_replay", &[1, 2]),
     ("mouldgrey_ask", &[1, 2]),
 ];

@@ -40,6 +40,18 @@ struct Lent {
     laid: Laid,
     before: Vec<u32>,
     may_write: bool,
+    /// Where bytes were lent, the first and the end of them in the store's bytes; the others fill its words and must stay.
+    bytes: Option<(usize, usize)>,
+}
+
+impl Lent {
+    /// The bytes of some words of this store that were lent, and those that were not.
+    fn bytes_of(&self, words: &[u32]) -> (Vec<u8>, Vec<u8>) {
+        let all: Vec<u8> = words.iter().flat_map(|word| word.to_ne_bytes()).collect();
+        let (start, end) = self.bytes.unwrap_or((0, all.len()));
+        let fill = [&all[..start], &all[end..]].concat();
+        (all[start..end].to_vec(), fill)
+    }
 }
 
 pub struct Session {
@@ -63,7 +75,19 @@ impl Session {
     }
 
     fn lay(&mut self, rng: &mut Rng, slot: Slot, words: &[u32], may_write: bool) -> Slice {
-        let laid = self.areas[slot as usize].place(words.len(), rng.percent(50));
+        let laid = self.lay_at(slot, words, rng.percent(50), may_write, None);
+        (laid.at, words.len())
+    }
+
+    fn lay_at(
+        &mut self,
+        slot: Slot,
+        words: &[u32],
+        behind: bool,
+        may_write: bool,
+        bytes: Option<(usize, usize)>,
+    ) -> Laid {
+        let laid = self.areas[slot as usize].place(words.len(), behind);
         laid.write(words);
         let before = words.to_vec();
         self.lent.push(Lent {
@@ -71,8 +95,43 @@ impl Session {
             laid,
             before,
             may_write,
+            bytes,
         });
-        (laid.at, words.len())
+        laid
+    }
+
+    /// Lends bytes, flush against a shut page.
+    fn lay_bytes(&mut self, rng: &mut Rng, slot: Slot, bytes: &[u8], may_write: bool) -> *mut u8 {
+        let fill = vec![b'9'; bytes.len().next_multiple_of(4) - bytes.len()];
+        let behind = rng.percent(50);
+        let (start, all) = match behind {
+            true => (fill.len(), [&fill, bytes].concat()),
+            false => (0, [bytes, &fill].concat()),
+        };
+        let words = all.chunks(4).map(|four| four.try_into().expect("four"));
+        let words: Vec<u32> = words.map(u32::from_ne_bytes).collect();
+        let lent = Some((start, start + bytes.len()));
+        let laid = self.lay_at(slot, &words, behind, may_write, lent);
+        // SAFETY: in the store that was laid, or at its end.
+        unsafe { laid.at.cast::<u8>().add(start) }
+    }
+
+    /// Lends bytes to be read.
+    pub fn read_bytes(&mut self, rng: &mut Rng, slot: Slot, bytes: &[u8]) -> (*const u8, usize) {
+        let at = self.lay_bytes(rng, slot, bytes, false);
+        (at.cast_const(), bytes.len())
+    }
+
+    /// Lends bytes to be written.
+    pub fn write_bytes(&mut self, rng: &mut Rng, slot: Slot, bytes: &[u8]) -> (*mut u8, usize) {
+        let at = self.lay_bytes(rng, slot, bytes, true);
+        (at, bytes.len())
+    }
+
+    /// What bytes that were lent to be written now hold.
+    pub fn left_bytes(&self, slot: Slot) -> Option<Vec<u8>> {
+        let lent = self.lent.iter().find(|lent| lent.slot == slot)?;
+        Some(lent.bytes_of(lent.laid.read()).0)
     }
 
     /// Lends a store to be read.
@@ -98,7 +157,9 @@ impl Session {
         self.report.call(name, number);
         for lent in &self.lent {
             let slot = lent.slot;
-            if !lent.laid.is_kept_beside() {
+            let fill = |words: &[u32]| lent.bytes.map(|_| lent.bytes_of(words).1);
+            let is_filled = fill(lent.laid.read()) == fill(&lent.before);
+            if !lent.laid.is_kept_beside() || !is_filled {
                 return Err(format!("{name} has written beside {slot:?}"));
             }
             let must_stay = !lent.may_write || number != 0;

@@ -3,6 +3,7 @@
 use crate::acts::{Act, act, crowded_keys, good_opening, staging};
 use crate::columns;
 use crate::image::{Image, hostile_number};
+use crate::listings;
 use crate::lists;
 use crate::parts;
 use crate::report::Change;
@@ -30,7 +31,7 @@ pub fn trial(session: &mut Session, seed: u64) -> Result<(), String> {
     if rng.below(3_000) == 0 {
         return large(session, rng);
     }
-    match rng.below(24) {
+    match rng.below(25) {
         0..=10 => one_word(session, rng),
         11..=13 => many_words(session, rng),
         14..=16 => garbage(session, rng),
@@ -38,6 +39,7 @@ pub fn trial(session: &mut Session, seed: u64) -> Result<(), String> {
         18 => columns::calls(session, rng),
         19 | 20 => lists::calls(session, rng),
         21 => sequences::calls(session, rng),
+        22 => listings::calls(session, rng),
         _ => parts::calls(session, rng),
     }
 }

@@ -3,6 +3,7 @@
 
 mod columns;
 mod layout;
+pub mod listings;
 mod model;
 mod questions;
 mod refusals;

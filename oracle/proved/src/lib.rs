@@ -4,6 +4,7 @@
 mod cells;
 mod columns;
 mod keys;
+mod listings;
 mod offsets;
 mod ranges;
 mod rules;
@@ -23,5 +24,6 @@ pub fn compare() -> Result<Vec<String>, String> {
         ranges::fast_ranges()?,
         columns::compare()?,
         sequences::compare()?,
+        listings::compare()?,
     ])
 }

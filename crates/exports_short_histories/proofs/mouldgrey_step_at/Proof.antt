@@ -1,7 +1,7 @@
 -- `exports_short_histories::mouldgrey_step_at` meets its contract. Assumes nothing.
 use mathlib.Core.Path.{refl}
 use borrow.Author.Needs.{needs}
-use Rattle.exports_short_histories.specs.Words.{words-wrong, words-told}
+use Rattle.words.specs.Laws.Words.{words-wrong, words-told}
 use Rattle.exports_short_histories.proofs.mouldgrey_step_at.Statement.{statement}
 use Rattle.exports_short_histories.proofs.mouldgrey_step_at.Tie as tie
 
@@ -9,7 +9,7 @@ returns : tie.Need-returns
 returns c = words-wrong (c .if1 .taken) refl
 
 returns-2 : tie.Need-returns-2
-returns-2 c = words-told (c .before .before .before .before .before .if1 .left) _ (c .before .before .before .before .step-at .ensures) (c .before .before .write-step .ensures)
+returns-2 c = words-told (c .before .before .before .before .before .if1 .left) (c .before .before .before .before .step-at .ensures) (c .before .before .write-step .ensures)
 
 pub mouldgrey-step-at-spec : {M : Type 1} → statement M
 mouldgrey-step-at-spec =

@@ -1,17 +1,17 @@
 -- `levels_answers::respond` meets its contract. Assumes nothing.
 use lib.ListN.{length-take}
 use native.Mathlib.Omega.{arith}
-use Rattle.levels_text.specs.inner.Reading.{parsed-fits, parsed-numbers}
+use Rattle.levels_text.specs.inner.Reading.{read-fits, parsed-numbers}
 use Rattle.levels_answers.specs.inner.Reading.{wrong-responds, line-responds}
 use borrow.Author.Needs.{needs}
 use Rattle.levels_answers.proofs.respond.Statement.{statement}
 use Rattle.levels_answers.proofs.respond.Tie as tie
 
 array-share-prefix-numbers : tie.Need-array-share-prefix-numbers
-array-share-prefix-numbers c = omega (arith, parsed-fits _ _ _ _ (c .before .before .before .before .parse .ensures) _ _ (c .before .letter .given .1), c .before .before .before .numbers2 .given)
+array-share-prefix-numbers c = omega (arith, read-fits _ _ _ _ (c .before .before .before .before .parse .ensures) _ _ (c .before .letter .given .1), c .before .before .before .numbers2 .given)
 
 slice-aggregate-serve : tie.Need-slice-aggregate-serve
-slice-aggregate-serve c = simp length-take (omega (arith, parsed-fits _ _ _ _ (c .before .before .before .before .before .parse .ensures) _ _ (c .before .before .letter .given .1), c .before .before .before .before .numbers2 .given))
+slice-aggregate-serve c = simp length-take (omega (arith, read-fits _ _ _ _ (c .before .before .before .before .before .parse .ensures) _ _ (c .before .before .letter .given .1), c .before .before .before .before .numbers2 .given))
 
 serve-requires : tie.Need-serve-requires
 serve-requires c κs = parsed-numbers _ _ _ _ (c .before .before .before .before .before .before .before .before .before .parse .ensures) _ _ (c .before .before .before .before .before .before .letter .given .1)

@@ -18,7 +18,7 @@ use Rattle.table.specs.Laws.Shown.{represents-inside, represents-long, rows-cou
 use Rattle.levels_text.specs.declared.Parsed.{Parsed}
 use Rattle.levels_text.specs.declared.Parsed.the-variants.{Wrong, Line}
 use Rattle.levels_text.specs.Lines.{letter, numbers, ofForms}
-use Rattle.levels_text.specs.inner.Reading.{ParsedIs, parsed-forms}
+use Rattle.levels_text.specs.inner.Reading.{ParsedIs, read-taken}
 use Rattle.levels_said.specs.declared.Said.{Said}
 use Rattle.levels_said.specs.declared.Said.the-variants.{Refused}
 use Rattle.levels_said.specs.Said.{turn, lineTurn}
@@ -48,7 +48,7 @@ module _ {line lent′ : List ℕ} {r : Parsed} {numbers′ : List ℕ} (p : Par
     line-read : (l : Lengths) (t : Option Plain) → turn l t first (take count numbers′) ≡ lineTurn l t line
     unfolding lineTurn
     line-read l t =
-        let yes : ofForms line ≡ true = parsed-forms line lent′ r numbers′ p first count e in
+        let yes : ofForms line ≡ true = read-taken line lent′ r numbers′ p first count e in
         let right = p .right room yes in
         let same : Line first count ≡ Line (letter line) (length (numbers line)) = sym e ∙ right .0 in
         let letters : first ≡ letter line = cc in
@@ -61,7 +61,7 @@ module _ {line lent′ : List ℕ} {r : Parsed} {numbers′ : List ℕ} (p : Par
 -- ---- the bytes
 
 -- a table that is held can be listed
-module _ {s : Stores} {text : List ℕ} (keys : length (s .keys) ≤ 2048) (room : 92217 ≤ length text) where
+module _ {s : Stores} {text : List ℕ} (keys : length (s .keys) ≤ 2048) (room : 103492 ≤ length text) where
   table-listable : {p : Plain} → Represents p s → Listable (s .header) (s .rows) text
   table-listable {p} r =
       let few : s .header .rows ≤ 1024 = omega (arith, rows-counted r, r .proper .rows-fit, represents-long r .keys-long) in
@@ -75,12 +75,12 @@ module _ {s : Stores} {text : List ℕ} (keys : length (s .keys) ≤ 2048) (room
   held-listable (no-table e) f = absurd (false≢true (sym f ∙ e))
   held-listable (table r) f = table-listable r
 
-pub told-answers : {line : List ℕ} {s s′ : Stores} {said : Said} {text : List ℕ} {used : ℕ} → length (s′ .keys) ≤ 2048 → 92217 ≤ length text → Responding line s s′ said
+pub told-answers : {line : List ℕ} {s s′ : Stores} {said : Said} {text : List ℕ} {used : ℕ} → length (s′ .keys) ≤ 2048 → 103492 ≤ length text → Responding line s s′ said
     → Telling (s′ .header) (s′ .rows) said text used → Answering line s s′ text used
 told-answers keys room m w =
     record {
       inside = w .inside;
       answers = λ t held.
           let k = m .answers t held in
-          record { text-is = w .begins (λ l. held-listable keys room (k .held) (k .listed l)) ∙ k .says; held = k .held };
+          record { text-is = w .begins (λ numbered l. held-listable keys room (k .held) (k .listed numbered l)) ∙ k .says; held = k .held };
     }

@@ -6,10 +6,10 @@ use Rattle.levels_asks.proofs.say_listing.Statement.{statement}
 use Rattle.levels_asks.proofs.say_listing.Tie as tie
 
 returns : tie.Need-returns
-returns c = version-refused _ _ saysListing (c .before .answer .given .1)
+returns c = version-refused _ _ (saysListing _) (c .before .answer .given .1)
 
 returns-2 : tie.Need-returns-2
-returns-2 c = version-says _ _ saysListing (c .before .answer2 .given .1)
+returns-2 c = version-says _ _ (saysListing _) (c .before .answer2 .given .1)
 
 pub say-listing-spec : {M : Type 1} → statement M
 say-listing-spec = tie.close (tie.spec (λ c. search needs) (λ c. search needs) returns returns-2)

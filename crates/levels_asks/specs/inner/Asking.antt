@@ -2,6 +2,7 @@
 use Prim.Native.Nat.{ℕ}
 use mathlib.Core.Path.{_≡_, refl, sym, subst}
 use mathlib.Core.Logic.{_⊎_, inl, inr}
+use mathlib.Core.Bool.{true, false}
 use mathlib.Core.List.{List}
 use Rattle.condition_words.specs.Conditions.{conditionIn}
 use Rattle.table.specs.declared.Header.{Header}
@@ -15,9 +16,9 @@ use Rattle.table.specs.Promises.{stores, RangeRead, VersionRead}
 use Rattle.levels_said.specs.declared.Said.{Said}
 use Rattle.levels_said.specs.declared.Said.the-variants.{Refused, NoRange, Range}
 use Rattle.levels_said.specs.inner.Saying.{saidOf, saysRange, saysVersion, saysListing, Serving}
-use Rattle.levels_said.specs.Laws.Letters.{turn-range, turn-version, turn-list}
+use Rattle.levels_said.specs.Laws.Letters.{turn-range, turn-version, turn-list, turn-numbered}
 use Rattle.levels_said.specs.Laws.Turns.{does-told}
-use Rattle.levels_said.specs.Laws.Questions.{range-does, version-does, list-does}
+use Rattle.levels_said.specs.Laws.Questions.{range-does, version-does, list-does, numbered-does}
 
 -- lent the sort entries: it is served whatever the other stores hold, and all of them stay
 pub record OnSorts (letter : ℕ) (ns : List ℕ) (h : Header) (sorts : List ℕ) (said : Said) : Type 0 where
@@ -63,17 +64,24 @@ module _ {answer : VersionAnswer} {letter : ℕ} {ns : List ℕ} {h : Header} {s
         serving = λ rows keys pending. record { answers = λ t held. rw (turn-version _ t ns l) (does-told (version-does {s = stores h rows keys sorts pending} e m) t held) };
       }
 
-  pub list-served : letter ≡ 76 → said ≡ saidOf saysListing (versionSays answer) → VersionRead h answer → OnSorts letter ns h sorts said
+  pub list-served : letter ≡ 76 → said ≡ saidOf (saysListing false) (versionSays answer) → VersionRead h answer → OnSorts letter ns h sorts said
   list-served l e m =
       record {
         serving = λ rows keys pending. record { answers = λ t held. rw (turn-list _ t ns l) (does-told (list-does {s = stores h rows keys sorts pending} e m) t held) };
       }
 
+  pub numbered-served : letter ≡ 85 → said ≡ saidOf (saysListing true) (versionSays answer) → VersionRead h answer → OnSorts letter ns h sorts said
+  numbered-served l e m =
+      record {
+        serving = λ rows keys pending. record { answers = λ t held. rw (turn-numbered _ t ns l) (does-told (numbered-does {s = stores h rows keys sorts pending} e m) t held) };
+      }
+
 pub range-letter : {letter : ℕ} {ns : List ℕ} {h : Header} {sorts : List ℕ} {said : Said} → letter ≡ 70 → OnSorts 70 ns h sorts said → OnSorts letter ns h sorts said
 range-letter {letter} {ns} {h} {sorts} {said} e m = subst (λ (x : ℕ). OnSorts x ns h sorts said) (sym e) m
 
--- L is the letter that is left of the three
-pub list-letter : {letter : ℕ} → (letter ≡ 70) ⊎ ((letter ≡ 76) ⊎ (letter ≡ 86)) → (letter ≡ 70 → ⊥) → (letter ≡ 86 → ⊥) → letter ≡ 76
-list-letter (inl e) f v = absurd (f e)
-list-letter (inr (inl e)) f v = e
-list-letter (inr (inr e)) f v = absurd (v e)
+-- L is the letter that is left of the four
+pub list-letter : {letter : ℕ} → (letter ≡ 70) ⊎ ((letter ≡ 76) ⊎ ((letter ≡ 85) ⊎ (letter ≡ 86))) → (letter ≡ 70 → ⊥) → (letter ≡ 86 → ⊥) → (letter ≡ 85 → ⊥) → letter ≡ 76
+list-letter (inl e) f v u = absurd (f e)
+list-letter (inr (inl e)) f v u = e
+list-letter (inr (inr (inl e))) f v u = absurd (u e)
+list-letter (inr (inr (inr e))) f v u = absurd (v e)

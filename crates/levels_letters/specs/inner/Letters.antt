@@ -14,9 +14,9 @@ use Rattle.levels_text.specs.Laws.Lines.{form-insert, form-by-row, form-by-key}
 use Rattle.levels_said.specs.declared.Said.{Said}
 use Rattle.levels_said.specs.inner.Saying.{Serving}
 
--- F, L and V are the letters that are left when the others are not it
+-- F, L, U and V are the letters that are left when the others are not it
 pub asking-letters : {letter : ℕ} (count : ℕ) → isForm letter count ≡ true → ((letter ≡ 73) ⊎ ((letter ≡ 75) ⊎ (letter ≡ 82)) → ⊥) → (letter ≡ 77 → ⊥)
-    → ((letter ≡ 67) ⊎ ((letter ≡ 71) ⊎ (letter ≡ 79)) → ⊥) → (letter ≡ 70) ⊎ ((letter ≡ 76) ⊎ (letter ≡ 86))
+    → ((letter ≡ 67) ⊎ ((letter ≡ 71) ⊎ (letter ≡ 79)) → ⊥) → (letter ≡ 70) ⊎ ((letter ≡ 76) ⊎ ((letter ≡ 85) ⊎ (letter ≡ 86)))
 unfolding isForm isBare
 asking-letters {letter} count form staging merge making =
     elim (split (eqb letter 70)) [
@@ -27,11 +27,15 @@ asking-letters {letter} count form staging merge making =
           (rw (ne-eqb letter 79 (λ e. making (inr (inr e))), ne-eqb letter 73 (λ e. staging (inl e)), ne-eqb letter 82 (λ e. staging (inr (inr e))), ne-eqb letter 75 (λ e. staging (inr (inl e))), f) at form)
           in
           elim (split (eqb letter 86)) [
-            | inl v ↦ inr (inr (eqb-true letter 86 v))
+            | inl v ↦ inr (inr (inr (eqb-true letter 86 v)))
             | inr v ↦
                 elim (split (eqb letter 76)) [
                   | inl l ↦ inr (inl (eqb-true letter 76 l))
-                  | inr l ↦ absurd (false≢true (rw (ne-eqb letter 77 merge, v, l, ne-eqb letter 67 (λ e. making (inl e)), ne-eqb letter 71 (λ e. making (inr (inl e)))) at bare))
+                  | inr l ↦
+                      elim (split (eqb letter 85)) [
+                        | inl u ↦ inr (inr (inl (eqb-true letter 85 u)))
+                        | inr u ↦ absurd (false≢true (rw (ne-eqb letter 77 merge, v, l, u, ne-eqb letter 67 (λ e. making (inl e)), ne-eqb letter 71 (λ e. making (inr (inl e)))) at bare))
+                      ]
                 ]
           ]
     ]

@@ -14,7 +14,7 @@ use Rattle.lists.specs.Laws.Keep.{split}
 use Rattle.plain.specs.Refusing.{Lengths}
 use Rattle.plain.specs.Plain.{Plain}
 use Rattle.levels_text.specs.Lines.{ofForms}
-use Rattle.levels_text.specs.Laws.Lines.{too-long}
+use Rattle.levels_text.specs.Laws.Lines.{too-long, no-forms}
 use Rattle.levels_said.specs.Said.{lineTurn}
 
 same-refused : (l : Lengths) (t : Option Plain) (a b : List ℕ) → ofForms a ≡ false → ofForms b ≡ false → lineTurn l t a ≡ lineTurn l t b
@@ -28,5 +28,5 @@ line-kept l t line =
       | inr e ↦
           let long : 121 < length line = leb-false (length line) 121 e in
           let cut : 120 < length (take 121 line) = rw length-take (omega arith) in
-          same-refused l t (take 121 line) line (too-long (take 121 line) cut) (too-long line (omega arith))
+          same-refused l t (take 121 line) line (no-forms (take 121 line) (too-long (take 121 line) cut)) (no-forms line (too-long line (omega arith)))
     ]

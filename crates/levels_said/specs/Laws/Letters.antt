@@ -14,7 +14,7 @@ use Rattle.plain.specs.Plain.{Plain}
 use Rattle.plain.specs.Calls.{staging, merging, compacting, clearing}
 use Rattle.table.specs.Stores.{entries, headerOf}
 use Rattle.table.specs.Promises.{fastSubset}
-use Rattle.levels_said.specs.Said.{opens, calls, asks, mergeText, rangeText, versionText, listText, openingIn, served, onTable, turn}
+use Rattle.levels_said.specs.Said.{opens, calls, asks, mergeText, rangeText, versionText, listText, numberedText, openingIn, served, onTable, turn}
 
 module _ (l : Lengths) (t : Option Plain) {letter : ℕ} (ns : List ℕ) where
   pub turn-open : letter ≡ 79 → turn l t letter ns ≡ opens l t (openingIn ns) (getD ns 5 0)
@@ -56,3 +56,7 @@ module _ (l : Lengths) (t : Option Plain) {letter : ℕ} (ns : List ℕ) where
   pub turn-list : letter ≡ 76 → turn l t letter ns ≡ onTable t (λ p. asks p 0 (listText p))
   unfolding turn served
   turn-list e = rw e
+
+  pub turn-numbered : letter ≡ 85 → turn l t letter ns ≡ onTable t (λ p. asks p 0 (numberedText p))
+  unfolding turn served
+  turn-numbered e = rw e

@@ -1,14 +1,14 @@
--- The promises of a fast range and a version serve F, V and L, whatever table the stores hold. Assumes nothing.
-use Prim.Native.Nat.{ℕ, suc, _*_, _≤_}
+-- The promises of a fast range and a version serve F, V, L and U, whatever table the stores hold. Assumes nothing.
+use Prim.Native.Nat.{ℕ, zero, suc, _*_, _≤_}
 use mathlib.Core.Path.{_≡_, refl, sym, ap, _∙_}
 use mathlib.Core.Logic.{inl, inr}
-use mathlib.Core.Bool.{true, cond}
+use mathlib.Core.Bool.{Bool, true, false, cond}
 use mathlib.Core.List.{List, [], _∷_, map, append-nil}
 use mathlib.Core.Option.{Option, none, some}
 use native.Mathlib.Omega.{arith}
-use lib.ListN.{length}
+use lib.ListN.{length, take, drop}
 use borrow.Author.Tests.{le-ltb}
-use Rattle.lists.specs.Lists.{keep, rowsOf}
+use Rattle.lists.specs.Lists.{rowsOf, flat}
 use Rattle.lists.specs.Laws.Keep.{split}
 use Rattle.refusals.specs.Refusals.{first}
 use Rattle.offsets.specs.Subsets.{Subset, range, list}
@@ -32,8 +32,8 @@ use Rattle.table.specs.Laws.Replies.{reply-accepted}
 use Rattle.levels_text.specs.Written.{textLine}
 use Rattle.levels_said.specs.declared.Said.{Said}
 use Rattle.levels_said.specs.declared.Said.the-variants.{Listing}
-use Rattle.levels_said.specs.Said.{asks, rangeText, versionText, listText}
-use Rattle.levels_said.specs.inner.Saying.{textOf, headLine, rowLines, listing, saidOf, saysRange, saysVersion, saysListing}
+use Rattle.levels_said.specs.Said.{asks, rangeText, versionText, listText, numberedText}
+use Rattle.levels_said.specs.inner.Saying.{textOf, headLine, rowLine, rowLines, listing, saidOf, saysRange, saysVersion, saysListing}
 use Rattle.levels_said.specs.Laws.Turns.{said-refused, said-accepted, told-table, Does, asks-refused, asks-done}
 use Rattle.levels_said.specs.Laws.Calls.{reply-ruled}
 
@@ -80,7 +80,7 @@ range-does {s} {c} {answer} same m =
           (told-table (range-said (s .header) (s .rows) (fastSubset (s .header) (s .sorts) c)) r);
     }
 
--- ---- V and L
+-- ---- V, L and U
 
 version-outside : (h : Header) → outside h ≡ true → versionRefusal h ≡ 1
 unfolding versionRefusal first
@@ -118,21 +118,35 @@ pub version-does : {s : Stores} {answer : VersionAnswer} {said : Said} → said 
 version-does same m = version-asked saysVersion versionText (λ p r. version-shown r) same m
 
 -- the lines of the live rows
-live-lines : (n : ℕ) (cells : List (List ℕ))
-    → map (λ row. textLine 68 (row .cells)) (liveFrom n (map (λ c. record { live = isLive c; cells = c }) cells)) ≡ map (textLine 68) (keep isLive cells)
-unfolding liveFrom keep
-live-lines n [] = refl
-live-lines n (c ∷ cells) = elim (split (isLive c)) [ inl e ↦ rw (e, live-lines (suc n) cells) | inr e ↦ rw (e, live-lines (suc n) cells) ]
+live-lines : (numbered : Bool) (columns number count : ℕ) (rows : List ℕ)
+    → rowLines numbered columns number count rows
+    ≡ flat (map (λ row. textLine 68 (cond numbered (row .number ∷ row .cells) (row .cells))) (liveFrom number (map (λ c. record { live = isLive c; cells = c }) (rowsOf columns count rows))))
+unfolding rowLines rowLine liveFrom rowsOf flat
+live-lines numbered columns number zero rows = refl
+live-lines numbered columns number (suc count) rows =
+    elim (split (isLive (take columns rows))) [
+      | inl e ↦ rw (e, live-lines numbered columns (suc number) count (drop columns rows))
+      | inr e ↦ rw (e, live-lines numbered columns (suc number) count (drop columns rows))
+    ]
 
-list-shown : {p : Plain} {s : Stores} → Represents p s → listing (s .header) (s .rows) ≡ listText p
-unfolding listText listing headLine rowLines
+list-shown : {p : Plain} {s : Stores} → Represents p s → listing false (s .header) (s .rows) ≡ listText p
+unfolding listText listing headLine
 list-shown {p} {s} r =
-    rw (← live-shown r) (unfold rowsIn in rw (live-lines 0 (rowsOf (s .header .columns) (s .header .rows) (s .rows)), r .shown .header))
+    rw (← live-shown r) (unfold rowsIn in rw (live-lines false (s .header .columns) 0 (s .header .rows) (s .rows), r .shown .header))
 
-listing-said : (h : Header) (rows : List ℕ) → textOf h rows Listing ≡ listing h rows
+numbered-shown : {p : Plain} {s : Stores} → Represents p s → listing true (s .header) (s .rows) ≡ numberedText p
+unfolding numberedText listing headLine
+numbered-shown {p} {s} r =
+    rw (← live-shown r) (unfold rowsIn in rw (live-lines true (s .header .columns) 0 (s .header .rows) (s .rows), r .shown .header))
+
+listing-said : (numbered : Bool) (h : Header) (rows : List ℕ) → textOf h rows (Listing numbered) ≡ listing numbered h rows
 unfolding textOf
-listing-said h rows = refl
+listing-said numbered h rows = refl
 
-pub list-does : {s : Stores} {answer : VersionAnswer} {said : Said} → said ≡ saidOf saysListing (versionSays answer) → VersionRead (s .header) answer
+pub list-does : {s : Stores} {answer : VersionAnswer} {said : Said} → said ≡ saidOf (saysListing false) (versionSays answer) → VersionRead (s .header) answer
     → Does (λ p. asks p 0 (listText p)) s s said (versionRefusal (s .header))
-list-does {s} same m = version-asked saysListing listText (λ p r. listing-said (s .header) (s .rows) ∙ list-shown r) same m
+list-does {s} same m = version-asked (saysListing false) listText (λ p r. listing-said false (s .header) (s .rows) ∙ list-shown r) same m
+
+pub numbered-does : {s : Stores} {answer : VersionAnswer} {said : Said} → said ≡ saidOf (saysListing true) (versionSays answer) → VersionRead (s .header) answer
+    → Does (λ p. asks p 0 (numberedText p)) s s said (versionRefusal (s .header))
+numbered-does {s} same m = version-asked (saysListing true) numberedText (λ p r. listing-said true (s .header) (s .rows) ∙ numbered-shown r) same m

@@ -60,12 +60,12 @@ told-refused {s} n held more =
     record {
       says = refused-text (s .header) (s .rows) n ∙ sym (replied-refused n [] more);
       held = held;
-      listed = λ e. absurd (let z : _≡_ {A = ℕ} 0 1 = cc in omega arith);
+      listed = λ numbered e. absurd (let z : _≡_ {A = ℕ} 0 1 = cc in omega arith);
     }
 
 pub told-table : {s : Stores} {p : Plain} {text : List ℕ} {said : Said} → textOf (s .header) (s .rows) said ≡ text → Represents p s
     → Told (printing text (some p)) s said
-told-table e r = record { says = e; held = table r; listed = λ l. represents-inside r }
+told-table e r = record { says = e; held = table r; listed = λ numbered l. represents-inside r }
 
 -- ---- a line on a table
 

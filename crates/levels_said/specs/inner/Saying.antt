@@ -1,11 +1,10 @@
 -- What a line says before it is text: how that is text, and what the functions promise that answer by it. Assumes nothing.
-use Prim.Native.Nat.{ℕ, _+_, _*_, _≤_}
+use Prim.Native.Nat.{ℕ, zero, suc, _+_, _*_, _≤_}
 use mathlib.Core.Path.{_≡_}
-use mathlib.Core.Bool.{false, cond}
-use mathlib.Core.List.{List, [], _∷_, _++_, map}
+use mathlib.Core.Bool.{Bool, true, false, cond}
+use mathlib.Core.List.{List, [], _∷_, _++_}
 use mathlib.Core.Option.{Option, none, some}
-use lib.ListN.{length, take}
-use Rattle.lists.specs.Lists.{keep, rowsOf, flat}
+use lib.ListN.{length, take, drop}
 use Rattle.refusals.specs.Refusals.{Reply, refused, accepted}
 use Rattle.offsets.specs.Subsets.{Subset, range, list}
 use Rattle.constraints.specs.Constraints.{isLive}
@@ -24,15 +23,22 @@ use Rattle.levels_said.specs.Answers.{Held, lent}
 
 -- ---- as text
 
--- a listing of a header and a row store: the head line, then the live rows among the first of the store
-unfoldable pub headLine : Header → List ℕ
-headLine h = textLine 84 (h .columns ∷ h .keys ∷ h .sort ∷ h .rule ∷ h .generation ∷ [])
+-- a listing of a header and a row store, with row numbers or without: the head line
+unfoldable pub headLine : Bool → Header → List ℕ
+headLine true h = textLine 85 (h .columns ∷ h .keys ∷ h .sort ∷ h .rule ∷ h .generation ∷ h .rows ∷ [])
+headLine false h = textLine 84 (h .columns ∷ h .keys ∷ h .sort ∷ h .rule ∷ h .generation ∷ [])
 
-unfoldable pub rowLines : ℕ → ℕ → List ℕ → List ℕ
-rowLines columns count rows = flat (map (textLine 68) (keep isLive (rowsOf columns count rows)))
+-- then the lines of the live rows among the first of the store, numbered from here on
+unfoldable pub rowLine : Bool → ℕ → List ℕ → List ℕ
+rowLine numbered number row = cond (isLive row) (textLine 68 (cond numbered (number ∷ row) row)) []
 
-unfoldable pub listing : Header → List ℕ → List ℕ
-listing h rows = headLine h ++ rowLines (h .columns) (h .rows) rows
+unfoldable pub rowLines : Bool → ℕ → ℕ → ℕ → List ℕ → List ℕ
+rowLines numbered columns number zero rows = []
+rowLines numbered columns number (suc count) rows =
+    rowLine numbered number (take columns rows) ++ rowLines numbered columns (suc number) count (drop columns rows)
+
+unfoldable pub listing : Bool → Header → List ℕ → List ℕ
+listing numbered h rows = headLine numbered h ++ rowLines numbered (h .columns) 0 (h .rows) rows
 
 unfoldable pub textOf : Header → List ℕ → Said → List ℕ
 textOf h rows Nothing = []
@@ -41,18 +47,18 @@ textOf h rows (Merged status added place) = textLine 77 (status ∷ added ∷ pl
 textOf h rows NoRange = rangeText none
 textOf h rows (Range start end) = textLine 70 (start ∷ end ∷ [])
 textOf h rows (Version generation count) = textLine 86 (generation ∷ count ∷ [])
-textOf h rows Listing = listing h rows
+textOf h rows (Listing numbered) = listing numbered h rows
 
 -- what a listing needs: rows that are stored, and a text with room for them
 pub record Listable (h : Header) (rows text : List ℕ) : Type 0 where
   pub narrow : h .columns ≤ 8
   pub stored : h .rows * h .columns ≤ length rows
-  pub room : 57 + 90 * h .rows ≤ length text
+  pub room : 68 + 101 * h .rows ≤ length text
 
 -- the text of what is said stands at the start of a lent text
 pub record Telling (h : Header) (rows : List ℕ) (said : Said) (text : List ℕ) (used : ℕ) : Type 0 where
   pub inside : used ≤ length text
-  pub begins : (said ≡ Listing → Listable h rows text) → take used text ≡ textOf h rows said
+  pub begins : ((numbered : Bool) → said ≡ Listing numbered → Listable h rows text) → take used text ≡ textOf h rows said
 
 -- ---- what an entry point's answer says
 
@@ -78,9 +84,9 @@ saysRange (some (list ids)) = Nothing
 abbrev pub saysVersion : Versioned → Said
 saysVersion v = Version (v .generation) (v .rows)
 
--- L
-abbrev pub saysListing : Versioned → Said
-saysListing v = Listing
+-- L and U
+abbrev pub saysListing : Bool → Versioned → Said
+saysListing numbered v = Listing numbered
 
 -- the header that an answer leaves, and what it says
 pub record Taken (header : Header) (said : Said) (r : Served) : Type 0 where
@@ -93,7 +99,7 @@ pub record Taken (header : Header) (said : Said) (r : Served) : Type 0 where
 pub record Told (turn : Turn) (s : Stores) (said : Said) : Type 0 where
   pub says : textOf (s .header) (s .rows) said ≡ turn .text
   pub held : Held (turn .table) s
-  pub listed : said ≡ Listing → outside (s .header) ≡ false
+  pub listed : (numbered : Bool) → said ≡ Listing numbered → outside (s .header) ≡ false
 
 pub record Serving (letter : ℕ) (ns : List ℕ) (s s′ : Stores) (said : Said) : Type 0 where
   pub answers : (t : Option Plain) → Held t s → Told (turn (lent s) t letter ns) s′ said

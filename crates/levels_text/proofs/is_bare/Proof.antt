@@ -10,5 +10,5 @@ unfolding isBare
 is-bare-spec =
     tie.close
     (tie.spec
-    (λ c. rw (c .if1 .taken)) (λ c. rw (c .if2 .taken)) (λ c. rw (c .if3 .taken)) (λ c. rw (c .if4 .taken))
-    (λ c. sym (bare-last _ (c .before .before .before .if1 .left) (c .before .before .if2 .left) (c .before .if3 .left) (c .if4 .left))))
+    (λ c. rw (c .if1 .taken)) (λ c. rw (c .if2 .taken)) (λ c. rw (c .if3 .taken)) (λ c. rw (c .if4 .taken)) (λ c. rw (c .if5 .taken))
+    (λ c. sym (bare-last _ (c .before .before .before .before .if1 .left) (c .before .before .before .if2 .left) (c .before .before .if3 .left) (c .before .if4 .left) (c .if5 .left))))

@@ -1,80 +1,50 @@
 -- `levels_text::parse` meets its contract. Assumes nothing.
-use Prim.Native.Nat.{_-_}
-use mathlib.Core.Path.{refl}
-use native.Mathlib.Omega.{arith}
 use borrow.Author.Needs.{needs}
-use lib.ListN.{length}
-use Rattle.levels_text.proofs.Numbers.{Numbers, numbers-begin, wrong-letter, wrong-number, fits, next-place, numbers-more, parsed-line, wrong-form}
-use Rattle.levels_text.specs.Lines.{letter}
-use Rattle.levels_text.specs.inner.Reading.{parsed-no-room, parsed-wrong}
-use Rattle.levels_text.specs.Laws.Lines.{too-long, no-bytes, comma-first}
+use Rattle.levels_text.specs.inner.Reading.{parsed-no-line, parsed-right, parsed-wrong}
 use Rattle.levels_text.proofs.parse.Statement.{statement}
 use Rattle.levels_text.proofs.parse.Tie as tie
 
-abbrev Inv-loop : tie.InvT-loop
-Inv-loop line numbers₀ letter at₀ count₀ numbers at count = Numbers line numbers₀ numbers at count
+read-line-requires : tie.Need-read-line-requires
+read-line-requires c κs = search needs
 
-abbrev μ-loop : tie.MeasureT-loop
-μ-loop line numbers₀ letter at₀ count₀ numbers at count = length line - at
+enum-told : tie.Need-enum-told
+enum-told c = search needs
 
-returns : tie.Need-returns Inv-loop μ-loop
-returns c = parsed-wrong _ _ _ (too-long _ (c .if1 .taken)) (λ h. refl)
+enum-known-letter : tie.Need-enum-known-letter
+enum-known-letter c = search needs
 
-returns-2 : tie.Need-returns-2 Inv-loop μ-loop
-returns-2 c = parsed-wrong _ _ _ (no-bytes (c .before .before .before .before .args .line .now) (c .if2 .taken)) (λ h. refl)
+is-form-requires : tie.Need-is-form-requires
+is-form-requires c κs = search needs
 
-returns-3 : tie.Need-returns-3 Inv-loop μ-loop
-returns-3 c = parsed-no-room _ _ (c .if3 .taken)
+same-length : tie.Need-same-length
+same-length c = search needs
 
-returns-4 : tie.Need-returns-4 Inv-loop μ-loop
-returns-4 c = parsed-wrong _ _ _ (comma-first (c .before .before .before .before .before .before .before .args .line .now) (c .before .before .before .if2 .left) (c .if4 .taken)) (λ h. refl)
+returns : tie.Need-returns
+returns c = parsed-right _ _ _ _ (c .before .before .before .before .before .before .before .read-line .ensures) _ _ (c .before .before .before .letter .given .1) _ (c .before .is-form .ensures) (c .if1 .taken)
 
-loop-holds : tie.Need-loop-holds Inv-loop μ-loop
-loop-holds c = numbers-begin _ _ (c .before .before .before .before .if1 .left) (c .before .before .if3 .left) (c .before .before .before .if2 .left) (c .if4 .left)
+same-length-2 : tie.Need-same-length-2
+same-length-2 c = search needs
 
-same-length : tie.Need-same-length Inv-loop μ-loop
-same-length c = c .before .before .before .loop .inv .same
+returns-2 : tie.Need-returns-2
+returns-2 c = parsed-no-line _ _ _ _ (c .before .before .before .before .read-line .ensures) (c .enum-told .given .1)
 
-returns-5 : tie.Need-returns-5 Inv-loop μ-loop
-returns-5 c = wrong-letter _ _ _ _ _ (c .before .before .before .loop .inv) (c .before .before .loop-test .taken) (c .if5 .taken)
+same-length-3 : tie.Need-same-length-3
+same-length-3 c = search needs
 
-same-length-2 : tie.Need-same-length-2 Inv-loop μ-loop
-same-length-2 c = c .before .before .before .before .before .before .loop .inv .same
-
-returns-6 : tie.Need-returns-6 Inv-loop μ-loop
-returns-6 c = wrong-number _ _ _ _ _ (c .before .before .before .before .before .before .loop .inv) (c .before .before .before .before .before .loop-test .taken) (c .before .before .before .if5 .left) _ (c .before .before .read-field .ensures) (c .enum-told .given .1)
-
-slice-write-numbers : tie.Need-slice-write-numbers Inv-loop μ-loop
-slice-write-numbers c = fits _ _ _ _ _ (c .before .before .before .before .before .before .before .loop .inv) (c .before .before .before .before .before .before .loop-test .taken) (c .before .before .before .before .if5 .left) _ (c .before .before .before .read-field .ensures) _ _ (c .before .value .given .1)
-
-add-count : tie.Need-add-count Inv-loop μ-loop
-add-count c = omega (arith, fits _ _ _ _ _ (c .before .before .before .before .before .before .before .loop .inv) (c .before .before .before .before .before .before .loop-test .taken) (c .before .before .before .before .if5 .left) _ (c .before .before .before .read-field .ensures) _ _ (c .before .value .given .1))
-
-loop-less : tie.Need-loop-less Inv-loop μ-loop
-loop-less c = omega (arith, next-place _ _ _ _ _ (c .before .before .before .before .before .before .before .loop .inv) (c .before .before .before .before .before .before .loop-test .taken) (c .before .before .before .before .if5 .left) _ (c .before .before .before .read-field .ensures) _ _ (c .before .value .given .1) .0)
-
-loop-again : tie.Need-loop-again Inv-loop μ-loop
-loop-again c = numbers-more _ _ _ _ _ (c .before .before .before .before .before .before .before .loop .inv) (c .before .before .before .before .before .before .loop-test .taken) (c .before .before .before .before .if5 .left) _ (c .before .before .before .read-field .ensures) _ _ (c .before .value .given .1)
-
-same-length-3 : tie.Need-same-length-3 Inv-loop μ-loop
-same-length-3 c = c .before .before .before .loop .inv .same
-
-returns-7 : tie.Need-returns-7 Inv-loop μ-loop
-unfolding letter
-returns-7 c = parsed-line _ _ _ _ _ (c .before .before .before .loop .inv) (c .before .before .loop-test .left) _ (c .before .is-form .ensures) (c .if6 .taken)
-
-same-length-4 : tie.Need-same-length-4 Inv-loop μ-loop
-same-length-4 c = c .before .before .before .loop .inv .same
-
-returns-8 : tie.Need-returns-8 Inv-loop μ-loop
-unfolding letter
-returns-8 c = wrong-form _ _ _ _ _ (c .before .before .before .loop .inv) (c .before .before .loop-test .left) _ (c .before .is-form .ensures) (c .if6 .left)
+returns-3 : tie.Need-returns-3
+returns-3 c = parsed-wrong _ _ _ _ (c .before .before .before .before .before .before .before .read-line .ensures) _ _ (c .before .before .before .letter .given .1) _ (c .before .is-form .ensures) (c .if1 .left)
 
 pub parse-spec : {M : Type 1} → statement M
 parse-spec =
     tie.close
     (tie.spec
-    Inv-loop μ-loop returns returns-2 returns-3 (λ c. search needs) returns-4 loop-holds (λ c. search needs)
-    same-length returns-5 (λ c. search needs) (λ c κs. search needs) (λ c. search needs) same-length-2 returns-6
-    (λ c. search needs) (λ c. search needs) slice-write-numbers add-count loop-less loop-again (λ c κs. search needs)
-    same-length-3 returns-7 same-length-4 returns-8)
+    read-line-requires
+    enum-told
+    enum-known-letter
+    is-form-requires
+    same-length
+    returns
+    same-length-2
+    returns-2
+    same-length-3
+    returns-3)

@@ -211,38 +211,46 @@ pub decimal-some : (field : List ℕ) → isDecimal field ≡ true → 0 < lengt
 decimal-some [] e = absurd (false≢true (unfold isDecimal every in e))
 decimal-some (byte ∷ bytes) e = omega arith
 
--- ---- which lines are of the forms
+-- ---- which lines are a letter and decimals
 
 module _ (line : List ℕ) where
-  pub too-long : 120 < length line → ofForms line ≡ false
-  unfolding ofForms isLine
+  pub too-long : 120 < length line → isLine line ≡ false
+  unfolding isLine
   too-long h = rw (lt-leb (length line) 120 h)
 
-  pub no-letter : (length (first line) ≡ 1 → ⊥) → ofForms line ≡ false
-  unfolding ofForms isLine first
+  pub no-letter : (length (first line) ≡ 1 → ⊥) → isLine line ≡ false
+  unfolding isLine first
   no-letter ne = rw (ne-eqb (length (first line)) 1 ne, and-false (leb (length line) 120))
 
-  pub no-bytes : length line < 1 → ofForms line ≡ false
+  pub no-bytes : length line < 1 → isLine line ≡ false
   no-bytes none = no-letter (λ e. let l = length-first line in omega arith)
 
-  pub comma-first : 1 ≤ length line → getD line 0 0 ≡ 44 → ofForms line ≡ false
+  pub comma-first : 1 ≤ length line → getD line 0 0 ≡ 44 → isLine line ≡ false
   comma-first some comma =
       let none : length (first line) ≡ 0 = ap length (first-at-comma line 0 some comma) in
       no-letter (λ e. omega arith)
 
-  pub no-decimal : every isDecimal (others line) ≡ false → ofForms line ≡ false
-  unfolding ofForms isLine others
+  pub no-decimal : every isDecimal (others line) ≡ false → isLine line ≡ false
+  unfolding isLine others
   no-decimal e = rw (e, and-false (leb (length line) 120 && eqb (length (getD (fields line) 0 [])) 1))
 
-  pub forms-line : length line ≤ 120 → length (first line) ≡ 1 → every isDecimal (others line) ≡ true
-      → ofForms line ≡ isForm (letter line) (length (numbers line))
-  unfolding ofForms isLine first others
-  forms-line short one all = rw (le-leb (length line) 120 short, eq-eqb (length (getD (fields line) 0 [])) 1 one, all)
+  pub is-line : length line ≤ 120 → length (first line) ≡ 1 → every isDecimal (others line) ≡ true → isLine line ≡ true
+  unfolding isLine first others
+  is-line short one all = rw (le-leb (length line) 120 short, eq-eqb (length (getD (fields line) 0 [])) 1 one, all)
+
+-- and of the forms is none but these
+pub no-forms : (line : List ℕ) → isLine line ≡ false → ofForms line ≡ false
+unfolding ofForms
+no-forms line e = rw e
+
+pub line-forms : (line : List ℕ) → isLine line ≡ true → ofForms line ≡ isForm (letter line) (length (numbers line))
+unfolding ofForms
+line-forms line e = rw e
 
 -- the letters but the last that stand alone
-pub bare-last : (letter : ℕ) → (letter ≡ 77 → ⊥) → (letter ≡ 86 → ⊥) → (letter ≡ 76 → ⊥) → (letter ≡ 67 → ⊥) → isBare letter ≡ eqb letter 71
+pub bare-last : (letter : ℕ) → (letter ≡ 77 → ⊥) → (letter ≡ 86 → ⊥) → (letter ≡ 76 → ⊥) → (letter ≡ 85 → ⊥) → (letter ≡ 67 → ⊥) → isBare letter ≡ eqb letter 71
 unfolding isBare
-bare-last letter m v l c = rw (ne-eqb letter 77 m, ne-eqb letter 86 v, ne-eqb letter 76 l, ne-eqb letter 67 c)
+bare-last letter m v l u c = rw (ne-eqb letter 77 m, ne-eqb letter 86 v, ne-eqb letter 76 l, ne-eqb letter 85 u, ne-eqb letter 67 c)
 
 -- ---- how many numbers a line of a form has
 

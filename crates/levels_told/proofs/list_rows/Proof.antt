@@ -1,4 +1,5 @@
 -- `levels_told::list_rows` meets its contract. The loop's invariant: the rows still to come end where all of them do. Assumes nothing.
+use Prim.Native.Nat.{_-_}
 use native.Mathlib.Omega.{arith}
 use lib.ListN.{length-take, length-drop}
 use Rattle.levels_told.specs.inner.Rows.{Listing, listing-begin, listing-next, listing-again, listing-end}
@@ -7,14 +8,14 @@ use Rattle.levels_told.proofs.list_rows.Statement.{statement}
 use Rattle.levels_told.proofs.list_rows.Tie as tie
 
 abbrev Inv-loop : tie.InvT-loop
-Inv-loop text₀ used rows columns count end₀ at₀ left₀ text end at left =
-    Listing text₀ used columns count rows text end at left
+Inv-loop text₀ used numbered rows columns count end₀ at₀ number₀ text end at number =
+    Listing numbered text₀ used columns count rows text end at number
 
 abbrev μ-loop : tie.MeasureT-loop
-μ-loop text₀ used rows columns count end₀ at₀ left₀ text end at left = left
+μ-loop text₀ used numbered rows columns count end₀ at₀ number₀ text end at number = count - number
 
 loop-holds : tie.Need-loop-holds Inv-loop μ-loop
-loop-holds c = listing-begin _ _ _ _ _ (c .before .before .pre .1 .0)
+loop-holds c = listing-begin _ _ _ _ _ _ (c .before .before .pre .1 .0)
 
 add-next : tie.Need-add-next Inv-loop μ-loop
 add-next c = omega (arith, listing-next (c .before .loop .inv) (c .loop-test .taken))

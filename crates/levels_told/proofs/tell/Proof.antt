@@ -25,7 +25,7 @@ returns-6 : tie.Need-returns-6
 returns-6 c = tells-version _ _ _ _ (c .before .before .before .before .before .before .said4 .given .1) (c .before .before .write-line3 .ensures)
 
 returns-7 : tie.Need-returns-7
-returns-7 c = tells-listing _ _ (c .before .before .before .before .enum-told3 .given .1) (c .before .before .list-table .ensures)
+returns-7 c = tells-listing _ _ _ (c .before .before .before .before .before .said5 .given .1) (c .before .before .list-table .ensures)
 
 pub tell-spec : {M : Type 1} → statement M
 tell-spec =

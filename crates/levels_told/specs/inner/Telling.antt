@@ -1,6 +1,7 @@
 -- What is said, as text. Assumes nothing.
 use Prim.Native.Nat.{ℕ, _≤_}
 use mathlib.Core.Path.{_≡_}
+use mathlib.Core.Bool.{Bool, true, false}
 use mathlib.Core.List.{List, [], _∷_}
 use native.Mathlib.Omega.{arith}
 use lib.ListN.{length, take}
@@ -15,27 +16,32 @@ use Rattle.levels_said.specs.inner.Saying.{headLine, listing, textOf, Listable,
 use Rattle.levels_told.specs.inner.Rows.{RowsListed}
 
 -- the listing, where there is room
-pub record Listed (h : Header) (rows text : List ℕ) (used : ℕ) : Type 0 where
+pub record Listed (numbered : Bool) (h : Header) (rows text : List ℕ) (used : ℕ) : Type 0 where
   pub inside : used ≤ length text
-  pub listed : Listable h rows text → take used text ≡ listing h rows
+  pub listed : Listable h rows text → take used text ≡ listing numbered h rows
 
 -- no room
-pub listed-nothing : (h : Header) (rows text : List ℕ) → (Listable h rows text → ⊥) → Listed h rows text 0
-listed-nothing h rows text short = record { inside = omega arith; listed = λ l. absurd (short l) }
+pub listed-nothing : (numbered : Bool) (h : Header) (rows text : List ℕ) → (Listable h rows text → ⊥) → Listed numbered h rows text 0
+listed-nothing numbered h rows text short = record { inside = omega arith; listed = λ l. absurd (short l) }
 
--- the head line takes at most 57 bytes
-pub length-head : (h : Header) → length (headLine h) ≤ 57
+-- the head line, with the row count or without
+pub head-numbered : {numbered : Bool} (h : Header) → numbered ≡ true → headLine numbered h ≡ textLine 85 (h .columns ∷ h .keys ∷ h .sort ∷ h .rule ∷ h .generation ∷ h .rows ∷ [])
 unfolding headLine
-length-head h = length-written 84 (h .columns ∷ h .keys ∷ h .sort ∷ h .rule ∷ h .generation ∷ [])
+head-numbered h e = rw e
 
-pub head-written : {text text′ : List ℕ} {used end : ℕ} (h : Header) → Appended text used (textLine 84 (h .columns ∷ h .keys ∷ h .sort ∷ h .rule ∷ h .generation ∷ [])) text′ end
-    → Appended text used (headLine h) text′ end
+pub head-plain : {numbered : Bool} (h : Header) → numbered ≡ false → headLine numbered h ≡ textLine 84 (h .columns ∷ h .keys ∷ h .sort ∷ h .rule ∷ h .generation ∷ [])
 unfolding headLine
-head-written h a = a
+head-plain h e = rw e
+
+-- it takes at most 68 bytes
+pub length-head : (numbered : Bool) (h : Header) → length (headLine numbered h) ≤ 68
+unfolding headLine
+length-head true h = length-written 85 (h .columns ∷ h .keys ∷ h .sort ∷ h .rule ∷ h .generation ∷ h .rows ∷ [])
+length-head false h = omega (arith, length-written 84 (h .columns ∷ h .keys ∷ h .sort ∷ h .rule ∷ h .generation ∷ []))
 
 -- the head line, then the rows'
-pub listed-all : (h : Header) (rows : List ℕ) {text text₁ text₂ : List ℕ} {used end : ℕ} → end ≤ length text₂
-    → Appended text 0 (headLine h) text₁ used → RowsListed text₁ used (h .columns) (h .rows) rows text₂ end → Listed h rows text₂ end
+pub listed-all : {numbered : Bool} (h : Header) (rows : List ℕ) {text text₁ text₂ : List ℕ} {used end : ℕ} → end ≤ length text₂
+    → Appended text 0 (headLine numbered h) text₁ used → RowsListed numbered text₁ used (h .columns) (h .rows) rows text₂ end → Listed numbered h rows text₂ end
 unfolding listing
 listed-all h rows inside head lines = record { inside = inside; listed = λ l. appended-then head (lines .put) .same }
 
@@ -66,9 +72,9 @@ module _ (h : Header) (rows : List ℕ) {said : Said} {text : List ℕ} {used : 
   unfolding textOf
   tells-version generation count e w = says-bytes (rw e) w
 
-  pub tells-listing : said ≡ Listing → Listed h rows text used → Telling h rows said text used
+  pub tells-listing : (numbered : Bool) → said ≡ Listing numbered → Listed numbered h rows text used → Telling h rows said text used
   unfolding textOf
-  tells-listing e k = record { inside = k .inside; begins = λ l. rw e (k .listed (l e)) }
+  tells-listing numbered e k = record { inside = k .inside; begins = λ l. rw e (k .listed (l numbered e)) }
 
 pub tells-nothing : (h : Header) (rows text : List ℕ) {said : Said} → said ≡ Nothing → Telling h rows said text 0
 unfolding textOf

@@ -1,19 +1,27 @@
 -- `levels_written::put_line` meets its contract. Assumes nothing.
 use native.Mathlib.Omega.{arith}
-use Rattle.levels_written.specs.Laws.Decimals.{length-fields}
+use Rattle.levels_written.specs.Laws.Decimals.{length-line}
 use Rattle.levels_written.specs.inner.Appending.{appended-line}
 use borrow.Author.Needs.{needs}
 use Rattle.levels_written.proofs.put_line.Statement.{statement}
 use Rattle.levels_written.proofs.put_line.Tie as tie
 
+put-requires : tie.Need-put-requires
+put-requires c κs = omega (arith, length-line (c .before .before .before .args .letter) (c .before .before .before .args .numbers .now), c .before .before .before .pre)
+
+put-numbers-requires : tie.Need-put-numbers-requires
+put-numbers-requires c κs = omega (arith, length-line (c .before .before .before .before .before .before .before .args .letter) (c .before .before .before .before .before .before .before .args .numbers .now), c .before .before .before .before .before .before .before .pre, c .before .before .before .put .ensures .counted)
+
 put-requires-2 : tie.Need-put-requires-2
 put-requires-2 c κs =
-    omega (arith, c .before .before .before .put-numbers .ensures .counted, c .before .before .before .before .before .before .before .put .ensures .counted, length-fields (c .before .before .before .before .before .before .before .before .before .before .before .args .numbers .now))
+    omega (arith, c .before .before .before .put-numbers .ensures .counted, c .before .before .before .before .before .before .before .put .ensures .counted, length-line (c .before .before .before .before .before .before .before .before .before .before .before .args .letter) (c .before .before .before .before .before .before .before .before .before .before .before .args .numbers .now), c .before .before .before .before .before .before .before .before .before .before .before .pre)
+
+same-length : tie.Need-same-length
+same-length c = search needs
 
 returns : tie.Need-returns
 returns c = appended-line _ (c .before .before .before .before .before .before .before .before .before .before .put .ensures) (c .before .before .before .before .before .before .put-numbers .ensures) (c .before .before .put2 .ensures)
 
 pub put-line-spec : {M : Type 1} → statement M
 put-line-spec =
-    tie.close
-    (tie.spec (λ c κs. search needs) (λ c κs. search needs) put-requires-2 (λ c. search needs) returns)
+    tie.close (tie.spec put-requires put-numbers-requires put-requires-2 same-length returns)

@@ -1,15 +1,30 @@
 -- `levels_written::put_number` meets its contract. Assumes nothing.
 use native.Mathlib.Omega.{arith}
-use Rattle.levels_written.specs.Laws.Decimals.{few-digits}
+use Rattle.levels_written.specs.Laws.Decimals.{field-length, field-some}
 use Rattle.levels_written.specs.inner.Appending.{appended-number}
 use borrow.Author.Needs.{needs}
 use Rattle.levels_written.proofs.put_number.Statement.{statement}
 use Rattle.levels_written.proofs.put_number.Tie as tie
 
+decimal-requires : tie.Need-decimal-requires
+decimal-requires c κs = search needs
+
+put-requires : tie.Need-put-requires
+put-requires c κs = omega (arith, c .before .before .before .before .pre, field-some (c .before .before .before .before .args .number))
+
+array-share-prefix-digits : tie.Need-array-share-prefix-digits
+array-share-prefix-digits c = search needs
+
+slice-aggregate-put-bytes : tie.Need-slice-aggregate-put-bytes
+slice-aggregate-put-bytes c = search needs
+
 put-bytes-requires : tie.Need-put-bytes-requires
 put-bytes-requires c κs =
     let d = c .before .before .before .before .before .before .decimal .ensures in
-    omega (arith, d .0 .1, few-digits _ _ (search needs) (d .1 .0), c .before .before .before .before .put .ensures .counted)
+    omega (arith, field-length (search needs) (d .1 .0) (d .1 .1), c .before .before .before .before .put .ensures .counted)
+
+same-length : tie.Need-same-length
+same-length c = search needs
 
 returns : tie.Need-returns
 returns c =
@@ -20,5 +35,10 @@ pub put-number-spec : {M : Type 1} → statement M
 put-number-spec =
     tie.close
     (tie.spec
-    (λ c κs. search needs) (λ c κs. search needs) (λ c. search needs) (λ c. search needs) put-bytes-requires
-    (λ c. search needs) returns)
+    decimal-requires
+    put-requires
+    array-share-prefix-digits
+    slice-aggregate-put-bytes
+    put-bytes-requires
+    same-length
+    returns)

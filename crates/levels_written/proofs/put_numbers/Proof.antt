@@ -1,7 +1,8 @@
 -- `levels_written::put_numbers` meets its contract. The loop's invariant: the numbers passed are put. Assumes nothing.
 use Prim.Native.Nat.{_-_}
+use native.Mathlib.Omega.{arith}
 use lib.ListN.{length}
-use Rattle.levels_written.specs.inner.Appending.{Numbering, numbering-begin, numbering-again, numbering-end}
+use Rattle.levels_written.specs.inner.Appending.{Numbering, numbering-begin, numbering-next, numbering-again, numbering-end}
 use borrow.Author.Needs.{needs}
 use Rattle.levels_written.proofs.put_numbers.Statement.{statement}
 use Rattle.levels_written.proofs.put_numbers.Tie as tie
@@ -16,9 +17,27 @@ abbrev μ-loop : tie.MeasureT-loop
 loop-holds : tie.Need-loop-holds Inv-loop μ-loop
 loop-holds c = numbering-begin _ _ _
 
+mul-put-number : tie.Need-mul-put-number Inv-loop μ-loop
+mul-put-number c = search needs
+
+shared-slice-read-put-number : tie.Need-shared-slice-read-put-number Inv-loop μ-loop
+shared-slice-read-put-number c = search needs
+
+put-number-requires : tie.Need-put-number-requires Inv-loop μ-loop
+put-number-requires c κs = omega (arith, numbering-next (c .before .before .before .loop .inv) (search needs), c .before .before .before .loop .inv .same-length, c .before .before .before .before .before .before .pre)
+
+add-i : tie.Need-add-i Inv-loop μ-loop
+add-i c = search needs
+
+loop-less : tie.Need-loop-less Inv-loop μ-loop
+loop-less c = search needs
+
 loop-again : tie.Need-loop-again Inv-loop μ-loop
 loop-again c =
     numbering-again (c .before .before .before .before .before .before .loop .inv) (search needs) (search needs) (c .before .before .put-number .ensures)
+
+same-length : tie.Need-same-length Inv-loop μ-loop
+same-length c = search needs
 
 returns : tie.Need-returns Inv-loop μ-loop
 returns c = numbering-end (c .before .loop .inv) (search needs)
@@ -27,5 +46,14 @@ pub put-numbers-spec : {M : Type 1} → statement M
 put-numbers-spec =
     tie.close
     (tie.spec
-    Inv-loop μ-loop loop-holds (λ c. search needs) (λ c. search needs) (λ c κs. search needs) (λ c. search needs)
-    (λ c. search needs) loop-again (λ c. search needs) returns)
+    Inv-loop
+    μ-loop
+    loop-holds
+    mul-put-number
+    shared-slice-read-put-number
+    put-number-requires
+    add-i
+    loop-less
+    loop-again
+    same-length
+    returns)

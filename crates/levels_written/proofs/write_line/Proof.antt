@@ -1,11 +1,19 @@
 -- `levels_written::write_line` meets its contract. Assumes nothing.
 use Rattle.levels_written.specs.inner.Appending.{line-wrote}
+use native.Mathlib.Omega.{arith}
+use Rattle.levels_written.specs.Laws.Decimals.{length-written}
 use borrow.Author.Needs.{needs}
 use Rattle.levels_written.proofs.write_line.Statement.{statement}
 use Rattle.levels_written.proofs.write_line.Tie as tie
+
+put-line-requires : tie.Need-put-line-requires
+put-line-requires c κs = omega (arith, length-written (c .before .before .before .args .letter) (c .before .before .before .args .numbers .now), c .before .before .before .pre)
+
+same-length : tie.Need-same-length
+same-length c = search needs
 
 returns : tie.Need-returns
 returns c = line-wrote _ _ (search needs) (c .before .before .put-line .ensures)
 
 pub write-line-spec : {M : Type 1} → statement M
-write-line-spec = tie.close (tie.spec (λ c κs. search needs) (λ c. search needs) returns)
+write-line-spec = tie.close (tie.spec put-line-requires same-length returns)

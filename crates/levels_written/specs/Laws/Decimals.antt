@@ -1,11 +1,11 @@
 -- The digits that `io::decimal` gives are those of the definition. Assumes nothing.
 use Prim.Native.Nat.{ℕ, zero, suc, _+_, _-_, _*_, _/_, _%_, _^_, _≤_, _<_}
-use mathlib.Core.Path.{_≡_}
+use mathlib.Core.Path.{_≡_, ap, _∙_}
 use mathlib.Core.Logic.{inl, inr}
 use mathlib.Core.List.{List, [], _∷_, _++_, map, map-append, append-nil}
 use native.Mathlib.Nat.{pow-succ', one-le-pow, pow-le-pow-right, mod-lt, mod-eq-of-lt}
 use native.Mathlib.Omega.{arith}
-use lib.ListN.{length, length-append}
+use lib.ListN.{length, take, getD, length-append}
 use lib.Dec.{leb, ltb}
 use borrow.Author.Tests.{lt-ltb, le-ltb, leb-true, leb-false}
 use Rattle.lists.specs.Lists.{flat}
@@ -72,10 +72,27 @@ pub length-field : (n : ℕ) → length (field n) ≤ 11
 unfolding field decimal
 length-field n = omega (arith, length-digits 10 n)
 
+-- exactly as many as its digits, and the comma
+pub field-length : {n count : ℕ} {shown : List ℕ} → n ≤ 4294967295 → Fewest 10 1 n count → shown ≡ digits 10 count n → length (field n) ≡ 1 + length shown
+unfolding field
+field-length {n} {count} fits f e = let same = ap length (e ∙ decimal-digits count n fits f) in omega (arith, same)
+
+pub field-some : (n : ℕ) → 1 ≤ length (field n)
+unfolding field
+field-some n = omega arith
+
 -- one number more
 pub fields-more : (numbers : List ℕ) (n : ℕ) → flat (map field (numbers ++ (n ∷ []))) ≡ flat (map field numbers) ++ field n
 unfolding flat
 fields-more numbers n = rw (map-append field numbers (n ∷ []), flat-append (map field numbers) (field n ∷ []), append-nil (field n))
+
+-- the first ones and the next take no more than all
+pub fields-front : (numbers : List ℕ) (i : ℕ) → i < length numbers → length (flat (map field (take i numbers))) + length (field (getD numbers i 0)) ≤ length (flat (map field numbers))
+unfolding flat
+fields-front [] i less = absurd (omega arith)
+fields-front (n ∷ numbers) zero less = omega (arith, length-append (field n) (flat (map field numbers)))
+fields-front (n ∷ numbers) (suc i) less =
+    omega (arith, length-append (field n) (flat (map field numbers)), length-append (field n) (flat (map field (take i numbers))), fields-front numbers i (omega arith))
 
 pub length-fields : (numbers : List ℕ) → length (flat (map field numbers)) ≤ 11 * length numbers
 unfolding flat
@@ -83,6 +100,14 @@ length-fields [] = omega arith
 length-fields (n ∷ numbers) =
     omega (arith, length-append (field n) (flat (map field numbers)), length-field n, length-fields numbers)
 
+pub length-line : (letter : ℕ) (numbers : List ℕ) → length (textLine letter numbers) ≡ length (flat (map field numbers)) + 2
+unfolding textLine
+length-line letter numbers = omega (arith, length-append (flat (map field numbers)) (10 ∷ []))
+
+pub length-numbered : (letter number : ℕ) (numbers : List ℕ) → length (textLine letter (number ∷ numbers)) ≡ length (field number) + length (flat (map field numbers)) + 2
+unfolding flat
+length-numbered letter number numbers = omega (arith, length-line letter (number ∷ numbers), length-append (field number) (flat (map field numbers)))
+
 pub length-written : (letter : ℕ) (numbers : List ℕ) → length (textLine letter numbers) ≤ 11 * length numbers + 2
 unfolding textLine
-length-written letter numbers = omega (arith, length-append (flat (map field numbers)) (10 ∷ []), length-fields numbers)
+length-written letter numbers = omega (arith, length-line letter numbers, length-fields numbers)

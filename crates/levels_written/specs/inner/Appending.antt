@@ -4,33 +4,47 @@ use mathlib.Core.Path.{_≡_, refl, sym, _∙_}
 use mathlib.Core.List.{List, [], _∷_, _++_, map, append-nil, append-assoc}
 use native.Mathlib.Numerals.{add-one}
 use native.Mathlib.Omega.{arith}
-use lib.ListN.{length, take, getD, set, length-append}
-use lib.Seq.{take-suc, take-all, take-suc-set}
+use lib.ListN.{length, take, drop, getD, set, length-append, take-append-drop}
+use lib.Seq.{take-suc, take-all, take-suc-set, drop-set-lt, drop-drop}
 use Rattle.io.specs.Digits.{digits, Fewest}
-use Rattle.lists.specs.Lists.{flat}
+use Rattle.lists.specs.Lists.{putAt, flat}
 use Rattle.levels_text.specs.Written.{field, textLine}
-use Rattle.levels_written.specs.Laws.Decimals.{decimal-digits, length-field, fields-more, length-written}
+use Rattle.levels_written.specs.Laws.Decimals.{decimal-digits, fields-more, fields-front, length-written}
 
--- the text has these bytes behind its first `used`, up to `end`; what stands behind them is of no meaning
+-- the text has these bytes behind its first `used`, up to `end`; what stands behind them is as it was
 pub record Appended (text : List ℕ) (used : ℕ) (bytes text′ : List ℕ) (end : ℕ) : Type 0 where
   pub counted : end ≡ used + length bytes
   pub same : take end text′ ≡ take used text ++ bytes
+  pub behind : drop end text′ ≡ drop end text
 
 module _ (text : List ℕ) (used : ℕ) where
   pub appended-none : Appended text used [] text used
-  appended-none = record { counted = omega arith; same = sym (append-nil (take used text)) }
+  appended-none = record { counted = omega arith; same = sym (append-nil (take used text)); behind = refl }
 
   pub appended-one : (byte : ℕ) → used < length text → Appended text used (byte ∷ []) (set text used byte) (used + 1)
-  appended-one byte inside = record { counted = refl; same = rw (add-one, take-suc-set text used byte inside) }
+  appended-one byte inside =
+      record {
+        counted = refl;
+        same = rw (add-one, take-suc-set text used byte inside);
+        behind = drop-set-lt (used + 1) text used byte (omega arith);
+      }
 
 -- one behind the other
 pub appended-then : {text text′ text″ bytes more : List ℕ} {used end end′ : ℕ}
     → Appended text used bytes text′ end → Appended text′ end more text″ end′ → Appended text used (bytes ++ more) text″ end′
-appended-then {text} {text′} {text″} {bytes} {more} {used} a b =
+appended-then {text} {text′} {text″} {bytes} {more} {used} {end} {end′} a b =
     record {
       counted = omega (arith, a .counted, b .counted, length-append bytes more);
       same = b .same ∙ rw (a .same, append-assoc (take used text) bytes more);
+      behind = b .behind ∙ rw (b .counted, ← drop-drop (length more) end text′, ← drop-drop (length more) end text, a .behind);
     }
+
+-- where there is room for them, that is how the text then stands
+pub appended-put : {text bytes text′ : List ℕ} {used end : ℕ} → Appended text used bytes text′ end → text′ ≡ putAt text used bytes
+unfolding putAt
+appended-put {text} {bytes} {text′} {used} {end} a =
+    sym (take-append-drop end text′)
+    ∙ rw (a .same, a .behind, append-assoc (take used text) bytes (drop end text), a .counted)
 
 -- a comma, then the digits of a number
 pub appended-number : {text text′ text″ shown : List ℕ} {used end end′ n count : ℕ} → n ≤ 4294967295 → Fewest 10 1 n count → shown ≡ digits 10 count n
@@ -45,6 +59,14 @@ pub appended-line : {text text₁ text₂ text₃ : List ℕ} (numbers : List �
     → Appended text₂ numbered (10 ∷ []) text₃ end → Appended text used (textLine letter numbers) text₃ end
 unfolding textLine
 appended-line numbers first rest last = appended-then (appended-then first rest) last
+
+-- a number before the others
+pub appended-numbered : {text text₁ text₂ text₃ text₄ : List ℕ} (number : ℕ) (numbers : List ℕ) {used lettered numbered filled end letter : ℕ}
+    → Appended text used (letter ∷ []) text₁ lettered → Appended text₁ lettered (field number) text₂ numbered
+    → Appended text₂ numbered (flat (map field numbers)) text₃ filled → Appended text₃ filled (10 ∷ []) text₄ end
+    → Appended text used (textLine letter (number ∷ numbers)) text₄ end
+unfolding flat
+appended-numbered number numbers first lead rest last = appended-line (number ∷ numbers) first (appended-then lead rest) last
 
 -- at the start of a lent text
 pub record Wrote (bytes text : List ℕ) (used : ℕ) : Type 0 where
@@ -95,13 +117,12 @@ module _ {text : List ℕ} {used : ℕ} {bytes text′ : List ℕ} {end i : ℕ}
 pub record Numbering (text : List ℕ) (used : ℕ) (numbers text′ : List ℕ) (end i : ℕ) : Type 0 where
   pub inside : i ≤ length numbers
   pub same-length : length text′ ≡ length text
-  pub few : end ≤ used + 11 * i
   pub put : Appended text used (flat (map field (take i numbers))) text′ end
 
 module _ (text : List ℕ) (used : ℕ) (numbers : List ℕ) where
   pub numbering-begin : Numbering text used numbers text used 0
   unfolding flat
-  numbering-begin = record { inside = omega arith; same-length = refl; few = omega arith; put = appended-none text used }
+  numbering-begin = record { inside = omega arith; same-length = refl; put = appended-none text used }
 
 module _ {text : List ℕ} {used : ℕ} {numbers text′ : List ℕ} {end i : ℕ} (v : Numbering text used numbers text′ end i) where
   pub numbering-again : {text″ : List ℕ} {end′ : ℕ} → i < length numbers → length text″ ≡ length text′
@@ -110,9 +131,12 @@ module _ {text : List ℕ} {used : ℕ} {numbers text′ : List ℕ} {end i : �
       record {
         inside = omega arith;
         same-length = lent ∙ v .same-length;
-        few = omega (arith, one .counted, v .few, length-field (getD numbers i 0));
         put = rw (add-one, take-suc numbers i 0 less, fields-more (take i numbers) (getD numbers i 0)) (appended-then (v .put) one);
       }
+
+  -- the next one takes no more than is left
+  pub numbering-next : i < length numbers → end + length (field (getD numbers i 0)) ≤ used + length (flat (map field numbers))
+  numbering-next less = omega (arith, v .put .counted, fields-front numbers i less)
 
   pub numbering-end : length numbers ≤ i → Appended text used (flat (map field numbers)) text′ end
   numbering-end all = rw (take-all i numbers all) at (v .put)

@@ -13,7 +13,7 @@ use Rattle.table.specs.declared.Header.{Header}
 use Rattle.table.specs.declared.TableAnswer.{TableAnswer}
 use Rattle.table.specs.declared.MergeAnswer.{MergeAnswer}
 use Rattle.table.specs.Refusing.{outside}
-use Rattle.words.specs.Words.{largestIn, largestFlag, largestWord, columnsIn, headerIn, headerWords, tableNumber, tableHeader, Told, MergeTold, CallInWords, MergeInWords, QuestionInWords}
+use Rattle.words.specs.Words.{largestIn, largestFlag, largestWord, columnsIn, headerIn, headerWords, tableNumber, tableHeader, Told, MergeTold, CallInWords, MergeInWords, QuestionInWords, InWords}
 
 -- the largest value
 largest-read : (l : Largest) → largestIn (largestFlag l) (largestWord l) ≡ l
@@ -102,3 +102,11 @@ module _ {A : Type 0} {promise : A → Type 0} {number : A → ℕ} {told : List
         unheaded = λ n. absurd (n l);
         unworded = λ e n. absurd (n k);
       }
+
+module _ {A : Type 0} {promise : A → Type 0} {unchanged : Type 0} {number : A → ℕ} {told : List ℕ → A → List ℕ} {count : ℕ} {words : List ℕ} where
+  pub words-wrong : (length words ≡ count → ⊥) → unchanged → InWords promise unchanged number told count words 2 words
+  words-wrong n u = record { done = λ e. absurd (n e); unworded = λ e. (u, refl, refl) }
+
+  pub words-told : {answer : A} {r : ℕ} {words′ : List ℕ} → length words ≡ count → promise answer
+      → Told number (told words) answer r words′ → InWords promise unchanged number told count words r words′
+  words-told {answer} l p t = record { done = λ e. (answer, p, t .numbered, t .worded); unworded = λ n. absurd (n l) }

@@ -1,0 +1,65 @@
+//! Listings as text, over outputs that are long enough.
+
+use crate::{Refusal, lent};
+
+/// The numbers of a listing's head line, but for the row count of the new form.
+#[derive(Clone, Copy, Debug, PartialEq, Eq, Hash)]
+pub struct ListingHead {
+    pub columns: u32,
+    pub keys: u32,
+    pub sort: u32,
+    pub rule: u32,
+    pub generation: u32,
+}
+
+/// A listing in the new form.
+#[derive(Clone, Debug, PartialEq, Eq, Hash)]
+pub struct Listing {
+    pub head: ListingHead,
+    /// Every row number is below it.
+    pub count: u32,
+    /// Numbers and cells, rising by number.
+    pub rows: Vec<(u32, Vec<u32>)>,
+}
+
+/// Every number stands behind a comma, so that there are at most half as many as bytes.
+fn room(text: &[u8]) -> Vec<u32> {
+    vec![0; text.len() / 2]
+}
+
+/// The head's numbers and the rows' cells of a listing in the old form. Refused by 11.
+pub fn read_listing(text: &[u8]) -> Result<(ListingHead, Vec<Vec<u32>>), Refusal> {
+    let mut output = room(text);
+    let (head, rows) = lent::read_listing(text, &mut output)?;
+    let cells = output.chunks(head.columns as usize).take(rows);
+    Ok((head, cells.map(<[u32]>::to_vec).collect()))
+}
+
+/// A listing in the new form. Refused by 11.
+pub fn read_numbered(text: &[u8]) -> Result<Listing, Refusal> {
+    let mut output = room(text);
+    let (head, count, rows) = lent::read_numbered(text, &mut output)?;
+    let lines = output.chunks(head.columns as usize + 1).take(rows);
+    Ok(Listing {
+        head,
+        count,
+        rows: lines.map(|line| (line[0], line[1..].to_vec())).collect(),
+    })
+}
+
+/// A listing in the old form as text in the new one: rows are numbered from 0. Refused by 11.
+pub fn to_numbered(text: &[u8]) -> Result<Vec<u8>, Refusal> {
+    // Each line gets one number more, which takes at most six bytes with its comma, and has at least four.
+    let mut output = vec![0; 3 * text.len()];
+    let bytes = lent::to_numbered(text, &mut output)?;
+    output.truncate(bytes);
+    Ok(output)
+}
+
+/// A listing in the new form as text in the old one. Refused by 11 and 17.
+pub fn from_numbered(text: &[u8]) -> Result<Vec<u8>, Refusal> {
+    let mut output = vec![0; text.len()];
+    let bytes = lent::from_numbered(text, &mut output)?;
+    output.truncate(bytes);
+    Ok(output)
+}

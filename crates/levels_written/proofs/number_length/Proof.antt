@@ -1,0 +1,20 @@
+-- `levels_written::number_length` meets its contract. Assumes nothing.
+use native.Mathlib.Omega.{arith}
+use Rattle.levels_written.specs.Laws.Decimals.{few-digits, field-length}
+use borrow.Author.Needs.{needs}
+use Rattle.levels_written.proofs.number_length.Statement.{statement}
+use Rattle.levels_written.proofs.number_length.Tie as tie
+
+decimal-requires : tie.Need-decimal-requires
+decimal-requires c κs = search needs
+
+add-result : tie.Need-add-result
+add-result c = omega (arith, few-digits _ _ (search needs) (c .decimal .ensures .1 .0))
+
+returns : tie.Need-returns
+returns c =
+    let d = c .decimal .ensures in
+    omega (arith, field-length (search needs) (d .1 .0) (d .1 .1), d .0 .1)
+
+pub number-length-spec : {M : Type 1} → statement M
+number-length-spec = tie.close (tie.spec decimal-requires add-result returns)

@@ -1,0 +1,35 @@
+-- `levels_written::put_numbered` meets its contract. Assumes nothing.
+use native.Mathlib.Omega.{arith}
+use Rattle.levels_written.specs.Laws.Decimals.{length-numbered}
+use Rattle.levels_written.specs.inner.Appending.{appended-numbered}
+use borrow.Author.Needs.{needs}
+use Rattle.levels_written.proofs.put_numbered.Statement.{statement}
+use Rattle.levels_written.proofs.put_numbered.Tie as tie
+
+put-requires : tie.Need-put-requires
+put-requires c κs =
+    let at = c .before .before .before in
+    omega (arith, length-numbered (at .args .letter) (at .args .number) (at .args .numbers .now), at .pre)
+
+put-number-requires : tie.Need-put-number-requires
+put-number-requires c κs =
+    let at = c .before .before .before .before .before .before .before in
+    omega (arith, length-numbered (at .args .letter) (at .args .number) (at .args .numbers .now), at .pre, c .before .before .before .put .ensures .counted)
+
+put-numbers-requires : tie.Need-put-numbers-requires
+put-numbers-requires c κs =
+    let at = c .before .before .before .before .before .before .before .before .before .before .before in
+    omega (arith, length-numbered (at .args .letter) (at .args .number) (at .args .numbers .now), at .pre, c .before .before .before .before .before .before .before .put .ensures .counted, c .before .before .before .put-number .ensures .counted)
+
+put-requires-2 : tie.Need-put-requires-2
+put-requires-2 c κs =
+    let at = c .before .before .before .before .before .before .before .before .before .before .before .before .before .before .before in
+    omega (arith, length-numbered (at .args .letter) (at .args .number) (at .args .numbers .now), at .pre, c .before .before .before .before .before .before .before .before .before .before .before .put .ensures .counted, c .before .before .before .before .before .before .before .put-number .ensures .counted, c .before .before .before .put-numbers .ensures .counted)
+
+returns : tie.Need-returns
+returns c = appended-numbered _ _ (c .before .before .before .before .before .before .before .before .before .before .before .before .before .before .put .ensures) (c .before .before .before .before .before .before .before .before .before .before .put-number .ensures) (c .before .before .before .before .before .before .put-numbers .ensures) (c .before .before .put2 .ensures)
+
+pub put-numbered-spec : {M : Type 1} → statement M
+put-numbered-spec =
+    tie.close
+    (tie.spec put-requires put-number-requires put-numbers-requires put-requires-2 (λ c. search needs) returns)

@@ -1,0 +1,4 @@
+pub mod Ends
+pub mod Rows
+pub mod Counting
+pub mod Heads

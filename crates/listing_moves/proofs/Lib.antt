@@ -1,0 +1,3 @@
+pub mod Lengths
+pub mod Moving
+pub mod Answers

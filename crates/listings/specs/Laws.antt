@@ -1,0 +1,8 @@
+-- What follows from the definitions.
+pub mod Decimals
+pub mod Lines
+pub mod Pieces
+pub mod Texts
+pub mod Moves
+pub mod Determined
+pub mod Restored

@@ -1,0 +1,126 @@
+-- A decimal that `levels` reads is how its value is written. Assumes nothing.
+use Prim.Native.Nat.{ℕ, zero, suc, _+_, _-_, _*_, _/_, _%_, _^_, _≤_, _<_}
+use mathlib.Core.Path.{_≡_, refl, sym, ap, _∙_}
+use mathlib.Core.Bool.{true, not, _&&_, _||_, false≢true}
+use mathlib.Core.List.{List, [], _∷_, _++_, append-nil, append-assoc}
+use native.Mathlib.Nat.{zero-add, pow-succ'}
+use native.Mathlib.Omega.{arith}
+use lib.Dec.{leb, ltb, eqb}
+use lib.ListN.{length, getD}
+use borrow.Author.Tests.{ne-eqb, le-ltb, lt-ltb, leb-true}
+use Rattle.lists.specs.Lists.{every}
+use Rattle.lists.specs.Laws.Every.{every-head, every-tail}
+use Rattle.lists.specs.Laws.Keep.{and-left, and-right}
+use Rattle.levels_text.specs.Lines.{valueFrom, isDecimal}
+use Rattle.levels_text.specs.Written.{digitsIn, decimal}
+use Rattle.levels_text.specs.Laws.Lines.{digit}
+
+module _ (d : ℕ) (h : digit d ≡ true) where
+  digit-low : 48 ≤ d
+  digit-low = leb-true 48 d (and-left (leb 48 d) (leb d 57) h)
+
+  digit-high : d ≤ 57
+  digit-high = leb-true d 57 (and-right (leb 48 d) (leb d 57) h)
+
+-- one digit more behind a number that is not 0
+digits-more : (places v d : ℕ) → digit d ≡ true → 0 < v → digitsIn (suc places) (10 * v + (d - 48)) ≡ digitsIn places v ++ (d ∷ [])
+unfolding digitsIn
+digits-more places v d h some =
+    let low = digit-low d h in
+    let high = digit-high d h in
+    let big : 10 ≤ 10 * v + (d - 48) = omega arith in
+    let front : (10 * v + (d - 48)) / 10 ≡ v = omega arith in
+    let last : 48 + (10 * v + (d - 48)) % 10 ≡ d = omega arith in
+    rw (le-ltb (10 * v + (d - 48)) 10 big, front, last)
+
+module _ (d : ℕ) (ds : List ℕ) (h : every digit (d ∷ ds) ≡ true) where
+  digit-first : digit d ≡ true
+  digit-first = every-head digit d ds h
+
+  digits-rest : every digit ds ≡ true
+  digits-rest = every-tail digit d ds h
+
+digits-behind : (places v : ℕ) (ds : List ℕ) → every digit ds ≡ true → 0 < v → digitsIn (length ds + places) (valueFrom v ds) ≡ digitsIn places v ++ ds
+unfolding valueFrom
+digits-behind places v [] h some = rw (zero-add places) (sym (append-nil (digitsIn places v)))
+digits-behind places v (d ∷ ds) h some =
+    let v′ = 10 * v + (d - 48) in
+    let more : suc (length ds) + places ≡ length ds + suc places = omega arith in
+    rw more (digits-behind (suc places) v′ ds (digits-rest d ds h) (omega arith))
+    ∙ ap (λ (l : List ℕ). l ++ ds) (digits-more places v d (digit-first d ds h) some)
+    ∙ append-assoc (digitsIn places v) (d ∷ []) ds
+
+-- so many digits are a number of so many places
+value-below : (places v : ℕ) (ds : List ℕ) → every digit ds ≡ true → v < 10 ^ places → valueFrom v ds < 10 ^ (length ds + places)
+unfolding valueFrom
+value-below places v [] h below = rw (zero-add places) below
+value-below places v (d ∷ ds) h below =
+    let high = digit-high d (digit-first d ds h) in
+    let more : suc (length ds) + places ≡ length ds + suc places = omega arith in
+    let next : 10 * v + (d - 48) < 10 ^ suc places = rw (pow-succ' 10 places) (omega arith) in
+    rw more (value-below (suc places) (10 * v + (d - 48)) ds (digits-rest d ds h) next)
+
+-- where there are places enough, it does not matter how many
+places-enough : (p q n : ℕ) → n < 10 ^ suc p → n < 10 ^ suc q → digitsIn (suc p) n ≡ digitsIn (suc q) n
+unfolding digitsIn
+places-enough zero zero n a b = refl
+places-enough zero (suc q) n a b = let small : n < 10 = a in rw (lt-ltb n 10 small)
+places-enough (suc p) zero n a b = let small : n < 10 = b in rw (lt-ltb n 10 small)
+places-enough (suc p) (suc q) n a b =
+    let a′ : n < 10 * 10 ^ suc p = rw (pow-succ' 10 (suc p)) at a in
+    let b′ : n < 10 * 10 ^ suc q = rw (pow-succ' 10 (suc q)) at b in
+    rw (places-enough p q (n / 10) (omega arith) (omega arith))
+
+one-digit : (places d : ℕ) → digit d ≡ true → digitsIn (suc places) (d - 48) ≡ d ∷ []
+unfolding digitsIn
+one-digit places d h =
+    let low = digit-low d h in
+    let high = digit-high d h in
+    let small : d - 48 < 10 = omega arith in
+    let back : 48 + (d - 48) ≡ d = omega arith in
+    rw (lt-ltb (d - 48) 10 small, back)
+
+pub record Decimal (field : List ℕ) : Type 0 where
+  pub digits : every digit field ≡ true
+  pub no-zero : (eqb (length field) 1 || not (eqb (getD field 0 0) 48)) ≡ true
+  pub fits : valueFrom 0 field ≤ 4294967295
+
+pub decimal-parts : (field : List ℕ) → isDecimal field ≡ true → Decimal field
+unfolding isDecimal
+decimal-parts field e =
+    let all = every digit field in
+    let some = ltb 0 (length field) in
+    let lead = eqb (length field) 1 || not (eqb (getD field 0 0) 48) in
+    let fit = leb (valueFrom 0 field) 4294967295 in
+    let e₁ = and-left (all && some && lead) fit e in
+    record {
+      digits = and-left all some (and-left (all && some) lead e₁);
+      no-zero = and-right (all && some) lead e₁;
+      fits = leb-true (valueFrom 0 field) 4294967295 (and-right (all && some && lead) fit e);
+    }
+
+value-first : (d : ℕ) (ds : List ℕ) → valueFrom 0 (d ∷ ds) ≡ valueFrom (d - 48) ds
+unfolding valueFrom
+value-first d ds = let v : 10 * 0 + (d - 48) ≡ d - 48 = omega arith in rw v
+
+value-none : (v : ℕ) → valueFrom v [] ≡ v
+unfolding valueFrom
+value-none v = refl
+
+pub decimal-back : (field : List ℕ) → isDecimal field ≡ true → decimal (valueFrom 0 field) ≡ field
+unfolding decimal
+decimal-back [] e = absurd (false≢true (unfold isDecimal every in e))
+decimal-back (d ∷ []) e = rw (value-first d [], value-none (d - 48)) (one-digit 9 d (digit-first d [] (decimal-parts (d ∷ []) e .digits)))
+decimal-back (d ∷ x ∷ ds) e =
+    let p = decimal-parts (d ∷ x ∷ ds) e in
+    let first = digit-first d (x ∷ ds) (p .digits) in
+    let low = digit-low d first in
+    let high = digit-high d first in
+    let leads : d ≡ 48 → ⊥ = λ z. false≢true (rw (ne-eqb (length (d ∷ x ∷ ds)) 1 (λ e. omega arith), z) at (p .no-zero)) in
+    let many : length (x ∷ ds) + 1 ≡ suc (suc (length ds)) = omega arith in
+    let below : valueFrom (d - 48) (x ∷ ds) < 10 ^ suc (suc (length ds)) = rw many at (value-below 1 (d - 48) (x ∷ ds) (digits-rest d (x ∷ ds) (p .digits)) (omega arith)) in
+    let fits : valueFrom (d - 48) (x ∷ ds) < 10 ^ 10 = omega (arith, p .fits, value-first d (x ∷ ds)) in
+    rw (value-first d (x ∷ ds))
+    (places-enough 9 (suc (length ds)) (valueFrom (d - 48) (x ∷ ds)) fits below
+    ∙ rw many at (digits-behind 1 (d - 48) (x ∷ ds) (digits-rest d (x ∷ ds) (p .digits)) (omega arith))
+    ∙ ap (λ (l : List ℕ). l ++ (x ∷ ds)) (one-digit 0 d first))

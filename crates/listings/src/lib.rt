@@ -1,0 +1,38 @@
+// What reading and moving a listing answer.
+
+// The numbers of a head line, and how many rows are listed.
+pub struct ListingHead {
+    pub columns: u32,
+    pub keys: u32,
+    pub sort: u32,
+    pub rule: u32,
+    pub generation: u32,
+    pub listed: u32,
+}
+
+pub enum ListingAnswer {
+    Refused(u32),
+    Listing(ListingHead),
+}
+
+// In the new form: `count` is the row count, the head's last number; at most so many rows are listed.
+pub struct NumberedHead {
+    pub columns: u32,
+    pub keys: u32,
+    pub sort: u32,
+    pub rule: u32,
+    pub generation: u32,
+    pub count: u32,
+    pub listed: u32,
+}
+
+pub enum NumberedAnswer {
+    Refused(u32),
+    Listing(NumberedHead),
+}
+
+// How many bytes were written.
+pub enum MoveAnswer {
+    Refused(u32),
+    Written(usize),
+}
