@@ -18,6 +18,11 @@ use offsets::SubsetAnswer;
 use offsets::SubsetHead;
 use offsets::is_well_formed;
 
+mod blocks; // blocks.rt: long lists of like length
+
+// Lists of at most so many ids are walked in step from end to end.
+const SHORT: usize = 16;
+
 // Writes the ids to the start of the output.
 fn write_ids(output: &mut [u32], ids: &[u32])
     requires { ⌜ length (now ids) ≤ length (now output) ⌝ }
@@ -119,13 +124,24 @@ fn are_alike(a: usize, b: usize) -> bool
     (a <= 16 && b <= 16) || (a / 4 <= b && b <= a * 4)
 }
 
+// Lists of like length, short or long.
+fn walk_alike(ids: &[u32], others: &[u32], output: &mut [u32]) -> usize
+    requires { ⌜ Fitting (now ids) (now output) × Searchable (now others) ⌝ }
+    ensures { λ r. ⌜ Wrote (now (output .entry)) (common (now (ids .entry)) (now (others .entry))) r (now (output .exit)) ⌝ }
+{
+    if ids.len() <= SHORT && others.len() <= SHORT {
+        return walk_in_step(ids, others, output);
+    }
+    blocks::walk_long(ids, others, output)
+}
+
 // The ids that both lists have: walked in step, or the longer one searched for those of the shorter one.
 fn keep_common(ids: &[u32], others: &[u32], output: &mut [u32]) -> usize
     requires { ⌜ Fitting (now ids) (now output) × Searchable (now others) ⌝ }
     ensures { λ r. ⌜ Wrote (now (output .entry)) (common (now (ids .entry)) (now (others .entry))) r (now (output .exit)) ⌝ }
 {
     if are_alike(ids.len(), others.len()) {
-        return walk_in_step(ids, others, output);
+        return walk_alike(ids, others, output);
     }
     if others.len() < ids.len() {
         return gallop_along(others, ids, output);
