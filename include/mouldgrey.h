@@ -455,6 +455,18 @@ uint32_t mouldgrey_from_numbered(const uint8_t *text, size_t text_len, uint8_t *
                                  size_t output_len, uint64_t *words, size_t words_len);
 
 /*
+ * Tests a laboratory's answers: whether the numbers given are, rising and each once, those of the
+ * rows of a listing in the new form that meet all conditions of a list; an empty list is met by every
+ * row. words, 2: 0 and 0 if they are; 1 and the place, from 0, of the first number that is not above
+ * the one before, if there is one; else 2 and the lowest row number wrongly present or absent. A
+ * number without a row counts as wrongly present. words_len must be 2, else 2. Refuses: 11; 6.
+ */
+uint32_t mouldgrey_check_answers(const uint8_t *text, size_t text_len,
+                                 const struct mouldgrey_constraint *conditions,
+                                 size_t conditions_len, const uint32_t *given, size_t given_len,
+                                 uint64_t *words, size_t words_len);
+
+/*
  * Lists, from the library exports_replay. A list of calls or of questions goes as words: for each a
  * kind, a count and so many words. What is no call or no question is passed over; one that is cut
  * off ends the list.

@@ -9,7 +9,7 @@
 use crate::header::HEADER_WORDS;
 use crate::{
     Constraint, Header, Left, LeftIn, ListingHead, Merge, Opening, Page, Refusal, Step, Stop,
-    SubsetRef, Version, Written, raw,
+    SubsetRef, Verdict, Version, Written, raw,
 };
 
 /// The words of a header to write to.
@@ -801,6 +801,33 @@ pub fn from_numbered(text: &[u8], output: &mut [u8]) -> Result<usize, Refusal> {
         )
     })?;
     Ok(words[0] as usize)
+}
+
+/// Whether the numbers given are, rising and each once, those of the rows of a listing in the new form that meet all conditions.
+/// Refused by 11 and 6.
+pub fn check_answers(
+    text: &[u8],
+    conditions: &[Constraint],
+    given: &[u32],
+) -> Result<Verdict, Refusal> {
+    let mut words = [0; 2];
+    verdict(unsafe {
+        raw::mouldgrey_check_answers(
+            text.as_ptr(),
+            text.len(),
+            conditions.as_ptr(),
+            conditions.len(),
+            given.as_ptr(),
+            given.len(),
+            words.as_mut_ptr(),
+            words.len(),
+        )
+    })?;
+    Ok(match words {
+        [0, _] => Verdict::Right,
+        [1, place] => Verdict::Misplaced(place as usize),
+        [_, number] => Verdict::Wrong(number as u32),
+    })
 }
 
 /// Makes an empty table of the stores and makes the calls on it, in order, also after one that is refused. They go as words, each

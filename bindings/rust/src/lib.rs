@@ -8,7 +8,7 @@
 //! - [`ShortHistories`] gives every sequence of at most six steps, in order; [`position_of`] and [`sequence_at`] lead from a
 //!   sequence to its position and back.
 //! - [`read_listing`] and [`read_numbered`] read a listing as text, without and with row numbers; [`to_numbered`] and
-//!   [`from_numbered`] lead from one form to the other.
+//!   [`from_numbered`] lead from one form to the other; [`check_answers`] tests a laboratory's answers about a listing.
 //! - [`raw`] has the C functions themselves.
 //!
 //! Calls that the library turns away answer a [`Refusal`] with the paper's number, and have changed nothing.
@@ -31,7 +31,10 @@ mod tests;
 mod vault;
 
 pub use header::{DEAD, Header, Lengths, Merge, Opening, Version};
-pub use listings::{Listing, ListingHead, from_numbered, read_listing, read_numbered, to_numbered};
+pub use listings::{
+    Listing, ListingHead, Verdict, check_answers, from_numbered, read_listing, read_numbered,
+    to_numbered,
+};
 pub use refusal::{Refusal, Stop};
 pub use short_histories::{LONGEST, ShortHistories, Step, position_of, sequence_at};
 pub use subset::{Constraint, Left, LeftIn, Page, Subset, SubsetRef, Written};

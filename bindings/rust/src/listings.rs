@@ -1,6 +1,6 @@
-//! Listings as text, over outputs that are long enough.
+//! Listings as text, over outputs that are long enough, and a laboratory's answers about them.
 
-use crate::{Refusal, lent};
+use crate::{Constraint, Refusal, lent};
 
 /// The numbers of a listing's head line, but for the row count of the new form.
 #[derive(Clone, Copy, Debug, PartialEq, Eq, Hash)]
@@ -20,6 +20,17 @@ pub struct Listing {
     pub count: u32,
     /// Numbers and cells, rising by number.
     pub rows: Vec<(u32, Vec<u32>)>,
+}
+
+/// What is said of the row numbers that a laboratory gives.
+#[derive(Clone, Copy, Debug, PartialEq, Eq, Hash)]
+pub enum Verdict {
+    /// They are, rising and each once, those of the rows that meet every condition.
+    Right,
+    /// They do not rise strictly: the number at this place, from 0, is the first that is not above the one before.
+    Misplaced(usize),
+    /// They rise, and this is the lowest row number wrongly present or absent. One without a row counts as wrongly present.
+    Wrong(u32),
 }
 
 /// Every number stands behind a comma, so that there are at most half as many as bytes.
@@ -62,4 +73,14 @@ pub fn from_numbered(text: &[u8]) -> Result<Vec<u8>, Refusal> {
     let bytes = lent::from_numbered(text, &mut output)?;
     output.truncate(bytes);
     Ok(output)
+}
+
+/// Tests the row numbers that a laboratory gives for the rows of a listing in the new form that meet every condition; no condition
+/// is met by every row. Refused by 11 and 6.
+pub fn check_answers(
+    text: &[u8],
+    conditions: &[Constraint],
+    given: &[u32],
+) -> Result<Verdict, Refusal> {
+    lent::check_answers(text, conditions, given)
 }

@@ -330,6 +330,16 @@ unsafe extern "C" {
         words: *mut u64,
         words_len: usize,
     ) -> u32;
+    pub fn mouldgrey_check_answers(
+        text: *const u8,
+        text_len: usize,
+        conditions: *const Constraint,
+        conditions_len: usize,
+        given: *const u32,
+        given_len: usize,
+        words: *mut u64,
+        words_len: usize,
+    ) -> u32;
     pub fn mouldgrey_replay(
         columns: u32,
         key_columns: u32,

@@ -495,6 +495,33 @@ fn listings_in_both_forms() {
     assert_eq!((&text[..old.len()], text[old.len()]), (&old[..], b'?'));
 }
 
+#[test]
+fn answers_of_a_laboratory() {
+    let text = b"U,3,1,2,0,4,7\nD,0,7,1,10\nD,2,7,2,11\nD,3,8,8,12\nD,6,9,4294967295,12\n";
+    let sevens = [Constraint::eq(0, 7)];
+    let check = |given: &[u32]| check_answers(text, &sevens, given);
+    assert_eq!(check(&[0, 2]), Ok(Verdict::Right));
+    assert_eq!(check(&[0]), Ok(Verdict::Wrong(2)));
+    assert_eq!(check(&[]), Ok(Verdict::Wrong(0)));
+    assert_eq!(check(&[0, 2, 3]), Ok(Verdict::Wrong(3)));
+    assert_eq!(check(&[0, 1, 2]), Ok(Verdict::Wrong(1)));
+    assert_eq!(check(&[0, 2, 7]), Ok(Verdict::Wrong(7)));
+    assert_eq!(check(&[0, 2, u32::MAX]), Ok(Verdict::Wrong(u32::MAX)));
+    assert_eq!(check(&[2, 0]), Ok(Verdict::Misplaced(1)));
+    assert_eq!(check(&[1, 5, 9, 9]), Ok(Verdict::Misplaced(3)));
+    let right = Ok(Verdict::Right);
+    assert_eq!(check_answers(text, &[], &[0, 2, 3, 6]), right);
+    let both = [Constraint::eq_columns(0, 1), Constraint::ge(2, 12)];
+    assert_eq!(check_answers(text, &both, &[3]), right);
+    assert_eq!(check_answers(b"U,3,1,2,0,4,7\n", &both, &[]), right);
+    let unknown = [sevens[0], Constraint::eq_columns(0, 3)];
+    let refused = Err(Refusal::NoSuchColumn);
+    assert_eq!(check_answers(text, &unknown, &[2, 0]), refused);
+    let old = b"T,3,1,2,0,4\nD,7,1,10\n";
+    let refused = Err(Refusal::NoListing);
+    assert_eq!(check_answers(old, &unknown, &[]), refused);
+}
+
 /// A kind, a count and so many words.
 fn item(words: &mut Vec<u32>, kind: u32, cells: &[u32]) {
     words.extend([kind, cells.len() as u32]);

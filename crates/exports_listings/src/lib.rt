@@ -6,7 +6,12 @@ ghost use mathlib.Core.List.{[], _∷_};
 ghost use lib.ListN.{length};
 ghost use Rattle.words.specs.Words.{Told, InWords};
 ghost use Rattle.listings.specs.Listings.{listingSays, numberedSays, ListingRead, ListingMoved};
-ghost use Rattle.exports_listings.specs.Words.{listingNumber, listingWords, numberedNumber, numberedWords, moveNumber, moveWords};
+ghost use Rattle.listing_answers.specs.Answers.{AnswersChecked};
+ghost use Rattle.exports_listings.specs.Words.{listingNumber, listingWords, numberedNumber, numberedWords, moveNumber, moveWords, verdictWords, checkNumber, checkWords};
+use constraints::Constraint;
+use listing_answers::CheckAnswer;
+use listing_answers::Verdict;
+use listing_answers::check_answers;
 use listings::ListingAnswer;
 use listings::ListingHead;
 use listings::MoveAnswer;
@@ -77,6 +82,48 @@ fn write_move(answer: MoveAnswer, words: &mut [u64]) -> u32
     }
 }
 
+fn write_pair(words: &mut [u64], first: u64, second: u64)
+    requires { ⌜ length (now words) ≡ 2 ⌝ }
+    ensures { λ _. ⌜ now (words .exit) ≡ first ∷ second ∷ [] ⌝ }
+{
+    words[0] = first;
+    words[1] = second;
+}
+
+fn write_verdict(verdict: Verdict, words: &mut [u64])
+    requires { ⌜ length (now words) ≡ 2 ⌝ }
+    ensures { λ _. ⌜ now (words .exit) ≡ verdictWords verdict ⌝ }
+{
+    match verdict {
+        Verdict::Right => write_pair(words, 0, 0),
+        Verdict::Misplaced(place) => write_pair(words, 1, place as u64),
+        Verdict::Wrong(number) => write_pair(words, 2, number as u64),
+    }
+}
+
+fn write_check(answer: CheckAnswer, words: &mut [u64]) -> u32
+    requires { ⌜ length (now words) ≡ 2 ⌝ }
+    ensures { λ r. ⌜ Told checkNumber (checkWords (now (words .entry))) answer r (now (words .exit)) ⌝ }
+{
+    match answer {
+        CheckAnswer::Refused(number) => number,
+        CheckAnswer::Checked(verdict) => {
+            write_verdict(verdict, words);
+            0
+        }
+    }
+}
+
+// This answer is told.
+fn tell_check(answer: CheckAnswer, words: &mut [u64]) -> u32
+    ensures { λ r. ⌜ InWords (λ a. a ≡ answer) (now (words .exit) ≡ now (words .entry)) checkNumber checkWords 2 (now (words .entry)) r (now (words .exit)) ⌝ }
+{
+    if words.len() != 2 {
+        return 2;
+    }
+    write_check(answer, words)
+}
+
 // Reads a listing in the old form. The words are the head's five numbers and how many rows were written.
 #[no_mangle]
 pub extern "C" fn mouldgrey_read_listing(text: &[u8], output: &mut [u32], words: &mut [u32]) -> u32
@@ -123,4 +170,20 @@ pub extern "C" fn mouldgrey_from_numbered(text: &[u8], output: &mut [u8], words:
     }
     let answer = listing_moves::from_numbered(text, output);
     write_move(answer, words)
+}
+
+// Tests a laboratory's answers. The words are the kind of the verdict, 0 right, 1 misplaced, 2 wrong, and the place or the number,
+// 0 where the numbers are right. A condition is a struct of three words, so a list of them is lent as it is, and this function is
+// proved by hand: it asks and tells.
+#[no_mangle]
+pub extern "C" fn mouldgrey_check_answers(
+    text: &[u8],
+    conditions: &[Constraint],
+    given: &[u32],
+    words: &mut [u64],
+) -> u32
+    ensures { λ r. ⌜ InWords (λ answer. AnswersChecked (now (text .entry)) (now (conditions .entry)) (now (given .entry)) answer) (now (words .exit) ≡ now (words .entry)) checkNumber checkWords 2 (now (words .entry)) r (now (words .exit)) ⌝ }
+{
+    let answer = check_answers(text, conditions, given);
+    tell_check(answer, words)
 }

@@ -9,8 +9,8 @@ use Rattle.sweeping.specs.inner.Sweeping.{SweepAnswered}
 use Rattle.sweeping.proofs.Question as QT
 use Rattle.sweeping.proofs.Sweep as ST
 use Rattle.walks.proofs.Again.{LentAgain, lends, gets-back}
-use Rattle.walks.proofs.Lent.{Lent, OwnOut, Ranged, Slices, Tokens₃, head-val, header-val, lifetimes, out-at, question-val, questions, shares, slice-val, slices-on, slices-twice, subset, sweep-lands, sweep-val, tokens-off, tokens-on}
-use Rattle.walks.proofs.Walking.{Asked, Cites, calls, own}
+use Rattle.walks.proofs.Lent.{Lent, OwnOut, Ranged, Slices, Tokens₃, head-val, header-val, lifetimes, out-at, question-val, questions, shares, slice-val, slices-on, slices-twice, subset, sweep-val, sweeps, tokens-off, tokens-on}
+use Rattle.walks.proofs.Walking.{Asked, Cites, calls, own, value-lands}
 use Rattle.walks.proofs.ask as ask
 use Rattle.walks.proofs.ask.Symbol.{name as #walks·ask}
 
@@ -51,7 +51,7 @@ module _ {M : Type 1} (𝓤 : URA M) (H : Heap 𝓤) (A : Atoms 𝓤) (mem : Mem
             calls ask.ended asking (to-ask κ q z) (λ s ws. Swept (now z) s (ws .1 .1 .1 .1 .1 .1 .0)) (λ s ws. id⊢ 𝓤 _) t fm known os (λ w s ws e.
             move t (2 ∷ []) $ fsplit t $ drop t $ fsplit t $ drop t $ fsplit t $ drop t $ fsplit t $ drop t $ fsplit t $ drop t $ fsplit t $ drop t $ fsplit t $ fsplit t $ move t (2 ∷ []) $ drop t $ move t (1 ∷ []) $ feqL t (λ l.
             -- [the last list; the tokens; the sweep; what is lent as `&`]
-            move t (2 ∷ []) $ sweep-lands t s w (λ is-s. move t (1 ∷ []) $ tokens-off p t $ move t (1 ∷ []) $ split t $ move t (1 ∷ []) $ drop t $ move t (1 ∷ 3 ∷ 0 ∷ []) $ k s (ws .1 .1 .1 .1 .1 .1 .0) e l is-s)))
+            move t (2 ∷ []) $ value-lands t sweeps s w (λ is-s. move t (1 ∷ []) $ tokens-off p t $ move t (1 ∷ []) $ split t $ move t (1 ∷ []) $ drop t $ move t (1 ∷ 3 ∷ 0 ∷ []) $ k s (ws .1 .1 .1 .1 .1 .1 .0) e l is-s)))
 
       module _ {K : Type 0} {Γ : List (Item 𝓤)} {E : Env 𝓤 H} {C : Calls 𝓤 H} {Λ : Loops 𝓤 H} {post : Post 𝓤 H} {d : Place} {xs : List Operand} {rest : Body} where
         pub asked : K → FmC 𝓤 H (W .laws) C → CitesAsk C → (κ : Lft) (q : Share) (γ : GName) (b o : ℕ) (os : List ℕ) → Room u32 (length os)

@@ -1,7 +1,7 @@
 -- What a question is lent and passes on: a table's header and rows, a subset's head and ids, and conditions; and the output, that comes and goes. Their
 -- machine values, what owning them is, and the steps by which a walk makes what a call is asked of them. Assumes `Given`.
-use Rattle.walks.proofs.Prelude.{refl, ap, subst, ℕ, _<_, _^_, List, [], _∷_, length, URA, Body, Place, named, w64, Val, vint, Lft, Share, GName, Fml, fsep, flft, Heap, Calls, Env, Loops, Atoms, Given, Goal}
-use Rattle.walks.proofs.Prelude.{Item, Post, Seq, Step, lands, regoal, settles, step, ‵, _⊛_, _$_, move, drop, split, join, fsplit, fjoin, u32, Is, shows, uint-makes, RefT, now, sliceVal, ShrSlice, MutSlice, Room, facts, only}
+use Rattle.walks.proofs.Prelude.{refl, ℕ, _<_, _^_, List, [], _∷_, length, URA, named, w64, Val, vint, Lft, Share, GName, Fml, fsep, flft, Heap, Atoms, Given, Goal}
+use Rattle.walks.proofs.Prelude.{Item, Step, step, ‵, _⊛_, _$_, move, drop, split, join, fsplit, fjoin, u32, Is, uint-makes, RefT, now, sliceVal, ShrSlice, MutSlice, Room}
 use package.mir.Syntax.{Width}
 use package.mir.Val.{Fits}
 use denote.Plain.{UInt, uint-lawful, uint-tells}
@@ -26,23 +26,23 @@ use Rattle.sweeping.proofs.Question as QT
 use Rattle.sweeping.proofs.Question.Laws as QT′
 use Rattle.sweeping.proofs.Test as TT
 use Rattle.sweeping.proofs.Test.Laws as TT′
-use Rattle.walks.proofs.Walking.{Value, own, twice}
+use Rattle.walks.proofs.Walking.{Value, enum-value, own, struct-value, twice}
 
 -- the types of plain values that are passed
 abbrev pub headers : Value
-headers = record { row = HT.the-row; val = LL.val HT.the-type HT′.the-laws; tells = LL.tells HT.the-type HT′.the-laws; silent = λ x f. refl; makes = λ 𝓤 H A W. LL.makes HT.the-type HT′.the-plain 𝓤 H A; lawful = λ 𝓤 H A W. LL.lawful HT.the-type HT′.the-laws 𝓤 H A W }
+headers = struct-value HT.the-type HT′.the-laws HT′.the-plain (λ x f. refl)
 
 abbrev pub heads : Value
-heads = record { row = DT.the-row; val = LL.val DT.the-type DT′.the-laws; tells = LL.tells DT.the-type DT′.the-laws; silent = λ x f. refl; makes = λ 𝓤 H A W. LL.makes DT.the-type DT′.the-plain 𝓤 H A; lawful = λ 𝓤 H A W. LL.lawful DT.the-type DT′.the-laws 𝓤 H A W }
+heads = struct-value DT.the-type DT′.the-laws DT′.the-plain (λ x f. refl)
 
 abbrev pub sweeps : Value
-sweeps = record { row = ST.the-row; val = LL.val ST.the-type ST′.the-laws; tells = LL.tells ST.the-type ST′.the-laws; silent = λ x f. refl; makes = λ 𝓤 H A W. LL.makes ST.the-type ST′.the-plain 𝓤 H A; lawful = λ 𝓤 H A W. LL.lawful ST.the-type ST′.the-laws 𝓤 H A W }
+sweeps = struct-value ST.the-type ST′.the-laws ST′.the-plain (λ x f. refl)
 
 abbrev pub questions : Value
-questions = record { row = QT.the-row; val = EL.val QT.the-type QT′.the-laws; tells = EL.tells QT.the-type QT′.the-laws; silent = λ x f. refl; makes = λ 𝓤 H A W. EL.makes QT.the-type QT′.the-plain 𝓤 H A; lawful = λ 𝓤 H A W. EL.lawful QT.the-type QT′.the-laws 𝓤 H A W tt }
+questions = enum-value QT.the-type QT′.the-laws QT′.the-plain tt (λ x f. refl)
 
 abbrev pub tests : Value
-tests = record { row = TT.the-row; val = EL.val TT.the-type TT′.the-laws; tells = EL.tells TT.the-type TT′.the-laws; silent = λ x f. refl; makes = λ 𝓤 H A W. EL.makes TT.the-type TT′.the-plain 𝓤 H A; lawful = λ 𝓤 H A W. EL.lawful TT.the-type TT′.the-laws 𝓤 H A W tt }
+tests = enum-value TT.the-type TT′.the-laws TT′.the-plain tt (λ x f. refl)
 
 abbrev pub numbers : Width → Value
 numbers w = record { row = UInt w; val = vint w; tells = uint-tells w; silent = λ x f. refl; makes = λ 𝓤 H A W. uint-makes 𝓤 H A W w; lawful = λ 𝓤 H A W. uint-lawful 𝓤 H A W w }
@@ -162,14 +162,3 @@ OwnOut κ z v = MutSlice (named 3) κ u32 .own z (v ∷ [])
 -- a slice's machine value is one of its type
 abbrev pub fits : {n : ℕ} → n < 2 ^ 64 → Unit {0} × (Unit {0} × (Fits w64 n × Unit {0}))
 fits l = (tt, (tt, (record { fits = l }, tt)))
-
--- a sweep that a call answers: its machine value is known, and it is in range
-module _ {M : Type 1} {𝓤 : URA M} {H : Heap 𝓤} {A : Atoms 𝓤} {K : Type 0} {W : Given 𝓤 H A} {Γ : List (Item 𝓤)} where
-  answered : K → (s : Sweep) (w : Val) (F : Val → Goal 𝓤 H) → (Is ST.the-row s (sweep-val s ∷ []) → Seq K W Γ (F (sweep-val s))) → Seq K W (‵ (ST.the-row .own s (w ∷ [])) ∷ Γ) (F w)
-  answered t s w F k = facts t ST.the-row (Is ST.the-row) (shows 𝓤 H A ST.the-row) s (w ∷ []) (λ is. let tells = LL.tells ST.the-type ST′.the-laws s _ is in regoal t F (ap only tells) refl $ k (subst (Is ST.the-row s) tells is))
-
-  pub sweep-lands : {C : Calls 𝓤 H} {Λ : Loops 𝓤 H} {E : Env 𝓤 H} {d : Place} {rest : Body} {q : Post 𝓤 H} → K → (s : Sweep) (w : Val) → (Is ST.the-row s (sweep-val s ∷ []) → Seq K W Γ (lands C Λ E d (sweep-val s) rest q)) → Seq K W (‵ (ST.the-row .own s (w ∷ [])) ∷ Γ) (lands C Λ E d w rest q)
-  sweep-lands {C = C} {Λ = Λ} {E = E} {d = d} {rest = rest} {q = q} t s w k = answered t s w (λ (u : Val). lands C Λ E d u rest q) k
-
-  pub sweep-settles : {E : Env 𝓤 H} {d : Place} {q : Post 𝓤 H} → K → (s : Sweep) (w : Val) → (Is ST.the-row s (sweep-val s ∷ []) → Seq K W Γ (settles E d (sweep-val s) q)) → Seq K W (‵ (ST.the-row .own s (w ∷ [])) ∷ Γ) (settles E d w q)
-  sweep-settles {E = E} {d = d} {q = q} t s w k = answered t s w (λ (u : Val). settles E d u q) k

@@ -1,5 +1,6 @@
 pub mod Again
 pub mod Lent
+pub mod LentArray
 pub mod Prelude
 pub mod WalkSteps
 pub mod Walking

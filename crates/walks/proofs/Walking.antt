@@ -7,12 +7,13 @@
 --     bool-lands             a call's result that is known to be a truth value lands
 --     calls, calls-last      a call: what it is asked stands at the head of the context; then come its tokens, its result and the last values of what it was
 --                            lent, and what its contract says is learned
---     Value, typed, own      types of plain values: their machine values are of their types, and owned for nothing
+--     Value, typed, own      types of plain values: their machine values are of their types, and owned for nothing. By kind: struct-value, enum-value
+--     value-lands, value-settles    one that a call answers lands: its machine value is known, and it is in range
 --     Passed s k             all that a walk is to know of a parameter: what is had of it at exit, and its machine values.
 --                            By kind: by-value, lent-slice, kept-slice, given-slice
 --     walk-runs              from the walk of a function's MIR to its theorem
 -- Assumes `Given`.
-use Rattle.walks.proofs.Prelude.{_≡_, refl, ap, _∙_, ℕ, Bool, List, [], _∷_, URA, fullShare, Body, Place, Ty, Operand, call, seq, Val, vbool, SProp, ent, id⊢, Lft, Share, ftrue, flft, fat, froom, fdies, Heap, Calls, Env, Loops, WpFn, Atoms, Fun, givenOf, tables, tablesOf, Given, Goal}
+use Rattle.walks.proofs.Prelude.{_≡_, refl, ap, subst, _∙_, ℕ, Bool, List, [], _∷_, URA, fullShare, Body, Place, Ty, Operand, call, seq, Val, vbool, SProp, ent, id⊢, Lft, Share, ftrue, flft, fat, froom, fdies, Heap, Calls, Env, Loops, WpFn, Atoms, Fun, givenOf, tables, tablesOf, Given, Goal}
 use Rattle.walks.proofs.Prelude.{Item, Post, Seq, Step, lands, regoal, runs, settles, step, ‵, raw, _⊛_, some, later, _$_, move, use1, split, pick, await, Opds, look, stop, from, load, and-then, FmC, bool, yes, Is, shows, RattleType, RefT, plain, ShrSlice, facts, owned, only, Clauses, onEntry}
 use Prim.Native.Nat.{zero, suc}
 use mir.Syntax.{Fn, Lifetime, Local, local, place, copy}
@@ -31,6 +32,12 @@ use denote.Laws.{Are, Ises, Lawful, Makes, Spells, Tells, Tellss, Typed, valss}
 use denote.Signature.{Slot, AllWithin, meetAt, mutSliceOf, nameOf, shrSliceOf, typeAt, typesAt}
 use denote.Slice.{slice-vals, shr-slice-copy, shr-slice-tells, mut-slice-tells}
 use denote.Steps.{heard}
+use denote.Struct.Declared as SD
+use denote.Struct.Laws as LL
+use denote.Struct.Struct.{Plains}
+use denote.Enum.Declared as ED
+use denote.Enum.Enum.{Few, Plainss}
+use denote.Enum.Laws as EL
 use denote.Triple.Call.{calls-at, calls-at-last}
 use denote.Triple.Clauses.{Ended, Lasts, atExit, lasts, closing}
 use denote.Triple.End.{Kepts}
@@ -121,11 +128,31 @@ pub record Value : Type 3 where
   pub makes : {M : Type 1} (𝓤 : URA M) (H : Heap 𝓤) (A : Atoms 𝓤) → Given 𝓤 H A → Makes 𝓤 H A row (Is row)
   pub lawful : {M : Type 1} (𝓤 : URA M) (H : Heap 𝓤) (A : Atoms 𝓤) → Given 𝓤 H A → Lawful 𝓤 H A row
 
+-- of a struct and of an enum of plain values
+abbrev Silent : RattleType → Type 1
+Silent R = (x : R .Denot) (f : Last (R .exit yes) x) → left (R .exit yes) x f ≡ ftrue
+
+abbrev pub struct-value : (D : SD.Declared) (L : LL.Laws D) → Plains (SD.fields D) → Silent (SD.row D) → Value
+struct-value D L P silent = record { row = SD.row D; val = LL.val D L; tells = LL.tells D L; silent = silent; makes = λ 𝓤 H A W. LL.makes D P 𝓤 H A; lawful = λ 𝓤 H A W. LL.lawful D L 𝓤 H A W }
+
+abbrev pub enum-value : (D : ED.Declared) (L : EL.Laws D) → Plainss (ED.variants D) → Few (ED.shape D) → Silent (ED.row D) → Value
+enum-value D L P few silent = record { row = ED.row D; val = EL.val D L; tells = EL.tells D L; silent = silent; makes = λ 𝓤 H A W. EL.makes D P 𝓤 H A; lawful = λ 𝓤 H A W. EL.lawful D L 𝓤 H A W few }
+
 pub typed : {M : Type 1} {𝓤 : URA M} {H : Heap 𝓤} {A : Atoms 𝓤} (W : Given 𝓤 H A) (S : Value) (x : S .row .Denot) → Is (S .row) x (S .val x ∷ []) → Typed (S .row .mir) (S .val x ∷ [])
 typed {𝓤 = 𝓤} {H = H} {A = A} W S x is = S .lawful 𝓤 H A W .typed x (S .val x ∷ []) is
 
 pub own : {M : Type 1} {𝓤 : URA M} {H : Heap 𝓤} {A : Atoms 𝓤} {K : Type 0} {W : Given 𝓤 H A} {Γ : List (Item 𝓤)} {G : Goal 𝓤 H} → K → (S : Value) (x : S .row .Denot) → Is (S .row) x (S .val x ∷ []) → Step K W (‵ (S .row .own x (S .val x ∷ [])) ∷ Γ) G Γ G
 own {𝓤 = 𝓤} {H = H} {A = A} {W = W} t S x is = owned t (S .row) (Is (S .row)) (S .makes 𝓤 H A W) x (S .val x ∷ []) is
+
+module _ {M : Type 1} {𝓤 : URA M} {H : Heap 𝓤} {A : Atoms 𝓤} {K : Type 0} {W : Given 𝓤 H A} {Γ : List (Item 𝓤)} where
+  answered : K → (S : Value) (x : S .row .Denot) (w : Val) (F : Val → Goal 𝓤 H) → (Is (S .row) x (S .val x ∷ []) → Seq K W Γ (F (S .val x))) → Seq K W (‵ (S .row .own x (w ∷ [])) ∷ Γ) (F w)
+  answered t S x w F k = facts t (S .row) (Is (S .row)) (shows 𝓤 H A (S .row)) x (w ∷ []) (λ is. let tells = S .tells x _ is in regoal t F (ap only tells) refl $ k (subst (Is (S .row) x) tells is))
+
+  pub value-lands : {C : Calls 𝓤 H} {Λ : Loops 𝓤 H} {E : Env 𝓤 H} {d : Place} {rest : Body} {q : Post 𝓤 H} → K → (S : Value) (x : S .row .Denot) (w : Val) → (Is (S .row) x (S .val x ∷ []) → Seq K W Γ (lands C Λ E d (S .val x) rest q)) → Seq K W (‵ (S .row .own x (w ∷ [])) ∷ Γ) (lands C Λ E d w rest q)
+  value-lands {C = C} {Λ = Λ} {E = E} {d = d} {rest = rest} {q = q} t S x w k = answered t S x w (λ (u : Val). lands C Λ E d u rest q) k
+
+  pub value-settles : {E : Env 𝓤 H} {d : Place} {q : Post 𝓤 H} → K → (S : Value) (x : S .row .Denot) (w : Val) → (Is (S .row) x (S .val x ∷ []) → Seq K W Γ (settles E d (S .val x) q)) → Seq K W (‵ (S .row .own x (w ∷ [])) ∷ Γ) (settles E d w q)
+  value-settles {E = E} {d = d} {q = q} t S x w k = answered t S x w (λ (u : Val). settles E d u q) k
 
 module _ {n : ℕ} where
   pub record Passed (s : Slot n) (k : Kept) : Type 3 where

@@ -296,7 +296,7 @@ impl Session {
     }
 
     /// Conditions as they are passed, three words each, between shut pages.
-    fn conditions(&mut self, rng: &mut Rng, conditions: &[Condition]) -> Constraints {
+    pub fn conditions(&mut self, rng: &mut Rng, conditions: &[Condition]) -> Constraints {
         let words: Vec<u32> = conditions.iter().flat_map(|c| [c.kind, c.a, c.b]).collect();
         let (at, _) = self.read(rng, Slot::Conditions, &words);
         (at.cast(), conditions.len())

@@ -2,6 +2,7 @@
 //! and conditions, and sound tables with single words changed. Every lent store lies between two pages that may not be touched.
 
 mod acts;
+mod answers;
 mod columns;
 mod giant;
 mod image;

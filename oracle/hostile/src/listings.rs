@@ -18,7 +18,10 @@ fn listing(rng: &mut Rng, form: Form) -> Listing {
         rng.number(),
     ];
     let count = rng.below(12);
-    let gap = rng.below(2) * rng.below(count + 1);
+    let gap = match rng.percent(50) {
+        true => rng.below(count + 1),
+        false => count,
+    };
     let mut rows = Vec::new();
     for number in 0..count {
         let mut row: Vec<u32> = (0..columns).map(|_| rng.number()).collect();
@@ -29,13 +32,13 @@ fn listing(rng: &mut Rng, form: Form) -> Listing {
         rows.push(row);
     }
     if form == Form::New {
-        head.push(count + rng.pick(&[0, 0, 1]));
+        head.push(count + u32::from(gap + 1 < count) + rng.pick(&[0, 0, 1]));
     }
     Listing { head, rows }
 }
 
 /// A listing's text, mostly, some bytes of it changed in half of the cases; or any bytes.
-fn text(rng: &mut Rng, form: Form) -> Vec<u8> {
+pub fn text(rng: &mut Rng, form: Form) -> Vec<u8> {
     let bytes = b"0123456789,,,\n\nDTU\r ";
     if rng.below(12) == 0 {
         let length = rng.below(300);
@@ -66,11 +69,18 @@ fn length(rng: &mut Rng, written: usize) -> usize {
 }
 
 /// How many words are lent for an answer of so many.
-fn words(rng: &mut Rng, count: usize) -> usize {
+pub fn words(rng: &mut Rng, count: usize) -> usize {
     match rng.below(30) {
         0 => rng.place(9),
         _ => count,
     }
+}
+
+/// Words of 64 bits, each as two.
+pub fn halves(words: &[u64]) -> Vec<u32> {
+    let bytes: Vec<u8> = words.iter().flat_map(|word| word.to_ne_bytes()).collect();
+    let halves = bytes.chunks(4).map(|four| four.try_into().expect("four"));
+    halves.map(u32::from_ne_bytes).collect()
 }
 
 pub fn calls(session: &mut Session, rng: &mut Rng) -> Result<(), String> {
@@ -161,9 +171,7 @@ fn moved(session: &mut Session, rng: &mut Rng, form: Form, text: &[u8]) -> Resul
     let mut told = words;
     if let Ok(text) = must {
         left[..text.len()].copy_from_slice(&text);
-        let length = (text.len() as u64).to_ne_bytes();
-        let halves = length.chunks(4).map(|four| four.try_into().expect("four"));
-        told = halves.map(u32::from_ne_bytes).collect();
+        told = halves(&[text.len() as u64]);
     }
     let is_told = session.left(Slot::Words) == Some(&told);
     if given != expected || !is_told || session.left_bytes(Slot::Output) != Some(left) {

@@ -7,7 +7,7 @@ use std::collections::BTreeMap;
 /// not fit".
 type Kind = (&'static str, &'static [usize]);
 
-pub const SHIPPED: [Kind; 33] = [
+pub const SHIPPED: [Kind; 34] = [
     ("mouldgrey_open_table", &[1, 2]),
     ("mouldgrey_stage_insert", &[1, 3, 7]),
     ("mouldgrey_stage_remove", &[1, 3, 7]),
@@ -39,6 +39,7 @@ pub const SHIPPED: [Kind; 33] = [
     ("mouldgrey_read_numbered", &[2, 11]),
     ("mouldgrey_to_numbered", &[2, 11]),
     ("mouldgrey_from_numbered", &[2, 11, 17]),
+    ("mouldgrey_check_answers", &[2, 6, 11]),
     ("mouldgrey_replay", &[1, 2]),
     ("mouldgrey_ask", &[1, 2]),
 ];

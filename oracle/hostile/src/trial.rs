@@ -1,6 +1,7 @@
 //! Trials: each has a seed of its own, makes a table or a heap of words, and calls the functions on it.
 
 use crate::acts::{Act, act, crowded_keys, good_opening, staging};
+use crate::answers;
 use crate::columns;
 use crate::image::{Image, hostile_number};
 use crate::listings;
@@ -31,7 +32,7 @@ pub fn trial(session: &mut Session, seed: u64) -> Result<(), String> {
     if rng.below(3_000) == 0 {
         return large(session, rng);
     }
-    match rng.below(25) {
+    match rng.below(26) {
         0..=10 => one_word(session, rng),
         11..=13 => many_words(session, rng),
         14..=16 => garbage(session, rng),
@@ -40,6 +41,7 @@ pub fn trial(session: &mut Session, seed: u64) -> Result<(), String> {
         19 | 20 => lists::calls(session, rng),
         21 => sequences::calls(session, rng),
         22 => listings::calls(session, rng),
+        23 => answers::calls(session, rng),
         _ => parts::calls(session, rng),
     }
 }

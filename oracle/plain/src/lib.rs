@@ -1,6 +1,7 @@
 //! The second judge: the paper's plain table and its operations, written from the paper alone, with the stores that the paper
 //! gives every cell of. It is simple on purpose, so that it can be read beside the paper; words in quotes are the paper's.
 
+pub mod answers;
 mod columns;
 mod layout;
 pub mod listings;

@@ -132,22 +132,27 @@ impl Plain {
 
     /// "The empty list is met by every live row; a dead row meets none."
     fn matching(&self, ids: &[u32], conditions: &[Condition]) -> Vec<u32> {
-        let is_kept = |id: u32| self.is_live(id) && conditions.iter().all(|c| self.meets(id, c));
+        let is_kept = |id: u32| self.is_live(id) && meets_all(self.cells(id), conditions);
         ids.iter().copied().filter(|&id| is_kept(id)).collect()
     }
+}
 
-    /// "Kind 0: two columns equal. Kinds 1 to 5 compare a column with a value: equal, less, greater, at most, at
-    /// least, unsigned."
-    fn meets(&self, id: u32, condition: &Condition) -> bool {
-        let cell = self.cells(id)[condition.a as usize];
-        let value = condition.b;
-        match condition.kind {
-            0 => cell == self.cells(id)[condition.b as usize],
-            1 => cell == value,
-            2 => cell < value,
-            3 => cell > value,
-            4 => cell <= value,
-            _ => cell >= value,
-        }
+/// Whether a live row's cells meet every condition.
+pub(crate) fn meets_all(cells: &[u32], conditions: &[Condition]) -> bool {
+    conditions.iter().all(|condition| meets(cells, condition))
+}
+
+/// "Kind 0: two columns equal. Kinds 1 to 5 compare a column with a value: equal, less, greater, at most, at
+/// least, unsigned."
+fn meets(cells: &[u32], condition: &Condition) -> bool {
+    let cell = cells[condition.a as usize];
+    let value = condition.b;
+    match condition.kind {
+        0 => cell == cells[condition.b as usize],
+        1 => cell == value,
+        2 => cell < value,
+        3 => cell > value,
+        4 => cell <= value,
+        _ => cell >= value,
     }
 }

@@ -78,7 +78,7 @@ pub fn test_question(h: &Header, lent: &Lengths, question: &Question) -> Result<
         Question::FastRange(condition) => {
             test_header(h)?;
             test_entries(&h.opening(), lent)?;
-            test_condition(h, condition)
+            test_condition(h.columns, condition)
         }
         // *Version*: 1.
         Question::Version => test_header(h),
@@ -108,7 +108,7 @@ pub fn test_question(h: &Header, lent: &Lengths, question: &Question) -> Result<
             output,
         } => {
             test_subset(h, lent, subset)?;
-            test_condition(h, condition)?;
+            test_condition(h.columns, condition)?;
             refuse(2, *output < size(subset))
         }
         // *Refine by a list*: the same.
@@ -118,13 +118,13 @@ pub fn test_question(h: &Header, lent: &Lengths, question: &Question) -> Result<
             output,
         } => {
             test_subset(h, lent, subset)?;
-            test_conditions(h, conditions)?;
+            test_conditions(h.columns, conditions)?;
             refuse(2, *output < size(subset))
         }
         // *Any match*: 1, 2, 4, 5, 6.
         Question::AnyMatch { subset, conditions } => {
             test_subset(h, lent, subset)?;
-            test_conditions(h, conditions)
+            test_conditions(h.columns, conditions)
         }
         // *Page*: 1, 2, 4, "5 (also start place above the subset's size)", 6, "2 again, output shorter than the smaller of
         // n and what remains".
@@ -138,7 +138,7 @@ pub fn test_question(h: &Header, lent: &Lengths, question: &Question) -> Result<
             test_subset(h, lent, subset)?;
             let (start, n) = (*start as usize, *n as usize);
             refuse(5, start > size(subset))?;
-            test_conditions(h, conditions)?;
+            test_conditions(h.columns, conditions)?;
             refuse(2, *output < n.min(size(subset) - start))
         }
         // *Intersect*: "4 for either; 2".
@@ -260,13 +260,13 @@ fn test_subset(h: &Header, lent: &Lengths, subset: &Subset) -> Result<(), u32> {
 }
 
 /// Test 6 on a condition: a kind above 5 or a column that does not exist. Kind 0 names two columns.
-fn test_condition(h: &Header, condition: &Condition) -> Result<(), u32> {
+fn test_condition(columns: u32, condition: &Condition) -> Result<(), u32> {
     refuse(6, condition.kind > 5)?;
-    refuse(6, condition.a >= h.columns)?;
-    refuse(6, condition.kind == 0 && condition.b >= h.columns)
+    refuse(6, condition.a >= columns)?;
+    refuse(6, condition.kind == 0 && condition.b >= columns)
 }
 
-fn test_conditions(h: &Header, conditions: &[Condition]) -> Result<(), u32> {
-    let test = |condition| test_condition(h, condition);
+pub(crate) fn test_conditions(columns: u32, conditions: &[Condition]) -> Result<(), u32> {
+    let test = |condition| test_condition(columns, condition);
     conditions.iter().try_for_each(test)
 }

@@ -1,6 +1,7 @@
 //! The proved library beside the Rust, function by function, and beside the judge where the Rust has no such function. Each
 //! part answers what it compared, or the first difference.
 
+mod answers;
 mod cells;
 mod columns;
 mod keys;
@@ -25,5 +26,6 @@ pub fn compare() -> Result<Vec<String>, String> {
         columns::compare()?,
         sequences::compare()?,
         listings::compare()?,
+        answers::compare()?,
     ])
 }

@@ -14,7 +14,7 @@ const LEAST: u64 = 1_000;
 const LISTINGS: u64 = 6_000;
 
 /// The most rows that a listing may have.
-const MOST: usize = 65_536;
+pub(crate) const MOST: usize = 65_536;
 
 const FORMS: [Form; 2] = [Form::Old, Form::New];
 
@@ -29,7 +29,7 @@ fn other(form: Form) -> Form {
 const EDGES: [u32; 10] = [0, 1, 3, 4, 8, 9, 65_535, 65_536, 65_537, u32::MAX];
 
 /// A listing of so many rows, its numbers with gaps or without.
-fn listing(chance: &mut Rng, form: Form, count: usize) -> Listing {
+pub(crate) fn listing(chance: &mut Rng, form: Form, count: usize) -> Listing {
     let columns = chance.within(1, 8);
     let keys = chance.within(1, columns);
     let mut head = vec![columns, keys, chance.below(columns), chance.below(4)];
@@ -54,7 +54,7 @@ fn listing(chance: &mut Rng, form: Form, count: usize) -> Listing {
 }
 
 /// One number changed, left out or put in, or one row again.
-fn disturb(chance: &mut Rng, listing: &mut Listing) {
+pub(crate) fn disturb(chance: &mut Rng, listing: &mut Listing) {
     let place = chance.place(listing.rows.len());
     let again = listing.rows.get(place).cloned();
     let line = match chance.percent(50) {
@@ -79,7 +79,7 @@ fn behind_comma(chance: &mut Rng, text: &[u8]) -> usize {
 }
 
 /// Bytes changed.
-fn spoil(chance: &mut Rng, text: &mut Vec<u8>) {
+pub(crate) fn spoil(chance: &mut Rng, text: &mut Vec<u8>) {
     let at = chance.place(text.len());
     let byte = chance.pick(b",,0019\n\r DTUdu+-\0\xff");
     match chance.below(8) {
@@ -225,7 +225,7 @@ fn lengths(chance: &mut Rng, written: usize) -> [usize; 4] {
 }
 
 /// The first bytes of a text.
-fn shown(text: &[u8]) -> String {
+pub(crate) fn shown(text: &[u8]) -> String {
     let first = &text[..text.len().min(400)];
     format!("{:?}, {} bytes", String::from_utf8_lossy(first), text.len())
 }

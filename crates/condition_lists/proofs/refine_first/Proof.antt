@@ -30,8 +30,8 @@ use Rattle.questions.proofs.refine_ref as ask
 use Rattle.questions.proofs.refine_ref.Symbol as ask-def
 use Rattle.questions.proofs.refine_ref.Symbol.{name as #questions·refine-ref}
 use Rattle.questions.proofs.refine_ref.Met as ask-thm
-use Rattle.condition_lists.proofs.LentArray.{Kept, lends-front, front-back}
-use Rattle.condition_lists.proofs.LentArray.{Lent as LentFront}
+use Rattle.walks.proofs.LentArray.{Kept, lends-front, front-back}
+use Rattle.walks.proofs.LentArray.{Lent as LentFront}
 use Rattle.condition_lists.proofs.refine_first.Key.{name as #condition-lists·refine-first}
 use Rattle.condition_lists.proofs.refine_first as f
 use Rattle.condition_lists.proofs.refine_first.Statement as stated

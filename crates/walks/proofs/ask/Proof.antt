@@ -24,9 +24,9 @@ use Rattle.sweeping.proofs.Sweep.Laws as ST′
 use Rattle.sweeping.proofs.Test as TT
 use Rattle.sweeping.proofs.Test.Laws as TT′
 use Rattle.walks.proofs.Again.{lends, gets-back}
-use Rattle.walks.proofs.Lent.{Lent, OwnConditions, OwnIds, OwnOut, OwnRows, Owns, Ranged, Rooms, Slices, Tokens₃, apart, fits, head-val, header-val, headers, heads, lent-of, lifetimes, numbers, out-at, owns-on, question-val, questions, shares, slice-val, slices-off, slices-on, subset, sweep-lands, sweep-settles, sweep-val, sweeps, test-val, tests, together, tokens-off, tokens-on}
+use Rattle.walks.proofs.Lent.{Lent, OwnConditions, OwnIds, OwnOut, OwnRows, Owns, Ranged, Rooms, Slices, Tokens₃, apart, fits, head-val, header-val, headers, heads, lent-of, lifetimes, numbers, out-at, owns-on, question-val, questions, shares, slice-val, slices-off, slices-on, subset, sweep-val, sweeps, test-val, tests, together, tokens-off, tokens-on}
 use Rattle.walks.proofs.WalkSteps.{Fewer, all-known, fewer-wf, row-matches}
-use Rattle.walks.proofs.Walking.{AllPassed, Asked, Cell, Cells, Cites, Tokens, Walked, arg, bool-lands, by-value, calls, calls-last, empty, env-of, holds, kept-slice, lent-slice, own, stays, typed, walk-runs}
+use Rattle.walks.proofs.Walking.{AllPassed, Asked, Cell, Cells, Cites, Tokens, Walked, arg, bool-lands, by-value, calls, calls-last, empty, env-of, holds, kept-slice, lent-slice, own, stays, typed, value-lands, value-settles, walk-runs}
 use Rattle.walks.proofs.all_pass as all
 use Rattle.walks.proofs.all_pass.Symbol as all-def
 use Rattle.walks.proofs.all_pass.Symbol.{name as #walks·all-pass}
@@ -201,7 +201,7 @@ module _ {M : Type 1} (𝓤 : URA M) (H : Heap 𝓤) (A : Atoms 𝓤) (W : Given
               calls-last stp.ended stepping (to-step ν δ s zs) (λ r ws. SweepSteps (p .header) rows (subset p) s (hit s) zs r (ws .1 .1 .1 .1 .1 .1 .0)) (λ r ws. id⊢ 𝓤 _) ! (fmOf 𝓤 H (W .laws) 𝓣) known-step
               (arg ! 34 refl (arg ! 32 refl (arg ! 30 refl (arg ! 28 refl (arg ! 20 refl (arg ! 18 refl (arg ! 4 refl (no-more !)))))))) (λ w r ws e.
               move ! (2 ∷ []) $ fsplit ! $ drop ! $ fsplit ! $ drop ! $ fsplit ! $ drop ! $ fsplit ! $ drop ! $ fsplit ! $ drop ! $ fsplit ! $ drop ! $ fsplit ! $ fsplit ! $ move ! (2 ∷ []) $ drop ! $ move ! (1 ∷ []) $ feqL ! (λ le.
-              move ! (2 ∷ []) $ sweep-settles ! r w (λ is-r. move ! (1 ∷ []) $ split ! $ move ! (1 ∷ []) $ split ! $ move ! (1 ∷ []) $ split ! $ move ! (1 ∷ []) $ drop ! $
+              move ! (2 ∷ []) $ value-settles ! sweeps r w (λ is-r. move ! (1 ∷ []) $ split ! $ move ! (1 ∷ []) $ split ! $ move ! (1 ∷ []) $ split ! $ move ! (1 ∷ []) $ drop ! $
               -- [ν's token, κ₁'s, κ₀'s; the last list; κ₂'s token; what is lent as `&`; what is lent; _17; …]
               move ! (0 ∷ 6 ∷ 3 ∷ []) $ gets-back u32 κ q γ b o (named 3) (named 2) zs ! tt ν δ (ws .1 .1 .1 .1 .1 .1 .0) (subst (Room u32) (sym (g .1 .0)) room) le $
               rewrite ! 1 (λ (j : ℕ). ‵ (OwnOut κ (out-at b o γ (ws .1 .1 .1 .1 .1 .1 .0)) (sliceVal (b, o) j))) (sym le) refl $ move ! (3 ∷ 2 ∷ 4 ∷ []) $ together p ! $ move ! (0 ∷ 3 ∷ []) $
@@ -241,7 +241,7 @@ module _ {M : Type 1} (𝓤 : URA M) (H : Heap 𝓤) (A : Atoms 𝓤) (W : Given
             apart p ! $ move ! (3 ∷ 5 ∷ []) $ drop ! $ drop ! $ move ! (1 ∷ 3 ∷ []) $ group ! 2 $ use1 W (raw (Asked 𝓤 H A opn.ended opening .pre to-open)) asks-open $
             -- [what `opening` asks; κ₀'s token, κ₂'s; what is lent as `&`; κ's token; what out owns; _17; …]
             calls opn.ended opening to-open (λ s ws. Begun s) (λ s ws. id⊢ 𝓤 _) ! (fmOf 𝓤 H (W .laws) 𝓣) known-open (arg ! 38 refl (arg ! 36 refl (arg ! 16 refl (arg ! 32 refl (arg ! 30 refl (arg ! 24 refl (arg ! 14 refl (no-more !)))))))) (λ w s ws begun.
-            move ! (2 ∷ []) $ drop ! $ move ! (1 ∷ []) $ sweep-lands ! s w (λ is-s. split ! $ move ! (1 ∷ []) $ drop ! $ move ! (1 ∷ 0 ∷ []) $ together p ! $
+            move ! (2 ∷ []) $ drop ! $ move ! (1 ∷ []) $ value-lands ! sweeps s w (λ is-s. split ! $ move ! (1 ∷ []) $ drop ! $ move ! (1 ∷ 0 ∷ []) $ together p ! $
             land ! (from ! (stop !)) (init ! 20 refl (typed W sweeps s is-s .0)) $ forget ! 12 refl $ forget ! 14 refl $ loop s begun is-s))
 
         -- the body: `all_pass`

@@ -1,5 +1,6 @@
 //! The paper's examples, its wrong turns and each refusal, asked of the plain table; what its stores hold, and what is sound.
 
+mod answers;
 mod columns;
 mod examples;
 mod precedence;
