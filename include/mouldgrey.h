@@ -1,9 +1,10 @@
 /*
  * Mouldgrey: a table for an archive. Rows of uint32_t cells, kept by key, in the order of a sort
  * column, in stores that the caller lends. Link libexports_lists.a, libexports_questions.a and
- * libexports.a; for the check of precedence libexports_precedence.a; for column order, which needs no
- * table, libexports_vault.a; for every short history and for listings as text, which need none
- * either, libexports_short_histories.a and libexports_listings.a.
+ * libexports.a; for the check of precedence libexports_precedence.a; for refreshes of rows that
+ * mention a value libexports_refreshes.a; for column order, which needs no table, libexports_vault.a;
+ * for every short history and for listings as text, which need none either,
+ * libexports_short_histories.a and libexports_listings.a.
  *
  * A table is a header of twelve words and four stores. docs/FORMAT.md says what each word means.
  *
@@ -15,7 +16,8 @@
  *             one by row keys + 3
  *
  * Merge and compact also need compaction words, MOULDGREY_COMPACTION_WORDS(capacity) of uint64_t
- * and as many of uint32_t. Nothing is kept in them between two calls.
+ * and as many of uint32_t. Nothing is kept in them between two calls. A refresh needs an index store,
+ * which it keeps: see there.
  *
  * Each store goes as a pointer and a length in words, and may be longer than needed. Of sound
  * stores, words past those needed are never written.
@@ -61,16 +63,19 @@ extern "C" {
 #define MOULDGREY_PAST_THE_ROWS 5
 /* No such column, or not a key column where one is asked for; a condition's kind above 5. */
 #define MOULDGREY_NO_SUCH_COLUMN 6
-/* Fewer free pending words than the record takes. */
+/* Fewer free pending words than the record takes, or all records of a refresh. */
 #define MOULDGREY_PENDING_FULL 7
 /* A merge's stop: a row must be appended, and there are as many as the capacity. */
 #define MOULDGREY_TABLE_FULL 8
-/* A merge's stop: a row must be appended, and its sort value is below the largest one appended. */
+/* A merge's stop: a row must be appended, and its sort value is below the largest one appended. A
+ * refresh's refusal: its stamp is. */
 #define MOULDGREY_OLD_SORT_VALUE 9
 /* The generation is 4294967295 and cannot rise. */
 #define MOULDGREY_LAST_GENERATION 10
 /* A text that is no listing of the form named. */
 #define MOULDGREY_NO_LISTING 11
+/* More than eight columns are named. */
+#define MOULDGREY_TOO_MANY_COLUMNS 12
 /* A number of cells that is not a multiple of the width. */
 #define MOULDGREY_BROKEN_ROW 13
 /* A number of pairs outside 1 to 16. */
@@ -109,6 +114,9 @@ extern "C" {
 
 /* Compaction words for a capacity: so many uint64_t and so many uint32_t. */
 #define MOULDGREY_COMPACTION_WORDS(capacity) (((size_t)(capacity) + 63) / 64)
+
+/* Words of an index store for a capacity and so many named columns, a repeat counted again. */
+#define MOULDGREY_INDEX_WORDS(capacity, columns) (16 + 3 * (size_t)(capacity) * (size_t)(columns))
 
 /* Merge rules, for a known key: key cells stay, the sort cell is the new row's. */
 #define MOULDGREY_KEEP_OLD 0
@@ -202,6 +210,41 @@ uint32_t mouldgrey_compact(uint32_t *header, size_t header_len, uint32_t *rows, 
  * header, and of keys words among the first 2 * capacity. Refuses: 1, 2, 10 if there are rows.
  */
 uint32_t mouldgrey_clear(uint32_t *header, size_t header_len, uint32_t *keys, size_t keys_len);
+
+/*
+ * Refreshes rows that mention a value: each live row that holds one of the values in one of the named
+ * columns is staged again, in rising row order, for removal by row and then for insertion with the
+ * stamp as its sort cell. Columns are up to eight, and may be named again; a row is staged once however
+ * often it is found, also if it has the stamp already. What is staged already is not looked at. words,
+ * 1: 1 if a row was staged, else 0. Writes the header, pending and index.
+ *
+ * index is at least MOULDGREY_INDEX_WORDS(capacity, columns_len) words; past them none is written. It
+ * is an index of the rows by the named columns, at the version at which it was last lent, and leads the
+ * next refresh to the rows; where generation or columns are others it starts afresh. A store whose first
+ * word is 0 is a new one, whatever its other words are; no store that was written has 0 there.
+ *
+ * Refuses: 1; 2 (rows, and words_len other than 1); 12, more than eight columns; 6, a column that does
+ * not exist; 2 again, index shorter than needed; 9, a stamp below the largest sort value appended, also
+ * where nothing would be staged; 7, fewer free pending words than all records together take.
+ *
+ * What the caller must know:
+ *
+ *   - Rows can still be lost at the merge after a refresh that staged them, since their removals stand
+ *     and their inserts may not be taken: the merge stops at a full table (8), and behind an insert
+ *     staged earlier with a larger sort value (9); with stamp 4294967295 and sort column 0 the insert is
+ *     skipped; and if the sort column is a key column two rows may become one.
+ *   - An index belongs to one table. One that was not new when this table first took it since its latest
+ *     opening, or that anything but a refresh of this table has written since, may lead to fewer rows
+ *     than there are: the answer is then of no use. What is staged are still whole records of live
+ *     rows that hold one of the values, in rising order, and a sound table stays sound. To use it for
+ *     another table, or after the table was opened anew, set its first word to 0.
+ */
+uint32_t mouldgrey_refresh_rows_for_values(uint32_t *header, size_t header_len,
+                                           const uint32_t *rows, size_t rows_len, uint32_t *pending,
+                                           size_t pending_len, uint32_t *index, size_t index_len,
+                                           const uint32_t *columns, size_t columns_len,
+                                           const uint32_t *values, size_t values_len,
+                                           uint32_t stamp, uint32_t *words, size_t words_len);
 
 /*
  * Questions. The answer goes into words, whose length must be the number given, else 2; header_len

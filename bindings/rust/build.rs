@@ -4,11 +4,12 @@
 use std::env;
 use std::path::{Path, PathBuf};
 
-const LIBRARIES: [&str; 8] = [
+const LIBRARIES: [&str; 9] = [
     "exports",
     "exports_questions",
     "exports_lists",
     "exports_precedence",
+    "exports_refreshes",
     "exports_vault",
     "exports_short_histories",
     "exports_listings",

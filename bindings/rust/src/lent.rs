@@ -234,6 +234,42 @@ pub fn clear(header: &mut Header, keys: &mut [u32]) -> Result<(), Refusal> {
     })
 }
 
+/// Stages each live row that holds one of these values in one of these columns again, rising, for removal by row and for insertion
+/// with the stamp as its sort cell; whether there was one. The index store is new if its first word is 0, and needs 16 words and 3
+/// for each row of the capacity and named column. Refused by 1, 2, 12, 6, 2 again if the index store is shorter, 9 and 7.
+#[inline]
+pub fn refresh_rows_for_values(
+    header: &mut Header,
+    rows: &[u32],
+    pending: &mut [u32],
+    index: &mut [u32],
+    columns: &[u32],
+    values: &[u32],
+    stamp: u32,
+) -> Result<bool, Refusal> {
+    let mut words = [0; 1];
+    verdict(unsafe {
+        raw::mouldgrey_refresh_rows_for_values(
+            words_of(header),
+            HEADER_WORDS,
+            rows.as_ptr(),
+            rows.len(),
+            pending.as_mut_ptr(),
+            pending.len(),
+            index.as_mut_ptr(),
+            index.len(),
+            columns.as_ptr(),
+            columns.len(),
+            values.as_ptr(),
+            values.len(),
+            stamp,
+            words.as_mut_ptr(),
+            words.len(),
+        )
+    })?;
+    Ok(words[0] == 1)
+}
+
 /// Whether header and stores are a sound table. Refused by 1 and 2.
 #[inline]
 pub fn is_sound(

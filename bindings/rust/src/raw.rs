@@ -85,6 +85,23 @@ unsafe extern "C" {
         keys: *mut u32,
         keys_len: usize,
     ) -> u32;
+    pub fn mouldgrey_refresh_rows_for_values(
+        header: *mut u32,
+        header_len: usize,
+        rows: *const u32,
+        rows_len: usize,
+        pending: *mut u32,
+        pending_len: usize,
+        index: *mut u32,
+        index_len: usize,
+        columns: *const u32,
+        columns_len: usize,
+        values: *const u32,
+        values_len: usize,
+        stamp: u32,
+        words: *mut u32,
+        words_len: usize,
+    ) -> u32;
     pub fn mouldgrey_is_sound(
         header: *const u32,
         header_len: usize,

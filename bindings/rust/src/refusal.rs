@@ -18,12 +18,16 @@ pub enum Refusal {
     PastTheRows = 5,
     /// A column that does not exist, or is not a key column where one is asked for, or a condition of an unknown kind.
     NoSuchColumn = 6,
-    /// The pending store has no room for the record.
+    /// The pending store has no room for the record, or for all records of a refresh.
     PendingFull = 7,
+    /// The stamp of a refresh is below the largest sort value appended.
+    OldSortValue = 9,
     /// The generation is 4294967295 and cannot rise.
     LastGeneration = 10,
     /// A text that is no listing of the form named.
     NoListing = 11,
+    /// More than eight columns are named.
+    TooManyColumns = 12,
     /// A number of cells that is not a multiple of the width.
     BrokenRow = 13,
     /// A number of pairs outside 1 to 16.
@@ -48,7 +52,7 @@ pub enum Stop {
 }
 
 impl Refusal {
-    pub const ALL: [Refusal; 15] = [
+    pub const ALL: [Refusal; 17] = [
         Refusal::OutOfBounds,
         Refusal::TooShort,
         Refusal::WrongWidth,
@@ -56,8 +60,10 @@ impl Refusal {
         Refusal::PastTheRows,
         Refusal::NoSuchColumn,
         Refusal::PendingFull,
+        Refusal::OldSortValue,
         Refusal::LastGeneration,
         Refusal::NoListing,
+        Refusal::TooManyColumns,
         Refusal::BrokenRow,
         Refusal::PairCount,
         Refusal::UnknownSequence,
@@ -84,8 +90,10 @@ impl Refusal {
             Refusal::PastTheRows => "a row or place past what there is",
             Refusal::NoSuchColumn => "no such column or kind of condition",
             Refusal::PendingFull => "no room in the pending store",
+            Refusal::OldSortValue => "a stamp below the largest sort value appended",
             Refusal::LastGeneration => "the generation cannot rise",
             Refusal::NoListing => "no listing of the form named",
+            Refusal::TooManyColumns => "more than eight columns are named",
             Refusal::BrokenRow => "not a multiple of the width",
             Refusal::PairCount => "a number of pairs outside 1 to 16",
             Refusal::UnknownSequence => "more than six steps, or an unknown step",

@@ -1,8 +1,8 @@
 //! A table that keeps its stores.
 
 use crate::{
-    Constraint, DEAD, Header, Lengths, Merge, Opening, Refusal, Subset, SubsetRef, Version,
-    Written, lent,
+    Constraint, DEAD, Header, Lengths, Merge, Opening, Refusal, Subset, SubsetRef, ValueIndex,
+    Version, Written, lent,
 };
 use std::error::Error;
 use std::fmt;
@@ -217,6 +217,55 @@ impl Table {
     /// Drops what is staged, and all rows. Refused by 10, if there are rows.
     pub fn clear(&mut self) -> Result<(), Refusal> {
         lent::clear(&mut self.stores.header, &mut self.stores.keys)
+    }
+
+    /// Stages each live row that holds one of these values in one of these columns again, rising: for removal by row, then for
+    /// insertion with the stamp as its sort cell. Answers whether there was one. The index goes on from the version that it has
+    /// last seen, or starts afresh where generation or columns are others; it is made longer where it is too short. Refused by
+    /// 12, more than eight columns, 6, 9, a stamp below the largest sort value appended, and 7, with nothing staged.
+    ///
+    /// After a yes rows can still be lost at the merge, since removals come first and an insert may not be taken: in a full
+    /// table (it stops with 8); behind an insert staged earlier with a larger stamp (it stops with 9); with stamp 4294967295 in
+    /// sort column 0 (it is skipped); and where the sort column is a key column two rows may become one.
+    ///
+    /// ```
+    /// # use mouldgrey::{Opening, Refusal, Table, ValueIndex};
+    /// # fn main() -> Result<(), Refusal> {
+    /// // Columns: modem, diplexer type, stamp.
+    /// let opening = Opening { columns: 3, keys: 1, sort: 2, rule: 1, capacity: 100, generation: 0 };
+    /// let mut table = Table::new(&opening, 1_000)?;
+    /// for cells in [[7, 40, 10], [8, 41, 10], [9, 40, 11]] {
+    ///     table.stage_insert(&cells)?;
+    /// }
+    /// table.merge()?;
+    /// // Type 40 is renumbered.
+    /// let mut index = ValueIndex::new();
+    /// assert!(table.refresh_rows_for_values(&mut index, &[1], &[40], 12)?);
+    /// table.merge()?;
+    /// let stamps: Vec<u32> = table.rows().map(|row| row.cells[2]).collect();
+    /// assert_eq!(stamps, [10, 12, 12]);
+    /// # Ok(())
+    /// # }
+    /// ```
+    pub fn refresh_rows_for_values(
+        &mut self,
+        index: &mut ValueIndex,
+        columns: &[u32],
+        values: &[u32],
+        stamp: u32,
+    ) -> Result<bool, Refusal> {
+        let s = &mut self.stores;
+        // More than eight columns are refused before the index is looked at.
+        let needed = ValueIndex::words_needed(s.header.capacity, columns.len().min(8));
+        lent::refresh_rows_for_values(
+            &mut s.header,
+            &s.rows,
+            &mut s.pending,
+            index.lend(needed),
+            columns,
+            values,
+            stamp,
+        )
     }
 
     /// The live row of a key. Refused by 3.

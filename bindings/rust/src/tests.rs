@@ -136,6 +136,183 @@ fn old_stamps_stay_out() {
     assert_eq!(table.header().largest(), Some(8));
 }
 
+/// Numbers of the rows that are staged to be removed by a refresh, and the stamps of those to be inserted.
+fn staged(table: &Table) -> Vec<(u32, u32)> {
+    let used = table.header().pending as usize;
+    // Each row takes keys + 3 and columns + 2 words.
+    let pairs = table.stores().pending[..used].chunks_exact(9);
+    assert!(pairs.remainder().is_empty());
+    pairs.map(|words| (words[2], words[8])).collect()
+}
+
+#[test]
+fn refreshes() {
+    let mut table = twenty();
+    let mut index = ValueIndex::new();
+    // Every third row, with the stamp of the last.
+    assert_eq!(
+        table.refresh_rows_for_values(&mut index, &[1], &[2], 9),
+        Ok(true)
+    );
+    let rows: Vec<(u32, u32)> = (0..6).map(|third| (2 + 3 * third, 9)).collect();
+    assert_eq!(staged(&table), rows);
+    assert_eq!(index.words().len(), ValueIndex::words_needed(40, 1));
+    assert_ne!(index.words()[0], 0);
+    assert!(table.merge().is_ok_and(|merge| merge.added));
+    assert_eq!(table.version().rows, 26);
+    // The index catches up with the rows that came, and the dead ones are left out.
+    assert_eq!(
+        table.refresh_rows_for_values(&mut index, &[1], &[2], 10),
+        Ok(true)
+    );
+    let rows: Vec<(u32, u32)> = (20..26).map(|row| (row, 10)).collect();
+    assert_eq!(staged(&table), rows);
+    assert_eq!(table.clear(), Ok(()));
+    // Another generation, and other columns, for which the index is made longer.
+    assert_eq!(
+        table.refresh_rows_for_values(&mut index, &[0, 1, 1], &[2], 10),
+        Ok(false)
+    );
+    assert_eq!(index.words().len(), ValueIndex::words_needed(40, 3));
+    assert_eq!(table.is_sound(), Ok(true));
+}
+
+#[test]
+fn refused_refreshes() {
+    let mut table = twenty();
+    let mut index = ValueIndex::new();
+    let before = table.stores().clone();
+    let mut refresh = |columns: &[u32], values: &[u32], stamp: u32| {
+        let heard = table.refresh_rows_for_values(&mut index, columns, values, stamp);
+        assert!(heard == Ok(false) || heard.is_err());
+        assert!(heard == Ok(false) || index.words().iter().all(|&word| word == 0));
+        heard
+    };
+    assert_eq!(refresh(&[0; 9], &[1], 0), Err(Refusal::TooManyColumns));
+    assert_eq!(refresh(&[0, 3], &[1], 0), Err(Refusal::NoSuchColumn));
+    assert_eq!(refresh(&[0, 1], &[], 8), Err(Refusal::OldSortValue));
+    assert_eq!(refresh(&[], &[0, 1, 2], 9), Ok(false));
+    assert_eq!(refresh(&[1], &[], 9), Ok(false));
+    assert_eq!(*table.stores(), before);
+    // All 20 rows, 9 words each, have room in the 200 once.
+    let all = [0, 1, 2];
+    assert_eq!(
+        table.refresh_rows_for_values(&mut index, &[1], &all, 9),
+        Ok(true)
+    );
+    assert_eq!(
+        table.refresh_rows_for_values(&mut index, &[1], &all, 9),
+        Err(Refusal::PendingFull)
+    );
+    // Stores that the caller keeps: the index store too short, by a word.
+    let Stores {
+        mut header,
+        rows,
+        mut pending,
+        ..
+    } = table.stores().clone();
+    let mut words = vec![0; ValueIndex::words_needed(40, 2) - 1];
+    let heard = lent::refresh_rows_for_values(
+        &mut header,
+        &rows,
+        &mut pending,
+        &mut words,
+        &[1, 1],
+        &[],
+        9,
+    );
+    assert_eq!(heard, Err(Refusal::TooShort));
+}
+
+#[test]
+fn indexes_that_are_kept() {
+    let mut table = twenty();
+    let mut index = ValueIndex::new();
+    assert_eq!(
+        table.refresh_rows_for_values(&mut index, &[1], &[7], 9),
+        Ok(false)
+    );
+    // Kept and taken up again by the same table.
+    let mut kept = ValueIndex::from(index.words().to_vec());
+    assert_eq!(kept, index);
+    assert_eq!(
+        table.refresh_rows_for_values(&mut kept, &[1], &[1], 9),
+        Ok(true)
+    );
+    // Of another table it may leave rows out; forgotten, it is like a new one.
+    let mut other = twenty();
+    kept.forget();
+    assert_eq!(
+        other.refresh_rows_for_values(&mut kept, &[1], &[1], 9),
+        Ok(true)
+    );
+    assert_eq!(staged(&other), staged(&table));
+    ValueIndex::new().forget();
+}
+
+/// The cases of docs/DIFFERENCES.md in which a merge loses rows behind a refresh that said yes, and an index of another table
+/// leaves one out.
+#[test]
+fn refreshed_rows_that_are_lost() {
+    let opened = |columns: u32, capacity: u32| Opening {
+        columns,
+        keys: 1,
+        sort: 0,
+        rule: 0,
+        capacity,
+        generation: 0,
+    };
+    let table = |opening: &Opening, rows: &[&[u32]]| {
+        let mut table = Table::new(opening, 100).expect("a table");
+        rows.iter()
+            .for_each(|row| table.stage_insert(row).expect("room"));
+        table.merge().expect("a merge");
+        table
+    };
+    let live = |table: &Table| {
+        table
+            .rows()
+            .map(|row| row.cells.to_vec())
+            .collect::<Vec<_>>()
+    };
+    let refreshed = |table: &mut Table, column: u32, value: u32, stamp: u32| {
+        let mut index = ValueIndex::new();
+        let heard = table.refresh_rows_for_values(&mut index, &[column], &[value], stamp);
+        assert_eq!(heard, Ok(true));
+        table.merge().expect("a merge").stop
+    };
+    // A full table.
+    let mut full = table(&opened(1, 1), &[&[0]]);
+    assert_eq!(refreshed(&mut full, 0, 0, 0), Some((Stop::TableFull, 0)));
+    assert!(live(&full).is_empty());
+    // A larger stamp staged earlier.
+    let mut behind = table(&opened(1, 3), &[&[0]]);
+    behind.stage_insert(&[1]).expect("room");
+    let stop = refreshed(&mut behind, 0, 0, 0);
+    assert_eq!(stop, Some((Stop::OldSortValue, 1)));
+    assert_eq!(live(&behind), [[1]]);
+    // The greatest stamp in sort column 0.
+    let mut skipped = table(&opened(1, 1), &[&[0]]);
+    assert_eq!(refreshed(&mut skipped, 0, 0, DEAD), None);
+    assert!(live(&skipped).is_empty());
+    // The sort column a key column: two rows become one.
+    let mut one = table(&opened(2, 3), &[&[0, 5], &[1, 5]]);
+    assert_eq!(refreshed(&mut one, 1, 5, 1), None);
+    assert_eq!(live(&one), [[1, 5]]);
+    // An index of another table.
+    let mut index = ValueIndex::new();
+    let mut other = table(&opened(1, 1), &[&[0]]);
+    assert_eq!(
+        other.refresh_rows_for_values(&mut index, &[0], &[], 0),
+        Ok(false)
+    );
+    let mut own = table(&opened(1, 1), &[&[1]]);
+    let mut lost = |index: &mut ValueIndex| own.refresh_rows_for_values(index, &[0], &[1], 1);
+    assert_eq!(lost(&mut index), Ok(false));
+    index.forget();
+    assert_eq!(lost(&mut index), Ok(true));
+}
+
 #[test]
 fn questions() {
     let table = twenty();
@@ -395,7 +572,7 @@ fn numbers_and_names() {
     for stop in Stop::ALL {
         assert_eq!(Stop::from_number(stop.number()), Some(stop));
     }
-    for number in [0, 8, 9, 12, 19] {
+    for number in [0, 8, 19] {
         assert_eq!(Refusal::from_number(number), None);
     }
     assert_eq!(

@@ -144,6 +144,7 @@ fn shipped() -> Vec<Exported> {
     functions.extend(exported("crates/exports_questions/src/lib.rt"));
     functions.extend(exported("crates/exports_lists/src/lib.rt"));
     functions.extend(exported("crates/exports_precedence/src/lib.rt"));
+    functions.extend(exported("crates/exports_refreshes/src/lib.rt"));
     functions.extend(exported("crates/exports_vault/src/lib.rt"));
     functions.extend(exported("crates/exports_short_histories/src/lib.rt"));
     functions.extend(exported("crates/exports_listings/src/lib.rt"));

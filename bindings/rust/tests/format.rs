@@ -1,6 +1,6 @@
 //! The worked dumps of docs/FORMAT.md are what the library leaves, byte for byte, and its worked hash is the one in the dump.
 
-use mouldgrey::{Opening, Stores, Table, to_columns};
+use mouldgrey::{Opening, Stores, Table, ValueIndex, to_columns};
 use std::collections::BTreeMap;
 use std::fs;
 
@@ -36,15 +36,22 @@ fn dump(name: &str) -> BTreeMap<String, BTreeMap<usize, u8>> {
 
 /// A dump's stores are these.
 fn compare(name: &str, stores: &Stores) {
-    let dump = dump(name);
     let header = stores.header.words();
-    for (store, words) in [
-        ("header", &header[..]),
-        ("rows", &stores.rows),
-        ("keys", &stores.keys),
-        ("sorts", &stores.sorts),
-        ("pending", &stores.pending),
-    ] {
+    compare_words(
+        name,
+        &[
+            ("header", &header[..]),
+            ("rows", &stores.rows),
+            ("keys", &stores.keys),
+            ("sorts", &stores.sorts),
+            ("pending", &stores.pending),
+        ],
+    );
+}
+
+fn compare_words(name: &str, stores: &[(&str, &[u32])]) {
+    let dump = dump(name);
+    for &(store, words) in stores {
         let shown = &dump[store];
         let bytes: Vec<u8> = words.iter().flat_map(|word| word.to_le_bytes()).collect();
         for (place, &byte) in bytes.iter().enumerate() {
@@ -56,8 +63,8 @@ fn compare(name: &str, stores: &Stores) {
     }
 }
 
-#[test]
-fn worked_dump() {
+/// The page's table after its first merge.
+fn two_rows() -> Table {
     let opening = Opening {
         columns: 4,
         keys: 2,
@@ -71,6 +78,26 @@ fn worked_dump() {
         table.stage_insert(&cells).expect("room");
     }
     table.merge().expect("a merge");
+    table
+}
+
+#[test]
+fn worked_index() {
+    let mut index = ValueIndex::new();
+    let heard = two_rows().refresh_rows_for_values(&mut index, &[0, 1], &[2], 10);
+    assert_eq!(heard, Ok(true));
+    compare_words("index", &[("index", index.words())]);
+    let page = page();
+    for (value, bucket) in [(2_u32, 1), (7, 2)] {
+        let hash = value.wrapping_mul(2_654_435_769);
+        assert_eq!((u64::from(hash) * 8) >> 32, bucket);
+        assert!(value != 2 || page.contains(&format!("mod 2^32 = {hash}, times 8 div 2^32 = 1")));
+    }
+}
+
+#[test]
+fn worked_dump() {
+    let mut table = two_rows();
     table.stage_insert(&[7, 1, 163, 12]).expect("room");
     table.stage_remove(&[7, 2]).expect("room");
     compare("before", table.stores());

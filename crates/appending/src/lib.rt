@@ -25,7 +25,7 @@ enum Admission {
 }
 
 // Whether a sort value is below the largest one appended.
-fn is_old(h: Header, value: u32) -> bool
+pub fn is_old(h: Header, value: u32) -> bool
     ensures { λ r. ⌜ r ≡ below value (largestSays (h .largest)) ⌝ }
 {
     let largest = h.largest;

@@ -1,4 +1,3 @@
 -- What follows from the definitions.
 pub mod Encoding
-pub mod Going
 pub mod Making

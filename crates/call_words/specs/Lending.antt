@@ -1,7 +1,7 @@
 -- Calls that are lent the stores whole. Assumes nothing.
 use mathlib.Core.List.{List, map}
 use Rattle.plain.specs.Refusing.{Lengths}
-use Rattle.plain.specs.Calls.{Call, staging, merging, compacting, clearing, LentCall}
+use Rattle.plain.specs.Calls.{Call, staging, merging, compacting, clearing, refreshing, feeding, LentCall}
 
 -- the compaction words go to a merge and a compaction alone
 abbrev pub withoutWords : Lengths → Lengths
@@ -13,6 +13,8 @@ lengthsFor l (staging r) = withoutWords l
 lengthsFor l merging = l
 lengthsFor l compacting = l
 lengthsFor l clearing = withoutWords l
+lengthsFor l (refreshing r index) = withoutWords l
+lengthsFor l (feeding rs) = withoutWords l
 
 abbrev pub lentTo : Lengths → Call → LentCall
 lentTo l c = record { call = c; lengths = lengthsFor l c }

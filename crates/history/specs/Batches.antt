@@ -14,7 +14,8 @@ use Rattle.table.specs.declared.Merge.{Merge}
 use Rattle.table.specs.Numbers.{tableSays, mergeSays}
 use Rattle.table.specs.Sound.{Sound}
 use Rattle.table.specs.Promises.{Stores}
-use Rattle.history.specs.Histories.{Called, stages, merges, compacts, clears, Step, called}
+use Rattle.refreshes.specs.Refreshes.{refreshSays}
+use Rattle.history.specs.Histories.{Called, stages, merges, compacts, clears, refreshes, refreshes-unsound, Step, called}
 use Rattle.history.specs.Claim.{liveIn}
 
 -- whether a call was refused, by its answer
@@ -23,6 +24,8 @@ verdictIn (stages r answer pending′ promise) = verdict (tableSays answer)
 verdictIn (merges w answer b′ w′ promise) = verdict (mergeSays answer)
 verdictIn (compacts w answer b′ w′ promise) = verdict (tableSays answer)
 verdictIn (clears answer keys′ promise) = verdict (tableSays answer)
+verdictIn (refreshes r index answer pending′ index′ promise sound) = verdict (refreshSays answer)
+verdictIn (refreshes-unsound r index answer pending′ index′ promise unsound) = verdict (refreshSays answer)
 
 unfoldable pub verdictOf : {s t : Stores} {c : LentCall} → Step s c t → Reply (Unit {0})
 verdictOf (called rest pending call) = verdictIn call
@@ -37,6 +40,8 @@ statusIn (stages r answer pending′ promise) = 0
 statusIn (merges w answer b′ w′ promise) = statusTold (mergeSays answer)
 statusIn (compacts w answer b′ w′ promise) = 0
 statusIn (clears answer keys′ promise) = 0
+statusIn (refreshes r index answer pending′ index′ promise sound) = 0
+statusIn (refreshes-unsound r index answer pending′ index′ promise unsound) = 0
 
 unfoldable pub statusOf : {s t : Stores} {c : LentCall} → Step s c t → ℕ
 statusOf (called rest pending call) = statusIn call

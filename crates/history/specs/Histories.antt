@@ -1,14 +1,20 @@
 -- Histories (the order, term 3): "every list of stagings, merges, compactions and clears, stopped and refused ones
--- included, from an accepted opening on, each on the header and the .. stores as the last left them". What is known of a
--- call is what its entry point promises, and nothing else. Assumes nothing.
+-- included, from an accepted opening on, each on the header and the .. stores as the last left them", and (change 2) refreshes, each
+-- lent any index store beside them (`Refreshes` says which are sound). What is known of a call is what its entry point promises, and
+-- nothing else. Assumes nothing.
 use Prim.Native.Nat.{ℕ}
 use mathlib.Core.List.{List, [], _∷_, _++_}
+use lib.ListN.{length}
 use Rattle.plain.specs.Staged.{Opening, Staged}
-use Rattle.plain.specs.Calls.{staging, merging, compacting, clearing, LentCall}
+use Rattle.plain.specs.Refreshing.{Refresh}
+use Rattle.plain.specs.Calls.{staging, merging, compacting, clearing, refreshing, feeding, LentCall}
 use Rattle.table.specs.declared.TableAnswer.{TableAnswer}
 use Rattle.table.specs.declared.TableAnswer.the-variants.{Table}
 use Rattle.table.specs.declared.MergeAnswer.{MergeAnswer}
 use Rattle.table.specs.Numbers.{tableSays, mergeSays}
+use Rattle.refreshes.specs.declared.RefreshAnswer.{RefreshAnswer}
+use Rattle.refreshes.specs.Index.{IndexSound}
+use Rattle.refreshes.specs.Refreshes.{refreshSays, recordsFound, recordsStaged, headerRefreshed, Refreshing}
 use Rattle.table.specs.Promises.{Stores, stores, Body, body, bodyOf, joined, CompactionWords, compactionWords, lengthsLent, headerAfter, headerMerged, Opened, Staging, Merging, Compacting, Clearing}
 
 -- one call: from what it is lent to what it leaves there, by the promise of its entry point, with the stores' lengths. A store
@@ -30,6 +36,18 @@ pub data Called (s : Stores) : LentCall → Stores → Type 0 where
       → Called s
       (record { call = clearing; lengths = lengthsLent s (compactionWords [] []) })
       (joined (headerAfter (s .header) (tableSays answer)) (body (s .rows) keys′ (s .sorts)) (s .pending))
+  -- over a sound index store "the plain table stages these records of its own rows"
+  refreshes : (r : Refresh) (index : List ℕ) (answer : RefreshAnswer) (pending′ index′ : List ℕ) → Refreshing (s .header) (s .rows) (s .pending) index r answer pending′ index′
+      → IndexSound (s .header) (s .rows) (r .columns) index
+      → Called s
+      (record { call = refreshing r (length index); lengths = lengthsLent s (compactionWords [] []) })
+      (joined (headerRefreshed (s .header) (refreshSays answer)) (bodyOf s) pending′)
+  -- "Over such an unsound index store, and nowhere else, it is fed the records that the call staged"
+  refreshes-unsound : (r : Refresh) (index : List ℕ) (answer : RefreshAnswer) (pending′ index′ : List ℕ) (m : Refreshing (s .header) (s .rows) (s .pending) index r answer pending′ index′)
+      → (IndexSound (s .header) (s .rows) (r .columns) index → ⊥)
+      → Called s
+      (record { call = feeding (recordsStaged (refreshSays answer) (recordsFound (s .header) (s .rows) r (m .found))); lengths = lengthsLent s (compactionWords [] []) })
+      (joined (headerRefreshed (s .header) (refreshSays answer)) (bodyOf s) pending′)
 
 -- stores with more cells behind
 abbrev pub behind : Stores → Body → List ℕ → Stores

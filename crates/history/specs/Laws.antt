@@ -9,4 +9,5 @@ pub mod Batches
 pub mod LentLengths
 pub mod Stamps
 pub mod Notes
+pub mod Refreshes
 pub mod Price

@@ -12,7 +12,7 @@ use Rattle.plain.specs.Calls.{LentCall}
 use Rattle.plain.specs.Appending.{appendedAll}
 use Rattle.table.specs.Numbers.{tableSays, mergeSays}
 use Rattle.table.specs.Promises.{Stores}
-use Rattle.history.specs.Histories.{Called, stages, merges, compacts, clears, called, Steps, end, next, History}
+use Rattle.history.specs.Histories.{Called, stages, merges, compacts, clears, refreshes, refreshes-unsound, called, Steps, end, next, History}
 
 -- what is counted of calls
 pub record Wear : Type 0 where
@@ -39,6 +39,8 @@ ofCall (stages r answer pending′ m) = wear 0 0 0 0
 ofCall (merges w answer b′ w′ m) = counted (mergeSays answer) (λ a. wear (a .kept) (cond (ltb 0 (a .dropped)) 1 0) (a .dropped) 0)
 ofCall {s} (compacts w answer b′ w′ m) = counted (tableSays answer) (λ h. wear 0 0 (s .header .dead) 0)
 ofCall {s} (clears answer keys′ m) = counted (tableSays answer) (λ h. wear 0 0 0 (s .header .rows))
+ofCall (refreshes r index answer pending′ index′ m sound) = wear 0 0 0 0
+ofCall (refreshes-unsound r index answer pending′ index′ m unsound) = wear 0 0 0 0
 
 -- of all the calls
 unfoldable pub ofSteps : {s t : Stores} {cs : List LentCall} → Steps s cs t → Wear

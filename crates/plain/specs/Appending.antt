@@ -9,7 +9,7 @@ use lib.Dec.{ltb, eqb}
 use Rattle.refusals.specs.Refusals.{Reply, refused, accepted}
 use Rattle.plain.specs.Staged.{inserts}
 use Rattle.plain.specs.Plain.{Plain, insertion, removed, raised}
-use Rattle.plain.specs.Calls.{Call, staging, merging, compacting, clearing, LentCall, refusal, after}
+use Rattle.plain.specs.Calls.{Call, staging, merging, compacting, clearing, refreshing, feeding, LentCall, refusal, after}
 use Rattle.plain.specs.Proper.{rowOf}
 
 -- what an insert adds to the rows appended, and what those after it do: the row appended is the one after the rows there were
@@ -33,6 +33,8 @@ appendedDone p (staging r) = 0
 appendedDone p merging = length (mergeAppends p)
 appendedDone p compacting = 0
 appendedDone p clearing = 0
+appendedDone p (refreshing r index) = 0
+appendedDone p (feeding rs) = 0
 
 -- and 0 if it is
 unfoldable pub appendedBy : Plain → LentCall → ℕ
@@ -53,6 +55,8 @@ stampsDone before p (staging r) = before
 stampsDone before p merging = before ++ stampsOf p (mergeAppends p)
 stampsDone before p compacting = before
 stampsDone before p clearing = cond (ltb 0 (length (p .rows))) [] before
+stampsDone before p (refreshing r index) = before
+stampsDone before p (feeding rs) = before
 
 unfoldable pub stampsAfter : List ℕ → Plain → LentCall → List ℕ
 stampsAfter before p c = cond (eqb (refusal p (c .lengths) (c .call)) 0) (stampsDone before p (c .call)) before

@@ -3,6 +3,7 @@ pub mod Rows
 pub mod Lookup
 pub mod Calls
 pub mod Counts
+pub mod Refreshing
 pub mod Proper
 pub mod Live
 pub mod Batches

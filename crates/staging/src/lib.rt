@@ -17,7 +17,7 @@ use table::TableAnswer;
 use table::refusing::is_pending_outside;
 
 // Test 7: the words of a record are not free, or the number in use would leave a u32. The sum itself does not overflow.
-fn is_overfull(used: u32, pending: usize, width: u32, more: u32) -> bool
+pub fn is_overfull(used: u32, pending: usize, width: u32, more: u32) -> bool
     ensures { λ r. ⌜ r ≡ overfull used pending (width + more) ⌝ }
 {
     let after = used as usize + (width as usize + more as usize);
@@ -67,7 +67,7 @@ fn write_row_head(pending: &mut [u32], at: usize, hash: u32, row: u32)
 }
 
 // An insert or a removal by key.
-fn write_record(pending: &mut [u32], at: usize, kind: u32, hash: u32, cells: &[u32])
+pub fn write_record(pending: &mut [u32], at: usize, kind: u32, hash: u32, cells: &[u32])
     requires { ⌜ at + (length (now cells) + 2) ≤ length (now pending) ⌝ }
     ensures { λ _. ⌜ now (pending .exit) ≡ putAt (now (pending .entry)) at (kind ∷ hash ∷ now (cells .entry)) ⌝ }
 {
@@ -76,7 +76,7 @@ fn write_record(pending: &mut [u32], at: usize, kind: u32, hash: u32, cells: &[u
 }
 
 // A removal by row.
-fn write_row_record(pending: &mut [u32], at: usize, hash: u32, row: u32, key: &[u32])
+pub fn write_row_record(pending: &mut [u32], at: usize, hash: u32, row: u32, key: &[u32])
     requires { ⌜ at + (length (now key) + 3) ≤ length (now pending) ⌝ }
     ensures { λ _. ⌜ now (pending .exit) ≡ putAt (now (pending .entry)) at (2 ∷ hash ∷ row ∷ now (key .entry)) ⌝ }
 {

@@ -170,11 +170,11 @@ pub record Told {A : Type 0} (number : A → ℕ) (words : A → List ℕ) (answ
   pub numbered : r ≡ number answer
   pub worded : words′ ≡ words answer
 
--- a merge's answer is told
-pub record MergeTold (answer : MergeAnswer) (header words : List ℕ) (r : ℕ) (header′ words′ : List ℕ) : Type 0 where
-  pub numbered : r ≡ mergeNumber answer
-  pub headed : header′ ≡ mergeHeader header answer
-  pub worded : words′ ≡ mergeWords words answer
+-- an answer's number, header and words are told
+pub record BothTold {A : Type 0} (number : A → ℕ) (header words : A → List ℕ) (answer : A) (r : ℕ) (header′ words′ : List ℕ) : Type 0 where
+  pub numbered : r ≡ number answer
+  pub headed : header′ ≡ header answer
+  pub worded : words′ ≡ words answer
 
 -- A call that leaves a header. Where the header is twelve words, the library's promise holds of an answer that the number and the
 -- header's words tell; else the number is 1 and nothing has changed.
@@ -182,15 +182,20 @@ pub record CallInWords (promise : TableAnswer → Type 0) (unchanged : Type 0) (
   pub done : length header ≡ 12 → (answer : TableAnswer) × promise answer × (r ≡ tableNumber answer) × (header′ ≡ tableHeader header answer)
   pub unheaded : (length header ≡ 12 → ⊥) → unchanged × (r ≡ 1) × (header′ ≡ header)
 
--- A merge, whose answer goes into five words. Where the header is not twelve words, the number is 1; where it is, but these are
--- not five, it is 2; and nothing has changed.
-pub record MergeInWords (promise : MergeAnswer → Type 0) (unchanged : Type 0) (header words : List ℕ) (r : ℕ) (header′ words′ : List ℕ) : Type 0 where
-  pub done : length header ≡ 12 → length words ≡ 5
-      → (answer : MergeAnswer) × promise answer × (r ≡ mergeNumber answer) × (header′ ≡ mergeHeader header answer) × (words′ ≡ mergeWords words answer)
+-- A call that leaves a header and whose answer goes into so many words. Where the header is not twelve words, the number is 1; where it
+-- is, but these are not so many, it is 2; and nothing has changed.
+pub record BothInWords {A : Type 0} (promise : A → Type 0) (unchanged : Type 0) (number : A → ℕ) (headed told : List ℕ → A → List ℕ) (count : ℕ) (header words : List ℕ) (r : ℕ) (header′ words′ : List ℕ) : Type 0 where
+  pub done : length header ≡ 12 → length words ≡ count
+      → (answer : A) × promise answer × (r ≡ number answer) × (header′ ≡ headed header answer) × (words′ ≡ told words answer)
   pub unheaded : (length header ≡ 12 → ⊥) → unchanged × (r ≡ 1) × (header′ ≡ header) × (words′ ≡ words)
-  pub unworded : length header ≡ 12 → (length words ≡ 5 → ⊥) → unchanged × (r ≡ 2) × (header′ ≡ header) × (words′ ≡ words)
+  pub unworded : length header ≡ 12 → (length words ≡ count → ⊥) → unchanged × (r ≡ 2) × (header′ ≡ header) × (words′ ≡ words)
 
--- A question, whose answer goes into so many words; 1 and 2 as for a merge.
+-- A merge, whose answer goes into five words
+abbrev pub MergeInWords : (MergeAnswer → Type 0) → Type 0 → List ℕ → List ℕ → ℕ → List ℕ → List ℕ → Type 0
+MergeInWords promise unchanged header words r header′ words′ =
+    BothInWords promise unchanged mergeNumber mergeHeader mergeWords 5 header words r header′ words′
+
+-- A question, whose answer goes into so many words; 1 and 2 likewise.
 pub record QuestionInWords {A : Type 0} (promise : A → Type 0) (number : A → ℕ) (told : List ℕ → A → List ℕ) (count : ℕ) (header words : List ℕ) (r : ℕ) (words′ : List ℕ) : Type 0 where
   pub done : length header ≡ 12 → length words ≡ count → (answer : A) × promise answer × (r ≡ number answer) × (words′ ≡ told words answer)
   pub unheaded : (length header ≡ 12 → ⊥) → (r ≡ 1) × (words′ ≡ words)

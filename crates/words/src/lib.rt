@@ -4,7 +4,7 @@ ghost use mathlib.Core.Path.{_≡_};
 ghost use mathlib.Core.List.{[], _∷_};
 ghost use lib.ListN.{length};
 ghost use Rattle.words.specs.inner.Staged.{PendingAlone};
-ghost use Rattle.words.specs.Words.{bit, largestIn, columnsIn, largestFlag, largestWord, headerIn, headerWords, tableNumber, tableHeader, rowNumber, rowWords, cellNumber, cellWords, rangeNumber, rangeWords, versionNumber, versionWords, soundNumber, soundWords, Told, MergeTold, subsetNumber, subsetWords};
+ghost use Rattle.words.specs.Words.{bit, largestIn, columnsIn, largestFlag, largestWord, headerIn, headerWords, tableNumber, tableHeader, rowNumber, rowWords, cellNumber, cellWords, rangeNumber, rangeWords, versionNumber, versionWords, soundNumber, soundWords, mergeNumber, mergeHeader, mergeWords, Told, BothTold, subsetNumber, subsetWords};
 use offsets::SubsetAnswer;
 use table::CellAnswer;
 use table::Header;
@@ -75,7 +75,7 @@ fn largest_word(largest: Largest) -> u32
     }
 }
 
-fn write_header(h: Header, words: &mut [u32])
+pub fn write_header(h: Header, words: &mut [u32])
     requires { ⌜ length (now words) ≡ 12 ⌝ }
     ensures { λ _. ⌜ now (words .exit) ≡ headerWords h ⌝ }
 {
@@ -174,7 +174,7 @@ pub fn write_staged(answer: TableAnswer, words: &mut [u32]) -> u32
 
 pub fn write_merge(answer: MergeAnswer, header: &mut [u32], words: &mut [u32]) -> u32
     requires { ⌜ (length (now header) ≡ 12) × (length (now words) ≡ 5) ⌝ }
-    ensures { λ r. ⌜ MergeTold answer (now (header .entry)) (now (words .entry)) r (now (header .exit)) (now (words .exit)) ⌝ }
+    ensures { λ r. ⌜ BothTold mergeNumber (mergeHeader (now (header .entry))) (mergeWords (now (words .entry))) answer r (now (header .exit)) (now (words .exit)) ⌝ }
 {
     match answer {
         MergeAnswer::Refused(number) => number,

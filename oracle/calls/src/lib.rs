@@ -95,6 +95,8 @@ pub struct Lengths {
     /// Compaction words: the u64 that mark live rows, and the u32 beside them.
     pub live_words: usize,
     pub base_words: usize,
+    /// The index store, which a refresh alone is lent.
+    pub index: usize,
 }
 
 /// A header and stores, sound or not.
@@ -127,6 +129,49 @@ pub enum Call {
     Merge,
     Compact,
     Clear,
+    Refresh(Refresh),
+}
+
+/// A refresh of the rows that mention a value.
+#[derive(Clone, Debug, PartialEq, Eq)]
+pub struct Refresh {
+    pub index: Index,
+    /// The named columns and the changed values.
+    pub columns: Vec<u32>,
+    pub values: Vec<u32>,
+    pub stamp: u32,
+}
+
+/// The index store that a refresh is lent: which of `INDEX_STORES`, and what another does to it just before.
+#[derive(Clone, Copy, Debug, PartialEq, Eq)]
+pub struct Index {
+    pub store: usize,
+    pub before: Before,
+}
+
+/// How many index stores there are. They outlive an opening, and are new until a refresh has written them.
+pub const INDEX_STORES: usize = 4;
+
+/// What another does to an index store.
+#[derive(Clone, Copy, Debug, PartialEq, Eq)]
+pub enum Before {
+    Nothing,
+    /// Makes it new: its first word is 0, the others are of no meaning.
+    Renew,
+    /// Makes it a copy of that store as it is now.
+    Copy(usize),
+    /// Fills it with words by chance, of this seed. The first is not 0.
+    Fill(u32),
+    /// Changes the word at this place to that one.
+    Change(u32, u32),
+}
+
+/// A row that a refresh has staged: its number and key, to be removed, and its cells with the stamp, to be inserted.
+#[derive(Clone, Debug, PartialEq, Eq)]
+pub struct Restamped {
+    pub row: u32,
+    pub key: Vec<u32>,
+    pub cells: Vec<u32>,
 }
 
 /// A subset: a dense range, end not included, or a list of ids.
@@ -203,6 +248,8 @@ pub enum Answer {
         kept: u32,
         dropped: u32,
     },
+    /// A refresh: whether it says that a row was staged, and the rows that it staged, in staging order.
+    Refreshed(bool, Vec<Restamped>),
     /// A lookup that found no live row, a fast range that is none, or pairs that every row meets.
     None,
     /// The live row of a key: its number and cells.

@@ -5,7 +5,9 @@
 use crate::counts::{Counts, is_held_back, live_row};
 use crate::guard::guarded;
 use crate::history::{Act, Step, UNOPENED, needed};
-use calls::{Answer, Call, Contents, DEAD, Judge, Lengths, Opening, Question, Subset};
+use crate::mentioned::Mentioned;
+use crate::origins::{Origin, Origins};
+use calls::{Answer, Call, Contents, DEAD, Judge, Lengths, Opening, Question, Refresh, Subset};
 use plain::Plain;
 
 /// The other judge: how to make one, and what it may be asked.
@@ -74,6 +76,10 @@ pub struct Pair<'a, J> {
     other_signs: u64,
     /// The sort values of inserts that wait for a merge.
     stamps: Vec<u32>,
+    /// The index stores.
+    origins: Origins,
+    /// Whether rows that a refresh has staged wait for a merge.
+    refreshed: bool,
     /// Whether the other judge's table is still the same: not after a stop, until the next opening.
     following: bool,
 }
@@ -90,6 +96,8 @@ impl<'a, J: Judge> Pair<'a, J> {
             rows_to_remove: Vec::new(),
             other_signs: 0,
             stamps: Vec::new(),
+            origins: Origins::default(),
+            refreshed: false,
             following: false,
         }
     }
@@ -103,6 +111,9 @@ impl<'a, J: Judge> Pair<'a, J> {
     }
 
     fn call(&mut self, step: &Step, call: &Call, counts: &mut Counts) -> Result<Answer, Unlike> {
+        if let Call::Refresh(refresh) = call {
+            return self.refresh(step, refresh, counts);
+        }
         let answer = self.plain.call(&step.lent, call);
         counts.step(&self.opening, step, &answer);
         if matches!(answer, Answer::Refused(_)) {
@@ -135,6 +146,76 @@ impl<'a, J: Judge> Pair<'a, J> {
             self.agree_on_stores(is_staging)?;
         }
         Ok(answer)
+    }
+
+    /// A refresh. Over an unsound index store the plain table is fed what the other has staged, if that has such stores at all.
+    fn refresh(
+        &mut self,
+        step: &Step,
+        refresh: &Refresh,
+        counts: &mut Counts,
+    ) -> Result<Answer, Unlike> {
+        let call = Call::Refresh(refresh.clone());
+        let origin = self.origins.take(&refresh.index).clone();
+        let before = Mentioned::new(&self.plain, refresh);
+        let is_fed = self.rival.follows_paper && matches!(origin, Origin::Foreign(_));
+        let mut heard = None;
+        let answer = if is_fed {
+            let fed = heard.insert(guarded(|| self.other.call(&step.lent, &call)));
+            self.feed(&step.lent, refresh, fed)?
+        } else {
+            self.plain.call(&step.lent, &call)
+        };
+        counts.step(&self.opening, step, &answer);
+        counts.refresh(step, refresh, &answer, &before, (&origin, is_fed));
+        self.note_refresh(refresh, &answer);
+        let is_refused = matches!(answer, Answer::Refused(_));
+        if self.rival.follows_paper || (self.following && !is_refused) {
+            counts.asked(&self.opening, step, &answer);
+            let heard = heard.unwrap_or_else(|| guarded(|| self.other.call(&step.lent, &call)));
+            agree(&Ok(answer.clone()), &heard)?;
+            if self.following && self.seen.rows <= FEW_ROWS {
+                agree(&Ok(self.seen.clone()), &guarded(|| self.other.contents()))?;
+            }
+            self.agree_on_stores(false)?;
+        }
+        Ok(answer)
+    }
+
+    /// Keeps what a refresh means for the comparison.
+    fn note_refresh(&mut self, refresh: &Refresh, answer: &Answer) {
+        let Answer::Refreshed(_, rows) = answer else {
+            return;
+        };
+        let h = self.plain.header();
+        let version = (h.generation, h.rows);
+        self.origins
+            .written(&refresh.index, &refresh.columns, version);
+        for of in rows {
+            self.rows_to_remove.push((of.row, of.key.clone()));
+            self.stamps.push(refresh.stamp);
+        }
+        self.refreshed |= !rows.is_empty();
+    }
+
+    /// The plain table takes over what was heard of a refresh, if it may be.
+    fn feed(
+        &mut self,
+        lent: &Lengths,
+        refresh: &Refresh,
+        heard: &Result<Answer, String>,
+    ) -> Result<Answer, Unlike> {
+        let told = match heard {
+            Ok(answer) => self.plain.feed(lent, refresh, answer),
+            Err(_) => Err("an answer".to_string()),
+        };
+        match (told, heard) {
+            (Ok(()), Ok(answer)) => Ok(answer.clone()),
+            (told, heard) => Err(Unlike {
+                plain: told.err().unwrap_or_default(),
+                other: said(heard),
+            }),
+        }
     }
 
     /// What the plain table refuses, the other must refuse too, if it follows the paper.
@@ -173,6 +254,7 @@ impl<'a, J: Judge> Pair<'a, J> {
                 counts.opening(opening);
                 self.opening = *opening;
                 self.following = true;
+                self.origins.opened();
                 self.forget_staged();
             }
             Call::Clear => self.forget_staged(),
@@ -204,6 +286,7 @@ impl<'a, J: Judge> Pair<'a, J> {
         self.rows_to_remove.clear();
         self.stamps.clear();
         self.other_signs = 0;
+        self.refreshed = false;
     }
 
     /// Ends the comparison until the next opening where a merge does what the paper adds, or where a key merely shares
@@ -212,6 +295,11 @@ impl<'a, J: Judge> Pair<'a, J> {
         let Answer::Merged { status, .. } = answer else {
             return;
         };
+        match (std::mem::take(&mut self.refreshed), status) {
+            (true, 8) => counts.feature("refresh: the merge stops with 8"),
+            (true, 9) => counts.feature("refresh: the merge stops with 9"),
+            _ => {}
+        }
         let rows = std::mem::take(&mut self.rows_to_remove);
         for (row, key) in &rows {
             counts.row_removal(&self.seen, *row, key);

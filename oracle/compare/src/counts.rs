@@ -1,15 +1,18 @@
 //! What a run has seen, so that a generator which misses a case is found out.
 
 use crate::history::{Act, Step, needed, size};
-use calls::{Answer, Call, Contents, DEAD, Opening, Question, Subset};
+use crate::mentioned::{self, Mentioned};
+use crate::origins::Origin;
+use calls::{Answer, Call, Contents, DEAD, Opening, Question, Refresh, Subset};
 use std::collections::BTreeMap;
 
-/// A kind of call or question with the refusals that it has, in order. `AGAIN` is the second test 2, of the output.
+/// A kind of call or question with the refusals that it has, in order. `AGAIN` is the second test 2, of the output or the index
+/// store.
 type Kind = (&'static str, &'static [usize]);
 
 pub const AGAIN: usize = 19;
 
-const KINDS: [Kind; 19] = [
+const KINDS: [Kind; 20] = [
     ("open", &[1, 2]),
     ("insert", &[1, 3, 7]),
     ("remove by key", &[1, 3, 7]),
@@ -29,10 +32,15 @@ const KINDS: [Kind; 19] = [
     ("intersect", &[4, AGAIN]),
     ("rows since a note", &[1, 18]),
     ("precedence", &[1, 2, 6, 14]),
+    ("refresh", &[1, 2, 12, 6, AGAIN, 9, 7]),
 ];
 
-/// Those before this one are in the recorded list too; of its refusals a gate's run must have seen each often.
+/// Those before this one are in the recorded list too.
 pub const PRECEDENCE: usize = 18;
+const REFRESH: usize = 19;
+
+/// Of the refusals of these a gate's run must have seen each often.
+const OFTEN_REFUSED: [usize; 2] = [PRECEDENCE, REFRESH];
 
 /// Answers and turns that every full run must have seen.
 const FEATURES: [&str; 62] = [
@@ -159,10 +167,12 @@ const GATE: [&str; 37] = [
     "precedence: the sort column another key column",
 ];
 
-/// Refusals that a gate's run must have seen so many times, by their reasons.
-const OFTEN: [&str; 2] = [
+/// Refusals and answers that a gate's run must have seen so many times, by their reasons.
+const OFTEN: [&str; 4] = [
     "rows since a note: another generation",
     "rows since a note: more rows than there are",
+    "refresh: yes",
+    "refresh: no",
 ];
 const TIMES: u64 = 1_000;
 
@@ -210,6 +220,7 @@ fn kind(act: &Act) -> usize {
             Call::Merge => MERGE,
             Call::Compact => 5,
             Call::Clear => 6,
+            Call::Refresh(_) => REFRESH,
         },
         Act::Ask(question) => question_kind(question),
     }
@@ -520,6 +531,20 @@ impl Counts {
         }
     }
 
+    /// Counts a refresh by what it met.
+    pub fn refresh(
+        &mut self,
+        step: &Step,
+        refresh: &Refresh,
+        answer: &Answer,
+        before: &Mentioned,
+        index: (&Origin, bool),
+    ) {
+        for name in before.features(step, refresh, answer, index) {
+            self.feature(name);
+        }
+    }
+
     /// Counts an accepted opening.
     pub fn opening(&mut self, o: &Opening) {
         self.cleared_many = false;
@@ -741,12 +766,14 @@ impl Counts {
     /// What a gate's run has missed: kinds, refusals and turns never seen, and kinds that the other judge was never asked; also
     /// their refusals, if it follows the paper.
     pub fn missed_by_gate(&self, follows_paper: bool) -> Vec<String> {
-        let mut missing = self.missing(KINDS.len(), &GATE, |_| true);
-        let outcomes = self.steps.get(&PRECEDENCE).copied().unwrap_or_default();
-        for &number in KINDS[PRECEDENCE].1 {
-            if outcomes[number] < TIMES {
-                let times = outcomes[number];
-                missing.push(format!("precedence: refused {number} only {times} times"));
+        let turns = [&GATE[..], &mentioned::GATE].concat();
+        let mut missing = self.missing(KINDS.len(), &turns, |_| true);
+        for kind in OFTEN_REFUSED {
+            let outcomes = self.steps.get(&kind).copied().unwrap_or_default();
+            let (name, refusals) = KINDS[kind];
+            for &number in refusals.iter().filter(|&&number| outcomes[number] < TIMES) {
+                let (refused, times) = (outcome_name(number), outcomes[number]);
+                missing.push(format!("{name}: {refused} only {times} times"));
             }
         }
         for name in OFTEN {
@@ -755,11 +782,12 @@ impl Counts {
                 missing.push(format!("{name}: only {times} times"));
             }
         }
-        if !follows_paper {
-            let seen = |name: &&&str| self.features.contains_key(**name);
-            let unseen = RUST_GATE.iter().filter(|name| !seen(name));
-            missing.extend(unseen.map(|name| name.to_string()));
-        }
+        let own = match follows_paper {
+            true => [mentioned::UNSOUND, mentioned::UNSOUND_GATE].concat(),
+            false => RUST_GATE.to_vec(),
+        };
+        let unseen = own.iter().filter(|name| self.times(name) == 0);
+        missing.extend(unseen.map(|name| name.to_string()));
         for (kind, (name, refusals)) in KINDS.iter().enumerate() {
             let outcomes = self.asked.get(&kind).copied().unwrap_or_default();
             let refusals = if follows_paper { *refusals } else { &[] };
@@ -783,7 +811,11 @@ impl Counts {
                 .flat_map(|(_, outcomes)| outcomes)
                 .sum()
         };
-        println!("{} calls, {} questions", total(0..7), total(7..KINDS.len()));
+        println!(
+            "{} calls, {} questions",
+            total(0..7) + total(REFRESH..KINDS.len()),
+            total(7..REFRESH)
+        );
         println!(
             "{} answers compared with the other judge's",
             self.compared()
@@ -842,6 +874,7 @@ fn is_about_output(opening: &Opening, step: &Step) -> bool {
         Act::Ask(Question::Intersect { .. }) => return true,
         Act::Ask(Question::RefineOne { .. } | Question::RefineList { .. }) => true,
         Act::Ask(Question::Page { .. }) => true,
+        Act::Call(Call::Refresh(_)) => true,
         _ => false,
     };
     of_output && step.lent.rows >= needed(opening, 0).rows

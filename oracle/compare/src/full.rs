@@ -1,12 +1,15 @@
 //! Histories of the largest tables: cleared of few rows, filled with 65,536 rows, with half of them dead, compacted, filled
-//! again and stopped; and on the way refined, paged and intersected with lists of 65,536 ids, which are refused with one more.
+//! again and stopped; and on the way refined, paged and intersected with lists of 65,536 ids, which are refused with one more. In
+//! one more history rows are refreshed, by an index that catches up and starts afresh.
 
 use crate::history::{Act, Step, needed, with_exact_output, with_output};
-use calls::{Call, Condition, Lengths, Opening, Question, Subset};
+use calls::{Before, Call, Condition, Index, Lengths, Opening, Question, Refresh, Subset};
 use chance::Rng;
 
 /// How many such histories there are.
-pub const COUNT: u64 = 4;
+pub const COUNT: u64 = 5;
+/// The one with refreshes.
+const REFRESHED: u64 = 4;
 
 const ROWS: u32 = 65_536;
 const FEW: u32 = 1_000;
@@ -20,7 +23,7 @@ struct Shape {
 
 fn shape(number: u64) -> Shape {
     let (columns, keys, sort, rule) = match number {
-        0 => (8, 2, 3, 1),
+        0 | REFRESHED => (8, 2, 3, 1),
         1 => (8, 8, 0, 0),
         2 => (8, 1, 7, 3),
         _ => (1, 1, 0, 2),
@@ -34,7 +37,10 @@ fn shape(number: u64) -> Shape {
             capacity: ROWS,
             generation: if number == 2 { u32::MAX - 2 } else { 0 },
         },
-        rows_per_value: if number == 0 { 1_000 } else { 1 },
+        rows_per_value: match number {
+            0 | REFRESHED => 1_000,
+            _ => 1,
+        },
     }
 }
 
@@ -58,6 +64,10 @@ pub fn history(number: u64) -> Vec<Step> {
     };
     let w = &mut writer;
     w.call(Call::Open(w.shape.opening));
+    if number == REFRESHED {
+        w.refresh_rows();
+        return writer.steps;
+    }
     // Few rows among many slots, some of which meet, are cleared; the last generations are kept for later.
     if number != 2 {
         w.insert(0..FEW);
@@ -113,6 +123,45 @@ impl Writer {
     fn ask_one(&mut self, question: Question) {
         let (lent, act) = (self.lent, Act::Ask(question));
         self.steps.push(Step { lent, act });
+    }
+
+    /// Half of the table, of which a quarter and then another is refreshed by one column; then by all columns, with too little room
+    /// for the records at first; then the table is compacted, filled, and refreshed once more, where the merge has no room.
+    fn refresh_rows(&mut self) {
+        let all: Vec<u32> = (0..8).collect();
+        let one = self.cells(777)[0];
+        self.insert(0..ROWS / 2);
+        self.call(Call::Merge);
+        for value in 1..3 {
+            self.refresh(0, &[4], &[value, 9], 33);
+            self.call(Call::Merge);
+        }
+        let pending = self.lent.pending;
+        self.lent.pending = ROWS as usize / 2 * 15 - 1;
+        self.refresh(1, &all, &[0, 1, 2, 3], 33);
+        self.lent.pending = pending;
+        self.refresh(1, &all, &[one], 33);
+        self.call(Call::Merge);
+        self.call(Call::Compact);
+        self.refresh(0, &[4], &[1], 34);
+        self.call(Call::Merge);
+        self.insert(34_000..34_000 + ROWS * 3 / 8);
+        self.call(Call::Merge);
+        self.refresh(0, &[4], &[9], 80);
+        self.refresh(1, &all, &[one, u32::MAX], 80);
+        self.refresh(1, &all, &[one], 80);
+        self.call(Call::Merge);
+    }
+
+    /// A refresh over the index store of this number, as the last left it.
+    fn refresh(&mut self, store: usize, columns: &[u32], values: &[u32], stamp: u32) {
+        let before = Before::Nothing;
+        self.call(Call::Refresh(Refresh {
+            index: Index { store, before },
+            columns: columns.to_vec(),
+            values: values.to_vec(),
+            stamp,
+        }));
     }
 
     /// The cells of row `i` of those ever made: its key is its own, its sort cell rises with it.

@@ -2,7 +2,9 @@
 //! at what is there: live rows, rows that have moved, the last sort value, a full table.
 
 use crate::history::{Act, Step, UNOPENED, needed};
+use crate::origins::Origins;
 use crate::questions;
+use crate::refreshes;
 use calls::{Answer, Call, Contents, DEAD, Judge, Lengths, Opening, Question};
 use chance::Rng;
 use plain::Plain;
@@ -17,6 +19,8 @@ pub struct Manner {
     pub loose: bool,
     /// Whether every row is looked at after each call that may change rows.
     pub thorough: bool,
+    /// Whether rows are refreshed.
+    pub refreshes: bool,
 }
 
 pub const ANY: Manner = Manner {
@@ -24,6 +28,7 @@ pub const ANY: Manner = Manner {
     pending: None,
     loose: true,
     thorough: false,
+    refreshes: true,
 };
 
 /// What sets one history apart from another.
@@ -40,6 +45,8 @@ struct Flavour {
     /// The most stagings before a merge, and the most questions after a call.
     batch: u32,
     questions: u32,
+    /// Chance in a hundred of a refresh behind a staging, and before a merge.
+    refreshing: u32,
 }
 
 pub struct Writer {
@@ -55,6 +62,8 @@ pub struct Writer {
     remembered: Vec<(u32, Vec<u32>)>,
     /// Versions seen at some time, also before the last opening: generation and row count.
     versions: Vec<(u32, u32)>,
+    /// The index stores.
+    pub origins: Origins,
     steps: Vec<Step>,
     rounds: u32,
 }
@@ -120,6 +129,10 @@ fn flavour(rng: &mut Rng, manner: &Manner) -> Flavour {
             true => rng.pick(&[2, 4, 6]),
             false => rng.pick(&[0, 1, 2, 5]),
         },
+        refreshing: match manner.refreshes {
+            true => rng.pick(&[0, 0, 0, 3, 10, 30]),
+            false => 0,
+        },
     }
 }
 
@@ -138,18 +151,22 @@ impl Writer {
             stamp: 0,
             remembered: Vec::new(),
             versions: Vec::new(),
+            origins: Origins::default(),
             steps: Vec::new(),
             rounds: 0,
         }
     }
 
     /// Writes a call with the stores that it is lent.
-    fn call_with(&mut self, lent: Lengths, call: Call) -> Answer {
+    pub fn call_with(&mut self, lent: Lengths, call: Call) -> Answer {
         let answer = self.scout.call(&lent, &call);
         let is_staging = matches!(
             call,
-            Call::Insert(_) | Call::RemoveKey(_) | Call::RemoveRow(..)
+            Call::Insert(_) | Call::RemoveKey(_) | Call::RemoveRow(..) | Call::Refresh(_)
         );
+        if matches!(call, Call::Open(_)) && answer == Answer::Done {
+            self.origins.opened();
+        }
         let act = Act::Call(call);
         self.steps.push(Step { lent, act });
         if !is_staging {
@@ -172,7 +189,7 @@ impl Writer {
 
     /// The stores for the next call: mostly as long as needed, at times longer, now and then one of them too short. The
     /// pending store is never longer than usual: what is staged there would not fit the next time.
-    fn lent(&mut self) -> Lengths {
+    pub fn lent(&mut self) -> Lengths {
         let mut lent = needed(&self.opening, self.flavour.pending);
         if !self.manner.loose || self.rng.percent(80) {
             return lent;
@@ -212,6 +229,9 @@ impl Writer {
             Call::Clear,
         ] {
             self.call(call);
+        }
+        if self.manner.refreshes {
+            refreshes::refresh(self);
         }
         for kind in 0..self.kinds() {
             questions::ask(self, kind);
@@ -295,12 +315,14 @@ impl Writer {
             _ => {
                 for _ in 0..self.rng.within(0, self.flavour.batch) {
                     self.stage();
+                    self.refresh_perhaps();
                     if self.rng.percent(20) {
                         self.ask_some();
                     }
                 }
             }
         }
+        self.refresh_perhaps();
         let answer = match self.rng.below(100) {
             0..=81 => self.call(Call::Merge),
             82..=90 => self.call(Call::Compact),
@@ -309,6 +331,7 @@ impl Writer {
                 self.open_wrongly();
                 self.call(Call::Merge)
             }
+            _ if self.manner.refreshes && self.rng.percent(30) => self.open_again(),
             _ => self.open(),
         };
         // The Rust cannot follow beyond a stop, so most tables are opened anew there.
@@ -320,6 +343,24 @@ impl Writer {
             questions::ask_about_every_row(self);
         }
         self.ask_some();
+    }
+
+    /// One refresh or two, mostly of a table that has rows.
+    fn refresh_perhaps(&mut self) {
+        if self.flavour.refreshing == 0 || !self.rng.percent(self.flavour.refreshing) {
+            return;
+        }
+        if self.seen.rows > 0 || self.rng.percent(20) {
+            for _ in 0..self.rng.pick(&[1, 1, 1, 2]) {
+                refreshes::refresh(self);
+            }
+        }
+    }
+
+    /// Another table with the same numbers, so that index stores may pass for its own.
+    fn open_again(&mut self) -> Answer {
+        let lent = needed(&self.opening, self.flavour.pending);
+        self.call_with(lent, Call::Open(self.opening))
     }
 
     /// How many kinds of question there are to ask.
@@ -343,6 +384,12 @@ impl Writer {
                 self.remembered.push(row);
             }
         }
+    }
+
+    /// The cells of a row that was seen at some time.
+    pub fn a_remembered_row(&mut self) -> Option<Vec<u32>> {
+        let place = self.rng.place(self.remembered.len());
+        self.remembered.get(place).map(|row| row.1.clone())
     }
 
     pub fn a_live_row(&mut self) -> Option<(u32, Vec<u32>)> {
@@ -466,7 +513,7 @@ impl Writer {
     }
 
     /// Mostly no lower than the last recorded value, and often the same.
-    fn next_stamp(&mut self) -> u32 {
+    pub fn next_stamp(&mut self) -> u32 {
         if self.rng.below(1000) < self.flavour.falling {
             let fall = self.rng.within(1, 4);
             return self.stamp.saturating_sub(fall);

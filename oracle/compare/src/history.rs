@@ -14,7 +14,7 @@ pub enum Act {
     Ask(Question),
 }
 
-/// Stores exactly as long as the opening's numbers ask for.
+/// Stores exactly as long as the opening's numbers ask for; an index store for eight columns.
 pub fn needed(o: &Opening, pending: usize) -> Lengths {
     let capacity = o.capacity as usize;
     Lengths {
@@ -24,6 +24,7 @@ pub fn needed(o: &Opening, pending: usize) -> Lengths {
         pending,
         live_words: capacity.div_ceil(64),
         base_words: capacity.div_ceil(64),
+        index: plain::index_words(o.capacity, 8),
     }
 }
 

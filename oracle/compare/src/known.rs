@@ -1,10 +1,10 @@
 //! The known differences, shown on one case each, so that they stay what the comparison takes them for.
 
-use crate::compare::Rival;
+use crate::compare::{RUST_STOP, Rival};
 use crate::guard::guarded;
 use crate::history::{Act, UNOPENED, needed, with_exact_output};
 use crate::text::parse;
-use calls::{Answer, Judge, Lengths, Opening, Question, Subset};
+use calls::{Answer, Call, Judge, Lengths, Opening, Question, Subset};
 use chance::Rng;
 use plain::Plain;
 use std::collections::HashMap;
@@ -15,6 +15,7 @@ pub fn check<J: Judge>(rival: &Rival<J>) -> Result<Vec<String>, String> {
         shared_hash(rival)?,
         greatest_id(rival)?,
         older_stamp(rival)?,
+        older_stamp_of_a_refresh(rival)?,
         longest_page(rival)?,
     ])
 }
@@ -72,6 +73,28 @@ fn older_stamp<J: Judge>(rival: &Rival<J>) -> Result<String, String> {
         other => Err(format!(
             "an older stamp after a compaction leaves {other:?}"
         )),
+    }
+}
+
+/// A refresh with stamp 0 of a row of stamp 1: refused here; the Rust stages it, and panics at the merge.
+fn older_stamp_of_a_refresh<J: Judge>(rival: &Rival<J>) -> Result<String, String> {
+    let lines = ["O,1,1,0,0,1,0", "I,1", "M"].map(String::from);
+    let Some(Act::Call(refresh)) = parse("H,0,0,0,0,0,1,0,1") else {
+        return Err("not a refresh".to_string());
+    };
+    let ours = play(Plain::new(), &lines).call(&stores(), &refresh);
+    let mut other = play((rival.make)(), &lines);
+    let theirs = other.call(&stores(), &refresh);
+    let merged = guarded(|| other.call(&stores(), &Call::Merge));
+    match (ours, theirs, merged) {
+        (Answer::Refused(9), Answer::Refreshed(true, _), Err(panic))
+            if panic.contains(RUST_STOP) =>
+        {
+            Ok(format!(
+                "a refresh with stamp 0 of a row of stamp 1: refused here, a panic of the Rust's merge ({panic})"
+            ))
+        }
+        other => Err(format!("a refresh with an older stamp gives {other:?}")),
     }
 }
 

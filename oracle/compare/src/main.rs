@@ -10,8 +10,11 @@ mod guard;
 mod history;
 mod known;
 mod lists;
+mod mentioned;
+mod origins;
 mod questions;
 mod record;
+mod refreshes;
 mod replays;
 mod run;
 mod sequences;
@@ -107,7 +110,7 @@ fn gate() -> Result<(), String> {
     let hostile = begin_hostile()?;
     run::gate(&RUST)?;
     println!("the proved library and the plain table:");
-    println!("  {}", run::gate_proved(&PROVED)?);
+    print(run::gate_proved(&PROVED)?)?;
     println!(
         "lists of calls and of questions, each by one call of the proved library, and the plain table:"
     );

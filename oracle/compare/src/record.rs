@@ -23,6 +23,7 @@ const MANNER: Manner = Manner {
     pending: Some(PENDING),
     loose: false,
     thorough: true,
+    refreshes: false,
 };
 
 /// Asked before any opening, so each is refused with 1, save the last.

@@ -80,12 +80,13 @@ fn lists(seed: u64) -> Vec<List> {
                 lent: step.lent,
                 calls: Vec::new(),
             }),
+            // A refresh is lent a store that a list of calls has none of.
+            Act::Call(Call::Refresh(_)) | Act::Ask(_) => {}
             Act::Call(call) => {
                 if let Some(list) = lists.last_mut() {
                     list.calls.push(call);
                 }
             }
-            Act::Ask(_) => {}
         }
     }
     lists
@@ -112,6 +113,7 @@ fn call_words(calls: &[Call]) -> Vec<u32> {
             Call::Merge => frame(&mut words, 3, &[]),
             Call::Compact => frame(&mut words, 4, &[]),
             Call::Clear => frame(&mut words, 5, &[]),
+            Call::Refresh(_) => unreachable!("left out of every list"),
         }
     }
     words

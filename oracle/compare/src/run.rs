@@ -6,6 +6,7 @@ use crate::full;
 use crate::generate::{ANY, history};
 use crate::history::Step;
 use crate::known;
+use crate::mentioned;
 use crate::sequences;
 use crate::short::{families, small_questions};
 use crate::shrink::{lines, shrink};
@@ -51,15 +52,27 @@ pub fn gate<J: Judge>(rust: &Rival<J>) -> Result<(), String> {
 }
 
 /// Histories against the proved table: every answer, refusals and stops too, and every cell of its stores.
-pub fn gate_proved<J: Judge>(proved: &Rival<J>) -> Result<String, String> {
+pub fn gate_proved<J: Judge>(proved: &Rival<J>) -> Result<Vec<String>, String> {
     let counts = histories(proved, PROVED_COUNT)?;
-    Ok(format!(
-        "tables: {} histories by chance, {} short ones, {} of full size, {} answers",
-        counts.histories,
-        counts.short_histories,
-        counts.full_histories,
-        counts.compared()
-    ))
+    let unsound: u64 = mentioned::UNSOUND
+        .iter()
+        .map(|name| counts.times(name))
+        .sum();
+    Ok(vec![
+        format!(
+            "tables: {} histories by chance, {} short ones, {} of full size, {} answers",
+            counts.histories,
+            counts.short_histories,
+            counts.full_histories,
+            counts.compared()
+        ),
+        format!(
+            "refreshes: yes {}, no {}; {unsound} of them over unsound index stores, of which {} leave rows out",
+            counts.times("refresh: yes"),
+            counts.times("refresh: no"),
+            counts.times("refresh: unsound, rows are left out"),
+        ),
+    ])
 }
 
 /// Every short history of document 02, under all four rules. None of them compacts, and none fills its table.

@@ -63,7 +63,44 @@ pub fn families() -> Vec<Family> {
     }
     families.push(sort_column_0(4_294_967_294));
     families.push(sort_column_0(0));
+    families.push(refreshed());
+    families.push(refreshed_keys());
     families
+}
+
+/// Refreshes of a level over one index store, and of a key over the same and over a copy, among all else.
+fn refreshed() -> Family {
+    let letters = [
+        "I,0,5,1",
+        "I,1,5,2",
+        "I,1,6,2",
+        "R,0",
+        "M",
+        "G",
+        "C",
+        "H,0,0,0,0,2,1,1,5",
+        "H,0,0,0,0,2,2,1,0,0,6",
+        "H,1,2,0,0,1,1,1,5,6",
+    ];
+    let end = ["M", "H,0,0,0,0,3,1,1,5", "H,1,0,0,0,2,1,1,5", "M", "V"];
+    Family::new(&["O,3,1,2,1,4,0"], &letters, 5, &end)
+}
+
+/// The sort column is the key, at the last generation but one: a refresh gives rows another key, or the dead mark.
+fn refreshed_keys() -> Family {
+    let letters = [
+        "I,3,0",
+        "I,4,0",
+        "I,4,1",
+        "R,3",
+        "M",
+        "G",
+        "H,0,0,0,0,4,1,1,0",
+        "H,0,0,0,0,5,2,0,0,3,4",
+        "H,0,1,0,0,4294967295,1,1,1",
+    ];
+    let end = ["M", "H,0,0,0,0,4294967295,1,1,0", "M", "V"];
+    Family::new(&["O,2,1,0,1,4,4294967294"], &letters, 5, &end)
 }
 
 /// Three columns, one key, room for three rows. 4294967295 is the least of the three levels, minus one.

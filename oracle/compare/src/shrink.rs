@@ -1,25 +1,30 @@
 //! From a history in which the judges differ, the smallest that greed finds: fewer steps, columns, ids and conditions,
 //! then smaller numbers.
 
-use crate::history::{Act, Step, with_exact_output};
+use crate::history::{Act, Step, UNOPENED, needed, with_exact_output};
 use crate::text::{parse, step_line};
-use calls::{Call, Condition, Lengths, Question, Subset};
+use calls::{Before, Call, Condition, Lengths, Opening, Question, Refresh, Subset};
 
-/// Stores that are long enough for anything.
-const AMPLE: Lengths = Lengths {
-    rows: 8 * 65_536,
-    keys: 2 * 65_536,
-    sort_entries: 2 * 65_536,
-    pending: 1 << 24,
-    live_words: 1024,
-    base_words: 1024,
-};
+/// Stores that are long enough for any table of this history.
+fn ample(history: &[Step]) -> Lengths {
+    let capacity = |step: &Step| match &step.act {
+        Act::Call(Call::Open(opening)) => opening.capacity.min(65_536),
+        _ => 1,
+    };
+    let largest = Opening {
+        columns: 8,
+        capacity: history.iter().map(capacity).max().unwrap_or(1),
+        ..UNOPENED
+    };
+    needed(&largest, 1 << 16)
+}
 
 /// How many histories are tried before what has been found must do.
 const MOST_TRIES: u32 = 40_000;
 
 struct Shrinker<F> {
     fails: F,
+    ample: Lengths,
     best: Vec<Step>,
     tries: u32,
 }
@@ -28,10 +33,12 @@ struct Shrinker<F> {
 pub fn shrink<F: Fn(&[Step]) -> bool>(history: &[Step], fails: F) -> Vec<Step> {
     let mut shrinker = Shrinker {
         fails,
+        ample: ample(history),
         best: history.to_vec(),
         tries: 0,
     };
-    shrinker.try_out(history.iter().map(with_ample_stores).collect());
+    let lent = shrinker.ample;
+    shrinker.try_out(history.iter().map(|step| with_stores(step, lent)).collect());
     loop {
         let before = shrinker.tries;
         let mut smaller = shrinker.drop_steps();
@@ -43,12 +50,12 @@ pub fn shrink<F: Fn(&[Step]) -> bool>(history: &[Step], fails: F) -> Vec<Step> {
     }
 }
 
-fn with_ample_stores(step: &Step) -> Step {
+fn with_stores(step: &Step, lent: Lengths) -> Step {
     let act = match &step.act {
         Act::Call(call) => Act::Call(call.clone()),
         Act::Ask(question) => Act::Ask(with_exact_output(question.clone())),
     };
-    Step { lent: AMPLE, act }
+    Step { lent, act }
 }
 
 impl<F: Fn(&[Step]) -> bool> Shrinker<F> {
@@ -83,10 +90,11 @@ impl<F: Fn(&[Step]) -> bool> Shrinker<F> {
 
     fn drop_columns(&mut self) -> bool {
         let mut smaller = false;
+        let lent = self.ample;
         for column in (0..8).rev() {
             let narrower = self.best.iter().scan(None, |table, step| {
                 let act = without_column(&step.act, column, table);
-                Some(Step { lent: AMPLE, act })
+                Some(Step { lent, act })
             });
             let candidate: Vec<Step> = narrower.collect();
             if lines(&candidate) != lines(&self.best) {
@@ -98,12 +106,13 @@ impl<F: Fn(&[Step]) -> bool> Shrinker<F> {
 
     fn simplify_steps(&mut self) -> bool {
         let mut smaller = false;
+        let lent = self.ample;
         for place in 0..self.best.len() {
             loop {
                 let simpler = simpler_acts(&self.best[place].act);
                 let found = simpler.into_iter().any(|act| {
                     let mut candidate = self.best.clone();
-                    candidate[place] = Step { lent: AMPLE, act };
+                    candidate[place] = Step { lent, act };
                     self.try_out(candidate)
                 });
                 if !found {
@@ -143,6 +152,11 @@ fn without_column(act: &Act, column: u32, keys: &mut Option<u32>) -> Act {
         {
             drop_cell(key)
         }
+        Act::Call(Call::Refresh(refresh)) => {
+            for named in &mut refresh.columns {
+                *named -= u32::from(column < *named);
+            }
+        }
         _ => {}
     }
     act
@@ -151,8 +165,10 @@ fn without_column(act: &Act, column: u32, keys: &mut Option<u32>) -> Act {
 /// Acts that are a little simpler: an id, a pair or a condition less, or a smaller number.
 fn simpler_acts(act: &Act) -> Vec<Act> {
     let mut simpler = Vec::new();
-    if let Act::Ask(question) = act {
-        simpler.extend(fewer_parts(question).into_iter().map(Act::Ask));
+    match act {
+        Act::Ask(question) => simpler.extend(fewer_parts(question).into_iter().map(Act::Ask)),
+        Act::Call(Call::Refresh(refresh)) => simpler.extend(simpler_refreshes(refresh)),
+        Act::Call(_) => {}
     }
     let line = step_line(act);
     let fields: Vec<&str> = line.split(',').collect();
@@ -166,6 +182,30 @@ fn simpler_acts(act: &Act) -> Vec<Act> {
                 simpler.extend(parse(&changed.join(",")));
             }
         }
+    }
+    simpler
+}
+
+/// The refresh with a column or a value less, or with nothing done to its index store before.
+fn simpler_refreshes(refresh: &Refresh) -> Vec<Act> {
+    let mut simpler = Vec::new();
+    let mut change = |edit: &dyn Fn(&mut Refresh)| {
+        let mut changed = refresh.clone();
+        edit(&mut changed);
+        simpler.push(Act::Call(Call::Refresh(changed)));
+    };
+    for place in 0..refresh.columns.len() {
+        change(&|of| {
+            of.columns.remove(place);
+        });
+    }
+    for place in 0..refresh.values.len() {
+        change(&|of| {
+            of.values.remove(place);
+        });
+    }
+    if refresh.index.before != Before::Nothing {
+        change(&|of| of.index.before = Before::Nothing);
     }
     simpler
 }

@@ -3,7 +3,8 @@
 use crate::compare::{RUST_STOP, Rival, compare};
 use crate::counts::Counts;
 use crate::generate::{ANY, history};
-use crate::history::Step;
+use crate::history::{Act, Step};
+use crate::origins::{Origin, Origins};
 use crate::run::{full, run};
 use crate::shrink::{lines, shrink};
 use crate::text::{parse, step_line};
@@ -30,6 +31,8 @@ enum Fault {
     Limit,
     /// A page that reaches the end of its subset says so one id too late.
     LateNone,
+    /// A refresh leaves out the last row that it finds.
+    Refresh,
 }
 
 impl Judge for Faulty {
@@ -41,6 +44,10 @@ impl Judge for Faulty {
                 Answer::Merged { status: 9, .. } if self.fault == Fault::OtherPanic => panic!("9"),
                 Answer::Merged { status: 9, .. } if self.fault != Fault::Never9 => {
                     panic!("{RUST_STOP} (1 vs. 2)")
+                }
+                Answer::Refreshed(yes, mut rows) if self.fault == Fault::Refresh => {
+                    rows.pop();
+                    Answer::Refreshed(yes, rows)
                 }
                 answer => {
                     self.compact_early(lent, &answer);
@@ -164,6 +171,49 @@ fn fault_in_page() {
 }
 
 #[test]
+fn fault_in_refresh() {
+    let lines = smallest(|| faulty(Fault::Refresh));
+    let letters: String = lines.iter().map(|line| &line[..1]).collect();
+    assert_eq!(letters, "OIMH", "{lines:?}");
+}
+
+/// Which index stores are unsound, by document 02's words.
+#[test]
+fn origins_of_index_stores() {
+    let mut origins = Origins::default();
+    let mut is_sound = |line: &str, opened: bool| {
+        if opened {
+            origins.opened();
+        }
+        let Some(Act::Call(Call::Refresh(refresh))) = parse(line) else {
+            panic!("not a refresh: {line}");
+        };
+        let sound = !matches!(origins.take(&refresh.index), Origin::Foreign(_));
+        origins.written(&refresh.index, &refresh.columns, (0, 0));
+        sound
+    };
+    // New, taken again, a copy, and both after the first went on.
+    assert!(is_sound("H,0,0,0,0,1,0", false));
+    assert!(is_sound("H,0,0,0,0,1,0", false));
+    assert!(is_sound("H,1,2,0,0,1,0", false));
+    assert!(is_sound("H,0,0,0,0,1,0", false));
+    assert!(is_sound("H,1,0,0,0,1,0", false));
+    // One word changed, for good; but any word behind the first of a new one.
+    assert!(!is_sound("H,0,4,2,7,1,0", false));
+    assert!(!is_sound("H,0,0,0,0,1,0", false));
+    assert!(is_sound("H,2,4,2,7,1,0", false));
+    // Made new, by its first word alone too.
+    assert!(is_sound("H,0,1,0,0,1,0", false));
+    assert!(!is_sound("H,0,4,0,7,1,0", false));
+    assert!(is_sound("H,0,4,0,0,1,0", false));
+    assert!(!is_sound("H,0,3,9,0,1,0", false));
+    // Another opening: what was written before is another table's.
+    assert!(!is_sound("H,1,0,0,0,1,0", true));
+    assert!(is_sound("H,3,0,0,0,1,0", true));
+    assert!(!is_sound("H,3,2,1,0,1,0", false));
+}
+
+#[test]
 fn a_run_tells_the_smallest_history() {
     let told = run(&rival(|| faulty(Fault::LateNone)), 2000, 0).expect_err("a difference");
     let lines: Vec<&str> = told.lines().collect();
@@ -197,6 +247,12 @@ fn a_gate_that_never_asked() {
         "page: n above 2^32",
         "intersect: never asked, refused 4",
         "full size: stop 8",
+        "precedence: refused 14 only 0 times",
+        "refresh: refused 12 only 0 times",
+        "refresh: refused 2 again only 0 times",
+        "refresh: never asked, refused 7",
+        "refresh: yes: only 0 times",
+        "refresh: unsound, rows are left out",
     ] {
         assert!(missed.iter().any(|it| it == line), "{line}");
     }
@@ -247,6 +303,10 @@ fn lines_of_no_form() {
         "N,2,1,1,0,0,0",
         "A,1,2,5,0",
         "O,1,1",
+        "H,4,0,0,0,1,0",
+        "H,0,5,0,0,1,0",
+        "H,0,2,4,0,1,0",
+        "H,0,0,0,0,1,2,1",
     ] {
         assert!(parse(line).is_none(), "{line}");
     }

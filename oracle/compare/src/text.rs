@@ -1,7 +1,9 @@
 //! Steps and answers as lines: a capital letter for the kind, then decimals, parted by commas.
 
 use crate::history::{Act, with_exact_output};
-use calls::{Answer, Call, Condition, Opening, Question, Subset};
+use calls::{
+    Answer, Before, Call, Condition, INDEX_STORES, Index, Opening, Question, Refresh, Subset,
+};
 
 /// The line of a call or a question. Lengths of stores and outputs are not in it.
 pub fn step_line(act: &Act) -> String {
@@ -32,7 +34,24 @@ fn call_line(call: &Call) -> String {
         Call::Merge => line("M", &[]),
         Call::Clear => line("C", &[]),
         Call::Compact => line("G", &[]),
+        Call::Refresh(refresh) => line("H", &refresh_numbers(refresh)),
     }
+}
+
+/// The index store and what is done to it before, the stamp, the columns behind their number, and the values.
+fn refresh_numbers(refresh: &Refresh) -> Vec<u32> {
+    let before = match refresh.index.before {
+        Before::Nothing => [0, 0, 0],
+        Before::Renew => [1, 0, 0],
+        Before::Copy(other) => [2, other as u32, 0],
+        Before::Fill(seed) => [3, seed, 0],
+        Before::Change(place, word) => [4, place, word],
+    };
+    let mut numbers = vec![refresh.index.store as u32];
+    numbers.extend(before);
+    numbers.extend([refresh.stamp, refresh.columns.len() as u32]);
+    numbers.extend(refresh.columns.iter().chain(&refresh.values));
+    numbers
 }
 
 fn question_line(question: &Question) -> String {
@@ -106,6 +125,10 @@ pub fn answer_line(answer: &Answer) -> String {
             kept,
             dropped,
         } => line("=M", &[*status, u32::from(*added), *place, *kept, *dropped]),
+        Answer::Refreshed(yes, rows) => {
+            let rows: Vec<u32> = rows.iter().map(|of| of.row).collect();
+            line("=H", &[&[u32::from(*yes)], rows.as_slice()].concat())
+        }
         Answer::None => line("=N", &[]),
         Answer::Row(row, cells) => line("=R", &[&[*row], cells.as_slice()].concat()),
         Answer::Cell(cell) => line("=C", &[*cell]),
@@ -195,8 +218,34 @@ fn call(letter: &str, numbers: &mut Numbers) -> Option<Call> {
         "M" => Some(Call::Merge),
         "C" => Some(Call::Clear),
         "G" => Some(Call::Compact),
+        "H" => Some(Call::Refresh(refresh(numbers)?)),
         _ => None,
     }
+}
+
+fn refresh(numbers: &mut Numbers) -> Option<Refresh> {
+    let store = index_store(numbers.one()?)?;
+    let before = match numbers.some(3)?[..] {
+        [0, 0, 0] => Before::Nothing,
+        [1, 0, 0] => Before::Renew,
+        [2, other, 0] => Before::Copy(index_store(other)?),
+        [3, seed, 0] => Before::Fill(seed),
+        [4, place, word] => Before::Change(place, word),
+        _ => return None,
+    };
+    let (stamp, columns) = (numbers.one()?, numbers.one()?);
+    Some(Refresh {
+        index: Index { store, before },
+        columns: numbers.some(columns)?,
+        values: numbers.rest()?,
+        stamp,
+    })
+}
+
+/// The number of an index store that there is.
+fn index_store(number: u32) -> Option<usize> {
+    let number = number as usize;
+    (number < INDEX_STORES).then_some(number)
 }
 
 fn question(letter: &str, numbers: &mut Numbers) -> Option<Question> {

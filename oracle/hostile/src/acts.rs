@@ -1,7 +1,7 @@
 //! Calls and questions aimed at the limits of whatever header is at hand.
 
 use crate::image::{Image, hostile_number};
-use calls::{Call, Condition, DEAD, Header, Opening, Question, Subset};
+use calls::{Before, Call, Condition, DEAD, Header, Index, Opening, Question, Refresh, Subset};
 use chance::Rng;
 
 /// One call of a C function that is shipped.
@@ -294,6 +294,46 @@ fn question(rng: &mut Rng, image: &Image) -> Question {
     }
 }
 
+/// The columns that the index store names, mostly, if they are there; else others, one of them anything now and then.
+fn named_columns(rng: &mut Rng, image: &Image) -> Vec<u32> {
+    let columns = image.numbers().columns;
+    let count = image.index.get(3).map_or(0, |&count| count.min(9) as usize);
+    let named = image.index.get(4..4 + count).unwrap_or(&[]);
+    let are_there = named.iter().all(|&column| column < columns);
+    if !named.is_empty() && rng.percent(if are_there { 70 } else { 10 }) {
+        return named.to_vec();
+    }
+    let count = rng.pick(&[0, 1, 1, 2, 2, 3, 8, 9]);
+    let mut named: Vec<u32> = (0..count).map(|_| rng.below(columns)).collect();
+    if count > 0 && rng.percent(10) {
+        let place = rng.place(count);
+        named[place] = hostile_number(rng, &image.header);
+    }
+    named
+}
+
+/// A refresh of values that rows have, or others, with a stamp about the kept one.
+pub fn refresh(rng: &mut Rng, image: &Image) -> Call {
+    let largest = image.numbers().largest.unwrap_or(0);
+    let count = match rng.below(60) {
+        0 => rng.within(1_023, 1_026),
+        _ => rng.pick(&[0, 1, 1, 2, 3, 20]),
+    };
+    Call::Refresh(Refresh {
+        index: Index {
+            store: 0,
+            before: Before::Nothing,
+        },
+        columns: named_columns(rng, image),
+        values: (0..count).map(|_| cell(rng, image)).collect(),
+        stamp: match rng.below(6) {
+            0 => hostile_number(rng, &image.header),
+            1 => largest.saturating_sub(1),
+            _ => largest.saturating_add(rng.below(2)),
+        },
+    })
+}
+
 /// Keys whose home slots lie near each other, at the end of the ring.
 pub fn crowded_keys(rng: &mut Rng, keys: u32) -> Vec<Vec<u32>> {
     let mut crowded = Vec::new();
@@ -328,13 +368,14 @@ pub fn staging(rng: &mut Rng, image: &Image, keys: &[Vec<u32>]) -> Call {
 }
 
 pub fn act(rng: &mut Rng, image: &Image) -> Act {
-    match rng.below(20) {
+    match rng.below(22) {
         0 => Act::Call(Call::Open(opening(rng, image))),
         1..=4 => Act::Call(staging(rng, image, &[])),
         5..=8 => Act::Call(Call::Merge),
         9 | 10 => Act::Call(Call::Compact),
         11 => Act::Call(Call::Clear),
         12 => Act::IsSound,
+        13 | 14 => Act::Call(refresh(rng, image)),
         _ => ask(rng, image),
     }
 }

@@ -14,6 +14,8 @@ pub struct Image {
     pub pending: Vec<u32>,
     pub live: Vec<u32>,
     pub base: Vec<u32>,
+    /// The index store of refreshes.
+    pub index: Vec<u32>,
 }
 
 /// Numbers at the edges of something.
@@ -80,7 +82,10 @@ impl Image {
         let capacity = h.capacity.min(65_537) as usize;
         let columns = h.columns.min(9) as usize;
         let words = capacity.div_ceil(64);
+        let named = rng.pick(&[0, 1, 1, 2, 2, 3]);
         let mut more = || if rng.percent(20) { rng.place(5) } else { 0 };
+        let mut index = vec![filler; plain::index_words(h.capacity.min(65_537), named) + more()];
+        index[0] = 0;
         Image {
             header: h.words().to_vec(),
             rows: vec![filler; (capacity * columns + more()).min(8 * 65_536)],
@@ -89,6 +94,7 @@ impl Image {
             pending: vec![filler; pending],
             live: vec![filler; 2 * (words + more())],
             base: vec![filler; words + more()],
+            index,
         }
     }
 
@@ -118,6 +124,7 @@ impl Image {
             pending: self.pending.len(),
             live_words: self.live.len() / 2,
             base_words: self.base.len(),
+            index: self.index.len(),
         }
     }
 
@@ -189,14 +196,15 @@ impl Image {
     /// Makes one store, or the header, shorter or longer than it was.
     pub fn resize(&mut self, rng: &mut Rng) {
         let word = rng.next() as u32;
-        let (store, unit) = match rng.below(8) {
+        let (store, unit) = match rng.below(9) {
             0 => (&mut self.header, 1),
             1 | 2 => (&mut self.rows, 1),
             3 => (&mut self.keys, 1),
             4 => (&mut self.sorts, 1),
             5 => (&mut self.pending, 1),
             6 => (&mut self.live, 2),
-            _ => (&mut self.base, 1),
+            7 => (&mut self.base, 1),
+            _ => (&mut self.index, 1),
         };
         let length = store.len() / unit;
         let length = match rng.below(6) {
@@ -229,6 +237,23 @@ impl Image {
         self.fill_keys(rng, &h, &header);
         self.fill_sorts(rng, &h, &header);
         self.fill_pending(rng, &h, &header);
+        self.fill_index(rng, &h);
+    }
+
+    /// An index that nobody made, or a new one, or one with a word changed.
+    pub fn fill_index(&mut self, rng: &mut Rng, h: &Header) {
+        let named = (0..rng.below(4))
+            .map(|_| rng.below(h.columns))
+            .collect::<Vec<_>>();
+        let numbers = (h.capacity, h.generation, h.rows);
+        match rng.below(4) {
+            0 => self.index.fill(0),
+            1 if !self.index.is_empty() => {
+                let place = rng.place(self.index.len());
+                self.index[place] = hostile_number(rng, &self.header);
+            }
+            _ => proved_table::fill_index(rng, &mut self.index, &named, numbers),
+        }
     }
 
     /// Slots that name rows, some with the bits of their key's hash, some free.

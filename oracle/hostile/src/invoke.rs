@@ -3,7 +3,7 @@
 use crate::acts::Act;
 use crate::image::Image;
 use crate::session::{Session, Shared, Slice, Slot};
-use calls::{Call, Condition, Opening, Question, Subset};
+use calls::{Call, Condition, Opening, Question, Refresh, Subset};
 use chance::Rng;
 use mouldgrey::{Constraint, raw};
 
@@ -42,6 +42,42 @@ impl Session {
                 let keys = self.write(rng, Slot::Keys, &image.keys);
                 unsafe { raw::mouldgrey_clear(header.0, header.1, keys.0, keys.1) }
             }
+            Call::Refresh(refresh) => self.refresh(rng, image, header, refresh, words),
+        }
+    }
+
+    fn refresh(
+        &mut self,
+        rng: &mut Rng,
+        image: &Image,
+        header: Slice,
+        refresh: &Refresh,
+        words: &[u32],
+    ) -> u32 {
+        let rows = self.read(rng, Slot::Rows, &image.rows);
+        let pending = self.write(rng, Slot::Pending, &image.pending);
+        let index = self.write(rng, Slot::Index, &image.index);
+        let columns = self.read(rng, Slot::Cells, &refresh.columns);
+        let values = self.read(rng, Slot::Ids, &refresh.values);
+        let words = self.write(rng, Slot::Words, words);
+        unsafe {
+            raw::mouldgrey_refresh_rows_for_values(
+                header.0,
+                header.1,
+                rows.0,
+                rows.1,
+                pending.0,
+                pending.1,
+                index.0,
+                index.1,
+                columns.0,
+                columns.1,
+                values.0,
+                values.1,
+                refresh.stamp,
+                words.0,
+                words.1,
+            )
         }
     }
 

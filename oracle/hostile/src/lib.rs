@@ -11,6 +11,7 @@ mod listings;
 mod lists;
 mod memory;
 mod parts;
+mod refreshes;
 mod report;
 mod sequences;
 mod session;

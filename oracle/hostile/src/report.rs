@@ -7,7 +7,7 @@ use std::collections::BTreeMap;
 /// not fit".
 type Kind = (&'static str, &'static [usize]);
 
-pub const SHIPPED: [Kind; 34] = [
+pub const SHIPPED: [Kind; 35] = [
     ("mouldgrey_open_table", &[1, 2]),
     ("mouldgrey_stage_insert", &[1, 3, 7]),
     ("mouldgrey_stage_remove", &[1, 3, 7]),
@@ -15,6 +15,7 @@ pub const SHIPPED: [Kind; 34] = [
     ("mouldgrey_merge", &[1, 2]),
     ("mouldgrey_compact", &[1, 2, 10]),
     ("mouldgrey_clear", &[1, 2, 10]),
+    ("mouldgrey_refresh_rows_for_values", &[1, 2, 6, 7, 9, 12]),
     ("mouldgrey_is_sound", &[1, 2]),
     ("mouldgrey_get_row", &[1, 2, 3]),
     ("mouldgrey_get_row_column", &[1, 2, 3, 6]),

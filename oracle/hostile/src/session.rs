@@ -4,6 +4,7 @@
 use crate::acts::Act;
 use crate::image::Image;
 use crate::memory::{Area, Laid};
+use crate::refreshes;
 use crate::report::Report;
 use crate::verdict::{self, Expected};
 use crate::watch;
@@ -27,12 +28,13 @@ pub enum Slot {
     OtherIds,
     Conditions,
     Output,
+    Index,
 }
 
-const SLOTS: usize = 13;
+const SLOTS: usize = 14;
 
-/// The longest store: 65,536 rows of 8 columns, and some words more.
-const LONGEST: usize = 8 * 65_536 + 1_024;
+/// The longest store: an index by three columns of 65,537 rows, and some words more.
+const LONGEST: usize = 9 * 65_537 + 1_024;
 
 /// A store as it was lent.
 struct Lent {
@@ -187,13 +189,22 @@ impl Session {
         let name = verdict::name(act);
         watch::call(name);
         let (number, output) = self.run(rng, image, act, &words);
+        let after = self.after(image);
+        if let Act::Call(Call::Refresh(refresh)) = act {
+            let left = self.left(Slot::Words).unwrap_or(&[]);
+            let (lent, left) = ((image, &words[..]), (&after, left));
+            refreshes::check(refresh, lent, left, number, plain.is_some())
+                .map_err(|why| told(format!("{name}: {why}")))?;
+            self.close(name, number).map_err(told)?;
+            self.report.compared += u64::from(plain.is_some() && number == 0);
+            return Ok(after);
+        }
         if number != expected.number {
             return Err(told(format!(
                 "{name} gives {number}, not {}",
                 expected.number
             )));
         }
-        let after = self.after(image);
         self.check_words(&expected, &output).map_err(told)?;
         self.close(name, number).map_err(told)?;
         if let Some(why) = verdict::wrong(act, image, &after, &expected) {
@@ -234,6 +245,7 @@ impl Session {
             (Slot::Pending, &mut after.pending),
             (Slot::Live, &mut after.live),
             (Slot::Base, &mut after.base),
+            (Slot::Index, &mut after.index),
         ] {
             if let Some(left) = self.left(slot) {
                 store.copy_from_slice(left);

@@ -1,6 +1,6 @@
 //! Trials: each has a seed of its own, makes a table or a heap of words, and calls the functions on it.
 
-use crate::acts::{Act, act, crowded_keys, good_opening, staging};
+use crate::acts::{Act, act, crowded_keys, good_opening, refresh, staging};
 use crate::answers;
 use crate::columns;
 use crate::image::{Image, hostile_number};
@@ -63,6 +63,10 @@ fn sound(session: &mut Session, rng: &mut Rng) -> Result<Image, String> {
         }
         for _ in 0..rng.below(12) {
             let call = staging(rng, &image, &keys);
+            image = session.perform_whole(rng, &image, &Act::Call(call))?;
+        }
+        if rng.percent(30) {
+            let call = refresh(rng, &image);
             image = session.perform_whole(rng, &image, &Act::Call(call))?;
         }
     }
@@ -136,6 +140,10 @@ fn one_word(session: &mut Session, rng: &mut Rng) -> Result<(), String> {
 /// A few calls, each on what the last one left, with a store of another length now and then.
 fn chain(session: &mut Session, rng: &mut Rng, mut image: Image) -> Result<(), String> {
     for _ in 0..rng.within(4, 24) {
+        if rng.percent(10) {
+            let h = image.numbers();
+            image.fill_index(rng, &h);
+        }
         let act = act(rng, &image);
         if rng.percent(25) {
             let mut other = image.clone();
@@ -177,6 +185,10 @@ fn garbage(session: &mut Session, rng: &mut Rng) -> Result<(), String> {
     h.pending = rng.below(pending as u32 + 1);
     let mut image = Image::sized(rng, &h, pending, 0);
     image.fill_with_garbage(rng);
+    // A largest sort value, or a number where there is none.
+    if rng.percent(50) {
+        image.header[10..].copy_from_slice(&[rng.below(2), rng.number()]);
+    }
     chain(session, rng, image)
 }
 

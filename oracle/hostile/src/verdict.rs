@@ -1,6 +1,6 @@
 //! What must come of a call: its number, by the judge's tests, and, where the paper gives them, the answer's words, the output,
 //! the header and the stores. Of sound stores it gives all of them; of any stores those of an opening, a staging, a version and
-//! a question on rows. A refusal leaves all as it was.
+//! a question on rows. A refusal leaves all as it was. What must come of a refresh is in `refreshes`.
 
 use crate::acts::Act;
 use crate::image::Image;
@@ -27,6 +27,7 @@ pub fn name(act: &Act) -> &'static str {
         Act::Call(Call::Merge) => "mouldgrey_merge",
         Act::Call(Call::Compact) => "mouldgrey_compact",
         Act::Call(Call::Clear) => "mouldgrey_clear",
+        Act::Call(Call::Refresh(_)) => "mouldgrey_refresh_rows_for_values",
         Act::IsSound => "mouldgrey_is_sound",
         Act::Ask(Question::Lookup(_)) => "mouldgrey_get_row",
         Act::Ask(Question::Cell(..)) => "mouldgrey_get_row_column",
@@ -48,6 +49,7 @@ pub fn name(act: &Act) -> &'static str {
 fn words_of(act: &Act) -> usize {
     match act {
         Act::Call(Call::Merge) => 5,
+        Act::Call(Call::Refresh(_)) => 1,
         Act::Call(_) => 0,
         Act::IsSound | Act::Ask(Question::AnyMatch { .. }) => 1,
         Act::Ask(Question::Lookup(_) | Question::Cell(..) | Question::Version) => 2,
@@ -285,7 +287,7 @@ fn wrong_of_any(call: &Call, before: &Image, after: &Image) -> Option<String> {
             }
             header.pending += record.len() as u32;
         }
-        Call::Merge | Call::Compact | Call::Clear => return None,
+        Call::Merge | Call::Compact | Call::Clear | Call::Refresh(_) => return None,
     }
     (after.header != header.words()).then(|| format!("header {:?}, not {header:?}", after.header))
 }

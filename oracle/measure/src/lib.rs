@@ -3,6 +3,7 @@
 mod columns;
 mod keys;
 mod offsets;
+mod refreshes;
 mod report;
 mod seal;
 mod tables;
@@ -18,6 +19,7 @@ fn run(report: &mut Report) {
     offsets::intersect(report);
     keys::index(report);
     tables::operations(report);
+    refreshes::refreshes(report);
     columns::orders(report);
 }
 

@@ -155,6 +155,29 @@ impl Report {
         self.add(name, pieces, least, their_least);
     }
 
+    /// Two works on one thing, which is prepared anew before each round; preparing it is not counted.
+    pub fn compare_along<T, R>(
+        &mut self,
+        name: &str,
+        pieces: usize,
+        thing: &mut T,
+        prepare: impl Fn(&mut T, u32),
+        ours: impl Fn(&mut T) -> R,
+        theirs: impl Fn(&mut T) -> R,
+    ) {
+        if !self.is_wanted(name) {
+            return;
+        }
+        let mut least = [f64::INFINITY; 2];
+        for round in 0..ROUNDS_ANEW as u32 {
+            prepare(thing, round);
+            let time = nanoseconds(|| drop(black_box(ours(thing))));
+            let their_time = nanoseconds(|| drop(black_box(theirs(thing))));
+            least = [least[0].min(time), least[1].min(their_time)];
+        }
+        self.add(name, pieces, least[0], least[1]);
+    }
+
     pub fn print(&self) {
         println!("nanoseconds of the proved library and of the Rust, and their ratio");
         for row in &self.rows {

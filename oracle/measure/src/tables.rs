@@ -19,7 +19,7 @@ fn key(i: u32) -> [u32; 2] {
     [mixed / 2, 1 + mixed % 2]
 }
 
-fn row(i: u32, columns: u32, level: u32, stamp: u32) -> Vec<u32> {
+pub fn row(i: u32, columns: u32, level: u32, stamp: u32) -> Vec<u32> {
     let mut cells = vec![level; columns as usize];
     cells[..2].copy_from_slice(&key(i));
     cells[SORT as usize] = stamp;
@@ -28,9 +28,9 @@ fn row(i: u32, columns: u32, level: u32, stamp: u32) -> Vec<u32> {
 
 /// The same table twice. Copies of both leave what is staged last in the caches: ours has no more room for it than it needs.
 #[derive(Clone)]
-struct Both {
-    ours: Table,
-    theirs: RustTable,
+pub struct Both {
+    pub ours: Table,
+    pub theirs: RustTable,
 }
 
 fn play(table: &mut Table, call: &Call) {
@@ -42,13 +42,14 @@ fn play(table: &mut Table, call: &Call) {
         Call::Merge => table.merge().map(|_| ()),
         Call::Compact => table.compact(),
         Call::Clear => table.clear(),
+        Call::Refresh(_) => unreachable!("measured by itself"),
     };
     assert_eq!(done, Ok(()));
 }
 
 impl Both {
     /// An empty table of these columns, with room for so many staged inserts.
-    fn opened(columns: u32, inserts: u32) -> Both {
+    pub fn opened(columns: u32, inserts: u32) -> Both {
         let opening = Opening {
             columns,
             keys: 2,
@@ -74,12 +75,16 @@ impl Both {
         }
     }
 
-    fn staged(mut self, calls: impl Iterator<Item = Call>) -> Both {
+    pub fn staged(mut self, calls: impl Iterator<Item = Call>) -> Both {
+        self.stage(calls);
+        self
+    }
+
+    pub fn stage(&mut self, calls: impl Iterator<Item = Call>) {
         for call in calls {
             play(&mut self.ours, &call);
             self.theirs.play(&call);
         }
-        self
     }
 
     fn merged(self) -> Both {

@@ -7,6 +7,7 @@ mod layout;
 pub mod listings;
 mod model;
 mod questions;
+mod refresh;
 mod refusals;
 mod rules;
 mod sequences;
@@ -20,7 +21,8 @@ use calls::{Answer, Call, Contents, Expected, Header, Judge, Lengths, Opening, Q
 pub use columns::{from_columns, test_columns, to_columns};
 pub use layout::{key_hash, record, slots_in_use};
 use model::Model;
-pub use refusals::{test_call, test_question, test_soundness};
+pub use refresh::test_unsound;
+pub use refusals::{index_words, test_call, test_question, test_records, test_soundness};
 pub use sequences::{sequences, short_opening, steps, test_output, test_position, test_sequence};
 pub use sound::is_sound;
 use std::collections::BTreeMap;
@@ -152,6 +154,7 @@ impl Judge for Plain {
             Call::Merge => self.merge(),
             Call::Compact => self.compact(),
             Call::Clear => self.clear(),
+            Call::Refresh(refresh) => self.refresh(lent, refresh),
         }
     }
 

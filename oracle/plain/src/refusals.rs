@@ -61,7 +61,33 @@ pub fn test_call(h: &Header, lent: &Lengths, call: &Call) -> Result<(), u32> {
             test_keys(&h.opening(), lent)?;
             refuse(10, h.rows > 0 && h.generation == LAST_GENERATION)
         }
+        // *Refresh*: "After 1 and 2 comes 12, more than eight columns named .., then 6, then 2 for an index store .., then 9, a
+        // stamp below the last entry's", since change 7 below the kept value; "then 7", which is `test_records`.
+        Call::Refresh(refresh) => {
+            test_header_and_pending(h, lent)?;
+            test_rows(&h.opening(), lent)?;
+            refuse(12, refresh.columns.len() > 8)?;
+            refuse(6, refresh.columns.iter().any(|&column| column >= h.columns))?;
+            refuse(
+                2,
+                lent.index < index_words(h.capacity, refresh.columns.len()),
+            )?;
+            refuse(9, h.largest.is_some_and(|largest| refresh.stamp < largest))
+        }
     }
+}
+
+/// An index store for so many named columns: "16 words plus 3 for each row of the capacity and named column"; "a repeat counts
+/// again".
+pub fn index_words(capacity: u32, columns: usize) -> usize {
+    16 + 3 * capacity as usize * columns
+}
+
+/// What turns a refresh of so many rows away at last: "7, fewer free words than all the records together take".
+pub fn test_records(h: &Header, lent: &Lengths, rows: usize) -> Result<(), u32> {
+    let removal = h.keys as usize + 3;
+    let insert = h.columns as usize + 2;
+    test_room(h, lent, rows * (removal + insert))
 }
 
 /// What turns a question away, if anything does.
@@ -222,7 +248,7 @@ fn test_words(o: &Opening, lent: &Lengths) -> Result<(), u32> {
     refuse(2, lent.live_words < words || lent.base_words < words)
 }
 
-/// Test 7, "fewer free pending words than the record takes". The header could not hold more than 4294967295 words used.
+/// Test 7, "fewer free pending words than the record takes", or the records. The header could not hold more than 4294967295 words used.
 fn test_room(h: &Header, lent: &Lengths, words: usize) -> Result<(), u32> {
     let used = h.pending as usize + words;
     refuse(7, used > lent.pending || used > u32::MAX as usize)

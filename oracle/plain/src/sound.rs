@@ -29,6 +29,7 @@ fn lengths(held: &Held) -> Lengths {
         pending: held.pending.len(),
         live_words: 0,
         base_words: 0,
+        index: 0,
     }
 }
 

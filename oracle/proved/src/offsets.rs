@@ -15,6 +15,7 @@ const NOTHING: Lengths = Lengths {
     pending: 0,
     live_words: 0,
     base_words: 0,
+    index: 0,
 };
 
 /// Lengths around each of the Rust's thresholds and the paper's limit.

@@ -11,6 +11,7 @@ const AMPLE: Lengths = Lengths {
     pending: usize::MAX,
     live_words: usize::MAX,
     base_words: usize::MAX,
+    index: 0,
 };
 
 /// A table with entries by chance, dead rows among its rows.

@@ -1,10 +1,16 @@
 //! The proved library as a judge: a table over stores that it keeps, lent at the lengths that a call says.
 
+mod indexes;
 mod stores;
 #[cfg(test)]
 mod tests;
 
-use calls::{Answer, Call, Condition, Contents, DEAD, Expected, Judge, Lengths, Question, Subset};
+use calls::{
+    Answer, Call, Condition, Contents, DEAD, Expected, Judge, Lengths, Question, Refresh,
+    Restamped, Subset,
+};
+use indexes::Indexes;
+pub use indexes::fill_index;
 use mouldgrey::{
     Constraint, Header, Merge, Opening, Page, Refusal, SubsetRef, Version, Written, lent,
 };
@@ -19,6 +25,7 @@ pub struct ProvedTable {
     now: Stores,
     /// The same as the last call left them, to see what a call has written.
     then: Stores,
+    indexes: Indexes,
     stagings: u32,
 }
 
@@ -78,8 +85,47 @@ impl ProvedTable {
                 &mut s.base[..lent.base_words],
             ),
             Call::Clear => lent::clear(&mut s.header, &mut s.keys[..lent.keys]),
+            Call::Refresh(refresh) => return self.refresh(lent, refresh),
         };
         answer(done, |()| Answer::Done)
+    }
+
+    /// A refresh, with its index store between others' words.
+    fn refresh(&mut self, lent: &Lengths, refresh: &Refresh) -> Answer {
+        let s = &mut self.now;
+        self.indexes.prepare(lent.index, refresh, &s.header);
+        let before = self.indexes.store(refresh).to_vec();
+        let used = s.header.pending as usize;
+        let heard = lent::refresh_rows_for_values(
+            &mut s.header,
+            &s.rows[..lent.rows],
+            &mut s.pending[..lent.pending],
+            &mut self.indexes.store_mut(refresh)[..lent.index],
+            &refresh.columns,
+            &refresh.values,
+            refresh.stamp,
+        );
+        let after = self.indexes.store(refresh);
+        let (capacity, refused) = (s.header.capacity, heard.is_err());
+        if let Some(why) = indexes::wrongly_left(&before, after, refresh, capacity, refused) {
+            panic!("{why}");
+        }
+        answer(heard, |yes| Answer::Refreshed(yes, self.staged_from(used)))
+    }
+
+    /// The rows that the pending words from here on stage again: pairs of a removal by row and an insert. What else is in a
+    /// record, the comparison of the pending store sees to.
+    fn staged_from(&self, from: usize) -> Vec<Restamped> {
+        let h = &self.now.header;
+        let (keys, columns) = (h.keys as usize, h.columns as usize);
+        let pairs = self.now.pending[from..h.pending as usize].chunks_exact(keys + columns + 5);
+        assert!(pairs.remainder().is_empty(), "a record that is not whole");
+        let restamped = |words: &[u32]| Restamped {
+            row: words[2],
+            key: words[3..3 + keys].to_vec(),
+            cells: words[keys + 5..].to_vec(),
+        };
+        pairs.map(restamped).collect()
     }
 
     /// Whether the stores are sound, all lent in full.

@@ -1,7 +1,9 @@
 //! The checks on stores themselves: a word written where none may be is noticed.
 
 use crate::ProvedTable;
-use calls::{Answer, Call, Judge, Lengths, Opening};
+use crate::indexes::{fill_index, wrongly_left};
+use calls::{Answer, Before, Call, Index, Judge, Lengths, Opening, Refresh};
+use chance::Rng;
 use mouldgrey::Refusal;
 use plain::Plain;
 
@@ -22,6 +24,7 @@ const LENT: Lengths = Lengths {
     pending: 200,
     live_words: 2,
     base_words: 2,
+    index: 16 + 3 * 40 * 2,
 };
 
 /// A table of 20 rows of which some are dead, and the plain one beside it.
@@ -94,6 +97,76 @@ fn largest_value_is_looked_at() {
     }
 }
 
+fn of(before: Before, columns: &[u32], values: &[u32]) -> Refresh {
+    Refresh {
+        index: Index { store: 1, before },
+        columns: columns.to_vec(),
+        values: values.to_vec(),
+        stamp: 9,
+    }
+}
+
+/// What a refresh may leave of its index store.
+#[test]
+fn index_stores_are_looked_at() {
+    let refresh = of(Before::Nothing, &[1], &[4]);
+    let told = |place: usize, word: u32, refused: bool| {
+        let before = vec![0; 16 + 3 * 40 + 9];
+        let mut after = before.clone();
+        after[0] = u32::from(!refused);
+        after[place] = word;
+        wrongly_left(&before, &after, &refresh, 40, refused).is_some()
+    };
+    assert!(!told(100, 7, false));
+    assert!(told(0, 0, false));
+    assert!(!told(135, 7, false));
+    assert!(told(136, 7, false));
+    assert!(!told(0, 0, true));
+    assert!(told(0, 1, true));
+    assert!(told(100, 7, true));
+}
+
+/// What is done to an index store before a refresh, and what refreshes bring over it.
+#[test]
+fn index_stores_between_refreshes() {
+    let (mut proved, mut plain) = both();
+    let mut step = |refresh: &Refresh| {
+        let call = Call::Refresh(refresh.clone());
+        let heard = proved.call(&LENT, &call);
+        let is_sound = !matches!(refresh.index.before, Before::Fill(_));
+        match is_sound {
+            true => assert_eq!(heard, plain.call(&LENT, &call)),
+            false => assert_eq!(plain.feed(&LENT, refresh, &heard), Ok(())),
+        }
+        assert_eq!(proved.unlike(&plain.expected(), true), None);
+        proved.indexes.store(refresh)[0]
+    };
+    for before in [
+        Before::Nothing,
+        Before::Copy(0),
+        Before::Renew,
+        Before::Fill(5),
+        Before::Change(0, 0),
+    ] {
+        assert_ne!(step(&of(before, &[1, 1], &[4])), 0, "{before:?}");
+        assert_ne!(step(&of(Before::Nothing, &[0], &[])), 0, "{before:?}");
+    }
+}
+
+/// Words by chance are not those of a new store, whatever the table.
+#[test]
+fn index_stores_filled_by_chance() {
+    for seed in 0..200 {
+        for length in [1, 13, 60] {
+            let mut store = vec![0; length];
+            let numbers = (u32::MAX, u32::MAX, u32::MAX);
+            fill_index(&mut Rng::new(seed), &mut store, &[1, 0], numbers);
+            assert_ne!(store[0], 0);
+        }
+    }
+    fill_index(&mut Rng::new(0), &mut [], &[1], (1, 1, 1));
+}
+
 /// What is told of one word changed beside a call.
 fn told(call: &Call, change: impl Fn(&mut ProvedTable)) -> Option<String> {
     let (mut proved, _) = both();
@@ -113,8 +186,10 @@ fn nothing_is_written_elsewhere() {
         columns: 9,
         ..OPENING
     });
+    let refresh = Call::Refresh(of(Before::Nothing, &[1], &[4]));
     for call in [
         &staging,
+        &refresh,
         &refused,
         &wrong_opening,
         &Call::Merge,

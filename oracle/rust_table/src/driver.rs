@@ -10,7 +10,10 @@ use crate::{
     table::{MergeFn, SortedWritesTable},
     table_spec::{ColumnId, Constraint, MutationBuffer, Table},
 };
-use calls::{Answer, Call, Condition, Contents, Judge, Lengths, Opening, Question, Subset};
+use calls::{
+    Answer, Call, Condition, Contents, Judge, Lengths, Opening, Question, Refresh, Restamped,
+    Subset,
+};
 use std::cell::RefCell;
 use std::cmp::{max_by_key, min_by_key};
 
@@ -31,6 +34,20 @@ pub(crate) trait Opened {
     fn key_hash(key: &[Value]) -> u32;
     fn compact_hash(full: u64) -> u32;
     fn probe(compact: u32) -> u64;
+    /// The cells of a live row.
+    fn row(&self, row: RowId) -> Option<&[Value]>;
+    fn named_columns(&self) -> &[ColumnId];
+    /// The columns that a refresh looks at from now on, with an index that has seen no row.
+    fn name_columns(&mut self, columns: Vec<ColumnId>);
+    fn unstage(&mut self);
+    /// What some work stages, taken out of the table again.
+    fn staged_by(&mut self, work: &mut dyn FnMut(&mut Self)) -> Taken;
+}
+
+/// Staged records, in staging order: rows to be removed with the compact hashes of their keys, and rows to be inserted.
+pub(crate) struct Taken {
+    pub removals: Vec<(RowId, u32)>,
+    pub rows: Vec<Vec<Value>>,
 }
 
 /// The carried-over table; before the first opening there is none.
@@ -96,6 +113,54 @@ impl OpenTable {
         before.table.insert_pending();
         (self.rows(), before.rows() - self.rows())
     }
+
+    /// The Rust's index is its own: it begins anew where other columns are named, and goes on over all of a history.
+    fn name(&mut self, columns: &[u32]) {
+        let columns: Vec<ColumnId> = columns.iter().map(|&it| ColumnId::new(it)).collect();
+        if self.table.named_columns() != columns {
+            self.table.name_columns(columns);
+        }
+    }
+
+    /// The Rust stages in the order of a hash set; what it has staged is staged here in rising row order.
+    fn refresh(&mut self, refresh: &Refresh) -> Answer {
+        self.name(&refresh.columns);
+        let (changed, stamp) = (values(&refresh.values), Value::new(refresh.stamp));
+        let mut yes = false;
+        let taken = self.table.staged_by(&mut |table| {
+            yes = Table::refresh_rows_for_values(table, changed, stamp);
+        });
+        let mut rows: Vec<Restamped> = taken
+            .removals
+            .iter()
+            .zip(&taken.rows)
+            .map(|(removal, row)| self.restamped(*removal, row))
+            .collect();
+        assert_eq!(
+            (rows.len(), rows.len()),
+            (taken.removals.len(), taken.rows.len())
+        );
+        rows.sort_by_key(|of| of.row);
+        for of in &rows {
+            self.stage(|staging| {
+                staging.stage_remove_row(RowId::new(of.row), values(&of.key));
+                staging.stage_insert(values(&of.cells));
+            });
+        }
+        Answer::Refreshed(yes, rows)
+    }
+
+    /// A removal and the insert beside it. Of the key the Rust keeps only the hash.
+    fn restamped(&self, (row, hash): (RowId, u32), cells_staged: &[Value]) -> Restamped {
+        let old = self.table.row(row).expect("a live row");
+        let key = cells(&old[..self.keys]);
+        assert_eq!(hash, key_hash(&key), "another key");
+        Restamped {
+            row: row.rep(),
+            key,
+            cells: cells(cells_staged),
+        }
+    }
 }
 
 impl Clone for OpenTable {
@@ -148,6 +213,7 @@ impl RustTable {
                 open.flush();
                 open.table.clear();
             }
+            Call::Refresh(refresh) => drop(self.open_mut().refresh(refresh)),
         }
         false
     }
@@ -195,6 +261,9 @@ impl RustTable {
 
 impl Judge for RustTable {
     fn call(&mut self, _lent: &Lengths, call: &Call) -> Answer {
+        if let Call::Refresh(refresh) = call {
+            return self.open_mut().refresh(refresh);
+        }
         if !matches!(call, Call::Merge) {
             self.play(call);
             return Answer::Done;
@@ -444,8 +513,23 @@ fn constraints(conditions: &[Condition]) -> Vec<Constraint> {
     conditions.iter().map(constraint).collect()
 }
 
-/// Questions to be measured without the way from and to `calls`: answers of one number.
+/// Calls and questions to be measured without the way from and to `calls`: answers of one number.
 impl RustTable {
+    /// A refresh as the Rust does it, in its own order; what it stages is dropped.
+    pub fn refresh_and_unstage(&mut self, columns: &[u32], changed: &[u32], stamp: u32) -> bool {
+        let open = self.open_mut();
+        open.name(columns);
+        let changed = values(changed);
+        let yes = Table::refresh_rows_for_values(&mut open.table, changed, Value::new(stamp));
+        open.table.unstage();
+        yes
+    }
+
+    /// The index of its refreshes begins anew.
+    pub fn forget_index(&mut self) {
+        self.open_mut().table.name_columns(Vec::new());
+    }
+
     pub fn cell(&self, key: &[u32], column: u32) -> Option<u32> {
         let cell = self
             .open()

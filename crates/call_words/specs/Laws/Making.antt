@@ -9,6 +9,7 @@ use Rattle.plain.specs.Staged.{Staged}
 use Rattle.plain.specs.Refusing.{Lengths, storesShort, wordsShort, compactLadder}
 use Rattle.plain.specs.Plain.{Plain, compacted}
 use Rattle.plain.specs.Calls.{Call, staging, merging, compacting, clearing, refusal, done, after, LentCall, afterAll}
+use Rattle.plain.specs.Laws.Notes.{onward-all}
 use Rattle.plain.specs.Laws.Calls.{accepted-done}
 use Rattle.table.specs.declared.Header.{Header}
 use Rattle.table.specs.declared.TableAnswer.{TableAnswer}
@@ -22,7 +23,6 @@ use Rattle.history.specs.Laws.Calls.{steps-represents}
 use Rattle.history.specs.Laws.Further.{whole-step, steps-then}
 use Rattle.call_words.specs.Lending.{lengthsFor, lentTo, lentAll}
 use Rattle.call_words.specs.inner.Making.{Made, MadeOnPending}
-use Rattle.call_words.specs.Laws.Going.{onward-all}
 
 -- no call
 pub none-made : {calls : List Call} (l : Lengths) (s : Stores) (w : CompactionWords) → calls ≡ [] → Made calls l s w s w

@@ -1,17 +1,21 @@
 -- Every call takes stores that show a plain table to stores that show it after the same call, so a history does. Assumes
 -- nothing.
-use Prim.Native.Nat.{ℕ, _<_}
+use Prim.Native.Nat.{ℕ, _*_, _≤_, _<_}
 use mathlib.Core.Path.{_≡_, refl, sym, _∙_}
 use mathlib.Core.Logic.{inl, inr}
-use mathlib.Core.List.{List, []}
+use mathlib.Core.List.{List, [], append-nil}
 use native.Mathlib.Omega.{arith}
 use lib.ListN.{length}
+use Rattle.lists.specs.Lists.{any}
+use Rattle.refusals.specs.Refusals.{first}
 use Rattle.refusals.specs.Laws.Replies.{some-number}
 use Rattle.plain.specs.Staged.{Opening, Staged}
 use Rattle.plain.specs.Plain.{Plain, opened}
 use Rattle.plain.specs.Refusing.{Lengths, storesShort, wordsShort, compactLadder}
-use Rattle.plain.specs.Calls.{Call, staging, merging, compacting, clearing, refusal, done, after, LentCall, afterAll}
+use Rattle.plain.specs.Refreshing.{Refresh}
+use Rattle.plain.specs.Calls.{Call, staging, merging, compacting, clearing, refreshing, feeding, recordsOf, stageAll, refusal, done, after, LentCall, afterAll}
 use Rattle.plain.specs.Laws.Calls.{refused-nothing, accepted-done}
+use Rattle.plain.specs.Laws.Refreshing.{whole-right}
 use Rattle.table.specs.declared.TableAnswer.{TableAnswer}
 use Rattle.table.specs.declared.MergeAnswer.{MergeAnswer}
 use Rattle.table.specs.Numbers.{tableSays, mergeSays}
@@ -21,10 +25,14 @@ use Rattle.table.specs.Laws.Ladders.{stage-ladders, merge-ladders, compact-ladd
 use Rattle.table.specs.Laws.Staging.{stage-accepted}
 use Rattle.table.specs.Laws.Refusals.{merge-accepted, compact-accepted, clear-accepted}
 use Rattle.table.specs.Laws.Keeps.{opening-done, staging-done, staging-refused, merging-done, merging-refused, compacting-done, compacting-refused, clearing-done, clearing-refused}
-use Rattle.table.specs.Laws.Fronts.{pending-part, pending-more, keys-part, keys-more, body-part, body-more}
-use Rattle.history.specs.Histories.{Called, stages, merges, compacts, clears, behind, Step, called, Steps, end, next, History}
+use Rattle.table.specs.Laws.Fronts.{pending-part, pending-more, rows-part, rows-more, keys-part, keys-more, body-part, body-more}
+use Rattle.refreshes.specs.declared.RefreshAnswer.{RefreshAnswer}
+use Rattle.refreshes.specs.Index.{IndexSound}
+use Rattle.refreshes.specs.Refreshes.{refreshSays, recordsStaged, headerRefreshed, Refreshing}
+use Rattle.refreshes.specs.Laws.Keeps.{refresh-ladders, records-all, records-whole, number, found-records, passed, refreshing-done, refreshing-refused, fed-accepted, fed-refused}
+use Rattle.history.specs.Histories.{Called, stages, merges, compacts, clears, refreshes, refreshes-unsound, behind, Step, called, Steps, end, next, History}
 
--- ---- the four calls
+-- ---- the calls
 
 -- one that the plain table does not turn away is done
 goes : (p : Plain) {t : Stores} (l : Lengths) (c : Call) → refusal p l c ≡ 0 → Represents (done p c) t → Represents (after p l c) t
@@ -32,9 +40,12 @@ goes p l c e d = rw (accepted-done p l c e) d
 
 -- what is lent, and what stands behind it
 module _ {p : Plain} (s : Stores) (rest : Body) (more : List ℕ) (r : Represents p (behind s rest more)) where
+  unchanged : (t : Stores) → t ≡ s → Represents p (behind t rest more)
+  unchanged t e = rw e r
+
   -- a call that it turns away leaves both as they were
   stays : (l : Lengths) (c : Call) (t : Stores) → 0 < refusal p l c → t ≡ s → Represents (after p l c) (behind t rest more)
-  stays l c t h e = rw (refused-nothing p l c h, e) r
+  stays l c t h e = rw (refused-nothing p l c h) (unchanged t e)
 
   staged-represents : (q : Staged) (answer : TableAnswer) (pending′ : List ℕ) → Staging (s .header) (s .pending) q answer pending′
       → Represents (after p (lengthsLent s (compactionWords [] [])) (staging q)) (behind (joined (headerAfter (s .header) (tableSays answer)) (bodyOf s) pending′) rest more)
@@ -94,11 +105,59 @@ module _ {p : Plain} (s : Stores) (rest : Body) (more : List ℕ) (r : Represent
         | inr h ↦ stays l clearing _ (rw same at h) (clearing-refused m h)
       ]
 
+  module _ {q : Refresh} {index pending′ index′ : List ℕ} {answer : RefreshAnswer} (m : Refreshing (s .header) (s .rows) (s .pending) index q answer pending′ index′) where
+    -- what a refresh leaves of what it is lent, with what stands behind it
+    abbrev refreshed-stores : Stores
+    refreshed-stores = behind (joined (headerRefreshed (s .header) (refreshSays answer)) (bodyOf s) pending′) rest more
+
+    -- accepted, it has staged the records that it found
+    found-represents : number m ≡ 0 → Represents (stageAll p (found-records m)) refreshed-stores
+    found-represents e =
+        let k = passed m e in
+        pending-more more (rows-more (rest .rows) (refreshing-done m e (rows-part (rest .rows) (pending-part more r (k .pending-fits)) (k .rows-long))))
+
+    -- over a sound index store these are the plain table's own, and both turn away the same
+    pub own-records : IndexSound (s .header) (s .rows) (q .columns) index → s .header .capacity * s .header .columns ≤ length (s .rows) → found-records m ≡ recordsOf p q
+    own-records sound long = records-all (rows-part (rest .rows) r long) q (m .found) (m .all-found sound)
+
+    pub refresh-same : IndexSound (s .header) (s .rows) (q .columns) index → number m ≡ refusal p (lengthsLent s (compactionWords [] [])) (refreshing q (length index))
+    refresh-same sound = refresh-ladders r (lengthsLent s (compactionWords [] [])) (length index) q (found-records m) (own-records sound)
+
+    refreshed-represents : IndexSound (s .header) (s .rows) (q .columns) index
+        → Represents (after p (lengthsLent s (compactionWords [] [])) (refreshing q (length index))) refreshed-stores
+    unfolding done
+    refreshed-represents sound =
+        let l = lengthsLent s (compactionWords [] []) in
+        elim (some-number (number m)) [
+          | inl e ↦ goes p l (refreshing q (length index)) (sym (refresh-same sound) ∙ e) (rw (own-records sound (passed m e .rows-long)) at (found-represents e))
+          | inr h ↦ stays l (refreshing q (length index)) _ (rw (refresh-same sound) at h) (refreshing-refused m h)
+        ]
+
+    -- over any other it is fed them, none of a wrong width
+    pub fed-right : (l : Lengths) → refusal p l (feeding (recordsStaged (refreshSays answer) (found-records m))) ≡ 0
+    unfolding refusal first any
+    fed-right l =
+        elim (some-number (number m)) [
+          | inl e ↦ rw (fed-accepted m e, whole-right (p .opening) (found-records m) (records-whole (rows-part (rest .rows) r (passed m e .rows-long)) q (m .found)))
+          | inr h ↦ rw (fed-refused m h)
+        ]
+
+    fed-represents : (l : Lengths) → Represents (after p l (feeding (recordsStaged (refreshSays answer) (found-records m)))) refreshed-stores
+    unfolding done stageAll
+    fed-represents l =
+        goes p l (feeding (recordsStaged (refreshSays answer) (found-records m))) (fed-right l)
+        (elim (some-number (number m)) [
+          | inl e ↦ rw (fed-accepted m e) (found-represents e)
+          | inr h ↦ rw (fed-refused m h, append-nil (p .staged)) (unchanged _ (refreshing-refused m h))
+        ])
+
   called-represents : {c : LentCall} {t : Stores} → Called s c t → Represents (after p (c .lengths) (c .call)) (behind t rest more)
   called-represents (stages q answer pending′ m) = staged-represents q answer pending′ m
   called-represents (merges w answer b′ w′ m) = merged-represents w answer b′ w′ m
   called-represents (compacts w answer b′ w′ m) = compacted-represents w answer b′ w′ m
   called-represents (clears answer keys′ m) = cleared-represents answer keys′ m
+  called-represents (refreshes q index answer pending′ index′ m sound) = refreshed-represents m sound
+  called-represents (refreshes-unsound q index answer pending′ index′ m unsound) = fed-represents m (lengthsLent s (compactionWords [] []))
 
 -- ---- histories
 

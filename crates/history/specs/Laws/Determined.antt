@@ -3,15 +3,15 @@
 use Prim.Native.Nat.{ℕ, zero, suc, _<_}
 use mathlib.Core.Path.{_≡_, refl, sym, ap, _∙_}
 use mathlib.Core.Bool.{cond}
-use mathlib.Core.List.{List, [], _∷_, _++_}
+use mathlib.Core.List.{List, [], _∷_, _++_, map}
 use native.Mathlib.Omega.{arith}
 use lib.Dec.{eqb}
 use lib.ListN.{length, take, drop}
 use borrow.Author.Tests.{ne-eqb}
-use Rattle.lists.specs.Lists.{putAt, rowsOf}
+use Rattle.lists.specs.Lists.{putAt, rowsOf, flat}
 use Rattle.plain.specs.Plain.{Plain, applied, merged, compacted}
 use Rattle.plain.specs.Refusing.{storesShort, wordsShort, compactLadder}
-use Rattle.plain.specs.Calls.{Call, staging, merging, compacting, clearing, refusal, LentCall}
+use Rattle.plain.specs.Calls.{Call, staging, merging, compacting, clearing, refreshing, feeding, recordsOf, refusal, LentCall}
 use Rattle.table.specs.declared.Header.{Header}
 use Rattle.table.specs.Refusing.{compactRefusal}
 use Rattle.table.specs.Stores.{rowStore, sortStore, recordWords}
@@ -19,8 +19,10 @@ use Rattle.table.specs.Promises.{Stores, Body, bodyOf, joined, compactionWords,
 use Rattle.table.specs.Laws.Ladders.{stage-ladders, merge-ladders, compact-ladders}
 use Rattle.table.specs.Laws.Refusals.{merge-accepted, compact-accepted}
 use Rattle.table.specs.Laws.Fronts.{pending-part, body-part}
-use Rattle.history.specs.Histories.{Called, stages, merges, compacts, clears, behind, Step, called, Steps, end, next}
-use Rattle.history.specs.Laws.Calls.{step-represents}
+use Rattle.refreshes.specs.Refreshes.{refreshSays, recordsStaged}
+use Rattle.refreshes.specs.Laws.Keeps.{found-records, passed, fed-written}
+use Rattle.history.specs.Histories.{Called, stages, merges, compacts, clears, refreshes, refreshes-unsound, behind, Step, called, Steps, end, next}
+use Rattle.history.specs.Laws.Calls.{own-records, refresh-same, fed-right, step-represents}
 
 -- all but the key store
 pub record SameCells (s t : Stores) : Type 0 where
@@ -37,18 +39,24 @@ rowsDone p h (staging r) rows = rows
 rowsDone p h merging rows = mergedRows p (rowsOf (h .columns) (h .rows) rows) rows
 rowsDone p h compacting rows = rowStore (compacted p) [] rows
 rowsDone p h clearing rows = rows
+rowsDone p h (refreshing r index) rows = rows
+rowsDone p h (feeding rs) rows = rows
 
 unfoldable sortsDone : Plain → Call → List ℕ → List ℕ
 sortsDone p (staging r) sorts = sorts
 sortsDone p merging sorts = sortStore (merged p .table) (sortStore (applied p .table) sorts)
 sortsDone p compacting sorts = sortStore (compacted p) sorts
 sortsDone p clearing sorts = sorts
+sortsDone p (refreshing r index) sorts = sorts
+sortsDone p (feeding rs) sorts = sorts
 
-unfoldable pendingDone : Header → Call → List ℕ → List ℕ
-pendingDone h (staging r) pending = putAt pending (h .pending) (recordWords (h .keys) r)
-pendingDone h merging pending = pending
-pendingDone h compacting pending = pending
-pendingDone h clearing pending = pending
+unfoldable pendingDone : Plain → Header → Call → List ℕ → List ℕ
+pendingDone p h (staging r) pending = putAt pending (h .pending) (recordWords (h .keys) r)
+pendingDone p h merging pending = pending
+pendingDone p h compacting pending = pending
+pendingDone p h clearing pending = pending
+pendingDone p h (refreshing r index) pending = putAt pending (h .pending) (flat (map (recordWords (h .keys)) (recordsOf p r)))
+pendingDone p h (feeding rs) pending = putAt pending (h .pending) (flat (map (recordWords (h .keys)) rs))
 
 -- a store of which the first n cells are lent
 unfoldable changed : ℕ → (List ℕ → List ℕ) → ℕ → List ℕ → List ℕ
@@ -72,7 +80,7 @@ module _ (p : Plain) (c : LentCall) (s t : Stores) where
   record Leaves : Type 0 where
     pub rows : t .rows ≡ changed (refusal p (c .lengths) (c .call)) (rowsDone p (s .header) (c .call)) (c .lengths .rows) (s .rows)
     pub sorts : t .sorts ≡ changed (refusal p (c .lengths) (c .call)) (sortsDone p (c .call)) (c .lengths .sorts) (s .sorts)
-    pub pending : t .pending ≡ changed (refusal p (c .lengths) (c .call)) (pendingDone (s .header) (c .call)) (c .lengths .pending) (s .pending)
+    pub pending : t .pending ≡ changed (refusal p (c .lengths) (c .call)) (pendingDone p (s .header) (c .call)) (c .lengths .pending) (s .pending)
 
 module _ {p : Plain} (s : Stores) (rest : Body) (more : List ℕ) (r : Represents p (behind s rest more)) where
   called-leaves : {c : LentCall} {t : Stores} → Called s c t → Leaves p c (behind s rest more) (behind t rest more)
@@ -114,6 +122,21 @@ module _ {p : Plain} (s : Stores) (rest : Body) (more : List ℕ) (r : Represent
         sorts = front-changed n _ (s .sorts) (rest .sorts) (s .sorts) (λ e. refl) (λ e. refl);
         pending = front-changed n _ (s .pending) more (s .pending) (λ e. refl) (λ e. refl);
       }
+  called-leaves (refreshes q index answer pending′ index′ m sound) =
+      let n : ℕ = refusal p (lengthsLent s (compactionWords [] [])) (refreshing q (length index)) in
+      let same = refresh-same s rest more r m sound in
+      record {
+        rows = front-changed n _ (s .rows) (rest .rows) (s .rows) (λ e. refl) (λ e. refl);
+        sorts = front-changed n _ (s .sorts) (rest .sorts) (s .sorts) (λ e. refl) (λ e. refl);
+        pending = front-changed n _ (s .pending) more pending′ (λ e. rw (own-records s rest more r m sound (passed m (same ∙ e) .rows-long)) at (m .staged (same ∙ e))) (λ e. m .unchanged (rw same e) .0);
+      }
+  called-leaves (refreshes-unsound q index answer pending′ index′ m unsound) =
+      let n : ℕ = refusal p (lengthsLent s (compactionWords [] [])) (feeding (recordsStaged (refreshSays answer) (found-records m))) in
+      record {
+        rows = front-changed n _ (s .rows) (rest .rows) (s .rows) (λ e. refl) (λ e. refl);
+        sorts = front-changed n _ (s .sorts) (rest .sorts) (s .sorts) (λ e. refl) (λ e. refl);
+        pending = front-changed n _ (s .pending) more pending′ (λ e. fed-written m) (λ e. absurd (omega (arith, fed-right s rest more r m (lengthsLent s (compactionWords [] [])))));
+      }
 
 -- ---- one after another
 
@@ -129,7 +152,7 @@ step-determined {p} {s} {s′} {t} {t′} {c} r r′ same a b =
       header = step-represents r a .shown .header ∙ sym (step-represents r′ b .shown .header);
       rows = x .rows ∙ ap (changed n (rowsDone p (s .header) (c .call)) (c .lengths .rows)) (same .rows) ∙ ap (λ (h : Header). changed n (rowsDone p h (c .call)) (c .lengths .rows) (s′ .rows)) (same .header) ∙ sym (y .rows);
       sorts = x .sorts ∙ ap (changed n (sortsDone p (c .call)) (c .lengths .sorts)) (same .sorts) ∙ sym (y .sorts);
-      pending = x .pending ∙ ap (changed n (pendingDone (s .header) (c .call)) (c .lengths .pending)) (same .pending) ∙ ap (λ (h : Header). changed n (pendingDone h (c .call)) (c .lengths .pending) (s′ .pending)) (same .header) ∙ sym (y .pending);
+      pending = x .pending ∙ ap (changed n (pendingDone p (s .header) (c .call)) (c .lengths .pending)) (same .pending) ∙ ap (λ (h : Header). changed n (pendingDone p h (c .call)) (c .lengths .pending) (s′ .pending)) (same .header) ∙ sym (y .pending);
     }
 
 pub steps-determined : {p : Plain} {s s′ t t′ : Stores} {cs : List LentCall} → Represents p s → Represents p s′ → SameCells s s′ → Steps s cs t → Steps s′ cs t′ → SameCells t t′

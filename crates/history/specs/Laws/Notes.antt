@@ -18,7 +18,7 @@ use Rattle.constraints.specs.Constraints.{isLive}
 use Rattle.plain.specs.Plain.{Row, Plain, liveFrom, liveRows, opened}
 use Rattle.plain.specs.Proper.{rowOf}
 use Rattle.plain.specs.Calls.{afterAll}
-use Rattle.plain.specs.Laws.Notes.{Follows, calls-follow, follows-at, follows-length, follows-live, live-behind}
+use Rattle.plain.specs.Laws.Notes.{Follows, onward-all, follows-at, follows-length, follows-live, live-behind}
 use Rattle.table.specs.declared.Header.{Header}
 use Rattle.table.specs.Promises.{Stores, Represents}
 use Rattle.table.specs.Laws.Shown.{row-shown, rows-counted}
@@ -29,7 +29,7 @@ use Rattle.table.specs.Laws.Replies.{accepted-number, accepted-same}
 use Rattle.table.specs.Laws.Live.{live-shown}
 use Rattle.history.specs.Laws.Calls.{history-represents, steps-represents}
 
-generation-shown : {p : Plain} {s : Stores} → Represents p s → s .header .generation ≡ p .generation
+pub generation-shown : {p : Plain} {s : Stores} → Represents p s → s .header .generation ≡ p .generation
 generation-shown r = ap (λ (h : Header). h .generation) (r .shown .header)
 
 -- the members of a range, one by one
@@ -45,7 +45,7 @@ module _ {p q : Plain} {then now : Stores} (r : Represents p then) (s : Represen
   live-now i h = sym (row-shown s i (omega (arith, follows-length f)) .live)
 
   -- and has then the cells that it had
-  same-now : (i : ℕ) → i < then .header .rows → isLive (storedRow now i) ≡ true → storedRow now i ≡ storedRow then i
+  pub same-now : (i : ℕ) → i < then .header .rows → isLive (storedRow now i) ≡ true → storedRow now i ≡ storedRow then i
   same-now i h e =
       let k : i < length (p .rows) = omega (arith, rows-counted r) in
       let l : rowOf q i .live ≡ true = sym (live-now i k) ∙ e in
@@ -84,9 +84,7 @@ old-note o generation earlier later then now answer since history steps noted is
     let s = steps-represents r steps in
     let told = sym is ∙ noted .answers in
     let same = noted-accepted _ _ _ (accepted-number _ _ _ told) .same in
-    let f =
-    calls-follow (afterAll (opened o generation) earlier) later
-    (sym (generation-shown s) ∙ sym same ∙ generation-shown r) in
+    let f = onward-all (afterAll (opened o generation) earlier) later .follows (sym (generation-shown s) ∙ sym same ∙ generation-shown r) in
     rw (only (accepted-same _ _ _ told)) (guaranteed r s f)
   where
     only : {a b : Subset} → some a ≡ some b → a ≡ b

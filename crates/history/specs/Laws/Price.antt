@@ -10,10 +10,9 @@ use lib.ListN.{length}
 use borrow.Author.Tests.{eq-eqb, ne-eqb}
 use Rattle.refusals.specs.Refusals.{Reply, refused, accepted}
 use Rattle.refusals.specs.Laws.Replies.{some-number, ruled-refused}
-use Rattle.plain.specs.Staged.{Staged}
 use Rattle.plain.specs.Plain.{Plain, opened, stage, dead}
 use Rattle.plain.specs.Refusing.{storesShort, wordsShort, compactLadder}
-use Rattle.plain.specs.Calls.{staging, merging, compacting, clearing, refusal, done, after, LentCall, afterAll}
+use Rattle.plain.specs.Calls.{merging, compacting, clearing, stageAll, refusal, done, after, LentCall, afterAll}
 use Rattle.plain.specs.Appending.{appendedDone, appendedBy, appendedAll}
 use Rattle.plain.specs.Laws.Calls.{refused-nothing, accepted-done}
 use Rattle.plain.specs.Laws.Price.{live-dead, compacted-live, merged-rows, merged-price}
@@ -29,7 +28,7 @@ use Rattle.table.specs.Laws.Refusals.{merge-accepted, compact-accepted, clear-a
 use Rattle.table.specs.Laws.Fronts.{pending-part, keys-part, body-part}
 use Rattle.table.specs.Laws.Opening.{cleared-rows}
 use Rattle.table.specs.Laws.Shown.{rows-counted}
-use Rattle.history.specs.Histories.{Called, stages, merges, compacts, clears, behind, called, Steps, end, next}
+use Rattle.history.specs.Histories.{Called, stages, merges, compacts, clears, refreshes, refreshes-unsound, behind, called, Steps, end, next}
 use Rattle.history.specs.Price.{Wear, wear, counted, ofCall, ofSteps, PriceOfCompaction}
 use Rattle.history.specs.Laws.Calls.{step-represents, opened-represents, history-represents}
 
@@ -54,6 +53,14 @@ done-balanced p c w z q f =
     let e = eq-eqb (refusal p (c .lengths) (c .call)) 0 z in
     record { rows = rw (accepted-done p (c .lengths) (c .call) z, e) q; fewer = f }
 
+-- so does one that leaves the rows as they are
+staged-balanced : (p : Plain) (c : LentCall) → length (p .rows) + appendedDone p (c .call) ≡ length (done p (c .call) .rows) → Balanced p c (wear 0 0 0 0)
+staged-balanced p c e =
+    elim (some-number (refusal p (c .lengths) (c .call))) [
+      | inl z ↦ done-balanced p c (wear 0 0 0 0) z (omega arith) (omega arith)
+      | inr h ↦ refused-balanced p c h
+    ]
+
 counted-refused : {A : Type 0} (r : Reply A) (n : ℕ) (f : A → Wear) → r ≡ refused n → counted r f ≡ wear 0 0 0 0
 unfolding counted
 counted-refused r n f e = rw e
@@ -74,15 +81,6 @@ clearing-wears s h = wear 0 0 0 (s .header .rows)
 
 -- what is lent, and what stands behind it
 module _ {p : Plain} (s : Stores) (rest : Body) (more : List ℕ) (r : Represents p (behind s rest more)) where
-  staged-balanced : (q : Staged) → Balanced p (record { call = staging q; lengths = lengthsLent s (compactionWords [] []) }) (wear 0 0 0 0)
-  unfolding done appendedDone stage
-  staged-balanced q =
-      let c : LentCall = record { call = staging q; lengths = lengthsLent s (compactionWords [] []) } in
-      elim (some-number (refusal p (c .lengths) (c .call))) [
-        | inl z ↦ done-balanced p c (wear 0 0 0 0) z (omega arith) (omega arith)
-        | inr h ↦ refused-balanced p c h
-      ]
-
   merged-balanced : (w : CompactionWords) (answer : MergeAnswer) (b′ : Body) (w′ : CompactionWords) → Merging s w answer b′ w′
       → Balanced p (record { call = merging; lengths = lengthsLent s w }) (counted (mergeSays answer) merging-wears)
   unfolding done appendedDone
@@ -134,11 +132,13 @@ module _ {p : Plain} (s : Stores) (rest : Body) (more : List ℕ) (r : Represent
       ]
 
   called-balanced : {c : LentCall} {t : Stores} (call : Called s c t) → Balanced p c (ofCall call)
-  unfolding ofCall
-  called-balanced (stages q answer pending′ m) = staged-balanced q
+  unfolding ofCall done appendedDone stage stageAll
+  called-balanced (stages q answer pending′ m) = staged-balanced p _ (omega arith)
   called-balanced (merges w answer b′ w′ m) = merged-balanced w answer b′ w′ m
   called-balanced (compacts w answer b′ w′ m) = compacted-balanced w answer b′ w′ m
   called-balanced (clears answer keys′ m) = cleared-balanced answer keys′ m
+  called-balanced (refreshes q index answer pending′ index′ m sound) = staged-balanced p _ (omega arith)
+  called-balanced (refreshes-unsound q index answer pending′ index′ m unsound) = staged-balanced p _ (omega arith)
 
 -- ---- all the calls
 

@@ -1,12 +1,13 @@
 -- Laws of Booleans and of tests that all elements of a list pass, or one. Assumes nothing.
 use Prim.Native.Nat.{ℕ, zero, suc, _<_, suc-le-suc}
 use mathlib.Core.Path.{_≡_, refl, sym, ap, _∙_}
+use mathlib.Core.Logic.{_⊎_, inl, inr}
 use mathlib.Core.Bool.{Bool, true, false, not, _&&_, _||_, and-true, and-assoc, false≢true}
 use mathlib.Core.List.{List, [], _∷_, _++_, map}
 use native.Mathlib.Omega.{arith}
 use lib.ListN.{length, getD}
-use Rattle.lists.specs.Lists.{keep, count, every}
-use Rattle.lists.specs.Laws.Keep.{and-left, and-right, keep-every, every-keep}
+use Rattle.lists.specs.Lists.{keep, count, every, any}
+use Rattle.lists.specs.Laws.Keep.{split, and-left, and-right, keep-every, every-keep}
 
 -- both hold
 pub and-both : (a b : Bool) → a ≡ true → b ≡ true → (a && b) ≡ true
@@ -96,3 +97,20 @@ module _ {A : Type 0} (test : A → Bool) where
   unfolding every
   every-more [] x = and-true (test x)
   every-more (y ∷ xs) x = ap (λ (b : Bool). test y && b) (every-more xs x) ∙ sym (and-assoc (test y) (every test xs) (test x))
+
+  -- where one passes
+  pub any-at : (d : A) (xs : List A) → any test xs ≡ true → (i : ℕ) × (i < length xs) × (test (getD xs i d) ≡ true)
+  unfolding any
+  any-at d [] q = absurd (false≢true q)
+  any-at d (x ∷ xs) q = go (any-at d xs) (split (test x))
+    where
+      go : (any test xs ≡ true → (i : ℕ) × (i < length xs) × (test (getD xs i d) ≡ true)) → (test x ≡ true) ⊎ (test x ≡ false)
+          → (i : ℕ) × (i < suc (length xs)) × (test (getD (x ∷ xs) i d) ≡ true)
+      go f (inl e) = (0, omega arith, e)
+      go f (inr e) = let r = f (or-second (test x) (any test xs) q e) in (suc (r .0), suc-le-suc (r .1), r .2)
+
+  pub any-of : (d : A) (xs : List A) (i : ℕ) → i < length xs → test (getD xs i d) ≡ true → any test xs ≡ true
+  unfolding any
+  any-of d [] i h e = absurd (omega arith)
+  any-of d (x ∷ xs) zero h e = rw e
+  any-of d (x ∷ xs) (suc i) h e = or-right (test x) (any test xs) (any-of d xs i (omega arith) e)

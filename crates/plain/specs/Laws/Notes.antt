@@ -1,4 +1,5 @@
--- What comes after a version: while the generation is the same, rows only die and come behind. Assumes nothing.
+-- What comes after a version: the opening's numbers stay, the generation never falls, and while it is the same, rows only die and come
+-- behind. Assumes nothing.
 use Prim.Native.Nat.{ℕ, zero, suc, _+_, _≤_, _<_, suc-le-suc}
 use mathlib.Core.Path.{_≡_, refl, sym, ap, _∙_}
 use mathlib.Core.Logic.{inl, inr}
@@ -12,7 +13,7 @@ use Rattle.lists.specs.Lists.{keep}
 use Rattle.lists.specs.Laws.Keep.{split}
 use Rattle.plain.specs.Staged.{inserts}
 use Rattle.plain.specs.Plain.{Row, deadRow, Plain, liveFrom, stage, liveWithKey, killIf, dies, removed, insertAll, applied, compacted, unstaged, compactsAfter, merged, cleared, opened}
-use Rattle.plain.specs.Calls.{Call, staging, merging, compacting, clearing, done, LentCall, afterAll}
+use Rattle.plain.specs.Calls.{Call, staging, merging, compacting, clearing, refreshing, feeding, stageAll, done, LentCall, afterAll}
 use Rattle.plain.specs.Laws.Rows.{noRow}
 use Rattle.plain.specs.Laws.Calls.{leads-all}
 use Rattle.plain.specs.Laws.Counts.{Appended, new, again, insertion-appended, removed-keeps, every-true, insertAll-keeps, applied-alike}
@@ -77,53 +78,61 @@ applied-follows p = follows-then (removed-follows p) (insertAll-follows (inserts
 
 -- ---- the calls
 
--- the generation has risen, or rows have only died and come behind
-data Onward (p q : Plain) : Type 0 where
-  risen : p .generation < q .generation → Onward p q
-  follows : q .generation ≡ p .generation → Follows (p .rows) (q .rows) → Onward p q
+-- The opening's numbers are as they were, the generation is no lower, and where it is the same rows have only died and come behind
+pub record Onward (p q : Plain) : Type 0 where
+  pub opening : q .opening ≡ p .opening
+  pub generation : p .generation ≤ q .generation
+  pub follows : q .generation ≡ p .generation → Follows (p .rows) (q .rows)
+
+onward-rows : {p q : Plain} → q .opening ≡ p .opening → q .generation ≡ p .generation → Follows (p .rows) (q .rows) → Onward p q
+onward-rows o g f = record { opening = o; generation = omega arith; follows = λ e. f }
+
+onward-risen : {p q : Plain} → q .opening ≡ p .opening → p .generation < q .generation → Onward p q
+onward-risen o h = record { opening = o; generation = omega arith; follows = λ e. absurd (omega arith) }
 
 onward-same : (p : Plain) → Onward p p
-onward-same p = follows refl (follows-same (p .rows))
+onward-same p = onward-rows refl refl (follows-same (p .rows))
 
 onward-then : {p q r : Plain} → Onward p q → Onward q r → Onward p r
-onward-then (risen a) (risen b) = risen (omega arith)
-onward-then (risen a) (follows b g) = risen (omega arith)
-onward-then (follows a f) (risen b) = risen (omega arith)
-onward-then (follows a f) (follows b g) = follows (b ∙ a) (follows-then f g)
+onward-then a b =
+    record {
+      opening = b .opening ∙ a .opening;
+      generation = omega (arith, a .generation, b .generation);
+      follows = λ e. follows-then (a .follows (omega (arith, a .generation, b .generation))) (b .follows (omega (arith, a .generation, b .generation)));
+    }
 
 onward-compacted : (p : Plain) → Onward p (compacted p)
 unfolding compacted
-onward-compacted p = risen (omega arith)
+onward-compacted p = onward-risen refl (omega arith)
 
 onward-unstaged : (p : Plain) → Onward p (unstaged p)
 unfolding unstaged
-onward-unstaged p = follows refl (follows-same (p .rows))
+onward-unstaged p = onward-rows refl refl (follows-same (p .rows))
 
 onward-merged : (p : Plain) → Onward p (merged p .table)
 unfolding merged
 onward-merged p =
     let t : Plain = applied p .table in
-    let a : Onward p t = follows (applied-alike p .generation) (applied-follows p) in
-    let u = onward-then a (onward-unstaged t) in
+    let a = applied-alike p in
+    let u = onward-then (onward-rows (a .opening) (a .generation) (applied-follows p)) (onward-unstaged t) in
     elim (split (compactsAfter (applied p .status) t)) [ inl e ↦ rw e (onward-then u (onward-compacted (unstaged t))) | inr e ↦ rw e u ]
 
 onward-cleared : (p : Plain) → Onward p (cleared p)
 unfolding cleared opened
-onward-cleared p = elim (split (ltb 0 (length (p .rows)))) [ inl e ↦ rw e (risen (omega arith)) | inr e ↦ rw e (onward-unstaged p) ]
+onward-cleared p = elim (split (ltb 0 (length (p .rows)))) [ inl e ↦ rw e (onward-risen refl (omega arith)) | inr e ↦ rw e (onward-unstaged p) ]
 
 onward-done : (p : Plain) (c : Call) → Onward p (done p c)
-unfolding done stage
-onward-done p (staging r) = follows refl (follows-same (p .rows))
+unfolding done stage stageAll
+onward-done p (staging r) = onward-rows refl refl (follows-same (p .rows))
 onward-done p merging = onward-merged p
 onward-done p compacting = onward-compacted p
 onward-done p clearing = onward-cleared p
+onward-done p (refreshing r index) = onward-rows refl refl (follows-same (p .rows))
+onward-done p (feeding rs) = onward-rows refl refl (follows-same (p .rows))
 
-onward-all : (p : Plain) (cs : List LentCall) → Onward p (afterAll p cs)
+-- calls one after another, refused and stopped ones and clears of an empty table among them
+pub onward-all : (p : Plain) (cs : List LentCall) → Onward p (afterAll p cs)
 onward-all = leads-all Onward onward-same (λ p q r a b. onward-then a b) onward-done
-
--- calls that leave the generation as it was, refused and stopped ones and clears of an empty table among them
-pub calls-follow : (p : Plain) (cs : List LentCall) → afterAll p cs .generation ≡ p .generation → Follows (p .rows) (afterAll p cs .rows)
-calls-follow p cs e = elim (onward-all p cs) [ risen h ↦ absurd (omega arith) | follows g f ↦ f ]
 
 -- ---- the rows that were there
 

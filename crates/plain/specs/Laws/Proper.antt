@@ -11,19 +11,21 @@ use lib.Dec.{leb, ltb, eqb}
 use lib.ListN.{length, take, getD}
 use borrow.Author.Tests.{leb-true, ltb-true, leb-false, eqb-true, eqb-false, le-leb, lt-ltb, not-true, not-false}
 use Rattle.lists.specs.Lists.{every}
-use Rattle.lists.specs.Laws.Keep.{split, and-left, and-right, every-getD}
-use Rattle.lists.specs.Laws.Every.{and-both, every-head, every-tail, every-cons, every-snoc}
+use Rattle.lists.specs.Laws.Keep.{split, and-left, and-right, every-getD, every-keep-of}
+use Rattle.lists.specs.Laws.Every.{and-both, every-head, every-tail, every-cons, every-snoc, every-append}
 use Rattle.cells.specs.Cells.{isDead}
 use Rattle.refusals.specs.Refusals.{accepted}
 use Rattle.plain.specs.Staged.{Opening, openable, Staged, insert, removeKey, removeRow, inserts, skipped, due}
-use Rattle.plain.specs.Plain.{Row, Plain, withRows, opened, stage, liveWithKey, killIf, dies, removed, stop, insertion, applied, dead, compacted, unstaged, compactsAfter, merged, cleared, below, withRow, insertAll}
+use Rattle.plain.specs.Plain.{Row, Plain, liveRows, withRows, opened, stage, liveWithKey, killIf, dies, removed, stop, insertion, applied, dead, compacted, unstaged, compactsAfter, merged, cleared, below, withRow, insertAll}
+use Rattle.plain.specs.Refreshing.{Refresh, mentions, mentioning}
 use Rattle.plain.specs.Refusing.{Lengths, wrongWidth, stageLadder, compactLadder, clearLadder}
-use Rattle.plain.specs.Calls.{Call, staging, merging, compacting, clearing, refusal, done, after, LentCall, afterAll, used}
+use Rattle.plain.specs.Calls.{Call, staging, merging, compacting, clearing, refreshing, feeding, recordsOf, stageAll, refusal, done, after, LentCall, afterAll, used}
 use Rattle.plain.specs.Proper.{rowOf, Proper}
 use Rattle.merge_rules.specs.Laws.Rules.{made-length, made-keys, made-first}
 use Rattle.plain.specs.Laws.Lookup.{lookup-none, lookup-at}
 use Rattle.plain.specs.Laws.Rows.{noRow, wideRow, freeRow, Tidy, liveWithKey-key, free-dead, apart-of, apart-at, up-of, up-sorted, Thinned, killIf-thinned, dies-thinned, keep-thinned, thinned-same, thinned-length, thinned-tidy, tidy-snoc}
 use Rattle.plain.specs.Laws.Calls.{refused-nothing, accepted-done, first-no, first-rest}
+use Rattle.plain.specs.Laws.Refreshing.{live-wide, refreshed-whole, none-wrong}
 use Rattle.plain.specs.Laws.Counts.{Appended, new, again, insertion-appended, insertion-alike, removed-keeps, removed-alike, insertAll-keeps}
 
 -- ---- an opening's numbers
@@ -273,6 +275,21 @@ staged-proper {p} outside pending r h e =
     tidy-proper (stage p r) (h .numbers) (h .generation-fits) (proper-tidy h)
     (every-snoc (λ s. not (wrongWidth (p .opening) s)) (p .staged) r (h .staged-whole) (rw w))
 
+-- whole records
+pub stageAll-proper : {p : Plain} (rs : List Staged) → Proper p → Whole (p .opening) rs → Proper (stageAll p rs)
+unfolding stageAll
+stageAll-proper {p} rs h whole =
+    tidy-proper (stageAll p rs) (h .numbers) (h .generation-fits) (proper-tidy h)
+    (every-append (λ s. not (wrongWidth (p .opening) s)) (p .staged) rs (h .staged-whole) whole)
+
+-- those of a refresh
+pub records-whole : {p : Plain} (r : Refresh) → Proper p → Whole (p .opening) (recordsOf p r)
+unfolding mentioning liveRows
+records-whole {p} r h =
+    let o = p .opening in
+    refreshed-whole o (r .stamp) (mentioning r p) (openable-bounds o (h .numbers) .keys-few)
+    (every-keep-of (λ row. eqb (length (row .cells)) (o .columns)) (λ row. mentions (r .columns) (r .values) (row .cells)) (liveRows p) (live-wide o 0 (p .rows) (h .widths)))
+
 -- a clear, where a generation is left if there are rows
 pub cleared-proper : {p : Plain} → Proper p → (0 < length (p .rows) → p .generation < 4294967295) → Proper (cleared p)
 unfolding cleared
@@ -301,6 +318,8 @@ done-proper {p} l clearing h e =
       | inl q ↦ absurd (false≢true (sym n ∙ and-both _ _ q (lt-ltb _ _ k)))
       | inr q ↦ below-last (p .generation) (h .generation-fits) q
     ])
+done-proper {p} l (refreshing r index) h e = stageAll-proper (recordsOf p r) h (records-whole r h)
+done-proper {p} l (feeding rs) h e = stageAll-proper rs h (none-wrong (p .opening) rs (first-no _ 2 _ e))
 
 -- every call keeps a table proper, a refused one too
 pub after-proper : {p : Plain} (l : Lengths) (c : Call) → Proper p → Proper (after p l c)

@@ -19,7 +19,7 @@ use Rattle.lists.specs.Laws.Every.{every-head, every-tail, every-cons}
 use Rattle.refusals.specs.Refusals.{Reply, refused, accepted}
 use Rattle.plain.specs.Staged.{Opening, inserts}
 use Rattle.plain.specs.Plain.{Row, Plain, opened, stage, liveWithKey, killIf, removed, below, raised, insertion, goOn, insertAll, applied, compacted, unstaged, compactsAfter, merged, cleared}
-use Rattle.plain.specs.Calls.{Call, staging, merging, compacting, clearing, refusal, done, after, LentCall, afterAll}
+use Rattle.plain.specs.Calls.{Call, staging, merging, compacting, clearing, refreshing, feeding, recordsOf, stageAll, refusal, done, after, LentCall, afterAll}
 use Rattle.plain.specs.Proper.{rowOf}
 use Rattle.plain.specs.Appending.{appendsOn, insertsAppend, mergeAppends, stampsOf, stampsDone, stampsAfter, stampsSince, greatest}
 use Rattle.plain.specs.Laws.Rows.{noRow, liveRow, raised-same}
@@ -151,7 +151,7 @@ unfolding opened greatest
 stamped-opened o generation = record { largest-kept = refl; never-fall = λ i j h k. absurd (omega arith) }
 
 stamped-done : {p : Plain} {stamps : List ℕ} (c : Call) → Stamped p stamps → Stamped (done p c) (stampsDone stamps p c)
-unfolding done stampsDone stage compacted unstaged cleared
+unfolding done stampsDone stage stageAll compacted unstaged cleared
 stamped-done {p} (staging r) s = stamped-same (stage p r) refl s
 stamped-done merging s = stamped-merge s
 stamped-done {p} compacting s = stamped-same (compacted p) refl s
@@ -160,6 +160,8 @@ stamped-done {p} clearing s =
       | inl e ↦ rw e (stamped-opened (p .opening) (p .generation + 1))
       | inr e ↦ rw e (stamped-same (unstaged p) refl s)
     ]
+stamped-done {p} (refreshing r index) s = stamped-same (stageAll p (recordsOf p r)) refl s
+stamped-done {p} (feeding rs) s = stamped-same (stageAll p rs) refl s
 
 stamped-after : {p : Plain} {stamps : List ℕ} (c : LentCall) → Stamped p stamps → Stamped (after p (c .lengths) (c .call)) (stampsAfter stamps p c)
 unfolding after stampsAfter

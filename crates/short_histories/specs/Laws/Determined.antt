@@ -9,7 +9,7 @@ use Rattle.refusals.specs.Refusals.{Reply, refused, accepted}
 use Rattle.refusals.specs.Laws.Replies.{some-number}
 use Rattle.refusals.specs.Laws.Determined.{Same}
 use Rattle.plain.specs.Staged.{insert, removeKey, removeRow}
-use Rattle.plain.specs.Calls.{Call, staging, merging, compacting, clearing}
+use Rattle.plain.specs.Calls.{Call, staging, merging, compacting, clearing, refreshing, feeding}
 use Rattle.short_histories.specs.declared.StepAnswer.{StepAnswer}
 use Rattle.short_histories.specs.declared.StepAnswer.the-variants.{Refused as StepRefused, Insert, Remove, Merge}
 use Rattle.short_histories.specs.declared.PositionAnswer.{PositionAnswer}
@@ -28,6 +28,8 @@ stepOf (accepted (staging (removeRow row key))) = Merge
 stepOf (accepted merging) = Merge
 stepOf (accepted compacting) = Merge
 stepOf (accepted clearing) = Merge
+stepOf (accepted (refreshing r index)) = Merge
+stepOf (accepted (feeding rs)) = Merge
 
 step-said : (a : StepAnswer) → stepOf (stepSays a) ≡ a
 unfolding stepOf stepSays

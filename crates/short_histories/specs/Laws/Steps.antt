@@ -10,7 +10,7 @@ use Rattle.lists.specs.Lists.{every}
 use Rattle.refusals.specs.Refusals.{first, reply}
 use Rattle.plain.specs.Staged.{openable, wordsOf}
 use Rattle.plain.specs.Refusing.{wrongWidth, noSuchRow, overfull, stageLadder}
-use Rattle.plain.specs.Calls.{Call, staging, merging, compacting, clearing}
+use Rattle.plain.specs.Calls.{Call, staging, merging, compacting, clearing, refreshing, feeding}
 use Rattle.short_histories.specs.declared.StepAnswer.{StepAnswer}
 use Rattle.short_histories.specs.declared.StepAnswer.the-variants.{Refused, Insert, Remove, Merge}
 use Rattle.short_histories.specs.Sequences.{shortOpening, thirdCell, inserting, removing, steps, stepCall, stepRefusal, stepSays, StepTold}
@@ -26,6 +26,8 @@ fits rule (staging r) = eqb (stageLadder false (shortOpening rule) 0 0 5 r) 0
 fits rule merging = true
 fits rule compacting = false
 fits rule clearing = false
+fits rule (refreshing r index) = false
+fits rule (feeding rs) = false
 
 pub steps-fit : (rule : ℕ) → every (fits rule) steps ≡ true
 unfolding every fits steps inserting removing thirdCell shortOpening stageLadder first wrongWidth noSuchRow overfull wordsOf

@@ -129,6 +129,32 @@ module _ {p : Plain} {h : Header} {rows keys sorts pending : List ℕ} where
       fronts-represent (body rows keys sorts) (pending ++ more) r
       (record { long = long-header r; rows-same = refl; keys-same = refl; sorts-same = refl; pending-same = take-append-le (h .pending) pending more fits })
 
+  -- the row store
+  pub rows-part : (more : List ℕ) → Represents p (stores h (rows ++ more) keys sorts pending) → h .capacity * h .columns ≤ length rows
+      → Represents p (stores h rows keys sorts pending)
+  rows-part more r long =
+      let l = long-header r in
+      fronts-represent (body rows keys sorts) pending r
+      (record {
+        long = record { rows-long = long; keys-long = l .keys-long; sorts-long = l .sorts-long };
+        rows-same = sym (take-append-le (h .capacity * h .columns) rows more long);
+        keys-same = refl;
+        sorts-same = refl;
+        pending-same = refl;
+      })
+
+  pub rows-more : (more : List ℕ) → Represents p (stores h rows keys sorts pending) → Represents p (stores h (rows ++ more) keys sorts pending)
+  rows-more more r =
+      let l = long-header r in
+      fronts-represent (body (rows ++ more) keys sorts) pending r
+      (record {
+        long = record { rows-long = simp length-append (omega (arith, l .rows-long)); keys-long = l .keys-long; sorts-long = l .sorts-long };
+        rows-same = take-append-le (h .capacity * h .columns) rows more (l .rows-long);
+        keys-same = refl;
+        sorts-same = refl;
+        pending-same = refl;
+      })
+
   -- the key store
   pub keys-part : (more : List ℕ) → Represents p (stores h rows (keys ++ more) sorts pending) → 2 * h .capacity ≤ length keys
       → Represents p (stores h rows keys sorts pending)

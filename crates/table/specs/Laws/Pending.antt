@@ -1,14 +1,14 @@
--- Laws of the pending store: how many words staged records take, and one record more. Assumes nothing.
+-- Laws of the pending store: how many words staged records take, and more records. Assumes nothing.
 use Prim.Native.Nat.{ℕ, _+_, _≤_}
 use mathlib.Core.Path.{_≡_, refl, sym, ap, ap₂, _∙_}
 use mathlib.Core.Bool.{false, not}
-use mathlib.Core.List.{List, [], _∷_, _++_, map, map-append, append-nil}
+use mathlib.Core.List.{List, [], _∷_, _++_, map, map-append}
 use native.Mathlib.Omega.{arith}
 use lib.ListN.{length, length-append, length-take}
 use borrow.Author.Tests.{eqb-true, not-true, not-false}
 use Rattle.lists.specs.Lists.{putAt, flat}
 use Rattle.lists.specs.Laws.Parts.{front-putAt}
-use Rattle.lists.specs.Laws.Every.{every-head, every-tail, every-snoc}
+use Rattle.lists.specs.Laws.Every.{every-head, every-tail, every-append}
 use Rattle.lists.specs.Laws.Rows.{flat-append}
 use Rattle.plain.specs.Staged.{Opening, Staged, insert, removeKey, removeRow, wordsOf, wordsAll}
 use Rattle.plain.specs.Refusing.{wrongWidth}
@@ -30,18 +30,14 @@ length-records o (r ∷ rs) e =
     length-append (recordWords (o .keys) r) (flat (map (recordWords (o .keys)) rs))
     ∙ ap₂ _+_ (length-recordWords o r (not-true _ (every-head (λ r. not (wrongWidth o r)) r rs e))) (length-records o rs (every-tail (λ r. not (wrongWidth o r)) r rs e))
 
--- one more
-pub wordsAll-snoc : (o : Opening) (staged : List Staged) (r : Staged) → wordsAll o (staged ++ (r ∷ [])) ≡ wordsAll o staged + wordsOf o r
+-- more of them
+pub wordsAll-append : (o : Opening) (a b : List Staged) → wordsAll o (a ++ b) ≡ wordsAll o a + wordsAll o b
 unfolding wordsAll
-wordsAll-snoc o [] r = omega arith
-wordsAll-snoc o (q ∷ staged) r = let h = wordsAll-snoc o staged r in omega arith
+wordsAll-append o [] b = omega arith
+wordsAll-append o (r ∷ a) b = let h = wordsAll-append o a b in omega arith
 
-records-snoc : (keys : ℕ) (staged : List Staged) (r : Staged) → flat (map (recordWords keys) (staged ++ (r ∷ []))) ≡ flat (map (recordWords keys) staged) ++ recordWords keys r
-unfolding flat
-records-snoc keys staged r =
-    ap flat (map-append (recordWords keys) staged (r ∷ []))
-    ∙ flat-append (map (recordWords keys) staged) (recordWords keys r ∷ [])
-    ∙ ap (λ (l : List ℕ). flat (map (recordWords keys) staged) ++ l) (append-nil (recordWords keys r))
+records-append : (keys : ℕ) (a b : List Staged) → flat (map (recordWords keys) (a ++ b)) ≡ flat (map (recordWords keys) a) ++ flat (map (recordWords keys) b)
+records-append keys a b = ap flat (map-append (recordWords keys) a b) ∙ flat-append (map (recordWords keys) a) (map (recordWords keys) b)
 
 -- a pending store is as long as the records that it holds
 pub holds-fits : {o : Opening} {pending : List ℕ} {staged : List Staged} → Holds o pending staged → wordsAll o staged ≤ length pending
@@ -49,16 +45,18 @@ holds-fits {o} {pending} {staged} h =
     let e = ap length (h .in-order) ∙ length-records o staged (h .whole) in
     omega (arith, simp length-take at e)
 
--- a record written after the others is held too
-pub holds-staged : {o : Opening} {pending : List ℕ} {staged : List Staged} (r : Staged) → Holds o pending staged → wrongWidth o r ≡ false
-    → wordsAll o staged + wordsOf o r ≤ length pending → Holds o (putAt pending (wordsAll o staged) (recordWords (o .keys) r)) (staged ++ (r ∷ []))
-holds-staged {o} {pending} {staged} r h w k =
-    let n = length-recordWords o r w in
-    let e : wordsAll o (staged ++ (r ∷ [])) ≡ wordsAll o staged + length (recordWords (o .keys) r) = omega (arith, wordsAll-snoc o staged r) in
+-- records written after the others are held too
+pub holds-more : {o : Opening} {pending : List ℕ} {staged : List Staged} (rs : List Staged) → Holds o pending staged → Whole o rs
+    → wordsAll o staged + wordsAll o rs ≤ length pending
+    → Holds o (putAt pending (wordsAll o staged) (flat (map (recordWords (o .keys)) rs))) (staged ++ rs)
+holds-more {o} {pending} {staged} rs h w k =
+    let words : List ℕ = flat (map (recordWords (o .keys)) rs) in
+    let n : length words ≡ wordsAll o rs = length-records o rs w in
+    let e : wordsAll o (staged ++ rs) ≡ wordsAll o staged + length words = omega (arith, wordsAll-append o staged rs) in
     record {
-      whole = every-snoc (λ q. not (wrongWidth o q)) staged r (h .whole) (rw w);
+      whole = every-append (λ q. not (wrongWidth o q)) staged rs (h .whole) w;
       in-order =
-          rw e (front-putAt pending (recordWords (o .keys) r) (wordsAll o staged) (omega arith))
-          ∙ ap (λ (l : List ℕ). l ++ recordWords (o .keys) r) (h .in-order)
-          ∙ sym (records-snoc (o .keys) staged r);
+          rw e (front-putAt pending words (wordsAll o staged) (omega arith))
+          ∙ ap (λ (l : List ℕ). l ++ words) (h .in-order)
+          ∙ sym (records-append (o .keys) staged rs);
     }

@@ -11,9 +11,8 @@ use Rattle.table.specs.declared.Largest.{Largest}
 use Rattle.table.specs.declared.Largest.the-variants.{None as NoLargest, Value}
 use Rattle.table.specs.declared.Header.{Header}
 use Rattle.table.specs.declared.TableAnswer.{TableAnswer}
-use Rattle.table.specs.declared.MergeAnswer.{MergeAnswer}
 use Rattle.table.specs.Refusing.{outside}
-use Rattle.words.specs.Words.{largestIn, largestFlag, largestWord, columnsIn, headerIn, headerWords, tableNumber, tableHeader, Told, MergeTold, CallInWords, MergeInWords, QuestionInWords, InWords}
+use Rattle.words.specs.Words.{largestIn, largestFlag, largestWord, columnsIn, headerIn, headerWords, tableNumber, tableHeader, Told, BothTold, CallInWords, BothInWords, QuestionInWords, InWords}
 
 -- the largest value
 largest-read : (l : Largest) → largestIn (largestFlag l) (largestWord l) ≡ l
@@ -65,20 +64,20 @@ module _ {promise : TableAnswer → Type 0} {unchanged : Type 0} {header : List 
   called-done {answer} l p t =
       record { done = λ e. (answer, p, t .numbered, t .worded); unheaded = λ n. absurd (n l) }
 
-module _ {promise : MergeAnswer → Type 0} {unchanged : Type 0} {header words : List ℕ} where
-  pub merge-unheaded : (length header ≡ 12 → ⊥) → unchanged → MergeInWords promise unchanged header words 1 header words
-  merge-unheaded n u =
+module _ {A : Type 0} {promise : A → Type 0} {unchanged : Type 0} {number : A → ℕ} {headed told : List ℕ → A → List ℕ} {count : ℕ} {header words : List ℕ} where
+  pub both-unheaded : (length header ≡ 12 → ⊥) → unchanged → BothInWords promise unchanged number headed told count header words 1 header words
+  both-unheaded n u =
       record { done = λ e d. absurd (n e); unheaded = λ m. (u, refl, refl, refl); unworded = λ e m. absurd (n e) }
 
-  pub merge-unworded : length header ≡ 12 → (length words ≡ 5 → ⊥) → unchanged
-      → MergeInWords promise unchanged header words 2 header words
-  merge-unworded l n u =
+  pub both-unworded : length header ≡ 12 → (length words ≡ count → ⊥) → unchanged
+      → BothInWords promise unchanged number headed told count header words 2 header words
+  both-unworded l n u =
       record { done = λ e d. absurd (n d); unheaded = λ m. absurd (m l); unworded = λ e m. (u, refl, refl, refl) }
 
-  pub merge-done : {answer : MergeAnswer} {r : ℕ} {header′ words′ : List ℕ} → length header ≡ 12 → length words ≡ 5
-      → promise answer → MergeTold answer header words r header′ words′
-      → MergeInWords promise unchanged header words r header′ words′
-  merge-done {answer} l k p t =
+  pub both-done : {answer : A} {r : ℕ} {header′ words′ : List ℕ} → length header ≡ 12 → length words ≡ count
+      → promise answer → BothTold number (headed header) (told words) answer r header′ words′
+      → BothInWords promise unchanged number headed told count header words r header′ words′
+  both-done {answer} l k p t =
       record {
         done = λ e d. (answer, p, t .numbered, t .headed, t .worded);
         unheaded = λ n. absurd (n l);

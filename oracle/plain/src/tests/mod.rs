@@ -4,6 +4,7 @@ mod answers;
 mod columns;
 mod examples;
 mod precedence;
+mod refreshes;
 mod refusals;
 mod sound;
 mod stores;
@@ -20,6 +21,7 @@ const LENT: Lengths = Lengths {
     pending: 1024,
     live_words: 2,
     base_words: 2,
+    index: 16 + 3 * 128 * 8,
 };
 
 fn numbers(of: [u32; 6]) -> Opening {

@@ -44,6 +44,7 @@ const EXACT: Lengths = Lengths {
     pending: 0,
     live_words: 2,
     base_words: 2,
+    index: 16 + 3 * 65 * 2,
 };
 
 /// `EXACT` with one store a word short: rows, keys, sort entries, live words, base words.
@@ -146,6 +147,7 @@ fn before_an_opening() {
         Call::Merge,
         Call::Compact,
         Call::Clear,
+        Call::Refresh(super::refreshes::of(&[], &[], 0)),
     ] {
         assert_eq!(call(&mut table, LENT, asked), refused(1));
     }

@@ -2,7 +2,7 @@
 //! what is private there. Each function names or calls one private item and decides nothing.
 
 use super::*;
-use crate::driver::{Opened, Staging};
+use crate::driver::{Opened, Staging, Taken};
 
 impl Staging for Buffer {
     fn stage_remove_row(&mut self, row: RowId, key: &[Value]) {
@@ -49,5 +49,37 @@ impl Opened for SortedWritesTable {
 
     fn probe(compact: u32) -> u64 {
         CompactHash(compact).probe().raw()
+    }
+
+    fn row(&self, row: RowId) -> Option<&[Value]> {
+        self.data.get_row(row)
+    }
+
+    fn named_columns(&self) -> &[ColumnId] {
+        &self.to_rebuild
+    }
+
+    fn name_columns(&mut self, columns: Vec<ColumnId>) {
+        self.rebuild_index = Index::new(columns.clone(), ColumnIndex::new());
+        self.to_rebuild = columns;
+    }
+
+    fn unstage(&mut self) {
+        self.pending_state.clear();
+    }
+
+    fn staged_by(&mut self, work: &mut dyn FnMut(&mut Self)) -> Taken {
+        let none = Arc::new(PendingState::new(self.hash.shard_data()));
+        let before = mem::replace(&mut self.pending_state, none);
+        work(self);
+        let staged = mem::replace(&mut self.pending_state, before);
+        let shard = ShardId::new(0);
+        let removals = drain_queue(&staged.pending_known_removals[shard]);
+        let rows = drain_queue(&staged.pending_rows[shard]);
+        let rows = rows.iter().flat_map(HashedRowBuffer::rows_hashed);
+        Taken {
+            removals: removals.iter().flatten().map(|it| (it.row, it.hash.0)).collect(),
+            rows: rows.map(|(_, row)| row.to_vec()).collect(),
+        }
     }
 }

@@ -1,0 +1,158 @@
+-- Index stores stay sound along every history, from the promises alone. Assumes nothing.
+use Prim.Native.Nat.{ℕ, _+_, _*_, _≤_, _<_}
+use mathlib.Core.Path.{_≡_, refl, sym, ap, _∙_}
+use mathlib.Core.Logic.{inl, inr}
+use mathlib.Core.Bool.{true, false, false≢true}
+use mathlib.Core.List.{List, [], _∷_, _++_}
+use native.Mathlib.Nat.{mul-le-mul-right}
+use native.Mathlib.Omega.{arith}
+use lib.ListN.{length, drop, length-drop}
+use lib.Seq.{take-append-le, drop-append-le}
+use borrow.Author.Tests.{ltb-false}
+use Rattle.lists.specs.Lists.{rowAt}
+use Rattle.lists.specs.Laws.Rows.{row-in}
+use Rattle.refusals.specs.Laws.Replies.{some-number}
+use Rattle.constraints.specs.Constraints.{isLive}
+use Rattle.plain.specs.Staged.{Opening}
+use Rattle.plain.specs.Plain.{Plain}
+use Rattle.plain.specs.Refreshing.{Refresh, indexShort}
+use Rattle.plain.specs.Calls.{LentCall, after, afterAll}
+use Rattle.plain.specs.Laws.Proper.{openable-bounds}
+use Rattle.plain.specs.Laws.Notes.{onward-all, follows-length}
+use Rattle.table.specs.declared.Header.{Header}
+use Rattle.table.specs.Promises.{Stores, Body, bodyOf, joined, Represents}
+use Rattle.table.specs.Laws.Shown.{rows-counted}
+use Rattle.refreshes.specs.declared.RefreshAnswer.{RefreshAnswer}
+use Rattle.refreshes.specs.Index.{isNew, generationSeen, IndexOf, IndexSound}
+use Rattle.refreshes.specs.Refreshes.{refreshSays, headerRefreshed, Refreshing}
+use Rattle.refreshes.specs.Laws.Keeps.{number, says-accepted, says-refused, passed}
+use Rattle.refreshes.specs.Laws.Fronts.{index-more, index-front, new-front, generation-front, goes-on, named-count}
+use Rattle.history.specs.Histories.{refreshes, behind, Step, called}
+use Rattle.history.specs.Refreshes.{Kept, taken, waits, refreshes as refreshes-kept, IndexStays}
+use Rattle.history.specs.Laws.Calls.{history-represents, step-represents}
+use Rattle.history.specs.Laws.Notes.{generation-shown, same-now}
+
+-- ---- two tables, a row store each, of which the second has no fewer rows
+
+module _ {h g : Header} {rows rows′ index : List ℕ} (more : h .rows ≤ g .rows) (capacity : g .capacity ≡ h .capacity)
+    (same : (i : ℕ) → i < h .rows → isLive (rowAt (g .columns) i rows′) ≡ true → rowAt (g .columns) i rows′ ≡ rowAt (h .columns) i rows) where
+  -- where the live rows are the same, an index of the one is one of the other
+  index-again : IndexOf h rows index → IndexOf g rows′ index
+  index-again o =
+      record {
+        seen = omega (arith, o .seen);
+        buckets-few = rw capacity (o .buckets-few);
+        listed = λ row place below live there.
+            let e = same row (omega (arith, o .seen)) live in
+            rw (e, capacity) (o .listed row place below (rw e at live) there);
+      }
+
+-- any first part of the row store
+row-front : (h : Header) (rows more : List ℕ) → h .rows * h .columns ≤ length rows → (i : ℕ) → i < h .rows → rowAt (h .columns) i (rows ++ more) ≡ rowAt (h .columns) i rows
+unfolding rowAt
+row-front h rows more long i k =
+    let e = row-in i (h .rows) (h .columns) k in
+    rw (drop-append-le (i * h .columns) rows more (omega arith), take-append-le (h .columns) (drop (i * h .columns) rows) more (simp length-drop (omega arith)))
+
+-- ---- an index store that nothing but this table's refreshes has written
+
+-- of no later generation, and of this one only as an index of the table
+record Followed (h : Header) (rows index : List ℕ) : Type 0 where
+  not-later : isNew index ≡ false → generationSeen index ≤ h .generation
+  of-now : isNew index ≡ false → generationSeen index ≡ h .generation → IndexOf h rows index
+
+-- beside stores that show a plain table
+record Beside (t : Stores) (index : List ℕ) : Type 0 where
+  plain : Plain
+  represents : Represents plain t
+  followed : Followed (t .header) (t .rows) index
+
+rows-fit : {p : Plain} {s : Stores} → Represents p s → s .header .rows ≤ s .header .capacity
+rows-fit r = rw (r .shown .header) (r .proper .rows-fit)
+
+capacity-some : {p : Plain} {s : Stores} → Represents p s → 0 < s .header .capacity
+capacity-some {p} r = rw (r .shown .header) (openable-bounds (p .opening) (r .proper .numbers) .capacity-some)
+
+-- another call leaves it so
+waits-beside : {t u : Stores} {c : LentCall} {index : List ℕ} → Beside t index → Step t c u → Beside u index
+unfolding afterAll
+waits-beside {c = c} b step =
+    let r = b .represents in
+    let s = step-represents r step in
+    let onward = onward-all (b .plain) (c ∷ []) in
+    let g = generation-shown r in
+    let g′ = generation-shown s in
+    let f = b .followed in
+    record {
+      plain = after (b .plain) (c .lengths) (c .call);
+      represents = s;
+      followed = record {
+        not-later = λ written. omega (arith, f .not-later written, onward .generation);
+        of-now = λ written now.
+            let e = f .not-later written in
+            let k = onward .follows (omega (arith, onward .generation)) in
+            index-again (omega (arith, follows-length k, rows-counted r, rows-counted s))
+            (ap (λ (x : Header). x .capacity) (s .shown .header) ∙ ap (λ (x : Opening). x .capacity) (onward .opening) ∙ sym (ap (λ (x : Header). x .capacity) (r .shown .header)))
+            (same-now r s k)
+            (f .of-now written (omega (arith, onward .generation)));
+      };
+    }
+
+module _ (t : Stores) (rest : Body) (pending lent more : List ℕ) (b : Beside (behind t rest pending) (lent ++ more)) where
+  rows-long : t .header .capacity * t .header .columns ≤ length (t .rows) → t .header .rows * t .header .columns ≤ length (t .rows)
+  rows-long long = omega (arith, mul-le-mul-right (t .header .columns) (rows-fit (b .represents)))
+
+  -- any first part of it is sound
+  lent-sound : (columns : List ℕ) → IndexSound (t .header) (t .rows) columns lent
+  unfolding indexShort
+  lent-sound columns long not-short not-afresh =
+      let h = t .header in
+      let r = b .represents in
+      let on = goes-on h columns lent not-afresh in
+      let l : 16 + 3 * (h .capacity * length columns) ≤ length lent = ltb-false _ _ not-short in
+      let n = named-count (h .capacity) columns lent (capacity-some r) l (on .columns-named) in
+      let o = b .followed .of-now (new-front lent more (omega arith) ∙ on .written) (generation-front lent more (omega arith) ∙ on .generation) in
+      index-again (omega arith) refl (λ i k live. sym (row-front h (t .rows) (rest .rows) (rows-long long) i k))
+      (index-front h lent more (rows-fit r) (rw n l) o)
+
+  module _ {q : Refresh} {answer : RefreshAnswer} {pending′ lent′ : List ℕ} (m : Refreshing (t .header) (t .rows) (t .pending) lent q answer pending′ lent′) where
+    refreshed-followed : Followed (headerRefreshed (t .header) (refreshSays answer)) (t .rows ++ rest .rows) (lent′ ++ more)
+    unfolding headerRefreshed
+    refreshed-followed =
+        let h = t .header in
+        let r = b .represents in
+        elim (some-number (number m)) [
+          | inl e ↦
+              let c = m .current e (lent-sound (q .columns)) in
+              let l : 16 + 3 * (h .capacity * length (q .columns)) ≤ length lent′ = omega (arith, passed m e .index-long, m .length-same) in
+              let n = named-count (h .capacity) (q .columns) lent′ (capacity-some r) l (c .columns-named) in
+              let o = index-more h lent′ more (rows-fit r) (rw n l) (c .index-of) in
+              rw (says-accepted m e)
+              (record {
+                not-later = λ written. omega (arith, generation-front lent′ more (omega arith), c .generation);
+                of-now = λ written now. index-again (omega arith) refl (λ i k live. row-front h (t .rows) (rest .rows) (rows-long (passed m e .rows-long)) i k) o;
+              })
+          | inr some ↦ rw (says-refused m some, m .unchanged some .1) (b .followed)
+        ]
+
+    refreshes-beside : Beside (behind (joined (headerRefreshed (t .header) (refreshSays answer)) (bodyOf t) pending′) rest pending) (lent′ ++ more)
+    refreshes-beside =
+        record {
+          plain = _;
+          represents = step-represents (b .represents) (called {s = t} rest pending (refreshes q lent answer pending′ lent′ m (lent-sound (q .columns))));
+          followed = refreshed-followed;
+        }
+
+kept-beside : {p : Plain} {s t : Stores} {index index′ : List ℕ} → Represents p s → Kept s index t index′ → Beside t index′
+kept-beside {p} r (taken s index is) =
+    record {
+      plain = p;
+      represents = r;
+      followed = record { not-later = λ written. absurd (false≢true (sym written ∙ is)); of-now = λ written now. absurd (false≢true (sym written ∙ is)) };
+    }
+kept-beside r (waits kept step) = waits-beside (kept-beside r kept) step
+kept-beside r (refreshes-kept t rest pending lent more q answer pending′ lent′ kept m) = refreshes-beside t rest pending lent more (kept-beside r kept) m
+
+pub index-stays : IndexStays
+index-stays o generation calls s t rest pending index lent more columns history kept =
+    lent-sound t rest pending lent more (kept-beside (history-represents history) kept) columns

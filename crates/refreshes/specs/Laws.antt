@@ -1,0 +1,4 @@
+-- What follows from the definitions.
+pub mod Keeps
+pub mod Determined
+pub mod Fronts

@@ -1,0 +1,4 @@
+pub mod Index
+pub mod Refreshes
+pub mod Laws
+pub mod inner

@@ -1,0 +1,7 @@
+pub mod Sizes
+pub mod Fills
+pub mod Fronts
+pub mod Catches
+pub mod Goings
+pub mod Leads
+pub mod Walks

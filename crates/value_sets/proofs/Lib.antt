@@ -1,0 +1,3 @@
+pub mod Links
+pub mod Mentions
+pub mod Marks
