@@ -7,12 +7,6 @@ use borrow.Author.Needs.{needs}
 use Rattle.listing_moves.proofs.lacks_room.Statement.{statement}
 use Rattle.listing_moves.proofs.lacks_room.Tie as tie
 
-number-length-requires : tie.Need-number-length-requires
-number-length-requires c κs = search needs
-
-numbers-length-requires : tie.Need-numbers-length-requires
-numbers-length-requires c κs = search needs
-
 add-fields : tie.Need-add-fields
 add-fields c = omega (arith, c .numbers-length .ensures, c .before .number-length .ensures, length-field (c .before .before .args .rows), numbers-few (c .before .before .args .rows), c .before .before .pre .0)
 
@@ -32,8 +26,8 @@ pub lacks-room-spec : {M : Type 1} → statement M
 lacks-room-spec =
     tie.close
     (tie.spec
-    number-length-requires
-    numbers-length-requires
+    (λ c κs. search needs)
+    (λ c κs. search needs)
     add-fields
     sub-result
     returns

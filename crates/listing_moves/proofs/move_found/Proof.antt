@@ -4,9 +4,6 @@ use borrow.Author.Needs.{needs}
 use Rattle.listing_moves.proofs.move_found.Statement.{statement}
 use Rattle.listing_moves.proofs.move_found.Tie as tie
 
-lacks-row-requires : tie.Need-lacks-row-requires
-lacks-row-requires c κs = search needs
-
 returns : tie.Need-returns
 returns c = moved-gap _ _ _ (c .before .before .before .before .pre) _ (c .before .lacks-row .ensures) (c .if1 .taken)
 
@@ -19,9 +16,6 @@ returns-2 c = moved-short _ _ _ (c .before .before .before .before .before .befo
 write-moved-requires : tie.Need-write-moved-requires
 write-moved-requires c κs = (c .before .before .before .before .before .before .before .pre, moved-room _ _ _ (c .before .before .before .before .before .before .before .pre) (c .before .before .before .before .before .before .before .args .output .now) (c .before .before .before .before .lacks-row .ensures) (c .before .before .before .if1 .left) (c .before .before .lacks-room .ensures) (c .before .if2 .left))
 
-same-length : tie.Need-same-length
-same-length c = search needs
-
 returns-3 : tie.Need-returns-3
 returns-3 c = moved-done _ _ _ (c .before .before .before .before .before .before .before .before .before .before .pre) _ (c .before .before .before .before .before .before .before .lacks-row .ensures) (c .before .before .before .before .before .before .if1 .left) (c .before .before .before .before .before .lacks-room .ensures) (c .before .before .before .before .if2 .left) (c .before .before .write-moved .ensures)
 
@@ -29,10 +23,10 @@ pub move-found-spec : {M : Type 1} → statement M
 move-found-spec =
     tie.close
     (tie.spec
-    lacks-row-requires
+    (λ c κs. search needs)
     returns
     lacks-room-requires
     returns-2
     write-moved-requires
-    same-length
+    (λ c. search needs)
     returns-3)

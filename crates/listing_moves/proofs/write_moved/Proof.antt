@@ -11,15 +11,9 @@ move-head-requires c κs = head-room _ _ _ (c .before .before .before .pre .0) (
 cast-move-rows : tie.Need-cast-move-rows
 cast-move-rows c = omega (arith, c .before .before .before .before .before .before .before .pre .0 .narrow .1)
 
-slice-aggregate-move-rows : tie.Need-slice-aggregate-move-rows
-slice-aggregate-move-rows c = search needs
-
 move-rows-requires : tie.Need-move-rows-requires
 move-rows-requires c κs = let l = c .before .before .before .before .before .before .before .before .before .pre .0 in
     (l .narrow .1, (l .inside, (search needs, (awaited _ _ _ l (c .before .before .before .before .before .before .before .before .before .args .output .now), (rows-few _ _ _ l (c .before .before .before .before .before .before .before .before .before .args .output .now), rows-room _ _ _ l _ (c .before .before .before .before .before .before .before .before .before .pre .1) (c .before .before .before .before .before .move-head .ensures) (search needs))))))
-
-same-length : tie.Need-same-length
-same-length c = search needs
 
 returns : tie.Need-returns
 returns c = all-moved _ _ _ (c .before .before .before .before .before .before .before .before .before .before .before .before .before .pre .0) _ (c .before .before .before .before .before .before .before .before .before .before .before .before .before .pre .1) (c .before .before .before .before .before .before .before .before .before .move-head .ensures) (c .before .before .before .move-rows .ensures)
@@ -30,7 +24,7 @@ write-moved-spec =
     (tie.spec
     move-head-requires
     cast-move-rows
-    slice-aggregate-move-rows
+    (λ c. search needs)
     move-rows-requires
-    same-length
+    (λ c. search needs)
     returns)
