@@ -806,12 +806,13 @@ pub fn read_numbered(
     Ok((head, count, rows as usize))
 }
 
-/// Writes a listing in the old form to the start of the output in the new one, its rows numbered from 0, and answers how many
-/// bytes that are. Output past them is unchanged. Refused by 11 and 2.
-pub fn to_numbered(text: &[u8], output: &mut [u8]) -> Result<usize, Refusal> {
+/// A move of a listing's text to the other form, under its C name.
+type Move = unsafe extern "C" fn(*const u8, usize, *mut u8, usize, *mut u64, usize) -> u32;
+
+fn moved(by: Move, text: &[u8], output: &mut [u8]) -> Result<usize, Refusal> {
     let mut words = [0];
     verdict(unsafe {
-        raw::mouldgrey_to_numbered(
+        by(
             text.as_ptr(),
             text.len(),
             output.as_mut_ptr(),
@@ -823,20 +824,15 @@ pub fn to_numbered(text: &[u8], output: &mut [u8]) -> Result<usize, Refusal> {
     Ok(words[0] as usize)
 }
 
+/// Writes a listing in the old form to the start of the output in the new one, its rows numbered from 0, and answers how many
+/// bytes that are. Output past them is unchanged. Refused by 11 and 2.
+pub fn to_numbered(text: &[u8], output: &mut [u8]) -> Result<usize, Refusal> {
+    moved(raw::mouldgrey_to_numbered, text, output)
+}
+
 /// Writes a listing in the new form to the output in the old one, as [`to_numbered`] does. Refused by 11, 17 and 2.
 pub fn from_numbered(text: &[u8], output: &mut [u8]) -> Result<usize, Refusal> {
-    let mut words = [0];
-    verdict(unsafe {
-        raw::mouldgrey_from_numbered(
-            text.as_ptr(),
-            text.len(),
-            output.as_mut_ptr(),
-            output.len(),
-            words.as_mut_ptr(),
-            words.len(),
-        )
-    })?;
-    Ok(words[0] as usize)
+    moved(raw::mouldgrey_from_numbered, text, output)
 }
 
 /// Whether the numbers given are, rising and each once, those of the rows of a listing in the new form that meet all conditions.
