@@ -7,6 +7,8 @@ pub mod Questions
 pub mod Theorem
 pub mod Batches
 pub mod LentLengths
+pub mod Total
+pub mod RefreshKinds
 pub mod Stamps
 pub mod Notes
 pub mod Refreshes

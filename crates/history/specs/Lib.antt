@@ -1,4 +1,5 @@
 pub mod Histories
+pub mod Total
 pub mod Refreshes
 pub mod Runs
 pub mod Claim

@@ -76,7 +76,7 @@ oneWord = compactionWords (0 ∷ []) (0 ∷ [])
 abbrev pub lentRows : ℕ → Lengths
 lentRows rows = record { rows = rows; keys = 8; sorts = 8; pending = 0; liveWords = 1; baseWords = 1 }
 
-example-opened : Opened example 0 (body (0 ∷ eleven) eight eight) [] (Table (emptyHeader example 0)) eight
+pub example-opened : Opened example 0 (body (0 ∷ eleven) eight eight) [] (Table (emptyHeader example 0)) eight
 unfolding openRefusal openable storesShort first putAt roomFor roomStep
 example-opened = opened-done example 0 (0 ∷ eleven) eight eight [] eight refl (omega arith) (record { free = refl; tail = refl })
 

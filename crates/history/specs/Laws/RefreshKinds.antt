@@ -1,0 +1,99 @@
+-- An example: a history with a refresh of each kind. A table of 3 columns and capacity 4 is opened. A refresh by column 2 takes a new
+-- index store, which is sound. The next is lent an index store that has seen a row where the table has none, which is unsound. Assumes
+-- nothing.
+use Prim.Native.Nat.{ℕ}
+use mathlib.Core.Path.{refl, sym}
+use mathlib.Core.Bool.{true, false, false≢true}
+use mathlib.Core.List.{List, [], _∷_}
+use native.Mathlib.Omega.{arith}
+use Rattle.lists.specs.Lists.{putAt, keep, every, flat, same, rowsOf}
+use Rattle.refusals.specs.Refusals.{first, reply}
+use Rattle.plain.specs.Staged.{openable, wordsAll}
+use Rattle.plain.specs.Plain.{liveFrom, liveRows, below}
+use Rattle.plain.specs.Refusing.{overfull}
+use Rattle.plain.specs.Refreshing.{Refresh, mentioning, refreshed, indexShort, refreshLadder}
+use Rattle.plain.specs.Calls.{refreshing, feeding}
+use Rattle.table.specs.declared.Header.{Header}
+use Rattle.table.specs.Numbers.{largestSays}
+use Rattle.table.specs.Refusing.{outside, pendingOutside}
+use Rattle.table.specs.Stores.{rowsIn}
+use Rattle.table.specs.Promises.{body, compactionWords, lengthsLent}
+use Rattle.table.specs.Laws.Opening.{emptyHeader}
+use Rattle.refreshes.specs.declared.Refreshed.{Refreshed}
+use Rattle.refreshes.specs.declared.RefreshAnswer.the-variants.{Refreshed as RefreshDone}
+use Rattle.refreshes.specs.Index.{isNew, generationSeen, rowsSeen, columnsNamed, namedIn, IndexSound, startsAfresh}
+use Rattle.refreshes.specs.Refreshes.{refreshSays, refreshRefusal, recordsFound, recordsStaged, headerRefreshed, Refreshing}
+use Rattle.history.specs.Histories.{refreshes, refreshes-unsound, called, end, next, History}
+use Rattle.history.specs.Laws.LentLengths.{example, exampleStores, example-opened}
+
+abbrev empty : Header
+empty = emptyHeader example 0
+
+abbrev rows : List ℕ
+rows = exampleStores .rows
+
+-- an index store of generation 0 by its words 0, 2, 3 and 4: whether it is written, the rows seen, how many columns are named, and the
+-- first of these
+abbrev indexStore : ℕ → ℕ → ℕ → ℕ → List ℕ
+indexStore written seen count column =
+    written ∷ 0 ∷ seen ∷ count ∷ column
+    ∷ 0 ∷ 0 ∷ 0 ∷ 0 ∷ 0 ∷ 0 ∷ 0 ∷ 0 ∷ 0 ∷ 0 ∷ 0
+    ∷ 0 ∷ 0 ∷ 0 ∷ 0 ∷ 0 ∷ 0 ∷ 0 ∷ 0 ∷ 0 ∷ 0 ∷ 0 ∷ 0 ∷ []
+
+abbrev pub byColumn : Refresh
+byColumn = record { columns = 2 ∷ []; values = 7 ∷ []; stamp = 0 }
+
+-- no row was staged
+abbrev nothing : Refreshed
+nothing = record { header = empty; staged = false }
+
+-- whatever the index store holds, it is accepted and starts the index afresh
+example-refreshed : (written seen count column : ℕ)
+    → Refreshing empty rows [] (indexStore written seen count column) byColumn (RefreshDone nothing) [] (indexStore 1 0 1 2)
+unfolding refreshSays reply refreshRefusal refreshLadder first pendingOutside outside openable every largestSays below indexShort overfull wordsAll recordsFound refreshed mentioning liveRows liveFrom rowsIn rowsOf keep flat putAt isNew generationSeen rowsSeen columnsNamed namedIn
+example-refreshed written seen count column =
+    record {
+      found = λ row. true;
+      all-found = λ sound row. refl;
+      answers = refl;
+      unchanged = λ some. absurd (omega arith);
+      staged = λ none. refl;
+      written = λ none. refl;
+      current = λ none sound.
+          record {
+            written = refl;
+            generation = refl;
+            seen-all = refl;
+            columns-named = refl;
+            index-of = record { seen = omega arith; buckets-few = omega arith; listed = λ row place k. absurd (omega arith) };
+          };
+      past = refl;
+      length-same = refl;
+    }
+
+new-sound : IndexSound empty rows (2 ∷ []) (indexStore 0 0 0 0)
+unfolding startsAfresh isNew
+new-sound long fits goes-on = absurd (false≢true (sym goes-on))
+
+wrong-unsound : IndexSound empty rows (2 ∷ []) (indexStore 1 1 1 2) → ⊥
+unfolding indexShort startsAfresh isNew generationSeen rowsSeen columnsNamed namedIn same
+wrong-unsound sound = let o = sound (omega arith) refl refl in omega (arith, o .seen)
+
+pub both-kinds : History example 0
+    (record { call = refreshing byColumn 28; lengths = lengthsLent exampleStores (compactionWords [] []) }
+    ∷ record { call = feeding []; lengths = lengthsLent exampleStores (compactionWords [] []) }
+    ∷ [])
+    exampleStores
+unfolding refreshSays headerRefreshed recordsStaged recordsFound refreshed mentioning liveRows liveFrom rowsIn rowsOf keep flat
+both-kinds =
+    record {
+      start = exampleStores;
+      keys-before = exampleStores .keys;
+      opened = example-opened;
+      rest = body [] [] [];
+      pending = [];
+      steps =
+          next (called {s = exampleStores} (body [] [] []) [] (refreshes byColumn (indexStore 0 0 0 0) (RefreshDone nothing) [] (indexStore 1 0 1 2) (example-refreshed 0 0 0 0) new-sound))
+          (next (called {s = exampleStores} (body [] [] []) [] (refreshes-unsound byColumn (indexStore 1 1 1 2) (RefreshDone nothing) [] (indexStore 1 0 1 2) (example-refreshed 1 1 1 2) wrong-unsound))
+          (end exampleStores));
+    }

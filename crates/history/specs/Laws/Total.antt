@@ -1,0 +1,20 @@
+-- Every outcome that meets the contract of its entry point is a call of a history. Only a refresh needs a proof: its index store is
+-- sound or it is not. Assumes nothing.
+use mathlib.Core.Logic.{inl, inr}
+use Rattle.refreshes.specs.Laws.Decided.{index-decided}
+use Rattle.history.specs.Histories.{stages, merges, compacts, clears, refreshes, refreshes-unsound}
+use Rattle.history.specs.Total.{EveryOutcomeIsACall}
+
+pub every-outcome-is-a-call : EveryOutcomeIsACall
+every-outcome-is-a-call =
+    record {
+      staging = λ s r answer pending′ m. (_, stages r answer pending′ m);
+      merge = λ s w answer b′ w′ m. (_, merges w answer b′ w′ m);
+      compact = λ s w answer b′ w′ m. (_, compacts w answer b′ w′ m);
+      clear = λ s answer keys′ m. (_, clears answer keys′ m);
+      refresh = λ s r index answer pending′ index′ m.
+          elim (index-decided (s .header) (s .rows) (r .columns) index) [
+            | inl sound ↦ (_, refreshes r index answer pending′ index′ m sound)
+            | inr unsound ↦ (_, refreshes-unsound r index answer pending′ index′ m unsound)
+          ];
+    }

@@ -1,0 +1,36 @@
+-- Every outcome of a call that meets the contract of its entry point is a call of a history: of any lent stores, any arguments and any
+-- answer. So a history leaves out nothing that a program can do. Assumes nothing.
+use Prim.Native.Nat.{ℕ}
+use mathlib.Core.List.{List}
+use Rattle.plain.specs.Staged.{Staged}
+use Rattle.plain.specs.Refreshing.{Refresh}
+use Rattle.plain.specs.Calls.{LentCall}
+use Rattle.table.specs.declared.TableAnswer.{TableAnswer}
+use Rattle.table.specs.declared.MergeAnswer.{MergeAnswer}
+use Rattle.table.specs.Numbers.{tableSays, mergeSays}
+use Rattle.table.specs.Promises.{Stores, Body, body, bodyOf, joined, CompactionWords, headerAfter, headerMerged, Staging, Merging, Compacting, Clearing}
+use Rattle.refreshes.specs.declared.RefreshAnswer.{RefreshAnswer}
+use Rattle.refreshes.specs.Refreshes.{refreshSays, headerRefreshed, Refreshing}
+use Rattle.history.specs.Histories.{Called}
+
+-- some call of a history takes the one to the other
+abbrev pub CallTo : Stores → Stores → Type 0
+CallTo s t = (c : LentCall) × Called s c t
+
+pub record EveryOutcomeIsACall : Type 0 where
+  pub staging : (s : Stores) (r : Staged) (answer : TableAnswer) (pending′ : List ℕ)
+      → Staging (s .header) (s .pending) r answer pending′
+      → CallTo s (joined (headerAfter (s .header) (tableSays answer)) (bodyOf s) pending′)
+  pub merge : (s : Stores) (w : CompactionWords) (answer : MergeAnswer) (b′ : Body) (w′ : CompactionWords)
+      → Merging s w answer b′ w′
+      → CallTo s (joined (headerMerged (s .header) (mergeSays answer)) b′ (s .pending))
+  pub compact : (s : Stores) (w : CompactionWords) (answer : TableAnswer) (b′ : Body) (w′ : CompactionWords)
+      → Compacting (s .header) (bodyOf s) w answer b′ w′
+      → CallTo s (joined (headerAfter (s .header) (tableSays answer)) b′ (s .pending))
+  pub clear : (s : Stores) (answer : TableAnswer) (keys′ : List ℕ)
+      → Clearing (s .header) (s .keys) answer keys′
+      → CallTo s (joined (headerAfter (s .header) (tableSays answer)) (body (s .rows) keys′ (s .sorts)) (s .pending))
+  -- over any index store, sound or not
+  pub refresh : (s : Stores) (r : Refresh) (index : List ℕ) (answer : RefreshAnswer) (pending′ index′ : List ℕ)
+      → Refreshing (s .header) (s .rows) (s .pending) index r answer pending′ index′
+      → CallTo s (joined (headerRefreshed (s .header) (refreshSays answer)) (bodyOf s) pending′)
