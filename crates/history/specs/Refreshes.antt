@@ -1,29 +1,64 @@
 -- Index stores in a history (document 02, change 2): "An index store that was not new when this table first took it since its latest
--- opening, or that another has written since, joins the unsound stores". All others are sound whenever they are lent. Assumes nothing.
-use Prim.Native.Nat.{ℕ}
+-- opening, or that another has written since, joins the unsound stores". All others are sound whenever they are lent, and a refresh over
+-- them does what the plain table does. Assumes nothing.
+use Prim.Native.Nat.{ℕ, _<_}
 use mathlib.Core.Path.{_≡_}
 use mathlib.Core.Bool.{true}
-use mathlib.Core.List.{List, _++_}
+use mathlib.Core.List.{List, [], _∷_, _++_, map}
+use lib.ListN.{length}
+use Rattle.lists.specs.Lists.{putAt, keep, flat}
+use Rattle.refusals.specs.Refusals.{reply}
 use Rattle.plain.specs.Staged.{Opening}
-use Rattle.plain.specs.Refreshing.{Refresh}
-use Rattle.plain.specs.Calls.{LentCall}
-use Rattle.table.specs.Promises.{Stores, Body, bodyOf, joined}
+use Rattle.plain.specs.Plain.{Plain, liveRows, opened}
+use Rattle.plain.specs.Refreshing.{Refresh, mentions}
+use Rattle.plain.specs.Calls.{refreshing, recordsOf, refusal, LentCall, afterAll}
+use Rattle.table.specs.Stores.{recordWords}
+use Rattle.table.specs.Promises.{Stores, Body, bodyOf, joined, compactionWords, lengthsLent}
 use Rattle.refreshes.specs.declared.RefreshAnswer.{RefreshAnswer}
-use Rattle.refreshes.specs.Index.{isNew, IndexSound}
-use Rattle.refreshes.specs.Refreshes.{refreshSays, headerRefreshed, Refreshing}
+use Rattle.refreshes.specs.Index.{isNew, lookedUp, IndexSound, Current}
+use Rattle.refreshes.specs.Refreshes.{refreshSays, answered, headerRefreshed, Refreshing}
 use Rattle.history.specs.Histories.{behind, Step, History}
 
--- A table's stores and an index store that it takes, from the moment when that is new: other calls leave it as it is, also refreshes
--- over other index stores; a refresh of this table may be lent any first part of it, as of the row and pending stores.
-pub data Kept : Stores → List ℕ → Stores → List ℕ → Type 0 where
-  taken : (s : Stores) (index : List ℕ) → isNew index ≡ true → Kept s index s index
-  waits : {s t u : Stores} {index index′ : List ℕ} {c : LentCall} → Kept s index t index′ → Step t c u → Kept s index u index′
-  refreshes : {s : Stores} {index : List ℕ} (t : Stores) (rest : Body) (pending lent more : List ℕ) (r : Refresh) (answer : RefreshAnswer) (pending′ lent′ : List ℕ)
-      → Kept s index (behind t rest pending) (lent ++ more) → Refreshing (t .header) (t .rows) (t .pending) lent r answer pending′ lent′
-      → Kept s index (behind (joined (headerRefreshed (t .header) (refreshSays answer)) (bodyOf t) pending′) rest pending) (lent′ ++ more)
+-- a refresh on a plain table, lent these stores
+abbrev pub ownRefresh : Stores → List ℕ → Refresh → LentCall
+ownRefresh t lent r = record { call = refreshing r (length lent); lengths = lengthsLent t (compactionWords [] []) }
 
--- whatever part of the rows and of the index store is lent then, and whichever columns are named
-abbrev pub IndexStays : Type 0
-IndexStays =
-    (o : Opening) (generation : ℕ) (calls : List LentCall) (s t : Stores) (rest : Body) (pending index lent more columns : List ℕ)
-    → History o generation calls s → Kept s index (behind t rest pending) (lent ++ more) → IndexSound (t .header) (t .rows) columns lent
+-- A history, the stores that it leaves, and an index store that the table took at a moment when that was new: other calls leave it as it
+-- is, also refreshes over other index stores; a refresh over it may be lent any first part of it, as of the row and pending stores.
+pub data Kept (o : Opening) (generation : ℕ) : List LentCall → Stores → List ℕ → Type 0 where
+  taken : {calls : List LentCall} {s : Stores} (index : List ℕ) → History o generation calls s → isNew index ≡ true → Kept o generation calls s index
+  waits : {calls : List LentCall} {t u : Stores} {index : List ℕ} {c : LentCall} → Kept o generation calls t index → Step t c u
+      → Kept o generation (calls ++ (c ∷ [])) u index
+  refreshes : {calls : List LentCall} (t : Stores) (rest : Body) (pending lent more : List ℕ) (r : Refresh) (answer : RefreshAnswer) (pending′ lent′ : List ℕ)
+      → Kept o generation calls (behind t rest pending) (lent ++ more) → Refreshing (t .header) (t .rows) (t .pending) lent r answer pending′ lent′
+      → Kept o generation (calls ++ (ownRefresh t lent r ∷ [])) (behind (joined (headerRefreshed (t .header) (refreshSays answer)) (bodyOf t) pending′) rest pending) (lent′ ++ more)
+
+-- the numbers, rising, of the live rows that hold a value in one of these columns
+abbrev pub holding : Plain → List ℕ → ℕ → List ℕ
+holding p columns value = map (λ row. row .number) (keep (λ row. mentions columns (value ∷ []) (row .cells)) (liveRows p))
+
+-- What a refresh over such a store does, on a table that stands for the plain table p: "the plain table stages these records of its own
+-- rows", or refuses by the same number
+module _ (p : Plain) (t : Stores) (r : Refresh) (lent : List ℕ) where
+  abbrev pub ownRefusal : ℕ
+  ownRefusal = refusal p (ownRefresh t lent r .lengths) (ownRefresh t lent r .call)
+
+  pub record RefreshesOwn (answer : RefreshAnswer) (pending′ lent′ : List ℕ) : Type 0 where
+    pub answers : refreshSays answer ≡ reply ownRefusal (answered (t .header) (recordsOf p r))
+    pub unchanged : 0 < ownRefusal → (pending′ ≡ t .pending) × (lent′ ≡ lent)
+    pub staged : ownRefusal ≡ 0 → pending′ ≡ putAt (t .pending) (t .header .pending) (flat (map (recordWords (t .header .keys)) (recordsOf p r)))
+    -- it leaves "such an index of the version last seen", by which a lookup finds the rows that hold a value
+    pub current : ownRefusal ≡ 0 → Current (t .header) (t .rows) (r .columns) lent′
+    pub looked-up : ownRefusal ≡ 0 → (value : ℕ) → lookedUp (t .header) (t .rows) lent′ value ≡ holding p (r .columns) value
+
+-- what holds of every such store
+pub record KeptIndexes : Type 0 where
+  -- it is sound, whatever part of the stores is lent then, and whichever columns are named; so the calls are those of a history
+  pub sound : (o : Opening) (generation : ℕ) (calls : List LentCall) (t : Stores) (rest : Body) (pending lent more columns : List ℕ)
+      → Kept o generation calls (behind t rest pending) (lent ++ more) → IndexSound (t .header) (t .rows) columns lent
+  pub history : (o : Opening) (generation : ℕ) (calls : List LentCall) (s : Stores) (index : List ℕ)
+      → Kept o generation calls s index → History o generation calls s
+  pub refreshed : (o : Opening) (generation : ℕ) (calls : List LentCall) (t : Stores) (rest : Body) (pending lent more : List ℕ)
+      (r : Refresh) (answer : RefreshAnswer) (pending′ lent′ : List ℕ)
+      → Kept o generation calls (behind t rest pending) (lent ++ more) → Refreshing (t .header) (t .rows) (t .pending) lent r answer pending′ lent′
+      → RefreshesOwn (afterAll (opened o generation) calls) t r lent answer pending′ lent′

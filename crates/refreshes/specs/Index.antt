@@ -10,15 +10,14 @@
 --                   bucket; then for each bucket the link to its last entry. A link is one more than an entry's number, or 0
 --
 -- An entry stands in the bucket of the cell that its row has in its column; entries of other values may stand there too, and of rows
--- that died. A lookup keeps those whose row is live and holds the value, and gives their rows rising (law `index-leads` of
--- `value_index`). Assumes nothing.
+-- that died. A lookup keeps those whose row is live and holds the value, and gives their rows rising (`lookedUp`). Assumes nothing.
 use Prim.Native.Nat.{ℕ, zero, suc, _+_, _*_, _/_, _%_, _^_, _≤_, _<_}
 use mathlib.Core.Path.{_≡_}
-use mathlib.Core.Bool.{Bool, true, false, cond, not, _||_}
+use mathlib.Core.Bool.{Bool, true, false, cond, not, _&&_, _||_}
 use mathlib.Core.List.{List, [], _∷_}
 use lib.ListN.{length, take, drop, getD}
 use lib.Dec.{eqb}
-use Rattle.lists.specs.Lists.{has, same, rowAt}
+use Rattle.lists.specs.Lists.{keep, any, has, same, rowAt, countFrom}
 use Rattle.constraints.specs.Constraints.{isLive}
 use Rattle.plain.specs.Refreshing.{indexShort}
 use Rattle.table.specs.declared.Header.{Header}
@@ -57,6 +56,21 @@ chain index (suc n) link = cond (eqb link (suc n)) (n ∷ chain index n (getD in
 unfoldable pub entriesUnder : ℕ → List ℕ → ℕ → List ℕ
 entriesUnder capacity index value =
     chain index (rowsSeen index * columnsNamed index) (getD index (16 + capacity * columnsNamed index + bucketOf (getD index 12 0) value) 0)
+
+-- an entry leads to row i: it is the entry's, live, and holds the value in the entry's column, of these named ones
+unfoldable pub leadsTo : Header → List ℕ → List ℕ → ℕ → ℕ → ℕ → Bool
+leadsTo h rows columns value entry i =
+    let cells = rowAt (h .columns) (entry / length columns) rows in
+    isLive cells && eqb (getD cells (getD columns (entry % length columns) 0) 0) value && eqb i (entry / length columns)
+
+-- one of these entries does
+unfoldable pub leads : Header → List ℕ → List ℕ → ℕ → List ℕ → ℕ → Bool
+leads h rows columns value entries i = any (λ entry. leadsTo h rows columns value entry i) entries
+
+-- "An index from value to rising row numbers": a lookup gives the rows seen that an entry in the value's bucket leads to
+unfoldable pub lookedUp : Header → List ℕ → List ℕ → ℕ → List ℕ
+lookedUp h rows index value =
+    keep (leads h rows (namedIn index) value (entriesUnder (h .capacity) index value)) (countFrom 0 (rowsSeen index))
 
 -- "such an index of the version last seen": each live row of those seen stands under the value that it has in each named column
 pub record IndexOf (h : Header) (rows index : List ℕ) : Type 0 where

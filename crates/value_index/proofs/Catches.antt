@@ -9,9 +9,10 @@ use lib.ListN.{length, getD}
 use Rattle.table.specs.declared.Header.{Header}
 use Rattle.refreshes.specs.Index.{rowsSeen, entriesUnder, IndexOf}
 use Rattle.refreshes.specs.inner.Finding.{Lendable, usable, CaughtUp}
+use Rattle.refreshes.specs.Laws.Places.{entry-lies}
+use Rattle.refreshes.specs.Laws.Lookup.{column-is}
 use Rattle.value_index.specs.inner.Entries.{cellNamed, entryLive, entryValue, headsAt, Listed, Fillable, Filled, Emptied}
-use Rattle.value_index.specs.Laws.Using.{Usable, usable-is, column-is}
-use Rattle.value_index.specs.Laws.Places.{entry-lies}
+use Rattle.value_index.specs.Laws.Using.{Usable, usable-is}
 use Rattle.value_index.proofs.Sizes.{small}
 
 module _ (h : Header) (rows columns index : List ℕ) where

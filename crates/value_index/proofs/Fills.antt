@@ -14,8 +14,8 @@ use Rattle.table.specs.declared.Header.{Header}
 use Rattle.refreshes.specs.Index.{bucketOf, chain}
 use Rattle.value_index.specs.inner.Entries.{cellNamed, entryValue, headsAt, pushed, Listed, Fillable, Pushed, Emptied}
 use Rattle.value_index.specs.Laws.Chains.{pushed-own, pushed-keeps}
+use Rattle.refreshes.specs.Laws.Places.{entry-in}
 use Rattle.refreshes.specs.Laws.Fronts.{bucket-below}
-use Rattle.value_index.specs.Laws.Places.{entry-in}
 use Rattle.value_index.proofs.Sizes.{small}
 
 pushed-past : (index : List ℕ) (head entry n : ℕ) → 16 + entry < n → head < n → drop n (pushed index head entry) ≡ drop n index

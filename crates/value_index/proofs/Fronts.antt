@@ -12,9 +12,9 @@ use Rattle.constraints.specs.Constraints.{isLive}
 use Rattle.table.specs.declared.Header.{Header}
 use Rattle.refreshes.specs.Index.{isNew, generationSeen, rowsSeen, columnsNamed, namedIn, bucketOf, chain, entriesUnder, IndexOf, Current}
 use Rattle.value_index.specs.inner.Entries.{cellNamed, entryLive, entryValue, headsAt, fronted, Listed, Fillable, Pushed, Filled}
+use Rattle.refreshes.specs.Laws.Places.{entry-in}
 use Rattle.refreshes.specs.Laws.Fronts.{chain-same}
-use Rattle.value_index.specs.Laws.Using.{column-is}
-use Rattle.value_index.specs.Laws.Places.{entry-in}
+use Rattle.refreshes.specs.Laws.Lookup.{column-is}
 
 module _ (h : Header) (columns : List ℕ) (buckets : ℕ) (index : List ℕ) (long : 16 ≤ length index) (few : length columns ≤ 8) where
   words : List ℕ

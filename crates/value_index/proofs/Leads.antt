@@ -12,8 +12,9 @@ use Rattle.constraints.specs.Laws.Rows.{live-first}
 use Rattle.table.specs.declared.Header.{Header}
 use Rattle.row_marks.specs.inner.Bitmaps.{MarkedOne}
 use Rattle.row_marks.specs.Laws.Bitmaps.{marked-one, marked-none, marked-weaker}
-use Rattle.value_index.specs.inner.Entries.{entryRow, entryLive, entryValue}
-use Rattle.value_index.specs.inner.Marking.{MarkedAll, leadsTo}
+use Rattle.refreshes.specs.Index.{leadsTo}
+use Rattle.value_index.specs.inner.Entries.{cellNamed, entryRow, entryLive, entryValue}
+use Rattle.value_index.specs.inner.Marking.{MarkedAll}
 
 module _ (h : Header) (rows columns : List ℕ) where
   -- an entry's row is live or dead by its first cell
@@ -27,14 +28,14 @@ module _ (h : Header) (rows columns : List ℕ) where
 
     -- a dead row, another value in the entry's column, and a row that it leads to
     pub dead-led : (words : List ℕ) → entryLive h rows columns entry ≡ false → MarkedAll (leadsTo h rows columns value entry) words words 0
-    dead-led words e = none-led words (λ i. unfold leadsTo in rw e)
+    dead-led words e = none-led words (λ i. unfold leadsTo entryLive in rw e)
 
     pub other-led : (words : List ℕ) → entryLive h rows columns entry ≡ true → (entryValue h rows columns entry ≡ value → ⊥) → MarkedAll (leadsTo h rows columns value entry) words words 0
-    other-led words e n = none-led words (λ i. unfold leadsTo in rw (e, ne-eqb _ _ n))
+    other-led words e n = none-led words (λ i. unfold leadsTo entryLive entryValue cellNamed in rw (e, ne-eqb _ _ n))
 
     pub row-led : (words words′ : List ℕ) (more : ℕ) → entryLive h rows columns entry ≡ true → entryValue h rows columns entry ≡ value → entryRow columns entry < 65536
         → MarkedOne words (entryRow columns entry) words′ more → MarkedAll (leadsTo h rows columns value entry) words words′ more
-    unfolding leadsTo
+    unfolding leadsTo entryLive entryValue cellNamed
     row-led words words′ more e v few m =
         marked-weaker (λ i a. a) (λ i l. and-right (entryLive h rows columns entry && eqb (entryValue h rows columns entry) value) _ l)
         (marked-one {allowed = leadsTo h rows columns value entry} m few (rw (e, eq-eqb _ _ v, eq-eqb (entryRow columns entry) _ refl)))

@@ -10,10 +10,10 @@ use lib.Seq.{drop-cons}
 use Rattle.lists.specs.Lists.{any}
 use Rattle.table.specs.declared.Header.{Header}
 use Rattle.row_marks.specs.Laws.Bitmaps.{marked-weaker}
-use Rattle.refreshes.specs.Index.{rowsSeen, bucketOf, chain, entriesUnder}
+use Rattle.refreshes.specs.Index.{rowsSeen, bucketOf, chain, entriesUnder, leadsTo, leads}
 use Rattle.refreshes.specs.inner.Finding.{Lendable, usable, ListedMarked}
 use Rattle.value_index.specs.inner.Entries.{headsAt}
-use Rattle.value_index.specs.inner.Marking.{MarkedAll, leadsTo, leads, found}
+use Rattle.value_index.specs.inner.Marking.{MarkedAll, found}
 use Rattle.value_index.specs.Laws.Chains.{chain-on}
 use Rattle.value_index.specs.Laws.Using.{usable-is}
 use Rattle.value_index.specs.Laws.Found.{found-mentions, mentions-found}

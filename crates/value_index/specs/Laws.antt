@@ -1,5 +1,4 @@
 -- What may be relied on of an index store.
-pub mod Places
 pub mod Chains
 pub mod Using
 pub mod Found

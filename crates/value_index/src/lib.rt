@@ -6,10 +6,10 @@ ghost use mathlib.Core.Bool.{true, false};
 ghost use Prim.Native.Nat.{_+_, _*_, _≤_, _<_};
 ghost use lib.ListN.{length};
 ghost use Rattle.table.specs.Refusing.{outside};
-ghost use Rattle.refreshes.specs.Index.{bucketOf, entriesUnder};
+ghost use Rattle.refreshes.specs.Index.{bucketOf, entriesUnder, leadsTo, leads};
 ghost use Rattle.refreshes.specs.inner.Finding.{Lendable, usable, ListedMarked, CaughtUp};
 ghost use Rattle.value_index.specs.inner.Entries.{Readable, cellNamed, fronted, pushed, Fillable, Pushed, Filled, Emptied};
-ghost use Rattle.value_index.specs.inner.Marking.{MarkedAll, leadsTo, leads};
+ghost use Rattle.value_index.specs.inner.Marking.{MarkedAll};
 use table::Header;
 
 // Words before those of the entries.

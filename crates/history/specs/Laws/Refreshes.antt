@@ -1,4 +1,5 @@
--- Index stores stay sound along every history, from the promises alone. Assumes nothing.
+-- Index stores stay sound along every history, and refreshes over them do what the plain table does, from the promises alone. Assumes
+-- nothing.
 use Prim.Native.Nat.{ℕ, _+_, _*_, _≤_, _<_}
 use mathlib.Core.Path.{_≡_, refl, sym, ap, _∙_}
 use mathlib.Core.Logic.{inl, inr}
@@ -16,20 +17,24 @@ use Rattle.constraints.specs.Constraints.{isLive}
 use Rattle.plain.specs.Staged.{Opening}
 use Rattle.plain.specs.Plain.{Plain}
 use Rattle.plain.specs.Refreshing.{Refresh, indexShort}
-use Rattle.plain.specs.Calls.{LentCall, after, afterAll}
+use Rattle.plain.specs.Calls.{recordsOf, LentCall, after, afterAll}
 use Rattle.plain.specs.Laws.Proper.{openable-bounds}
 use Rattle.plain.specs.Laws.Notes.{onward-all, follows-length}
 use Rattle.table.specs.declared.Header.{Header}
 use Rattle.table.specs.Promises.{Stores, Body, bodyOf, joined, Represents}
+use Rattle.table.specs.Laws.Replies.{reply-refused}
 use Rattle.table.specs.Laws.Shown.{rows-counted}
+use Rattle.table.specs.Laws.Fronts.{rows-part}
 use Rattle.refreshes.specs.declared.RefreshAnswer.{RefreshAnswer}
-use Rattle.refreshes.specs.Index.{isNew, generationSeen, IndexOf, IndexSound}
-use Rattle.refreshes.specs.Refreshes.{refreshSays, headerRefreshed, Refreshing}
-use Rattle.refreshes.specs.Laws.Keeps.{number, says-accepted, says-refused, passed}
+use Rattle.refreshes.specs.Index.{isNew, generationSeen, lookedUp, IndexOf, IndexSound, Current}
+use Rattle.refreshes.specs.Refreshes.{refreshSays, answered, headerRefreshed, Refreshing}
+use Rattle.refreshes.specs.Laws.Keeps.{number, found-records, says-accepted, says-refused, passed}
 use Rattle.refreshes.specs.Laws.Fronts.{index-more, index-front, new-front, generation-front, goes-on, named-count}
-use Rattle.history.specs.Histories.{refreshes, behind, Step, called}
-use Rattle.history.specs.Refreshes.{Kept, taken, waits, refreshes as refreshes-kept, IndexStays}
-use Rattle.history.specs.Laws.Calls.{history-represents, step-represents}
+use Rattle.refreshes.specs.Laws.Lookup.{names-of, lookup-holding}
+use Rattle.history.specs.Histories.{refreshes, behind, Step, called, end, next, History}
+use Rattle.history.specs.Refreshes.{ownRefresh, Kept, taken, waits, refreshes as refreshes-kept, holding, ownRefusal, RefreshesOwn, KeptIndexes}
+use Rattle.history.specs.Laws.Calls.{own-records, refresh-same, step-represents, history-represents}
+use Rattle.history.specs.Laws.Further.{history-then}
 use Rattle.history.specs.Laws.Notes.{generation-shown, same-now}
 
 -- ---- two tables, a row store each, of which the second has no fewer rows
@@ -135,24 +140,75 @@ module _ (t : Stores) (rest : Body) (pending lent more : List ℕ) (b : Beside (
           | inr some ↦ rw (says-refused m some, m .unchanged some .1) (b .followed)
         ]
 
-    refreshes-beside : Beside (behind (joined (headerRefreshed (t .header) (refreshSays answer)) (bodyOf t) pending′) rest pending) (lent′ ++ more)
-    refreshes-beside =
-        record {
-          plain = _;
-          represents = step-represents (b .represents) (called {s = t} rest pending (refreshes q lent answer pending′ lent′ m (lent-sound (q .columns))));
-          followed = refreshed-followed;
-        }
+    -- the refresh is a step of a history
+    abbrev refreshed-stores : Stores
+    refreshed-stores = behind (joined (headerRefreshed (t .header) (refreshSays answer)) (bodyOf t) pending′) rest pending
 
-kept-beside : {p : Plain} {s t : Stores} {index index′ : List ℕ} → Represents p s → Kept s index t index′ → Beside t index′
-kept-beside {p} r (taken s index is) =
+    own-step : Step (behind t rest pending) (ownRefresh t lent q) refreshed-stores
+    own-step = called {s = t} rest pending (refreshes q lent answer pending′ lent′ m (lent-sound (q .columns)))
+
+    refreshes-beside : Beside refreshed-stores (lent′ ++ more)
+    refreshes-beside = record { plain = _; represents = step-represents (b .represents) own-step; followed = refreshed-followed }
+
+    -- it does what the plain table does
+    module _ {p : Plain} (r : Represents p (behind t rest pending)) where
+      refused-same : number m ≡ ownRefusal p t q lent
+      refused-same = refresh-same t rest pending r m (lent-sound (q .columns))
+
+      accepted-same : ownRefusal p t q lent ≡ 0 → number m ≡ 0
+      accepted-same e = refused-same ∙ e
+
+      records-same : number m ≡ 0 → found-records m ≡ recordsOf p q
+      records-same e = own-records t rest pending r m (lent-sound (q .columns)) (passed m e .rows-long)
+
+      refreshes-current : number m ≡ 0 → Current (t .header) (t .rows) (q .columns) lent′
+      refreshes-current e = m .current e (lent-sound (q .columns))
+
+      looks-up : number m ≡ 0 → (value : ℕ) → lookedUp (t .header) (t .rows) lent′ value ≡ holding p (q .columns) value
+      looks-up e value =
+          let k = passed m e in
+          let c = refreshes-current e in
+          let l : 16 + 3 * (t .header .capacity * length (q .columns)) ≤ length lent′ = omega (arith, k .index-long, m .length-same) in
+          lookup-holding (rows-part (rest .rows) r (k .rows-long)) (names-of (t .header .capacity) (q .columns) lent′ (capacity-some (b .represents)) l (c .columns-named))
+          (c .index-of) (c .seen-all) (c .columns-named) value
+
+      refreshes-own : RefreshesOwn p t q lent answer pending′ lent′
+      refreshes-own =
+          record {
+            answers =
+                elim (some-number (number m)) [
+                  | inl e ↦ rw (← refused-same, ← records-same e) (m .answers)
+                  | inr some ↦ rw (← refused-same) (says-refused m some ∙ sym (reply-refused (number m) (answered (t .header) (recordsOf p q)) some))
+                ];
+            unchanged = λ some. m .unchanged (rw refused-same some);
+            staged = λ e. rw (← records-same (accepted-same e)) (m .staged (accepted-same e));
+            current = λ e. refreshes-current (accepted-same e);
+            looked-up = λ e. looks-up (accepted-same e);
+          }
+
+-- ---- a history and an index store that it keeps
+
+kept-beside : {o : Opening} {generation : ℕ} {calls : List LentCall} {t : Stores} {index : List ℕ} → Kept o generation calls t index
+    → History o generation calls t × Beside t index
+kept-beside (taken index history is) = (
+  history,
+  record {
+    plain = _;
+    represents = history-represents history;
+    followed = record { not-later = λ written. absurd (false≢true (sym written ∙ is)); of-now = λ written now. absurd (false≢true (sym written ∙ is)) };
+  },
+)
+kept-beside (waits {u = u} kept step) = let k = kept-beside kept in (history-then (k .0) (next step (end u)), waits-beside (k .1) step)
+kept-beside (refreshes-kept t rest pending lent more q answer pending′ lent′ kept m) =
+    let k = kept-beside kept in
+    (history-then (k .0) (next (own-step t rest pending lent more (k .1) m) (end _)), refreshes-beside t rest pending lent more (k .1) m)
+
+pub kept-indexes : KeptIndexes
+kept-indexes =
     record {
-      plain = p;
-      represents = r;
-      followed = record { not-later = λ written. absurd (false≢true (sym written ∙ is)); of-now = λ written now. absurd (false≢true (sym written ∙ is)) };
+      sound = λ o generation calls t rest pending lent more columns kept. lent-sound t rest pending lent more (kept-beside kept .1) columns;
+      history = λ o generation calls s index kept. kept-beside kept .0;
+      refreshed = λ o generation calls t rest pending lent more r answer pending′ lent′ kept m.
+          let k = kept-beside kept in
+          refreshes-own t rest pending lent more (k .1) m (history-represents (k .0));
     }
-kept-beside r (waits kept step) = waits-beside (kept-beside r kept) step
-kept-beside r (refreshes-kept t rest pending lent more q answer pending′ lent′ kept m) = refreshes-beside t rest pending lent more (kept-beside r kept) m
-
-pub index-stays : IndexStays
-index-stays o generation calls s t rest pending index lent more columns history kept =
-    lent-sound t rest pending lent more (kept-beside (history-represents history) kept) columns

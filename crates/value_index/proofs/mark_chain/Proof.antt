@@ -7,8 +7,7 @@ use native.Mathlib.Omega.{arith}
 use lib.ListN.{length, getD}
 use borrow.Author.Needs.{needs}
 use borrow.Author.Tests.{leb-true, leb-false}
-use Rattle.refreshes.specs.Index.{chain, entriesUnder}
-use Rattle.value_index.specs.inner.Marking.{leads}
+use Rattle.refreshes.specs.Index.{chain, entriesUnder, leads}
 use Rattle.value_index.specs.Laws.Chains.{chain-none, chain-above}
 use Rattle.value_index.proofs.Sizes.{readable}
 use Rattle.value_index.proofs.Goings.{Going, going-few}

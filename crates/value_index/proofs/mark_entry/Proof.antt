@@ -6,7 +6,7 @@ use lib.ListN.{length}
 use borrow.Author.Needs.{needs}
 use Rattle.key_index.specs.Laws.Places.{Inside}
 use Rattle.value_index.specs.inner.Entries.{entryRow, entryValue}
-use Rattle.value_index.specs.Laws.Places.{EntryLies, entry-lies}
+use Rattle.refreshes.specs.Laws.Places.{EntryLies, entry-lies}
 use Rattle.value_index.proofs.Sizes.{Small, small, cell-in}
 use Rattle.value_index.proofs.Leads.{live-by, dead-led, other-led, row-led}
 use Rattle.value_index.proofs.mark_entry.Statement.{statement}

@@ -1,6 +1,6 @@
 -- Laws of the entries that a link leads to, and of an entry pushed. Assumes nothing.
-use Prim.Native.Nat.{ℕ, zero, suc, _+_, _-_, _*_, _%_, _^_, _≤_, _<_}
-use mathlib.Core.Path.{_≡_, refl, sym, ap, _∙_}
+use Prim.Native.Nat.{ℕ, zero, suc, _+_, _-_, _≤_, _<_}
+use mathlib.Core.Path.{_≡_, refl, ap, _∙_}
 use mathlib.Core.Logic.{_≢_}
 use mathlib.Core.Bool.{true, false≢true}
 use mathlib.Core.List.{List, [], _∷_}
@@ -9,22 +9,14 @@ use native.Mathlib.Numerals.{add-one}
 use native.Mathlib.Omega.{arith}
 use lib.ListN.{length, getD, set}
 use lib.Seq.{getD-set-same, getD-set-other, lt-length-set}
-use borrow.Author.Tests.{eq-eqb, ne-eqb}
 use Rattle.lists.specs.Lists.{has}
 use Rattle.lists.specs.Laws.Rising.{has-here, has-there}
-use Rattle.refreshes.specs.Index.{rowsSeen, columnsNamed, bucketOf, chain, entriesUnder}
+use Rattle.refreshes.specs.Index.{chain}
+use Rattle.refreshes.specs.Laws.Chains.{chain-here, chain-below}
 use Rattle.refreshes.specs.Laws.Fronts.{chain-same}
 use Rattle.value_index.specs.inner.Entries.{pushed}
 
--- a link to the highest entry below the limit, to a lower one, and to one that is too high
-chain-here : (index : List ℕ) (n link : ℕ) → link ≡ suc n → chain index (suc n) link ≡ n ∷ chain index n (getD index (16 + n) 0)
-unfolding chain
-chain-here index n link e = rw (eq-eqb link (suc n) e)
-
-chain-below : (index : List ℕ) (n link : ℕ) → (link ≡ suc n → ⊥) → chain index (suc n) link ≡ chain index n link
-unfolding chain
-chain-below index n link e = rw (ne-eqb link (suc n) e)
-
+-- a link that is too high
 pub chain-above : (index : List ℕ) (n link : ℕ) → n < link → chain index n link ≡ []
 chain-above index zero link h = unfold chain in refl
 chain-above index (suc n) link h = chain-below index n link (omega arith) ∙ chain-above index n link (omega arith)
@@ -42,22 +34,6 @@ chain-on index (suc n) link some below =
 pub chain-none : (index : List ℕ) (n : ℕ) → chain index n 0 ≡ []
 chain-none index zero = unfold chain in refl
 chain-none index (suc n) = chain-below index n 0 (omega arith) ∙ chain-none index n
-
--- entries of a chain are below its limit
-chain-limit : (index : List ℕ) (n link e : ℕ) → has e (chain index n link) ≡ true → e < n
-chain-limit index zero link e q = absurd (false≢true (unfold chain has in q))
-chain-limit index (suc n) link e q =
-    elim (ℕ-discrete link (suc n)) [
-      | yes p ↦ elim (ℕ-discrete e n) [
-        | yes r ↦ omega arith
-        | no r ↦ let b = chain-limit index n (getD index (16 + n) 0) e (sym (has-there e n _ r) ∙ rw (chain-here index n link p) at q) in omega arith
-      ]
-      | no p ↦ let b = chain-limit index n link e (rw (chain-below index n link p) at q) in omega arith
-    ]
-
-pub under-limit : (capacity : ℕ) (index : List ℕ) (value e : ℕ) → has e (entriesUnder capacity index value) ≡ true → e < rowsSeen index * columnsNamed index
-unfolding entriesUnder
-under-limit capacity index value e q = chain-limit index (rowsSeen index * columnsNamed index) _ e q
 
 module _ (index : List ℕ) (head n : ℕ) (below : 16 + n < head) (inside : head < length index) where
   other : (at : ℕ) → at ≢ 16 + n → at ≢ head → getD (pushed index head n) at 0 ≡ getD index at 0

@@ -1,24 +1,19 @@
 -- What is known of an index store that a refresh goes on with. Assumes nothing.
-use Prim.Native.Nat.{ℕ, _*_, _≤_, _<_}
-use mathlib.Core.Path.{_≡_, sym, ap, _∙_}
+use Prim.Native.Nat.{ℕ, _*_, _≤_}
+use mathlib.Core.Path.{_≡_}
 use mathlib.Core.Bool.{true, _&&_}
 use mathlib.Core.List.{List}
 use lib.Dec.{leb, eqb}
 use lib.ListN.{length, take, drop, getD}
-use lib.Seq.{getD-take, getD-drop}
 use borrow.Author.Tests.{leb-true, eqb-true, eq-eqb, le-ltb}
 use Rattle.lists.specs.Lists.{same}
 use Rattle.lists.specs.Laws.Keep.{and-left, and-right}
 use Rattle.lists.specs.Laws.Rising.{same-eq, same-refl}
 use Rattle.plain.specs.Refreshing.{indexShort}
 use Rattle.table.specs.declared.Header.{Header}
-use Rattle.refreshes.specs.Index.{isNew, generationSeen, rowsSeen, columnsNamed, columnNamed, namedIn, startsAfresh, IndexOf, IndexSound}
+use Rattle.refreshes.specs.Index.{isNew, generationSeen, rowsSeen, columnsNamed, namedIn, startsAfresh, IndexOf, IndexSound}
 use Rattle.refreshes.specs.inner.Finding.{Lendable, usable}
-
--- the columns that it names are these
-pub record Names (columns index : List ℕ) : Type 0 where
-  pub count : columnsNamed index ≡ length columns
-  pub names : take (length columns) (drop 4 index) ≡ columns
+use Rattle.refreshes.specs.Laws.Lookup.{Names}
 
 pub record Usable (h : Header) (columns index : List ℕ) : Type 0 where
   pub first : getD index 0 0 ≡ 1
@@ -57,11 +52,3 @@ unfolding indexShort startsAfresh isNew namedIn
 usable-index {h} {rows} {columns} {index} l u sound =
     let v = usable-is h columns index u in
     sound (l .rows-long) (le-ltb _ _ (l .index-long)) (rw (v .first, eq-eqb _ _ (v .generation), v .named .count, v .named .names, same-refl columns))
-
-pub column-is : (columns index : List ℕ) → take (length columns) (drop 4 index) ≡ columns → (place : ℕ) → place < length columns
-    → columnNamed index place ≡ getD columns place 0
-unfolding columnNamed
-column-is columns index names place p =
-    sym (getD-drop 4 index place 0)
-    ∙ sym (getD-take (length columns) (drop 4 index) place 0 p)
-    ∙ ap (λ (l : List ℕ). getD l place 0) names
