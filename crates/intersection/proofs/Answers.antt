@@ -1,18 +1,16 @@
--- What each answer says, and the tests of an intersection one by one. Assumes nothing.
+-- What each answer says. Assumes nothing.
 use Prim.Native.Nat.{ℕ, zero, suc, _≤_, _<_, min, max}
 use mathlib.Core.Path.{_≡_, refl, sym, _∙_}
-use mathlib.Core.Logic.{inl, inr}
 use mathlib.Core.Bool.{Bool, true, false, _&&_}
 use mathlib.Core.List.{List, [], _∷_}
-use native.Mathlib.Decide.{decLt}
 use native.Mathlib.Omega.{arith}
 use lib.Dec.{leb}
 use lib.ListN.{length}
-use borrow.Author.Tests.{lt-ltb, le-ltb, lt-leb, le-leb}
+use borrow.Author.Tests.{lt-leb, le-leb}
 use Rattle.lists.specs.Lists.{keep, within}
 use Rattle.lists.specs.Laws.Parts.{putAt-nil}
-use Rattle.lists.specs.Laws.Keep.{split, and-left, and-right, length-keep, count-le}
-use Rattle.refusals.specs.Refusals.{first, refused, accepted, reply}
+use Rattle.lists.specs.Laws.Keep.{and-left, and-right, length-keep, count-le}
+use Rattle.refusals.specs.Refusals.{refused, accepted, reply}
 use Rattle.offsets.specs.declared.SubsetHead.{SubsetHead}
 use Rattle.offsets.specs.declared.SubsetAnswer.{SubsetAnswer}
 use Rattle.offsets.specs.declared.SubsetAnswer.the-variants.{Refused, Range, List as Ids}
@@ -20,7 +18,7 @@ use Rattle.offsets.specs.Subsets.{Subset, range, list, wellFormed, listOrNothin
 use Rattle.offsets.specs.Answers.{subsetOf, Answered, roomNeeded, intersectRefusal, intersectReply}
 use Rattle.offsets.specs.inner.Writing.{Wrote}
 use Rattle.intersection.specs.inner.Common.{Fitting, Searchable, common}
-use Rattle.offsets.specs.Laws.Answers.{answered-refused as refused-answered}
+use Rattle.offsets.specs.Laws.Answers.{answered-refused as refused-answered, refusal-first, refusal-second, refusal-none, Allowed, allowed}
 use Rattle.offsets.specs.Laws.Subsets.{dense-is, sparse-is, answered-range, answered-list, formed-order, formed-rising, formed-short}
 
 -- ---- answers
@@ -42,44 +40,6 @@ wrote-few test ids output n output′ w = let a = length-keep test ids in let b 
 pub wrote-few-common : (ids others output : List ℕ) (n : ℕ) (output′ : List ℕ) → Wrote output (common ids others) n output′ → n ≤ length ids
 unfolding common
 wrote-few-common ids others output n output′ w = wrote-few _ ids output n output′ w
-
--- ---- the tests
-
-module _ (a b : Subset) (n : ℕ) where
-  pub refusal-first : wellFormed a ≡ false → 4 ≡ intersectRefusal a b n
-  unfolding intersectRefusal first
-  refusal-first p = rw p
-
-  pub refusal-second : wellFormed a ≡ true → wellFormed b ≡ false → 4 ≡ intersectRefusal a b n
-  unfolding intersectRefusal first
-  refusal-second p q = rw (p, q)
-
-  pub refusal-room : wellFormed a ≡ true → wellFormed b ≡ true → n < roomNeeded a b → 2 ≡ intersectRefusal a b n
-  unfolding intersectRefusal first
-  refusal-room p q h = rw (p, q, lt-ltb n (roomNeeded a b) h)
-
-  pub refusal-none : wellFormed a ≡ true → wellFormed b ≡ true → roomNeeded a b ≤ n → 0 ≡ intersectRefusal a b n
-  unfolding intersectRefusal first
-  refusal-none p q h = rw (p, q, le-ltb n (roomNeeded a b) h)
-
--- none of them applies
-pub record Allowed (a b : Subset) (n : ℕ) : Type 0 where
-  pub formed : wellFormed a ≡ true
-  pub formed-other : wellFormed b ≡ true
-  pub fits : roomNeeded a b ≤ n
-
-pub allowed : (a b : Subset) (n : ℕ) → intersectRefusal a b n ≡ 0 → Allowed a b n
-allowed a b n e =
-    elim (split (wellFormed a)) [
-      | inl p ↦ elim (split (wellFormed b)) [
-        | inl q ↦ elim (decLt n (roomNeeded a b)) [
-          | yes h ↦ absurd (let z = refusal-room a b n p q h in omega arith)
-          | no h ↦ record { formed = p; formed-other = q; fits = omega arith }
-        ]
-        | inr q ↦ absurd (let z = refusal-second a b n p q in omega arith)
-      ]
-      | inr p ↦ absurd (let z = refusal-first a b n p in omega arith)
-    ]
 
 -- ---- the reply
 

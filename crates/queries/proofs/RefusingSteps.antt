@@ -26,12 +26,12 @@ use Rattle.queries.specs.inner.Tests.{Askable, subsetRefusal, RefineRefu
 
 module _ (h : Header) (subset : Subset) (r : BoundsAnswer) (e : boundsSays r ≡ bounds subset) where
   pub past-none : r ≡ None → false ≡ pastRows h subset
-  unfolding boundsSays pastRows
-  past-none q = sym (le-ltb (h .rows) 0 (omega arith)) ∙ ap (ltb (h .rows)) (sym (end-none subset (sym e ∙ ap boundsSays q)))
+  unfolding pastRows
+  past-none q = sym (le-ltb (h .rows) 0 (omega arith)) ∙ ap (ltb (h .rows)) (sym (end-none subset r e q))
 
   pub past-ends : (start end : ℕ) → r ≡ Ends start end → ltb (h .rows) end ≡ pastRows h subset
-  unfolding boundsSays pastRows
-  past-ends start end q = ap (ltb (h .rows)) (sym (end-some subset (record { start = start; end = end }) (sym e ∙ ap boundsSays q)))
+  unfolding pastRows
+  past-ends start end q = ap (ltb (h .rows)) (sym (end-some subset r e start end q))
 
 -- ---- the tests that all questions share
 

@@ -2,7 +2,7 @@
 use mathlib.Core.Path.{sym, _∙_}
 use borrow.Author.Needs.{needs}
 use borrow.Author.Tests.{not-true, not-false}
-use Rattle.intersection.proofs.Answers.{refusal-first, refusal-second, refusal-room, refusal-none}
+use Rattle.offsets.specs.Laws.Answers.{refusal-first, refusal-second, refusal-room, refusal-none}
 use Rattle.intersection.proofs.intersect_refusal.Statement.{statement}
 use Rattle.intersection.proofs.intersect_refusal.Tie as tie
 

@@ -1,19 +1,40 @@
--- What an answer writes: a refused one nothing, an accepted one at most the ids of its subset, and an intersection no more than it
--- has room for. Assumes nothing.
-use Prim.Native.Nat.{ℕ, zero, suc, _≤_}
-use mathlib.Core.Path.{_≡_, refl, sym, ap}
-use mathlib.Core.Bool.{Bool}
+-- What is read off an answer and what it writes: a refused one nothing, an accepted one at most the ids of its subset, and an
+-- intersection no more than it has room for; every reply has an answer; what an accepted intersection has. Assumes nothing.
+use Prim.Native.Nat.{ℕ, zero, suc, _≤_, _<_}
+use mathlib.Core.Path.{_≡_, refl, sym, ap, _∙_}
+use mathlib.Core.Logic.{inl, inr}
+use mathlib.Core.Bool.{Bool, true, false}
 use mathlib.Core.List.{List, [], _∷_}
+use native.Mathlib.Decide.{decLt}
 use native.Mathlib.Omega.{arith}
 use lib.ListN.{length, take, length-take}
-use Rattle.lists.specs.Lists.{keep, has, within}
+use borrow.Author.Tests.{lt-ltb, le-ltb}
+use Rattle.lists.specs.Lists.{putAt, keep, has, within}
 use Rattle.lists.specs.Laws.Parts.{putAt-nil}
-use Rattle.lists.specs.Laws.Keep.{length-keep, count-le}
-use Rattle.refusals.specs.Refusals.{refused, accepted, reply}
+use Rattle.lists.specs.Laws.Keep.{split, length-keep, count-le}
+use Rattle.refusals.specs.Refusals.{first, Reply, refused, accepted, reply}
 use Rattle.offsets.specs.declared.SubsetAnswer.{SubsetAnswer}
-use Rattle.offsets.specs.declared.SubsetAnswer.the-variants.{Refused, List as Ids}
-use Rattle.offsets.specs.Subsets.{Subset, range, list, members, listOrNothing, intersect}
-use Rattle.offsets.specs.Answers.{readOff, written, roomNeeded, Answered}
+use Rattle.offsets.specs.declared.SubsetAnswer.the-variants.{Refused, Range, List as Ids}
+use Rattle.offsets.specs.Subsets.{Subset, range, list, wellFormed, members, listOrNothing, intersect}
+use Rattle.offsets.specs.Answers.{readOff, written, roomNeeded, Answered, intersectRefusal, intersectReply}
+use Rattle.offsets.specs.Laws.Subsets.{members-intersect, answered-range, answered-list}
+
+-- ---- what is read off an answer, by its form
+
+module _ (output : List ℕ) where
+  pub read-refused : (n : ℕ) → readOff (Refused n) output ≡ refused n
+  unfolding readOff
+  read-refused n = refl
+
+  pub read-range : (start end : ℕ) → readOff (Range start end) output ≡ accepted (range start end)
+  unfolding readOff
+  read-range from to = refl
+
+  pub read-list : (n : ℕ) → readOff (Ids n) output ≡ accepted (list (take n output))
+  unfolding readOff
+  read-list n = refl
+
+-- ---- what an answer writes
 
 pub written-none : (n : ℕ) → written (refused n) ≡ []
 unfolding written
@@ -60,3 +81,79 @@ answered-fits zero (list ids) output answer output′ m fit k e =
     omega (arith, fit refl, ap length told, length-take k output′, m .inside k e)
 answered-fits (suc n) v output answer output′ m fit k e =
     absurd (let f = rw e at (m .answers) in let z : _≡_ {A = ℕ} 0 1 = cc in omega arith)
+
+-- every reply has an answer, whatever the output holds
+pub answer-to : (r : Reply Subset) (output : List ℕ) → (answer : SubsetAnswer) × Answered r output answer (putAt output 0 (written r))
+unfolding written
+answer-to (refused n) output = (Refused n, rw (putAt-nil output 0) (answered-refused n output))
+answer-to (accepted (range start end)) output = (Range start end, rw (putAt-nil output 0) (answered-range start end output))
+answer-to (accepted (list ids)) output = (Ids (length ids), answered-list ids output (length ids) _ (record { number = refl; cells = refl }))
+
+-- ---- *Intersect*: its tests one by one
+
+module _ (a b : Subset) (n : ℕ) where
+  pub refusal-first : wellFormed a ≡ false → 4 ≡ intersectRefusal a b n
+  unfolding intersectRefusal first
+  refusal-first p = rw p
+
+  pub refusal-second : wellFormed a ≡ true → wellFormed b ≡ false → 4 ≡ intersectRefusal a b n
+  unfolding intersectRefusal first
+  refusal-second p q = rw (p, q)
+
+  pub refusal-room : wellFormed a ≡ true → wellFormed b ≡ true → n < roomNeeded a b → 2 ≡ intersectRefusal a b n
+  unfolding intersectRefusal first
+  refusal-room p q h = rw (p, q, lt-ltb n (roomNeeded a b) h)
+
+  pub refusal-none : wellFormed a ≡ true → wellFormed b ≡ true → roomNeeded a b ≤ n → 0 ≡ intersectRefusal a b n
+  unfolding intersectRefusal first
+  refusal-none p q h = rw (p, q, le-ltb n (roomNeeded a b) h)
+
+-- none of them applies
+pub record Allowed (a b : Subset) (n : ℕ) : Type 0 where
+  pub formed : wellFormed a ≡ true
+  pub formed-other : wellFormed b ≡ true
+  pub fits : roomNeeded a b ≤ n
+
+pub allowed : (a b : Subset) (n : ℕ) → intersectRefusal a b n ≡ 0 → Allowed a b n
+allowed a b n e =
+    elim (split (wellFormed a)) [
+      | inl p ↦ elim (split (wellFormed b)) [
+        | inl q ↦ elim (decLt n (roomNeeded a b)) [
+          | yes h ↦ absurd (let z = refusal-room a b n p q h in omega arith)
+          | no h ↦ record { formed = p; formed-other = q; fits = omega arith }
+        ]
+        | inr q ↦ absurd (let z = refusal-second a b n p q in omega arith)
+      ]
+      | inr p ↦ absurd (let z = refusal-first a b n p in omega arith)
+    ]
+
+-- ---- *Intersect*: its set law and its room
+
+-- an accepted reply: both subsets are well-formed, and it has the ids that they have in common
+pub record InCommon (a b v : Subset) : Type 0 where
+  pub formed : wellFormed a ≡ true
+  pub formed-other : wellFormed b ≡ true
+  pub ids : members v ≡ keep (λ id. has id (members b)) (members a)
+
+reply-value : (n : ℕ) (v w : Subset) → reply n v ≡ accepted w → (n ≡ 0) × (v ≡ w)
+unfolding reply
+reply-value zero v w e = (refl, cc)
+reply-value (suc n) v w e = absurd (let z : _≡_ {A = ℕ} 0 1 = cc in omega arith)
+
+pub intersect-accepted : (a b : Subset) (n : ℕ) (v : Subset) → intersectReply a b n ≡ accepted v → InCommon a b v
+unfolding intersectReply
+intersect-accepted a b n v e =
+    let r = reply-value (intersectRefusal a b n) (intersect a b) v e in
+    let t = allowed a b n (r .0) in
+    record {
+      formed = t .formed;
+      formed-other = t .formed-other;
+      ids = ap members (sym (r .1)) ∙ members-intersect a b (t .formed) (t .formed-other);
+    }
+
+pub intersect-fits : (a b : Subset) (output : List ℕ) (answer : SubsetAnswer) (output′ : List ℕ) → Answered (intersectReply a b (length output)) output answer output′
+    → (k : ℕ) → answer ≡ Ids k → k ≤ length output
+unfolding intersectReply
+intersect-fits a b output answer output′ m =
+    answered-fits (intersectRefusal a b (length output)) (intersect a b) output answer output′ m
+    (λ e. omega (arith, written-intersect a b, allowed a b (length output) e .fits))

@@ -1,7 +1,7 @@
 -- Subsets by their two forms, as code tells them apart: size, ends and members of each, and what `retain` and `narrowed` make of
 -- each. With the set laws it is what crates above use of a subset. Assumes nothing.
 use Prim.Native.Nat.{ℕ, _+_, _-_, _≤_, _<_}
-use mathlib.Core.Path.{_≡_, refl, ap, _∙_}
+use mathlib.Core.Path.{_≡_, refl, sym, ap, _∙_}
 use mathlib.Core.Bool.{Bool, true, false}
 use mathlib.Core.List.{List, [], _∷_}
 use mathlib.Core.Option.{Option, none, some}
@@ -10,7 +10,9 @@ use borrow.Author.Tests.{le-leb}
 use Rattle.lists.specs.Lists.{keep, every, has, within}
 use Rattle.lists.specs.Laws.Rising.{length-countFrom, getD-countFrom, has-countFrom}
 use Rattle.offsets.specs.Subsets.{Subset, range, list, wellFormed, members, size, endOf, shaped, retain, narrowed}
-use Rattle.offsets.specs.inner.Writing.{Ends, bounds}
+use Rattle.offsets.specs.declared.BoundsAnswer.{BoundsAnswer}
+use Rattle.offsets.specs.declared.BoundsAnswer.the-variants.{None as NoEnds, Ends as BothEnds}
+use Rattle.offsets.specs.inner.Writing.{Ends, bounds, boundsSays}
 use Rattle.offsets.specs.Laws.Subsets.{length-members, narrowed-list as narrowed-ids}
 
 -- ---- a range
@@ -50,7 +52,7 @@ module _ (ids : List ℕ) where
   unfolding members
   members-list = refl
 
--- ---- its end, by its bounds
+-- ---- its end, by its bounds as they are answered
 
 -- 0 where there are none
 abbrev upper : Option Ends → ℕ
@@ -63,12 +65,14 @@ end-is (range start end) = refl
 end-is (list []) = refl
 end-is (list (x ∷ xs)) = refl
 
-module _ (a : Subset) where
-  pub end-none : bounds a ≡ none → endOf a ≡ 0
-  end-none e = end-is a ∙ ap upper e
+module _ (a : Subset) (r : BoundsAnswer) (e : boundsSays r ≡ bounds a) where
+  pub end-none : r ≡ NoEnds → endOf a ≡ 0
+  unfolding boundsSays
+  end-none q = end-is a ∙ ap upper (sym e ∙ ap boundsSays q)
 
-  pub end-some : (ends : Ends) → bounds a ≡ some ends → endOf a ≡ ends .end
-  end-some ends e = end-is a ∙ ap upper e
+  pub end-some : (start end : ℕ) → r ≡ BothEnds start end → endOf a ≡ end
+  unfolding boundsSays
+  end-some start end q = end-is a ∙ ap upper (sym e ∙ ap boundsSays q)
 
 -- ---- `retain` and `narrowed`
 
