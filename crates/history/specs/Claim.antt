@@ -37,8 +37,8 @@ pub record Claimed (o : Opening) (generation : ℕ) (calls : List LentCall) (s :
   pub live-rows : liveIn s ≡ liveRows (afterAll (opened o generation) calls)
   -- "If some accepted step refines, the ids left .. are exactly the live rows of the starting subset that ..", "rising,
   -- each once"
-  pub ids-left : (fit : ℕ → Bool) (start : Subset) (questions : List Question) (end : Subset) (accepted : List Question)
-      → Run s fit start questions end accepted → any refines accepted ≡ true
+  pub ids-left : (start : Subset) (questions : List Question) (end : Subset) (accepted : List Question)
+      → Run s start questions end accepted → any refines accepted ≡ true
       → (members end ≡ keep (wanted s accepted) (members start)) × (rising (members end) ≡ true)
 
 abbrev pub Claim : Type 0

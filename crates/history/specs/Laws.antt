@@ -9,6 +9,7 @@ pub mod Batches
 pub mod LentLengths
 pub mod Total
 pub mod RefreshKinds
+pub mod LentQuestions
 pub mod Stamps
 pub mod Notes
 pub mod Refreshes

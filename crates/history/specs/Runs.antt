@@ -7,7 +7,7 @@ use mathlib.Core.Bool.{Bool, true, false}
 use mathlib.Core.Logic.{_⊎_}
 use mathlib.Core.List.{List, [], _∷_, _++_}
 use mathlib.Core.Option.{some}
-use lib.ListN.{length}
+use lib.ListN.{length, take}
 use Rattle.refusals.specs.Refusals.{Reply, refused, accepted}
 use Rattle.offsets.specs.declared.SubsetAnswer.{SubsetAnswer}
 use Rattle.offsets.specs.Subsets.{Subset, members}
@@ -46,30 +46,30 @@ Intersected a b output answer output′ =
     Answered (intersectReply a b (length output)) output answer output′
     ⊎ Answered (intersectReply b a (length output)) output answer output′
 
--- one question on a table, on the ids that are left, each with an output of its own, of a length that `fit` lets through (the claim
--- is of every `fit`; `ask` lends each question the same length): the ids that it leaves, and the question itself if it counts.
+-- One question on a table, on the ids that are left: the ids that it leaves, and the question itself if it counts. Each has an
+-- output of its own and is lent the first `lent` cells of a store, all of them where it has no more, so that a question may be
+-- refused for a store that the next one is lent more of.
 -- "where [the fast range] is *none*, the step and its condition count for nothing", as where it is refused
-pub data Asked (s : Stores) (fit : ℕ → Bool) (a : Subset) : Question → Subset → List Question → Type 0 where
-  one-refined : (c : Constraint) (output output′ : List ℕ) (answer : SubsetAnswer)
-      → fit (length output) ≡ true → RefinedOne (s .header) (s .rows) a c output answer output′
-      → Asked s fit a (refineOne c) (left a (readOff answer output′)) (counting (refineOne c) (readOff answer output′))
-  list-refined : (cs : List Constraint) (output output′ : List ℕ) (answer : SubsetAnswer)
-      → fit (length output) ≡ true → RefinedList (s .header) (s .rows) a cs output answer output′
-      → Asked s fit a (refineList cs) (left a (readOff answer output′)) (counting (refineList cs) (readOff answer output′))
-  intersected : (b : Subset) (output output′ : List ℕ) (answer : SubsetAnswer)
-      → fit (length output) ≡ true → Intersected a b output answer output′
-      → Asked s fit a (intersectWith b) (left a (readOff answer output′)) (counting (intersectWith b) (readOff answer output′))
-  range-intersected : (b : Subset) (c : Constraint) (range : RangeAnswer) (output output′ : List ℕ) (answer : SubsetAnswer)
-      → RangeRead (s .header) (s .sorts) c range → rangeSays range ≡ accepted (some b)
-      → fit (length output) ≡ true → Intersected a b output answer output′
-      → Asked s fit a (intersectRange c) (left a (readOff answer output′)) (counting (intersectRange c) (readOff answer output′))
-  range-nothing : (c : Constraint) (range : RangeAnswer)
-      → RangeRead (s .header) (s .sorts) c range → ((b : Subset) → rangeSays range ≡ accepted (some b) → ⊥)
-      → Asked s fit a (intersectRange c) a []
+pub data Asked (s : Stores) (a : Subset) : Question → Subset → List Question → Type 0 where
+  one-refined : (c : Constraint) (lent : ℕ) (output output′ : List ℕ) (answer : SubsetAnswer)
+      → RefinedOne (s .header) (take lent (s .rows)) a c output answer output′
+      → Asked s a (refineOne c) (left a (readOff answer output′)) (counting (refineOne c) (readOff answer output′))
+  list-refined : (cs : List Constraint) (lent : ℕ) (output output′ : List ℕ) (answer : SubsetAnswer)
+      → RefinedList (s .header) (take lent (s .rows)) a cs output answer output′
+      → Asked s a (refineList cs) (left a (readOff answer output′)) (counting (refineList cs) (readOff answer output′))
+  intersected : (b : Subset) (output output′ : List ℕ) (answer : SubsetAnswer) → Intersected a b output answer output′
+      → Asked s a (intersectWith b) (left a (readOff answer output′)) (counting (intersectWith b) (readOff answer output′))
+  range-intersected : (b : Subset) (c : Constraint) (lent : ℕ) (range : RangeAnswer) (output output′ : List ℕ) (answer : SubsetAnswer)
+      → RangeRead (s .header) (take lent (s .sorts)) c range → rangeSays range ≡ accepted (some b)
+      → Intersected a b output answer output′
+      → Asked s a (intersectRange c) (left a (readOff answer output′)) (counting (intersectRange c) (readOff answer output′))
+  range-nothing : (c : Constraint) (lent : ℕ) (range : RangeAnswer)
+      → RangeRead (s .header) (take lent (s .sorts)) c range → ((b : Subset) → rangeSays range ≡ accepted (some b) → ⊥)
+      → Asked s a (intersectRange c) a []
 
 -- the questions one after another, and those that were accepted; each may be put on any subset that has the ids left, a range or
 -- a list: a caller may copy the ids of one form into the other
-pub data Run (s : Stores) (fit : ℕ → Bool) : Subset → List Question → Subset → List Question → Type 0 where
-  end : (a : Subset) → Run s fit a [] a []
+pub data Run (s : Stores) : Subset → List Question → Subset → List Question → Type 0 where
+  end : (a : Subset) → Run s a [] a []
   next : {a b b′ c : Subset} {q : Question} {qs counted rest : List Question}
-      → Asked s fit a q b counted → members b′ ≡ members b → Run s fit b′ qs c rest → Run s fit a (q ∷ qs) c (counted ++ rest)
+      → Asked s a q b counted → members b′ ≡ members b → Run s b′ qs c rest → Run s a (q ∷ qs) c (counted ++ rest)

@@ -10,6 +10,7 @@ use Rattle.offsets.specs.declared.SubsetAnswer.{SubsetAnswer}
 use Rattle.offsets.specs.declared.SubsetAnswer.the-variants.{Refused, Range, List as Ids}
 use Rattle.offsets.specs.Subsets.{Subset, range, list}
 use Rattle.offsets.specs.Answers.{subsetOf, Answered, intersectReply}
+use Rattle.offsets.specs.Laws.Subsets.{dense-is, sparse-is}
 use Rattle.constraints.specs.declared.Constraint.{Constraint}
 use Rattle.condition_words.specs.Conditions.{conditionIn, conditionsIn}
 use Rattle.table.specs.declared.Header.{Header}
@@ -20,6 +21,7 @@ use Rattle.table.specs.Promises.{RangeRead}
 use Rattle.queries.specs.Queries.{RefinedOne, RefinedList}
 use Rattle.question_words.specs.declared.RunAnswer.{RunAnswer}
 use Rattle.question_words.specs.Encoding.{questionOf}
+use Rattle.question_words.specs.Leaving.{rangeStep}
 use Rattle.question_words.specs.inner.Putting.{counted, leftBy, Put, ListPut, RangePut}
 use Rattle.question_words.specs.Laws.Encoding.{list-whole, list-cut, list-long, ask-one, ask-list, ask-ids, ask-ends, ask-range, no-one, no-ends, no-range, no-kind}
 use Rattle.question_words.specs.Laws.Putting.{put-nothing, put-no-range, put-refined, put-refined-list, put-intersected, put-ranged}
@@ -51,18 +53,20 @@ module _ (l : RunAnswer) (place : ℕ) (refines : Bool) (answer : SubsetAnswer) 
 
 module _ {h : Header} {sorts : List ℕ} {c : Constraint} {found : RangeAnswer} {a : Subset} {l l′ : RunAnswer} {place : ℕ} {output : List ℕ} (read : RangeRead h sorts c found) where
   pub range-refused : (n : ℕ) → found ≡ RangeRefused n → l′ ≡ counted l → RangePut h sorts a c l place output l′ output
-  unfolding rangeSays
-  range-refused n e same = record { put = λ rows. put-no-range refl read (λ b q. absurd (let f = rw e at q in let z : _≡_ {A = ℕ} 0 1 = cc in omega arith)) same }
+  unfolding rangeSays rangeStep
+  range-refused n e same = record { put = λ rows. put-no-range refl read (rw e) same }
 
   pub range-none : found ≡ NoRange → l′ ≡ counted l → RangePut h sorts a c l place output l′ output
-  unfolding rangeSays
-  range-none e same = record { put = λ rows. put-no-range refl read (λ b q. absurd (let f = rw e at q in let z : _≡_ {A = ℕ} 0 1 = cc in omega arith)) same }
+  unfolding rangeSays rangeStep
+  range-none e same = record { put = λ rows. put-no-range refl read (rw e) same }
 
   pub range-found : (start end : ℕ) (ids : List ℕ) {answer : SubsetAnswer} {output′ : List ℕ} → found ≡ Found start end
       → Answered (intersectReply a (subsetOf (record { dense = true; start = start; end = end }) ids) (length output)) output answer output′
       → l′ ≡ leftBy l place false answer → RangePut h sorts a c l place output l′ output′
-  unfolding rangeSays subsetOf
-  range-found from to ids e m same = record { put = λ rows. put-ranged (range from to) refl read (rw e) m same }
+  unfolding rangeSays
+  range-found from to ids e m same =
+      let is = dense-is (record { dense = true; start = from; end = to }) ids refl in
+      record { put = λ rows. put-ranged (range from to) refl read (rw e) (rw is at m) same }
 
 -- ---- `put_list`
 
@@ -108,14 +112,14 @@ module _ {h : Header} {rows sorts : List ℕ} {a : Subset} (kind : ℕ) (cells :
   module _ {l′ : RunAnswer} {answer : SubsetAnswer} {output′ : List ℕ} where
     pub put-ids : (start end : ℕ) → kind ≡ 2 → Answered (intersectReply a (subsetOf (record { dense = false; start = start; end = end }) cells) (length output)) output answer output′
         → l′ ≡ leftBy l place false answer → Put h rows sorts a (questionOf kind cells) l place output l′ output′
-    unfolding subsetOf
-    put-ids from to e m = put-intersected (list cells) (ask-ids kind cells e) m
+    put-ids from to e m =
+        put-intersected (list cells) (ask-ids kind cells e) (rw (sparse-is (record { dense = false; start = from; end = to }) cells refl) at m)
 
     pub put-ends : (ids : List ℕ) → kind ≡ 3 → length cells ≡ 2
         → Answered (intersectReply a (subsetOf (record { dense = true; start = getD cells 0 0; end = getD cells 1 0 }) ids) (length output)) output answer output′
         → l′ ≡ leftBy l place false answer → Put h rows sorts a (questionOf kind cells) l place output l′ output′
-    unfolding subsetOf
-    put-ends ids e n m = put-intersected (range (getD cells 0 0) (getD cells 1 0)) (ask-ends kind cells e n) m
+    put-ends ids e n m =
+        put-intersected (range (getD cells 0 0) (getD cells 1 0)) (ask-ends kind cells e n) (rw (dense-is (record { dense = true; start = getD cells 0 0; end = getD cells 1 0 }) ids refl) at m)
 
     pub put-one : kind ≡ 0 → length cells ≡ 3 → {c : Constraint} → c ≡ conditionIn cells 0 → RefinedOne h rows a c output answer output′
         → l′ ≡ leftBy l place true answer → Put h rows sorts a (questionOf kind cells) l place output l′ output′

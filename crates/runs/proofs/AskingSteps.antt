@@ -1,29 +1,24 @@
 -- A run, question after question. Assumes nothing.
 use Prim.Native.Nat.{ℕ, zero, suc, _+_, _-_, _≤_, min}
 use mathlib.Core.Path.{_≡_, refl, sym, ap, _∙_}
-use mathlib.Core.Bool.{Bool, true, false, _||_}
+use mathlib.Core.Bool.{Bool, false, _||_}
 use mathlib.Core.List.{List, [], _∷_, _++_, append-assoc, append-nil}
 use native.Mathlib.Omega.{arith}
-use lib.Dec.{eqb}
 use lib.ListN.{length, take, drop, getD, length-take, length-append}
 use Rattle.lists.specs.Lists.{any}
 use Rattle.frames.specs.inner.Lengths.{FrameLength}
 use Rattle.frames.specs.Laws.Frames.{framed-end, framed-next}
 use Rattle.offsets.specs.declared.SubsetHead.{SubsetHead}
-use Rattle.offsets.specs.Subsets.{Subset}
 use Rattle.offsets.specs.Answers.{subsetOf}
-use Rattle.sort_entries.specs.Entries.{entriesOf, entriesSound}
 use Rattle.table.specs.declared.Header.{Header}
-use Rattle.table.specs.Promises.{stores}
-use Rattle.history.specs.Runs.{Question, refines, Run, end}
+use Rattle.history.specs.Runs.{Question, refines}
 use Rattle.history.specs.Laws.Narrowing.{or-assoc, or-false, any-both}
-use Rattle.history.specs.Laws.Theorem.{term-three}
 use Rattle.question_words.specs.declared.RunAnswer.{RunAnswer}
 use Rattle.question_words.specs.Encoding.{questionOf, questionsIn}
-use Rattle.question_words.specs.Leaving.{idsAt, subsetLeft, Outcome, outcome, askedAll}
+use Rattle.question_words.specs.Leaving.{idsAt, subsetLeft, Outcome, outcome, behind, AskedAll, end}
 use Rattle.runs.specs.Asking.{shorter, RunMade}
 use Rattle.runs.specs.inner.Putting.{QuestionsPut, QuestionPut}
-use Rattle.runs.specs.Laws.Putting.{run-then, behind, asked-then}
+use Rattle.runs.specs.Laws.Putting.{asked-then}
 
 -- the first ids of a list, as they are lent
 pub lent-count : (n : ℕ) (l : List ℕ) → n ≤ length l → n ≡ length (take n l)
@@ -52,12 +47,8 @@ module _ (h : Header) (rows sorts ids words first₀ second₀ : List ℕ) (l₀
     pub accepted : List Question
     pub told : l .refined ≡ (l₀ .refined || any refines accepted)
     pub taken : l .taken + length (questionsIn (drop at words)) ≡ l₀ .taken + length (questionsIn words)
-    pub rest : (keys pending : List ℕ) (last : Subset) (more : List Question)
-        → Run (stores h rows keys sorts pending) (eqb (length first₀)) (subsetLeft l ids first second) (questionsIn (drop at words)) last more
-        → Run (stores h rows keys sorts pending) (eqb (length first₀)) (subsetLeft l₀ ids first₀ second₀) (questionsIn words) last (accepted ++ more)
-    pub leaves : entriesSound (entriesOf (h .entries) sorts) (h .rows) ≡ true
-        → behind accepted (askedAll h rows sorts (length first₀) (subsetLeft l ids first second) (questionsIn (drop at words)))
-        ≡ askedAll h rows sorts (length first₀) (subsetLeft l₀ ids first₀ second₀) (questionsIn words)
+    pub rest : (o : Outcome) → AskedAll h rows sorts (length first₀) (subsetLeft l ids first second) (questionsIn (drop at words)) o
+        → AskedAll h rows sorts (length first₀) (subsetLeft l₀ ids first₀ second₀) (questionsIn words) (behind accepted o)
 
 module _ {h : Header} {rows sorts ids words first₀ second₀ : List ℕ} {l₀ : RunAnswer} where
   pub going-begin : {count : ℕ} → FrameLength words 0 count → l₀ .count ≡ 0 → l₀ .taken ≡ 0 → length second₀ ≡ length first₀
@@ -73,8 +64,7 @@ module _ {h : Header} {rows sorts ids words first₀ second₀ : List ℕ} {l₀
         accepted = [];
         told = unfold any in sym (or-false (l₀ .refined));
         taken = refl;
-        rest = λ keys pending last more run. run;
-        leaves = λ sound. refl;
+        rest = λ o more. more;
       }
 
   module _ {first second : List ℕ} {l : RunAnswer} {at count : ℕ} (v : Going h rows sorts ids words first₀ second₀ l₀ first second l at count) where
@@ -104,30 +94,18 @@ module _ {h : Header} {rows sorts ids words first₀ second₀ : List ℕ} {l₀
               let sum : length (questionsIn (drop at words)) ≡ length q + length qs = ap length frame ∙ length-append q qs in
               let both = t .put .taken in
               omega (arith, sum, both, v .taken);
-          rest = λ keys pending last more run.
-              rw (append-assoc (v .accepted) asked more)
-              (v .rest keys pending last (asked ++ more) (rw frame (run-then (rw (v .first-long) at (t .put .run keys pending)) run)));
-          leaves = λ sound.
-              let all : Subset → List Question → Outcome = askedAll h rows sorts (length first₀) in
-              let one : outcome (subsetLeft l′ ids first′ second′) asked ≡ all (subsetLeft l ids first second) q = rw (v .first-long) at (t .put .leaves sound) in
-              let two : all (subsetLeft l ids first second) (q ++ qs) ≡ behind asked (all (subsetLeft l′ ids first′ second′) qs) =
-              asked-then h rows sorts (length first₀) (subsetLeft l ids first second) q qs ∙ ap (λ (o : Outcome). behind (o .accepted) (all (o .ids) qs)) (sym one) in
-              let last : Outcome = all (subsetLeft l′ ids first′ second′) qs in
-              ap (λ (qs : List Question). outcome (last .ids) qs) (append-assoc (v .accepted) asked (last .accepted)) ∙ ap (behind (v .accepted)) (sym two)
-              ∙ ap (λ (some : List Question). behind (v .accepted) (all (subsetLeft l ids first second) some)) (sym frame) ∙ v .leaves sound;
+          rest = λ o more.
+              rw (append-assoc (v .accepted) asked (o .accepted))
+              (v .rest (behind asked o) (rw frame (asked-then (rw (v .first-long) at (t .put .asked)) more)));
         }
 
     -- no question is left
     pub going-end : count ≡ 0 → QuestionsPut h rows sorts ids (questionsIn words) l₀ first₀ second₀ l first second
-    unfolding askedAll
     going-end none =
         let frame : questionsIn (drop at words) ≡ [] = framed-end questionOf (v .here) none in
         record {
           accepted = v .accepted;
-          run = λ keys pending.
-              rw (append-nil (v .accepted)) at
-              (v .rest keys pending (subsetLeft l ids first second) [] (rw frame (end (subsetLeft l ids first second))));
-          leaves = λ sound. rw (frame, append-nil (v .accepted)) at (v .leaves sound);
+          asked = rw (append-nil (v .accepted)) at (v .rest (outcome (subsetLeft l ids first second) []) (rw frame (end (subsetLeft l ids first second))));
           told = v .told;
           taken = let empty : length (questionsIn (drop at words)) ≡ 0 = ap length frame in omega (arith, empty, v .taken);
           fits = v .fits;
@@ -160,7 +138,7 @@ abbrev before : SubsetHead → RunAnswer
 before head = record { dense = head .dense; start = head .start; end = head .end; count = 0; place = 0; refined = false; taken = 0 }
 
 starting : (head : SubsetHead) (ids first second : List ℕ) → subsetLeft (before head) ids first second ≡ subsetOf head ids
-unfolding subsetLeft subsetOf idsAt
+unfolding subsetLeft idsAt
 starting head ids first second = refl
 
 module _ {h : Header} {rows sorts ids : List ℕ} {questions : List Question} (head : SubsetHead) (n : ℕ) (first second : List ℕ) {r : RunAnswer} {part part′ : List ℕ} where
@@ -173,16 +151,11 @@ module _ {h : Header} {rows sorts ids : List ℕ} {questions : List Question} (h
       let left : subsetLeft r ids (part ++ drop n first) (part′ ++ drop n second) ≡ subsetLeft r ids part part′ =
       part-left r ids part part′ (drop n first) (drop n second) (omega arith) (omega (arith, room-alike n first second e)) in
       let start = starting head ids (take n first) (take n second) in
-      let run : (keys pending : List ℕ) → Run (stores h rows keys sorts pending) (eqb (shorter first second)) (subsetOf head ids) questions (subsetLeft r ids (part ++ drop n first) (part′ ++ drop n second)) (t .accepted) =
-      λ keys pending. rw left (rw (room, start) at (t .run keys pending)) in
       record {
         taken = t .taken ∙ (let z : 0 + length questions ≡ length questions = omega arith in z);
         accepted = t .accepted;
         told = t .told;
         inside = omega (arith, held, room);
-        leaves = λ sound. rw left (rw (room, start) at (t .leaves sound));
-        run = run;
-        ids-left = λ o generation calls keys pending history refined.
-            term-three o generation calls _ history .ids-left (eqb (shorter first second)) (subsetOf head ids) questions _ (t .accepted) (run keys pending) (sym (t .told) ∙ refined);
+        asked = rw left (rw (room, start) at (t .asked));
         past = rw (← e) (drop-behind n part (drop n first) (a ∙ sym (room-first n first second e)), drop-behind n part′ (drop n second) (b ∙ sym (room-second n first second e)));
       }

@@ -1,3 +1,4 @@
 -- What follows from the definitions.
 pub mod Putting
+pub mod Claimed
 pub mod Determined

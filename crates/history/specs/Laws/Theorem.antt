@@ -1,7 +1,5 @@
 -- Term 3 of the order: the claim holds of every history and of every run of questions. Assumes nothing but the promises
 -- that the claim's histories and runs are made of.
-use Prim.Native.Nat.{ℕ}
-use mathlib.Core.Bool.{Bool}
 use mathlib.Core.List.{List}
 use Rattle.offsets.specs.Subsets.{Subset, members}
 use Rattle.plain.specs.Plain.{Plain}
@@ -14,7 +12,7 @@ use Rattle.history.specs.Laws.Narrowing.{Narrows, narrows-not, narrows-t
 use Rattle.history.specs.Laws.Questions.{asked-narrows}
 
 -- a run narrows the ids that it starts on by all that is accepted, whichever form each question gets them in
-pub run-narrows : {p : Plain} {s : Stores} {fit : ℕ → Bool} {a c : Subset} {qs accepted : List Question} → Represents p s → Run s fit a qs c accepted → Narrows s (members a) (members c) accepted
+pub run-narrows : {p : Plain} {s : Stores} {a c : Subset} {qs accepted : List Question} → Represents p s → Run s a qs c accepted → Narrows s (members a) (members c) accepted
 run-narrows {s = s} r (end a) = narrows-not s (members a)
 run-narrows r (next asked same rest) = narrows-then (asked-narrows r asked) (rw same at (run-narrows r rest))
 
@@ -23,7 +21,7 @@ term-three o generation calls s history =
     let shown = history-represents history in
     record {
       live-rows = unfold liveIn in live-shown shown;
-      ids-left = λ fit start questions end accepted run refined.
+      ids-left = λ start questions end accepted run refined.
           let left = run-narrows shown run in
           (narrowed-wanted left refined, narrowed-rising left refined);
     }

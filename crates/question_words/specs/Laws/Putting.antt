@@ -1,36 +1,31 @@
 -- One question, put on the ids left. Assumes nothing.
 use Prim.Native.Nat.{ℕ, _+_, _≤_}
 use mathlib.Core.Path.{_≡_, refl, sym, ap, _∙_}
-use mathlib.Core.Bool.{Bool, true, false, cond, _||_}
-use mathlib.Core.Logic.{inl, inr}
-use mathlib.Core.Option.{Option, none, some}
+use mathlib.Core.Bool.{Bool, true, false, _||_}
+use mathlib.Core.Option.{some}
 use mathlib.Core.List.{List, [], _∷_, _++_}
 use native.Mathlib.Omega.{arith}
 use lib.ListN.{length, take}
-use lib.Dec.{eqb}
-use borrow.Author.Tests.{eq-eqb, ne-eqb}
 use Rattle.lists.specs.Lists.{any}
-use Rattle.refusals.specs.Refusals.{Reply, refused, accepted, reply}
-use Rattle.refusals.specs.Laws.Replies.{some-number, ruled-refused}
+use Rattle.refusals.specs.Refusals.{Reply, accepted, reply}
 use Rattle.offsets.specs.declared.SubsetAnswer.{SubsetAnswer}
 use Rattle.offsets.specs.declared.SubsetAnswer.the-variants.{Refused, Range, List as Ids}
-use Rattle.offsets.specs.Subsets.{Subset, list, intersect, retain, narrowed}
+use Rattle.offsets.specs.Subsets.{Subset, list, retain, narrowed}
 use Rattle.offsets.specs.Answers.{Answered, readOff, written, intersectReply}
-use Rattle.offsets.specs.Laws.Answers.{written-intersect, answered-fits}
-use Rattle.offsets.specs.Laws.Subsets.{members-retain, members-narrowed}
+use Rattle.offsets.specs.Laws.Answers.{read-refused, read-range, read-list, answered-fits, intersect-fits}
+use Rattle.offsets.specs.Laws.Subsets.{dense-is, sparse-is, members-retain, members-narrowed}
 use Rattle.constraints.specs.declared.Constraint.{Constraint}
-use Rattle.sort_entries.specs.Entries.{entriesOf, entriesSound}
 use Rattle.table.specs.declared.Header.{Header}
 use Rattle.table.specs.declared.RangeAnswer.{RangeAnswer}
+use Rattle.table.specs.declared.RangeAnswer.the-variants.{None as NoRange}
 use Rattle.table.specs.Numbers.{rangeSays}
-use Rattle.table.specs.Refusing.{fastRefusal}
-use Rattle.table.specs.Promises.{stores, fastSubset, RangeRead}
+use Rattle.table.specs.Promises.{RangeRead}
 use Rattle.queries.specs.Queries.{matches, refineOneReply, refineListReply, RefinedOne, RefinedList}
-use Rattle.history.specs.Runs.{Question, refineOne, refineList, intersectWith, intersectRange, refines, left, counting, Asked, one-refined, list-refined, intersected, range-intersected, range-nothing, end, next}
+use Rattle.history.specs.Runs.{Question, refineOne, refineList, intersectWith, intersectRange, refines, left, counting}
 use Rattle.history.specs.Laws.Narrowing.{or-false}
-use Rattle.history.specs.Laws.Questions.{refinable, refined-fit, intersectable}
+use Rattle.history.specs.Laws.Questions.{refinable, refined-fit}
 use Rattle.question_words.specs.declared.RunAnswer.{RunAnswer}
-use Rattle.question_words.specs.Leaving.{idsAt, subsetLeft, byReply, rangeStep, asked, askedAll}
+use Rattle.question_words.specs.Leaving.{idsAt, subsetLeft, Outcome, outcome, behind, byReply, rangeStep, asked, AskedAll, end, next}
 use Rattle.question_words.specs.inner.Putting.{counted, leftBy, Put}
 
 -- ---- the ids left by an answer
@@ -44,10 +39,10 @@ swapped false false = refl
 -- an accepted answer refines if its question does, a refused one does not
 left-told : (l : RunAnswer) (place : ℕ) (answer : SubsetAnswer) (output : List ℕ) (q : Question)
     → leftBy l place (refines q) answer .refined ≡ (l .refined || any refines (counting q (readOff answer output) ++ []))
-unfolding leftBy readOff counting any
-left-told l place (Refused n) output q = sym (or-false (l .refined))
-left-told l place (Range from to) output q = swapped (refines q) (l .refined)
-left-told l place (Ids n) output q = swapped (refines q) (l .refined)
+unfolding leftBy counting any
+left-told l place (Refused n) output q = rw (read-refused output n) (sym (or-false (l .refined)))
+left-told l place (Range from to) output q = rw (read-range output from to) (swapped (refines q) (l .refined))
+left-told l place (Ids n) output q = rw (read-list output n) (swapped (refines q) (l .refined))
 
 left-taken : (l : RunAnswer) (place : ℕ) (refines : Bool) (answer : SubsetAnswer) → leftBy l place refines answer .taken ≡ l .taken + 1
 unfolding leftBy
@@ -65,10 +60,10 @@ left-fits l place refines (Ids n) room fits held = fits n refl
 left-there : (l : RunAnswer) (a : Subset) (place : ℕ) (refines : Bool) (answer : SubsetAnswer) (output given first second : List ℕ)
     → ((n : ℕ) → idsAt place n given first second ≡ take n output) → subsetLeft l given first second ≡ a
     → subsetLeft (leftBy l place refines answer) given first second ≡ left a (readOff answer output)
-unfolding subsetLeft leftBy left readOff
-left-there l a place refines (Refused n) output given first second there e = e
-left-there l a place refines (Range from to) output given first second there e = refl
-left-there l a place refines (Ids n) output given first second there e = ap list (there n)
+unfolding subsetLeft leftBy left
+left-there l a place refines (Refused n) output given first second there e = rw (read-refused output n) e
+left-there l a place refines (Range from to) output given first second there e = rw (read-range output from to) (dense-is _ _ refl)
+left-there l a place refines (Ids n) output given first second there e = rw (read-list output n) (sparse-is _ _ refl ∙ ap list (there n))
 
 -- ---- a question that is answered
 
@@ -87,60 +82,36 @@ one-replied : {h : Header} {rows : List ℕ} {a : Subset} {c : Constraint} {outp
 unfolding refineOneReply
 one-replied {h} {rows} {a} {c} {output} {answer} {output′} m =
     replied-to _ (retain (matches h rows (c ∷ [])) a) output answer output′ (m .answered)
-    (λ z. refined-fit (stores h rows [] [] []) a (c ∷ []) (length output) (refinable h (length rows) a (c ∷ []) (length output) z) _ (members-retain (matches h rows (c ∷ [])) a))
+    (λ z. refined-fit a (length output) (refinable h (length rows) a (c ∷ []) (length output) z) _ _ (members-retain (matches h rows (c ∷ [])) a))
 
 list-replied : {h : Header} {rows : List ℕ} {a : Subset} {cs : List Constraint} {output : List ℕ} {answer : SubsetAnswer} {output′ : List ℕ} → RefinedList h rows a cs output answer output′
     → Replied (refineListReply h rows a cs (length output)) output answer output′
 unfolding refineListReply
 list-replied {h} {rows} {a} {cs} {output} {answer} {output′} m =
     replied-to _ (narrowed (matches h rows cs) a) output answer output′ (m .answered)
-    (λ z. refined-fit (stores h rows [] [] []) a cs (length output) (refinable h (length rows) a cs (length output) z) _ (members-narrowed (matches h rows cs) a))
+    (λ z. refined-fit a (length output) (refinable h (length rows) a cs (length output) z) _ _ (members-narrowed (matches h rows cs) a))
 
 intersection-replied : (a b : Subset) {output : List ℕ} {answer : SubsetAnswer} {output′ : List ℕ} → Answered (intersectReply a b (length output)) output answer output′
     → Replied (intersectReply a b (length output)) output answer output′
-unfolding intersectReply
-intersection-replied a b {output} {answer} {output′} m =
-    replied-to _ (intersect a b) output answer output′ m (λ e. omega (arith, written-intersect a b, intersectable a b (length output) e .space))
-
--- ---- a range step
-
--- the range that an answer of `fast_subset` tells of
-unfoldable foundIn : Reply (Option Subset) → Option Subset
-foundIn (refused n) = none
-foundIn (accepted found) = found
-
-range-known : {h : Header} {sorts : List ℕ} {c : Constraint} {found : RangeAnswer} → RangeRead h sorts c found → entriesSound (entriesOf (h .entries) sorts) (h .rows) ≡ true
-    → cond (eqb (fastRefusal h (length sorts) c) 0) (fastSubset h sorts c) none ≡ foundIn (rangeSays found)
-unfolding foundIn
-range-known {h} {sorts} {c} {found} read sound =
-    let n : ℕ = fastRefusal h (length sorts) c in
-    elim (some-number n) [
-      | inl e ↦ rw (eq-eqb n 0 e, read .table e sound)
-      | inr more ↦ rw (ne-eqb n 0 (λ e. omega arith), ruled-refused (rangeSays found) n (read .refusal) more)
-    ]
-
-range-some : (r : Reply (Option Subset)) (b : Subset) → r ≡ accepted (some b) → foundIn r ≡ some b
-unfolding foundIn
-range-some r b e = rw e
-
-range-none : (r : Reply (Option Subset)) → ((b : Subset) → r ≡ accepted (some b) → ⊥) → foundIn r ≡ none
-unfolding foundIn
-range-none (refused n) nowhere = refl
-range-none (accepted none) nowhere = refl
-range-none (accepted (some b)) nowhere = absurd (nowhere b refl)
+intersection-replied a b {output} {answer} {output′} m = record { is = m .answers; fits = intersect-fits a b output answer output′ m }
 
 -- ---- put
+
+-- one question alone
+asked-one : {h : Header} {rows sorts : List ℕ} {questions : List Question} (room : ℕ) (a : Subset) (q : Question) (range : RangeAnswer) (o : Outcome) → questions ≡ q ∷ []
+    → ((c : Constraint) → q ≡ intersectRange c → RangeRead h sorts c range) → asked h rows room a q (rangeSays range) ≡ o
+    → AskedAll h rows sorts room a questions (behind (o .accepted) (outcome (o .ids) []))
+asked-one room a q range o e read same = rw (e, ← same) (next range read (end _))
 
 module _ {h : Header} {rows sorts : List ℕ} {a : Subset} {questions : List Question} {l l′ : RunAnswer} {place : ℕ} {output : List ℕ} where
   -- nothing is asked
   pub put-nothing : questions ≡ [] → l′ ≡ l → Put h rows sorts a questions l place output l′ output
-  unfolding askedAll any
+  unfolding any
   put-nothing e same =
       record {
         ids = a;
         accepted = [];
-        run = λ fit lets keys pending. rw e (end a);
-        leaves = λ sound. rw e;
+        asked = rw e (end a);
         told = ap (λ (x : RunAnswer). x .refined) same ∙ sym (or-false (l .refined));
         taken = rw (e, same) (omega arith);
         few = rw same (omega arith);
@@ -150,17 +121,14 @@ module _ {h : Header} {rows sorts : List ℕ} {a : Subset} {questions : List Que
 
   -- a question and its reply
   module _ {answer : SubsetAnswer} {output′ : List ℕ} where
-    put-replied : (q : Question) (r : Reply Subset) → questions ≡ q ∷ [] → Replied r output answer output′ → l′ ≡ leftBy l place (refines q) answer
-        → ((fit : ℕ → Bool) → fit (length output) ≡ true → (keys pending : List ℕ) → Asked (stores h rows keys sorts pending) fit a q (left a (readOff answer output′)) (counting q (readOff answer output′)))
-        → (entriesSound (entriesOf (h .entries) sorts) (h .rows) ≡ true → asked h rows sorts (length output) a q ≡ byReply a q r)
+    put-replied : (q : Question) (r : Reply Subset) (range : RangeAnswer) → questions ≡ q ∷ [] → Replied r output answer output′ → l′ ≡ leftBy l place (refines q) answer
+        → ((c : Constraint) → q ≡ intersectRange c → RangeRead h sorts c range) → asked h rows (length output) a q (rangeSays range) ≡ byReply a q r
         → Put h rows sorts a questions l place output l′ output′
-    unfolding askedAll
-    put-replied q r e m same one known =
+    put-replied q r range e m same read known =
         record {
           ids = left a (readOff answer output′);
           accepted = counting q (readOff answer output′) ++ [];
-          run = λ fit lets keys pending. rw e (next (one fit lets keys pending) refl (end _));
-          leaves = λ sound. rw (e, known sound, m .is);
+          asked = asked-one (length output) a q range (byReply a q (readOff answer output′)) e read (rw (m .is) known);
           told = rw same (left-told l place answer output′ q);
           taken = rw (same, e) (left-taken l place (refines q) answer);
           few = rw same (omega (arith, left-taken l place (refines q) answer));
@@ -172,39 +140,36 @@ module _ {h : Header} {rows sorts : List ℕ} {a : Subset} {questions : List Que
         → Put h rows sorts a questions l place output l′ output′
     unfolding asked refines
     put-refined {c} e m same =
-        put-replied (refineOne c) _ e (one-replied m) same (λ fit lets keys pending. one-refined c output output′ answer lets m) (λ sound. refl)
+        put-replied (refineOne c) _ NoRange e (one-replied m) same (λ d z. absurd (let n : _≡_ {A = ℕ} 0 1 = cc in omega arith)) refl
 
     pub put-refined-list : {cs : List Constraint} → questions ≡ refineList cs ∷ [] → RefinedList h rows a cs output answer output′ → l′ ≡ leftBy l place true answer
         → Put h rows sorts a questions l place output l′ output′
     unfolding asked refines
     put-refined-list {cs} e m same =
-        put-replied (refineList cs) _ e (list-replied m) same (λ fit lets keys pending. list-refined cs output output′ answer lets m) (λ sound. refl)
+        put-replied (refineList cs) _ NoRange e (list-replied m) same (λ d z. absurd (let n : _≡_ {A = ℕ} 0 1 = cc in omega arith)) refl
 
     pub put-intersected : (b : Subset) → questions ≡ intersectWith b ∷ [] → Answered (intersectReply a b (length output)) output answer output′ → l′ ≡ leftBy l place false answer
         → Put h rows sorts a questions l place output l′ output′
     unfolding asked refines
     put-intersected b e m same =
-        put-replied (intersectWith b) _ e (intersection-replied a b m) same (λ fit lets keys pending. intersected b output output′ answer lets (inl m)) (λ sound. refl)
+        put-replied (intersectWith b) _ NoRange e (intersection-replied a b m) same (λ d z. absurd (let n : _≡_ {A = ℕ} 0 1 = cc in omega arith)) refl
 
     pub put-ranged : (b : Subset) {c : Constraint} {found : RangeAnswer} → questions ≡ intersectRange c ∷ [] → RangeRead h sorts c found
         → rangeSays found ≡ accepted (some b) → Answered (intersectReply a b (length output)) output answer output′ → l′ ≡ leftBy l place false answer
         → Put h rows sorts a questions l place output l′ output′
     unfolding asked rangeStep refines
     put-ranged b {c} {found} e read is m same =
-        put-replied (intersectRange c) _ e (intersection-replied a b m) same
-        (λ fit lets keys pending. range-intersected b c found output output′ answer read is lets (inl m))
-        (λ sound. rw (range-known read sound ∙ range-some (rangeSays found) b is))
+        put-replied (intersectRange c) _ found e (intersection-replied a b m) same (λ d z. let k : c ≡ d = cc in rw (← k) read) (rw is)
 
   -- there is no range, and the step counts for nothing
   pub put-no-range : {c : Constraint} {found : RangeAnswer} → questions ≡ intersectRange c ∷ [] → RangeRead h sorts c found
-      → ((b : Subset) → rangeSays found ≡ accepted (some b) → ⊥) → l′ ≡ counted l → Put h rows sorts a questions l place output l′ output
-  unfolding askedAll asked rangeStep subsetLeft any
+      → rangeStep a c (length output) (rangeSays found) ≡ outcome a [] → l′ ≡ counted l → Put h rows sorts a questions l place output l′ output
+  unfolding asked subsetLeft any
   put-no-range {c} {found} e read nowhere same =
       record {
         ids = a;
         accepted = [];
-        run = λ fit lets keys pending. rw e (next (range-nothing c found read nowhere) refl (end a));
-        leaves = λ sound. rw (e, range-known read sound ∙ range-none (rangeSays found) nowhere);
+        asked = asked-one (length output) a (intersectRange c) found (outcome a []) e (λ d z. let k : c ≡ d = cc in rw (← k) read) nowhere;
         told = ap (λ (x : RunAnswer). x .refined) same ∙ sym (or-false (l .refined));
         taken = rw (e, same) (omega arith);
         few = rw same (omega arith);

@@ -9,13 +9,11 @@ use Rattle.offsets.specs.declared.SubsetAnswer.{SubsetAnswer}
 use Rattle.offsets.specs.declared.SubsetAnswer.the-variants.{Refused, Range, List as Ids}
 use Rattle.offsets.specs.Subsets.{Subset}
 use Rattle.constraints.specs.declared.Constraint.{Constraint}
-use Rattle.sort_entries.specs.Entries.{entriesOf, entriesSound}
 use Rattle.table.specs.declared.Header.{Header}
-use Rattle.table.specs.Promises.{stores}
-use Rattle.history.specs.Runs.{Question, intersectRange, refines, Run}
+use Rattle.history.specs.Runs.{Question, intersectRange, refines}
 use Rattle.question_words.specs.declared.RunAnswer.{RunAnswer}
 use Rattle.question_words.specs.Encoding.{listOf}
-use Rattle.question_words.specs.Leaving.{outcome, askedAll, idsAt, subsetLeft}
+use Rattle.question_words.specs.Leaving.{outcome, AskedAll, idsAt, subsetLeft}
 
 -- one question more, which counts for nothing
 abbrev pub counted : RunAnswer → RunAnswer
@@ -35,8 +33,7 @@ module _ (h : Header) (rows sorts : List ℕ) (a : Subset) (questions : List Que
   pub record Put : Type 0 where
     pub ids : Subset
     pub accepted : List Question
-    pub run : (fit : ℕ → Bool) → fit (length output) ≡ true → (keys pending : List ℕ) → Run (stores h rows keys sorts pending) fit a questions ids accepted
-    pub leaves : entriesSound (entriesOf (h .entries) sorts) (h .rows) ≡ true → outcome ids accepted ≡ askedAll h rows sorts (length output) a questions
+    pub asked : AskedAll h rows sorts (length output) a questions (outcome ids accepted)
     pub told : l′ .refined ≡ (l .refined || any refines accepted)
     pub taken : l′ .taken ≡ l .taken + length questions
     pub few : l′ .taken ≤ l .taken + 1

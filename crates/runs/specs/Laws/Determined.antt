@@ -13,6 +13,7 @@ use Rattle.history.specs.Runs.{Question, refines}
 use Rattle.question_words.specs.declared.RunAnswer.{RunAnswer}
 use Rattle.question_words.specs.Leaving.{subsetLeft, Outcome}
 use Rattle.runs.specs.Asking.{shorter, RunMade}
+use Rattle.runs.specs.Laws.Claimed.{made-leaves}
 
 -- what a run leaves
 pub record RunLeft : Type 0 where
@@ -39,6 +40,6 @@ module _ (h : Header) (rows sorts : List ℕ) (start : Subset) (ids : List ℕ) 
       record {
         taken = u .taken ∙ sym (v .taken);
         past = (u .past .0 ∙ sym (v .past .0), u .past .1 ∙ sym (v .past .1));
-        ids-same = λ sound. ap (λ (o : Outcome). o .ids) (u .leaves sound ∙ sym (v .leaves sound));
-        refined = λ sound. u .told ∙ ap (λ (o : Outcome). any refines (o .accepted)) (u .leaves sound ∙ sym (v .leaves sound)) ∙ sym (v .told);
+        ids-same = λ sound. ap (λ (o : Outcome). o .ids) (made-leaves u sound ∙ sym (made-leaves v sound));
+        refined = λ sound. u .told ∙ ap (λ (o : Outcome). any refines (o .accepted)) (made-leaves u sound ∙ sym (made-leaves v sound)) ∙ sym (v .told);
       }

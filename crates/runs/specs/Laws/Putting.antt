@@ -1,18 +1,16 @@
 -- A question put on the ids left, and one after another. Assumes nothing.
 use Prim.Native.Nat.{ℕ, _≤_}
-use mathlib.Core.Path.{_≡_, refl, sym}
-use mathlib.Core.Bool.{Bool}
-use mathlib.Core.List.{List, [], _∷_, _++_, append-assoc}
+use mathlib.Core.Path.{_≡_, refl}
+use mathlib.Core.List.{List, _++_, append-assoc}
 use lib.ListN.{length, take}
-use borrow.Author.Tests.{eq-eqb, ne-eqb}
+use borrow.Author.Tests.{ne-eqb}
 use Rattle.offsets.specs.declared.SubsetHead.{SubsetHead}
 use Rattle.offsets.specs.Subsets.{Subset}
 use Rattle.offsets.specs.Answers.{subsetOf}
 use Rattle.table.specs.declared.Header.{Header}
-use Rattle.table.specs.Promises.{Stores}
-use Rattle.history.specs.Runs.{Question, Run, end, next}
+use Rattle.history.specs.Runs.{Question}
 use Rattle.question_words.specs.declared.RunAnswer.{RunAnswer}
-use Rattle.question_words.specs.Leaving.{idsAt, subsetLeft, Outcome, outcome, asked, askedAll}
+use Rattle.question_words.specs.Leaving.{idsAt, subsetLeft, Outcome, behind, AskedAll, end, next}
 use Rattle.question_words.specs.inner.Putting.{Put}
 use Rattle.runs.specs.inner.Putting.{QuestionPut}
 
@@ -28,8 +26,7 @@ module _ {h : Header} {rows sorts ids : List ℕ} {questions : List Question} {l
       record {
         put = record {
           accepted = p .accepted;
-          run = λ keys pending. rw (is, before) (p .run _ (eq-eqb (length first) (length output) (sym long)) keys pending);
-          leaves = λ sound. rw (is, before, ← long) (p .leaves sound);
+          asked = rw (is, before, ← long) (p .asked);
           told = p .told;
           taken = p .taken;
           fits = rw long at (p .fits (rw long held));
@@ -43,15 +40,15 @@ module _ (l : RunAnswer) (ids first second : List ℕ) where
   headOf = record { dense = l .dense; start = l .start; end = l .end }
 
   lent-first : l .place ≡ 1 → subsetLeft l ids first second ≡ subsetOf headOf (take (l .count) first)
-  unfolding subsetLeft subsetOf idsAt
+  unfolding subsetLeft idsAt
   lent-first e = rw e
 
   lent-second : l .place ≡ 2 → subsetLeft l ids first second ≡ subsetOf headOf (take (l .count) second)
-  unfolding subsetLeft subsetOf idsAt
+  unfolding subsetLeft idsAt
   lent-second e = rw e
 
   lent-neither : (l .place ≡ 1 → ⊥) → (l .place ≡ 2 → ⊥) → subsetLeft l ids first second ≡ subsetOf headOf ids
-  unfolding subsetLeft subsetOf idsAt
+  unfolding subsetLeft idsAt
   lent-neither a b = rw (ne-eqb (l .place) 1 a, ne-eqb (l .place) 2 b)
 
 into-first : (n : ℕ) (ids first second : List ℕ) → idsAt 1 n ids first second ≡ take n first
@@ -78,17 +75,7 @@ module _ {h : Header} {rows sorts : List ℕ} (ids : List ℕ) {questions : List
 
 -- ---- one after another
 
-pub run-then : {s : Stores} {fit : ℕ → Bool} {a b c : Subset} {qs rs xs ys : List Question} → Run s fit a qs b xs → Run s fit b rs c ys → Run s fit a (qs ++ rs) c (xs ++ ys)
-run-then (end a) more = more
-run-then {ys = ys} (next {counted = counted} {rest = rest} asked same run) more = rw (append-assoc counted rest ys) (next asked same (run-then run more))
-
--- what questions leave behind others that were accepted
-abbrev pub behind : List Question → Outcome → Outcome
-behind accepted o = outcome (o .ids) (accepted ++ o .accepted)
-
-pub asked-then : (h : Header) (rows sorts : List ℕ) (room : ℕ) (a : Subset) (qs rs : List Question)
-    → askedAll h rows sorts room a (qs ++ rs) ≡ behind (askedAll h rows sorts room a qs .accepted) (askedAll h rows sorts room (askedAll h rows sorts room a qs .ids) rs)
-unfolding askedAll
-asked-then h rows sorts room a [] rs = refl
-asked-then h rows sorts room a (q ∷ qs) rs =
-    rw (asked-then h rows sorts room (asked h rows sorts room a q .ids) qs rs, append-assoc (asked h rows sorts room a q .accepted) (askedAll h rows sorts room (asked h rows sorts room a q .ids) qs .accepted) (askedAll h rows sorts room (askedAll h rows sorts room (asked h rows sorts room a q .ids) qs .ids) rs .accepted))
+pub asked-then : {h : Header} {rows sorts : List ℕ} {room : ℕ} {a : Subset} {qs rs : List Question} {o p : Outcome} → AskedAll h rows sorts room a qs o → AskedAll h rows sorts room (o .ids) rs p
+    → AskedAll h rows sorts room a (qs ++ rs) (behind (o .accepted) p)
+asked-then (end a) more = more
+asked-then (next range read asked) more = rw append-assoc (next range read (asked-then asked more))
