@@ -27,7 +27,7 @@ use Rattle.listing_answers.specs.declared.CheckAnswer.{CheckAnswer}
 use Rattle.listing_answers.specs.declared.CheckAnswer.the-variants.{Refused, Checked}
 use Rattle.listing_answers.specs.declared.Row.{Row}
 use Rattle.listing_answers.specs.declared.Walk.{Walk}
-use Rattle.listing_answers.specs.Answers.{rightNumbers, misplaced, wrongNumbers, lowest, rightOrWrong, placed, verdictOn, verdictOf, checkRefusal, checkSays, AnswersChecked}
+use Rattle.listing_answers.specs.Answers.{rightNumbers, misplaced, wrongNumbers, lowest, rightOrWrong, placed, verdictOn, verdictOf, verdictSays, checkRefusal, checkSays, AnswersChecked}
 use Rattle.listing_answers.specs.inner.Walking.{firstApart, rightAmong, unlessWrong, RowRead, rowsLeft, Underway, settledAs, Stepped, closed}
 use Rattle.listing_answers.specs.Laws.Numbers.{misplaced-none}
 use Rattle.listing_answers.specs.Laws.Verdicts.{above-kept, right-rising}
@@ -42,7 +42,7 @@ settle {given = given} p = record { whole = λ l. absurd (omega arith); due = λ
 -- ---- the beginning
 
 says-right : (o : Option ℕ) → checkSays (unlessWrong (Checked Right) o) ≡ accepted (rightOrWrong o)
-unfolding checkSays unlessWrong rightOrWrong
+unfolding checkSays verdictSays unlessWrong rightOrWrong
 says-right none = refl
 says-right (some n) = refl
 
@@ -76,7 +76,7 @@ module _ (text : List ℕ) (conditions : List Constraint) (given : List ℕ) whe
 
     module _ (knows : every (known (s .columns)) conditions ≡ true) where
       pub out-of-place : {place : ℕ} → misplaced given ≡ some place → AnswersChecked text conditions given (Checked (Misplaced place))
-      unfolding checkSays reply verdictOn placed
+      unfolding checkSays verdictSays reply verdictOn placed
       out-of-place e = answered (rw (knows, e))
 
       pub begin : misplaced given ≡ none → Underway (s .columns) text conditions given (record { answer = Checked Right; start = s .start; end = length text; place = 0 })

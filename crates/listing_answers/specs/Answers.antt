@@ -39,22 +39,35 @@ unfoldable pub lowest : List ℕ → Option ℕ
 lowest [] = none
 lowest (n ∷ ns) = some (foldl min n ns)
 
+-- the checker's answers: "It says yes", "the place, from 0, of the first number not above the one before", "the lowest row number
+-- wrongly present or absent"
+pub data Finding : Type 0 where
+  correct : Finding
+  outOfOrder : ℕ → Finding
+  lowestWrong : ℕ → Finding
+
+-- what each case of the enum stands for
+unfoldable pub verdictSays : Verdict → Finding
+verdictSays Right = correct
+verdictSays (Misplaced place) = outOfOrder place
+verdictSays (Wrong number) = lowestWrong number
+
 -- "the lowest row number wrongly present or absent", and yes if there is none
-unfoldable pub rightOrWrong : Option ℕ → Verdict
-rightOrWrong none = Right
-rightOrWrong (some number) = Wrong number
+unfoldable pub rightOrWrong : Option ℕ → Finding
+rightOrWrong none = correct
+rightOrWrong (some number) = lowestWrong number
 
 -- "or, if the list is not strictly rising, the place"
-unfoldable pub placed : Option ℕ → Verdict → Verdict
-placed none verdict = verdict
-placed (some place) verdict = Misplaced place
+unfoldable pub placed : Option ℕ → Finding → Finding
+placed none finding = finding
+placed (some place) finding = outOfOrder place
 
-unfoldable pub verdictOn : List ℕ → List ℕ → Verdict
+unfoldable pub verdictOn : List ℕ → List ℕ → Finding
 verdictOn given right = placed (misplaced given) (rightOrWrong (lowest (wrongNumbers given right)))
 
 -- of the listing that a text shows, if it shows one
-unfoldable pub verdictOf : Option Listing → List Constraint → List ℕ → Verdict
-verdictOf none conditions given = Right
+unfoldable pub verdictOf : Option Listing → List Constraint → List ℕ → Finding
+verdictOf none conditions given = correct
 verdictOf (some l) conditions given = verdictOn given (rightNumbers conditions l)
 
 -- "After 11 comes 6, as for any condition"
@@ -63,9 +76,9 @@ checkRefusal none conditions = 11
 checkRefusal (some l) conditions = first (rung (not (every (known (getD (l .head) 0 0)) conditions)) 6 ∷ [])
 
 -- what an answer says
-unfoldable pub checkSays : CheckAnswer → Reply Verdict
+unfoldable pub checkSays : CheckAnswer → Reply Finding
 checkSays (Refused n) = refused n
-checkSays (Checked verdict) = accepted verdict
+checkSays (Checked verdict) = accepted (verdictSays verdict)
 
 -- What the checker promises; nothing is lent to be written.
 pub record AnswersChecked (text : List ℕ) (conditions : List Constraint) (given : List ℕ) (answer : CheckAnswer) : Type 0 where

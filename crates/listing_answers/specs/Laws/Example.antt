@@ -7,8 +7,7 @@ use Rattle.lists.specs.Lists.{keep, every, has}
 use Rattle.constraints.specs.declared.Constraint.{Constraint}
 use Rattle.constraints.specs.Constraints.{compares, met}
 use Rattle.listings.specs.Listings.{Listing, rowNumbers}
-use Rattle.listing_answers.specs.declared.Verdict.the-variants.{Right, Misplaced, Wrong}
-use Rattle.listing_answers.specs.Answers.{rightNumbers, misplacedBehind, misplaced, wrongNumbers, lowest, rightOrWrong, placed, verdictOn, verdictOf}
+use Rattle.listing_answers.specs.Answers.{correct, outOfOrder, lowestWrong, rightNumbers, misplacedBehind, misplaced, wrongNumbers, lowest, rightOrWrong, placed, verdictOn, verdictOf}
 
 abbrev listing : Listing
 listing = record { head = 2 ∷ 1 ∷ 0 ∷ 0 ∷ 0 ∷ 9 ∷ []; rows = (2 ∷ 7 ∷ 1 ∷ []) ∷ (5 ∷ 3 ∷ 1 ∷ []) ∷ (8 ∷ 7 ∷ 4 ∷ []) ∷ [] }
@@ -17,6 +16,6 @@ abbrev condition : Constraint
 condition = record { kind = 1; column = 0; value = 7 }
 
 pub example : map (verdictOf (some listing) (condition ∷ [])) ((2 ∷ 8 ∷ []) ∷ (2 ∷ 5 ∷ 8 ∷ []) ∷ (2 ∷ []) ∷ (1 ∷ 2 ∷ 8 ∷ []) ∷ (9 ∷ 2 ∷ 8 ∷ []) ∷ (2 ∷ 2 ∷ []) ∷ [])
-    ≡ Right ∷ Wrong 5 ∷ Wrong 8 ∷ Wrong 1 ∷ Misplaced 1 ∷ Misplaced 1 ∷ []
+    ≡ correct ∷ lowestWrong 5 ∷ lowestWrong 8 ∷ lowestWrong 1 ∷ outOfOrder 1 ∷ outOfOrder 1 ∷ []
 unfolding verdictOf verdictOn rightNumbers rowNumbers keep every met compares misplaced misplacedBehind wrongNumbers has lowest placed rightOrWrong
 example = refl

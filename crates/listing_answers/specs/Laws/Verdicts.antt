@@ -14,8 +14,7 @@ use Rattle.constraints.specs.declared.Constraint.{Constraint}
 use Rattle.constraints.specs.Constraints.{met}
 use Rattle.listings.specs.Listings.{Listing, rowNumbers, isListing}
 use Rattle.listings.specs.Laws.Texts.{rising-from, listing-parts}
-use Rattle.listing_answers.specs.declared.Verdict.the-variants.{Right, Misplaced, Wrong}
-use Rattle.listing_answers.specs.Answers.{rightNumbers, misplaced, wrongNumbers, lowest, rightOrWrong, placed, verdictOn, verdictOf}
+use Rattle.listing_answers.specs.Answers.{correct, outOfOrder, lowestWrong, rightNumbers, misplaced, wrongNumbers, lowest, rightOrWrong, placed, verdictOn, verdictOf}
 use Rattle.listing_answers.specs.Laws.Numbers.{Apart, wrong-none, wrong-some, wrong-same, FirstNotAbove, misplaced-none, misplaced-rising, misplaced-some, misplaced-at}
 
 -- ---- the right numbers rise
@@ -47,20 +46,20 @@ right-rising conditions l e =
 
 -- ---- what a verdict is made of
 
-said-right : (o w : Option ℕ) → placed o (rightOrWrong w) ≡ Right → (o ≡ none) × (w ≡ none)
+said-right : (o w : Option ℕ) → placed o (rightOrWrong w) ≡ correct → (o ≡ none) × (w ≡ none)
 unfolding placed rightOrWrong
 said-right none none e = (refl, refl)
 said-right none (some m) e = absurd (let z : _≡_ {A = ℕ} 0 1 = cc in omega arith)
 said-right (some m) w e = absurd (let z : _≡_ {A = ℕ} 0 1 = cc in omega arith)
 
 module _ (n : ℕ) where
-  said-wrong : (o w : Option ℕ) → placed o (rightOrWrong w) ≡ Wrong n → w ≡ some n
+  said-wrong : (o w : Option ℕ) → placed o (rightOrWrong w) ≡ lowestWrong n → w ≡ some n
   unfolding placed rightOrWrong
   said-wrong none none e = absurd (let z : _≡_ {A = ℕ} 0 1 = cc in omega arith)
   said-wrong none (some m) e = cc
   said-wrong (some m) w e = absurd (let z : _≡_ {A = ℕ} 0 1 = cc in omega arith)
 
-  said-misplaced : (o w : Option ℕ) → placed o (rightOrWrong w) ≡ Misplaced n → o ≡ some n
+  said-misplaced : (o w : Option ℕ) → placed o (rightOrWrong w) ≡ outOfOrder n → o ≡ some n
   unfolding placed rightOrWrong
   said-misplaced none none e = absurd (let z : _≡_ {A = ℕ} 0 1 = cc in omega arith)
   said-misplaced none (some m) e = absurd (let z : _≡_ {A = ℕ} 0 1 = cc in omega arith)
@@ -68,7 +67,7 @@ module _ (n : ℕ) where
 
 module _ (given right : List ℕ) where
   -- "It says yes exactly if those numbers are, rising and each once, the rows .. that meet every condition"
-  pub right-exactly : rising right ≡ true → (verdictOn given right ≡ Right → given ≡ right) × (given ≡ right → verdictOn given right ≡ Right)
+  pub right-exactly : rising right ≡ true → (verdictOn given right ≡ correct → given ≡ right) × (given ≡ right → verdictOn given right ≡ correct)
   unfolding verdictOn
   right-exactly rises = (
     λ e.
@@ -78,21 +77,21 @@ module _ (given right : List ℕ) where
   )
 
   -- "the lowest row number wrongly present or absent"
-  pub wrong-lowest : {number : ℕ} → verdictOn given right ≡ Wrong number → Apart given right number
+  pub wrong-lowest : {number : ℕ} → verdictOn given right ≡ lowestWrong number → Apart given right number
   unfolding verdictOn
   wrong-lowest {number} e = wrong-some given right (said-wrong number (misplaced given) (lowest (wrongNumbers given right)) e)
 
   -- "the place, from 0, of the first number not above the one before"
-  pub misplaced-first : {place : ℕ} → verdictOn given right ≡ Misplaced place → FirstNotAbove given place
+  pub misplaced-first : {place : ℕ} → verdictOn given right ≡ outOfOrder place → FirstNotAbove given place
   unfolding verdictOn
   misplaced-first {place} e = misplaced-some given (said-misplaced place (misplaced given) (lowest (wrongNumbers given right)) e)
 
-  pub first-misplaced : {place : ℕ} → FirstNotAbove given place → verdictOn given right ≡ Misplaced place
+  pub first-misplaced : {place : ℕ} → FirstNotAbove given place → verdictOn given right ≡ outOfOrder place
   unfolding verdictOn
   first-misplaced {place} f = rw (misplaced-at given f) (unfold placed in refl)
 
 -- and of a listing
 pub yes-exactly : (conditions : List Constraint) (l : Listing) (given : List ℕ) → isListing true l ≡ true
-    → (verdictOf (some l) conditions given ≡ Right → given ≡ rightNumbers conditions l) × (given ≡ rightNumbers conditions l → verdictOf (some l) conditions given ≡ Right)
+    → (verdictOf (some l) conditions given ≡ correct → given ≡ rightNumbers conditions l) × (given ≡ rightNumbers conditions l → verdictOf (some l) conditions given ≡ correct)
 unfolding verdictOf
 yes-exactly conditions l given e = right-exactly given (rightNumbers conditions l) (right-rising conditions l e)
