@@ -9,7 +9,7 @@
 --     D,7,1,163,12        D,0,7,1,163,12
 --
 -- The text U,4,2,3,1,0,3 D,2,7,1,163,12 is of the new form too, but numbers 0 and 1 have no row: 17 on the way to the old form.
-use Prim.Native.Nat.{ℕ, suc, _+_, _<_}
+use Prim.Native.Nat.{ℕ, suc, _+_, _≤_, _<_}
 use mathlib.Core.Path.{_≡_}
 use mathlib.Core.Bool.{Bool, true, false, cond, not, _&&_}
 use mathlib.Core.List.{List, [], _∷_, _++_, map}
@@ -173,9 +173,16 @@ pub record ListingMoved (numbered : Bool) (text output : List ℕ) (answer : Mov
   pub written : moveRefusal numbered listing (length output) ≡ 0 → output′ ≡ putAt output 0 (movedText numbered listing)
   pub unchanged : 0 < moveRefusal numbered listing (length output) → output′ ≡ output
 
+-- What a move back gives: the text again, at the start of the output. It is refused by no number but 2, and by 2 exactly if the output
+-- is shorter than the text.
+pub record Restored (text output : List ℕ) (answer : MoveAnswer) (output′ : List ℕ) : Type 0 where
+  pub answers : moveSays answer ≡ reply (first (rung (ltb (length output) (length text)) 2 ∷ [])) (length text)
+  pub written : length text ≤ length output → output′ ≡ putAt output 0 text
+  pub unchanged : length output < length text → output′ ≡ output
+
 -- "coming back restores the text exactly", where the text was moved from the old form; "New to old and again to new restores it too
 -- wherever it is accepted": a text moved to the other form, and what was written moved back, is the text again.
 abbrev pub RestoresText : Bool → Type 0
 RestoresText numbered =
-    (text output output′ again again′ : List ℕ) (bytes back : ℕ) → ListingMoved numbered text output (MoveWritten bytes) output′
-    → ListingMoved (not numbered) (take bytes output′) again (MoveWritten back) again′ → take back again′ ≡ text
+    (text output output′ again again′ : List ℕ) (bytes : ℕ) (answer : MoveAnswer) → ListingMoved numbered text output (MoveWritten bytes) output′
+    → ListingMoved (not numbered) (take bytes output′) again answer again′ → Restored text again answer again′

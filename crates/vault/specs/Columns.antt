@@ -1,7 +1,7 @@
 -- Column order for the vault (document 02, change 5): a list of rows, column after column, each cell but a column's first
 -- replaced by its difference from the cell above; and the way back. Over lists of cells, for every width at once. Assumes
 -- nothing.
-use Prim.Native.Nat.{ℕ, _+_, _-_, _/_, _%_, _^_, _<_}
+use Prim.Native.Nat.{ℕ, _+_, _-_, _/_, _%_, _^_, _≤_, _<_}
 use mathlib.Core.Path.{_≡_}
 use mathlib.Core.Bool.{not, _||_}
 use mathlib.Core.List.{List, [], _∷_, map}
@@ -77,3 +77,10 @@ pub record Rearranged (order : ℕ → List ℕ → List ℕ) (width : ℕ) (cel
 abbrev pub Restores : Type 0
 Restores = (width : ℕ) (cells : List ℕ) → 0 < width → length cells % width ≡ 0 → ((i : ℕ) → getD cells i 0 < 2 ^ 32)
     → (fromColumns width (toColumns width cells) ≡ cells) × (toColumns width (fromColumns width cells) ≡ cells)
+
+-- the same of two calls: what the second one, on the cells that the first wrote, gives. It is refused by no number but 2, and by 2
+-- exactly if its output is shorter than the cells
+pub record Restored (cells output : List ℕ) (answer : ColumnsAnswer) (output′ : List ℕ) : Type 0 where
+  pub answers : columnsSays answer ≡ reply (first (rung (ltb (length output) (length cells)) 2 ∷ [])) tt
+  pub written : length cells ≤ length output → output′ ≡ putAt output 0 cells
+  pub unchanged : length output < length cells → output′ ≡ output

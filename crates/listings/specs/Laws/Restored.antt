@@ -1,12 +1,13 @@
 -- A listing moved to the other form is of that form, and coming back restores the text. Assumes nothing.
 use Prim.Native.Nat.{ℕ, zero, suc, _+_, _-_, _≤_, _<_}
-use mathlib.Core.Path.{_≡_, refl, sym, ap, _∙_}
+use mathlib.Core.Path.{_≡_, refl, sym, ap, ap₂, _∙_}
 use mathlib.Core.Logic.{inl, inr}
-use mathlib.Core.Bool.{Bool, true, false, false≢true}
+use mathlib.Core.Bool.{Bool, true, false, _&&_, false≢true}
 use mathlib.Core.List.{List, [], _∷_, _++_, map}
 use mathlib.Core.Option.{Option, none, some}
+use native.Mathlib.Decide.{decLt}
 use native.Mathlib.Omega.{arith}
-use lib.Dec.{leb}
+use lib.Dec.{leb, ltb}
 use lib.ListN.{length, take, drop, getD, length-append, List·getD-append}
 use lib.Seq.{getD-take, length-take-le, getD-at}
 use borrow.Author.Tests.{eq-eqb, le-leb, lt-ltb, le-ltb}
@@ -14,10 +15,10 @@ use Rattle.lists.specs.Lists.{every}
 use Rattle.lists.specs.Laws.Every.{every-head, every-tail, every-cons, every-snoc}
 use Rattle.lists.specs.Laws.Keep.{split, every-getD, every-of}
 use Rattle.lists.specs.Laws.Search.{take-put}
-use Rattle.refusals.specs.Refusals.{first, accepted, reply}
+use Rattle.refusals.specs.Refusals.{rung, first, accepted, reply}
 use Rattle.listings.specs.declared.MoveAnswer.{MoveAnswer}
 use Rattle.listings.specs.declared.MoveAnswer.the-variants.{Written}
-use Rattle.listings.specs.Listings.{Listing, headWidth, lead, listingText, areNumbers, isHead, isRow, isListing, Shows, shows, numberedFrom, toNumbered, fromNumbered, lacksRow, movedText, moveRefusal, moveSays, ListingMoved, RestoresText}
+use Rattle.listings.specs.Listings.{Listing, headWidth, lead, listingText, areNumbers, isHead, isRow, isListing, Shows, shows, numberedFrom, toNumbered, fromNumbered, lacksRow, movedText, moveRefusal, moveSays, ListingMoved, Restored, RestoresText}
 use Rattle.listings.specs.Laws.Texts.{RowsFit, Bounded, listing-parts, listing-of, head-wide, head-bounds, row-parts, row-of, fit-none, fit-more, fit-rest, shown-listing, shown-text, shows-determined}
 use Rattle.listings.specs.Laws.Moves.{length-numberedFrom, lacks-none, to-from, from-to}
 
@@ -160,10 +161,6 @@ module _ {numbered : Bool} {text output output′ : List ℕ} {bytes : ℕ} (x :
   pub moved-taken : take bytes output′ ≡ movedText numbered (x .listing)
   moved-taken = rw (moved-bytes, x .written accepted-move) (take-put output (movedText numbered (x .listing)))
 
-no-refusal : (l : Listing) (again : ℕ) → lacksRow l ≡ false → length (listingText false (fromNumbered l)) ≤ again → moveRefusal true (some l) again ≡ 0
-unfolding moveRefusal first movedText
-no-refusal l again full long = rw (full, le-ltb again (length (listingText false (fromNumbered l))) long)
-
 no-gap : (l : Listing) (room : ℕ) → moveRefusal true (some l) room ≡ 0 → lacksRow l ≡ false
 unfolding moveRefusal first
 no-gap l room given =
@@ -172,37 +169,75 @@ no-gap l room given =
       | inr f ↦ f
     ]
 
+-- the number of a move back: 2 if the output is shorter than the text, 0 otherwise
+abbrev short : List ℕ → ℕ → ℕ
+short text room = first (rung (ltb room (length text)) 2 ∷ [])
+
+-- a listing whose text in the other form is this one, with nothing to refuse but a short output
+record Back (numbered : Bool) (text : List ℕ) (m : Option Listing) : Type 0 where
+  pub same : movedText numbered m ≡ text
+  pub number : (room : ℕ) → moveRefusal numbered m room ≡ short text room
+
+back-of : (numbered : Bool) (text : List ℕ) (l : Listing) → (numbered && lacksRow l) ≡ false → movedText numbered (some l) ≡ text → Back numbered text (some l)
+back-of numbered text l full e = record { same = e; number = λ room. unfold moveRefusal in rw e (unfold first in rw full) }
+
 come-back : (text : List ℕ) (k : Option Listing) (room : ℕ) → Shows false text k → moveRefusal false k room ≡ 0 → (moved : List ℕ) → moved ≡ movedText false k → (m : Option Listing) → Shows true moved m
-    → (movedText true m ≡ text) × ((again : ℕ) → length text ≤ again → moveRefusal true m again ≡ 0)
+    → Back true text m
 unfolding movedText
 come-back text none room s given moved e m sm = absurd (unfold moveRefusal in omega (arith, given))
 come-back text (some l) room s given moved e m sm =
     let good = shown-listing s in
-    let same = shown-text s in
     let there : Shows true moved (some (toNumbered l)) = shows (toNumbered l) (to-listing l good) e in
     let n : m ≡ some (toNumbered l) = shows-determined true sm there in
-    let restored : listingText false (fromNumbered (toNumbered l)) ≡ text = ap (listingText false) (from-to l good) ∙ sym same in
-    (rw n restored, λ again long. rw n (no-refusal (toNumbered l) again (to-full l good) (rw restored long)))
+    rw n (back-of true text (toNumbered l) (to-full l good) (ap (listingText false) (from-to l good) ∙ sym (shown-text s)))
 
 come-again : (text : List ℕ) (k : Option Listing) (room : ℕ) → Shows true text k → moveRefusal true k room ≡ 0 → (moved : List ℕ) → moved ≡ movedText true k → (m : Option Listing) → Shows false moved m
-    → movedText false m ≡ text
+    → Back false text m
 unfolding movedText
 come-again text none room s given moved e m sm = absurd (unfold moveRefusal in omega (arith, given))
 come-again text (some l) room s given moved e m sm =
     let good = shown-listing s in
-    let same = shown-text s in
     let there : Shows false moved (some (fromNumbered l)) = shows (fromNumbered l) (from-listing l good) e in
     let n : m ≡ some (fromNumbered l) = shows-determined false sm there in
-    rw n (ap (listingText true) (to-from l good (no-gap l room given)) ∙ sym same)
+    rw n (back-of false text (fromNumbered l) refl (ap (listingText true) (to-from l good (no-gap l room given)) ∙ sym (shown-text s)))
 
--- "coming back restores the text exactly", and is refused by nothing but a short output
+module _ (text : List ℕ) (room : ℕ) where
+  short-none : length text ≤ room → short text room ≡ 0
+  unfolding first
+  short-none long = rw (le-ltb room (length text) long)
+
+  short-some : room < length text → 0 < short text room
+  unfolding first
+  short-some less = rw (lt-ltb room (length text) less) (omega arith)
+
+-- so the move back restores the text
+restored : {numbered : Bool} {text moved again again′ : List ℕ} {answer : MoveAnswer} (y : ListingMoved numbered moved again answer again′) → Back numbered text (y .listing)
+    → Restored text again answer again′
+restored {text = text} {again = again} y b =
+    let n = b .number (length again) in
+    record {
+      answers = y .answers ∙ ap₂ (λ (k : ℕ) (t : List ℕ). reply k (length t)) n (b .same);
+      written = λ long. rw (← b .same) (y .written (n ∙ short-none text (length again) long));
+      unchanged = λ less. y .unchanged (rw n (short-some text (length again) less));
+    }
+
+-- "coming back restores the text exactly"
 pub there-and-back : RestoresText false
-there-and-back text output output′ again again′ bytes back x y = moved-taken y ∙ come-back text (x .listing) (length output) (x .shown) (accepted-move x) _ (moved-taken x) (y .listing) (y .shown) .0
-
-pub back-accepted : {text output output′ again again′ : List ℕ} {bytes : ℕ} {answer : MoveAnswer} → ListingMoved false text output (Written bytes) output′
-    → (y : ListingMoved true (take bytes output′) again answer again′) → length text ≤ length again → moveRefusal true (y .listing) (length again) ≡ 0
-back-accepted {text} {output} {again = again} x y long = come-back text (x .listing) (length output) (x .shown) (accepted-move x) _ (moved-taken x) (y .listing) (y .shown) .1 (length again) long
+there-and-back text output output′ again again′ bytes answer x y =
+    restored y (come-back text (x .listing) (length output) (x .shown) (accepted-move x) _ (moved-taken x) (y .listing) (y .shown))
 
 -- "New to old and again to new restores it too wherever it is accepted"
 pub back-and-there : RestoresText true
-back-and-there text output output′ again again′ bytes back x y = moved-taken y ∙ come-again text (x .listing) (length output) (x .shown) (accepted-move x) _ (moved-taken x) (y .listing) (y .shown)
+back-and-there text output output′ again again′ bytes answer x y =
+    restored y (come-again text (x .listing) (length output) (x .shown) (accepted-move x) _ (moved-taken x) (y .listing) (y .shown))
+
+-- a move back that is accepted has written the text
+pub restored-taken : {text again again′ : List ℕ} {bytes : ℕ} → Restored text again (Written bytes) again′ → take bytes again′ ≡ text
+unfolding moveSays reply
+restored-taken {text} {again} {again′} {bytes} r =
+    let zero = accepted-number (length text) (short text (length again)) (r .answers) in
+    let long : bytes ≡ length text = accepted-same (r .answers ∙ ap (λ (k : ℕ). reply k (length text)) zero) in
+    rw (long, r .written (room-enough zero)) (take-put again text)
+  where
+    room-enough : short text (length again) ≡ 0 → length text ≤ length again
+    room-enough e = elim (decLt (length again) (length text)) [ yes h ↦ absurd (omega (arith, short-some text (length again) h)) | no h ↦ omega arith ]

@@ -1,14 +1,18 @@
 -- "Applying either after the other restores the cells", said of two calls: one accepted, then the other on what it wrote.
 -- Assumes nothing.
-use Prim.Native.Nat.{ℕ, zero, suc, _+_, _≤_}
-use mathlib.Core.Path.{_≡_, refl, sym, ap, _∙_}
-use mathlib.Core.List.{List}
+use Prim.Native.Nat.{ℕ, zero, suc, _+_, _%_, _≤_, _<_}
+use mathlib.Core.Path.{_≡_, refl, ap, _∙_}
+use mathlib.Core.List.{List, [], _∷_}
+use native.Mathlib.Decide.{decLt}
 use native.Mathlib.Omega.{arith}
+use lib.Dec.{ltb}
 use lib.ListN.{length, take}
+use borrow.Author.Tests.{lt-ltb, le-ltb, eq-eqb}
 use Rattle.lists.specs.Laws.Parts.{part-putAt}
-use Rattle.refusals.specs.Refusals.{reply}
+use Rattle.refusals.specs.Refusals.{rung, first, reply}
+use Rattle.vault.specs.declared.ColumnsAnswer.{ColumnsAnswer}
 use Rattle.vault.specs.declared.ColumnsAnswer.the-variants.{Written}
-use Rattle.vault.specs.Columns.{toColumns, fromColumns, columnsRefusal, columnsSays, Rearranged}
+use Rattle.vault.specs.Columns.{toColumns, fromColumns, columnsRefusal, columnsSays, Rearranged, Restored}
 use Rattle.vault.specs.Laws.Differences.{Cells}
 use Rattle.vault.specs.Laws.Inverse.{toColumns-length, fromColumns-length, fromColumns-toColumns, toColumns-fromColumns}
 use Rattle.vault.specs.Laws.Refusals.{Accepted, accepted}
@@ -32,26 +36,58 @@ module _ {order : ℕ → List ℕ → List ℕ} {width : ℕ} {cells output out
       let fits : 0 + length (order width cells) ≤ length output = omega (arith, known .room) in
       rw (← e, x .written past-ladder) (part-putAt output (order width cells) 0 fits)
 
+module _ (cells : List ℕ) (room : ℕ) where
+  -- the number of the second call: 2 if the output is shorter than the cells, 0 otherwise
+  abbrev short : ℕ
+  short = first (rung (ltb room (length cells)) 2 ∷ [])
+
+  short-none : length cells ≤ room → short ≡ 0
+  unfolding first
+  short-none long = rw (le-ltb room (length cells) long)
+
+  short-some : room < length cells → 0 < short
+  unfolding first
+  short-some less = rw (lt-ltb room (length cells) less) (omega arith)
+
+  -- where the first was accepted, nothing else is left to refuse
+  short-only : {width output : ℕ} → Accepted width (length cells) output → columnsRefusal width (length cells) room ≡ short
+  unfolding columnsRefusal first
+  short-only {width} k = rw (le-ltb width 1 (k .narrow), le-ltb 8 width (k .wide), eq-eqb (length cells % width) 0 (k .multiple))
+
 -- one order after the other, where the second undoes the first
-undone : {there back : ℕ → List ℕ → List ℕ} {width : ℕ} {cells output output′ second second′ : List ℕ}
+undone : {there back : ℕ → List ℕ → List ℕ} {width : ℕ} {cells output output′ second second′ : List ℕ} {answer : ColumnsAnswer}
     → length (there width cells) ≡ length cells → back width (there width cells) ≡ cells
-    → Rearranged there width cells output Written output′ → Rearranged back width (take (length cells) output′) second Written second′
-    → take (length cells) second′ ≡ cells
-undone {back = back} {width} {second′ = second′} long e x y =
+    → Rearranged there width cells output Written output′ → Rearranged back width (take (length cells) output′) second answer second′
+    → Restored cells second answer second′
+undone {back = back} {width} {cells} {second = second} long e x y =
     let w = front x long in
     let m = ap length w ∙ long in
     let r = ap (back width) w ∙ e in
-    ap (λ (n : ℕ). take n second′) (sym m) ∙ front y (ap length r ∙ sym m) ∙ r
+    let n = ap (λ (l : ℕ). columnsRefusal width l (length second)) m ∙ short-only cells (length second) (known x) in
+    record {
+      answers = rw (← n) (y .answers);
+      written = λ room. rw (← r) (y .written (n ∙ short-none cells (length second) room));
+      unchanged = λ less. y .unchanged (rw n (short-some cells (length second) less));
+    }
 
-module _ {width : ℕ} {cells output output′ second second′ : List ℕ} (f : Cells cells) where
-  pub there-and-back : Rearranged toColumns width cells output Written output′ → Rearranged fromColumns width (take (length cells) output′) second Written second′
-      → take (length cells) second′ ≡ cells
+module _ {width : ℕ} {cells output output′ second second′ : List ℕ} {answer : ColumnsAnswer} (f : Cells cells) where
+  pub there-and-back : Rearranged toColumns width cells output Written output′ → Rearranged fromColumns width (take (length cells) output′) second answer second′
+      → Restored cells second answer second′
   there-and-back x =
       let k = known x in
       undone (toColumns-length width cells (k .narrow) (k .multiple)) (fromColumns-toColumns width cells (k .narrow) (k .multiple) f) x
 
-  pub back-and-there : Rearranged fromColumns width cells output Written output′ → Rearranged toColumns width (take (length cells) output′) second Written second′
-      → take (length cells) second′ ≡ cells
+  pub back-and-there : Rearranged fromColumns width cells output Written output′ → Rearranged toColumns width (take (length cells) output′) second answer second′
+      → Restored cells second answer second′
   back-and-there x =
       let k = known x in
       undone (fromColumns-length width cells (k .narrow) (k .multiple)) (toColumns-fromColumns width cells (k .narrow) (k .multiple) f) x
+
+-- a second call that is accepted has written the cells
+pub restored-front : {cells second second′ : List ℕ} → Restored cells second Written second′ → take (length cells) second′ ≡ cells
+restored-front {cells} {second} r =
+    let room = room-enough (none-refused _ (r .answers)) in
+    rw (r .written room) (part-putAt second cells 0 (omega arith))
+  where
+    room-enough : short cells (length second) ≡ 0 → length cells ≤ length second
+    room-enough e = elim (decLt (length second) (length cells)) [ yes h ↦ absurd (omega (arith, short-some cells (length second) h)) | no h ↦ omega arith ]
