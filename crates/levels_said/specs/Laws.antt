@@ -9,3 +9,5 @@ pub mod Determined
 pub mod Session
 pub mod Example
 pub mod Listings
+pub mod Cells
+pub mod Printed

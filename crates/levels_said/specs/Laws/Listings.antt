@@ -1,5 +1,5 @@
--- What L and U print is the text of a listing, in the old form and the new (document 02, change 11), of every proper table whose
--- cells are u32. Assumes nothing.
+-- What L and U print is the text of a listing, in the old form and the new (document 02, change 11), of every proper table in whose
+-- live rows every cell is a u32. Every table of a session is such a table: Laws/Printed. Assumes nothing.
 use Prim.Native.Nat.{ℕ, suc, _+_, _-_, _≤_, _<_}
 use mathlib.Core.Path.{_≡_, refl, ap}
 use mathlib.Core.Logic.{inl, inr}
@@ -28,6 +28,10 @@ lineOf numbered n cells = cond numbered (n ∷ cells) cells
 
 abbrev rowsListed : Bool → List Numbered → List (List ℕ)
 rowsListed numbered rows = map (λ row. lineOf numbered (row .number) (row .cells)) rows
+
+-- every cell of a row is a u32, if the row is live
+abbrev pub liveFits : Row → Bool
+liveFits row = not (row .live) || areNumbers (row .cells)
 
 -- what a listing asks of a row
 abbrev fits : ℕ → Row → Type 0
@@ -58,21 +62,21 @@ module _ (columns count : ℕ) (few : count ≤ 65536) where
   rows-fit : (numbered : Bool) (n least left : ℕ) (rows : List Row) → (numbered ≡ true → (least ≤ n) × (n + length rows ≤ count)) → length rows ≤ left
       → every (λ row. eqb (length (row .cells)) columns) rows ≡ true
       → every (λ row. not (row .live) || not (isDead (getD (row .cells) 0 0))) rows ≡ true
-      → every (λ row. areNumbers (row .cells)) rows ≡ true
+      → every liveFits rows ≡ true
       → RowsFit numbered columns count least left (rowsListed numbered (liveFrom n rows))
   unfolding liveFrom
   rows-fit numbered n least left [] order room wide live fit = fit-none numbered columns count least left
   rows-fit numbered n least left (row ∷ rows) order room wide live fit =
       let wide′ = every-tail (λ (r : Row). eqb (length (r .cells)) columns) row rows wide in
       let live′ = every-tail (λ (r : Row). not (r .live) || not (isDead (getD (r .cells) 0 0))) row rows live in
-      let fit′ = every-tail (λ (r : Row). areNumbers (r .cells)) row rows fit in
+      let fit′ = every-tail liveFits row rows fit in
       let here = every-head (λ (r : Row). not (r .live) || not (isDead (getD (r .cells) 0 0))) row rows live in
       elim (split (row .live)) [
         | inl e ↦
             rw e
             (row-fits numbered n least left row (rowsListed numbered (liveFrom (suc n) rows))
             (λ t. (order t .0, omega (arith, order t .1))) (omega arith)
-            (every-head (λ (r : Row). eqb (length (r .cells)) columns) row rows wide, or-second (not (row .live)) (not (isDead (getD (row .cells) 0 0))) here (rw e), every-head (λ (r : Row). areNumbers (r .cells)) row rows fit)
+            (every-head (λ (r : Row). eqb (length (r .cells)) columns) row rows wide, or-second (not (row .live)) (not (isDead (getD (row .cells) 0 0))) here (rw e), or-second (not (row .live)) (areNumbers (row .cells)) (every-head liveFits row rows fit) (rw e))
             (rows-fit numbered (suc n) (suc (getD (lineOf numbered n (row .cells)) 0 0)) (left - 1) rows (next-low numbered n (length rows) (row .cells) (λ t. omega (arith, order t .1))) (omega arith) wide′ live′ fit′))
         | inr e ↦
             rw e
@@ -92,7 +96,7 @@ lines-map : (f : Numbered → List ℕ) (rows : List Numbered) → map (λ row. 
 lines-map f [] = refl
 lines-map f (row ∷ rows) = ap (λ (ls : List (List ℕ)). textLine 68 (f row) ∷ ls) (lines-map f rows)
 
-module _ (p : Plain) (proper : Proper p) (cells : every (λ row. areNumbers (row .cells)) (p .rows) ≡ true) where
+module _ (p : Plain) (proper : Proper p) (cells : every liveFits (p .rows) ≡ true) where
   few : length (p .rows) ≤ 65536
   few = omega (arith, proper .rows-fit, openable-bounds (p .opening) (proper .numbers) .capacity-few)
 
