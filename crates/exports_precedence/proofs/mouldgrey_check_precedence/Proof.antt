@@ -1,4 +1,4 @@
--- `mouldgrey_check_precedence` meets its contract. Assumes nothing.
+-- `exports_precedence::mouldgrey_check_precedence` meets its contract. Assumes nothing.
 use mathlib.Core.Path.{sym}
 use Rattle.words.specs.Laws.Words.{asked-unheaded, asked-unworded, asked-done}
 use borrow.Author.Needs.{needs}

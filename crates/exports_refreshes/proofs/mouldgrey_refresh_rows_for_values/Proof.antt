@@ -1,4 +1,4 @@
--- `mouldgrey_refresh_rows_for_values` meets its contract. Assumes nothing.
+-- `exports_refreshes::mouldgrey_refresh_rows_for_values` meets its contract. Assumes nothing.
 use mathlib.Core.Path.{refl, sym}
 use Rattle.words.specs.Laws.Words.{both-unheaded, both-unworded, both-done}
 use borrow.Author.Needs.{needs}

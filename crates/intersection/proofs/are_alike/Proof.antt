@@ -1,4 +1,4 @@
--- `offsets::are_alike` meets its contract. Assumes nothing.
+-- `intersection::are_alike` meets its contract. Assumes nothing.
 use mathlib.Core.Path.{_≡_}
 use mathlib.Core.Logic.{⊎-elim}
 use mathlib.Core.Bool.{_&&_}

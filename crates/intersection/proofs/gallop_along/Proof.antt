@@ -1,4 +1,4 @@
--- `offsets::gallop_along` meets its contract. Assumes nothing.
+-- `intersection::gallop_along` meets its contract. Assumes nothing.
 use Prim.Native.Nat.{_-_}
 use native.Mathlib.Omega.{arith}
 use lib.ListN.{length}

@@ -1,4 +1,4 @@
--- `offsets::intersect_list_range` meets its contract. Assumes nothing.
+-- `intersection::intersect_list_range` meets its contract. Assumes nothing.
 use native.Mathlib.Omega.{arith}
 use borrow.Author.Needs.{needs}
 use Rattle.offsets.specs.Laws.Subsets.{answered-list}

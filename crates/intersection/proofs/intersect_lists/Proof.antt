@@ -1,4 +1,4 @@
--- `offsets::intersect_lists` meets its contract. Assumes nothing.
+-- `intersection::intersect_lists` meets its contract. Assumes nothing.
 use native.Mathlib.Omega.{arith}
 use borrow.Author.Needs.{needs}
 use Rattle.offsets.specs.Laws.Subsets.{answered-list}

@@ -1,4 +1,4 @@
--- `offsets::intersect_range_list` meets its contract. Assumes nothing.
+-- `intersection::intersect_range_list` meets its contract. Assumes nothing.
 use native.Mathlib.Omega.{arith}
 use borrow.Author.Needs.{needs}
 use Rattle.intersection.proofs.Answers.{answered-none, answered-some, wrote-few}

@@ -1,4 +1,4 @@
--- `offsets::intersect_refusal` meets its contract. Assumes nothing.
+-- `intersection::intersect_refusal` meets its contract. Assumes nothing.
 use mathlib.Core.Path.{sym, _∙_}
 use borrow.Author.Needs.{needs}
 use borrow.Author.Tests.{not-true, not-false}

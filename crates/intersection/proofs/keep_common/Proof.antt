@@ -1,4 +1,4 @@
--- `offsets::keep_common` meets its contract. Assumes nothing.
+-- `intersection::keep_common` meets its contract. Assumes nothing.
 use borrow.Author.Needs.{needs}
 use Rattle.intersection.proofs.Common.{wrote-turned}
 use Rattle.intersection.proofs.keep_common.Statement.{statement}

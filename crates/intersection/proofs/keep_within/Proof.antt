@@ -1,4 +1,4 @@
--- `offsets::keep_within` meets its contract. Assumes nothing.
+-- `intersection::keep_within` meets its contract. Assumes nothing.
 use native.Mathlib.Omega.{arith}
 use borrow.Author.Needs.{needs}
 use Rattle.lists.specs.Laws.Search.{notBelow-mono}

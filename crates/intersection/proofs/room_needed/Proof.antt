@@ -1,4 +1,4 @@
--- `offsets::room_needed` meets its contract. Assumes nothing.
+-- `intersection::room_needed` meets its contract. Assumes nothing.
 use Rattle.intersection.proofs.Answers.{room-ranges, room-range-list, room-list}
 use Rattle.intersection.proofs.room_needed.Statement.{statement}
 use Rattle.intersection.proofs.room_needed.Tie as tie

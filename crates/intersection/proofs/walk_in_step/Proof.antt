@@ -1,4 +1,4 @@
--- `offsets::walk_in_step` meets its contract. Assumes nothing.
+-- `intersection::walk_in_step` meets its contract. Assumes nothing.
 use Prim.Native.Nat.{_+_, _-_}
 use mathlib.Core.Path.{refl}
 use mathlib.Core.Logic.{⊎-elim}

@@ -1,4 +1,4 @@
--- `offsets::write_ids` meets its contract. Assumes nothing.
+-- `intersection::write_ids` meets its contract. Assumes nothing.
 use Prim.Native.Nat.{_-_}
 use lib.ListN.{length}
 use borrow.Author.Needs.{needs}

@@ -1,4 +1,4 @@
--- `room_for` meets its contract. Assumes nothing.
+-- `key_index::room_for` meets its contract. Assumes nothing.
 use native.Mathlib.Omega.{arith}
 use borrow.Author.Needs.{needs}
 use Rattle.key_index.specs.Slots.{roomFor}

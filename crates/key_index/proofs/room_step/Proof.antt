@@ -1,4 +1,4 @@
--- `room_step` meets its contract. Assumes nothing.
+-- `key_index::room_step` meets its contract. Assumes nothing.
 use native.Mathlib.Omega.{arith}
 use borrow.Author.Tests.{le-leb, lt-leb}
 use Rattle.key_index.specs.Slots.{roomStep}

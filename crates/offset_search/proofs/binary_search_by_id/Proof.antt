@@ -1,4 +1,4 @@
--- `offsets::binary_search_by_id` meets its contract. Assumes nothing.
+-- `offset_search::binary_search_by_id` meets its contract. Assumes nothing.
 use native.Mathlib.Omega.{arith}
 use borrow.Author.Needs.{needs}
 use Rattle.offset_search.proofs.binary_search_by_id.Statement.{statement}

@@ -1,4 +1,4 @@
--- `offsets::binary_search_cells` meets its contract. Assumes nothing.
+-- `offset_search::binary_search_cells` meets its contract. Assumes nothing.
 use Prim.Native.Nat.{_+_, _-_, _*_, _/_, _<_}
 use lib.ListN.{length}
 use native.Mathlib.Omega.{arith}

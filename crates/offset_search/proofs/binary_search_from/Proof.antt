@@ -1,4 +1,4 @@
--- `offsets::binary_search_from` meets its contract. Assumes nothing.
+-- `offset_search::binary_search_from` meets its contract. Assumes nothing.
 use borrow.Author.Needs.{needs}
 use Rattle.lists.specs.Laws.Search.{notBelow-le}
 use Rattle.offset_search.proofs.binary_search_from.Statement.{statement}

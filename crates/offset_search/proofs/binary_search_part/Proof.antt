@@ -1,4 +1,4 @@
--- `offsets::binary_search_part` meets its contract. Assumes nothing.
+-- `offset_search::binary_search_part` meets its contract. Assumes nothing.
 use native.Mathlib.Omega.{arith}
 use Rattle.offset_search.proofs.Search.{bracket-place}
 use Rattle.offset_search.proofs.binary_search_part.Statement.{statement}

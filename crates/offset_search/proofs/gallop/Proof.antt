@@ -1,4 +1,4 @@
--- `offsets::gallop` meets its contract. Assumes nothing.
+-- `offset_search::gallop` meets its contract. Assumes nothing.
 use native.Mathlib.Omega.{arith}
 use borrow.Author.Needs.{needs}
 use Rattle.offset_search.specs.inner.Search.{Reached}

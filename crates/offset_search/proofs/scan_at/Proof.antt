@@ -1,4 +1,4 @@
--- `offsets::scan_at` meets its contract. Assumes nothing.
+-- `offset_search::scan_at` meets its contract. Assumes nothing.
 use borrow.Author.Needs.{needs}
 use Rattle.offset_search.proofs.Search.{at-end, at-hit, at-miss}
 use Rattle.offset_search.proofs.scan_at.Statement.{statement}

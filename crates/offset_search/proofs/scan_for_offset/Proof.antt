@@ -1,4 +1,4 @@
--- `offsets::scan_for_offset` meets its contract. Assumes nothing.
+-- `offset_search::scan_for_offset` meets its contract. Assumes nothing.
 use native.Mathlib.Omega.{arith}
 use borrow.Author.Needs.{needs}
 use Rattle.lists.specs.Laws.Search.{notBelow-past}

@@ -1,4 +1,4 @@
--- `exports::inner::fits` meets its contract. Assumes nothing.
+-- `probes::fits` meets its contract. Assumes nothing.
 use Prim.Native.Nat.{ℕ, _*_, _≤_}
 use mathlib.Core.Bool.{false≢true}
 use native.Mathlib.Nat.{mul-le-mul}

@@ -1,4 +1,4 @@
--- `exports::mouldgrey_make` meets its contract. Assumes nothing.
+-- `probes::mouldgrey_make` meets its contract. Assumes nothing.
 use borrow.Author.Needs.{needs}
 use native.Mathlib.Omega.{arith}
 use Rattle.probes.specs.inner.Parts.{made-nothing, made-done}

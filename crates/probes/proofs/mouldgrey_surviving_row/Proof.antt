@@ -1,4 +1,4 @@
--- `exports::mouldgrey_surviving_row` meets its contract. Assumes nothing.
+-- `probes::mouldgrey_surviving_row` meets its contract. Assumes nothing.
 use borrow.Author.Needs.{needs}
 use native.Mathlib.Omega.{arith}
 use Rattle.probes.specs.inner.Parts.{survives-nothing, survives-done}

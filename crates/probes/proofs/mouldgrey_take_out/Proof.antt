@@ -1,4 +1,4 @@
--- `exports::inner::mouldgrey_take_out` meets its contract. Assumes nothing.
+-- `probes::mouldgrey_take_out` meets its contract. Assumes nothing.
 use native.Mathlib.Omega.{arith}
 use borrow.Author.Needs.{needs}
 use borrow.Author.Tests.{not-false}

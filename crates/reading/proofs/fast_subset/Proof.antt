@@ -1,4 +1,4 @@
--- `table::reading::fast_subset` meets its contract. Assumes nothing.
+-- `reading::fast_subset` meets its contract. Assumes nothing.
 use Rattle.reading.proofs.ReadingSteps.{range-refused, range-asks, range-columns, range-other, range-some}
 use borrow.Author.Needs.{needs}
 use Rattle.reading.proofs.fast_subset.Statement.{statement}

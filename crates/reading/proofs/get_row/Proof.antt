@@ -1,4 +1,4 @@
--- `table::reading::get_row` meets its contract. Assumes nothing.
+-- `reading::get_row` meets its contract. Assumes nothing.
 use Rattle.reading.proofs.ReadingSteps.{lookup-asks, row-refused, row-none, row-some}
 use borrow.Author.Needs.{needs}
 use Rattle.reading.proofs.get_row.Statement.{statement}

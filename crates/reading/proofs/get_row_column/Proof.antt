@@ -1,4 +1,4 @@
--- `table::reading::get_row_column` meets its contract. Assumes nothing.
+-- `reading::get_row_column` meets its contract. Assumes nothing.
 use native.Mathlib.Omega.{arith}
 use Rattle.reading.proofs.ReadingSteps.{CellIn, cell-asks, cell-refused, cell-in, cell-none, cell-found}
 use borrow.Author.Needs.{needs}

@@ -1,4 +1,4 @@
--- `table::reading::updates_since` meets its contract. Assumes nothing.
+-- `reading::updates_since` meets its contract. Assumes nothing.
 use Rattle.reading.proofs.ReadingSteps.{since-refused, since-told}
 use borrow.Author.Needs.{needs}
 use Rattle.reading.proofs.updates_since.Statement.{statement}

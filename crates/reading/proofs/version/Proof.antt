@@ -1,4 +1,4 @@
--- `table::reading::version` meets its contract. Assumes nothing.
+-- `reading::version` meets its contract. Assumes nothing.
 use Rattle.reading.proofs.ReadingSteps.{version-refused, version-told}
 use borrow.Author.Needs.{needs}
 use Rattle.reading.proofs.version.Statement.{statement}

@@ -1,4 +1,4 @@
--- `offsets::empty` meets its contract. Assumes nothing.
+-- `retain::empty` meets its contract. Assumes nothing.
 use Rattle.retain.proofs.Grow.{begun}
 use Rattle.retain.proofs.empty.Statement.{statement}
 use Rattle.retain.proofs.empty.Tie as tie

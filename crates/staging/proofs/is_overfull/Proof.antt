@@ -1,4 +1,4 @@
--- `table::staging::is_overfull` meets its contract. Assumes nothing.
+-- `staging::is_overfull` meets its contract. Assumes nothing.
 use Prim.Native.Nat.{_+_}
 use native.Mathlib.Omega.{arith}
 use borrow.Author.Tests.{lt-ltb, le-ltb}

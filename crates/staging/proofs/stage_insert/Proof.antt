@@ -1,4 +1,4 @@
--- `table::staging::stage_insert` meets its contract. Assumes nothing.
+-- `staging::stage_insert` meets its contract. Assumes nothing.
 use Prim.Native.Nat.{ℕ}
 use mathlib.Core.Path.{sym, ap, _∙_}
 use mathlib.Core.List.{_∷_}

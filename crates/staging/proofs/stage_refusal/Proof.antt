@@ -1,4 +1,4 @@
--- `table::staging::stage_refusal` meets its contract. Assumes nothing.
+-- `staging::stage_refusal` meets its contract. Assumes nothing.
 use mathlib.Core.Path.{sym, _∙_}
 use borrow.Author.Tests.{eq-eqb, ne-eqb}
 use Rattle.refusals.specs.Refusals.{first}

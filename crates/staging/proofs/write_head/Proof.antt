@@ -1,4 +1,4 @@
--- `table::staging::write_head` meets its contract. Assumes nothing.
+-- `staging::write_head` meets its contract. Assumes nothing.
 use native.Mathlib.Omega.{arith}
 use lib.ListN.{length-set}
 use Rattle.lists.specs.Laws.Parts.{set-set-putAt}

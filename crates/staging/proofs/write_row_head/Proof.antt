@@ -1,4 +1,4 @@
--- `table::staging::write_row_head` meets its contract. Assumes nothing.
+-- `staging::write_row_head` meets its contract. Assumes nothing.
 use native.Mathlib.Omega.{arith}
 use lib.ListN.{length-set}
 use Rattle.staging.specs.Laws.Staging.{row-head}

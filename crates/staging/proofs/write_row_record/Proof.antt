@@ -1,4 +1,4 @@
--- `table::staging::write_row_record` meets its contract: the key behind the head. Assumes nothing.
+-- `staging::write_row_record` meets its contract: the key behind the head. Assumes nothing.
 use Prim.Native.Nat.{ℕ, _+_}
 use mathlib.Core.Path.{ap, _∙_}
 use mathlib.Core.List.{List, [], _∷_}

@@ -1,4 +1,4 @@
--- `intersection::are_apart` meets its contract. Assumes nothing.
+-- `intersection::blocks::are_apart` meets its contract. Assumes nothing.
 use Prim.Native.Nat.{_-_, _≤_}
 use mathlib.Core.Path.{_≡_}
 use mathlib.Core.Bool.{true}

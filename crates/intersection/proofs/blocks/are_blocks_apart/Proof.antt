@@ -1,4 +1,4 @@
--- `intersection::are_blocks_apart` meets its contract. Assumes nothing.
+-- `intersection::blocks::are_blocks_apart` meets its contract. Assumes nothing.
 use mathlib.Core.Bool.{false≢true}
 use native.Mathlib.Omega.{arith}
 use borrow.Author.Needs.{needs}

@@ -1,4 +1,4 @@
--- `intersection::is_none_of` meets its contract. Assumes nothing.
+-- `intersection::blocks::is_none_of` meets its contract. Assumes nothing.
 use borrow.Author.Needs.{needs}
 use Rattle.intersection.proofs.Passing.{lacks-four}
 use Rattle.intersection.proofs.blocks.is_none_of.Statement.{statement}

@@ -1,4 +1,4 @@
--- `intersection::skip_apart` meets its contract. Assumes nothing.
+-- `intersection::blocks::skip_apart` meets its contract. Assumes nothing.
 use Prim.Native.Nat.{_+_, _-_}
 use mathlib.Core.Path.{_≡_, refl}
 use mathlib.Core.Bool.{true}

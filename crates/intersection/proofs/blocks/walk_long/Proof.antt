@@ -1,4 +1,4 @@
--- `intersection::walk_long` meets its contract. Assumes nothing.
+-- `intersection::blocks::walk_long` meets its contract. Assumes nothing.
 use Prim.Native.Nat.{_+_, _-_}
 use native.Mathlib.Omega.{arith}
 use lib.ListN.{length}

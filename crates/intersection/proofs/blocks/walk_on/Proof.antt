@@ -1,4 +1,4 @@
--- `intersection::walk_on` meets its contract. Assumes nothing.
+-- `intersection::blocks::walk_on` meets its contract. Assumes nothing.
 use Prim.Native.Nat.{_+_, _-_}
 use mathlib.Core.Path.{refl}
 use native.Mathlib.Omega.{arith}
