@@ -1,24 +1,25 @@
 -- What `levels` prints (document 01, "The program `levels`"): a line and the table before it give the text that it prints and the
 -- table after it. Over the plain table; bytes are numbers, in ASCII. Assumes nothing.
 use Prim.Native.Nat.{ℕ}
-use mathlib.Core.Bool.{cond}
-use mathlib.Core.List.{List, [], _∷_, _++_, map}
+use mathlib.Core.Bool.{true, false, cond}
+use mathlib.Core.List.{List, [], _∷_}
 use mathlib.Core.Option.{Option, none, some}
 use lib.ListN.{length, drop, getD}
 use lib.Dec.{ltb, eqb}
-use Rattle.lists.specs.Lists.{flat}
 use Rattle.offsets.specs.Subsets.{Subset, range, list}
 use Rattle.constraints.specs.Constraints.{known}
 use Rattle.condition_words.specs.Conditions.{conditionIn}
 use Rattle.sort_entries.specs.Entries.{entryWords}
 use Rattle.plain.specs.Staged.{Opening, insert, removeKey, removeRow}
 use Rattle.plain.specs.Refusing.{Lengths, openRefusal}
-use Rattle.plain.specs.Plain.{Plain, liveRows, opened, merged}
+use Rattle.plain.specs.Plain.{Plain, opened, merged}
 use Rattle.plain.specs.Calls.{Call, staging, merging, compacting, clearing, refusal, after}
 use Rattle.table.specs.Stores.{entries, headerOf}
 use Rattle.table.specs.Promises.{fastSubset}
 use Rattle.levels_text.specs.Lines.{letter, numbers, ofForms}
 use Rattle.levels_text.specs.Written.{textLine}
+use Rattle.listings.specs.Listings.{listingText}
+use Rattle.listing_write.specs.Writing.{tableListing}
 
 -- what a line prints, and the table after it: none before the first accepted O
 pub record Turn : Type 0 where
@@ -63,21 +64,14 @@ rangeText (some (list ids)) = []
 unfoldable pub versionText : Plain → List ℕ
 versionText p = textLine 86 (p .generation ∷ length (p .rows) ∷ [])
 
--- "T,4,2,3,1,0 (columns, keys, sort, rule, generation)" (T is 84), then "D,7,1,163,12 (each live row, rising)" (D is 68): a
--- listing in the old form (law `plain-listed`)
+-- "T,4,2,3,1,0 (columns, keys, sort, rule, generation)", then "D,7,1,163,12 (each live row, rising)": the table's listing in the old
+-- form
 unfoldable pub listText : Plain → List ℕ
-listText p =
-    let o = p .opening in
-    textLine 84 (o .columns ∷ o .keys ∷ o .sort ∷ o .rule ∷ p .generation ∷ [])
-    ++ flat (map (λ row. textLine 68 (row .cells)) (liveRows p))
+listText p = listingText false (tableListing false (p .opening) (p .generation) (p .rows))
 
--- "The new form, which `levels` prints for a line U" (document 02, change 11): "the head line is U in place of T with the row count
--- added as a last field, and each D line has the row number as its first field after D" (U is 85; law `numbered-listed`)
+-- "the new form, which `levels` prints for a line U" (document 02, change 11)
 unfoldable pub numberedText : Plain → List ℕ
-numberedText p =
-    let o = p .opening in
-    textLine 85 (o .columns ∷ o .keys ∷ o .sort ∷ o .rule ∷ p .generation ∷ length (p .rows) ∷ [])
-    ++ flat (map (λ row. textLine 68 (row .number ∷ row .cells)) (liveRows p))
+numberedText p = listingText true (tableListing true (p .opening) (p .generation) (p .rows))
 
 -- "O,columns,keys,sort,rule,capacity,generation"
 abbrev pub openingIn : List ℕ → Opening

@@ -1,3 +1,2 @@
 -- Contracts of functions that no user calls.
-pub mod Rows
 pub mod Telling

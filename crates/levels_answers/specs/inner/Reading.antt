@@ -13,12 +13,12 @@ use Rattle.plain.specs.Refusing.{Lengths}
 use Rattle.plain.specs.Plain.{Plain}
 use Rattle.table.specs.Refusing.{outside}
 use Rattle.table.specs.Promises.{Stores, Represents}
-use Rattle.table.specs.Laws.Refusals.{outside-inside}
-use Rattle.table.specs.Laws.Shown.{represents-inside, represents-long, rows-counted, rows-in}
+use Rattle.table.specs.Laws.Shown.{represents-inside, represents-long, rows-counted}
 use Rattle.levels_text.specs.declared.Parsed.{Parsed}
 use Rattle.levels_text.specs.declared.Parsed.the-variants.{Wrong, Line}
 use Rattle.levels_text.specs.Lines.{letter, numbers, ofForms}
 use Rattle.levels_text.specs.inner.Reading.{ParsedIs, read-taken}
+use Rattle.listing_write.specs.Laws.Represented.{rows-long}
 use Rattle.levels_said.specs.declared.Said.{Said}
 use Rattle.levels_said.specs.declared.Said.the-variants.{Refused}
 use Rattle.levels_said.specs.Said.{turn, lineTurn}
@@ -66,8 +66,8 @@ module _ {s : Stores} {text : List ℕ} (keys : length (s .keys) ≤ 2048) (room
   table-listable {p} r =
       let few : s .header .rows ≤ 1024 = omega (arith, rows-counted r, r .proper .rows-fit, represents-long r .keys-long) in
       record {
-        narrow = outside-inside (s .header) (represents-inside r) .bounds .columns-few;
-        stored = rw (r .shown .header) (rows-in (r .proper) (length (s .rows)) (represents-long r .rows-long));
+        inside = represents-inside r;
+        stored = rows-long r;
         room = omega arith;
       }
 

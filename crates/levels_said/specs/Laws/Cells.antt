@@ -21,7 +21,7 @@ use Rattle.plain.specs.Laws.Lookup.{lookup-at}
 use Rattle.plain.specs.Laws.Rows.{noRow, Thinned, killIf-thinned, dies-thinned, keep-thinned, thinned-every}
 use Rattle.plain.specs.Laws.Counts.{Appended, new, again, insertion-appended, removed-keeps, insertAll-keeps}
 use Rattle.listings.specs.Listings.{areNumbers}
-use Rattle.levels_said.specs.Laws.Listings.{liveFits}
+use Rattle.listing_write.specs.Laws.Listed.{liveFits}
 
 -- every cell of a live row and of a staged insert is a u32
 pub record Fits (p : Plain) : Type 0 where

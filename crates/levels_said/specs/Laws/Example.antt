@@ -16,6 +16,8 @@ use Rattle.table.specs.Stores.{entries}
 use Rattle.table.specs.Promises.{fastSubset}
 use Rattle.levels_text.specs.Lines.{fields, valueFrom, isDecimal, isLine, letter, numbers, isBare, isForm, ofForms}
 use Rattle.levels_text.specs.Written.{digitsIn, decimal, field, textLine}
+use Rattle.listings.specs.Listings.{headLetter, listingText}
+use Rattle.listing_write.specs.Writing.{headNumbers, rowFields, tableListing}
 use Rattle.levels_said.specs.Session.{begun, linesIn, session, printed}
 use Rattle.levels_said.specs.Said.{replied, openNumber, opens, calls, asks, mergeText, rangeText, versionText, listText, served, onTable, turn, lineTurn}
 
@@ -46,5 +48,5 @@ output =
     ∷ []
 
 pub example : printed input ≡ output
-unfolding printed session linesIn begun input output flat every same count keep countFrom firstOf first reply isDead ruledColumn signed smaller larger taken madeCell madeFrom changesFrom ruled known last push pushAll rebuilt any firstRow fastRange entriesOf entryWords openable wordsOf wordsAll inserts hasKey skipped due storesShort wordsShort wrongWidth noSuchRow overfull openRefusal stageLadder mergeLadder liveFrom liveRows lookup dead opened stage liveWithKey killIf withoutKey withoutRow removed below stop raised append put insertion insertAll applied compacted unstaged compactsAfter merged refusal done after entries fields valueFrom isDecimal isLine letter numbers isBare isForm ofForms digitsIn decimal field textLine replied openNumber opens calls asks mergeText fastSubset rangeText versionText listText served onTable turn lineTurn
+unfolding printed session linesIn begun input output flat every same count keep countFrom firstOf first reply isDead ruledColumn signed smaller larger taken madeCell madeFrom changesFrom ruled known last push pushAll rebuilt any firstRow fastRange entriesOf entryWords openable wordsOf wordsAll inserts hasKey skipped due storesShort wordsShort wrongWidth noSuchRow overfull openRefusal stageLadder mergeLadder liveFrom liveRows lookup dead opened stage liveWithKey killIf withoutKey withoutRow removed below stop raised append put insertion insertAll applied compacted unstaged compactsAfter merged refusal done after entries fields valueFrom isDecimal isLine letter numbers isBare isForm ofForms digitsIn decimal field textLine replied openNumber opens calls asks mergeText fastSubset rangeText versionText listText listingText headLetter headNumbers rowFields tableListing served onTable turn lineTurn
 example = refl

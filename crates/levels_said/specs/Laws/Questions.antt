@@ -1,39 +1,39 @@
 -- The promises of a fast range and a version serve F, V, L and U, whatever table the stores hold. Assumes nothing.
-use Prim.Native.Nat.{ℕ, zero, suc, _*_, _≤_}
+use Prim.Native.Nat.{ℕ, _*_, _≤_}
 use mathlib.Core.Path.{_≡_, refl, sym, ap, _∙_}
 use mathlib.Core.Logic.{inl, inr}
 use mathlib.Core.Bool.{Bool, true, false, cond}
-use mathlib.Core.List.{List, [], _∷_, map, append-nil}
+use mathlib.Core.List.{List, [], append-nil}
 use mathlib.Core.Option.{Option, none, some}
 use native.Mathlib.Omega.{arith}
-use lib.ListN.{length, take, drop}
+use lib.ListN.{length}
 use borrow.Author.Tests.{le-ltb}
-use Rattle.lists.specs.Lists.{rowsOf, flat}
 use Rattle.lists.specs.Laws.Keep.{split}
 use Rattle.refusals.specs.Refusals.{first}
 use Rattle.offsets.specs.Subsets.{Subset, range, list}
 use Rattle.constraints.specs.declared.Constraint.{Constraint}
-use Rattle.constraints.specs.Constraints.{known, isLive}
+use Rattle.constraints.specs.Constraints.{known}
 use Rattle.sort_entries.specs.Entries.{entriesOf, entryWords}
 use Rattle.sort_entries.specs.Laws.Stores.{entriesOf-words}
-use Rattle.plain.specs.Plain.{Plain, liveFrom}
+use Rattle.plain.specs.Plain.{Plain}
 use Rattle.table.specs.declared.Header.{Header}
 use Rattle.table.specs.declared.Version.{Version}
 use Rattle.table.specs.declared.RangeAnswer.{RangeAnswer}
 use Rattle.table.specs.declared.VersionAnswer.{VersionAnswer}
 use Rattle.table.specs.Numbers.{rangeSays, versionSays}
 use Rattle.table.specs.Refusing.{outside, pairsShort, fastRefusal, versionRefusal}
-use Rattle.table.specs.Stores.{entries, headerOf, rowsIn}
+use Rattle.table.specs.Stores.{entries, headerOf}
 use Rattle.table.specs.Promises.{Stores, Represents, fastSubset, RangeRead, VersionRead}
 use Rattle.table.specs.Laws.Shown.{represents-inside, represents-long, rows-counted}
 use Rattle.table.specs.Laws.Sound.{represents-sound}
-use Rattle.table.specs.Laws.Live.{live-shown}
 use Rattle.table.specs.Laws.Replies.{reply-accepted}
-use Rattle.levels_text.specs.Written.{textLine}
+use Rattle.listings.specs.Listings.{listingText}
+use Rattle.listing_write.specs.Writing.{storedText}
+use Rattle.listing_write.specs.Laws.Represented.{stored-plain}
 use Rattle.levels_said.specs.declared.Said.{Said}
 use Rattle.levels_said.specs.declared.Said.the-variants.{Listing}
 use Rattle.levels_said.specs.Said.{asks, rangeText, versionText, listText, numberedText}
-use Rattle.levels_said.specs.inner.Saying.{textOf, headLine, rowLine, rowLines, listing, saidOf, saysRange, saysVersion, saysListing}
+use Rattle.levels_said.specs.inner.Saying.{textOf, saidOf, saysRange, saysVersion, saysListing}
 use Rattle.levels_said.specs.Laws.Turns.{said-refused, said-accepted, told-table, Does, asks-refused, asks-done}
 use Rattle.levels_said.specs.Laws.Calls.{reply-ruled}
 
@@ -117,29 +117,15 @@ pub version-does : {s : Stores} {answer : VersionAnswer} {said : Said} → said 
     → Does (λ p. asks p 0 (versionText p)) s s said (versionRefusal (s .header))
 version-does same m = version-asked saysVersion versionText (λ p r. version-shown r) same m
 
--- the lines of the live rows
-live-lines : (numbered : Bool) (columns number count : ℕ) (rows : List ℕ)
-    → rowLines numbered columns number count rows
-    ≡ flat (map (λ row. textLine 68 (cond numbered (row .number ∷ row .cells) (row .cells))) (liveFrom number (map (λ c. record { live = isLive c; cells = c }) (rowsOf columns count rows))))
-unfolding rowLines rowLine liveFrom rowsOf flat
-live-lines numbered columns number zero rows = refl
-live-lines numbered columns number (suc count) rows =
-    elim (split (isLive (take columns rows))) [
-      | inl e ↦ rw (e, live-lines numbered columns (suc number) count (drop columns rows))
-      | inr e ↦ rw (e, live-lines numbered columns (suc number) count (drop columns rows))
-    ]
+list-shown : {p : Plain} {s : Stores} → Represents p s → storedText false (s .header) (s .rows) ≡ listText p
+unfolding listText storedText
+list-shown r = ap (listingText false) (stored-plain r false)
 
-list-shown : {p : Plain} {s : Stores} → Represents p s → listing false (s .header) (s .rows) ≡ listText p
-unfolding listText listing headLine
-list-shown {p} {s} r =
-    rw (← live-shown r) (unfold rowsIn in rw (live-lines false (s .header .columns) 0 (s .header .rows) (s .rows), r .shown .header))
+numbered-shown : {p : Plain} {s : Stores} → Represents p s → storedText true (s .header) (s .rows) ≡ numberedText p
+unfolding numberedText storedText
+numbered-shown r = ap (listingText true) (stored-plain r true)
 
-numbered-shown : {p : Plain} {s : Stores} → Represents p s → listing true (s .header) (s .rows) ≡ numberedText p
-unfolding numberedText listing headLine
-numbered-shown {p} {s} r =
-    rw (← live-shown r) (unfold rowsIn in rw (live-lines true (s .header .columns) 0 (s .header .rows) (s .rows), r .shown .header))
-
-listing-said : (numbered : Bool) (h : Header) (rows : List ℕ) → textOf h rows (Listing numbered) ≡ listing numbered h rows
+listing-said : (numbered : Bool) (h : Header) (rows : List ℕ) → textOf h rows (Listing numbered) ≡ storedText numbered h rows
 unfolding textOf
 listing-said numbered h rows = refl
 

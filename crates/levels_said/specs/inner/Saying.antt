@@ -1,20 +1,20 @@
 -- What a line says before it is text: how that is text, and what the functions promise that answer by it. Assumes nothing.
-use Prim.Native.Nat.{ℕ, zero, suc, _+_, _*_, _≤_}
+use Prim.Native.Nat.{ℕ, _+_, _*_, _≤_}
 use mathlib.Core.Path.{_≡_}
-use mathlib.Core.Bool.{Bool, true, false, cond}
-use mathlib.Core.List.{List, [], _∷_, _++_}
+use mathlib.Core.Bool.{Bool, false, cond}
+use mathlib.Core.List.{List, [], _∷_}
 use mathlib.Core.Option.{Option, none, some}
-use lib.ListN.{length, take, drop}
+use lib.ListN.{length, take}
 use Rattle.refusals.specs.Refusals.{Reply, refused, accepted}
 use Rattle.offsets.specs.Subsets.{Subset, range, list}
-use Rattle.constraints.specs.Constraints.{isLive}
 use Rattle.plain.specs.Plain.{Plain}
 use Rattle.table.specs.declared.Header.{Header}
 use Rattle.table.specs.declared.Merge.{Merge}
 use Rattle.table.specs.declared.Version.{Version as Versioned}
-use Rattle.table.specs.Refusing.{outside}
+use Rattle.table.specs.Refusing.{outside, rowsShort}
 use Rattle.table.specs.Promises.{Stores}
 use Rattle.levels_text.specs.Written.{textLine}
+use Rattle.listing_write.specs.Writing.{storedText}
 use Rattle.levels_said.specs.declared.Said.{Said}
 use Rattle.levels_said.specs.declared.Said.the-variants.{Nothing, Refused, Merged, NoRange, Range, Version, Listing}
 use Rattle.levels_said.specs.declared.Served.{Served}
@@ -23,23 +23,6 @@ use Rattle.levels_said.specs.Answers.{Held, lent}
 
 -- ---- as text
 
--- a listing of a header and a row store, with row numbers or without: the head line
-unfoldable pub headLine : Bool → Header → List ℕ
-headLine true h = textLine 85 (h .columns ∷ h .keys ∷ h .sort ∷ h .rule ∷ h .generation ∷ h .rows ∷ [])
-headLine false h = textLine 84 (h .columns ∷ h .keys ∷ h .sort ∷ h .rule ∷ h .generation ∷ [])
-
--- then the lines of the live rows among the first of the store, numbered from here on
-unfoldable pub rowLine : Bool → ℕ → List ℕ → List ℕ
-rowLine numbered number row = cond (isLive row) (textLine 68 (cond numbered (number ∷ row) row)) []
-
-unfoldable pub rowLines : Bool → ℕ → ℕ → ℕ → List ℕ → List ℕ
-rowLines numbered columns number zero rows = []
-rowLines numbered columns number (suc count) rows =
-    rowLine numbered number (take columns rows) ++ rowLines numbered columns (suc number) count (drop columns rows)
-
-unfoldable pub listing : Bool → Header → List ℕ → List ℕ
-listing numbered h rows = headLine numbered h ++ rowLines numbered (h .columns) 0 (h .rows) rows
-
 unfoldable pub textOf : Header → List ℕ → Said → List ℕ
 textOf h rows Nothing = []
 textOf h rows (Refused n) = textLine 88 (n ∷ [])
@@ -47,12 +30,12 @@ textOf h rows (Merged status added place) = textLine 77 (status ∷ added ∷ pl
 textOf h rows NoRange = rangeText none
 textOf h rows (Range start end) = textLine 70 (start ∷ end ∷ [])
 textOf h rows (Version generation count) = textLine 86 (generation ∷ count ∷ [])
-textOf h rows (Listing numbered) = listing numbered h rows
+textOf h rows (Listing numbered) = storedText numbered h rows
 
--- what a listing needs: rows that are stored, and a text with room for them
+-- what a listing needs: a header and a row store that pass tests 1 and 2, and a text with room for the rows
 pub record Listable (h : Header) (rows text : List ℕ) : Type 0 where
-  pub narrow : h .columns ≤ 8
-  pub stored : h .rows * h .columns ≤ length rows
+  pub inside : outside h ≡ false
+  pub stored : rowsShort h (length rows) ≡ false
   pub room : 68 + 101 * h .rows ≤ length text
 
 -- the text of what is said stands at the start of a lent text

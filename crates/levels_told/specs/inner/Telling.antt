@@ -1,49 +1,41 @@
 -- What is said, as text. Assumes nothing.
 use Prim.Native.Nat.{ℕ, _≤_}
 use mathlib.Core.Path.{_≡_}
-use mathlib.Core.Bool.{Bool, true, false}
+use mathlib.Core.Bool.{Bool}
 use mathlib.Core.List.{List, [], _∷_}
 use native.Mathlib.Omega.{arith}
 use lib.ListN.{length, take}
 use Rattle.table.specs.declared.Header.{Header}
+use Rattle.table.specs.Laws.Refusals.{outside-inside}
 use Rattle.levels_text.specs.Written.{textLine}
-use Rattle.levels_written.specs.inner.Appending.{Appended, appended-then, Wrote}
-use Rattle.levels_written.specs.Laws.Decimals.{length-written}
+use Rattle.levels_written.specs.inner.Appending.{Wrote}
+use Rattle.listings.specs.declared.MoveAnswer.{MoveAnswer}
+use Rattle.listings.specs.declared.MoveAnswer.the-variants.{Refused as NotWritten, Written}
+use Rattle.listing_write.specs.Writing.{storedText, ListingWritten}
+use Rattle.listing_write.specs.Laws.Lengths.{length-most}
+use Rattle.listing_write.specs.Laws.Answers.{written-inside, written-taken, not-refused}
 use Rattle.levels_said.specs.declared.Said.{Said}
 use Rattle.levels_said.specs.declared.Said.the-variants.{Nothing, Refused, Merged, NoRange, Range, Version, Listing}
 use Rattle.levels_said.specs.Said.{rangeText}
-use Rattle.levels_said.specs.inner.Saying.{headLine, listing, textOf, Listable, Telling}
-use Rattle.levels_told.specs.inner.Rows.{RowsListed}
+use Rattle.levels_said.specs.inner.Saying.{textOf, Listable, Telling}
 
 -- the listing, where there is room
 pub record Listed (numbered : Bool) (h : Header) (rows text : List ℕ) (used : ℕ) : Type 0 where
   pub inside : used ≤ length text
-  pub listed : Listable h rows text → take used text ≡ listing numbered h rows
+  pub listed : Listable h rows text → take used text ≡ storedText numbered h rows
 
--- no room
-pub listed-nothing : (numbered : Bool) (h : Header) (rows text : List ℕ) → (Listable h rows text → ⊥) → Listed numbered h rows text 0
-listed-nothing numbered h rows text short = record { inside = omega arith; listed = λ l. absurd (short l) }
+module _ {numbered : Bool} {h : Header} {rows text text′ : List ℕ} {answer : MoveAnswer} (lent : length text′ ≡ length text) (x : ListingWritten numbered h rows text answer text′) where
+  pub listed-nothing : {n : ℕ} → answer ≡ NotWritten n → Listed numbered h rows text′ 0
+  listed-nothing {n} e = record {
+    inside = omega arith;
+    listed = λ l.
+        absurd
+        (not-refused (rw e at x) (l .inside) (l .stored)
+        (omega (arith, lent, l .room, length-most numbered h rows (outside-inside h (l .inside) .bounds .columns-few))));
+  }
 
--- the head line, with the row count or without
-pub head-numbered : {numbered : Bool} (h : Header) → numbered ≡ true → headLine numbered h ≡ textLine 85 (h .columns ∷ h .keys ∷ h .sort ∷ h .rule ∷ h .generation ∷ h .rows ∷ [])
-unfolding headLine
-head-numbered h e = rw e
-
-pub head-plain : {numbered : Bool} (h : Header) → numbered ≡ false → headLine numbered h ≡ textLine 84 (h .columns ∷ h .keys ∷ h .sort ∷ h .rule ∷ h .generation ∷ [])
-unfolding headLine
-head-plain h e = rw e
-
--- it takes at most 68 bytes
-pub length-head : (numbered : Bool) (h : Header) → length (headLine numbered h) ≤ 68
-unfolding headLine
-length-head true h = length-written 85 (h .columns ∷ h .keys ∷ h .sort ∷ h .rule ∷ h .generation ∷ h .rows ∷ [])
-length-head false h = omega (arith, length-written 84 (h .columns ∷ h .keys ∷ h .sort ∷ h .rule ∷ h .generation ∷ []))
-
--- the head line, then the rows'
-pub listed-all : {numbered : Bool} (h : Header) (rows : List ℕ) {text text₁ text₂ : List ℕ} {used end : ℕ} → end ≤ length text₂
-    → Appended text 0 (headLine numbered h) text₁ used → RowsListed numbered text₁ used (h .columns) (h .rows) rows text₂ end → Listed numbered h rows text₂ end
-unfolding listing
-listed-all h rows inside head lines = record { inside = inside; listed = λ l. appended-then head (lines .put) .same }
+  pub listed-all : {bytes : ℕ} → answer ≡ Written bytes → Listed numbered h rows text′ bytes
+  listed-all {bytes} e = let w = rw e at x in record { inside = omega (arith, lent, written-inside w); listed = λ l. written-taken w }
 
 -- ---- each thing that is said
 

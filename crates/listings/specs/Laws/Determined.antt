@@ -37,7 +37,7 @@ numbered-said (NumberedRead h) (NumberedRead k) e =
     let l : (h .columns ∷ h .keys ∷ h .sort ∷ h .rule ∷ h .generation ∷ h .count ∷ h .listed ∷ []) ≡ (k .columns ∷ k .keys ∷ k .sort ∷ k .rule ∷ k .generation ∷ k .count ∷ k .listed ∷ []) = cc in
     ap (λ (ns : List ℕ). NumberedRead (record { columns = getD ns 0 0; keys = getD ns 1 0; sort = getD ns 2 0; rule = getD ns 3 0; generation = getD ns 4 0; count = getD ns 5 0; listed = getD ns 6 0 })) l
 
-move-said : (a b : MoveAnswer) → moveSays a ≡ moveSays b → a ≡ b
+pub move-said : (a b : MoveAnswer) → moveSays a ≡ moveSays b → a ≡ b
 unfolding moveSays
 move-said (Refused m) (Refused n) e = cc
 move-said (Refused m) (Written k) e = absurd (let z : _≡_ {A = ℕ} 0 1 = cc in omega arith)

@@ -140,12 +140,12 @@ module _ (l : Listing) (e : isListing true l ≡ true) where
 
 -- ---- the texts
 
-accepted-number : {bytes : ℕ} (m k : ℕ) → accepted bytes ≡ reply k m → k ≡ 0
+pub accepted-number : {bytes : ℕ} (m k : ℕ) → accepted bytes ≡ reply k m → k ≡ 0
 unfolding reply
 accepted-number m zero e = refl
 accepted-number m (suc k) e = absurd (let z : _≡_ {A = ℕ} 0 1 = cc in omega arith)
 
-accepted-same : {bytes m : ℕ} → accepted bytes ≡ accepted m → bytes ≡ m
+pub accepted-same : {bytes m : ℕ} → accepted bytes ≡ accepted m → bytes ≡ m
 accepted-same e = cc
 
 -- an accepted move has written the text in the other form

@@ -1,0 +1,30 @@
+-- `listing_write::head_length` meets its contract. Assumes nothing.
+use native.Mathlib.Omega.{arith}
+use Rattle.listing_write.specs.Laws.Lengths.{length-head}
+use Rattle.listing_write.proofs.Steps.{head-numbered, head-plain}
+use borrow.Author.Needs.{needs}
+use Rattle.listing_write.proofs.head_length.Statement.{statement}
+use Rattle.listing_write.proofs.head_length.Tie as tie
+
+add-result : tie.Need-add-result
+add-result c =
+    let args = c .before .before .before .args in
+    omega (arith, head-numbered (args .h) (c .before .before .if1 .taken) (c .numbers-length .ensures), length-head (args .numbered) (args .h))
+
+returns : tie.Need-returns
+returns c = head-numbered _ (c .before .before .if1 .taken) (c .numbers-length .ensures)
+
+add-result-2 : tie.Need-add-result-2
+add-result-2 c =
+    let args = c .before .before .before .args in
+    omega (arith, head-plain (args .h) (c .before .before .if1 .left) (c .numbers-length2 .ensures), length-head (args .numbered) (args .h))
+
+returns-2 : tie.Need-returns-2
+returns-2 c = head-plain _ (c .before .before .if1 .left) (c .numbers-length2 .ensures)
+
+pub head-length-spec : {M : Type 1} → statement M
+head-length-spec =
+    tie.close
+    (tie.spec
+    (λ c. search needs) (λ c κs. search needs) add-result returns (λ c. search needs) (λ c. search needs)
+    (λ c κs. search needs) add-result-2 returns-2)

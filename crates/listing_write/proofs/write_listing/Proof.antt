@@ -1,0 +1,46 @@
+-- `listing_write::write_listing` meets its contract. Assumes nothing.
+use mathlib.Core.Path.{sym, _∙_}
+use native.Mathlib.Omega.{arith}
+use Rattle.listing_write.specs.Laws.Lines.{stored-rows}
+use Rattle.listing_write.proofs.Steps.{refused-outside, refused-rows, refused-output, written-all}
+use borrow.Author.Needs.{needs}
+use Rattle.listing_write.proofs.write_listing.Statement.{statement}
+use Rattle.listing_write.proofs.write_listing.Tie as tie
+
+returns : tie.Need-returns
+returns c = refused-outside _ _ _ _ (sym (c .before .is-outside .ensures) ∙ c .if1 .taken)
+
+is-rows-short-requires : tie.Need-is-rows-short-requires
+is-rows-short-requires c κs = sym (c .before .is-outside .ensures) ∙ c .if1 .left
+
+returns-2 : tie.Need-returns-2
+returns-2 c =
+    refused-rows _ _ _ _ (sym (c .before .before .before .is-outside .ensures) ∙ c .before .before .if1 .left) (sym (c .before .is-rows-short .ensures) ∙ c .if2 .taken)
+
+text-length-requires : tie.Need-text-length-requires
+text-length-requires c κs =
+    stored-rows _ _ (sym (c .before .before .before .is-outside .ensures) ∙ c .before .before .if1 .left) (sym (c .before .is-rows-short .ensures) ∙ c .if2 .left)
+
+returns-3 : tie.Need-returns-3
+returns-3 c =
+    refused-output _ _ _ _ (sym (c .before .before .before .before .before .is-outside .ensures) ∙ c .before .before .before .before .if1 .left) (sym (c .before .before .before .is-rows-short .ensures) ∙ c .before .before .if2 .left)
+    (omega (arith, c .before .text-length .ensures, c .if3 .taken))
+
+put-text-requires : tie.Need-put-text-requires
+put-text-requires c κs = (
+  stored-rows _ _ (sym (c .before .before .before .before .before .before .is-outside .ensures) ∙ c .before .before .before .before .before .if1 .left) (sym (c .before .before .before .before .is-rows-short .ensures) ∙ c .before .before .before .if2 .left),
+  omega (arith, c .before .before .text-length .ensures, c .before .if3 .left),
+)
+
+returns-4 : tie.Need-returns-4
+returns-4 c =
+    let at = c .before .before .before .before .before .before .before .before in
+    written-all _ _ _ _ (sym (at .before .is-outside .ensures) ∙ at .if1 .left) (sym (c .before .before .before .before .before .before .before .is-rows-short .ensures) ∙ c .before .before .before .before .before .before .if2 .left)
+    (omega (arith, c .before .before .before .before .before .text-length .ensures, c .before .before .before .before .if3 .left)) (c .before .before .put-text .ensures)
+
+pub write-listing-spec : {M : Type 1} → statement M
+write-listing-spec =
+    tie.close
+    (tie.spec
+    (λ c κs. search needs) returns is-rows-short-requires returns-2 text-length-requires returns-3 put-text-requires
+    (λ c. search needs) returns-4)

@@ -1,0 +1,8 @@
+-- What follows from the definitions.
+pub mod Lines
+pub mod Lengths
+pub mod Listed
+pub mod Represented
+pub mod Determined
+pub mod Answers
+pub mod ReadBack

@@ -1,0 +1,65 @@
+-- What an answer tells of a call that writes a listing. Assumes nothing.
+use Prim.Native.Nat.{ℕ, _≤_}
+use mathlib.Core.Path.{_≡_, ap, _∙_}
+use mathlib.Core.Bool.{Bool, false}
+use mathlib.Core.List.{List, [], _∷_}
+use native.Mathlib.Omega.{arith}
+use lib.Dec.{ltb}
+use lib.ListN.{length, take}
+use borrow.Author.Tests.{ltb-false, le-ltb}
+use Rattle.lists.specs.Laws.Search.{take-put}
+use Rattle.refusals.specs.Refusals.{Rung, rung, first, reply}
+use Rattle.plain.specs.Laws.Calls.{first-no, first-rest}
+use Rattle.table.specs.declared.Header.{Header}
+use Rattle.table.specs.Refusing.{outside, rowsShort}
+use Rattle.listings.specs.declared.MoveAnswer.the-variants.{Refused, Written}
+use Rattle.listings.specs.Listings.{moveSays}
+use Rattle.listings.specs.Laws.Restored.{accepted-number, accepted-same}
+use Rattle.listing_write.specs.Writing.{storedText, writeRefusal, ListingWritten}
+
+-- an accepted call
+module _ {numbered : Bool} {h : Header} {rows output output′ : List ℕ} {bytes : ℕ} (x : ListingWritten numbered h rows output (Written bytes) output′) where
+  accepted-write : writeRefusal numbered h rows (length output) ≡ 0
+  unfolding moveSays
+  accepted-write = accepted-number (length (storedText numbered h rows)) (writeRefusal numbered h rows (length output)) (x .answers)
+
+  -- both tests 2
+  abbrev room : List Rung
+  room = rung (ltb (length output) (length (storedText numbered h rows))) 2 ∷ []
+
+  abbrev tests : List Rung
+  tests = rung (rowsShort h (length rows)) 2 ∷ room
+
+  pub inside : outside h ≡ false
+  unfolding writeRefusal
+  inside = first-no (outside h) 0 tests accepted-write
+
+  pub stored : rowsShort h (length rows) ≡ false
+  unfolding writeRefusal
+  stored = first-no (rowsShort h (length rows)) 1 room (first-rest (outside h) 0 tests accepted-write)
+
+  fits : length (storedText numbered h rows) ≤ length output
+  unfolding writeRefusal
+  fits =
+      ltb-false (length output) (length (storedText numbered h rows))
+      (first-no (ltb (length output) (length (storedText numbered h rows))) 1 [] (first-rest (rowsShort h (length rows)) 1 room (first-rest (outside h) 0 tests accepted-write)))
+
+  bytes-are : bytes ≡ length (storedText numbered h rows)
+  unfolding moveSays reply
+  bytes-are = accepted-same (x .answers ∙ ap (λ (k : ℕ). reply k (length (storedText numbered h rows))) accepted-write)
+
+  pub written-inside : bytes ≤ length output
+  written-inside = omega (arith, fits, bytes-are)
+
+  -- the text is at the start of the output
+  pub written-taken : take bytes output′ ≡ storedText numbered h rows
+  written-taken = rw (bytes-are, x .written accepted-write) (take-put output (storedText numbered h rows))
+
+-- a call with room for the text and the rows is not refused
+pub not-refused : {numbered : Bool} {h : Header} {rows output output′ : List ℕ} {n : ℕ} → ListingWritten numbered h rows output (Refused n) output′
+    → outside h ≡ false → rowsShort h (length rows) ≡ false → length (storedText numbered h rows) ≤ length output → ⊥
+unfolding moveSays writeRefusal first reply
+not-refused {numbered} {h} {rows} {output} x e f room =
+    let says = rw (e, f, le-ltb (length output) (length (storedText numbered h rows)) room) at (x .answers) in
+    let z : _≡_ {A = ℕ} 0 1 = cc in
+    omega arith

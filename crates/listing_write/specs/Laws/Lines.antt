@@ -1,0 +1,49 @@
+-- The text of a table's listing is its head line and the lines of its live rows, row by row. Assumes nothing.
+use Prim.Native.Nat.{ℕ, zero, suc, _*_}
+use mathlib.Core.Path.{_≡_, refl}
+use mathlib.Core.Logic.{inl, inr}
+use mathlib.Core.Bool.{Bool, false}
+use mathlib.Core.List.{List, _++_, map}
+use native.Mathlib.Nat.{mul-le-mul-right}
+use native.Mathlib.Omega.{arith}
+use lib.ListN.{length, take, drop}
+use borrow.Author.Tests.{ltb-false}
+use Rattle.lists.specs.Lists.{rowsOf, flat}
+use Rattle.lists.specs.Laws.Keep.{split}
+use Rattle.constraints.specs.Constraints.{isLive}
+use Rattle.plain.specs.Plain.{liveFrom}
+use Rattle.table.specs.declared.Header.{Header}
+use Rattle.table.specs.Refusing.{outside, rowsShort}
+use Rattle.table.specs.Stores.{rowsIn}
+use Rattle.table.specs.Laws.Live.{told, length-rowsIn}
+use Rattle.table.specs.Laws.Refusals.{outside-inside}
+use Rattle.levels_text.specs.Written.{textLine}
+use Rattle.listings.specs.Listings.{listingText}
+use Rattle.listing_write.specs.Writing.{rowFields, tableListing, storedListing, storedText}
+use Rattle.listing_write.specs.inner.Lines.{headLine, rowLine, rowLines, Stored}
+
+live-lines : (numbered : Bool) (columns number count : ℕ) (rows : List ℕ)
+    → flat (map (textLine 68) (map (rowFields numbered) (liveFrom number (map told (rowsOf columns count rows))))) ≡ rowLines numbered columns number count rows
+unfolding rowLines rowLine rowFields liveFrom rowsOf flat
+live-lines numbered columns number zero rows = refl
+live-lines numbered columns number (suc count) rows =
+    elim (split (isLive (take columns rows))) [
+      | inl e ↦ rw (e, live-lines numbered columns (suc number) count (drop columns rows))
+      | inr e ↦ rw (e, live-lines numbered columns (suc number) count (drop columns rows))
+    ]
+
+pub stored-lines : (numbered : Bool) (h : Header) (rows : List ℕ) → storedText numbered h rows ≡ headLine numbered h ++ rowLines numbered (h .columns) 0 (h .rows) rows
+unfolding storedText storedListing tableListing listingText headLine
+stored-lines numbered h rows = rw (length-rowsIn h rows) (unfold rowsIn in rw (live-lines numbered (h .columns) 0 (h .rows) rows))
+
+-- what tests 1 and 2 leave
+pub stored-rows : (h : Header) (rows : List ℕ) → outside h ≡ false → rowsShort h (length rows) ≡ false → Stored h rows
+unfolding rowsShort
+stored-rows h rows e f =
+    let i = outside-inside h e in
+    let long = ltb-false (length rows) (h .capacity * h .columns) f in
+    record {
+      narrow = i .bounds .columns-few;
+      few = omega (arith, i .rows-fit, i .bounds .capacity-few);
+      stored = omega (arith, mul-le-mul-right (h .columns) (i .rows-fit), long);
+    }

@@ -1,0 +1,53 @@
+-- A listing that is written is read back. Assumes nothing.
+use Prim.Native.Nat.{ℕ, _≤_, _<_}
+use mathlib.Core.Path.{_≡_, ap, _∙_}
+use mathlib.Core.Bool.{Bool, true}
+use mathlib.Core.List.{List, [], _∷_, _++_}
+use mathlib.Core.Option.{Option, some}
+use native.Mathlib.Omega.{arith}
+use lib.Dec.{ltb}
+use lib.ListN.{length, take}
+use borrow.Author.Tests.{lt-ltb, le-ltb}
+use Rattle.lists.specs.Lists.{putAt, flat}
+use Rattle.refusals.specs.Refusals.{rung, first, Reply, reply}
+use Rattle.table.specs.declared.Header.{Header}
+use Rattle.listings.specs.declared.MoveAnswer.the-variants.{Written}
+use Rattle.listings.specs.Listings.{Listing, areNumbers, Shows, cellsIn, readRefusal, told, ListingRead}
+use Rattle.listings.specs.Laws.Texts.{shows-determined}
+use Rattle.listing_write.specs.Writing.{storedListing, ListingWritten}
+use Rattle.listing_write.specs.Laws.Answers.{inside, stored, written-taken}
+use Rattle.listing_write.specs.Laws.Represented.{stored-listed}
+
+-- What reading a listing gives: the head's numbers and how many rows are listed, and each row's numbers in turn. It is refused by no
+-- number but 2, and by 2 exactly if the output is too short for these.
+pub record ReadBack (l : Listing) (output : List ℕ) (says : Reply (List ℕ)) (output′ : List ℕ) : Type 0 where
+  pub answers : says ≡ reply (first (rung (ltb (length output) (length (flat (l .rows)))) 2 ∷ [])) (l .head ++ (length (l .rows) ∷ []))
+  pub written : length (flat (l .rows)) ≤ length output → output′ ≡ putAt output 0 (flat (l .rows))
+  pub unchanged : length output < length (flat (l .rows)) → output′ ≡ output
+
+module _ (l : Listing) (room : ℕ) where
+  short-none : length (flat (l .rows)) ≤ room → readRefusal (some l) room ≡ 0
+  unfolding readRefusal first
+  short-none long = rw (le-ltb room (length (flat (l .rows))) long)
+
+  short-some : room < length (flat (l .rows)) → 0 < readRefusal (some l) room
+  unfolding readRefusal first
+  short-some less = rw (lt-ltb room (length (flat (l .rows))) less) (omega arith)
+
+-- the listing that a text shows is read
+shown-read : {numbered : Bool} {text output output′ : List ℕ} {says : Reply (List ℕ)} {l : Listing} → Shows numbered text (some l) → ListingRead numbered text output says output′ → ReadBack l output says output′
+unfolding readRefusal told cellsIn
+shown-read {numbered} {output = output} {l = l} s x =
+    let e : x .listing ≡ some l = shows-determined numbered (x .shown) s in
+    let n : readRefusal (x .listing) (length output) ≡ readRefusal (some l) (length output) = ap (λ (k : Option Listing). readRefusal k (length output)) e in
+    record {
+      answers = x .answers ∙ ap (λ (k : Option Listing). reply (readRefusal k (length output)) (told k)) e;
+      written = λ long. x .written (n ∙ short-none l (length output) long) ∙ ap (λ (k : Option Listing). putAt output 0 (cellsIn k)) e;
+      unchanged = λ less. x .unchanged (rw n (short-some l (length output) less));
+    }
+
+module _ {numbered : Bool} {h : Header} {rows output output′ : List ℕ} {bytes : ℕ} (x : ListingWritten numbered h rows output (Written bytes) output′) where
+  -- whatever the stores hold, reading it is refused by nothing but a short output, and gives the listing
+  pub read-back : {cells cells′ : List ℕ} {says : Reply (List ℕ)} → h .generation ≤ 4294967295 → areNumbers rows ≡ true → ListingRead numbered (take bytes output′) cells says cells′
+      → ReadBack (storedListing numbered h rows) cells says cells′
+  read-back fits u32s y = shown-read (rw (written-taken x) (stored-listed numbered h rows (inside x) (stored x) fits u32s)) y

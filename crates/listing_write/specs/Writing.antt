@@ -1,0 +1,56 @@
+-- Writing a listing of a table (document 01, "The program `levels`"; document 02, change 11), in the old form or the new: what the
+-- program `levels` prints for the lines L and U. Where a definition takes a Bool, it says whether the form is the new one. Bytes are
+-- numbers, in ASCII. Assumes nothing.
+use Prim.Native.Nat.{ℕ, _<_}
+use mathlib.Core.Path.{_≡_}
+use mathlib.Core.Bool.{Bool, true, false, cond}
+use mathlib.Core.List.{List, [], _∷_, map}
+use lib.ListN.{length}
+use lib.Dec.{ltb}
+use Rattle.lists.specs.Lists.{putAt}
+use Rattle.refusals.specs.Refusals.{rung, first, reply}
+use Rattle.plain.specs.Staged.{Opening}
+use Rattle.plain.specs.Plain.{Row, Numbered, liveFrom}
+use Rattle.table.specs.declared.Header.{Header}
+use Rattle.table.specs.Numbers.{openingOf}
+use Rattle.table.specs.Refusing.{outside, rowsShort}
+use Rattle.table.specs.Stores.{rowsIn}
+use Rattle.listings.specs.declared.MoveAnswer.{MoveAnswer}
+use Rattle.listings.specs.Listings.{Listing, listingText, moveSays}
+
+-- the numbers of the head line: "(columns, keys, sort, rule, generation)", in the new form "with the row count added as a last field"
+unfoldable pub headNumbers : Bool → Opening → ℕ → ℕ → List ℕ
+headNumbers true o generation count = o .columns ∷ o .keys ∷ o .sort ∷ o .rule ∷ generation ∷ count ∷ []
+headNumbers false o generation count = o .columns ∷ o .keys ∷ o .sort ∷ o .rule ∷ generation ∷ []
+
+-- the numbers of a D line: its cells; in the new form it "has the row number as its first field"
+unfoldable pub rowFields : Bool → Numbered → List ℕ
+rowFields numbered row = cond numbered (row .number ∷ row .cells) (row .cells)
+
+-- the listing of a table of these numbers and rows: "(each live row, rising)"
+unfoldable pub tableListing : Bool → Opening → ℕ → List Row → Listing
+tableListing numbered o generation rows =
+    record { head = headNumbers numbered o generation (length rows); rows = map (rowFields numbered) (liveFrom 0 rows) }
+
+-- of a header and a row store, and its text
+unfoldable pub storedListing : Bool → Header → List ℕ → Listing
+storedListing numbered h rows = tableListing numbered (openingOf h) (h .generation) (rowsIn h rows)
+
+unfoldable pub storedText : Bool → Header → List ℕ → List ℕ
+storedText numbered h rows = listingText numbered (storedListing numbered h rows)
+
+-- 1, header numbers outside their bounds; 2, a row store shorter than needed; 2 again, an output shorter than the text
+unfoldable pub writeRefusal : Bool → Header → List ℕ → ℕ → ℕ
+writeRefusal numbered h rows output =
+    first
+    (rung (outside h) 1
+    ∷ rung (rowsShort h (length rows)) 2
+    ∷ rung (ltb output (length (storedText numbered h rows))) 2
+    ∷ [])
+
+-- What writing a listing promises: the text at the start of the output, its length as the answer, and nothing changed past it; on
+-- refusal nothing changed at all.
+pub record ListingWritten (numbered : Bool) (h : Header) (rows output : List ℕ) (answer : MoveAnswer) (output′ : List ℕ) : Type 0 where
+  pub answers : moveSays answer ≡ reply (writeRefusal numbered h rows (length output)) (length (storedText numbered h rows))
+  pub written : writeRefusal numbered h rows (length output) ≡ 0 → output′ ≡ putAt output 0 (storedText numbered h rows)
+  pub unchanged : 0 < writeRefusal numbered h rows (length output) → output′ ≡ output

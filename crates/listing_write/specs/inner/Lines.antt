@@ -1,0 +1,30 @@
+-- A listing line by line, as the code writes it. Assumes nothing.
+use Prim.Native.Nat.{ℕ, zero, suc, _*_, _≤_}
+use mathlib.Core.Bool.{Bool, cond}
+use mathlib.Core.List.{List, [], _∷_, _++_}
+use lib.ListN.{length, take, drop}
+use Rattle.constraints.specs.Constraints.{isLive}
+use Rattle.table.specs.declared.Header.{Header}
+use Rattle.table.specs.Numbers.{openingOf}
+use Rattle.levels_text.specs.Written.{textLine}
+use Rattle.listings.specs.Listings.{headLetter}
+use Rattle.listing_write.specs.Writing.{headNumbers}
+
+unfoldable pub headLine : Bool → Header → List ℕ
+headLine numbered h = textLine (headLetter numbered) (headNumbers numbered (openingOf h) (h .generation) (h .rows))
+
+-- the line of a row, if it is live
+unfoldable pub rowLine : Bool → ℕ → List ℕ → List ℕ
+rowLine numbered number row = cond (isLive row) (textLine 68 (cond numbered (number ∷ row) row)) []
+
+-- the lines of the live rows among the first of the store, numbered from here on
+unfoldable pub rowLines : Bool → ℕ → ℕ → ℕ → List ℕ → List ℕ
+rowLines numbered columns number zero rows = []
+rowLines numbered columns number (suc count) rows =
+    rowLine numbered number (take columns rows) ++ rowLines numbered columns (suc number) count (drop columns rows)
+
+-- a header whose rows are few and narrow, and stored
+pub record Stored (h : Header) (rows : List ℕ) : Type 0 where
+  pub narrow : h .columns ≤ 8
+  pub few : h .rows ≤ 65536
+  pub stored : h .rows * h .columns ≤ length rows
