@@ -1,3 +1,4 @@
 pub mod BorrowedSteps
 pub mod Locals
 pub mod Walking
+pub mod Arrays

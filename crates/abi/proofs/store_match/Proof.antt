@@ -1,0 +1,17 @@
+-- `abi::store_match` meets its contract. Assumes nothing.
+use mathlib.Core.Path.{refl}
+use Rattle.queries.specs.Queries.{matchSays}
+use Rattle.abi.specs.Encoding.{encodeBool, returned, stored}
+use Rattle.abi.specs.Laws.Encoding.{stored-as}
+use borrow.Author.Needs.{needs}
+use Rattle.abi.proofs.store_match.Statement.{statement}
+use Rattle.abi.proofs.store_match.Tie as tie
+
+pub store-match-spec : {M : Type 1} → statement M
+unfolding matchSays encodeBool returned stored
+store-match-spec =
+    tie.close
+    (tie.spec
+    (λ c. search needs) (λ c. search needs) (λ c κs. search needs)
+    (λ c. stored-as (c .before .answer .given .1) refl refl)
+    (λ c. stored-as (c .before .before .before .answer2 .given .1) refl (rw (c .before .encode-bool .ensures) refl)))

@@ -1,0 +1,17 @@
+-- `abi::store_merge` meets its contract. Assumes nothing.
+use mathlib.Core.Path.{refl}
+use Rattle.table.specs.Numbers.{mergeSays}
+use Rattle.abi.specs.Encoding.{encodeMerge, returned, stored}
+use Rattle.abi.specs.Laws.Encoding.{stored-as}
+use borrow.Author.Needs.{needs}
+use Rattle.abi.proofs.store_merge.Statement.{statement}
+use Rattle.abi.proofs.store_merge.Tie as tie
+
+pub store-merge-spec : {M : Type 1} → statement M
+unfolding mergeSays encodeMerge returned stored
+store-merge-spec =
+    tie.close
+    (tie.spec
+    (λ c. search needs) (λ c. search needs) (λ c κs. search needs) (λ c κs. search needs)
+    (λ c. (stored-as (c .before .answer .given .1) refl refl, stored-as (c .before .answer .given .1) refl refl))
+    (λ c. (stored-as (c .before .before .before .before .answer2 .given .1) refl (c .before .before .encode-header .ensures), stored-as (c .before .before .before .before .answer2 .given .1) refl (rw (c .before .encode-bool .ensures) refl))))

@@ -1,0 +1,18 @@
+-- `abi::store_page` meets its contract. Assumes nothing.
+use mathlib.Core.Path.{refl}
+use Rattle.queries.specs.Queries.{pageSays, nextSays}
+use Rattle.abi.specs.Encoding.{encodeOption, encodePage, returned, stored}
+use Rattle.abi.specs.Laws.Encoding.{stored-as}
+use borrow.Author.Needs.{needs}
+use Rattle.abi.proofs.store_page.Statement.{statement}
+use Rattle.abi.proofs.store_page.Tie as tie
+
+pub store-page-spec : {M : Type 1} → statement M
+unfolding pageSays nextSays encodeOption encodePage returned stored
+store-page-spec =
+    tie.close
+    (tie.spec
+    (λ c. search needs) (λ c. search needs) (λ c. search needs) (λ c. search needs)
+    (λ c. stored-as (c .before .answer .given .1) refl refl)
+    (λ c. stored-as (c .before .before .before .before .answer2 .given .1) refl (rw (c .before .enum-told .given .1) refl))
+    (λ c. stored-as (c .before .before .before .before .before .answer2 .given .1) refl (rw (c .before .before .next .given .1) refl)))

@@ -1,0 +1,17 @@
+-- `abi::store_sound` meets its contract. Assumes nothing.
+use mathlib.Core.Path.{refl}
+use Rattle.table.specs.Numbers.{soundSays}
+use Rattle.abi.specs.Encoding.{encodeBool, returned, stored}
+use Rattle.abi.specs.Laws.Encoding.{stored-as}
+use borrow.Author.Needs.{needs}
+use Rattle.abi.proofs.store_sound.Statement.{statement}
+use Rattle.abi.proofs.store_sound.Tie as tie
+
+pub store-sound-spec : {M : Type 1} → statement M
+unfolding soundSays encodeBool returned stored
+store-sound-spec =
+    tie.close
+    (tie.spec
+    (λ c. search needs) (λ c. search needs) (λ c κs. search needs)
+    (λ c. stored-as (c .before .answer .given .1) refl refl)
+    (λ c. stored-as (c .before .before .before .answer2 .given .1) refl (rw (c .before .encode-bool .ensures) refl)))

@@ -1,0 +1,17 @@
+-- `abi::store_subset` meets its contract. Assumes nothing.
+use mathlib.Core.Path.{refl}
+use Rattle.abi.specs.Encoding.{subsetSays, encodeSubset, returned, stored}
+use Rattle.abi.specs.Laws.Encoding.{stored-as}
+use borrow.Author.Needs.{needs}
+use Rattle.abi.proofs.store_subset.Statement.{statement}
+use Rattle.abi.proofs.store_subset.Tie as tie
+
+pub store-subset-spec : {M : Type 1} → statement M
+unfolding subsetSays encodeSubset returned stored
+store-subset-spec =
+    tie.close
+    (tie.spec
+    (λ c. search needs) (λ c. search needs) (λ c. search needs)
+    (λ c. stored-as (c .before .answer .given .1) refl refl)
+    (λ c. stored-as (c .before .before .answer2 .given .1) refl refl)
+    (λ c. stored-as (c .before .before .answer3 .given .1) refl refl))

@@ -1,0 +1,17 @@
+-- `abi::store_table` meets its contract. Assumes nothing.
+use mathlib.Core.Path.{refl}
+use Rattle.table.specs.Numbers.{tableSays}
+use Rattle.abi.specs.Encoding.{returned, stored}
+use Rattle.abi.specs.Laws.Encoding.{stored-as}
+use borrow.Author.Needs.{needs}
+use Rattle.abi.proofs.store_table.Statement.{statement}
+use Rattle.abi.proofs.store_table.Tie as tie
+
+pub store-table-spec : {M : Type 1} → statement M
+unfolding tableSays returned stored
+store-table-spec =
+    tie.close
+    (tie.spec
+    (λ c. search needs) (λ c. search needs) (λ c κs. search needs)
+    (λ c. stored-as (c .before .answer .given .1) refl refl)
+    (λ c. stored-as (c .before .before .answer2 .given .1) refl (c .encode-header .ensures)))

@@ -1,0 +1,17 @@
+-- `abi::store_version` meets its contract. Assumes nothing.
+use mathlib.Core.Path.{refl}
+use Rattle.table.specs.Numbers.{versionSays}
+use Rattle.abi.specs.Encoding.{encodeVersion, returned, stored}
+use Rattle.abi.specs.Laws.Encoding.{stored-as}
+use borrow.Author.Needs.{needs}
+use Rattle.abi.proofs.store_version.Statement.{statement}
+use Rattle.abi.proofs.store_version.Tie as tie
+
+pub store-version-spec : {M : Type 1} → statement M
+unfolding versionSays encodeVersion returned stored
+store-version-spec =
+    tie.close
+    (tie.spec
+    (λ c. search needs) (λ c. search needs)
+    (λ c. stored-as (c .before .answer .given .1) refl refl)
+    (λ c. stored-as (c .before .before .answer2 .given .1) refl refl))

@@ -1,0 +1,166 @@
+-- The encoding of headers, arguments and answers as fixed numbers of words, and the contract of a C function: the library's own
+-- promise, of an answer whose refusal number is returned and whose encoding is stored. Assumes nothing.
+use Prim.Native.Nat.{ℕ}
+use mathlib.Core.Path.{_≡_}
+use mathlib.Core.Bool.{Bool, true, false, cond, not}
+use mathlib.Core.Option.{Option, none, some}
+use mathlib.Core.List.{List, [], _∷_}
+use lib.ListN.{getD}
+use lib.Dec.{leb, eqb}
+use Rattle.refusals.specs.Refusals.{Reply, refused, accepted}
+use Rattle.offsets.specs.Subsets.{Subset, range, list}
+use Rattle.offsets.specs.declared.SubsetHead.{SubsetHead}
+use Rattle.offsets.specs.declared.SubsetAnswer.{SubsetAnswer}
+use Rattle.offsets.specs.declared.SubsetAnswer.the-variants.{Refused as SubsetRefused, Range as SubsetRange, List as SubsetList}
+use Rattle.constraints.specs.declared.Constraint.{Constraint}
+use Rattle.plain.specs.Staged.{Opening}
+use Rattle.table.specs.declared.Largest.{Largest}
+use Rattle.table.specs.declared.Largest.the-variants.{None as NoLargest, Value}
+use Rattle.table.specs.declared.Header.{Header}
+use Rattle.table.specs.declared.Merge.{Merge}
+use Rattle.table.specs.declared.Version.{Version}
+use Rattle.queries.specs.Queries.{PageReply}
+
+-- ---- arguments
+
+-- The largest sort value is two words: whether there is one, 0 or 1, and the value, which is not read beside a 0.
+unfoldable pub decodeLargest : ℕ → ℕ → Largest
+decodeLargest flag value = cond (eqb flag 1) (Value value) NoLargest
+
+-- "header numbers outside their bounds": a flag that is neither 0 nor 1 makes a header without columns, which is refused by 1
+unfoldable pub decodeColumns : ℕ → ℕ → ℕ
+decodeColumns columns flag = cond (leb flag 1) columns 0
+
+-- a header is twelve words: its ten numbers in order, and the largest sort value
+unfoldable pub decodeHeader : List ℕ → Header
+decodeHeader words =
+    record {
+      columns = decodeColumns (getD words 0 0) (getD words 10 0);
+      keys = getD words 1 0;
+      sort = getD words 2 0;
+      rule = getD words 3 0;
+      capacity = getD words 4 0;
+      rows = getD words 5 0;
+      dead = getD words 6 0;
+      entries = getD words 7 0;
+      pending = getD words 8 0;
+      generation = getD words 9 0;
+      largest = decodeLargest (getD words 10 0) (getD words 11 0);
+    }
+
+-- an opening is six words: these numbers, and the generation
+abbrev pub decodeOpening : List ℕ → Opening
+decodeOpening words =
+    record { columns = getD words 0 0; keys = getD words 1 0; sort = getD words 2 0; rule = getD words 3 0; capacity = getD words 4 0 }
+
+abbrev pub openingGeneration : List ℕ → ℕ
+openingGeneration words = getD words 5 0
+
+-- a condition is three words
+abbrev pub decodeCondition : List ℕ → Constraint
+decodeCondition words = record { kind = getD words 0 0; column = getD words 1 0; value = getD words 2 0 }
+
+-- A subset is three words: whether it is a range, its start and its end. Of a list the ids are beside them.
+abbrev pub decodeSubset : List ℕ → SubsetHead
+decodeSubset words = record { dense = not (eqb (getD words 0 0) 0); start = getD words 1 0; end = getD words 2 0 }
+
+-- ---- answers
+
+-- 1 for yes
+abbrev pub bit : Bool → ℕ
+bit b = cond b 1 0
+
+abbrev pub largestFlag : Largest → ℕ
+largestFlag NoLargest = 0
+largestFlag (Value v) = 1
+
+abbrev pub largestValue : Largest → ℕ
+largestValue NoLargest = 0
+largestValue (Value v) = v
+
+unfoldable pub encodeHeader : Header → List ℕ
+encodeHeader h =
+    h .columns
+    ∷ h .keys
+    ∷ h .sort
+    ∷ h .rule
+    ∷ h .capacity
+    ∷ h .rows
+    ∷ h .dead
+    ∷ h .entries
+    ∷ h .pending
+    ∷ h .generation
+    ∷ largestFlag (h .largest)
+    ∷ largestValue (h .largest)
+    ∷ []
+
+-- the stop's number and place, whether a row was appended, and how many rows its compaction kept and dropped
+unfoldable pub encodeMerge : Merge → List ℕ
+encodeMerge m = m .status ∷ m .place ∷ bit (m .added) ∷ m .kept ∷ m .dropped ∷ []
+
+unfoldable pub encodeBool : Bool → List ℕ
+encodeBool b = bit b ∷ []
+
+-- 1 and the number, or 0 and 0 if there is none
+unfoldable pub encodeOption : Option ℕ → List ℕ
+encodeOption none = 0 ∷ 0 ∷ []
+encodeOption (some n) = 1 ∷ n ∷ []
+
+-- 1 and a range's start and end, or all 0 if there is none. The answers that are encoded so are never lists.
+unfoldable pub encodeRange : Option Subset → List ℕ
+encodeRange none = 0 ∷ 0 ∷ 0 ∷ []
+encodeRange (some (range start end)) = 1 ∷ start ∷ end ∷ []
+encodeRange (some (list ids)) = 0 ∷ 0 ∷ 0 ∷ []
+
+unfoldable pub encodeVersion : Version → List ℕ
+encodeVersion v = v .generation ∷ v .rows ∷ []
+
+-- A subset as an answer has the layout of one as an argument: a range, or the list of the first ids of the output, whose end is
+-- their number.
+unfoldable pub subsetSays : SubsetAnswer → Reply SubsetHead
+subsetSays (SubsetRefused n) = refused n
+subsetSays (SubsetRange start end) = accepted (record { dense = true; start = start; end = end })
+subsetSays (SubsetList count) = accepted (record { dense = false; start = 0; end = count })
+
+unfoldable pub encodeSubset : SubsetHead → List ℕ
+encodeSubset s = bit (s .dense) ∷ s .start ∷ s .end ∷ []
+
+-- how many ids were written, how many of those visited have a dead row, and the next place
+unfoldable pub encodePage : PageReply → List ℕ
+encodePage p = p .written ∷ p .dead ∷ encodeOption (p .next)
+
+-- ---- contracts
+
+-- the number that is returned: the refusal's, 0 if accepted
+unfoldable pub returned : {A : Type 0} → Reply A → ℕ
+returned (refused n) = n
+returned (accepted a) = 0
+
+-- the words that are stored: the encoding, or the words as they were if refused
+unfoldable pub stored : {A : Type 0} → (A → List ℕ) → List ℕ → Reply A → List ℕ
+stored encode words (refused n) = words
+stored encode words (accepted a) = encode a
+
+-- an answer's number is returned and its encoding stored
+pub record Stored {R A : Type 0} (says : R → Reply A) (encode : A → List ℕ) (answer : R) (words : List ℕ) (r : ℕ) (words′ : List ℕ) : Type 0 where
+  pub returns : r ≡ returned (says answer)
+  pub stores : words′ ≡ stored encode words (says answer)
+
+-- The contract of a C function: some answer meets the library's promise, its number is returned and its encoding stored.
+pub record Answers {R A : Type 0} (promise : R → Type 0) (says : R → Reply A) (encode : A → List ℕ) (words : List ℕ) (r : ℕ) (words′ : List ℕ) : Type 0 where
+  pub answer : R
+  pub promised : promise answer
+  pub stores : Stored says encode answer words r words′
+
+-- The same of one whose answer is its number alone.
+pub record AnswersNumber {R A : Type 0} (promise : R → Type 0) (says : R → Reply A) (r : ℕ) : Type 0 where
+  pub answer : R
+  pub promised : promise answer
+  pub returns : r ≡ returned (says answer)
+
+-- The same of one that stores a header beside its answer.
+pub record AnswersWithHeader {R A : Type 0} (promise : R → Type 0) (says : R → Reply A) (headerOf : A → Header) (encode : A → List ℕ) (header words : List ℕ) (r : ℕ) (header′ words′ : List ℕ) : Type 0 where
+  pub answer : R
+  pub promised : promise answer
+  pub header-stored : Stored says (λ a. encodeHeader (headerOf a)) answer header r header′
+  pub stores : Stored says encode answer words r words′

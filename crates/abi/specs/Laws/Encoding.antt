@@ -1,0 +1,69 @@
+-- A header is decoded as it was encoded, a subset answer as the subset that it is, and a flag above 1 is refused. Assumes nothing.
+use Prim.Native.Nat.{ℕ, _<_}
+use mathlib.Core.Path.{_≡_, refl}
+use mathlib.Core.Bool.{Bool, true, false}
+use mathlib.Core.List.{List}
+use lib.ListN.{getD}
+use borrow.Author.Tests.{lt-leb}
+use Rattle.refusals.specs.Refusals.{Reply}
+use Rattle.offsets.specs.declared.SubsetHead.{SubsetHead}
+use Rattle.plain.specs.Staged.{openable}
+use Rattle.table.specs.declared.Largest.{Largest}
+use Rattle.table.specs.declared.Largest.the-variants.{None as NoLargest, Value}
+use Rattle.table.specs.declared.Header.{Header}
+use Rattle.table.specs.Refusing.{outside}
+use Rattle.abi.specs.Encoding.{decodeLargest, decodeColumns, decodeHeader, decodeSubset, largestFlag, largestValue, encodeHeader, encodeSubset, returned, stored, Stored, Answers}
+
+largest-decoded : (l : Largest) → decodeLargest (largestFlag l) (largestValue l) ≡ l
+unfolding decodeLargest
+largest-decoded NoLargest = refl
+largest-decoded (Value v) = refl
+
+columns-decoded : (columns : ℕ) (l : Largest) → decodeColumns columns (largestFlag l) ≡ columns
+unfolding decodeColumns
+columns-decoded columns NoLargest = refl
+columns-decoded columns (Value v) = refl
+
+pub header-decoded : (h : Header) → decodeHeader (encodeHeader h) ≡ h
+unfolding decodeHeader encodeHeader
+header-decoded h =
+    let c = columns-decoded (h .columns) (h .largest) in
+    let l = largest-decoded (h .largest) in
+    λ i.
+    record {
+      columns = c i;
+      keys = h .keys;
+      sort = h .sort;
+      rule = h .rule;
+      capacity = h .capacity;
+      rows = h .rows;
+      dead = h .dead;
+      entries = h .entries;
+      pending = h .pending;
+      generation = h .generation;
+      largest = l i;
+    }
+
+-- a flag above 1 fails test 1
+pub flag-refused : (words : List ℕ) → 1 < getD words 10 0 → outside (decodeHeader words) ≡ true
+unfolding decodeHeader decodeColumns outside openable
+flag-refused words h = rw (lt-leb (getD words 10 0) 1 h)
+
+-- an answer can be passed on as the next argument
+dense-decoded : (dense : Bool) (start end : ℕ) → decodeSubset (encodeSubset (record { dense = dense; start = start; end = end })) ≡ record { dense = dense; start = start; end = end }
+unfolding encodeSubset
+dense-decoded true start end = refl
+dense-decoded false start end = refl
+
+pub subset-decoded : (s : SubsetHead) → decodeSubset (encodeSubset s) ≡ s
+subset-decoded s = dense-decoded (s .dense) (s .start) (s .end)
+
+-- what is stored of an answer, by which answer it is
+pub stored-as : {R A : Type 0} {says : R → Reply A} {encode : A → List ℕ} {answer a : R} {words : List ℕ} {r : ℕ} {words′ : List ℕ}
+    → answer ≡ a → r ≡ returned (says a) → words′ ≡ stored encode words (says a) → Stored says encode answer words r words′
+stored-as e p q = rw e record { returns = p; stores = q }
+
+-- the contract of a C function, of this answer
+pub answers : {R A : Type 0} {promise : R → Type 0} {says : R → Reply A} {encode : A → List ℕ} {answer : R} {words : List ℕ} {r : ℕ} {words′ : List ℕ}
+    → promise answer → Stored says encode answer words r words′ → Answers promise says encode words r words′
+answers {answer = answer} p s = record { answer = answer; promised = p; stores = s }

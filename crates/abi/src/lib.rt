@@ -1,0 +1,280 @@
+// Encodes headers and answers as words for C callers, and decodes their arguments. A fixed number of words is a fixed array, which
+// goes to C as a plain pointer.
+ghost use mathlib.Core.Path.{_≡_};
+ghost use mathlib.Core.List.{List};
+ghost use Rattle.table.specs.Numbers.{tableSays, mergeSays, rowSays, cellSays, rangeSays, versionSays, soundSays};
+ghost use Rattle.queries.specs.Queries.{matchSays, pageSays};
+ghost use Rattle.abi.specs.Encoding.{decodeLargest, decodeColumns, decodeHeader, decodeCondition, decodeSubset, bit, largestFlag, largestValue, encodeHeader, encodeMerge, encodeBool, encodeOption, encodeRange, encodeVersion, subsetSays, encodeSubset, encodePage, Stored};
+use constraints::Constraint;
+use offsets::SubsetAnswer;
+use offsets::SubsetHead;
+use queries::MatchAnswer;
+use queries::NextPlace;
+use queries::PageAnswer;
+use table::CellAnswer;
+use table::Header;
+use table::Largest;
+use table::MergeAnswer;
+use table::RangeAnswer;
+use table::RowAnswer;
+use table::SoundAnswer;
+use table::TableAnswer;
+use table::VersionAnswer;
+
+// What a call that is not refused returns.
+pub const ACCEPTED: u32 = 0;
+
+// ---- arguments
+
+fn decode_largest(flag: u32, value: u32) -> Largest
+    ensures { λ r. ⌜ r ≡ decodeLargest flag value ⌝ }
+{
+    if flag == 1 {
+        return Largest::Value(value);
+    }
+    Largest::None
+}
+
+fn decode_columns(columns: u32, flag: u32) -> u32
+    ensures { λ r. ⌜ r ≡ decodeColumns columns flag ⌝ }
+{
+    if flag <= 1 {
+        return columns;
+    }
+    0
+}
+
+pub fn decode_header(words: &[u32; 12]) -> Header
+    ensures { λ r. ⌜ r ≡ decodeHeader (now (words .entry)) ⌝ }
+{
+    Header {
+        columns: decode_columns(words[0], words[10]),
+        keys: words[1],
+        sort: words[2],
+        rule: words[3],
+        capacity: words[4],
+        rows: words[5],
+        dead: words[6],
+        entries: words[7],
+        pending: words[8],
+        generation: words[9],
+        largest: decode_largest(words[10], words[11]),
+    }
+}
+
+pub fn decode_condition(words: &[u32; 3]) -> Constraint
+    ensures { λ r. ⌜ r ≡ decodeCondition (now (words .entry)) ⌝ }
+{
+    Constraint {
+        kind: words[0],
+        column: words[1],
+        value: words[2],
+    }
+}
+
+pub fn decode_subset(words: &[u32; 3]) -> SubsetHead
+    ensures { λ r. ⌜ r ≡ decodeSubset (now (words .entry)) ⌝ }
+{
+    SubsetHead {
+        dense: words[0] != 0,
+        start: words[1],
+        end: words[2],
+    }
+}
+
+// ---- answers
+
+pub fn encode_bool(answer: bool) -> u32
+    ensures { λ r. ⌜ r ≡ bit answer ⌝ }
+{
+    if answer {
+        return 1;
+    }
+    0
+}
+
+fn largest_flag(largest: Largest) -> u32
+    ensures { λ r. ⌜ r ≡ largestFlag largest ⌝ }
+{
+    match largest {
+        Largest::None => 0,
+        Largest::Value(value) => 1,
+    }
+}
+
+fn largest_value(largest: Largest) -> u32
+    ensures { λ r. ⌜ r ≡ largestValue largest ⌝ }
+{
+    match largest {
+        Largest::None => 0,
+        Largest::Value(value) => value,
+    }
+}
+
+pub fn encode_header(h: Header) -> [u32; 12]
+    ensures { λ r. ⌜ r ≡ encodeHeader h ⌝ }
+{
+    let largest = h.largest;
+    let flag = largest_flag(largest);
+    let value = largest_value(largest);
+    [
+        h.columns,
+        h.keys,
+        h.sort,
+        h.rule,
+        h.capacity,
+        h.rows,
+        h.dead,
+        h.entries,
+        h.pending,
+        h.generation,
+        flag,
+        value,
+    ]
+}
+
+pub fn store_table(answer: TableAnswer, header: &mut [u32; 12]) -> u32
+    ensures { λ r. ⌜ Stored tableSays encodeHeader answer (now (header .entry)) r (now (header .exit)) ⌝ }
+{
+    match answer {
+        TableAnswer::Refused(number) => number,
+        TableAnswer::Table(h) => {
+            *header = encode_header(h);
+            ACCEPTED
+        }
+    }
+}
+
+pub fn store_merge(answer: MergeAnswer, header: &mut [u32; 12], merged: &mut [u32; 5]) -> u32
+    ensures { λ r. ⌜ Stored mergeSays (λ m. encodeHeader (m .header)) answer (now (header .entry)) r (now (header .exit)) × Stored mergeSays encodeMerge answer (now (merged .entry)) r (now (merged .exit)) ⌝ }
+{
+    match answer {
+        MergeAnswer::Refused(number) => number,
+        MergeAnswer::Merged(m) => {
+            *header = encode_header(m.header);
+            *merged = [m.status, m.place, encode_bool(m.added), m.kept, m.dropped];
+            ACCEPTED
+        }
+    }
+}
+
+pub fn store_row(answer: RowAnswer, row: &mut [u32; 2]) -> u32
+    ensures { λ r. ⌜ Stored rowSays encodeOption answer (now (row .entry)) r (now (row .exit)) ⌝ }
+{
+    match answer {
+        RowAnswer::Refused(number) => number,
+        RowAnswer::None => {
+            *row = [0, 0];
+            ACCEPTED
+        }
+        RowAnswer::Row(number) => {
+            *row = [1, number];
+            ACCEPTED
+        }
+    }
+}
+
+pub fn store_cell(answer: CellAnswer, cell: &mut [u32; 2]) -> u32
+    ensures { λ r. ⌜ Stored cellSays encodeOption answer (now (cell .entry)) r (now (cell .exit)) ⌝ }
+{
+    match answer {
+        CellAnswer::Refused(number) => number,
+        CellAnswer::None => {
+            *cell = [0, 0];
+            ACCEPTED
+        }
+        CellAnswer::Cell(value) => {
+            *cell = [1, value];
+            ACCEPTED
+        }
+    }
+}
+
+pub fn store_range(answer: RangeAnswer, range: &mut [u32; 3]) -> u32
+    ensures { λ r. ⌜ Stored rangeSays encodeRange answer (now (range .entry)) r (now (range .exit)) ⌝ }
+{
+    match answer {
+        RangeAnswer::Refused(number) => number,
+        RangeAnswer::None => {
+            *range = [0, 0, 0];
+            ACCEPTED
+        }
+        RangeAnswer::Range(start, end) => {
+            *range = [1, start, end];
+            ACCEPTED
+        }
+    }
+}
+
+pub fn store_version(answer: VersionAnswer, version: &mut [u32; 2]) -> u32
+    ensures { λ r. ⌜ Stored versionSays encodeVersion answer (now (version .entry)) r (now (version .exit)) ⌝ }
+{
+    match answer {
+        VersionAnswer::Refused(number) => number,
+        VersionAnswer::Version(v) => {
+            *version = [v.generation, v.rows];
+            ACCEPTED
+        }
+    }
+}
+
+pub fn store_sound(answer: SoundAnswer, sound: &mut [u32; 1]) -> u32
+    ensures { λ r. ⌜ Stored soundSays encodeBool answer (now (sound .entry)) r (now (sound .exit)) ⌝ }
+{
+    match answer {
+        SoundAnswer::Refused(number) => number,
+        SoundAnswer::Sound(yes) => {
+            *sound = [encode_bool(yes)];
+            ACCEPTED
+        }
+    }
+}
+
+pub fn store_subset(answer: SubsetAnswer, subset: &mut [u32; 3]) -> u32
+    ensures { λ r. ⌜ Stored subsetSays encodeSubset answer (now (subset .entry)) r (now (subset .exit)) ⌝ }
+{
+    match answer {
+        SubsetAnswer::Refused(number) => number,
+        SubsetAnswer::Range(start, end) => {
+            *subset = [1, start, end];
+            ACCEPTED
+        }
+        SubsetAnswer::List(count) => {
+            *subset = [0, 0, count];
+            ACCEPTED
+        }
+    }
+}
+
+pub fn store_match(answer: MatchAnswer, matched: &mut [u32; 1]) -> u32
+    ensures { λ r. ⌜ Stored matchSays encodeBool answer (now (matched .entry)) r (now (matched .exit)) ⌝ }
+{
+    match answer {
+        MatchAnswer::Refused(number) => number,
+        MatchAnswer::Match(yes) => {
+            *matched = [encode_bool(yes)];
+            ACCEPTED
+        }
+    }
+}
+
+pub fn store_page(answer: PageAnswer, page: &mut [u32; 4]) -> u32
+    ensures { λ r. ⌜ Stored pageSays encodePage answer (now (page .entry)) r (now (page .exit)) ⌝ }
+{
+    match answer {
+        PageAnswer::Refused(number) => number,
+        PageAnswer::Page(p) => {
+            let next = p.next;
+            match next {
+                NextPlace::None => {
+                    *page = [p.written, p.dead, 0, 0];
+                    ACCEPTED
+                }
+                NextPlace::At(place) => {
+                    *page = [p.written, p.dead, 1, place];
+                    ACCEPTED
+                }
+            }
+        }
+    }
+}

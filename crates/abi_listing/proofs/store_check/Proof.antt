@@ -1,0 +1,17 @@
+-- `abi_listing::store_check` meets its contract. Assumes nothing.
+use mathlib.Core.Path.{refl}
+use Rattle.listing_answers.specs.Answers.{checkSays}
+use Rattle.abi.specs.Encoding.{returned, stored}
+use Rattle.abi.specs.Laws.Encoding.{stored-as}
+use borrow.Author.Needs.{needs}
+use Rattle.abi_listing.proofs.store_check.Statement.{statement}
+use Rattle.abi_listing.proofs.store_check.Tie as tie
+
+pub store-check-spec : {M : Type 1} → statement M
+unfolding checkSays returned stored
+store-check-spec =
+    tie.close
+    (tie.spec
+    (λ c. search needs) (λ c. search needs) (λ c κs. search needs)
+    (λ c. stored-as (c .before .answer .given .1) refl refl)
+    (λ c. stored-as (c .before .before .answer2 .given .1) refl (c .encode-verdict .ensures)))

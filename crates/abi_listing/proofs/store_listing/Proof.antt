@@ -1,0 +1,17 @@
+-- `abi_listing::store_listing` meets its contract. Assumes nothing.
+use mathlib.Core.Path.{refl}
+use Rattle.listings.specs.Listings.{listingSays}
+use Rattle.abi.specs.Encoding.{returned, stored}
+use Rattle.abi.specs.Laws.Encoding.{stored-as}
+use borrow.Author.Needs.{needs}
+use Rattle.abi_listing.proofs.store_listing.Statement.{statement}
+use Rattle.abi_listing.proofs.store_listing.Tie as tie
+
+pub store-listing-spec : {M : Type 1} → statement M
+unfolding listingSays returned stored
+store-listing-spec =
+    tie.close
+    (tie.spec
+    (λ c. search needs) (λ c. search needs)
+    (λ c. stored-as (c .before .answer .given .1) refl refl)
+    (λ c. stored-as (c .before .before .answer2 .given .1) refl refl))

@@ -1,0 +1,34 @@
+-- The contract of each C function determines what it returns, what it stores and the lent cells as far as the law of the library
+-- determines its answer and those cells. Assumes nothing.
+use Prim.Native.Nat.{ℕ}
+use mathlib.Core.Path.{_≡_}
+use mathlib.Core.Bool.{Bool, true, false}
+use mathlib.Core.List.{List}
+use Rattle.refusals.specs.Laws.Determined.{Same}
+use Rattle.constraints.specs.declared.Constraint.{Constraint}
+use Rattle.listings.specs.Listings.{listingSays, numberedSays, moveSays, ListingRead, ListingMoved}
+use Rattle.listings.specs.Laws.Determined as library
+use Rattle.listing_answers.specs.Answers.{checkSays, AnswersChecked}
+use Rattle.listing_answers.specs.Laws.Determined.{checked-determined}
+use Rattle.abi.specs.Encoding.{Answers}
+use Rattle.abi.specs.Laws.Determined.{SameOutcome, answers-determined}
+use Rattle.abi_listing.specs.Encoding.{encodeHead, encodeLength, encodeVerdict}
+
+module _ {words words₁ words₂ : List ℕ} {r₁ r₂ : ℕ} (text : List ℕ) where
+  module _ (output output₁ output₂ : List ℕ) where
+    pub read-listing-determined : Answers (λ a. ListingRead false text output (listingSays a) output₁) listingSays encodeHead words r₁ words₁
+        → Answers (λ a. ListingRead false text output (listingSays a) output₂) listingSays encodeHead words r₂ words₂ → SameOutcome listingSays (λ x y. Same x y output₁ output₂) r₁ r₂ words₁ words₂
+    read-listing-determined = answers-determined (λ x y. library.listing-determined)
+
+    pub read-numbered-determined : Answers (λ a. ListingRead true text output (numberedSays a) output₁) numberedSays encodeHead words r₁ words₁
+        → Answers (λ a. ListingRead true text output (numberedSays a) output₂) numberedSays encodeHead words r₂ words₂ → SameOutcome numberedSays (λ x y. Same x y output₁ output₂) r₁ r₂ words₁ words₂
+    read-numbered-determined = answers-determined (λ x y. library.numbered-determined)
+
+    -- both moves
+    pub move-determined : (numbered : Bool) → Answers (λ a. ListingMoved numbered text output a output₁) moveSays encodeLength words r₁ words₁
+        → Answers (λ a. ListingMoved numbered text output a output₂) moveSays encodeLength words r₂ words₂ → SameOutcome moveSays (λ x y. Same x y output₁ output₂) r₁ r₂ words₁ words₂
+    move-determined numbered = answers-determined (λ x y. library.move-determined)
+
+  pub check-answers-determined : (conditions : List Constraint) (given : List ℕ) → Answers (λ a. AnswersChecked text conditions given a) checkSays encodeVerdict words r₁ words₁
+      → Answers (λ a. AnswersChecked text conditions given a) checkSays encodeVerdict words r₂ words₂ → SameOutcome checkSays (λ x y. x ≡ y) r₁ r₂ words₁ words₂
+  check-answers-determined conditions given = answers-determined (λ x y. checked-determined)

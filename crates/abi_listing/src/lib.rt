@@ -1,0 +1,156 @@
+// Listings as text, and the test of answers against them, as C functions.
+ghost use mathlib.Core.Path.{_≡_};
+ghost use mathlib.Core.Bool.{true, false};
+ghost use Rattle.listings.specs.Listings.{listingSays, numberedSays, moveSays, ListingRead, ListingMoved};
+ghost use Rattle.listing_answers.specs.Answers.{checkSays, AnswersChecked};
+ghost use Rattle.abi.specs.Encoding.{Stored, Answers};
+ghost use Rattle.abi_listing.specs.Encoding.{encodeHead, encodeLength, encodeVerdict};
+use abi::ACCEPTED;
+use constraints::Constraint;
+use listing_answers::CheckAnswer;
+use listing_answers::Verdict;
+use listing_answers::check_answers;
+use listings::ListingAnswer;
+use listings::MoveAnswer;
+use listings::NumberedAnswer;
+
+// Kinds of verdicts.
+const RIGHT: u64 = 0;
+
+const MISPLACED: u64 = 1;
+
+const WRONG: u64 = 2;
+
+fn store_listing(answer: ListingAnswer, head: &mut [u32; 6]) -> u32
+    ensures { λ r. ⌜ Stored listingSays encodeHead answer (now (head .entry)) r (now (head .exit)) ⌝ }
+{
+    match answer {
+        ListingAnswer::Refused(number) => number,
+        ListingAnswer::Listing(h) => {
+            *head = [h.columns, h.keys, h.sort, h.rule, h.generation, h.listed];
+            ACCEPTED
+        }
+    }
+}
+
+fn store_numbered(answer: NumberedAnswer, head: &mut [u32; 7]) -> u32
+    ensures { λ r. ⌜ Stored numberedSays encodeHead answer (now (head .entry)) r (now (head .exit)) ⌝ }
+{
+    match answer {
+        NumberedAnswer::Refused(number) => number,
+        NumberedAnswer::Listing(h) => {
+            *head = [
+                h.columns,
+                h.keys,
+                h.sort,
+                h.rule,
+                h.generation,
+                h.count,
+                h.listed,
+            ];
+            ACCEPTED
+        }
+    }
+}
+
+fn store_length(answer: MoveAnswer, length: &mut [u64; 1]) -> u32
+    ensures { λ r. ⌜ Stored moveSays encodeLength answer (now (length .entry)) r (now (length .exit)) ⌝ }
+{
+    match answer {
+        MoveAnswer::Refused(number) => number,
+        MoveAnswer::Written(bytes) => {
+            *length = [bytes as u64];
+            ACCEPTED
+        }
+    }
+}
+
+fn encode_verdict(verdict: Verdict) -> [u64; 2]
+    ensures { λ r. ⌜ r ≡ encodeVerdict verdict ⌝ }
+{
+    match verdict {
+        Verdict::Right => [RIGHT, 0],
+        Verdict::Misplaced(place) => [MISPLACED, place as u64],
+        Verdict::Wrong(number) => [WRONG, number as u64],
+    }
+}
+
+fn store_check(answer: CheckAnswer, verdict: &mut [u64; 2]) -> u32
+    ensures { λ r. ⌜ Stored checkSays encodeVerdict answer (now (verdict .entry)) r (now (verdict .exit)) ⌝ }
+{
+    match answer {
+        CheckAnswer::Refused(number) => number,
+        CheckAnswer::Checked(found) => {
+            *verdict = encode_verdict(found);
+            ACCEPTED
+        }
+    }
+}
+
+// Reads a listing in the old form. The answer is six words: columns, keys, sort, rule, generation, listed.
+#[no_mangle]
+pub extern "C" fn mouldgrey_read_listing(
+    text: &[u8],
+    output: &mut [u32],
+    head: &mut [u32; 6],
+) -> u32
+    ensures { λ r. ⌜ Answers (λ answer. ListingRead false (now (text .entry)) (now (output .entry)) (listingSays answer) (now (output .exit))) listingSays encodeHead (now (head .entry)) r (now (head .exit)) ⌝ }
+{
+    let answer = listing_reading::read_listing(text, output);
+    store_listing(answer, head)
+}
+
+// Reads a listing in the new form. The answer is seven words: columns, keys, sort, rule, generation, count, listed.
+#[no_mangle]
+pub extern "C" fn mouldgrey_read_numbered(
+    text: &[u8],
+    output: &mut [u32],
+    head: &mut [u32; 7],
+) -> u32
+    ensures { λ r. ⌜ Answers (λ answer. ListingRead true (now (text .entry)) (now (output .entry)) (numberedSays answer) (now (output .exit))) numberedSays encodeHead (now (head .entry)) r (now (head .exit)) ⌝ }
+{
+    let answer = listing_reading::read_numbered(text, output);
+    store_numbered(answer, head)
+}
+
+// From the old form to the new. The answer is how many bytes were written.
+#[no_mangle]
+pub extern "C" fn mouldgrey_to_numbered(
+    text: &[u8],
+    output: &mut [u8],
+    length: &mut [u64; 1],
+) -> u32
+    ensures { λ r. ⌜ Answers (λ answer. ListingMoved false (now (text .entry)) (now (output .entry)) answer (now (output .exit))) moveSays encodeLength (now (length .entry)) r (now (length .exit)) ⌝ }
+{
+    let answer = listing_moves::to_numbered(text, output);
+    store_length(answer, length)
+}
+
+// From the new form to the old. The answer is how many bytes were written.
+#[no_mangle]
+pub extern "C" fn mouldgrey_from_numbered(
+    text: &[u8],
+    output: &mut [u8],
+    length: &mut [u64; 1],
+) -> u32
+    ensures { λ r. ⌜ Answers (λ answer. ListingMoved true (now (text .entry)) (now (output .entry)) answer (now (output .exit))) moveSays encodeLength (now (length .entry)) r (now (length .exit)) ⌝ }
+{
+    let answer = listing_moves::from_numbered(text, output);
+    store_length(answer, length)
+}
+
+// Tests a laboratory's answers. The answer is two words: the kind of the verdict, 0 right, 1 misplaced, 2 wrong, and the place or the
+// number, 0 where the numbers are right. A condition is a struct of three words, so a list of them is lent as it is, and this
+// function is proved by hand: it checks and stores.
+#[no_mangle]
+pub extern "C" fn mouldgrey_check_answers(
+    text: &[u8],
+    conditions: &[Constraint],
+    given: &[u32],
+    verdict: &mut [u64; 2],
+) -> u32
+    ensures { λ r. ⌜ Answers (λ answer. AnswersChecked (now (text .entry)) (now (conditions .entry)) (now (given .entry)) answer) checkSays encodeVerdict (now (verdict .entry)) r (now (verdict .exit)) ⌝ }
+{
+    let answer = check_answers(text, conditions, given);
+    store_check(answer, verdict)
+}

@@ -1,0 +1,41 @@
+// The refresh of rows that mention a value as a C function.
+ghost use Rattle.refreshes.specs.Refreshes.{refreshSays, Refreshing};
+ghost use Rattle.abi.specs.Encoding.{decodeHeader, encodeHeader, encodeBool, Stored, AnswersWithHeader};
+use abi::ACCEPTED;
+use abi::decode_header;
+use abi::encode_bool;
+use abi::encode_header;
+use refreshes::RefreshAnswer;
+use refreshing::refresh_rows_for_values;
+
+fn store_refresh(answer: RefreshAnswer, header: &mut [u32; 12], staged: &mut [u32; 1]) -> u32
+    ensures { λ r. ⌜ Stored refreshSays (λ a. encodeHeader (a .header)) answer (now (header .entry)) r (now (header .exit)) × Stored refreshSays (λ a. encodeBool (a .staged)) answer (now (staged .entry)) r (now (staged .exit)) ⌝ }
+{
+    match answer {
+        RefreshAnswer::Refused(number) => number,
+        RefreshAnswer::Refreshed(a) => {
+            *header = encode_header(a.header);
+            *staged = [encode_bool(a.staged)];
+            ACCEPTED
+        }
+    }
+}
+
+// The answer is one word: 1 if a row was staged.
+#[no_mangle]
+pub extern "C" fn mouldgrey_refresh_rows_for_values(
+    header: &mut [u32; 12],
+    rows: &[u32],
+    pending: &mut [u32],
+    index: &mut [u32],
+    columns: &[u32],
+    values: &[u32],
+    stamp: u32,
+    staged: &mut [u32; 1],
+) -> u32
+    ensures { λ r. ⌜ AnswersWithHeader (λ answer. Refreshing (decodeHeader (now (header .entry))) (now (rows .entry)) (now (pending .entry)) (now (index .entry)) (record { columns = now (columns .entry); values = now (values .entry); stamp = stamp }) answer (now (pending .exit)) (now (index .exit))) refreshSays (λ a. a .header) (λ a. encodeBool (a .staged)) (now (header .entry)) (now (staged .entry)) r (now (header .exit)) (now (staged .exit)) ⌝ }
+{
+    let h = decode_header(header);
+    let answer = refresh_rows_for_values(h, rows, pending, index, columns, values, stamp);
+    store_refresh(answer, header, staged)
+}

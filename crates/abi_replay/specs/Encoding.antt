@@ -1,0 +1,15 @@
+-- The encoding of what a run of queries leaves. Assumes nothing.
+use Prim.Native.Nat.{ℕ, min}
+use mathlib.Core.List.{List, [], _∷_}
+use Rattle.refusals.specs.Refusals.{Reply, accepted}
+use Rattle.question_words.specs.declared.RunAnswer.{RunAnswer}
+use Rattle.abi.specs.Encoding.{bit}
+
+-- a run of queries is never refused
+abbrev pub runSays : RunAnswer → Reply RunAnswer
+runSays a = accepted a
+
+-- Whether the ids left are a range; its start and end; how many ids the list has; which list it is, 0 the starting one, whole, 1 the
+-- first lent, 2 the second; whether an accepted query refined; how many queries were taken from the list, at most 4294967295.
+unfoldable pub encodeRun : RunAnswer → List ℕ
+encodeRun l = bit (l .dense) ∷ l .start ∷ l .end ∷ l .count ∷ l .place ∷ bit (l .refined) ∷ min (l .taken) 4294967295 ∷ []

@@ -1,0 +1,100 @@
+// The two lists of the order's term 3 as C functions: an opening with a list of calls, and a list of queries.
+ghost use mathlib.Core.Path.{_≡_};
+ghost use Prim.Native.Nat.{min};
+ghost use Rattle.offsets.specs.Answers.{subsetOf};
+ghost use Rattle.table.specs.Numbers.{tableSays};
+ghost use Rattle.table.specs.Promises.{body, compactionWords};
+ghost use Rattle.call_words.specs.Encoding.{decoded};
+ghost use Rattle.replay.specs.Replays.{Replayed};
+ghost use Rattle.question_words.specs.Encoding.{questionsIn};
+ghost use Rattle.runs.specs.Asking.{RunMade};
+ghost use Rattle.abi.specs.Encoding.{decodeHeader, decodeOpening, openingGeneration, decodeSubset, encodeHeader, Stored, Answers};
+ghost use Rattle.abi_replay.specs.Encoding.{runSays, encodeRun};
+use abi::ACCEPTED;
+use abi::decode_header;
+use abi::decode_subset;
+use abi::encode_bool;
+use abi::store_table;
+use question_words::RunAnswer;
+
+// The largest number of queries that is told apart.
+const MOST_TAKEN: usize = 4294967295;
+
+// Opens a table and makes the calls, in order. The opening is six words: columns, keys, sort, rule, capacity, generation.
+#[no_mangle]
+pub extern "C" fn mouldgrey_replay(
+    opening: &[u32; 6],
+    header: &mut [u32; 12],
+    calls: &[u32],
+    rows: &mut [u32],
+    keys: &mut [u32],
+    sorts: &mut [u32],
+    pending: &mut [u32],
+    live: &mut [u64],
+    base: &mut [u32],
+) -> u32
+    ensures { λ r. ⌜ Answers (λ answer. Replayed (decodeOpening (now (opening .entry))) (openingGeneration (now (opening .entry))) (decoded (now (calls .entry))) (body (now (rows .entry)) (now (keys .entry)) (now (sorts .entry))) (now (pending .entry)) (compactionWords (now (live .entry)) (now (base .entry))) answer (body (now (rows .exit)) (now (keys .exit)) (now (sorts .exit))) (now (pending .exit)) (compactionWords (now (live .exit)) (now (base .exit)))) tableSays encodeHeader (now (header .entry)) r (now (header .exit)) ⌝ }
+{
+    let answer = replay::replay(
+        opening[0],
+        opening[1],
+        opening[2],
+        opening[3],
+        opening[4],
+        opening[5],
+        calls,
+        rows,
+        keys,
+        sorts,
+        pending,
+        live,
+        base,
+    );
+    store_table(answer, header)
+}
+
+fn count_word(n: usize) -> u32
+    ensures { λ r. ⌜ r ≡ min n 4294967295 ⌝ }
+{
+    if n > MOST_TAKEN {
+        return 4294967295;
+    }
+    n as u32
+}
+
+fn store_run(l: RunAnswer, words: &mut [u32; 7]) -> u32
+    ensures { λ r. ⌜ Stored runSays encodeRun l (now (words .entry)) r (now (words .exit)) ⌝ }
+{
+    *words = [
+        encode_bool(l.dense),
+        l.start,
+        l.end,
+        l.count,
+        l.place,
+        encode_bool(l.refined),
+        count_word(l.taken),
+    ];
+    ACCEPTED
+}
+
+// Runs the queries, in order, each on the ids that the last accepted one left. The answer is seven words: dense, start, end, count,
+// place, refined, taken.
+#[no_mangle]
+pub extern "C" fn mouldgrey_run_queries(
+    header: &[u32; 12],
+    rows: &[u32],
+    sorts: &[u32],
+    subset: &[u32; 3],
+    ids: &[u32],
+    queries: &[u32],
+    first: &mut [u32],
+    second: &mut [u32],
+    answer: &mut [u32; 7],
+) -> u32
+    ensures { λ r. ⌜ Answers (λ a. RunMade (decodeHeader (now (header .entry))) (now (rows .entry)) (now (sorts .entry)) (subsetOf (decodeSubset (now (subset .entry))) (now (ids .entry))) (now (ids .entry)) (questionsIn (now (queries .entry))) (now (first .entry)) (now (second .entry)) a (now (first .exit)) (now (second .exit))) runSays encodeRun (now (answer .entry)) r (now (answer .exit)) ⌝ }
+{
+    let h = decode_header(header);
+    let start = decode_subset(subset);
+    let run = runs::ask(h, rows, sorts, start, ids, queries, first, second);
+    store_run(run, answer)
+}

@@ -1,0 +1,18 @@
+-- `abi_short_histories::store_position` meets its contract. Assumes nothing.
+use mathlib.Core.Path.{refl}
+use Rattle.short_histories.specs.Sequences.{positionSays}
+use Rattle.abi.specs.Encoding.{returned, stored}
+use Rattle.abi.specs.Laws.Encoding.{stored-as}
+use Rattle.abi_short_histories.specs.Encoding.{encodeNumber}
+use borrow.Author.Needs.{needs}
+use Rattle.abi_short_histories.proofs.store_position.Statement.{statement}
+use Rattle.abi_short_histories.proofs.store_position.Tie as tie
+
+pub store-position-spec : {M : Type 1} → statement M
+unfolding positionSays encodeNumber returned stored
+store-position-spec =
+    tie.close
+    (tie.spec
+    (λ c. search needs) (λ c. search needs)
+    (λ c. stored-as (c .before .answer .given .1) refl refl)
+    (λ c. stored-as (c .before .before .answer2 .given .1) refl refl))

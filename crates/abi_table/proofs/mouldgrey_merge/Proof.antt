@@ -1,0 +1,13 @@
+-- `abi_table::mouldgrey_merge` meets its contract. Assumes nothing.
+use mathlib.Core.Path.{sym}
+use borrow.Author.Needs.{needs}
+use Rattle.abi_table.proofs.mouldgrey_merge.Statement.{statement}
+use Rattle.abi_table.proofs.mouldgrey_merge.Tie as tie
+
+pub mouldgrey-merge-spec : {M : Type 1} → statement M
+mouldgrey-merge-spec =
+    tie.close
+    (tie.spec
+    (λ c κs. search needs) (λ c κs. search needs) (λ c κs. search needs) (λ c. search needs) (λ c. search needs)
+    (λ c. search needs) (λ c. search needs) (λ c. search needs)
+    (λ c. rw (sym (c .before .before .before .before .before .before .before .before .before .before .before .before .before .before .before .before .before .before .before .decode-header .ensures)) record { answer = c .before .before .before .before .before .before .before .before .before .before .before .before .before .merge .result; promised = c .before .before .before .before .before .before .before .before .before .before .before .before .before .merge .ensures; header-stored = c .store-merge .ensures .0; stores = c .store-merge .ensures .1 }))

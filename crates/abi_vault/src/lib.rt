@@ -1,0 +1,31 @@
+// Column order for the vault as C functions. What is returned is the refusal's number, 0 if the output was written.
+ghost use mathlib.Core.Path.{_≡_};
+ghost use Rattle.vault.specs.Columns.{toColumns, fromColumns, columnsSays, Rearranged};
+ghost use Rattle.abi.specs.Encoding.{returned, AnswersNumber};
+use abi::ACCEPTED;
+use vault::ColumnsAnswer;
+
+fn number_of(answer: ColumnsAnswer) -> u32
+    ensures { λ r. ⌜ r ≡ returned (columnsSays answer) ⌝ }
+{
+    match answer {
+        ColumnsAnswer::Refused(number) => number,
+        ColumnsAnswer::Written => ACCEPTED,
+    }
+}
+
+#[no_mangle]
+pub extern "C" fn mouldgrey_to_columns(width: u32, cells: &[u32], output: &mut [u32]) -> u32
+    ensures { λ r. ⌜ AnswersNumber (λ answer. Rearranged toColumns width (now (cells .entry)) (now (output .entry)) answer (now (output .exit))) columnsSays r ⌝ }
+{
+    let answer = vault::to_columns(width, cells, output);
+    number_of(answer)
+}
+
+#[no_mangle]
+pub extern "C" fn mouldgrey_from_columns(width: u32, cells: &[u32], output: &mut [u32]) -> u32
+    ensures { λ r. ⌜ AnswersNumber (λ answer. Rearranged fromColumns width (now (cells .entry)) (now (output .entry)) answer (now (output .exit))) columnsSays r ⌝ }
+{
+    let answer = vault::from_columns(width, cells, output);
+    number_of(answer)
+}

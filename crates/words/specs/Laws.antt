@@ -1,4 +1,0 @@
--- What follows from the definitions.
-pub mod Words
-pub mod Written
-pub mod Staged
