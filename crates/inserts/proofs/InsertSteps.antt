@@ -2,20 +2,19 @@
 -- nothing.
 use Prim.Native.Nat.{ℕ, _+_, _-_, _*_, _≤_, _<_}
 use mathlib.Core.Path.{_≡_, refl, sym, ap, ap₂, _∙_}
-use mathlib.Core.Bool.{Bool, true, false, cond, false≢true}
+use mathlib.Core.Bool.{Bool, true, false, not, false≢true}
 use mathlib.Core.List.{List}
 use native.Mathlib.Nat.{add-zero}
 use native.Mathlib.Omega.{arith}
 use lib.ListN.{length, take, drop, getD, length-take, length-drop}
-use lib.Seq.{take-take, getD-take, getD-drop}
-use borrow.Author.Tests.{le-leb, lt-leb}
-use Rattle.lists.specs.Lists.{putAt, rowAt}
+use lib.Seq.{take-take, take-all, getD-take, getD-drop}
+use borrow.Author.Tests.{le-leb, lt-leb, not-true, not-false}
+use Rattle.lists.specs.Lists.{putAt, rowAt, same}
 use Rattle.lists.specs.Laws.Parts.{part-width, part-putAt}
 use Rattle.lists.specs.Laws.Rows.{row-in}
 use Rattle.cells.specs.Cells.{isDead}
-use Rattle.merge_rules.specs.Rules.{changesFrom, madeFrom}
-use Rattle.merge_rules.specs.Survivor.{survivor}
-use Rattle.merge_rules.specs.Laws.Rules.{handed-width}
+use Rattle.merge_rules.specs.Rules.{changesFrom, madeFrom, survivor}
+use Rattle.merge_rules.specs.Laws.Rules.{survivor-length, survivor-old}
 use Rattle.key_index.specs.declared.Keyed.{Keyed}
 use Rattle.key_index.specs.declared.Found.{Found}
 use Rattle.key_index.specs.declared.Found.the-variants.{None, At}
@@ -35,14 +34,47 @@ use Rattle.inserts.specs.Laws.Inserts.{length-made, skip-inserts, new-in
 
 -- ---- the row made
 
+-- the cells of a row behind its first k
+behind : (k : ℕ) (row : List ℕ) → take (length row - k) (drop k row) ≡ drop k row
+behind k row = take-all (length row - k) (drop k row) (rw (length-drop k row) (omega arith))
+
 module _ (h : Header) (rows pending out : List ℕ) (old from : ℕ) where
-  -- the surviving row has a place
-  pub survivor-fits : Makeable h rows pending out old from → (b : Bool) (row : List ℕ)
-      → row ≡ cond b (take (h .columns) (drop from pending)) (take (h .columns) (drop (old * h .columns) rows))
-      → 0 + length row ≤ length out
-  survivor-fits m b row e =
-      let n : length row ≡ h .columns = ap length e ∙ handed-width (h .columns) rows (old * h .columns) pending from b (m .old-in) (m .new-in) in
-      omega (arith, m .few-columns, m .out-long)
+  -- the old row as it is lent on
+  pub old-width : Makeable h rows pending out old from → length (take (old * h .columns + h .columns - old * h .columns) (drop (old * h .columns) rows)) ≡ h .columns
+  old-width m = simp (length-take, length-drop) (omega (arith, m .old-in))
+
+  -- the survivor of the two rows
+  module _ (row : List ℕ)
+      (e : row ≡ survivor (h .rule) (h .keys) (h .sort) (take (h .columns) (drop (old * h .columns) rows)) (take (h .columns) (drop from pending))) where
+    -- is as wide
+    pub survivor-width : Makeable h rows pending out old from → length row ≡ h .columns
+    survivor-width m =
+        let o : length (take (h .columns) (drop (old * h .columns) rows)) ≡ h .columns = simp (length-take, length-drop) (omega (arith, m .old-in)) in
+        let n : length (take (h .columns) (drop from pending)) ≡ h .columns = simp (length-take, length-drop) (omega (arith, m .new-in)) in
+        ap length e ∙ survivor-length (h .rule) (h .keys) (h .sort) _ _ (o ∙ sym n) ∙ o
+
+    -- and has a place
+    pub survivor-fits : Makeable h rows pending out old from → 0 + length row ≤ length out
+    survivor-fits m = omega (arith, survivor-width m, m .few-columns, m .out-long)
+
+    -- behind the key it has the old row's cells, or a row is made
+    abbrev old-part : List ℕ
+    old-part = take (old * h .columns + h .columns - old * h .columns) (drop (old * h .columns) rows)
+
+    module _ (b : Bool) (t : b ≡ same (take (length row - h .keys) (drop (h .keys) row)) (take (length old-part - h .keys) (drop (h .keys) old-part))) where
+      unchanged : b ≡ not (Changes h (rowAt (h .columns) old rows) (take (h .columns) (drop from pending)))
+      unfolding rowAt
+      unchanged =
+          t
+          ∙ ap₂ same (behind (h .keys) row ∙ ap (drop (h .keys)) e) (behind (h .keys) old-part ∙ ap (drop (h .keys)) (part-width rows (old * h .columns) (h .columns)))
+          ∙ survivor-old (h .rule) (h .keys) (h .sort) _ _
+
+      pub survivor-kept : b ≡ true → MadeIs h rows pending out old from false out
+      survivor-kept q = record { answer = sym (not-true _ (sym unchanged ∙ q)); row = λ t. absurd (false≢true t) }
+
+      pub survivor-made : b ≡ false → h .rule ≤ 1 → (out′ : List ℕ) → out′ ≡ putAt out 0 row → MadeIs h rows pending out old from true out′
+      unfolding rowMade rowAt
+      survivor-made q l out′ k = record { answer = sym (not-false _ (sym unchanged ∙ q)); row = λ t. rw (le-leb _ _ l) (k ∙ ap (putAt out 0) e) }
 
   module _ (b : Bool)
       (e : b
@@ -54,13 +86,6 @@ module _ (h : Header) (rows pending out : List ℕ) (old from : ℕ) where
     -- the old row is kept
     pub made-not : b ≡ false → MadeIs h rows pending out old from false out
     made-not q = record { answer = sym q ∙ answer; row = λ t. absurd (false≢true t) }
-
-    -- one of the two survives
-    pub made-survivor : b ≡ true → h .rule ≤ 1 → (row out′ : List ℕ)
-        → row ≡ cond b (take (h .columns) (drop from pending)) (take (h .columns) (drop (old * h .columns) rows))
-        → out′ ≡ putAt out 0 row → MadeIs h rows pending out old from true out′
-    unfolding rowMade rowAt survivor
-    made-survivor q l row out′ s k = record { answer = sym q ∙ answer; row = λ t. rw (le-leb _ _ l, ← answer) (k ∙ ap (putAt out 0) s) }
 
     -- the rule makes a third
     pub made-third : b ≡ true → 1 < h .rule → (out′ : List ℕ)
@@ -87,6 +112,7 @@ module _ (h : Header) (rows keys sorts pending : List ℕ) (old from : ℕ) (rea
       let at = placed h rows keys (ready .fits) old (omega (arith, ready .fits .count)) in
       record {
         few-columns = ready .fits .most-columns;
+        few-keys = ready .fits .most-keys;
         old-small = at .small;
         old-in = at .inside;
         new-in = omega (arith, ready .pending-fits);

@@ -14,7 +14,8 @@ use key_index::Found;
 use table::Header;
 use table::keyed;
 
-// What the rule makes of an old row and the new cells is written at the start of `out`; false if the old row is kept.
+// What the rule makes of an old row and the new cells is written at the start of `out`; false if the old row is kept. For rules 0 and
+// 1 that is the surviving row, a part of one of the two stores. It has the old row's cells behind the key exactly if that row is kept.
 fn make_row<'a>(
     h: Header,
     rows: &'a [u32],
@@ -30,15 +31,27 @@ fn make_row<'a>(
     let old_at = (old * h.columns) as usize;
     let new_at = from as usize;
     let old_row = &rows[old_at..old_at + width];
-    let new_row = &pending[new_at..new_at + width];
-    let changed = merge_rules::changes(h.rule, h.keys, h.sort, old_row, new_row);
-    if !changed {
-        return false;
-    }
     if h.rule <= 1 {
-        let row = merge_rules::surviving_row(changed, width, rows, old_at, pending, new_at);
+        let row = merge_rules::surviving_row(
+            h.rule,
+            h.keys,
+            h.sort,
+            width,
+            rows,
+            old_at,
+            pending,
+            new_at,
+        );
+        let keys = h.keys as usize;
+        if row_buffer::same_cells(&row[keys..], &old_row[keys..]) {
+            return false;
+        }
         row_buffer::write_row(out, 0, row);
         return true;
+    }
+    let new_row = &pending[new_at..new_at + width];
+    if !merge_rules::changes(h.rule, h.keys, h.sort, old_row, new_row) {
+        return false;
     }
     merge_rules::make(h.rule, h.keys, h.sort, old_row, new_row, out);
     true

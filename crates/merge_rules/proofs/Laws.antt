@@ -1,7 +1,7 @@
--- The top bit turned over, the ways through a cell's functions, the turns of `changes` and `make`, and the row that is handed back. Assumes nothing.
+-- The top bit turned over, the ways through a cell's functions, the turns of `changes` and `make`, and the row that is returned. Assumes nothing.
 use Prim.Native.Nat.{ℕ, suc, _+_, _-_, _*_, _%_, _^_, _≤_, _<_}
 use mathlib.Core.Path.{_≡_, refl, sym, ap, ap₂, _∙_}
-use mathlib.Core.Bool.{Bool, true, false, cond, not, _&&_, _||_}
+use mathlib.Core.Bool.{Bool, true, false, not, _&&_, _||_}
 use mathlib.Core.List.{List, [], _∷_, _++_}
 use native.Mathlib.Nat.{zero-add}
 use native.Mathlib.Decide.{decLt}
@@ -14,7 +14,7 @@ use lib.Seq.{drop-cons, take-length}
 use borrow.Author.Tests.{eq-eqb, ne-eqb}
 use Rattle.lists.specs.Lists.{putAt}
 use Rattle.lists.specs.Laws.Parts.{copy-step, part-width}
-use Rattle.merge_rules.specs.Rules.{ruledColumn, taken, madeCell, madeFrom, changesFrom}
+use Rattle.merge_rules.specs.Rules.{ruledColumn, taken, madeCell, madeFrom, changesFrom, survivor}
 use Rattle.merge_rules.specs.Laws.Rules.{made-length, made-at}
 
 -- the top bit turned over
@@ -92,10 +92,16 @@ module _ (rule keys sort : ℕ) (old new out : List ℕ) (n : length old ≡ len
       let m : i ≡ length (madeFrom rule keys sort 0 old new) = omega (arith, made-length rule keys sort old new n) in
       rw (m, take-length (madeFrom rule keys sort 0 old new), zero-add (length (madeFrom rule keys sort 0 old new)))
 
--- the row handed back
-module _ (b : Bool) (width : ℕ) (rows : List ℕ) (old : ℕ) (pending : List ℕ) (new : ℕ) where
-  pub new-survives : b ≡ true → take (new + width - new) (drop new pending) ≡ cond b (take width (drop new pending)) (take width (drop old rows))
-  new-survives q = part-width pending new width ∙ rw q
+-- the row returned, where b is what `changes` answers
+module _ (rule keys sort width : ℕ) (rows : List ℕ) (old : ℕ) (pending : List ℕ) (new : ℕ) (b : Bool)
+    (e : b ≡ changesFrom rule keys sort 0 (take (old + width - old) (drop old rows)) (take (new + width - new) (drop new pending))) where
+  answer : b ≡ changesFrom rule keys sort 0 (take width (drop old rows)) (take width (drop new pending))
+  answer = e ∙ ap₂ (changesFrom rule keys sort 0) (part-width rows old width) (part-width pending new width)
 
-  pub old-survives : b ≡ false → take (old + width - old) (drop old rows) ≡ cond b (take width (drop new pending)) (take width (drop old rows))
-  old-survives q = part-width rows old width ∙ rw q
+  pub new-survives : b ≡ true → take (new + width - new) (drop new pending) ≡ survivor rule keys sort (take width (drop old rows)) (take width (drop new pending))
+  unfolding survivor
+  new-survives q = part-width pending new width ∙ rw (← answer, q)
+
+  pub old-survives : b ≡ false → take (old + width - old) (drop old rows) ≡ survivor rule keys sort (take width (drop old rows)) (take width (drop new pending))
+  unfolding survivor
+  old-survives q = part-width rows old width ∙ rw (← answer, q)

@@ -2,7 +2,7 @@
 // number chooses. Each contract cites its definition in specs/.
 ghost use mathlib.Core.Path.{_≡_};
 ghost use Prim.Native.Nat.{_+_, _%_, _≤_};
-ghost use mathlib.Core.Bool.{cond, not, _&&_};
+ghost use mathlib.Core.Bool.{not, _&&_};
 ghost use lib.ListN.{length, take, drop};
 ghost use lib.Dec.{eqb};
 ghost use lib.Signed.{ltZ};
@@ -88,11 +88,12 @@ fn made_cell(rule: u32, keys: u32, sort: u32, column: usize, old: u32, new: u32)
     old
 }
 
-// The rule makes a row of the two; if not, the old row is kept. Cells that only one of them has do not count.
+// The rule makes a row of the two; if not, the old row is kept. Cells that only one of them has do not count,
+// nor do key cells.
 pub fn changes(rule: u32, keys: u32, sort: u32, old: &[u32], new: &[u32]) -> bool
     ensures { λ r. ⌜ r ≡ rules.changesFrom rule keys sort 0 (now (old .entry)) (now (new .entry)) ⌝ }
 {
-    let mut i = 0;
+    let mut i = keys as usize;
     while i < old.len() {
         if new.len() <= i {
             return false;
@@ -117,23 +118,25 @@ pub fn make(rule: u32, keys: u32, sort: u32, old: &[u32], new: &[u32], out: &mut
     }
 }
 
-// For rules 0 and 1 the row that survives is one of the two, by whether a cell changes: it is handed back as that part of the
-// row store, where the old row stands, or of the pending store, where the new one does.
+// The row that survives under rule 0 or 1. It is returned as that part of the row store, where the old row is, or of the pending
+// store, where the new one is.
 pub fn surviving_row<'a>(
-    changed: bool,
+    rule: u32,
+    keys: u32,
+    sort: u32,
     width: usize,
     rows: &'a [u32],
     old: usize,
     pending: &'a [u32],
     new: usize,
 ) -> &'a [u32]
-    requires { ⌜ (old + width ≤ length (now rows)) × (new + width ≤ length (now pending)) ⌝ }
-    ensures { λ r. ⌜ now r ≡ cond changed (take width (drop new (now (pending .entry)))) (take width (drop old (now (rows .entry)))) ⌝ }
+    requires { ⌜ (rule ≤ 1) × (old + width ≤ length (now rows)) × (new + width ≤ length (now pending)) ⌝ }
+    ensures { λ r. ⌜ now r ≡ rules.survivor rule keys sort (take width (drop old (now (rows .entry)))) (take width (drop new (now (pending .entry)))) ⌝ }
 {
-    let old_end = old + width;
-    let new_end = new + width;
-    if changed {
-        return &pending[new..new_end];
+    let old_row = &rows[old..old + width];
+    let new_row = &pending[new..new + width];
+    if changes(rule, keys, sort, old_row, new_row) {
+        return new_row;
     }
-    &rows[old..old_end]
+    old_row
 }

@@ -6,10 +6,9 @@ ghost use Prim.Native.Nat.{_+_, _≤_, _<_};
 ghost use lib.ListN.{length, take, drop};
 ghost use Rattle.lists.specs.Lists.{putAt};
 ghost use Rattle.row_buffer.specs.Ranks.{setBelow};
-ghost use Rattle.merge_rules.specs.Survivor.{survivor};
 ghost use Rattle.cells.specs.Cells.{isDead, compact, probed, keyHash};
 ghost use Rattle.constraints.specs.Constraints.{known, meets};
-ghost use Rattle.merge_rules.specs.Rules.{changesFrom};
+ghost use Rattle.merge_rules.specs.Rules.{changesFrom, survivor};
 ghost use Rattle.probes.specs.inner.Parts.{MadeInto, Survives, Sized};
 ghost use mathlib.Core.Bool.{true};
 use constraints::Constraint;
@@ -143,10 +142,7 @@ fn copy_survivor<'a>(
     requires { ⌜ (old + width ≤ length (now rows)) × (new + width ≤ length (now pending)) × (width ≤ length (now out)) × (rule ≤ 1) ⌝ }
     ensures { λ _. ⌜ now (out .exit) ≡ putAt (now (out .entry)) 0 (survivor rule keys sort (take width (drop old (now (rows .entry)))) (take width (drop new (now (pending .entry))))) ⌝ }
 {
-    let old_row = &rows[old..old + width];
-    let new_row = &pending[new..new + width];
-    let changed = merge_rules::changes(rule, keys, sort, old_row, new_row);
-    let row = merge_rules::surviving_row(changed, width, rows, old, pending, new);
+    let row = merge_rules::surviving_row(rule, keys, sort, width, rows, old, pending, new);
     row_buffer::write_row(out, 0, row);
 }
 

@@ -19,8 +19,7 @@ use Rattle.lists.specs.Laws.Rows.{row-in, length-rowAt, rowAt-set-same, rowAt-s
 use Rattle.cells.specs.Cells.{isDead, compact, keyHash}
 use Rattle.constraints.specs.Constraints.{isLive}
 use Rattle.refusals.specs.Refusals.{refused, accepted, reply}
-use Rattle.merge_rules.specs.Rules.{changesFrom, madeFrom, ruled}
-use Rattle.merge_rules.specs.Survivor.{survivor}
+use Rattle.merge_rules.specs.Rules.{changesFrom, madeFrom, ruled, survivor}
 use Rattle.merge_rules.specs.Laws.Rules.{made-length, made-keys, made-first, kept-of, made-of, survives, survivor-length, ruled-made}
 use Rattle.key_index.specs.declared.Found.{Found}
 use Rattle.key_index.specs.declared.Found.the-variants.{None, At}

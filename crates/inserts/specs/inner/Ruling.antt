@@ -6,8 +6,7 @@ use mathlib.Core.List.{List}
 use lib.Dec.{leb}
 use lib.ListN.{length, take, drop}
 use Rattle.lists.specs.Lists.{putAt, rowAt}
-use Rattle.merge_rules.specs.Rules.{changesFrom, madeFrom}
-use Rattle.merge_rules.specs.Survivor.{survivor}
+use Rattle.merge_rules.specs.Rules.{changesFrom, madeFrom, survivor}
 use Rattle.table.specs.declared.Header.{Header}
 use Rattle.appending.specs.declared.Insertion.{Insertion}
 use Rattle.appending.specs.declared.Insertion.the-variants.{Kept, Appended, Stopped}
@@ -25,6 +24,7 @@ rowMade h old new =
 -- both rows lie in their stores, and the row made has a place
 pub record Makeable (h : Header) (rows pending out : List ℕ) (old from : ℕ) : Type 0 where
   pub few-columns : h .columns ≤ 8
+  pub few-keys : h .keys ≤ h .columns
   pub old-small : old * h .columns ≤ 524288
   pub old-in : old * h .columns + h .columns ≤ length rows
   pub new-in : from + h .columns ≤ length pending

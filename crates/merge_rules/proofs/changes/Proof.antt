@@ -1,41 +1,40 @@
 -- `merge_rules::changes` meets its contract. The loop's invariant: whether a cell changes from the start on is whether one
--- does from column i on. Assumes nothing.
-use Prim.Native.Nat.{_-_, _≤_}
-use mathlib.Core.Path.{_≡_, refl, sym, _∙_}
+-- does from column i on. It begins behind the keys. Assumes nothing.
+use Prim.Native.Nat.{_-_}
+use mathlib.Core.Path.{_≡_, sym, _∙_}
 use borrow.Author.Needs.{needs}
 use lib.ListN.{length, drop}
 use Rattle.merge_rules.specs.Rules.{changesFrom}
+use Rattle.merge_rules.specs.Laws.Rules.{changes-behind}
 use Rattle.merge_rules.proofs.Laws.{old-ended, new-ended, changed, unchanged}
 use Rattle.merge_rules.proofs.changes.Statement.{statement}
 use Rattle.merge_rules.proofs.changes.Tie as tie
 
 abbrev Inv-loop : tie.InvT-loop
 Inv-loop rule keys sort old new i₀ i =
-    (i ≤ length old) × (changesFrom rule keys sort 0 old new ≡ changesFrom rule keys sort i (drop i old) (drop i new))
+    changesFrom rule keys sort 0 old new ≡ changesFrom rule keys sort i (drop i old) (drop i new)
 
 abbrev μ-loop : tie.MeasureT-loop
 μ-loop rule keys sort old new i₀ i = length old - i
 
 loop-holds : tie.Need-loop-holds Inv-loop μ-loop
-loop-holds c = (search needs, refl)
+loop-holds c = changes-behind _ _ _ _ _
 
 returns : tie.Need-returns Inv-loop μ-loop
-returns c = let l = c .before .before .loop in sym (l .inv .1 ∙ new-ended _ _ _ _ _ (l .i) (c .if1 .taken))
+returns c = let l = c .before .before .loop in sym (l .inv ∙ new-ended _ _ _ _ _ (l .i) (c .if1 .taken))
 
 returns-2 : tie.Need-returns-2 Inv-loop μ-loop
 returns-2 c =
     let l = c .before .before .before .before .before .before .loop in
-    sym (l .inv .1 ∙ changed _ _ _ _ _ (l .i) (c .before .before .before .before .before .loop-test .taken) (c .before .before .before .before .if1 .left) (c .before .cell-changes .result) (c .before .cell-changes .ensures) (c .if2 .taken))
+    sym (l .inv ∙ changed _ _ _ _ _ (l .i) (c .before .before .before .before .before .loop-test .taken) (c .before .before .before .before .if1 .left) (c .before .cell-changes .result) (c .before .cell-changes .ensures) (c .if2 .taken))
 
 loop-again : tie.Need-loop-again Inv-loop μ-loop
 loop-again c =
-    let l = c .before .before .before .before .before .before .loop in (
-      search needs,
-      l .inv .1 ∙ unchanged _ _ _ _ _ (l .i) (c .before .before .before .before .before .loop-test .taken) (c .before .before .before .before .if1 .left) (c .before .cell-changes .result) (c .before .cell-changes .ensures) (c .if2 .left),
-    )
+    let l = c .before .before .before .before .before .before .loop in
+    l .inv ∙ unchanged _ _ _ _ _ (l .i) (c .before .before .before .before .before .loop-test .taken) (c .before .before .before .before .if1 .left) (c .before .cell-changes .result) (c .before .cell-changes .ensures) (c .if2 .left)
 
 returns-3 : tie.Need-returns-3 Inv-loop μ-loop
-returns-3 c = let l = c .before .loop in sym (l .inv .1 ∙ old-ended _ _ _ _ _ (l .i) (c .loop-test .left))
+returns-3 c = let l = c .before .loop in sym (l .inv ∙ old-ended _ _ _ _ _ (l .i) (c .loop-test .left))
 
 pub changes-spec : {M : Type 1} → statement M
 changes-spec =

@@ -6,18 +6,18 @@ use Rattle.merge_rules.proofs.surviving_row.Tie as tie
 
 returns : tie.Need-returns
 returns c =
-    let a = c .before .before .args in
-    new-survives (a .changed) (a .width) (a .rows .now) (a .old) (a .pending .now) (a .new) (c .before .if1 .taken)
+    let a = c .before .before .before .before .before .before .args in
+    new-survives (a .rule) (a .keys) (a .sort) (a .width) (a .rows .now) (a .old) (a .pending .now) (a .new) _ (c .before .changes .ensures) (c .if1 .taken)
 
 returns-2 : tie.Need-returns-2
 returns-2 c =
-    let a = c .before .before .args in
-    old-survives (a .changed) (a .width) (a .rows .now) (a .old) (a .pending .now) (a .new) (c .before .if1 .left)
+    let a = c .before .before .before .before .before .before .args in
+    old-survives (a .rule) (a .keys) (a .sort) (a .width) (a .rows .now) (a .old) (a .pending .now) (a .new) _ (c .before .changes .ensures) (c .if1 .left)
 
 pub surviving-row-spec : {M : Type 1} → statement M
 surviving-row-spec =
     tie.close
     (tie.spec
     (λ c. search needs) (λ c. search needs) (λ c. search needs) (λ c. search needs) (λ c. search needs)
-    (λ c. search needs) returns (λ c. search needs) (λ c. search needs) (λ c. search needs) (λ c. search needs)
-    returns-2)
+    (λ c. search needs) (λ c. search needs) (λ c. search needs) (λ c. search needs) (λ c. search needs)
+    (λ c κs. search needs) returns returns-2)

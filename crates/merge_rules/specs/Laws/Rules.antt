@@ -2,19 +2,21 @@
 use Prim.Native.Nat.{ℕ, zero, suc, min, _+_, _≤_, _<_}
 use mathlib.Core.Path.{_≡_, refl, sym, ap, _∙_}
 use mathlib.Core.Logic.{inl, inr}
-use mathlib.Core.Bool.{Bool, true, false, cond, not, _&&_}
+use mathlib.Core.Bool.{Bool, true, false, cond, not, _&&_, true≢false}
 use mathlib.Core.List.{List, [], _∷_}
 use mathlib.Core.Option.{none, some}
 use native.Mathlib.Nat.{add-zero}
 use native.Mathlib.Decide.{decLt, ℕ-discrete}
 use native.Mathlib.Omega.{arith}
 use lib.Dec.{leb, eqb}
+use lib.Signed.{ltZ}
 use lib.ListN.{length, take, drop, getD, length-take, length-drop}
 use lib.Seq.{getD-take, ext-getD}
 use borrow.Author.Tests.{eq-eqb, ne-eqb, le-leb, lt-leb}
+use Rattle.lists.specs.Lists.{same}
 use Rattle.lists.specs.Laws.Keep.{split}
-use Rattle.merge_rules.specs.Rules.{ruledColumn, taken, madeCell, madeFrom, changesFrom, ruled}
-use Rattle.merge_rules.specs.Survivor.{survivor}
+use Rattle.lists.specs.Laws.Rising.{same-refl, same-ne}
+use Rattle.merge_rules.specs.Rules.{ruledColumn, signed, smaller, larger, taken, madeCell, madeFrom, changesFrom, ruled, survivor}
 
 and-false : (b : Bool) → (b && false) ≡ false
 and-false true = refl
@@ -164,13 +166,50 @@ pub survivor-length : (rule keys sort : ℕ) (old new : List ℕ) → length old
 unfolding survivor
 survivor-length rule keys sort old new n = elim (split (changesFrom rule keys sort 0 old new)) [ inl e ↦ rw e (sym n) | inr e ↦ rw e ]
 
--- either part may be handed back, and both are as wide
-pub handed-width : (width : ℕ) (rows : List ℕ) (old : ℕ) (pending : List ℕ) (new : ℕ) (b : Bool) → old + width ≤ length rows → new + width ≤ length pending
-    → length (cond b (take width (drop new pending)) (take width (drop old rows))) ≡ width
-handed-width width rows old pending new b h k =
-    let o : length (take width (drop old rows)) ≡ width = simp (length-take, length-drop) (omega arith) in
-    let n : length (take width (drop new pending)) ≡ width = simp (length-take, length-drop) (omega arith) in
-    elim (split b) [ inl q ↦ rw q n | inr q ↦ rw q o ]
+-- two equal cells change under no rule
+cond-same : (b : Bool) (a : ℕ) → cond b a a ≡ a
+cond-same true a = refl
+cond-same false a = refl
+
+taken-same : (rule a : ℕ) → taken rule a a ≡ a
+unfolding taken smaller larger
+taken-same rule a =
+    rw (cond-same (ltZ (signed a) (signed a)) a, cond-same (eqb rule 3) a, cond-same (eqb rule 2) a, cond-same (eqb rule 1) a)
+
+changes-same : (rule keys sort column : ℕ) (row : List ℕ) → changesFrom rule keys sort column row row ≡ false
+unfolding changesFrom
+changes-same rule keys sort column [] = refl
+changes-same rule keys sort column (a ∷ row) =
+    rw (taken-same rule a, eq-eqb a a refl, and-false (ruledColumn keys sort column), changes-same rule keys sort (suc column) row)
+
+-- nor does a key cell: what changes is seen behind the keys
+changes-none : (rule keys sort column : ℕ) (old : List ℕ) → changesFrom rule keys sort column old [] ≡ false
+unfolding changesFrom
+changes-none rule keys sort column [] = refl
+changes-none rule keys sort column (a ∷ old) = refl
+
+changes-from : (rule keys sort column n : ℕ) (old new : List ℕ) → column + n ≤ keys
+    → changesFrom rule keys sort column old new ≡ changesFrom rule keys sort (column + n) (drop n old) (drop n new)
+unfolding changesFrom
+changes-from rule keys sort column zero old new h = rw add-zero
+changes-from rule keys sort column (suc n) [] new h = refl
+changes-from rule keys sort column (suc n) (a ∷ old) [] h = sym (changes-none rule keys sort (column + suc n) (drop n old))
+changes-from rule keys sort column (suc n) (a ∷ old) (b ∷ new) h =
+    let e : suc column + n ≡ column + suc n = omega arith in
+    rw (ruled-key keys sort column (omega arith), ← e) (changes-from rule keys sort (suc column) n old new (omega arith))
+
+pub changes-behind : (rule keys sort : ℕ) (old new : List ℕ) → changesFrom rule keys sort 0 old new ≡ changesFrom rule keys sort keys (drop keys old) (drop keys new)
+changes-behind rule keys sort old new = let z : 0 + keys ≡ keys = omega arith in rw z at (changes-from rule keys sort 0 keys old new (omega arith))
+
+-- so the survivor shows whether anything is to be appended: behind the key it has the old row's cells exactly if no cell outside keys
+-- and sort column changes
+pub survivor-old : (rule keys sort : ℕ) (old new : List ℕ) → same (drop keys (survivor rule keys sort old new)) (drop keys old) ≡ not (changesFrom rule keys sort 0 old new)
+unfolding survivor
+survivor-old rule keys sort old new =
+    elim (split (changesFrom rule keys sort 0 old new)) [
+      | inl e ↦ rw e (same-ne (drop keys new) (drop keys old) (λ q. true≢false (sym e ∙ changes-behind rule keys sort old new ∙ ap (changesFrom rule keys sort keys (drop keys old)) q ∙ changes-same rule keys sort keys (drop keys old))))
+      | inr e ↦ rw e (same-refl (drop keys old))
+    ]
 
 -- ---- what a row that is made is
 

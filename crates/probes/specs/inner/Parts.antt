@@ -6,8 +6,7 @@ use mathlib.Core.List.{List}
 use lib.ListN.{length, take, drop}
 use Rattle.lists.specs.Lists.{putAt}
 use Rattle.key_index.specs.declared.Keyed.{Keyed}
-use Rattle.merge_rules.specs.Rules.{madeFrom}
-use Rattle.merge_rules.specs.Survivor.{survivor}
+use Rattle.merge_rules.specs.Rules.{madeFrom, survivor}
 
 -- a row made into a lent one: nothing is done where it does not fit
 pub record MadeInto (rule keys sort : ℕ) (old new out : List ℕ) (r : Bool) (out′ : List ℕ) : Type 0 where
