@@ -1,35 +1,44 @@
-//! The library over stores that the caller keeps, each lent as a slice: as much of a store as is to be seen. [`Table`] keeps
-//! stores of its own and lends them whole.
+//! The library over stores that the caller keeps, such as those of a mapped file: each is passed as a slice. [`Table`] keeps stores
+//! of its own.
 //!
-//! No call needs a test beforehand. On any header and any stores a call ends and writes nothing outside what is lent; what the
-//! answers mean is promised of sound stores ([`is_sound`]).
+//! No call needs a check beforehand. On any header and any stores a call ends and writes nothing outside what is passed; the
+//! meaning of answers is guaranteed for sound stores ([`is_sound`]). Where `open_table`, `fast_subset` and others take
+//! [`raw::Opening`] and [`raw::Constraint`], any numbers will do; `Opening` and `Condition` convert into them.
+//!
+//! ```
+//! use mouldgrey::{Header, Opening, Rule, lent};
+//!
+//! # fn main() -> Result<(), mouldgrey::Error> {
+//! let opening = Opening { columns: 2, keys: 1, sort: 1, rule: Rule::TakeNew, capacity: 10, generation: 0 };
+//! let (mut rows, mut keys, mut sorts, mut pending) = ([0; 20], [0; 20], [0; 20], [0; 64]);
+//! let (mut live, mut base) = ([0; 1], [0; 1]);
+//! let mut header = Header::default();
+//! lent::open_table(&opening, &mut header, &rows, &mut keys, &sorts, &pending)?;
+//! lent::stage_insert(&mut header, &mut pending, &[7, 10])?;
+//! let merge = lent::merge(
+//!     &mut header, &mut rows, &mut keys, &mut sorts, &pending, &mut live, &mut base,
+//! )?;
+//! assert!(merge.accepted()?.added);
+//! assert_eq!(lent::get_row(&header, &rows, &keys, &[7])?, Some(0));
+//! # Ok(())
+//! # }
+//! ```
 //!
 //! [`Table`]: crate::Table
 
-use crate::header::HEADER_WORDS;
 use crate::{
-    Constraint, Header, Left, LeftIn, ListingHead, Merge, Opening, Page, Refusal, Step, Stop,
-    SubsetRef, Verdict, Version, Written, raw,
+    Header, ListingHead, Merge, Merged, PageWritten, Refusal, Step, Stop, StopReason, SubsetRef,
+    Verdict, Version, Written, raw,
 };
 
-/// The words of a header to write to.
-fn words_of(header: &mut Header) -> *mut u32 {
-    // A header is twelve words in a row and nothing else.
-    (header as *mut Header).cast()
-}
-
-/// The words of a header to read.
-fn words_in(header: &Header) -> *const u32 {
-    (header as *const Header).cast()
-}
-
-/// The refusal of this number. Apart and not inlined: else its search becomes a jump by number that accepted calls take too.
+/// The refusal of this number. Not inlined, so that accepted calls do not pay for its search.
 #[cold]
 fn refusal(number: u32) -> Refusal {
-    Refusal::from_number(number).expect("a refusal's number is the paper's")
+    Refusal::from_number(number).expect("the library refuses by the paper's numbers")
 }
 
 /// Accepted, or refused by this number.
+#[inline]
 fn verdict(number: u32) -> Result<(), Refusal> {
     match number {
         0 => Ok(()),
@@ -37,54 +46,29 @@ fn verdict(number: u32) -> Result<(), Refusal> {
     }
 }
 
-/// The second and third of three words, if the first says that there are any.
-fn range(words: [u32; 3]) -> Option<(u32, u32)> {
-    (words[0] == 1).then_some((words[1], words[2]))
+/// The range, if there is one.
+#[inline]
+fn range(range: raw::Range) -> Option<(u32, u32)> {
+    (range.found == 1).then_some((range.start, range.end))
 }
 
-/// The second of two words, if the first says that there is one.
-fn value(words: [u32; 2]) -> Option<u32> {
-    (words[0] == 1).then_some(words[1])
-}
-
-/// A subset as it is passed: kind, two ends, ids.
-fn parts(subset: SubsetRef<'_>) -> (bool, u32, u32, &[u32]) {
-    match subset {
-        SubsetRef::Range(start, end) => (true, start, end, &[]),
-        SubsetRef::List(ids) => (false, 0, 0, ids),
-    }
-}
-
-/// The subset that three words tell.
-fn written(words: [u32; 3]) -> Written {
-    match words {
-        [1, start, end] => Written::Range(start, end),
-        [_, count, _] => Written::List(count as usize),
-    }
-}
+// SAFETY, of every call below: each pointer is that of a slice and goes with its length, or that of a struct, and what is passed
+// to be written is borrowed by nobody else.
 
 /// Makes an empty table of the stores. Refused by 1 and 2.
 #[inline]
 pub fn open_table(
-    opening: &Opening,
+    opening: impl Into<raw::Opening>,
     header: &mut Header,
     rows: &[u32],
     keys: &mut [u32],
     sorts: &[u32],
     pending: &[u32],
 ) -> Result<(), Refusal> {
-    // SAFETY, here and below: each pointer goes with the length of what it points to, and a slice that is lent to be written
-    // is lent to nobody else.
     verdict(unsafe {
         raw::mouldgrey_open_table(
-            opening.columns,
-            opening.keys,
-            opening.sort,
-            opening.rule,
-            opening.capacity,
-            opening.generation,
-            words_of(header),
-            HEADER_WORDS,
+            &opening.into(),
+            header,
             rows.as_ptr(),
             rows.len(),
             keys.as_mut_ptr(),
@@ -106,8 +90,7 @@ pub fn stage_insert(
 ) -> Result<(), Refusal> {
     verdict(unsafe {
         raw::mouldgrey_stage_insert(
-            words_of(header),
-            HEADER_WORDS,
+            header,
             pending.as_mut_ptr(),
             pending.len(),
             cells.as_ptr(),
@@ -121,8 +104,7 @@ pub fn stage_insert(
 pub fn stage_remove(header: &mut Header, pending: &mut [u32], key: &[u32]) -> Result<(), Refusal> {
     verdict(unsafe {
         raw::mouldgrey_stage_remove(
-            words_of(header),
-            HEADER_WORDS,
+            header,
             pending.as_mut_ptr(),
             pending.len(),
             key.as_ptr(),
@@ -131,7 +113,7 @@ pub fn stage_remove(header: &mut Header, pending: &mut [u32], key: &[u32]) -> Re
     })
 }
 
-/// Stages the removal of a row that still has this key. Refused by 1, 3, 5 and 7.
+/// Stages the removal of a row that still has this key at merge time. Refused by 1, 3, 5 and 7.
 #[inline]
 pub fn stage_remove_row(
     header: &mut Header,
@@ -141,8 +123,7 @@ pub fn stage_remove_row(
 ) -> Result<(), Refusal> {
     verdict(unsafe {
         raw::mouldgrey_stage_remove_row(
-            words_of(header),
-            HEADER_WORDS,
+            header,
             pending.as_mut_ptr(),
             pending.len(),
             row,
@@ -152,7 +133,7 @@ pub fn stage_remove_row(
     })
 }
 
-/// Takes what is staged into the table. Refused by 1 and 2.
+/// Applies what is staged. A stop is no refusal: it is in the answer ([`Merge::accepted`]). Refused by 1 and 2.
 #[inline]
 pub fn merge(
     header: &mut Header,
@@ -163,11 +144,10 @@ pub fn merge(
     live: &mut [u64],
     base: &mut [u32],
 ) -> Result<Merge, Refusal> {
-    let mut words = [0; 5];
+    let mut merged = raw::Merged::default();
     verdict(unsafe {
         raw::mouldgrey_merge(
-            words_of(header),
-            HEADER_WORDS,
+            header,
             rows.as_mut_ptr(),
             rows.len(),
             keys.as_mut_ptr(),
@@ -180,17 +160,19 @@ pub fn merge(
             live.len(),
             base.as_mut_ptr(),
             base.len(),
-            words.as_mut_ptr(),
-            words.len(),
+            &mut merged,
         )
     })?;
-    let [status, place, added, kept, dropped] = words;
-    Ok(Merge {
-        stop: Stop::from_number(status).map(|stop| (stop, place)),
-        added: added == 1,
-        kept,
-        dropped,
-    })
+    let stop = StopReason::from_number(merged.status).map(|reason| Stop {
+        reason,
+        place: merged.place,
+    });
+    let merged = Merged {
+        added: merged.added == 1,
+        kept: merged.kept,
+        dropped: merged.dropped,
+    };
+    Ok(Merge { stop, merged })
 }
 
 /// Drops the dead rows; the others close up. Refused by 1, 2 and 10.
@@ -205,8 +187,7 @@ pub fn compact(
 ) -> Result<(), Refusal> {
     verdict(unsafe {
         raw::mouldgrey_compact(
-            words_of(header),
-            HEADER_WORDS,
+            header,
             rows.as_mut_ptr(),
             rows.len(),
             keys.as_mut_ptr(),
@@ -224,19 +205,12 @@ pub fn compact(
 /// Drops what is staged, and all rows. Refused by 1, 2 and, if there are rows, 10.
 #[inline]
 pub fn clear(header: &mut Header, keys: &mut [u32]) -> Result<(), Refusal> {
-    verdict(unsafe {
-        raw::mouldgrey_clear(
-            words_of(header),
-            HEADER_WORDS,
-            keys.as_mut_ptr(),
-            keys.len(),
-        )
-    })
+    verdict(unsafe { raw::mouldgrey_clear(header, keys.as_mut_ptr(), keys.len()) })
 }
 
-/// Stages each live row that holds one of these values in one of these columns again, rising, for removal by row and for insertion
-/// with the stamp as its sort cell; whether there was one. The index store is new if its first word is 0, and needs 16 words and 3
-/// for each row of the capacity and named column. Refused by 1, 2, 12, 6, 2 again if the index store is shorter, 9 and 7.
+/// Stages each live row that holds one of these values in one of these columns, rising, for removal by row and for insertion with
+/// the stamp as its sort cell; returns whether there was one. The index store is new if its first word is 0, and needs 16 words and
+/// 3 for each row of the capacity and named column. Refused by 1, 2, 12, 6, 2 again if the index store is shorter, 9 and 7.
 #[inline]
 pub fn refresh_rows_for_values(
     header: &mut Header,
@@ -247,11 +221,10 @@ pub fn refresh_rows_for_values(
     values: &[u32],
     stamp: u32,
 ) -> Result<bool, Refusal> {
-    let mut words = [0; 1];
+    let mut staged = 0;
     verdict(unsafe {
         raw::mouldgrey_refresh_rows_for_values(
-            words_of(header),
-            HEADER_WORDS,
+            header,
             rows.as_ptr(),
             rows.len(),
             pending.as_mut_ptr(),
@@ -263,11 +236,10 @@ pub fn refresh_rows_for_values(
             values.as_ptr(),
             values.len(),
             stamp,
-            words.as_mut_ptr(),
-            words.len(),
+            &mut staged,
         )
     })?;
-    Ok(words[0] == 1)
+    Ok(staged == 1)
 }
 
 /// Whether header and stores are a sound table. Refused by 1 and 2.
@@ -279,11 +251,10 @@ pub fn is_sound(
     sorts: &[u32],
     pending: &[u32],
 ) -> Result<bool, Refusal> {
-    let mut words = [0; 1];
+    let mut sound = 0;
     verdict(unsafe {
         raw::mouldgrey_is_sound(
-            words_in(header),
-            HEADER_WORDS,
+            header,
             rows.as_ptr(),
             rows.len(),
             keys.as_ptr(),
@@ -292,11 +263,10 @@ pub fn is_sound(
             sorts.len(),
             pending.as_ptr(),
             pending.len(),
-            words.as_mut_ptr(),
-            words.len(),
+            &mut sound,
         )
     })?;
-    Ok(words[0] == 1)
+    Ok(sound == 1)
 }
 
 /// The number of a key's live row. Refused by 1, 2 and 3.
@@ -307,22 +277,20 @@ pub fn get_row(
     keys: &[u32],
     key: &[u32],
 ) -> Result<Option<u32>, Refusal> {
-    let mut words = [0; 2];
+    let mut row = raw::Row::default();
     verdict(unsafe {
         raw::mouldgrey_get_row(
-            words_in(header),
-            HEADER_WORDS,
+            header,
             rows.as_ptr(),
             rows.len(),
             keys.as_ptr(),
             keys.len(),
             key.as_ptr(),
             key.len(),
-            words.as_mut_ptr(),
-            words.len(),
+            &mut row,
         )
     })?;
-    Ok(value(words))
+    Ok((row.found == 1).then_some(row.row))
 }
 
 /// One cell of a key's live row. Refused by 1, 2, 3 and 6.
@@ -334,11 +302,10 @@ pub fn get_row_column(
     key: &[u32],
     column: u32,
 ) -> Result<Option<u32>, Refusal> {
-    let mut words = [0; 2];
+    let mut cell = raw::Cell::default();
     verdict(unsafe {
         raw::mouldgrey_get_row_column(
-            words_in(header),
-            HEADER_WORDS,
+            header,
             rows.as_ptr(),
             rows.len(),
             keys.as_ptr(),
@@ -346,85 +313,60 @@ pub fn get_row_column(
             key.as_ptr(),
             key.len(),
             column,
-            words.as_mut_ptr(),
-            words.len(),
+            &mut cell,
         )
     })?;
-    Ok(value(words))
+    Ok((cell.found == 1).then_some(cell.cell))
 }
 
-/// The range, start and end, in which all rows lie that meet a condition on the sort column; none for kind 0 and for any other
-/// column. It may hold dead rows. Refused by 1, 2 and 6.
+/// The range, start and end, of all rows that meet a condition on the sort column; none for two columns compared and for any
+/// other column. Dead rows may lie in it. Refused by 1, 2 and 6.
 #[inline]
 pub fn fast_subset(
     header: &Header,
     sorts: &[u32],
-    constraint: Constraint,
+    condition: impl Into<raw::Constraint>,
 ) -> Result<Option<(u32, u32)>, Refusal> {
-    let mut words = [0; 3];
+    let mut found = raw::Range::default();
     verdict(unsafe {
         raw::mouldgrey_fast_subset(
-            words_in(header),
-            HEADER_WORDS,
+            header,
             sorts.as_ptr(),
             sorts.len(),
-            constraint.kind,
-            constraint.column,
-            constraint.value,
-            words.as_mut_ptr(),
-            words.len(),
+            &condition.into(),
+            &mut found,
         )
     })?;
-    Ok(range(words))
+    Ok(range(found))
 }
 
 /// Generation and row count. Refused by 1.
 #[inline]
 pub fn version(header: &Header) -> Result<Version, Refusal> {
-    let mut words = [0; 2];
-    verdict(unsafe {
-        raw::mouldgrey_version(
-            words_in(header),
-            HEADER_WORDS,
-            words.as_mut_ptr(),
-            words.len(),
-        )
-    })?;
-    let [generation, rows] = words;
+    let mut version = raw::Version::default();
+    verdict(unsafe { raw::mouldgrey_table_version(header, &mut version) })?;
+    let raw::Version { generation, rows } = version;
     Ok(Version { generation, rows })
 }
 
 /// The rows from this one on, start and end. Refused by 1 and 5.
 #[inline]
 pub fn updates_since(header: &Header, row: u32) -> Result<(u32, u32), Refusal> {
-    let mut words = [0; 3];
-    verdict(unsafe {
-        raw::mouldgrey_updates_since(
-            words_in(header),
-            HEADER_WORDS,
-            row,
-            words.as_mut_ptr(),
-            words.len(),
-        )
-    })?;
-    Ok((words[1], words[2]))
+    let mut range = raw::Range::default();
+    verdict(unsafe { raw::mouldgrey_updates_since(header, row, &mut range) })?;
+    Ok((range.start, range.end))
 }
 
 /// The rows since a noted version, start and end. Refused by 1 and 18.
 #[inline]
 pub fn rows_since_version(header: &Header, noted: Version) -> Result<(u32, u32), Refusal> {
-    let mut words = [0; 3];
-    verdict(unsafe {
-        raw::mouldgrey_rows_since_version(
-            words_in(header),
-            HEADER_WORDS,
-            noted.generation,
-            noted.rows,
-            words.as_mut_ptr(),
-            words.len(),
-        )
-    })?;
-    Ok((words[1], words[2]))
+    let noted = raw::Version {
+        generation: noted.generation,
+        rows: noted.rows,
+    };
+    let mut range = raw::Range::default();
+    verdict(unsafe { raw::mouldgrey_rows_since_version(header, &noted, &mut range) })?;
+    Ok((range.start, range.end))
 }
 
 /// The lowest live row that fails one of these pairs of values in a key column, and the place of the first pair that it fails;
@@ -437,11 +379,10 @@ pub fn check_precedence(
     column: u32,
     pairs: &[u32],
 ) -> Result<Option<(u32, u32)>, Refusal> {
-    let mut words = [0; 3];
+    let mut failure = raw::Failure::default();
     verdict(unsafe {
         raw::mouldgrey_check_precedence(
-            words_in(header),
-            HEADER_WORDS,
+            header,
             rows.as_ptr(),
             rows.len(),
             keys.as_ptr(),
@@ -449,11 +390,10 @@ pub fn check_precedence(
             column,
             pairs.as_ptr(),
             pairs.len(),
-            words.as_mut_ptr(),
-            words.len(),
+            &mut failure,
         )
     })?;
-    Ok((words[0] == 1).then_some((words[1], words[2])))
+    Ok((failure.found == 1).then_some((failure.row, failure.pair)))
 }
 
 /// The live rows of a subset that meet a condition. Refused by 1, 2, 4, 5, 6 and, if the output is shorter than the subset, 2.
@@ -462,32 +402,26 @@ pub fn refine_one(
     header: &Header,
     rows: &[u32],
     subset: SubsetRef<'_>,
-    constraint: Constraint,
+    condition: impl Into<raw::Constraint>,
     output: &mut [u32],
 ) -> Result<Written, Refusal> {
-    let (dense, start, end, ids) = parts(subset);
-    let mut words = [0; 3];
+    let (subset, ids) = subset.parts();
+    let mut answer = raw::Subset::default();
     verdict(unsafe {
         raw::mouldgrey_refine_one(
-            words_in(header),
-            HEADER_WORDS,
+            header,
             rows.as_ptr(),
             rows.len(),
-            dense,
-            start,
-            end,
+            &subset,
             ids.as_ptr(),
             ids.len(),
-            constraint.kind,
-            constraint.column,
-            constraint.value,
+            &condition.into(),
             output.as_mut_ptr(),
             output.len(),
-            words.as_mut_ptr(),
-            words.len(),
+            &mut answer,
         )
     })?;
-    Ok(written(words))
+    Ok(answer.into())
 }
 
 /// The live rows of a subset that meet all conditions. A range stays one only if all of it is kept. Refused by 1, 2, 4, 5, 6
@@ -497,61 +431,53 @@ pub fn refine_ref(
     header: &Header,
     rows: &[u32],
     subset: SubsetRef<'_>,
-    constraints: &[Constraint],
+    conditions: &[raw::Constraint],
     output: &mut [u32],
 ) -> Result<Written, Refusal> {
-    let (dense, start, end, ids) = parts(subset);
-    let mut words = [0; 3];
+    let (subset, ids) = subset.parts();
+    let mut answer = raw::Subset::default();
     verdict(unsafe {
         raw::mouldgrey_refine_ref(
-            words_in(header),
-            HEADER_WORDS,
+            header,
             rows.as_ptr(),
             rows.len(),
-            dense,
-            start,
-            end,
+            &subset,
             ids.as_ptr(),
             ids.len(),
-            constraints.as_ptr(),
-            constraints.len(),
+            conditions.as_ptr(),
+            conditions.len(),
             output.as_mut_ptr(),
             output.len(),
-            words.as_mut_ptr(),
-            words.len(),
+            &mut answer,
         )
     })?;
-    Ok(written(words))
+    Ok(answer.into())
 }
 
-/// Whether a live row of a subset meets all conditions. Refused by 1, 2, 4, 5 and 6.
+/// Whether some live row of a subset meets all conditions. Refused by 1, 2, 4, 5 and 6.
 #[inline]
 pub fn contains_match(
     header: &Header,
     rows: &[u32],
     subset: SubsetRef<'_>,
-    constraints: &[Constraint],
+    conditions: &[raw::Constraint],
 ) -> Result<bool, Refusal> {
-    let (dense, start, end, ids) = parts(subset);
-    let mut words = [0; 1];
+    let (subset, ids) = subset.parts();
+    let mut matched = 0;
     verdict(unsafe {
         raw::mouldgrey_contains_match(
-            words_in(header),
-            HEADER_WORDS,
+            header,
             rows.as_ptr(),
             rows.len(),
-            dense,
-            start,
-            end,
+            &subset,
             ids.as_ptr(),
             ids.len(),
-            constraints.as_ptr(),
-            constraints.len(),
-            words.as_mut_ptr(),
-            words.len(),
+            conditions.as_ptr(),
+            conditions.len(),
+            &mut matched,
         )
     })?;
-    Ok(words[0] == 1)
+    Ok(matched == 1)
 }
 
 /// Visits n ids of a subset from a place on, counted from 0, and writes those of the live rows that meet all conditions.
@@ -564,37 +490,32 @@ pub fn read_page(
     subset: SubsetRef<'_>,
     place: u32,
     n: usize,
-    constraints: &[Constraint],
+    conditions: &[raw::Constraint],
     output: &mut [u32],
-) -> Result<Page, Refusal> {
-    let (dense, start, end, ids) = parts(subset);
-    let mut words = [0; 4];
+) -> Result<PageWritten, Refusal> {
+    let (subset, ids) = subset.parts();
+    let mut page = raw::Page::default();
     verdict(unsafe {
         raw::mouldgrey_read_page(
-            words_in(header),
-            HEADER_WORDS,
+            header,
             rows.as_ptr(),
             rows.len(),
-            dense,
-            start,
-            end,
+            &subset,
             ids.as_ptr(),
             ids.len(),
             place,
             n,
-            constraints.as_ptr(),
-            constraints.len(),
+            conditions.as_ptr(),
+            conditions.len(),
             output.as_mut_ptr(),
             output.len(),
-            words.as_mut_ptr(),
-            words.len(),
+            &mut page,
         )
     })?;
-    let [written, dead, more, next] = words;
-    Ok(Page {
-        written: written as usize,
-        dead: dead as usize,
-        next: (more == 1).then_some(next),
+    Ok(PageWritten {
+        written: page.written as usize,
+        dead: page.dead as usize,
+        next: (page.has_next == 1).then_some(page.next),
     })
 }
 
@@ -606,60 +527,30 @@ pub fn intersect(
     second: SubsetRef<'_>,
     output: &mut [u32],
 ) -> Result<Written, Refusal> {
-    match (first, second) {
-        (SubsetRef::Range(start, end), SubsetRef::Range(other_start, other_end)) => {
-            intersect_ranges((start, end), (other_start, other_end))
+    let mut answer = raw::Subset::default();
+    verdict(match (first, second) {
+        // The C function for two ranges takes its arguments in registers.
+        (SubsetRef::Range(start, end), SubsetRef::Range(other_start, other_end)) => unsafe {
+            raw::mouldgrey_intersect_ranges(start, end, other_start, other_end, &mut answer)
+        },
+        _ => {
+            let ((first, first_ids), (second, second_ids)) = (first.parts(), second.parts());
+            unsafe {
+                raw::mouldgrey_intersect(
+                    &first,
+                    first_ids.as_ptr(),
+                    first_ids.len(),
+                    &second,
+                    second_ids.as_ptr(),
+                    second_ids.len(),
+                    output.as_mut_ptr(),
+                    output.len(),
+                    &mut answer,
+                )
+            }
         }
-        _ => intersect_any(first, second, output),
-    }
-}
-
-/// Two ranges, by the C name whose arguments fit in registers.
-#[inline]
-fn intersect_ranges(first: (u32, u32), second: (u32, u32)) -> Result<Written, Refusal> {
-    let mut words = [0; 3];
-    verdict(unsafe {
-        raw::mouldgrey_intersect_ranges(
-            first.0,
-            first.1,
-            second.0,
-            second.1,
-            words.as_mut_ptr(),
-            words.len(),
-        )
     })?;
-    Ok(written(words))
-}
-
-/// Two subsets of any kind.
-#[inline]
-fn intersect_any(
-    first: SubsetRef<'_>,
-    second: SubsetRef<'_>,
-    output: &mut [u32],
-) -> Result<Written, Refusal> {
-    let (dense, start, end, ids) = parts(first);
-    let (other_dense, other_start, other_end, other_ids) = parts(second);
-    let mut words = [0; 3];
-    verdict(unsafe {
-        raw::mouldgrey_intersect(
-            dense,
-            start,
-            end,
-            ids.as_ptr(),
-            ids.len(),
-            other_dense,
-            other_start,
-            other_end,
-            other_ids.as_ptr(),
-            other_ids.len(),
-            output.as_mut_ptr(),
-            output.len(),
-            words.as_mut_ptr(),
-            words.len(),
-        )
-    })?;
-    Ok(written(words))
+    Ok(answer.into())
 }
 
 /// Writes rows of this width to the output in column order, each cell but a column's first as its difference from the cell above,
@@ -693,12 +584,11 @@ pub fn from_columns(width: u32, cells: &[u32], output: &mut [u32]) -> Result<(),
 
 /// What a step of a short history does. Refused by 15.
 pub fn step_at(step: u32) -> Result<Step, Refusal> {
-    let mut words = [0; 4];
-    verdict(unsafe { raw::mouldgrey_step_at(step, words.as_mut_ptr(), words.len()) })?;
-    let [kind, key, stamp, third] = words;
-    Ok(match kind {
-        0 => Step::Insert([key, stamp, third]),
-        1 => Step::Remove([key]),
+    let mut answer = raw::Step::default();
+    verdict(unsafe { raw::mouldgrey_step_at(step, &mut answer) })?;
+    Ok(match answer.kind {
+        0 => Step::Insert([answer.key, answer.stamp, answer.level]),
+        1 => Step::Remove([answer.key]),
         _ => Step::Merge,
     })
 }
@@ -706,76 +596,84 @@ pub fn step_at(step: u32) -> Result<Step, Refusal> {
 /// The position of a sequence of steps among all of at most six. Refused by 15.
 #[inline]
 pub fn position_of(sequence: &[u32]) -> Result<u32, Refusal> {
-    let mut words = [0];
+    let mut position = 0;
     verdict(unsafe {
-        raw::mouldgrey_position_of(
-            sequence.as_ptr(),
-            sequence.len(),
-            words.as_mut_ptr(),
-            words.len(),
-        )
+        raw::mouldgrey_position_of(sequence.as_ptr(), sequence.len(), &mut position)
     })?;
-    Ok(words[0])
+    Ok(position)
 }
 
-/// Writes the sequence at a position to the start of the output, and answers how many steps it has. Output past them is
+/// Writes the sequence at a position to the start of the output, and returns how many steps it has. Output past them is
 /// unchanged. Refused by 16 and 2.
 #[inline]
 pub fn sequence_at(position: u32, output: &mut [u32]) -> Result<usize, Refusal> {
-    let mut words = [0; 2];
+    let mut answer = raw::Sequence::default();
     verdict(unsafe {
-        raw::mouldgrey_sequence_at(
-            position,
-            output.as_mut_ptr(),
-            output.len(),
-            words.as_mut_ptr(),
-            words.len(),
-        )
+        raw::mouldgrey_sequence_at(position, output.as_mut_ptr(), output.len(), &mut answer)
     })?;
-    Ok(words[1] as usize)
+    Ok(answer.steps as usize)
 }
 
 /// Writes the sequence after this one as [`sequence_at`] does; none, and nothing is written, after the last. Refused by 15 and 2.
 #[inline]
 pub fn next_sequence(sequence: &[u32], output: &mut [u32]) -> Result<Option<usize>, Refusal> {
-    let mut words = [0; 2];
+    let mut answer = raw::Sequence::default();
     verdict(unsafe {
         raw::mouldgrey_next_sequence(
             sequence.as_ptr(),
             sequence.len(),
             output.as_mut_ptr(),
             output.len(),
-            words.as_mut_ptr(),
-            words.len(),
+            &mut answer,
         )
     })?;
-    let [found, steps] = words;
-    Ok((found == 1).then_some(steps as usize))
+    Ok((answer.found == 1).then_some(answer.steps as usize))
+}
+
+/// Writes a listing of a table to the start of the output, in the new form if `numbered`, and returns how many bytes it has. Output
+/// past them is unchanged. Refused by 1, 2 and, if the output is shorter than the text, 2.
+pub fn write_listing(
+    header: &Header,
+    rows: &[u32],
+    numbered: bool,
+    output: &mut [u8],
+) -> Result<usize, Refusal> {
+    let mut length = 0;
+    verdict(unsafe {
+        raw::mouldgrey_write_listing(
+            header,
+            rows.as_ptr(),
+            rows.len(),
+            u32::from(numbered),
+            output.as_mut_ptr(),
+            output.len(),
+            &mut length,
+        )
+    })?;
+    Ok(length as usize)
 }
 
 /// Reads a listing in the old form: the head's numbers and how many rows it has. Their cells are written to the start of the
 /// output, and output past them is unchanged. Refused by 11 and 2.
 pub fn read_listing(text: &[u8], output: &mut [u32]) -> Result<(ListingHead, usize), Refusal> {
-    let mut words = [0; 6];
+    let mut read = raw::Listing::default();
     verdict(unsafe {
         raw::mouldgrey_read_listing(
             text.as_ptr(),
             text.len(),
             output.as_mut_ptr(),
             output.len(),
-            words.as_mut_ptr(),
-            words.len(),
+            &mut read,
         )
     })?;
-    let [columns, keys, sort, rule, generation, rows] = words;
     let head = ListingHead {
-        columns,
-        keys,
-        sort,
-        rule,
-        generation,
+        columns: read.columns,
+        keys: read.keys,
+        sort: read.sort,
+        rule: read.rule,
+        generation: read.generation,
     };
-    Ok((head, rows as usize))
+    Ok((head, read.listed as usize))
 }
 
 /// Reads a listing in the new form: the head's numbers, the row count and how many rows it has. Their numbers, each before the
@@ -784,65 +682,62 @@ pub fn read_numbered(
     text: &[u8],
     output: &mut [u32],
 ) -> Result<(ListingHead, u32, usize), Refusal> {
-    let mut words = [0; 7];
+    let mut read = raw::NumberedListing::default();
     verdict(unsafe {
         raw::mouldgrey_read_numbered(
             text.as_ptr(),
             text.len(),
             output.as_mut_ptr(),
             output.len(),
-            words.as_mut_ptr(),
-            words.len(),
+            &mut read,
         )
     })?;
-    let [columns, keys, sort, rule, generation, count, rows] = words;
     let head = ListingHead {
-        columns,
-        keys,
-        sort,
-        rule,
-        generation,
+        columns: read.columns,
+        keys: read.keys,
+        sort: read.sort,
+        rule: read.rule,
+        generation: read.generation,
     };
-    Ok((head, count, rows as usize))
+    Ok((head, read.count, read.listed as usize))
 }
 
-/// A move of a listing's text to the other form, under its C name.
-type Move = unsafe extern "C" fn(*const u8, usize, *mut u8, usize, *mut u64, usize) -> u32;
+/// A C function that converts a listing's text to the other form.
+type Convert = unsafe extern "C" fn(*const u8, usize, *mut u8, usize, *mut u64) -> u32;
 
-fn moved(by: Move, text: &[u8], output: &mut [u8]) -> Result<usize, Refusal> {
-    let mut words = [0];
+fn convert(by: Convert, text: &[u8], output: &mut [u8]) -> Result<usize, Refusal> {
+    let mut length = 0;
     verdict(unsafe {
         by(
             text.as_ptr(),
             text.len(),
             output.as_mut_ptr(),
             output.len(),
-            words.as_mut_ptr(),
-            words.len(),
+            &mut length,
         )
     })?;
-    Ok(words[0] as usize)
+    Ok(length as usize)
 }
 
-/// Writes a listing in the old form to the start of the output in the new one, its rows numbered from 0, and answers how many
+/// Writes a listing in the old form to the start of the output in the new one, its rows numbered from 0, and returns how many
 /// bytes that are. Output past them is unchanged. Refused by 11 and 2.
 pub fn to_numbered(text: &[u8], output: &mut [u8]) -> Result<usize, Refusal> {
-    moved(raw::mouldgrey_to_numbered, text, output)
+    convert(raw::mouldgrey_to_numbered, text, output)
 }
 
 /// Writes a listing in the new form to the output in the old one, as [`to_numbered`] does. Refused by 11, 17 and 2.
 pub fn from_numbered(text: &[u8], output: &mut [u8]) -> Result<usize, Refusal> {
-    moved(raw::mouldgrey_from_numbered, text, output)
+    convert(raw::mouldgrey_from_numbered, text, output)
 }
 
 /// Whether the numbers given are, rising and each once, those of the rows of a listing in the new form that meet all conditions.
 /// Refused by 11 and 6.
 pub fn check_answers(
     text: &[u8],
-    conditions: &[Constraint],
+    conditions: &[raw::Constraint],
     given: &[u32],
 ) -> Result<Verdict, Refusal> {
-    let mut words = [0; 2];
+    let mut answer = raw::Verdict::default();
     verdict(unsafe {
         raw::mouldgrey_check_answers(
             text.as_ptr(),
@@ -851,22 +746,22 @@ pub fn check_answers(
             conditions.len(),
             given.as_ptr(),
             given.len(),
-            words.as_mut_ptr(),
-            words.len(),
+            &mut answer,
         )
     })?;
-    Ok(match words {
-        [0, _] => Verdict::Right,
-        [1, place] => Verdict::Misplaced(place as usize),
-        [_, number] => Verdict::Wrong(number as u32),
+    Ok(match answer.kind {
+        0 => Verdict::Right,
+        1 => Verdict::Misplaced(answer.number as usize),
+        _ => Verdict::Wrong(answer.number as u32),
     })
 }
 
-/// Makes an empty table of the stores and makes the calls on it, in order, also after one that is refused. They go as words, each
-/// a kind, a count and so many words, as include/mouldgrey.h says. Refused by 1 and 2, as [`open_table`].
+/// Makes an empty table of the stores and makes the calls on it, in order, also after one that is refused. The calls are encoded
+/// as words ([`encode_calls`](crate::encode_calls)). The index store is that of all refreshes of the list. Refused by 1 and 2, as
+/// [`open_table`].
 #[allow(clippy::too_many_arguments)]
 pub fn replay(
-    opening: &Opening,
+    opening: impl Into<raw::Opening>,
     header: &mut Header,
     calls: &[u32],
     rows: &mut [u32],
@@ -875,17 +770,12 @@ pub fn replay(
     pending: &mut [u32],
     live: &mut [u64],
     base: &mut [u32],
+    index: &mut [u32],
 ) -> Result<(), Refusal> {
     verdict(unsafe {
         raw::mouldgrey_replay(
-            opening.columns,
-            opening.keys,
-            opening.sort,
-            opening.rule,
-            opening.capacity,
-            opening.generation,
-            words_of(header),
-            HEADER_WORDS,
+            &opening.into(),
+            header,
             calls.as_ptr(),
             calls.len(),
             rows.as_mut_ptr(),
@@ -900,58 +790,80 @@ pub fn replay(
             live.len(),
             base.as_mut_ptr(),
             base.len(),
+            index.as_mut_ptr(),
+            index.len(),
         )
     })
 }
 
-/// Puts the questions, in order, on a subset, each on the ids that the last accepted one left. They go as words, as those of
-/// [`replay`]. The ids left are a range, or the first ids of one of the two lent lists, each of which is used up to the length of
-/// the shorter. Never refused; a question that is refused counts for nothing.
-pub fn ask(
+/// Where the ids are that a list of queries left.
+#[derive(Clone, Copy, Debug, PartialEq, Eq)]
+pub enum LeftIn {
+    /// They are a range.
+    Range(u32, u32),
+    /// They are all of the starting list.
+    Start,
+    /// They are the first so many words of the first work space.
+    First(usize),
+    /// They are the first so many words of the second work space.
+    Second(usize),
+}
+
+/// What a list of queries left.
+#[derive(Clone, Copy, Debug, PartialEq, Eq)]
+pub struct Left {
+    /// The ids.
+    pub ids: LeftIn,
+    /// Some accepted query refines.
+    pub refined: bool,
+    /// How many queries were taken from the list, refused ones too; `u32::MAX` also where there were more.
+    pub taken: u32,
+}
+
+/// Makes the queries on a subset, in order, each on the ids that the last accepted one left. They are encoded as words
+/// ([`encode_queries`](crate::encode_queries)). Each query has room for as many ids as the shorter of the two work spaces holds.
+/// Never refused; a query that is refused changes nothing.
+#[allow(clippy::too_many_arguments)]
+pub fn run_queries(
     header: &Header,
     rows: &[u32],
     sorts: &[u32],
     subset: SubsetRef<'_>,
-    questions: &[u32],
+    queries: &[u32],
     first: &mut [u32],
     second: &mut [u32],
 ) -> Left {
-    let (dense, start, end, ids) = parts(subset);
-    let mut words = [0; 7];
+    let (subset, ids) = subset.parts();
+    let mut answer = raw::QueryResult::default();
     let number = unsafe {
-        raw::mouldgrey_ask(
-            words_in(header),
-            HEADER_WORDS,
+        raw::mouldgrey_run_queries(
+            header,
             rows.as_ptr(),
             rows.len(),
             sorts.as_ptr(),
             sorts.len(),
-            dense,
-            start,
-            end,
+            &subset,
             ids.as_ptr(),
             ids.len(),
-            questions.as_ptr(),
-            questions.len(),
+            queries.as_ptr(),
+            queries.len(),
             first.as_mut_ptr(),
             first.len(),
             second.as_mut_ptr(),
             second.len(),
-            words.as_mut_ptr(),
-            words.len(),
+            &mut answer,
         )
     };
-    debug_assert_eq!(number, 0, "twelve words and seven are enough");
-    let [dense, start, end, count, place, refined, taken] = words;
-    let ids = match (dense, place) {
-        (1, _) => LeftIn::Range(start, end),
-        (_, 1) => LeftIn::First(count as usize),
-        (_, 2) => LeftIn::Second(count as usize),
+    debug_assert_eq!(number, 0, "a list of queries is never refused");
+    let ids = match (answer.dense, answer.list) {
+        (1, _) => LeftIn::Range(answer.start, answer.end),
+        (_, 1) => LeftIn::First(answer.count as usize),
+        (_, 2) => LeftIn::Second(answer.count as usize),
         _ => LeftIn::Start,
     };
     Left {
         ids,
-        refined: refined == 1,
-        taken,
+        refined: answer.refined == 1,
+        taken: answer.taken,
     }
 }

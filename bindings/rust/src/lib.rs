@@ -1,27 +1,29 @@
-//! A table for an archive: rows of u32 cells, kept by key, in the order of a sort column. The library is written in Rattle and
-//! proved; this crate calls its C functions and depends on nothing else.
+//! A table for archives: rows of u32 cells, found by key and recorded in the order of a sort column. The library is written in
+//! Rattle, a language in which every function is proved to meet its contract; this crate calls its C functions and depends on
+//! nothing else.
 //!
 //! - [`Table`] keeps its stores and is all that most callers need. A [`ValueIndex`] beside it leads refreshes to the rows that
 //!   mention a value.
 //! - [`lent`] has the same calls over stores that the caller keeps, such as those of a mapped file.
-//! - [`lent::replay`] makes a list of calls, [`lent::ask`] puts a list of questions, each in one call of the library.
-//! - [`to_columns`] and [`from_columns`] put rows into column order, for the vault, and back.
-//! - [`ShortHistories`] gives every sequence of at most six steps, in order; [`position_of`] and [`sequence_at`] lead from a
-//!   sequence to its position and back.
-//! - [`read_listing`] and [`read_numbered`] read a listing as text, without and with row numbers; [`to_numbered`] and
-//!   [`from_numbered`] lead from one form to the other; [`check_answers`] tests a laboratory's answers about a listing.
+//! - [`Table::replay`] makes a list of calls, [`Table::run_queries`] a list of queries, each in one call of the library.
+//! - [`to_columns`] and [`from_columns`] put rows into column order, for a vault, and back.
+//! - [`Table::listing`] writes a listing as text; [`read_listing`] and [`read_numbered`] read one; [`to_numbered`] and
+//!   [`from_numbered`] convert between the forms; [`check_answers`] checks a laboratory's answers about a listing.
+//! - [`ShortHistories`] gives every sequence of at most six steps, in order.
 //! - [`raw`] has the C functions themselves.
 //!
-//! Calls that the library turns away answer a [`Refusal`] with the paper's number, and have changed nothing.
+//! A call that is refused returns a [`Refusal`] with the paper's number, and has changed nothing. A merge that stops returns
+//! [`Error::Stopped`].
 //!
-//! The static libraries are looked for in target/staticlib of the repository, where `rt staticlib exports`, `rt staticlib
-//! exports_questions`, `rt staticlib exports_lists`, `rt staticlib exports_precedence`, `rt staticlib exports_refreshes`, `rt
-//! staticlib exports_vault`, `rt staticlib exports_short_histories`, `rt staticlib exports_listings` and `rt staticlib
-//! exports_replay` leave them, or in the folder that the environment variable MOULDGREY_LIBRARIES names.
+//! The library libmouldgrey.a is looked for in target/lib of the repository, where `make` leaves it, or in the folder that the
+//! environment variable MOULDGREY_LIBRARIES names. `cargo check` and `cargo doc` work without it.
+
+#![warn(missing_docs)]
 
 mod header;
 pub mod lent;
 mod listings;
+mod lists;
 pub mod raw;
 mod refusal;
 mod short_histories;
@@ -32,14 +34,32 @@ mod tests;
 mod value_index;
 mod vault;
 
-pub use header::{DEAD, Header, Lengths, Merge, Opening, Version};
+pub use header::{DEAD, HEADER_WORDS, Header, Lengths, Merge, Merged, Opening, Rule, Version};
 pub use listings::{
     Listing, ListingHead, Verdict, check_answers, from_numbered, read_listing, read_numbered,
     to_numbered,
 };
-pub use refusal::{Refusal, Stop};
+pub use lists::{Call, Query, encode_calls, encode_queries};
+pub use refusal::{Error, Refusal, Stop, StopReason};
 pub use short_histories::{LONGEST, ShortHistories, Step, position_of, sequence_at};
-pub use subset::{Constraint, Left, LeftIn, Page, Subset, SubsetRef, Written};
-pub use table::{NoTable, Row, Rows, Stores, Table, intersect};
+pub use subset::{Comparison, Condition, Page, PageWritten, Subset, SubsetRef, Written};
+pub use table::{NoTable, Queried, Row, Rows, Stores, Table, intersect};
 pub use value_index::ValueIndex;
 pub use vault::{from_columns, to_columns};
+
+/// The version of the library that is linked, as in include/mouldgrey.h: major * 1000000 + minor * 1000 + patch.
+pub fn library_version() -> u32 {
+    // SAFETY: it takes nothing.
+    unsafe { raw::mouldgrey_library_version() }
+}
+
+/// The library's sentence for the number of a refusal or a stop.
+///
+/// ```
+/// assert_eq!(mouldgrey::refusal_text(8), "the table is full");
+/// ```
+pub fn refusal_text(number: u32) -> &'static str {
+    // SAFETY: for every number it returns a string that is never freed and ends in a 0.
+    let text = unsafe { std::ffi::CStr::from_ptr(raw::mouldgrey_refusal_text(number)) };
+    text.to_str().expect("a sentence in English")
+}

@@ -1,20 +1,26 @@
 //! Listings as text, over outputs that are long enough, and a laboratory's answers about them.
 
-use crate::{Constraint, Refusal, lent};
+use crate::{Condition, Refusal, lent};
 
 /// The numbers of a listing's head line, but for the row count of the new form.
 #[derive(Clone, Copy, Debug, PartialEq, Eq, Hash)]
 pub struct ListingHead {
+    /// The number of columns.
     pub columns: u32,
+    /// How many of the first columns are the key.
     pub keys: u32,
+    /// The sort column.
     pub sort: u32,
+    /// The number of the merge rule.
     pub rule: u32,
+    /// The generation.
     pub generation: u32,
 }
 
 /// A listing in the new form.
 #[derive(Clone, Debug, PartialEq, Eq, Hash)]
 pub struct Listing {
+    /// The numbers of the head line.
     pub head: ListingHead,
     /// Every row number is below it.
     pub count: u32,
@@ -22,7 +28,7 @@ pub struct Listing {
     pub rows: Vec<(u32, Vec<u32>)>,
 }
 
-/// What is said of the row numbers that a laboratory gives.
+/// The result of a check of the row numbers that a laboratory gives.
 #[derive(Clone, Copy, Debug, PartialEq, Eq, Hash)]
 pub enum Verdict {
     /// They are, rising and each once, those of the rows that meet every condition.
@@ -33,12 +39,17 @@ pub enum Verdict {
     Wrong(u32),
 }
 
-/// Every number stands behind a comma, so that there are at most half as many as bytes.
+/// Every number has a comma before it, so that there are at most half as many as bytes.
 fn room(text: &[u8]) -> Vec<u32> {
     vec![0; text.len() / 2]
 }
 
 /// The head's numbers and the rows' cells of a listing in the old form. Refused by 11.
+///
+/// ```
+/// let (head, rows) = mouldgrey::read_listing(b"T,2,1,1,0,0\nD,7,1\n").unwrap();
+/// assert_eq!((head.columns, rows), (2, vec![vec![7, 1]]));
+/// ```
 pub fn read_listing(text: &[u8]) -> Result<(ListingHead, Vec<Vec<u32>>), Refusal> {
     let mut output = room(text);
     let (head, rows) = lent::read_listing(text, &mut output)?;
@@ -47,6 +58,11 @@ pub fn read_listing(text: &[u8]) -> Result<(ListingHead, Vec<Vec<u32>>), Refusal
 }
 
 /// A listing in the new form. Refused by 11.
+///
+/// ```
+/// let listing = mouldgrey::read_numbered(b"U,2,1,1,0,0,5\nD,3,7,1\n").unwrap();
+/// assert_eq!((listing.count, listing.rows), (5, vec![(3, vec![7, 1])]));
+/// ```
 pub fn read_numbered(text: &[u8]) -> Result<Listing, Refusal> {
     let mut output = room(text);
     let (head, count, rows) = lent::read_numbered(text, &mut output)?;
@@ -59,6 +75,12 @@ pub fn read_numbered(text: &[u8]) -> Result<Listing, Refusal> {
 }
 
 /// A listing in the old form as text in the new one: rows are numbered from 0. Refused by 11.
+///
+/// ```
+/// let text = mouldgrey::to_numbered(b"T,2,1,1,0,0\nD,7,1\n").unwrap();
+/// assert_eq!(text, b"U,2,1,1,0,0,1\nD,0,7,1\n");
+/// assert_eq!(mouldgrey::from_numbered(&text).unwrap(), b"T,2,1,1,0,0\nD,7,1\n");
+/// ```
 pub fn to_numbered(text: &[u8]) -> Result<Vec<u8>, Refusal> {
     // Each line gets one number more, which takes at most six bytes with its comma, and has at least four.
     let mut output = vec![0; 3 * text.len()];
@@ -77,10 +99,18 @@ pub fn from_numbered(text: &[u8]) -> Result<Vec<u8>, Refusal> {
 
 /// Tests the row numbers that a laboratory gives for the rows of a listing in the new form that meet every condition; no condition
 /// is met by every row. Refused by 11 and 6.
+///
+/// ```
+/// use mouldgrey::{Condition, Verdict, check_answers};
+///
+/// let text = b"U,2,1,1,0,0,5\nD,0,7,1\nD,3,8,1\n";
+/// assert_eq!(check_answers(text, &[Condition::eq(1, 1)], &[0, 3]), Ok(Verdict::Right));
+/// assert_eq!(check_answers(text, &[Condition::eq(1, 1)], &[0]), Ok(Verdict::Wrong(3)));
+/// ```
 pub fn check_answers(
     text: &[u8],
-    conditions: &[Constraint],
+    conditions: &[Condition],
     given: &[u32],
 ) -> Result<Verdict, Refusal> {
-    lent::check_answers(text, conditions, given)
+    lent::check_answers(text, Condition::as_constraints(conditions), given)
 }

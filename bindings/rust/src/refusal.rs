@@ -1,6 +1,5 @@
-//! The numbers by which the library turns a call away, or stops a merge.
+//! The numbers by which the library refuses a call or stops a merge, and the errors made of them.
 
-use std::error::Error;
 use std::fmt;
 
 /// Why a call was refused. The numbers are the paper's; a refusal has changed nothing that was lent.
@@ -42,16 +41,42 @@ pub enum Refusal {
     OldNote = 18,
 }
 
-/// Why a merge stopped. What came before the stop stands; the rest of the batch is dropped.
+/// Why a merge stopped.
 #[derive(Clone, Copy, Debug, PartialEq, Eq, Hash)]
-pub enum Stop {
+pub enum StopReason {
     /// The row must be appended, and the table has as many rows as its capacity.
     TableFull = 8,
     /// The row must be appended, and its sort value is below the largest one appended.
     OldSortValue = 9,
 }
 
+/// Where and why a merge stopped. Work done before the stop remains; this insert and all later ones are dropped.
+#[derive(Clone, Copy, Debug, PartialEq, Eq, Hash)]
+pub struct Stop {
+    /// Why it stopped.
+    pub reason: StopReason,
+    /// Which of all staged inserts it stopped at, counted from 0.
+    pub place: u32,
+}
+
+/// A call was refused, or a merge stopped.
+///
+/// ```
+/// use mouldgrey::{Error, Refusal};
+///
+/// let error = Error::from(Refusal::WrongWidth);
+/// assert_eq!(error.to_string(), "refused 3: wrong number of cells");
+/// ```
+#[derive(Clone, Copy, Debug, PartialEq, Eq, Hash)]
+pub enum Error {
+    /// The call was refused and has changed nothing.
+    Refused(Refusal),
+    /// The merge stopped: part of the batch was applied, the rest is dropped.
+    Stopped(Stop),
+}
+
 impl Refusal {
+    /// All refusals, by number.
     pub const ALL: [Refusal; 17] = [
         Refusal::OutOfBounds,
         Refusal::TooShort,
@@ -77,11 +102,12 @@ impl Refusal {
         self as u32
     }
 
+    /// The refusal with this number.
     pub fn from_number(number: u32) -> Option<Refusal> {
         Refusal::ALL.into_iter().find(|it| it.number() == number)
     }
 
-    fn words(self) -> &'static str {
+    fn text(self) -> &'static str {
         match self {
             Refusal::OutOfBounds => "a header's number or a width is outside its bounds",
             Refusal::TooShort => "a lent store or output is shorter than needed",
@@ -104,33 +130,61 @@ impl Refusal {
     }
 }
 
-impl Stop {
-    pub const ALL: [Stop; 2] = [Stop::TableFull, Stop::OldSortValue];
+impl StopReason {
+    /// All reasons, by number.
+    pub const ALL: [StopReason; 2] = [StopReason::TableFull, StopReason::OldSortValue];
 
     /// The paper's number.
     pub fn number(self) -> u32 {
         self as u32
     }
 
-    pub fn from_number(number: u32) -> Option<Stop> {
-        Stop::ALL.into_iter().find(|it| it.number() == number)
+    /// The reason with this number.
+    pub fn from_number(number: u32) -> Option<StopReason> {
+        StopReason::ALL.into_iter().find(|it| it.number() == number)
+    }
+}
+
+impl From<Refusal> for Error {
+    fn from(refusal: Refusal) -> Error {
+        Error::Refused(refusal)
+    }
+}
+
+impl From<Stop> for Error {
+    fn from(stop: Stop) -> Error {
+        Error::Stopped(stop)
     }
 }
 
 impl fmt::Display for Refusal {
     fn fmt(&self, f: &mut fmt::Formatter<'_>) -> fmt::Result {
-        write!(f, "refused {}: {}", self.number(), self.words())
+        write!(f, "refused {}: {}", self.number(), self.text())
     }
 }
 
-impl Error for Refusal {}
+impl std::error::Error for Refusal {}
 
 impl fmt::Display for Stop {
     fn fmt(&self, f: &mut fmt::Formatter<'_>) -> fmt::Result {
-        let words = match self {
-            Stop::TableFull => "the table is full",
-            Stop::OldSortValue => "a sort value below the largest one appended",
+        let why = match self.reason {
+            StopReason::TableFull => "the table is full",
+            StopReason::OldSortValue => "a sort value below the largest one appended",
         };
-        write!(f, "stopped {}: {words}", self.number())
+        let (number, place) = (self.reason.number(), self.place);
+        write!(f, "stopped {number} at insert {place}: {why}")
     }
 }
+
+impl std::error::Error for Stop {}
+
+impl fmt::Display for Error {
+    fn fmt(&self, f: &mut fmt::Formatter<'_>) -> fmt::Result {
+        match self {
+            Error::Refused(refusal) => refusal.fmt(f),
+            Error::Stopped(stop) => stop.fmt(f),
+        }
+    }
+}
+
+impl std::error::Error for Error {}

@@ -12,6 +12,7 @@ pub enum Step {
     Insert([u32; 3]),
     /// Stages a removal by key.
     Remove([u32; 1]),
+    /// Applies what is staged.
     Merge,
 }
 
@@ -23,6 +24,13 @@ impl Step {
 }
 
 /// The position of a sequence, from 0. Refused by 15.
+///
+/// ```
+/// use mouldgrey::{position_of, sequence_at};
+///
+/// assert_eq!(position_of(&[0, 6]), Ok(14));
+/// assert_eq!(sequence_at(14), Ok(vec![0, 6]));
+/// ```
 pub fn position_of(sequence: &[u32]) -> Result<u32, Refusal> {
     lent::position_of(sequence)
 }
@@ -42,6 +50,11 @@ pub struct ShortHistories {
 }
 
 impl ShortHistories {
+    /// From the empty sequence on.
+    ///
+    /// ```
+    /// assert_eq!(mouldgrey::ShortHistories::new().count(), 137_257);
+    /// ```
     pub fn new() -> ShortHistories {
         ShortHistories::default()
     }

@@ -1,29 +1,33 @@
 //! A table that keeps its stores.
 
 use crate::{
-    Constraint, DEAD, Header, Lengths, Merge, Opening, Refusal, Subset, SubsetRef, ValueIndex,
-    Version, Written, lent,
+    Call, Condition, DEAD, Error, Header, Lengths, Merged, Opening, Page, Query, Refusal, Subset,
+    SubsetRef, ValueIndex, Version, Written, encode_calls, encode_queries, lent,
 };
-use std::error::Error;
 use std::fmt;
 use std::slice::ChunksExact;
 
-/// A header and the four stores that go with it, as an archive keeps them. docs/FORMAT.md says what each word means.
+/// A header and the four stores that go with it, as an archive keeps them. docs/FORMAT.md describes every word.
 #[derive(Clone, Debug, Default, PartialEq, Eq)]
 pub struct Stores {
+    /// The table's numbers.
     pub header: Header,
+    /// The rows, one after another.
     pub rows: Vec<u32>,
+    /// The key index.
     pub keys: Vec<u32>,
+    /// The sort entries.
     pub sorts: Vec<u32>,
+    /// The staged records.
     pub pending: Vec<u32>,
 }
 
-/// Why stores were not taken for a table.
+/// Why stores are no table.
 #[derive(Clone, Copy, Debug, PartialEq, Eq)]
 pub enum NoTable {
     /// The header's numbers are out of bounds, or a store is too short.
     Refused(Refusal),
-    /// The soundness check says no.
+    /// The soundness check rejects the stores.
     Unsound,
 }
 
@@ -36,25 +40,39 @@ impl fmt::Display for NoTable {
     }
 }
 
-impl Error for NoTable {}
+impl std::error::Error for NoTable {}
 
 /// A live row: its number and its cells.
 #[derive(Clone, Copy, Debug, PartialEq, Eq)]
 pub struct Row<'a> {
+    /// The row number.
     pub id: u32,
+    /// One cell for each column.
     pub cells: &'a [u32],
 }
 
-/// A table that keeps its stores. Rows are staged for insertion and removal, and taken in by [`merge`](Table::merge); row
-/// numbers stay until a compaction, which the [`Version`] shows.
+/// What a list of queries left.
+#[derive(Clone, Debug, PartialEq, Eq)]
+pub struct Queried {
+    /// The ids left.
+    pub ids: Subset,
+    /// Some accepted query refines: then the ids left are exactly the live rows of the starting subset that lie in every accepted
+    /// subset and meet every accepted condition.
+    pub refined: bool,
+    /// How many queries were taken from the list, refused ones too.
+    pub taken: u32,
+}
+
+/// A table that keeps its stores. Rows are staged for insertion and removal, and applied by [`merge`](Table::merge). Row numbers
+/// stay until a compaction, which the [`Version`] shows.
 ///
 /// ```
-/// use mouldgrey::{Constraint, Opening, Refusal, Subset, Table};
+/// use mouldgrey::{Condition, Opening, Refusal, Rule, Subset, Table};
 ///
-/// # fn main() -> Result<(), Refusal> {
-/// // Columns: modem, side, level, stamp. The first two are the key, rows come in the order of their stamps, and a row with a
-/// // known key takes the old one's place (rule 1).
-/// let opening = Opening { columns: 4, keys: 2, sort: 3, rule: 1, capacity: 100, generation: 0 };
+/// # fn main() -> Result<(), mouldgrey::Error> {
+/// // Columns: modem, side, level, stamp. The first two are the key, rows are recorded in the order of their stamps, and a row
+/// // with a known key replaces the old one.
+/// let opening = Opening { columns: 4, keys: 2, sort: 3, rule: Rule::TakeNew, capacity: 100, generation: 0 };
 /// let mut table = Table::new(&opening, 1_000)?;
 /// table.stage_insert(&[7, 1, 160, 10])?;
 /// table.stage_insert(&[7, 2, 148, 10])?;
@@ -62,18 +80,21 @@ pub struct Row<'a> {
 ///
 /// table.stage_insert(&[7, 1, 163, 12])?;
 /// table.stage_remove(&[7, 2])?;
-/// let merge = table.merge()?;
-/// assert_eq!(merge.stop, None);
+/// assert!(table.merge()?.added);
 ///
 /// assert_eq!(table.get_row_column(&[7, 1], 2)?, Some(163));
 /// assert_eq!(table.get_row(&[7, 2])?, None);
-/// assert_eq!(table.fast_subset(Constraint::eq(3, 10))?, Some(Subset::Range(0, 2)));
-/// assert_eq!(table.refine_one(&table.all(), Constraint::ge(2, 150))?, Subset::Range(2, 3));
+/// assert_eq!(table.fast_subset(Condition::eq(3, 10))?, Some(Subset::Range(0, 2)));
+/// assert_eq!(table.refine_one(&table.all(), Condition::ge(2, 150))?, Subset::Range(2, 3));
 /// for row in &table {
 ///     println!("{}: {:?}", row.id, row.cells);
 /// }
-/// assert_eq!(table.is_sound()?, true);
 ///
+/// // A stamp below the largest one appended stops a merge, which is an error; the table stays as it was.
+/// table.stage_insert(&[8, 1, 150, 11])?;
+/// assert_eq!(table.merge().unwrap_err().to_string(), "stopped 9 at insert 0: a sort value below the largest one appended");
+///
+/// // A refused call changes nothing.
 /// assert_eq!(table.stage_insert(&[7, 1]), Err(Refusal::WrongWidth));
 /// # Ok(())
 /// # }
@@ -87,27 +108,97 @@ pub struct Table {
 }
 
 impl Table {
-    /// An empty table with a pending store of so many words. Refused by 1.
+    /// An empty table with a pending store of this many words. An insert takes columns plus 2 words, a removal by key keys plus
+    /// 2, a removal by row keys plus 3. Refused by 1.
+    ///
+    /// ```
+    /// # use mouldgrey::{Opening, Refusal, Rule, Table};
+    /// let opening = Opening { columns: 9, keys: 1, sort: 0, rule: Rule::KeepOld, capacity: 10, generation: 0 };
+    /// assert_eq!(Table::new(&opening, 100).unwrap_err(), Refusal::OutOfBounds);
+    /// ```
     pub fn new(opening: &Opening, pending_words: usize) -> Result<Table, Refusal> {
-        let mut table = Table {
-            stores: Stores::default(),
-            live: Vec::new(),
-            base: Vec::new(),
-        };
+        let mut table = Table::without_stores();
         table.reserve_pending(pending_words);
         table.open(opening)?;
         Ok(table)
     }
 
-    /// Empties the table, with other numbers if these are others. What is staged is dropped. Refused by 1.
-    pub fn open(&mut self, opening: &Opening) -> Result<(), Refusal> {
-        // On stores of no length the library tells whether the numbers are within their bounds: only then there are such.
+    fn without_stores() -> Table {
+        Table {
+            stores: Stores::default(),
+            live: Vec::new(),
+            base: Vec::new(),
+        }
+    }
+
+    /// Opens a table and makes the calls of a list on it in one call of the library, also after one that is refused or stops. The
+    /// index is that of all refreshes of the list. Refused by 1.
+    ///
+    /// ```
+    /// # use mouldgrey::{Call, Opening, Rule, Table, ValueIndex};
+    /// # fn main() -> Result<(), mouldgrey::Error> {
+    /// let opening = Opening { columns: 2, keys: 1, sort: 1, rule: Rule::TakeNew, capacity: 10, generation: 0 };
+    /// let calls = [Call::Insert(&[7, 1]), Call::Insert(&[8, 1]), Call::Merge, Call::Remove(&[7]), Call::Merge];
+    /// let table = Table::replay(&opening, 100, &mut ValueIndex::new(), &calls)?;
+    /// assert_eq!(table.rows().map(|row| row.cells[0]).collect::<Vec<_>>(), [8]);
+    /// # Ok(())
+    /// # }
+    /// ```
+    pub fn replay(
+        opening: &Opening,
+        pending_words: usize,
+        index: &mut ValueIndex,
+        calls: &[Call<'_>],
+    ) -> Result<Table, Refusal> {
+        let mut table = Table::without_stores();
+        table.reserve_pending(pending_words);
+        table.check_opening(opening)?;
+        table.make_room(&opening.lengths());
+        let columns = calls.iter().map(Call::named_columns).max().unwrap_or(0);
+        let needed = match columns {
+            0 => 0,
+            _ => ValueIndex::words_needed(opening.capacity, columns.min(8)),
+        };
+        let s = &mut table.stores;
+        lent::replay(
+            opening,
+            &mut s.header,
+            &encode_calls(calls),
+            &mut s.rows,
+            &mut s.keys,
+            &mut s.sorts,
+            &mut s.pending,
+            &mut table.live,
+            &mut table.base,
+            index.lend(needed),
+        )?;
+        Ok(table)
+    }
+
+    /// Whether an opening's numbers are within their bounds. On stores of no length, 2 is the refusal after that one.
+    fn check_opening(&self, opening: &Opening) -> Result<(), Refusal> {
         let mut header = Header::default();
         match lent::open_table(opening, &mut header, &[], &mut [], &[], &[]) {
-            Ok(()) | Err(Refusal::TooShort) => {}
-            Err(refusal) => return Err(refusal),
+            Ok(()) | Err(Refusal::TooShort) => Ok(()),
+            Err(refusal) => Err(refusal),
         }
-        self.make_room(&Lengths::needed(opening.columns, opening.capacity));
+    }
+
+    /// Empties the table and gives it these numbers. What is staged is dropped. Refused by 1; the table stays as it was then.
+    ///
+    /// ```
+    /// # use mouldgrey::{Opening, Rule, Table};
+    /// # fn main() -> Result<(), mouldgrey::Error> {
+    /// # let opening = Opening { columns: 2, keys: 1, sort: 1, rule: Rule::KeepOld, capacity: 10, generation: 0 };
+    /// # let mut table = Table::new(&opening, 100)?;
+    /// table.open(&Opening { capacity: 20, ..opening })?;
+    /// assert_eq!(table.header().capacity, 20);
+    /// # Ok(())
+    /// # }
+    /// ```
+    pub fn open(&mut self, opening: &Opening) -> Result<(), Refusal> {
+        self.check_opening(opening)?;
+        self.make_room(&opening.lengths());
         let s = &mut self.stores;
         lent::open_table(
             opening,
@@ -120,6 +211,21 @@ impl Table {
     }
 
     /// A table of stores that an archive has kept, if they are sound.
+    ///
+    /// ```
+    /// # use mouldgrey::{NoTable, Opening, Rule, Table};
+    /// # fn main() -> Result<(), Box<dyn std::error::Error>> {
+    /// # let opening = Opening { columns: 2, keys: 1, sort: 1, rule: Rule::KeepOld, capacity: 10, generation: 0 };
+    /// # let mut table = Table::new(&opening, 100)?;
+    /// # table.stage_insert(&[7, 1])?;
+    /// # table.merge()?;
+    /// let mut stores = table.into_stores();
+    /// let table = Table::from_stores(stores.clone())?;
+    /// stores.rows[0] = 8;
+    /// assert_eq!(Table::from_stores(stores).unwrap_err(), NoTable::Unsound);
+    /// # Ok(())
+    /// # }
+    /// ```
     pub fn from_stores(stores: Stores) -> Result<Table, NoTable> {
         let s = &stores;
         match lent::is_sound(&s.header, &s.rows, &s.keys, &s.sorts, &s.pending) {
@@ -140,10 +246,12 @@ impl Table {
         &self.stores
     }
 
+    /// The header and stores themselves.
     pub fn into_stores(self) -> Stores {
         self.stores
     }
 
+    /// The table's numbers.
     pub fn header(&self) -> &Header {
         &self.stores.header
     }
@@ -162,35 +270,83 @@ impl Table {
         grow(&mut self.base, needed.base);
     }
 
-    /// Makes the pending store at least so many words long. An insert takes columns plus 2 of them, a removal by key keys plus
-    /// 2, one by row keys plus 3.
+    /// Makes the pending store at least this many words long.
+    ///
+    /// ```
+    /// # use mouldgrey::{Opening, Refusal, Rule, Table};
+    /// # fn main() -> Result<(), mouldgrey::Error> {
+    /// # let opening = Opening { columns: 2, keys: 1, sort: 1, rule: Rule::KeepOld, capacity: 10, generation: 0 };
+    /// let mut table = Table::new(&opening, 0)?;
+    /// assert_eq!(table.stage_insert(&[7, 1]), Err(Refusal::PendingFull));
+    /// table.reserve_pending(4);
+    /// table.stage_insert(&[7, 1])?;
+    /// # Ok(())
+    /// # }
+    /// ```
     pub fn reserve_pending(&mut self, words: usize) {
         if self.stores.pending.len() < words {
             self.stores.pending.resize(words, 0);
         }
     }
 
-    /// Stages a row for insertion. Refused by 3, and by 7 if the pending store has no room.
+    /// Stages a row for insertion at the next merge. Refused by 3, and by 7 if the pending store has no room.
+    #[inline]
     pub fn stage_insert(&mut self, cells: &[u32]) -> Result<(), Refusal> {
         lent::stage_insert(&mut self.stores.header, &mut self.stores.pending, cells)
     }
 
-    /// Stages the removal of a key's row, if there will be one at the merge. Refused by 3 and 7.
+    /// Stages the removal of the live row with this key; no effect if there is none at merge time. Refused by 3 and 7.
+    #[inline]
     pub fn stage_remove(&mut self, key: &[u32]) -> Result<(), Refusal> {
         lent::stage_remove(&mut self.stores.header, &mut self.stores.pending, key)
     }
 
-    /// Stages the removal of a row, if it still has this key at the merge. Refused by 3, 5 and 7.
+    /// Stages the removal of a row by its number; no effect unless, at merge time, that row exists, is live and has this key.
+    /// Refused by 3, 5 and 7.
+    ///
+    /// ```
+    /// # use mouldgrey::{Opening, Rule, Table};
+    /// # fn main() -> Result<(), mouldgrey::Error> {
+    /// # let opening = Opening { columns: 2, keys: 1, sort: 1, rule: Rule::KeepOld, capacity: 10, generation: 0 };
+    /// # let mut table = Table::new(&opening, 100)?;
+    /// # table.stage_insert(&[7, 1])?;
+    /// # table.merge()?;
+    /// table.stage_remove_row(0, &[7])?;
+    /// table.merge()?;
+    /// assert_eq!(table.rows().count(), 0);
+    /// # Ok(())
+    /// # }
+    /// ```
+    #[inline]
     pub fn stage_remove_row(&mut self, row: u32, key: &[u32]) -> Result<(), Refusal> {
         lent::stage_remove_row(&mut self.stores.header, &mut self.stores.pending, row, key)
     }
 
-    /// Takes in what is staged: removals by key, removals by row, inserts, each in their order. A stop is no refusal: it is in
-    /// the answer, and what came before it stands. Where dead rows outnumber the larger of 16 and half of all rows, the table
-    /// compacts.
-    pub fn merge(&mut self) -> Result<Merge, Refusal> {
+    /// Applies what is staged: removals by key, removals by row, inserts, each in staging order. If the dead rows then outnumber the
+    /// larger of 16 and half of all rows, the table compacts.
+    ///
+    /// # Errors
+    ///
+    /// [`Error::Stopped`] if an insert must be appended and cannot be: the table is full, or its sort value is below the largest
+    /// one appended. Work done before the stop remains, this insert and all later ones are dropped. A table's merge is never
+    /// refused.
+    ///
+    /// ```
+    /// # use mouldgrey::{Error, Opening, Rule, Stop, StopReason, Table};
+    /// # fn main() -> Result<(), Error> {
+    /// # let opening = Opening { columns: 2, keys: 1, sort: 1, rule: Rule::KeepOld, capacity: 1, generation: 0 };
+    /// # let mut table = Table::new(&opening, 100)?;
+    /// table.stage_insert(&[7, 1])?;
+    /// table.stage_insert(&[8, 1])?;
+    /// let stop = Stop { reason: StopReason::TableFull, place: 1 };
+    /// assert_eq!(table.merge(), Err(Error::Stopped(stop)));
+    /// assert_eq!(table.rows().count(), 1);
+    /// # Ok(())
+    /// # }
+    /// ```
+    pub fn merge(&mut self) -> Result<Merged, Error> {
         let s = &mut self.stores;
-        lent::merge(
+        let merge = lent::merge(
             &mut s.header,
             &mut s.rows,
             &mut s.keys,
@@ -198,10 +354,22 @@ impl Table {
             &s.pending,
             &mut self.live,
             &mut self.base,
-        )
+        )?;
+        Ok(merge.accepted()?)
     }
 
-    /// Drops the dead rows; the others close up in order and get new numbers. Refused by 10.
+    /// Drops the dead rows. Live rows move down and are renumbered in order; the generation rises by one. Refused by 10.
+    ///
+    /// ```
+    /// # use mouldgrey::{Opening, Rule, Table};
+    /// # fn main() -> Result<(), mouldgrey::Error> {
+    /// # let opening = Opening { columns: 2, keys: 1, sort: 1, rule: Rule::KeepOld, capacity: 10, generation: 0 };
+    /// # let mut table = Table::new(&opening, 100)?;
+    /// table.compact()?;
+    /// assert_eq!(table.version().generation, 1);
+    /// # Ok(())
+    /// # }
+    /// ```
     pub fn compact(&mut self) -> Result<(), Refusal> {
         let s = &mut self.stores;
         lent::compact(
@@ -214,25 +382,38 @@ impl Table {
         )
     }
 
-    /// Drops what is staged, and all rows. Refused by 10, if there are rows.
+    /// Drops what is staged. If there are rows, drops them all, and the generation rises by one. Refused by 10, if there are rows.
+    ///
+    /// ```
+    /// # use mouldgrey::{Opening, Rule, Table};
+    /// # fn main() -> Result<(), mouldgrey::Error> {
+    /// # let opening = Opening { columns: 2, keys: 1, sort: 1, rule: Rule::KeepOld, capacity: 10, generation: 0 };
+    /// # let mut table = Table::new(&opening, 100)?;
+    /// # table.stage_insert(&[7, 1])?;
+    /// # table.merge()?;
+    /// table.clear()?;
+    /// assert_eq!(table.rows().count(), 0);
+    /// # Ok(())
+    /// # }
+    /// ```
     pub fn clear(&mut self) -> Result<(), Refusal> {
         lent::clear(&mut self.stores.header, &mut self.stores.keys)
     }
 
-    /// Stages each live row that holds one of these values in one of these columns again, rising: for removal by row, then for
-    /// insertion with the stamp as its sort cell. Answers whether there was one. The index goes on from the version that it has
-    /// last seen, or starts afresh where generation or columns are others; it is made longer where it is too short. Refused by
-    /// 12, more than eight columns, 6, 9, a stamp below the largest sort value appended, and 7, with nothing staged.
+    /// Stages each live row that holds one of these values in one of these columns, rising: for removal by row, then for insertion
+    /// with the stamp as its sort cell. Returns whether there was one. The index goes on from the version that it has last seen, or
+    /// starts afresh where generation or columns differ; it grows where it is too short. Refused by 12, more than eight columns, 6,
+    /// 9, a stamp below the largest sort value appended, and 7; then nothing is staged and the index is as it was.
     ///
-    /// After a yes rows can still be lost at the merge, since removals come first and an insert may not be taken: in a full
-    /// table (it stops with 8); behind an insert staged earlier with a larger stamp (it stops with 9); with stamp 4294967295 in
-    /// sort column 0 (it is skipped); and where the sort column is a key column two rows may become one.
+    /// The merge that follows can still lose rows, since removals take effect and an insert may not: in a full table, or behind an
+    /// insert staged earlier with a larger stamp (both are a [`Stop`](crate::Stop)); with stamp 4294967295 in sort column 0 (the
+    /// insert is skipped); and where the sort column is a key column two rows may become one.
     ///
     /// ```
-    /// # use mouldgrey::{Opening, Refusal, Table, ValueIndex};
-    /// # fn main() -> Result<(), Refusal> {
+    /// # use mouldgrey::{Opening, Rule, Table, ValueIndex};
+    /// # fn main() -> Result<(), mouldgrey::Error> {
     /// // Columns: modem, diplexer type, stamp.
-    /// let opening = Opening { columns: 3, keys: 1, sort: 2, rule: 1, capacity: 100, generation: 0 };
+    /// let opening = Opening { columns: 3, keys: 1, sort: 2, rule: Rule::TakeNew, capacity: 100, generation: 0 };
     /// let mut table = Table::new(&opening, 1_000)?;
     /// for cells in [[7, 40, 10], [8, 41, 10], [9, 40, 11]] {
     ///     table.stage_insert(&cells)?;
@@ -257,6 +438,7 @@ impl Table {
         let s = &mut self.stores;
         // More than eight columns are refused before the index is looked at.
         let needed = ValueIndex::words_needed(s.header.capacity, columns.len().min(8));
+        let before = index.words().len();
         lent::refresh_rows_for_values(
             &mut s.header,
             &s.rows,
@@ -266,55 +448,89 @@ impl Table {
             values,
             stamp,
         )
+        .inspect_err(|_| index.shorten(before))
     }
 
-    /// The live row of a key. Refused by 3.
+    /// The live row with a key. Refused by 3.
+    #[inline]
     pub fn get_row(&self, key: &[u32]) -> Result<Option<Row<'_>>, Refusal> {
         let s = &self.stores;
         let id = lent::get_row(&s.header, &s.rows, &s.keys, key)?;
         Ok(id.map(|id| self.row_at(id)))
     }
 
-    /// One cell of the live row of a key. Refused by 3 and 6.
+    /// One cell of the live row with a key. Refused by 3 and 6.
     #[inline]
     pub fn get_row_column(&self, key: &[u32], column: u32) -> Result<Option<u32>, Refusal> {
         let s = &self.stores;
         lent::get_row_column(&s.header, &s.rows, &s.keys, key, column)
     }
 
-    /// The range in which all rows lie that meet a condition on the sort column; none for two columns compared and for any
-    /// other column. It may hold dead rows, which [`refine_one`](Table::refine_one) leaves out. Refused by 6.
-    pub fn fast_subset(&self, constraint: Constraint) -> Result<Option<Subset>, Refusal> {
-        let range = lent::fast_subset(&self.stores.header, &self.stores.sorts, constraint)?;
+    /// The range of all rows that meet a condition on the sort column, found without a scan; none for two columns compared and for
+    /// any other column. Dead rows may lie in it; [`refine_one`](Table::refine_one) leaves them out. Refused by 6.
+    #[inline]
+    pub fn fast_subset(&self, condition: Condition) -> Result<Option<Subset>, Refusal> {
+        let range = lent::fast_subset(&self.stores.header, &self.stores.sorts, condition)?;
         Ok(range.map(|(start, end)| Subset::Range(start, end)))
     }
 
     /// Generation and row count. While the generation stays, a row below a former row count has the cells it had or is dead.
+    #[inline]
     pub fn version(&self) -> Version {
         lent::version(&self.stores.header)
             .expect("an opened table's numbers are within their bounds")
     }
 
     /// The rows from this number on. Refused by 5.
+    #[inline]
     pub fn updates_since(&self, row: u32) -> Result<Subset, Refusal> {
         let (start, end) = lent::updates_since(&self.stores.header, row)?;
         Ok(Subset::Range(start, end))
     }
 
-    /// The rows since a version that this table had. Refused by 18, another generation or more rows than there are. Accepted,
+    /// The rows since a version that this table had. Refused by 18, another generation or more rows than there are. If accepted,
     /// each row below the noted row count has the cells it had or is dead, and the live rows are those noted and still live
-    /// together with the live rows of the answer. Of a version that another table had, or this one before it was opened anew, it
-    /// says nothing.
+    /// together with the live rows of the answer. A version that another table had, or this one before it was opened anew, may be
+    /// accepted and means nothing.
+    ///
+    /// ```
+    /// # use mouldgrey::{Opening, Refusal, Rule, Subset, Table};
+    /// # fn main() -> Result<(), mouldgrey::Error> {
+    /// # let opening = Opening { columns: 2, keys: 1, sort: 1, rule: Rule::KeepOld, capacity: 10, generation: 0 };
+    /// # let mut table = Table::new(&opening, 100)?;
+    /// let noted = table.version();
+    /// table.stage_insert(&[7, 1])?;
+    /// table.merge()?;
+    /// assert_eq!(table.rows_since_version(noted)?, Subset::Range(0, 1));
+    /// table.compact()?;
+    /// assert_eq!(table.rows_since_version(noted), Err(Refusal::OldNote));
+    /// # Ok(())
+    /// # }
+    /// ```
+    #[inline]
     pub fn rows_since_version(&self, noted: Version) -> Result<Subset, Refusal> {
         let (start, end) = lent::rows_since_version(&self.stores.header, noted)?;
         Ok(Subset::Range(start, end))
     }
 
-    /// Whether what comes before is on file: a live row with a pair's first value in this key column needs a live row with the
-    /// second value there, the same other key cells and a sort cell no larger. The lowest row that fails and the place of the
-    /// first pair that it fails; none if every row meets its pairs. Refused by 6, a column that is not a key column, and 14, a
-    /// number of pairs outside 1 to 16. Only live rows count: an earlier row that is corrected under a later stamp makes fail
-    /// what was met.
+    /// Checks that what comes before is on file: a live row with a pair's first value in this key column needs a live row with the
+    /// second value there, the same other key cells and a sort cell no larger. Returns the lowest row that fails and the place of
+    /// the first pair that it fails; none if every row meets its pairs. Refused by 6, a column that is no key column, and 14, a
+    /// number of pairs outside 1 to 16. Only live rows count: a row that is corrected under a later stamp makes rows fail that met
+    /// their pair before.
+    ///
+    /// ```
+    /// # use mouldgrey::{Opening, Rule, Table};
+    /// # fn main() -> Result<(), mouldgrey::Error> {
+    /// # let opening = Opening { columns: 3, keys: 2, sort: 2, rule: Rule::KeepOld, capacity: 10, generation: 0 };
+    /// # let mut table = Table::new(&opening, 100)?;
+    /// // Side 2 of modem 7 is on file without side 1.
+    /// table.stage_insert(&[7, 2, 10])?;
+    /// table.merge()?;
+    /// assert_eq!(table.check_precedence(1, &[[2, 1]])?, Some((0, 0)));
+    /// # Ok(())
+    /// # }
+    /// ```
     pub fn check_precedence(
         &self,
         column: u32,
@@ -333,58 +549,64 @@ impl Table {
     pub fn refine_one<'a>(
         &self,
         subset: impl Into<SubsetRef<'a>>,
-        constraint: Constraint,
+        condition: Condition,
     ) -> Result<Subset, Refusal> {
+        let s = &self.stores;
         let subset = subset.into();
-        // A subset with more ids than there are rows is refused for itself.
-        let room = subset.size().min(self.stores.header.rows as usize);
-        with_output(room, |output| {
-            lent::refine_one(
-                &self.stores.header,
-                &self.stores.rows,
-                subset,
-                constraint,
-                output,
-            )
+        with_output(self.room(subset), |output| {
+            lent::refine_one(&s.header, &s.rows, subset, condition, output)
         })
     }
 
     /// The live rows of a subset that meet all conditions: the range if all of it is kept, else a list. Refused by 4, 5 and 6.
+    ///
+    /// ```
+    /// # use mouldgrey::{Condition, Opening, Rule, Subset, Table};
+    /// # fn main() -> Result<(), mouldgrey::Error> {
+    /// # let opening = Opening { columns: 2, keys: 1, sort: 1, rule: Rule::KeepOld, capacity: 10, generation: 0 };
+    /// # let mut table = Table::new(&opening, 100)?;
+    /// # for key in 0..5 {
+    /// #     table.stage_insert(&[key, key])?;
+    /// # }
+    /// # table.merge()?;
+    /// let conditions = [Condition::ge(0, 1), Condition::lt(1, 3)];
+    /// assert_eq!(table.refine_ref(&table.all(), &conditions)?, Subset::List(vec![1, 2]));
+    /// assert!(table.contains_match(&table.all(), &conditions)?);
+    /// # Ok(())
+    /// # }
+    /// ```
     pub fn refine_ref<'a>(
         &self,
         subset: impl Into<SubsetRef<'a>>,
-        constraints: &[Constraint],
+        conditions: &[Condition],
     ) -> Result<Subset, Refusal> {
+        let s = &self.stores;
         let subset = subset.into();
-        let room = subset.size().min(self.stores.header.rows as usize);
-        with_output(room, |output| {
-            lent::refine_ref(
-                &self.stores.header,
-                &self.stores.rows,
-                subset,
-                constraints,
-                output,
-            )
+        let conditions = Condition::as_constraints(conditions);
+        with_output(self.room(subset), |output| {
+            lent::refine_ref(&s.header, &s.rows, subset, conditions, output)
         })
     }
 
-    /// Whether a live row of a subset meets all conditions. Refused by 4, 5 and 6.
+    /// Whether some live row of a subset meets all conditions. Refused by 4, 5 and 6.
     pub fn contains_match<'a>(
         &self,
         subset: impl Into<SubsetRef<'a>>,
-        constraints: &[Constraint],
+        conditions: &[Condition],
     ) -> Result<bool, Refusal> {
         let s = &self.stores;
-        lent::contains_match(&s.header, &s.rows, subset.into(), constraints)
+        let conditions = Condition::as_constraints(conditions);
+        lent::contains_match(&s.header, &s.rows, subset.into(), conditions)
     }
 
-    /// A page: of n ids of a subset from a place on, counted from 0, those of the live rows that meet all conditions; and the
-    /// next place, if anything remains. Refused by 4, 5 (also if the place is above the subset's size) and 6.
+    /// Reads a page: visits n ids of a subset from a place on, counted from 0, and returns those of the live rows that meet all
+    /// conditions, how many of the visited rows are dead, and the next place, if ids remain. Refused by 4, 5 (also if the place is
+    /// above the subset's size) and 6.
     ///
     /// ```
-    /// # use mouldgrey::{Constraint, Opening, Refusal, Table};
-    /// # fn main() -> Result<(), Refusal> {
-    /// # let opening = Opening { columns: 2, keys: 1, sort: 1, rule: 0, capacity: 10, generation: 0 };
+    /// # use mouldgrey::{Condition, Opening, Rule, Table};
+    /// # fn main() -> Result<(), mouldgrey::Error> {
+    /// # let opening = Opening { columns: 2, keys: 1, sort: 1, rule: Rule::KeepOld, capacity: 10, generation: 0 };
     /// # let mut table = Table::new(&opening, 100)?;
     /// # for key in 0..5 {
     /// #     table.stage_insert(&[key, key])?;
@@ -392,9 +614,9 @@ impl Table {
     /// # table.merge()?;
     /// let mut place = Some(0);
     /// while let Some(from) = place {
-    ///     let (ids, next) = table.read_page(&table.all(), from, 2, &[Constraint::gt(0, 1)])?;
-    ///     println!("{ids:?}");
-    ///     place = next;
+    ///     let page = table.read_page(&table.all(), from, 2, &[Condition::gt(0, 1)])?;
+    ///     println!("{:?}, {} dead", page.ids, page.dead);
+    ///     place = page.next;
     /// }
     /// # Ok(())
     /// # }
@@ -404,25 +626,102 @@ impl Table {
         subset: impl Into<SubsetRef<'a>>,
         place: u32,
         n: usize,
-        constraints: &[Constraint],
-    ) -> Result<(Vec<u32>, Option<u32>), Refusal> {
+        conditions: &[Condition],
+    ) -> Result<Page, Refusal> {
         let s = &self.stores;
         let subset = subset.into();
-        let mut output = vec![0; n.min(subset.size()).min(s.header.rows as usize)];
-        let page = lent::read_page(
-            &s.header,
-            &s.rows,
-            subset,
-            place,
-            n,
-            constraints,
-            &mut output,
-        )?;
-        output.truncate(page.written);
-        Ok((output, page.next))
+        let conditions = Condition::as_constraints(conditions);
+        let mut ids = vec![0; n.min(self.room(subset))];
+        let page = lent::read_page(&s.header, &s.rows, subset, place, n, conditions, &mut ids)?;
+        ids.truncate(page.written);
+        Ok(Page {
+            ids,
+            dead: page.dead,
+            next: page.next,
+        })
     }
 
-    /// Whether header and stores are sound. They are, unless [`Stores`] were changed by other hands.
+    /// Makes the queries of a list on a subset in one call of the library, in order, each on the ids that the last accepted one
+    /// left; a query that is refused changes nothing.
+    ///
+    /// ```
+    /// # use mouldgrey::{Condition, Opening, Query, Rule, Subset, Table};
+    /// # fn main() -> Result<(), mouldgrey::Error> {
+    /// # let opening = Opening { columns: 2, keys: 1, sort: 1, rule: Rule::KeepOld, capacity: 10, generation: 0 };
+    /// # let mut table = Table::new(&opening, 100)?;
+    /// # for key in 0..5 {
+    /// #     table.stage_insert(&[key, key])?;
+    /// # }
+    /// # table.merge()?;
+    /// let list = Subset::List(vec![0, 1, 3]);
+    /// let queries = [Query::RefineOne(Condition::ge(0, 1)), Query::Intersect(list.as_ref())];
+    /// let left = table.run_queries(&table.all(), &queries);
+    /// assert_eq!(left.ids.ids().collect::<Vec<_>>(), [1, 3]);
+    /// # Ok(())
+    /// # }
+    /// ```
+    pub fn run_queries<'a>(
+        &self,
+        subset: impl Into<SubsetRef<'a>>,
+        queries: &[Query<'_>],
+    ) -> Queried {
+        let s = &self.stores;
+        let subset = subset.into();
+        let room = self.room(subset).max(Query::longest_list(queries));
+        let (mut first, mut second) = (vec![0; room], vec![0; room]);
+        let words = encode_queries(queries);
+        let left = lent::run_queries(
+            &s.header,
+            &s.rows,
+            &s.sorts,
+            subset,
+            &words,
+            &mut first,
+            &mut second,
+        );
+        let list = |mut ids: Vec<u32>, count| {
+            ids.truncate(count);
+            Subset::List(ids)
+        };
+        let ids = match (left.ids, subset) {
+            (lent::LeftIn::Range(start, end), _) => Subset::Range(start, end),
+            (lent::LeftIn::First(count), _) => list(first, count),
+            (lent::LeftIn::Second(count), _) => list(second, count),
+            (lent::LeftIn::Start, SubsetRef::List(ids)) => Subset::List(ids.to_vec()),
+            (lent::LeftIn::Start, SubsetRef::Range(start, end)) => Subset::Range(start, end),
+        };
+        Queried {
+            ids,
+            refined: left.refined,
+            taken: left.taken,
+        }
+    }
+
+    /// A listing of the live rows as text: in the new form, with row numbers, if `numbered`, else in the old one.
+    ///
+    /// ```
+    /// # use mouldgrey::{Opening, Rule, Table};
+    /// # fn main() -> Result<(), mouldgrey::Error> {
+    /// # let opening = Opening { columns: 2, keys: 1, sort: 1, rule: Rule::KeepOld, capacity: 10, generation: 0 };
+    /// # let mut table = Table::new(&opening, 100)?;
+    /// # table.stage_insert(&[7, 1])?;
+    /// # table.merge()?;
+    /// assert_eq!(table.listing(true), b"U,2,1,1,0,0,1\nD,0,7,1\n");
+    /// # Ok(())
+    /// # }
+    /// ```
+    pub fn listing(&self, numbered: bool) -> Vec<u8> {
+        let s = &self.stores;
+        let (rows, columns) = (s.header.rows as usize, s.header.columns as usize);
+        // Every number takes at most ten digits and a comma.
+        let mut text = vec![0; 68 + rows * (2 + 11 * (columns + 1))];
+        let length = lent::write_listing(&s.header, &s.rows, numbered, &mut text)
+            .expect("an opened table and room for its listing");
+        text.truncate(length);
+        text
+    }
+
+    /// Whether header and stores are sound. They are, unless [`Stores`] were changed elsewhere.
     pub fn is_sound(&self) -> Result<bool, Refusal> {
         let s = &self.stores;
         lent::is_sound(&s.header, &s.rows, &s.keys, &s.sorts, &s.pending)
@@ -436,6 +735,11 @@ impl Table {
             next: 0,
             left: cells.chunks_exact(columns as usize),
         }
+    }
+
+    /// The ids that an answer over a subset may have: a subset with more ids than there are rows is refused.
+    fn room(&self, subset: SubsetRef<'_>) -> usize {
+        subset.size().min(self.stores.header.rows as usize)
     }
 
     /// A row that the library has named.
@@ -506,13 +810,13 @@ pub fn intersect<'a, 'b>(
     with_output(room, |output| lent::intersect(first, second, output))
 }
 
-/// The subset that a question writes to an output of this length.
+/// The subset that a query writes to an output of this length.
 fn with_output(
     room: usize,
-    ask: impl FnOnce(&mut [u32]) -> Result<Written, Refusal>,
+    query: impl FnOnce(&mut [u32]) -> Result<Written, Refusal>,
 ) -> Result<Subset, Refusal> {
     let mut output = vec![0; room];
-    Ok(match ask(&mut output)? {
+    Ok(match query(&mut output)? {
         Written::Range(start, end) => Subset::Range(start, end),
         Written::List(count) => {
             output.truncate(count);

@@ -6,7 +6,7 @@ const OPENING: Opening = Opening {
     columns: 3,
     keys: 1,
     sort: 2,
-    rule: 1,
+    rule: Rule::TakeNew,
     capacity: 40,
     generation: 5,
 };
@@ -19,9 +19,13 @@ fn twenty() -> Table {
             .stage_insert(&[key, key % 3, key / 2])
             .expect("room for the record");
     }
-    let merge = table.merge().expect("stores of the right length");
-    assert_eq!((merge.added, merge.stop), (true, None));
+    assert!(table.merge().is_ok_and(|merge| merge.added));
     table
+}
+
+/// The error of a merge that stops.
+fn stopped(reason: StopReason, place: u32) -> Result<Merged, Error> {
+    Err(Error::Stopped(Stop { reason, place }))
 }
 
 fn ids(table: &Table) -> Vec<u32> {
@@ -49,7 +53,7 @@ fn openings() {
 fn a_refused_opening_keeps_the_table() {
     let mut table = twenty();
     let before = table.stores().clone();
-    let wrong = Opening { rule: 4, ..OPENING };
+    let wrong = Opening { sort: 3, ..OPENING };
     assert_eq!(table.open(&wrong), Err(Refusal::OutOfBounds));
     assert_eq!(*table.stores(), before);
     let wider = Opening {
@@ -91,14 +95,12 @@ fn stops() {
     let mut table = twenty();
     assert_eq!(table.stage_insert(&[60, 0, 9]), Ok(()));
     assert_eq!(table.stage_insert(&[61, 0, 8]), Ok(()));
-    let merge = table.merge().expect("no refusal");
-    assert_eq!(merge.stop, Some((Stop::OldSortValue, 1)));
-    assert!(merge.added);
+    assert_eq!(table.merge(), stopped(StopReason::OldSortValue, 1));
+    assert_eq!(table.version().rows, 21);
     for key in 0..21 {
         assert_eq!(table.stage_insert(&[100 + key, 0, 9]), Ok(()));
     }
-    let merge = table.merge().expect("no refusal");
-    assert_eq!(merge.stop, Some((Stop::TableFull, 19)));
+    assert_eq!(table.merge(), stopped(StopReason::TableFull, 19));
     assert_eq!(table.version().rows, 40);
 }
 
@@ -108,11 +110,11 @@ fn what_a_compaction_kept_and_dropped() {
     for key in 0..16 {
         assert_eq!(table.stage_remove(&[key]), Ok(()));
     }
-    let merge = table.merge().expect("no refusal");
+    let merge = table.merge().expect("no stop");
     assert_eq!((merge.kept, merge.dropped), (0, 0));
     assert_eq!(table.stage_remove(&[16]), Ok(()));
     assert_eq!(table.stage_insert(&[70, 0, 9]), Ok(()));
-    let merge = table.merge().expect("no refusal");
+    let merge = table.merge().expect("no stop");
     assert_eq!((merge.kept, merge.dropped), (4, 17));
     assert_eq!(table.version().rows, 4);
 }
@@ -127,8 +129,7 @@ fn old_stamps_stay_out() {
     assert!(table.merge().is_ok());
     assert_eq!(table.compact(), Ok(()));
     assert_eq!(table.stage_insert(&[30, 0, 8]), Ok(()));
-    let merge = table.merge().expect("no refusal");
-    assert_eq!(merge.stop, Some((Stop::OldSortValue, 0)));
+    assert_eq!(table.merge(), stopped(StopReason::OldSortValue, 0));
     assert_eq!(table.clear(), Ok(()));
     assert_eq!(table.header().largest(), None);
     assert_eq!(table.stage_insert(&[30, 0, 8]), Ok(()));
@@ -183,9 +184,10 @@ fn refused_refreshes() {
     let mut index = ValueIndex::new();
     let before = table.stores().clone();
     let mut refresh = |columns: &[u32], values: &[u32], stamp: u32| {
+        let before = index.clone();
         let heard = table.refresh_rows_for_values(&mut index, columns, values, stamp);
         assert!(heard == Ok(false) || heard.is_err());
-        assert!(heard == Ok(false) || index.words().iter().all(|&word| word == 0));
+        assert!(heard == Ok(false) || index == before);
         heard
     };
     assert_eq!(refresh(&[0; 9], &[1], 0), Err(Refusal::TooManyColumns));
@@ -258,7 +260,7 @@ fn refreshed_rows_that_are_lost() {
         columns,
         keys: 1,
         sort: 0,
-        rule: 0,
+        rule: Rule::KeepOld,
         capacity,
         generation: 0,
     };
@@ -266,7 +268,7 @@ fn refreshed_rows_that_are_lost() {
         let mut table = Table::new(opening, 100).expect("a table");
         rows.iter()
             .for_each(|row| table.stage_insert(row).expect("room"));
-        table.merge().expect("a merge");
+        assert!(table.merge().is_ok());
         table
     };
     let live = |table: &Table| {
@@ -279,25 +281,28 @@ fn refreshed_rows_that_are_lost() {
         let mut index = ValueIndex::new();
         let heard = table.refresh_rows_for_values(&mut index, &[column], &[value], stamp);
         assert_eq!(heard, Ok(true));
-        table.merge().expect("a merge").stop
+        table.merge().map(|_| ())
     };
+    let done = Ok(());
+    let stop = |reason, place| stopped(reason, place).map(|_| ());
     // A full table.
     let mut full = table(&opened(1, 1), &[&[0]]);
-    assert_eq!(refreshed(&mut full, 0, 0, 0), Some((Stop::TableFull, 0)));
+    let heard = refreshed(&mut full, 0, 0, 0);
+    assert_eq!(heard, stop(StopReason::TableFull, 0));
     assert!(live(&full).is_empty());
     // A larger stamp staged earlier.
     let mut behind = table(&opened(1, 3), &[&[0]]);
     behind.stage_insert(&[1]).expect("room");
-    let stop = refreshed(&mut behind, 0, 0, 0);
-    assert_eq!(stop, Some((Stop::OldSortValue, 1)));
+    let heard = refreshed(&mut behind, 0, 0, 0);
+    assert_eq!(heard, stop(StopReason::OldSortValue, 1));
     assert_eq!(live(&behind), [[1]]);
     // The greatest stamp in sort column 0.
     let mut skipped = table(&opened(1, 1), &[&[0]]);
-    assert_eq!(refreshed(&mut skipped, 0, 0, DEAD), None);
+    assert_eq!(refreshed(&mut skipped, 0, 0, DEAD), done);
     assert!(live(&skipped).is_empty());
     // The sort column a key column: two rows become one.
     let mut one = table(&opened(2, 3), &[&[0, 5], &[1, 5]]);
-    assert_eq!(refreshed(&mut one, 1, 5, 1), None);
+    assert_eq!(refreshed(&mut one, 1, 5, 1), done);
     assert_eq!(live(&one), [[1, 5]]);
     // An index of another table.
     let mut index = ValueIndex::new();
@@ -320,15 +325,15 @@ fn questions() {
     assert_eq!(table.get_row_column(&[7], 3), Err(Refusal::NoSuchColumn));
     assert_eq!(table.get_row_column(&[77], 1), Ok(None));
     assert_eq!(table.get_row(&[7, 7]), Err(Refusal::WrongWidth));
-    let fast = |constraint| table.fast_subset(constraint);
-    assert_eq!(fast(Constraint::eq(2, 4)), Ok(Some(Subset::Range(8, 10))));
-    assert_eq!(fast(Constraint::lt(2, 4)), Ok(Some(Subset::Range(0, 8))));
-    assert_eq!(fast(Constraint::gt(2, 4)), Ok(Some(Subset::Range(10, 20))));
-    assert_eq!(fast(Constraint::le(2, 4)), Ok(Some(Subset::Range(0, 10))));
-    assert_eq!(fast(Constraint::ge(2, 4)), Ok(Some(Subset::Range(8, 20))));
-    assert_eq!(fast(Constraint::ge(1, 4)), Ok(None));
-    assert_eq!(fast(Constraint::eq_columns(2, 2)), Ok(None));
-    assert_eq!(fast(Constraint::eq(3, 0)), Err(Refusal::NoSuchColumn));
+    let fast = |condition| table.fast_subset(condition);
+    assert_eq!(fast(Condition::eq(2, 4)), Ok(Some(Subset::Range(8, 10))));
+    assert_eq!(fast(Condition::lt(2, 4)), Ok(Some(Subset::Range(0, 8))));
+    assert_eq!(fast(Condition::gt(2, 4)), Ok(Some(Subset::Range(10, 20))));
+    assert_eq!(fast(Condition::le(2, 4)), Ok(Some(Subset::Range(0, 10))));
+    assert_eq!(fast(Condition::ge(2, 4)), Ok(Some(Subset::Range(8, 20))));
+    assert_eq!(fast(Condition::ge(1, 4)), Ok(None));
+    assert_eq!(fast(Condition::eq_columns(2, 2)), Ok(None));
+    assert_eq!(fast(Condition::eq(3, 0)), Err(Refusal::NoSuchColumn));
     assert_eq!(table.updates_since(18), Ok(Subset::Range(18, 20)));
     assert_eq!(table.updates_since(21), Err(Refusal::PastTheRows));
     let version = Version {
@@ -354,7 +359,7 @@ fn questions() {
 fn refining() {
     let table = twenty();
     let list = |ids: &[u32]| Subset::List(ids.to_vec());
-    let third = Constraint::eq(1, 0);
+    let third = Condition::eq(1, 0);
     assert_eq!(
         table.refine_one(&table.all(), third),
         Ok(list(&[0, 3, 6, 9, 12, 15, 18]))
@@ -364,7 +369,7 @@ fn refining() {
         Ok(list(&[3, 6]))
     );
     assert_eq!(
-        table.refine_one(SubsetRef::Range(5, 8), Constraint::gt(0, 5)),
+        table.refine_one(SubsetRef::Range(5, 8), Condition::gt(0, 5)),
         Ok(Subset::Range(6, 8))
     );
     // Subsets of more ids than there are rows, which no output is made for.
@@ -386,24 +391,24 @@ fn refining() {
 fn lists_of_conditions() {
     let table = twenty();
     let list = |ids: &[u32]| Subset::List(ids.to_vec());
-    let third = Constraint::eq(1, 0);
-    let early = Constraint::lt(2, 5);
-    let refined = |subset: &Subset, by: &[Constraint]| table.refine_ref(subset, by);
+    let third = Condition::eq(1, 0);
+    let early = Condition::lt(2, 5);
+    let refined = |subset: &Subset, by: &[Condition]| table.refine_ref(subset, by);
     assert_eq!(refined(&table.all(), &[]), Ok(table.all()));
     assert_eq!(
         refined(&table.all(), &[third, early]),
         Ok(list(&[0, 3, 6, 9]))
     );
     assert_eq!(
-        refined(&Subset::Range(5, 8), &[Constraint::gt(0, 5)]),
+        refined(&Subset::Range(5, 8), &[Condition::gt(0, 5)]),
         Ok(list(&[6, 7]))
     );
     assert_eq!(refined(&list(&[1, 3, 6, 7]), &[third]), Ok(list(&[3, 6])));
     assert_eq!(
-        refined(&table.all(), &[third, Constraint::eq(3, 0)]),
+        refined(&table.all(), &[third, Condition::eq(3, 0)]),
         Err(Refusal::NoSuchColumn)
     );
-    let matches = |subset: &Subset, by: &[Constraint]| table.contains_match(subset, by);
+    let matches = |subset: &Subset, by: &[Condition]| table.contains_match(subset, by);
     assert_eq!(matches(&Subset::Range(4, 6), &[third]), Ok(false));
     assert_eq!(matches(&Subset::Range(4, 7), &[third]), Ok(true));
     assert_eq!(matches(&list(&[]), &[]), Ok(false));
@@ -416,18 +421,29 @@ fn lists_of_conditions() {
 #[test]
 fn pages() {
     let table = twenty();
-    let third = [Constraint::eq(1, 0)];
+    let third = [Condition::eq(1, 0)];
     let page = |place, n| table.read_page(&table.all(), place, n, &third);
-    assert_eq!(page(0, 7), Ok((vec![0, 3, 6], Some(7))));
-    assert_eq!(page(14, 6), Ok((vec![15, 18], None)));
-    assert_eq!(page(5, 0), Ok((vec![], Some(5))));
-    assert_eq!(page(20, 0), Ok((vec![], None)));
-    assert_eq!(page(18, usize::MAX), Ok((vec![18], None)));
+    let found = |ids: &[u32], dead, next| {
+        let ids = ids.to_vec();
+        Ok(Page { ids, dead, next })
+    };
+    assert_eq!(page(0, 7), found(&[0, 3, 6], 0, Some(7)));
+    assert_eq!(page(14, 6), found(&[15, 18], 0, None));
+    assert_eq!(page(5, 0), found(&[], 0, Some(5)));
+    assert_eq!(page(20, 0), found(&[], 0, None));
+    assert_eq!(page(18, usize::MAX), found(&[18], 0, None));
     assert_eq!(page(21, 0), Err(Refusal::PastTheRows));
     let three = Subset::List(vec![2, 3, 18]);
     assert_eq!(
         table.read_page(&three, 1, 2, &third),
-        Ok((vec![3, 18], None))
+        found(&[3, 18], 0, None)
+    );
+    let mut removed = table.clone();
+    removed.stage_remove(&[3]).expect("room");
+    assert!(removed.merge().is_ok());
+    assert_eq!(
+        removed.read_page(&three, 0, 2, &third),
+        found(&[], 1, Some(2))
     );
     // An output that is shorter than n but not than what remains, and one that is shorter than both.
     let s = table.stores();
@@ -445,7 +461,7 @@ fn pages() {
     };
     assert_eq!(ask(&mut output[..1]), Err(Refusal::TooShort));
     assert_eq!(output, [9, 9]);
-    let whole = Page {
+    let whole = PageWritten {
         written: 2,
         dead: 0,
         next: None,
@@ -454,25 +470,18 @@ fn pages() {
     assert_eq!(output, [18, 19]);
 }
 
-/// A refused question leaves the words of its answer as they were, and so does one that is lent words of another number.
+/// A refused query leaves its answer as it was.
 #[test]
-fn refused_words() {
+fn refused_answers() {
     let table = twenty();
-    let s = table.stores();
-    let header = s.header.words();
-    let mut words = [7, 8, 9, 10];
-    let mut since = |row, count: usize| unsafe {
-        raw::mouldgrey_updates_since(
-            header.as_ptr(),
-            header.len(),
-            row,
-            words.as_mut_ptr(),
-            count,
-        )
+    let before = raw::Range {
+        found: 7,
+        start: 8,
+        end: 9,
     };
-    assert_eq!(since(21, 3), 5);
-    assert_eq!(since(20, 4), 2);
-    assert_eq!(words, [7, 8, 9, 10]);
+    let mut range = before;
+    let number = unsafe { raw::mouldgrey_updates_since(table.header(), 21, &mut range) };
+    assert_eq!((number, range), (5, before));
 }
 
 #[test]
@@ -569,9 +578,14 @@ fn numbers_and_names() {
     for refusal in Refusal::ALL {
         assert_eq!(Refusal::from_number(refusal.number()), Some(refusal));
     }
-    for stop in Stop::ALL {
-        assert_eq!(Stop::from_number(stop.number()), Some(stop));
+    for reason in StopReason::ALL {
+        assert_eq!(StopReason::from_number(reason.number()), Some(reason));
     }
+    for rule in Rule::ALL {
+        assert_eq!(Rule::from_number(rule.number()), Some(rule));
+    }
+    assert_eq!(Rule::from_number(4), None);
+    assert_eq!(library_version(), 1_000);
     for number in [0, 8, 19] {
         assert_eq!(Refusal::from_number(number), None);
     }
@@ -579,7 +593,14 @@ fn numbers_and_names() {
         Refusal::WrongWidth.to_string(),
         "refused 3: wrong number of cells"
     );
-    assert_eq!(Stop::TableFull.to_string(), "stopped 8: the table is full");
+    let stop = Stop {
+        reason: StopReason::TableFull,
+        place: 3,
+    };
+    assert_eq!(
+        Error::from(stop).to_string(),
+        "stopped 8 at insert 3: the table is full"
+    );
     let words = [1, 2, 3, 4, 5, 6, 7, 8, 9, 10, 11, 12];
     assert_eq!(Header::from_words(words).words(), words);
     let ids: Vec<u32> = Subset::Range(3, 6).ids().collect();
@@ -675,7 +696,7 @@ fn listings_in_both_forms() {
 #[test]
 fn answers_of_a_laboratory() {
     let text = b"U,3,1,2,0,4,7\nD,0,7,1,10\nD,2,7,2,11\nD,3,8,8,12\nD,6,9,4294967295,12\n";
-    let sevens = [Constraint::eq(0, 7)];
+    let sevens = [Condition::eq(0, 7)];
     let check = |given: &[u32]| check_answers(text, &sevens, given);
     assert_eq!(check(&[0, 2]), Ok(Verdict::Right));
     assert_eq!(check(&[0]), Ok(Verdict::Wrong(2)));
@@ -688,10 +709,10 @@ fn answers_of_a_laboratory() {
     assert_eq!(check(&[1, 5, 9, 9]), Ok(Verdict::Misplaced(3)));
     let right = Ok(Verdict::Right);
     assert_eq!(check_answers(text, &[], &[0, 2, 3, 6]), right);
-    let both = [Constraint::eq_columns(0, 1), Constraint::ge(2, 12)];
+    let both = [Condition::eq_columns(0, 1), Condition::ge(2, 12)];
     assert_eq!(check_answers(text, &both, &[3]), right);
     assert_eq!(check_answers(b"U,3,1,2,0,4,7\n", &both, &[]), right);
-    let unknown = [sevens[0], Constraint::eq_columns(0, 3)];
+    let unknown = [sevens[0], Condition::eq_columns(0, 3)];
     let refused = Err(Refusal::NoSuchColumn);
     assert_eq!(check_answers(text, &unknown, &[2, 0]), refused);
     let old = b"T,3,1,2,0,4\nD,7,1,10\n";
@@ -699,61 +720,86 @@ fn answers_of_a_laboratory() {
     assert_eq!(check_answers(old, &unknown, &[]), refused);
 }
 
-/// A kind, a count and so many words.
-fn item(words: &mut Vec<u32>, kind: u32, cells: &[u32]) {
-    words.extend([kind, cells.len() as u32]);
-    words.extend(cells);
+#[test]
+fn lists_of_calls() {
+    let rows: Vec<[u32; 3]> = (0..20).map(|key| [key, key % 3, key / 2]).collect();
+    let mut calls: Vec<Call<'_>> = rows.iter().map(|row| Call::Insert(row)).collect();
+    calls.push(Call::Merge);
+    let mut index = ValueIndex::new();
+    let replayed = Table::replay(&OPENING, 200, &mut index, &calls).expect("a list of calls");
+    assert_eq!(replayed.stores(), twenty().stores());
+    assert!(index.words().is_empty());
+    // The same with a refresh, a removal by row and a compaction, beside the calls one by one.
+    let refresh = Call::Refresh {
+        columns: &[1],
+        values: &[2],
+        stamp: 9,
+    };
+    calls.extend([
+        refresh,
+        Call::RemoveRow(0, &[0]),
+        Call::Merge,
+        Call::Compact,
+    ]);
+    let replayed = Table::replay(&OPENING, 200, &mut index, &calls).expect("a list of calls");
+    let mut table = twenty();
+    let mut own = ValueIndex::new();
+    assert_eq!(
+        table.refresh_rows_for_values(&mut own, &[1], &[2], 9),
+        Ok(true)
+    );
+    assert_eq!(table.stage_remove_row(0, &[0]), Ok(()));
+    assert!(table.merge().is_ok());
+    assert_eq!(table.compact(), Ok(()));
+    let cells =
+        |table: &Table| -> Vec<Vec<u32>> { table.rows().map(|row| row.cells.to_vec()).collect() };
+    assert_eq!(cells(&replayed), cells(&table));
+    assert_eq!(replayed.header(), table.header());
+    assert_eq!(index, own);
+    let wrong = Opening { keys: 0, ..OPENING };
+    assert_eq!(
+        Table::replay(&wrong, 0, &mut index, &[]).err(),
+        Some(Refusal::OutOfBounds)
+    );
 }
 
 #[test]
-fn lists_of_calls_and_of_questions() {
+fn lists_of_queries() {
     let table = twenty();
-    let stores = table.stores();
-    let mut calls = Vec::new();
-    for key in 0..20 {
-        item(&mut calls, 0, &[key, key % 3, key / 2]);
-    }
-    item(&mut calls, 3, &[]);
-    let lengths = stores.header.lengths();
-    let mut header = Header::default();
-    let mut rows = vec![0; lengths.rows];
-    let mut sorts = vec![0; lengths.sorts];
-    lent::replay(
-        &OPENING,
-        &mut header,
-        &calls,
-        &mut rows,
-        &mut vec![0; lengths.keys],
-        &mut sorts,
-        &mut [0; 200],
-        &mut vec![0; lengths.live],
-        &mut vec![0; lengths.base],
-    )
-    .expect("a list of calls");
-    assert_eq!(header, stores.header);
-    assert_eq!((&rows, &sorts), (&stores.rows, &stores.sorts));
-
     // Rows 4 to 13 by their sort values, the keys of them that are 1 modulo 3, and of these the ids 7 and 10.
-    let mut questions = Vec::new();
-    item(&mut questions, 4, &[5, 2, 2]);
-    item(&mut questions, 1, &[4, 2, 6, 1, 1, 1]);
-    item(&mut questions, 2, &[7, 8, 10]);
-    // No question: a range has two ends.
-    item(&mut questions, 3, &[7]);
-    let (mut first, mut second) = ([0; 20], [0; 20]);
-    let left = lent::ask(
-        &header,
-        &rows,
-        &sorts,
-        SubsetRef::Range(0, 20),
-        &questions,
-        &mut first,
-        &mut second,
-    );
-    let expected = Left {
-        ids: LeftIn::Second(2),
+    let third = [Condition::le(2, 6), Condition::eq(1, 1)];
+    let queries = [
+        Query::IntersectFast(Condition::ge(2, 2)),
+        Query::RefineList(&third),
+        Query::Intersect(SubsetRef::List(&[7, 8, 10])),
+        // Refused: it starts above its end.
+        Query::Intersect(SubsetRef::Range(7, 6)),
+        Query::RefineOne(Condition::ge(0, 0)),
+    ];
+    let left = table.run_queries(&table.all(), &queries);
+    let expected = Queried {
+        ids: Subset::List(vec![7, 10]),
         refined: true,
-        taken: 3,
+        taken: 5,
     };
-    assert_eq!((left, &second[..2]), (expected, &[7, 10][..]));
+    assert_eq!(left, expected);
+    let none = table.run_queries(&Subset::List(vec![3, 9]), &[]);
+    assert_eq!(none.ids, Subset::List(vec![3, 9]));
+    assert!(!none.refined);
+}
+
+#[test]
+fn listings_of_tables() {
+    let mut table = twenty();
+    for key in 2..20 {
+        assert_eq!(table.stage_remove(&[key]), Ok(()));
+    }
+    assert!(table.merge().is_ok_and(|merge| merge.dropped == 18));
+    let (head, rows) = read_listing(&table.listing(false)).expect("a listing");
+    assert_eq!((head.columns, head.generation), (3, 6));
+    assert_eq!(rows, [[0, 0, 0], [1, 1, 0]]);
+    let listing = read_numbered(&table.listing(true)).expect("a listing");
+    assert_eq!(listing.count, 2);
+    assert_eq!(listing.rows[1], (1, vec![1, 1, 0]));
+    assert_eq!(to_numbered(&table.listing(false)), Ok(table.listing(true)));
 }

@@ -1,8 +1,17 @@
 //! The index that refreshes keep.
 
-/// An index from value to rows, as [`Table::refresh_rows_for_values`] keeps it: the words of an index store, which
-/// docs/FORMAT.md describes. It belongs to the table that took it first: lent to another, to a copy of the table, or to one that
-/// was opened anew, it may leave rows out. [`forget`](ValueIndex::forget) makes it new.
+/// An index from values to rows, as [`Table::refresh_rows_for_values`] keeps it: the words of an index store, which
+/// docs/FORMAT.md describes. It belongs to the table that used it first: used with another table, with a copy of the table, or after
+/// the table was opened anew, it may miss rows. [`forget`](ValueIndex::forget) makes it new.
+///
+/// ```
+/// use mouldgrey::ValueIndex;
+///
+/// let mut index = ValueIndex::from(vec![1, 0, 0]);
+/// index.forget();
+/// assert_eq!(index.words()[0], 0);
+/// assert_eq!(ValueIndex::words_needed(100, 2), 616);
+/// ```
 ///
 /// [`Table::refresh_rows_for_values`]: crate::Table::refresh_rows_for_values
 #[derive(Clone, Debug, Default, PartialEq, Eq)]
@@ -33,7 +42,12 @@ impl ValueIndex {
         &self.words
     }
 
-    /// The words to be lent, at least so many.
+    /// Gives back words that a refused call was lent and has not used.
+    pub(crate) fn shorten(&mut self, words: usize) {
+        self.words.truncate(words);
+    }
+
+    /// The words to be passed, at least this many.
     pub(crate) fn lend(&mut self, words: usize) -> &mut [u32] {
         if self.words.len() < words {
             self.words.resize(words, 0);

@@ -2,7 +2,7 @@
 //! the C header, those of `raw`, and those of the parts that the comparison alone calls. A function that is exported and not
 //! declared, or declared and not exported, is found too.
 
-use mouldgrey::{Refusal, Stop};
+use mouldgrey::{Refusal, StopReason};
 use std::fs;
 use std::path::Path;
 
@@ -48,13 +48,67 @@ fn parameter(text: &str) -> (String, String) {
     (name.to_string(), kind.replace("&'a ", "&"))
 }
 
-/// The words of a slice, and whether they may be written.
-fn slice(kind: &str) -> Option<(&str, bool)> {
+/// What a reference points to, and whether it may be written.
+fn pointee(kind: &str) -> Option<(&str, bool)> {
     let (inside, writes) = match kind.strip_prefix("&mut [") {
         Some(inside) => (inside, true),
         None => (kind.strip_prefix("&[")?, false),
     };
     Some((inside.strip_suffix(']')?, writes))
+}
+
+/// The structs that fixed arrays are in C and in Rust: the parameter's name, the array, and both names.
+const STRUCTS: [(&str, &str, &str, &str); 25] = [
+    ("opening", "u32; 6", "struct mouldgrey_opening", "Opening"),
+    ("header", "u32; 12", "struct mouldgrey_header", "Header"),
+    ("merged", "u32; 5", "struct mouldgrey_merged", "Merged"),
+    ("staged", "u32; 1", "uint32_t", "u32"),
+    ("sound", "u32; 1", "uint32_t", "u32"),
+    ("matched", "u32; 1", "uint32_t", "u32"),
+    ("position", "u32; 1", "uint32_t", "u32"),
+    ("length", "u64; 1", "uint64_t", "u64"),
+    ("row", "u32; 2", "struct mouldgrey_row", "Row"),
+    ("cell", "u32; 2", "struct mouldgrey_cell", "Cell"),
+    ("range", "u32; 3", "struct mouldgrey_range", "Range"),
+    ("version", "u32; 2", "struct mouldgrey_version", "Version"),
+    (
+        "condition",
+        "u32; 3",
+        "struct mouldgrey_constraint",
+        "Constraint",
+    ),
+    ("subset", "u32; 3", "struct mouldgrey_subset", "Subset"),
+    ("first", "u32; 3", "struct mouldgrey_subset", "Subset"),
+    ("second", "u32; 3", "struct mouldgrey_subset", "Subset"),
+    ("answer", "u32; 3", "struct mouldgrey_subset", "Subset"),
+    ("page", "u32; 4", "struct mouldgrey_page", "Page"),
+    ("failure", "u32; 3", "struct mouldgrey_failure", "Failure"),
+    ("answer", "u32; 4", "struct mouldgrey_step", "Step"),
+    ("answer", "u32; 2", "struct mouldgrey_sequence", "Sequence"),
+    ("head", "u32; 6", "struct mouldgrey_listing", "Listing"),
+    (
+        "head",
+        "u32; 7",
+        "struct mouldgrey_numbered_listing",
+        "NumberedListing",
+    ),
+    ("verdict", "u64; 2", "struct mouldgrey_verdict", "Verdict"),
+    (
+        "answer",
+        "u32; 7",
+        "struct mouldgrey_query_result",
+        "QueryResult",
+    ),
+];
+
+/// The names of the struct that a fixed array is.
+fn structure(parameter: &str, array: &str) -> (&'static str, &'static str) {
+    let found = STRUCTS
+        .iter()
+        .find(|(name, kind, ..)| (*name, *kind) == (parameter, array));
+    let (_, _, in_c, in_rust) =
+        found.unwrap_or_else(|| panic!("no struct for {parameter}: [{array}]"));
+    (in_c, in_rust)
 }
 
 fn in_c(kind: &str) -> &'static str {
@@ -73,14 +127,21 @@ impl Exported {
     fn declared_in_c(&self) -> String {
         let mut parameters = Vec::new();
         for (name, kind) in &self.parameters {
-            match slice(kind) {
+            match pointee(kind) {
                 None => parameters.push(format!("{} {name}", in_c(kind))),
+                Some((array, writes)) if array.contains(';') => {
+                    let prefix = if writes { "" } else { "const " };
+                    parameters.push(format!("{prefix}{} *{name}", structure(name, array).0));
+                }
                 Some((words, writes)) => {
                     let prefix = if writes { "" } else { "const " };
                     parameters.push(format!("{prefix}{} *{name}", in_c(words)));
                     parameters.push(format!("size_t {name}_len"));
                 }
             }
+        }
+        if parameters.is_empty() {
+            parameters.push("void".to_string());
         }
         let parameters = parameters.join(", ");
         format!("{} {}({parameters})", in_c(&self.answer), self.name)
@@ -89,8 +150,12 @@ impl Exported {
     fn declared_in_rust(&self) -> String {
         let mut parameters = Vec::new();
         for (name, kind) in &self.parameters {
-            match slice(kind) {
+            match pointee(kind) {
                 None => parameters.push(format!("{name}: {kind}")),
+                Some((array, writes)) if array.contains(';') => {
+                    let pointer = if writes { "*mut" } else { "*const" };
+                    parameters.push(format!("{name}: {pointer} {}", structure(name, array).1));
+                }
                 Some((words, writes)) => {
                     let pointer = if writes { "*mut" } else { "*const" };
                     parameters.push(format!("{name}: {pointer} {words}"));
@@ -139,17 +204,64 @@ fn sorted(mut lines: Vec<String>) -> Vec<String> {
     lines
 }
 
+/// The crates whose functions the library has.
+const CRATES: [&str; 9] = [
+    "abi_table",
+    "abi_read",
+    "abi_query",
+    "abi_refresh",
+    "abi_precedence",
+    "abi_vault",
+    "abi_short_histories",
+    "abi_listing",
+    "abi_replay",
+];
+
 fn shipped() -> Vec<Exported> {
-    let mut functions = exported("crates/exports/src/lib.rt");
-    functions.extend(exported("crates/exports_questions/src/lib.rt"));
-    functions.extend(exported("crates/exports_lists/src/lib.rt"));
-    functions.extend(exported("crates/exports_precedence/src/lib.rt"));
-    functions.extend(exported("crates/exports_refreshes/src/lib.rt"));
-    functions.extend(exported("crates/exports_vault/src/lib.rt"));
-    functions.extend(exported("crates/exports_short_histories/src/lib.rt"));
-    functions.extend(exported("crates/exports_listings/src/lib.rt"));
-    functions.extend(exported("crates/exports_replay/src/lib.rt"));
-    functions
+    let sources = CRATES.map(|name| format!("crates/{name}/src/lib.rt"));
+    sources.iter().flat_map(|path| exported(path)).collect()
+}
+
+/// The structs of the header have as many fields as the arrays have elements, in order and by the names of `raw`.
+#[test]
+fn structs() {
+    let header = without_comments(&text("include/mouldgrey.h"));
+    let source = text("bindings/rust/src/raw.rs") + &text("bindings/rust/src/header.rs");
+    for (_, array, c_name, in_rust) in STRUCTS {
+        let Some(name) = c_name.strip_prefix("struct ") else {
+            continue;
+        };
+        let (element, count) = array.split_once("; ").expect("an array");
+        let fields = |text: &str, start: &str, end: &str| -> Vec<String> {
+            let (_, rest) = text.split_once(start).unwrap_or_else(|| panic!("{start}"));
+            let (inside, _) = rest.split_once('}').expect("an end of the struct");
+            let lines = inside.lines().map(str::trim);
+            let lines = lines.filter(|line| !line.is_empty() && !line.starts_with("//"));
+            lines
+                .map(|line| line.trim_end_matches(end).to_string())
+                .collect()
+        };
+        let c = fields(&header, &format!("struct {name} {{"), ";");
+        let rust = fields(&source, &format!("pub struct {in_rust} {{"), ",");
+        let names: Vec<&str> = c
+            .iter()
+            .map(|field| field.strip_prefix(in_c(element)).expect("its type").trim())
+            .collect();
+        assert_eq!(names.len().to_string(), count, "{name}");
+        let expected: Vec<String> = names
+            .iter()
+            .map(|name| format!("pub {}: {element}", in_rust_field(name)))
+            .collect();
+        assert_eq!(rust, expected, "{name}");
+    }
+}
+
+/// A header's field `largest` is a method's name in Rust.
+fn in_rust_field(name: &str) -> &str {
+    match name {
+        "largest" => "largest_value",
+        name => name,
+    }
 }
 
 #[test]
@@ -175,7 +287,9 @@ fn declared_in(path: &str) -> Vec<String> {
 
 #[test]
 fn raw_declarations() {
-    let expected = shipped().iter().map(Exported::declared_in_rust).collect();
+    let mut expected: Vec<String> = shipped().iter().map(Exported::declared_in_rust).collect();
+    // The one function that is written in C.
+    expected.push("mouldgrey_refusal_text(number: u32) -> *const std::ffi::c_char".to_string());
     assert_eq!(declared_in("bindings/rust/src/raw.rs"), sorted(expected));
 }
 
@@ -202,7 +316,7 @@ fn shouted(name: &str) -> String {
 fn numbers_by_name() {
     let header = text("include/mouldgrey.h");
     let refusals = Refusal::ALL.map(|it| (format!("{it:?}"), it.number()));
-    let stops = Stop::ALL.map(|it| (format!("{it:?}"), it.number()));
+    let stops = StopReason::ALL.map(|it| (format!("{it:?}"), it.number()));
     for (name, number) in refusals.iter().chain(&stops) {
         let name = format!("MOULDGREY_{}", shouted(name));
         let defined = header.lines().any(|line| {

@@ -1,6 +1,6 @@
 //! The worked dumps of docs/FORMAT.md are what the library leaves, byte for byte, and its worked hash is the one in the dump.
 
-use mouldgrey::{Opening, Stores, Table, ValueIndex, to_columns};
+use mouldgrey::{Opening, Rule, Stores, Table, ValueIndex, to_columns};
 use std::collections::BTreeMap;
 use std::fs;
 
@@ -69,7 +69,7 @@ fn two_rows() -> Table {
         columns: 4,
         keys: 2,
         sort: 3,
-        rule: 1,
+        rule: Rule::TakeNew,
         capacity: 100,
         generation: 0,
     };
