@@ -6,7 +6,8 @@ use crate::generate::{ANY, history};
 use crate::history::Act;
 use calls::{Answer, Call, Condition, Contents, Judge, Lengths, Opening, Question, Subset};
 use chance::Rng;
-use mouldgrey::{Header, LeftIn, lent};
+use mouldgrey::lent::LeftIn;
+use mouldgrey::{Header, lent};
 use plain::Plain;
 
 const GATE_COUNT: u64 = 20_000;
@@ -147,7 +148,7 @@ fn replay(list: &List, rng: &mut Rng, seen: &mut Seen) -> Result<(), String> {
     }
 
     let o = &list.opening;
-    let opening = mouldgrey::Opening {
+    let opening = mouldgrey::raw::Opening {
         columns: o.columns,
         keys: o.keys,
         sort: o.sort,
@@ -163,7 +164,7 @@ fn replay(list: &List, rng: &mut Rng, seen: &mut Seen) -> Result<(), String> {
     let mut live = vec![u64::from(UNWRITTEN); list.lent.live_words];
     let mut base = vec![UNWRITTEN; list.lent.base_words];
     let answer = lent::replay(
-        &opening,
+        opening,
         &mut header,
         &words,
         &mut rows,
@@ -172,6 +173,7 @@ fn replay(list: &List, rng: &mut Rng, seen: &mut Seen) -> Result<(), String> {
         &mut pending,
         &mut live,
         &mut base,
+        &mut [],
     );
     let answer = match answer {
         Ok(()) => Answer::Done,
@@ -318,7 +320,7 @@ impl Made<'_> {
             Subset::Range(a, b) => mouldgrey::SubsetRef::Range(*a, *b),
             Subset::List(ids) => mouldgrey::SubsetRef::List(ids),
         };
-        let left = lent::ask(
+        let left = lent::run_queries(
             self.header,
             self.rows,
             self.sorts,

@@ -2,7 +2,7 @@
 //! words of any number.
 
 use crate::image::hostile_number;
-use crate::listings::{halves, text, words};
+use crate::listings::{halves, text};
 use crate::session::{Session, Slot};
 use crate::watch;
 use calls::Condition;
@@ -103,20 +103,16 @@ fn check(
     given: &[u32],
 ) -> Result<(), String> {
     let name = "mouldgrey_check_answers";
-    let words = vec![rng.number(); 2 * words(rng, 2)];
-    let must = match words.len() {
-        4 => check_answers(text, conditions, given),
-        _ => Err(2),
-    };
+    let words = vec![rng.number(); 4];
+    let must = check_answers(text, conditions, given);
     let (t, t_len) = session.read_bytes(rng, Slot::Cells, text);
     let (c, c_len) = session.conditions(rng, conditions);
     let (g, g_len) = session.read(rng, Slot::Ids, given);
-    let (w, w_len) = session.write(rng, Slot::Words, &words);
+    let (w, _) = session.write(rng, Slot::Words, &words);
     watch::call(name);
     // SAFETY: each pointer goes with the length of what was lent, which lies in an area of its own; an area begins and ends where
     // a word of 64 bits may.
-    let number =
-        unsafe { raw::mouldgrey_check_answers(t, t_len, c, c_len, g, g_len, w.cast(), w_len / 2) };
+    let number = unsafe { raw::mouldgrey_check_answers(t, t_len, c, c_len, g, g_len, w.cast()) };
     let expected = must.err().unwrap_or(0);
     let must = must.map_or(words, told);
     if number != expected || session.left(Slot::Words) != Some(&must) {

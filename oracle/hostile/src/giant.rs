@@ -57,14 +57,7 @@ fn insert(laid: &Laid, h: &Header) -> Result<(), String> {
     let expected = plain::test_call(h, &lent(0), &call);
     let records = [Staged::Insert(CELLS.to_vec())];
     staged(laid, h, expected, &records, |header| unsafe {
-        raw::mouldgrey_stage_insert(
-            header.as_mut_ptr(),
-            header.len(),
-            laid.at,
-            WORDS,
-            CELLS.as_ptr(),
-            CELLS.len(),
-        )
+        raw::mouldgrey_stage_insert(header, laid.at, WORDS, CELLS.as_ptr(), CELLS.len())
     })
 }
 
@@ -91,8 +84,7 @@ fn refresh(laid: &Laid, h: &Header) -> Result<(), String> {
     ];
     staged(laid, h, expected, &records, |header| unsafe {
         raw::mouldgrey_refresh_rows_for_values(
-            header.as_mut_ptr(),
-            header.len(),
+            header,
             rows.as_ptr(),
             rows.len(),
             laid.at,
@@ -105,7 +97,6 @@ fn refresh(laid: &Laid, h: &Header) -> Result<(), String> {
             1,
             asked.stamp,
             &mut 0,
-            1,
         )
     })
 }
@@ -116,13 +107,13 @@ fn staged(
     h: &Header,
     expected: Result<(), u32>,
     records: &[Staged],
-    call: impl FnOnce(&mut [u32]) -> u32,
+    call: impl FnOnce(&mut raw::Header) -> u32,
 ) -> Result<(), String> {
     let used = h.pending as usize;
     // SAFETY, here and below: all of it lies in the area.
     let about = unsafe { laid.at.add(used - ABOUT) };
     unsafe { about.write_bytes(0, 2 * ABOUT) };
-    let number = call(&mut h.words());
+    let number = call(&mut raw::Header::from_words(h.words()));
     let about = unsafe { std::slice::from_raw_parts(about, 2 * ABOUT) };
     let mut words = vec![0; 2 * ABOUT];
     if expected.is_ok() {

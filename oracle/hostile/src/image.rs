@@ -1,13 +1,12 @@
 //! A header and stores, sound or not, and ways to spoil them.
 
-use calls::{DEAD, Header, Held, Lengths};
+use calls::{DEAD, HEADER_WORDS, Header, Held, Lengths};
 use chance::Rng;
 
 /// Everything that a call may be lent of a table. A live word is two words here.
 #[derive(Clone, Default)]
 pub struct Image {
-    /// Ten words, save where a wrong number of them is lent on purpose.
-    pub header: Vec<u32>,
+    pub header: [u32; HEADER_WORDS],
     pub rows: Vec<u32>,
     pub keys: Vec<u32>,
     pub sorts: Vec<u32>,
@@ -87,7 +86,7 @@ impl Image {
         let mut index = vec![filler; plain::index_words(h.capacity.min(65_537), named) + more()];
         index[0] = 0;
         Image {
-            header: h.words().to_vec(),
+            header: h.words(),
             rows: vec![filler; (capacity * columns + more()).min(8 * 65_536)],
             keys: vec![filler; 2 * capacity + more()],
             sorts: vec![filler; 2 * capacity + more()],
@@ -98,12 +97,9 @@ impl Image {
         }
     }
 
-    /// The header's numbers; of a header of another length, zeros.
+    /// The header's numbers.
     pub fn numbers(&self) -> Header {
-        match self.header.as_slice().try_into() {
-            Ok(words) => Header::from_words(words),
-            Err(_) => Header::default(),
-        }
+        Header::from_words(&self.header)
     }
 
     pub fn held(&self) -> Held<'_> {
@@ -128,7 +124,7 @@ impl Image {
         }
     }
 
-    fn store_mut(&mut self, store: usize) -> &mut Vec<u32> {
+    fn store_mut(&mut self, store: usize) -> &mut [u32] {
         match store {
             0 => &mut self.header,
             1 => &mut self.rows,
@@ -142,7 +138,7 @@ impl Image {
     pub fn flip(&mut self, rng: &mut Rng) -> usize {
         loop {
             let store = rng.pick(&[0, 1, 1, 1, 1, 2, 2, 2, 2, 3, 3, 3, 4, 4]);
-            let header = self.header.clone();
+            let header = self.header;
             let used = self.words_used(store);
             let words = self.store_mut(store);
             if words.is_empty() {
@@ -193,17 +189,16 @@ impl Image {
         store
     }
 
-    /// Makes one store, or the header, shorter or longer than it was.
+    /// Makes one store shorter or longer than it was.
     pub fn resize(&mut self, rng: &mut Rng) {
         let word = rng.next() as u32;
-        let (store, unit) = match rng.below(9) {
-            0 => (&mut self.header, 1),
-            1 | 2 => (&mut self.rows, 1),
-            3 => (&mut self.keys, 1),
-            4 => (&mut self.sorts, 1),
-            5 => (&mut self.pending, 1),
-            6 => (&mut self.live, 2),
-            7 => (&mut self.base, 1),
+        let (store, unit) = match rng.below(8) {
+            0 | 1 => (&mut self.rows, 1),
+            2 => (&mut self.keys, 1),
+            3 => (&mut self.sorts, 1),
+            4 => (&mut self.pending, 1),
+            5 => (&mut self.live, 2),
+            6 => (&mut self.base, 1),
             _ => (&mut self.index, 1),
         };
         let length = store.len() / unit;
@@ -218,7 +213,7 @@ impl Image {
 
     /// Fills the stores with words of no meaning, or of nearly some.
     pub fn fill_with_garbage(&mut self, rng: &mut Rng) {
-        let header = self.header.clone();
+        let header = self.header;
         let h = self.numbers();
         let manner = rng.below(4);
         let any = |rng: &mut Rng| match manner {

@@ -1,20 +1,23 @@
-//! The C functions that are shipped, each called with every slice lent between shut pages.
+//! The C functions of the library, each called with every slice and every struct between shut pages.
 
 use crate::acts::Act;
 use crate::image::Image;
-use crate::session::{Session, Shared, Slice, Slot};
+use crate::session::{Session, Shared, Slot};
 use calls::{Call, Condition, Opening, Question, Refresh, Subset};
 use chance::Rng;
-use mouldgrey::{Constraint, raw};
+use mouldgrey::raw::{self, Constraint, Header};
 
-/// A subset as it is passed: kind, two ends, ids.
-type Passed = (bool, u32, u32, Shared);
+/// A subset as it is passed: its struct, and its ids.
+type Passed = (*const raw::Subset, Shared);
 
 /// Conditions as they are passed: a pointer and their number.
 type Constraints = (*const Constraint, usize);
 
 /// A call's number, and the output as it was lent.
 type Ran = (u32, Vec<u32>);
+
+/// The header of a query.
+type Head = *const Header;
 
 // SAFETY, of every call here: each pointer goes with the length of what was lent, which lies in an area of its own.
 impl Session {
@@ -29,8 +32,26 @@ impl Session {
         (number, Vec::new())
     }
 
+    /// Lends a struct to be read.
+    pub fn given<T>(&mut self, rng: &mut Rng, slot: Slot, words: &[u32]) -> *const T {
+        assert_eq!(size_of_val(words), size_of::<T>());
+        self.read(rng, slot, words).0.cast()
+    }
+
+    /// Lends a struct to be written.
+    pub fn answer<T>(&mut self, rng: &mut Rng, slot: Slot, words: &[u32]) -> *mut T {
+        assert_eq!(size_of_val(words), size_of::<T>());
+        self.write(rng, slot, words).0.cast()
+    }
+
+    /// Lends the numbers of an opening.
+    pub fn opening(&mut self, rng: &mut Rng, o: &Opening) -> *const raw::Opening {
+        let words = [o.columns, o.keys, o.sort, o.rule, o.capacity, o.generation];
+        self.given(rng, Slot::Opening, &words)
+    }
+
     fn run_call(&mut self, rng: &mut Rng, image: &Image, call: &Call, words: &[u32]) -> u32 {
-        let header = self.write(rng, Slot::Header, &image.header);
+        let header = self.answer(rng, Slot::Header, &image.header);
         match call {
             Call::Open(opening) => self.open(rng, image, header, opening),
             Call::Insert(cells) | Call::RemoveKey(cells) | Call::RemoveRow(_, cells) => {
@@ -40,7 +61,7 @@ impl Session {
             Call::Compact => self.compact(rng, image, header),
             Call::Clear => {
                 let keys = self.write(rng, Slot::Keys, &image.keys);
-                unsafe { raw::mouldgrey_clear(header.0, header.1, keys.0, keys.1) }
+                unsafe { raw::mouldgrey_clear(header, keys.0, keys.1) }
             }
             Call::Refresh(refresh) => self.refresh(rng, image, header, refresh, words),
         }
@@ -50,7 +71,7 @@ impl Session {
         &mut self,
         rng: &mut Rng,
         image: &Image,
-        header: Slice,
+        header: *mut Header,
         refresh: &Refresh,
         words: &[u32],
     ) -> u32 {
@@ -59,11 +80,10 @@ impl Session {
         let index = self.write(rng, Slot::Index, &image.index);
         let columns = self.read(rng, Slot::Cells, &refresh.columns);
         let values = self.read(rng, Slot::Ids, &refresh.values);
-        let words = self.write(rng, Slot::Words, words);
+        let staged = self.answer(rng, Slot::Words, words);
         unsafe {
             raw::mouldgrey_refresh_rows_for_values(
-                header.0,
-                header.1,
+                header,
                 rows.0,
                 rows.1,
                 pending.0,
@@ -75,34 +95,20 @@ impl Session {
                 values.0,
                 values.1,
                 refresh.stamp,
-                words.0,
-                words.1,
+                staged,
             )
         }
     }
 
-    fn open(&mut self, rng: &mut Rng, image: &Image, header: Slice, o: &Opening) -> u32 {
+    fn open(&mut self, rng: &mut Rng, image: &Image, header: *mut Header, o: &Opening) -> u32 {
+        let opening = self.opening(rng, o);
         let rows = self.read(rng, Slot::Rows, &image.rows);
         let keys = self.write(rng, Slot::Keys, &image.keys);
         let sorts = self.read(rng, Slot::Sorts, &image.sorts);
         let pending = self.read(rng, Slot::Pending, &image.pending);
         unsafe {
             raw::mouldgrey_open_table(
-                o.columns,
-                o.keys,
-                o.sort,
-                o.rule,
-                o.capacity,
-                o.generation,
-                header.0,
-                header.1,
-                rows.0,
-                rows.1,
-                keys.0,
-                keys.1,
-                sorts.0,
-                sorts.1,
-                pending.0,
+                opening, header, rows.0, rows.1, keys.0, keys.1, sorts.0, sorts.1, pending.0,
                 pending.1,
             )
         }
@@ -112,7 +118,7 @@ impl Session {
         &mut self,
         rng: &mut Rng,
         image: &Image,
-        (h, h_len): Slice,
+        h: *mut Header,
         call: &Call,
         cells: &[u32],
     ) -> u32 {
@@ -120,27 +126,26 @@ impl Session {
         let (c, c_len) = self.read(rng, Slot::Cells, cells);
         unsafe {
             match call {
-                Call::Insert(_) => raw::mouldgrey_stage_insert(h, h_len, p, p_len, c, c_len),
+                Call::Insert(_) => raw::mouldgrey_stage_insert(h, p, p_len, c, c_len),
                 Call::RemoveRow(row, _) => {
-                    raw::mouldgrey_stage_remove_row(h, h_len, p, p_len, *row, c, c_len)
+                    raw::mouldgrey_stage_remove_row(h, p, p_len, *row, c, c_len)
                 }
-                _ => raw::mouldgrey_stage_remove(h, h_len, p, p_len, c, c_len),
+                _ => raw::mouldgrey_stage_remove(h, p, p_len, c, c_len),
             }
         }
     }
 
-    fn merge(&mut self, rng: &mut Rng, image: &Image, header: Slice, words: &[u32]) -> u32 {
+    fn merge(&mut self, rng: &mut Rng, image: &Image, header: *mut Header, words: &[u32]) -> u32 {
         let rows = self.write(rng, Slot::Rows, &image.rows);
         let keys = self.write(rng, Slot::Keys, &image.keys);
         let sorts = self.write(rng, Slot::Sorts, &image.sorts);
         let pending = self.read(rng, Slot::Pending, &image.pending);
         let live = self.write(rng, Slot::Live, &image.live);
         let base = self.write(rng, Slot::Base, &image.base);
-        let words = self.write(rng, Slot::Words, words);
+        let merged = self.answer(rng, Slot::Words, words);
         unsafe {
             raw::mouldgrey_merge(
-                header.0,
-                header.1,
+                header,
                 rows.0,
                 rows.1,
                 keys.0,
@@ -153,13 +158,12 @@ impl Session {
                 live.1 / 2,
                 base.0,
                 base.1,
-                words.0,
-                words.1,
+                merged,
             )
         }
     }
 
-    fn compact(&mut self, rng: &mut Rng, image: &Image, header: Slice) -> u32 {
+    fn compact(&mut self, rng: &mut Rng, image: &Image, header: *mut Header) -> u32 {
         let rows = self.write(rng, Slot::Rows, &image.rows);
         let keys = self.write(rng, Slot::Keys, &image.keys);
         let sorts = self.write(rng, Slot::Sorts, &image.sorts);
@@ -167,8 +171,7 @@ impl Session {
         let base = self.write(rng, Slot::Base, &image.base);
         unsafe {
             raw::mouldgrey_compact(
-                header.0,
-                header.1,
+                header,
                 rows.0,
                 rows.1,
                 keys.0,
@@ -184,16 +187,16 @@ impl Session {
     }
 
     fn is_sound(&mut self, rng: &mut Rng, image: &Image, words: &[u32]) -> u32 {
-        let header = self.read(rng, Slot::Header, &image.header);
+        let header = self.given(rng, Slot::Header, &image.header);
         let rows = self.read(rng, Slot::Rows, &image.rows);
         let keys = self.read(rng, Slot::Keys, &image.keys);
         let sorts = self.read(rng, Slot::Sorts, &image.sorts);
         let pending = self.read(rng, Slot::Pending, &image.pending);
-        let words = self.write(rng, Slot::Words, words);
+        let sound = self.answer(rng, Slot::Words, words);
         unsafe {
             raw::mouldgrey_is_sound(
-                header.0, header.1, rows.0, rows.1, keys.0, keys.1, sorts.0, sorts.1, pending.0,
-                pending.1, words.0, words.1,
+                header, rows.0, rows.1, keys.0, keys.1, sorts.0, sorts.1, pending.0, pending.1,
+                sound,
             )
         }
     }
@@ -205,41 +208,45 @@ impl Session {
         question: &Question,
         words: &[u32],
     ) -> Ran {
-        let (w, w_len) = self.write(rng, Slot::Words, words);
         if let Question::Intersect {
             first,
             second,
             output,
         } = question
         {
-            return self.intersect(rng, first, second, *output, (w, w_len));
+            return self.intersect(rng, first, second, *output, words);
         }
-        let (h, h_len) = self.read(rng, Slot::Header, &image.header);
+        let h: Head = self.given(rng, Slot::Header, &image.header);
         let number = match question {
-            Question::Lookup(key) => self.lookup(rng, image, (h, h_len), key, None, (w, w_len)),
-            Question::Cell(key, column) => {
-                self.lookup(rng, image, (h, h_len), key, Some(*column), (w, w_len))
-            }
+            Question::Lookup(key) => self.lookup(rng, image, h, key, words),
+            Question::Cell(key, column) => self.lookup_cell(rng, image, h, (key, *column), words),
             Question::FastRange(c) => {
                 let (s, s_len) = self.read(rng, Slot::Sorts, &image.sorts);
-                unsafe {
-                    raw::mouldgrey_fast_subset(h, h_len, s, s_len, c.kind, c.a, c.b, w, w_len)
-                }
+                let c = self.condition(rng, c);
+                let range = self.answer(rng, Slot::Words, words);
+                unsafe { raw::mouldgrey_fast_subset(h, s, s_len, c, range) }
             }
-            Question::Version => unsafe { raw::mouldgrey_version(h, h_len, w, w_len) },
-            Question::RowsSince(row) => unsafe {
-                raw::mouldgrey_updates_since(h, h_len, *row, w, w_len)
-            },
-            Question::RowsSinceNote(generation, rows) => unsafe {
-                raw::mouldgrey_rows_since_version(h, h_len, *generation, *rows, w, w_len)
-            },
+            Question::Version => {
+                let version = self.answer(rng, Slot::Words, words);
+                unsafe { raw::mouldgrey_table_version(h, version) }
+            }
+            Question::RowsSince(row) => {
+                let range = self.answer(rng, Slot::Words, words);
+                unsafe { raw::mouldgrey_updates_since(h, *row, range) }
+            }
+            Question::RowsSinceNote(generation, rows) => {
+                let noted = self.given(rng, Slot::Noted, &[*generation, *rows]);
+                let range = self.answer(rng, Slot::Words, words);
+                unsafe { raw::mouldgrey_rows_since_version(h, noted, range) }
+            }
             Question::Precedence { column, pairs } => {
                 let rows = self.read(rng, Slot::Rows, &image.rows);
                 let keys = self.read(rng, Slot::Keys, &image.keys);
                 let (p, p_len) = self.read(rng, Slot::Cells, pairs);
+                let failure = self.answer(rng, Slot::Words, words);
                 unsafe {
                     raw::mouldgrey_check_precedence(
-                        h, h_len, rows.0, rows.1, keys.0, keys.1, *column, p, p_len, w, w_len,
+                        h, rows.0, rows.1, keys.0, keys.1, *column, p, p_len, failure,
                     )
                 }
             }
@@ -248,84 +255,87 @@ impl Session {
                 condition,
                 output,
             } => {
-                let asked = (subset, condition, *output);
-                return self.refine(rng, image, (h, h_len), asked, (w, w_len));
+                return self.refine(rng, image, h, (subset, condition, *output), words);
             }
             Question::RefineList {
                 subset,
                 conditions,
                 output,
             } => {
-                let asked = (subset, conditions.as_slice(), *output);
-                return self.refine_by_list(rng, image, (h, h_len), asked, (w, w_len));
+                let by = (subset, conditions.as_slice(), *output);
+                return self.refine_by_list(rng, image, h, by, words);
             }
             Question::AnyMatch { subset, conditions } => {
-                self.any_match(rng, image, (h, h_len), (subset, conditions), (w, w_len))
+                self.any_match(rng, image, h, (subset, conditions), words)
             }
-            Question::Page { .. } => {
-                return self.page(rng, image, (h, h_len), question, (w, w_len));
-            }
-            Question::Intersect { .. } => panic!("asked above, without a header"),
+            Question::Page { .. } => return self.page(rng, image, h, question, words),
+            Question::Intersect { .. } => panic!("called above, without a header"),
         };
         (number, Vec::new())
     }
 
-    /// A key's row, or one cell of it.
-    fn lookup(
+    fn lookup(&mut self, rng: &mut Rng, image: &Image, h: Head, key: &[u32], words: &[u32]) -> u32 {
+        let rows = self.read(rng, Slot::Rows, &image.rows);
+        let keys = self.read(rng, Slot::Keys, &image.keys);
+        let key = self.read(rng, Slot::Cells, key);
+        let row = self.answer(rng, Slot::Words, words);
+        unsafe { raw::mouldgrey_get_row(h, rows.0, rows.1, keys.0, keys.1, key.0, key.1, row) }
+    }
+
+    fn lookup_cell(
         &mut self,
         rng: &mut Rng,
         image: &Image,
-        h: Shared,
-        key: &[u32],
-        column: Option<u32>,
-        words: Slice,
+        h: Head,
+        (key, column): (&[u32], u32),
+        words: &[u32],
     ) -> u32 {
         let rows = self.read(rng, Slot::Rows, &image.rows);
         let keys = self.read(rng, Slot::Keys, &image.keys);
         let key = self.read(rng, Slot::Cells, key);
+        let cell = self.answer(rng, Slot::Words, words);
         unsafe {
-            match column {
-                None => raw::mouldgrey_get_row(
-                    h.0, h.1, rows.0, rows.1, keys.0, keys.1, key.0, key.1, words.0, words.1,
-                ),
-                Some(column) => raw::mouldgrey_get_row_column(
-                    h.0, h.1, rows.0, rows.1, keys.0, keys.1, key.0, key.1, column, words.0,
-                    words.1,
-                ),
-            }
+            raw::mouldgrey_get_row_column(
+                h, rows.0, rows.1, keys.0, keys.1, key.0, key.1, column, cell,
+            )
         }
     }
 
     /// A subset as it is passed; what does not count of it is anything.
-    fn pass(&mut self, rng: &mut Rng, slot: Slot, subset: &Subset) -> Passed {
-        match subset {
+    pub fn pass(&mut self, rng: &mut Rng, slots: (Slot, Slot), subset: &Subset) -> Passed {
+        let (words, ids) = match subset {
             Subset::Range(start, end) => {
                 let noise: Vec<u32> = (0..rng.below(4)).map(|_| rng.number()).collect();
-                (true, *start, *end, self.read(rng, slot, &noise))
+                ([rng.number().max(1), *start, *end], noise)
             }
-            Subset::List(ids) => {
-                let (start, end) = (rng.number(), rng.number());
-                (false, start, end, self.read(rng, slot, ids))
-            }
-        }
+            Subset::List(ids) => ([0, rng.number(), rng.number()], ids.clone()),
+        };
+        let subset = self.given(rng, slots.0, &words);
+        (subset, self.read(rng, slots.1, &ids))
+    }
+
+    /// A condition as it is passed.
+    fn condition(&mut self, rng: &mut Rng, c: &Condition) -> *const Constraint {
+        self.given(rng, Slot::Conditions, &[c.kind, c.a, c.b])
     }
 
     fn refine(
         &mut self,
         rng: &mut Rng,
         image: &Image,
-        h: Shared,
+        h: Head,
         (subset, c, length): (&Subset, &Condition, usize),
-        words: Slice,
+        words: &[u32],
     ) -> Ran {
         let rows = self.read(rng, Slot::Rows, &image.rows);
-        let (dense, start, end, ids) = self.pass(rng, Slot::Ids, subset);
+        let (subset, ids) = self.pass(rng, (Slot::Subset, Slot::Ids), subset);
+        let c = self.condition(rng, c);
         let before = vec![rng.number(); length];
         let output = self.write(rng, Slot::Output, &before);
+        let answer = self.answer(rng, Slot::Words, words);
         let number = unsafe {
             raw::mouldgrey_refine_one(
-                h.0, h.1, rows.0, rows.1, dense, start, end, ids.0, ids.1, c.kind, c.a, c.b,
-                output.0, output.1, words.0, words.1,
+                h, rows.0, rows.1, subset, ids.0, ids.1, c, output.0, output.1, answer,
             )
         };
         (number, before)
@@ -342,19 +352,19 @@ impl Session {
         &mut self,
         rng: &mut Rng,
         image: &Image,
-        h: Shared,
+        h: Head,
         (subset, conditions, length): (&Subset, &[Condition], usize),
-        words: Slice,
+        words: &[u32],
     ) -> Ran {
         let rows = self.read(rng, Slot::Rows, &image.rows);
-        let (dense, start, end, ids) = self.pass(rng, Slot::Ids, subset);
+        let (subset, ids) = self.pass(rng, (Slot::Subset, Slot::Ids), subset);
         let c = self.conditions(rng, conditions);
         let before = vec![rng.number(); length];
         let output = self.write(rng, Slot::Output, &before);
+        let answer = self.answer(rng, Slot::Words, words);
         let number = unsafe {
             raw::mouldgrey_refine_ref(
-                h.0, h.1, rows.0, rows.1, dense, start, end, ids.0, ids.1, c.0, c.1, output.0,
-                output.1, words.0, words.1,
+                h, rows.0, rows.1, subset, ids.0, ids.1, c.0, c.1, output.0, output.1, answer,
             )
         };
         (number, before)
@@ -364,17 +374,17 @@ impl Session {
         &mut self,
         rng: &mut Rng,
         image: &Image,
-        h: Shared,
+        h: Head,
         (subset, conditions): (&Subset, &[Condition]),
-        words: Slice,
+        words: &[u32],
     ) -> u32 {
         let rows = self.read(rng, Slot::Rows, &image.rows);
-        let (dense, start, end, ids) = self.pass(rng, Slot::Ids, subset);
+        let (subset, ids) = self.pass(rng, (Slot::Subset, Slot::Ids), subset);
         let c = self.conditions(rng, conditions);
+        let matched = self.answer(rng, Slot::Words, words);
         unsafe {
             raw::mouldgrey_contains_match(
-                h.0, h.1, rows.0, rows.1, dense, start, end, ids.0, ids.1, c.0, c.1, words.0,
-                words.1,
+                h, rows.0, rows.1, subset, ids.0, ids.1, c.0, c.1, matched,
             )
         }
     }
@@ -383,9 +393,9 @@ impl Session {
         &mut self,
         rng: &mut Rng,
         image: &Image,
-        h: Shared,
+        h: Head,
         question: &Question,
-        words: Slice,
+        words: &[u32],
     ) -> Ran {
         let Question::Page {
             subset,
@@ -398,19 +408,17 @@ impl Session {
             panic!("not a page: {question:?}");
         };
         let rows = self.read(rng, Slot::Rows, &image.rows);
-        let (dense, start, end, ids) = self.pass(rng, Slot::Ids, subset);
+        let (subset, ids) = self.pass(rng, (Slot::Subset, Slot::Ids), subset);
         let c = self.conditions(rng, conditions);
         let before = vec![rng.number(); *length];
         let output = self.write(rng, Slot::Output, &before);
+        let page = self.answer(rng, Slot::Words, words);
         let number = unsafe {
             raw::mouldgrey_read_page(
-                h.0,
-                h.1,
+                h,
                 rows.0,
                 rows.1,
-                dense,
-                start,
-                end,
+                subset,
                 ids.0,
                 ids.1,
                 *place,
@@ -419,8 +427,7 @@ impl Session {
                 c.1,
                 output.0,
                 output.1,
-                words.0,
-                words.1,
+                page,
             )
         };
         (number, before)
@@ -432,28 +439,16 @@ impl Session {
         first: &Subset,
         second: &Subset,
         length: usize,
-        words: Slice,
+        words: &[u32],
     ) -> Ran {
-        let (dense, start, end, ids) = self.pass(rng, Slot::Ids, first);
-        let (other_dense, other_start, other_end, others) = self.pass(rng, Slot::OtherIds, second);
+        let (first, ids) = self.pass(rng, (Slot::Subset, Slot::Ids), first);
+        let (second, others) = self.pass(rng, (Slot::OtherSubset, Slot::OtherIds), second);
         let before = vec![rng.number(); length];
         let output = self.write(rng, Slot::Output, &before);
+        let answer = self.answer(rng, Slot::Words, words);
         let number = unsafe {
             raw::mouldgrey_intersect(
-                dense,
-                start,
-                end,
-                ids.0,
-                ids.1,
-                other_dense,
-                other_start,
-                other_end,
-                others.0,
-                others.1,
-                output.0,
-                output.1,
-                words.0,
-                words.1,
+                first, ids.0, ids.1, second, others.0, others.1, output.0, output.1, answer,
             )
         };
         (number, before)
@@ -465,9 +460,7 @@ impl Session {
         [first, second]: [(u32, u32); 2],
         words: &[u32],
     ) -> u32 {
-        let words = self.write(rng, Slot::Words, words);
-        unsafe {
-            raw::mouldgrey_intersect_ranges(first.0, first.1, second.0, second.1, words.0, words.1)
-        }
+        let answer = self.answer(rng, Slot::Words, words);
+        unsafe { raw::mouldgrey_intersect_ranges(first.0, first.1, second.0, second.1, answer) }
     }
 }

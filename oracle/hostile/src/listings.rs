@@ -68,14 +68,6 @@ fn length(rng: &mut Rng, written: usize) -> usize {
     }
 }
 
-/// How many words are lent for an answer of so many.
-pub fn words(rng: &mut Rng, count: usize) -> usize {
-    match rng.below(30) {
-        0 => rng.place(9),
-        _ => count,
-    }
-}
-
 /// Words of 64 bits, each as two.
 pub fn halves(words: &[u64]) -> Vec<u32> {
     let bytes: Vec<u8> = words.iter().flat_map(|word| word.to_ne_bytes()).collect();
@@ -111,23 +103,20 @@ fn read(session: &mut Session, rng: &mut Rng, form: Form, text: &[u8]) -> Result
     let listing = listings::read(form, text);
     let cells = listing.as_ref().map_or(20, |it| it.rows.concat().len());
     let output = vec![rng.number(); length(rng, cells)];
-    let words = vec![rng.number(); words(rng, count)];
-    let must = match words.len() == count {
-        false => Err(2),
-        true => listing.and_then(|it| {
-            let cells = listings::fits(it.rows.concat(), output.len())?;
-            Ok(([it.head, vec![it.rows.len() as u32]].concat(), cells))
-        }),
-    };
+    let words = vec![rng.number(); count];
+    let must = listing.and_then(|it| {
+        let cells = listings::fits(it.rows.concat(), output.len())?;
+        Ok(([it.head, vec![it.rows.len() as u32]].concat(), cells))
+    });
     let (t, t_len) = session.read_bytes(rng, Slot::Cells, text);
     let (o, o_len) = session.write(rng, Slot::Output, &output);
-    let (w, w_len) = session.write(rng, Slot::Words, &words);
+    let (w, _) = session.write(rng, Slot::Words, &words);
     watch::call(name);
     // SAFETY: each pointer goes with the length of what was lent, which lies in an area of its own.
     let given = unsafe {
         match form {
-            Form::Old => raw::mouldgrey_read_listing(t, t_len, o, o_len, w, w_len),
-            Form::New => raw::mouldgrey_read_numbered(t, t_len, o, o_len, w, w_len),
+            Form::Old => raw::mouldgrey_read_listing(t, t_len, o, o_len, w.cast()),
+            Form::New => raw::mouldgrey_read_numbered(t, t_len, o, o_len, w.cast()),
         }
     };
     let expected = must.clone().err().unwrap_or(0);
@@ -150,20 +139,17 @@ fn moved(session: &mut Session, rng: &mut Rng, form: Form, text: &[u8]) -> Resul
     let bytes = target.as_ref().map_or(text.len(), Vec::len);
     let output = vec![rng.next() as u8; length(rng, bytes)];
     // Words of 64 bits, each as two.
-    let words = vec![rng.number(); 2 * words(rng, 1)];
-    let must = match words.len() {
-        2 => target.and_then(|it| listings::fits(it, output.len())),
-        _ => Err(2),
-    };
+    let words = vec![rng.number(); 2];
+    let must = target.and_then(|it| listings::fits(it, output.len()));
     let (t, t_len) = session.read_bytes(rng, Slot::Cells, text);
     let (o, o_len) = session.write_bytes(rng, Slot::Output, &output);
-    let (w, w_len) = session.write(rng, Slot::Words, &words);
+    let (w, _) = session.write(rng, Slot::Words, &words);
     watch::call(name);
     // SAFETY: as in `read`; an area begins and ends where a word of 64 bits may.
     let given = unsafe {
         match form {
-            Form::Old => raw::mouldgrey_to_numbered(t, t_len, o, o_len, w.cast(), w_len / 2),
-            Form::New => raw::mouldgrey_from_numbered(t, t_len, o, o_len, w.cast(), w_len / 2),
+            Form::Old => raw::mouldgrey_to_numbered(t, t_len, o, o_len, w.cast()),
+            Form::New => raw::mouldgrey_from_numbered(t, t_len, o, o_len, w.cast()),
         }
     };
     let expected = must.clone().err().unwrap_or(0);

@@ -2,28 +2,20 @@
 //! store holds; over a new one they are those of all such rows.
 
 use crate::image::Image;
-use calls::{Answer, Call, HEADER_WORDS, Header, Refresh, Restamped};
+use calls::{Answer, Call, Header, Refresh, Restamped};
 use plain::{Plain, Staged};
 
-/// What a refresh was lent, and what it left: the stores, and the words of its answer.
-pub type Lent<'a> = (&'a Image, &'a [u32]);
+/// What a refresh left: the stores, and its answer.
+pub type Left<'a> = (&'a Image, &'a [u32]);
 
 /// What must hold of a refresh that gave this number. That a refusal changes nothing is seen to elsewhere. `sound`: the table is.
 pub fn check(
     refresh: &Refresh,
-    (before, words): Lent,
-    (after, left): Lent,
+    before: &Image,
+    (after, left): Left,
     number: u32,
     sound: bool,
 ) -> Result<(), String> {
-    if before.header.len() != HEADER_WORDS || words.len() != 1 {
-        let early = if before.header.len() != HEADER_WORDS {
-            1
-        } else {
-            2
-        };
-        return is_so(number == early, || format!("{number}, not {early}"));
-    }
     let (h, lent) = (before.numbers(), before.lengths());
     let tested = plain::test_call(&h, &lent, &Call::Refresh(refresh.clone()));
     let all = match tested {

@@ -1,4 +1,4 @@
-//! Every short history on any numbers, sequences and outputs, the answer's words of any number.
+//! Every short history on any numbers, sequences and outputs.
 
 use crate::image::hostile_number;
 use crate::session::{Session, Slot};
@@ -90,11 +90,7 @@ pub fn calls(session: &mut Session, rng: &mut Rng) -> Result<(), String> {
 fn single(session: &mut Session, rng: &mut Rng) -> Result<(), String> {
     let function = rng.place(FUNCTIONS.len());
     let (name, count) = FUNCTIONS[function];
-    let lent = match rng.below(30) {
-        0 => rng.place(6),
-        _ => count,
-    };
-    let words = vec![rng.number(); lent];
+    let words = vec![rng.number(); count];
     let output = vec![rng.number(); rng.place(9)];
     let sequence = sequence(rng);
     let number = match rng.percent(50) {
@@ -103,23 +99,22 @@ fn single(session: &mut Session, rng: &mut Rng) -> Result<(), String> {
     };
     let step = step(rng);
     let must = match function {
-        _ if lent != count => Err(2),
         0 => step_words(step),
         1 => position_words(&sequence),
         2 => sequence_words(number, output.len()),
         _ => next_words(&sequence, output.len()),
     };
-    let (w, w_len) = session.write(rng, Slot::Words, &words);
+    let (w, _) = session.write(rng, Slot::Words, &words);
     let (o, o_len) = session.write(rng, Slot::Output, &output);
     let (s, s_len) = session.read(rng, Slot::Cells, &sequence);
     watch::call(name);
     // SAFETY: each pointer goes with the length of what was lent, which lies in an area of its own.
     let given = unsafe {
         match function {
-            0 => raw::mouldgrey_step_at(step, w, w_len),
-            1 => raw::mouldgrey_position_of(s, s_len, w, w_len),
-            2 => raw::mouldgrey_sequence_at(number, o, o_len, w, w_len),
-            _ => raw::mouldgrey_next_sequence(s, s_len, o, o_len, w, w_len),
+            0 => raw::mouldgrey_step_at(step, w.cast()),
+            1 => raw::mouldgrey_position_of(s, s_len, w),
+            2 => raw::mouldgrey_sequence_at(number, o, o_len, w.cast()),
+            _ => raw::mouldgrey_next_sequence(s, s_len, o, o_len, w.cast()),
         }
     };
     let expected = must.clone().err().unwrap_or(0);

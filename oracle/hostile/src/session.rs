@@ -29,9 +29,13 @@ pub enum Slot {
     Conditions,
     Output,
     Index,
+    Opening,
+    Subset,
+    OtherSubset,
+    Noted,
 }
 
-const SLOTS: usize = 14;
+const SLOTS: usize = 18;
 
 /// The longest store: an index by three columns of 65,537 rows, and some words more.
 const LONGEST: usize = 9 * 65_537 + 1_024;
@@ -184,7 +188,7 @@ impl Session {
     ) -> Result<Image, String> {
         self.lent.clear();
         let told = |why: String| format!("{why}\n  at {}\n  {act:?}", watch::place());
-        let words = verdict::words_lent(rng, act);
+        let words = verdict::answer_before(rng, act);
         let expected = verdict::expected(act, image, &words, plain);
         let name = verdict::name(act);
         watch::call(name);
@@ -192,8 +196,7 @@ impl Session {
         let after = self.after(image);
         if let Act::Call(Call::Refresh(refresh)) = act {
             let left = self.left(Slot::Words).unwrap_or(&[]);
-            let (lent, left) = ((image, &words[..]), (&after, left));
-            refreshes::check(refresh, lent, left, number, plain.is_some())
+            refreshes::check(refresh, image, (&after, left), number, plain.is_some())
                 .map_err(|why| told(format!("{name}: {why}")))?;
             self.close(name, number).map_err(told)?;
             self.report.compared += u64::from(plain.is_some() && number == 0);
@@ -238,7 +241,7 @@ impl Session {
     fn after(&self, image: &Image) -> Image {
         let mut after = image.clone();
         for (slot, store) in [
-            (Slot::Header, &mut after.header),
+            (Slot::Header, &mut after.header[..]),
             (Slot::Rows, &mut after.rows),
             (Slot::Keys, &mut after.keys),
             (Slot::Sorts, &mut after.sorts),

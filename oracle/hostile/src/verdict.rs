@@ -4,7 +4,7 @@
 
 use crate::acts::Act;
 use crate::image::Image;
-use calls::{Answer, Call, HEADER_WORDS, Judge, Question, Subset};
+use calls::{Answer, Call, Judge, Question, Subset};
 use chance::Rng;
 use plain::{Plain, Staged};
 
@@ -32,7 +32,7 @@ pub fn name(act: &Act) -> &'static str {
         Act::Ask(Question::Lookup(_)) => "mouldgrey_get_row",
         Act::Ask(Question::Cell(..)) => "mouldgrey_get_row_column",
         Act::Ask(Question::FastRange(_)) => "mouldgrey_fast_subset",
-        Act::Ask(Question::Version) => "mouldgrey_version",
+        Act::Ask(Question::Version) => "mouldgrey_table_version",
         Act::Ask(Question::RowsSince(_)) => "mouldgrey_updates_since",
         Act::Ask(Question::RowsSinceNote(..)) => "mouldgrey_rows_since_version",
         Act::Ask(Question::Precedence { .. }) => "mouldgrey_check_precedence",
@@ -58,14 +58,9 @@ fn words_of(act: &Act) -> usize {
     }
 }
 
-/// Words to lend for the answer, by chance: as many as it takes, or another number of them now and then.
-pub fn words_lent(rng: &mut Rng, act: &Act) -> Vec<u32> {
-    let count = words_of(act);
-    let count = match rng.below(40) {
-        0 if count > 0 => rng.place(5),
-        _ => count,
-    };
-    (0..count).map(|_| rng.number()).collect()
+/// Random words for the answer to be written over.
+pub fn answer_before(rng: &mut Rng, act: &Act) -> Vec<u32> {
+    (0..words_of(act)).map(|_| rng.number()).collect()
 }
 
 /// The question that two ranges are to the judge, which writes no id.
@@ -78,17 +73,7 @@ fn of_ranges([first, second]: [(u32, u32); 2]) -> Question {
 }
 
 /// The number by the judge's own tests, on whatever header; 0 if the call is accepted.
-fn number(act: &Act, image: &Image, words: usize) -> u32 {
-    let has_header = !matches!(
-        act,
-        Act::Ask(Question::Intersect { .. }) | Act::IntersectRanges(_)
-    );
-    if image.header.len() != HEADER_WORDS && has_header {
-        return 1;
-    }
-    if words != words_of(act) {
-        return 2;
-    }
+fn number(act: &Act, image: &Image) -> u32 {
     let (h, lent) = (image.numbers(), image.lengths());
     let test = match act {
         Act::Call(call) => plain::test_call(&h, &lent, call),
@@ -101,7 +86,7 @@ fn number(act: &Act, image: &Image, words: usize) -> u32 {
 
 /// What must come of a call that is lent these words for its answer.
 pub fn expected(act: &Act, image: &Image, words: &[u32], plain: Option<&Plain>) -> Expected {
-    let number = number(act, image, words.len());
+    let number = number(act, image);
     let mut expected = Expected {
         number,
         words: None,
@@ -182,7 +167,7 @@ fn answer_words(act: &Act, answer: &Answer) -> Vec<u32> {
         Answer::Cell(cell) => vec![1, *cell],
         Answer::Version { generation, rows } => vec![*generation, *rows],
         Answer::Subset(Subset::Range(start, end)) => vec![1, *start, *end],
-        Answer::Subset(Subset::List(ids)) => vec![2, ids.len() as u32, 0],
+        Answer::Subset(Subset::List(ids)) => vec![0, 0, ids.len() as u32],
         Answer::Match(yes) => vec![u32::from(*yes)],
         Answer::Fails(row, place) => vec![1, *row, *place],
         Answer::Page { ids, dead, next } => {

@@ -3,7 +3,7 @@
 //! rows are renumbered by the same rank words. The two leave the same cells, which is tested first.
 
 use chance::Rng;
-use mouldgrey::{DEAD, Header, Opening, lent};
+use mouldgrey::{DEAD, Header, Merge, Opening, Rule, lent};
 use std::time::Instant;
 
 const CAPACITY: usize = 65_536;
@@ -39,7 +39,7 @@ impl Table {
         self.base.copy_from_slice(&other.base);
     }
 
-    fn merge(&mut self, pending: &[u32]) -> mouldgrey::Merge {
+    fn merge(&mut self, pending: &[u32]) -> Merge {
         lent::merge(
             &mut self.header,
             &mut self.rows,
@@ -133,7 +133,7 @@ fn full() -> Table {
         columns: COLUMNS as u32,
         keys: KEYS as u32,
         sort: SORT as u32,
-        rule: 1,
+        rule: Rule::TakeNew,
         capacity: CAPACITY as u32,
         generation: 0,
     };
@@ -158,7 +158,7 @@ fn full() -> Table {
     for i in 0..CAPACITY as u32 {
         lent::stage_insert(&mut table.header, &mut pending, &row(i)).expect("room for all rows");
     }
-    table.merge(&pending);
+    assert!(table.merge(&pending).accepted().is_ok());
     let mut order: Vec<u32> = (0..CAPACITY as u32).collect();
     let mut rng = Rng::new(SEED);
     for i in 0..KILLED {

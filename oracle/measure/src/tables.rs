@@ -5,7 +5,8 @@ use crate::offsets::size;
 use crate::report::Report;
 use calls::{Call, Condition, Subset};
 use chance::Rng;
-use mouldgrey::{Constraint, Opening, SubsetRef, Table, lent};
+use mouldgrey::raw::Constraint;
+use mouldgrey::{Opening, Rule, SubsetRef, Table, lent};
 use proved_table::{borrowed, constraint};
 use rust_table::{RustSubset, RustTable};
 
@@ -39,7 +40,10 @@ fn play(table: &mut Table, call: &Call) {
         Call::Insert(cells) => table.stage_insert(cells),
         Call::RemoveKey(key) => table.stage_remove(key),
         Call::RemoveRow(row, key) => table.stage_remove_row(*row, key),
-        Call::Merge => table.merge().map(|_| ()),
+        Call::Merge => {
+            assert!(table.merge().is_ok());
+            Ok(())
+        }
         Call::Compact => table.compact(),
         Call::Clear => table.clear(),
         Call::Refresh(_) => unreachable!("measured by itself"),
@@ -54,7 +58,7 @@ impl Both {
             columns,
             keys: 2,
             sort: SORT,
-            rule: 1,
+            rule: Rule::TakeNew,
             capacity: CAPACITY,
             generation: 0,
         };
@@ -193,7 +197,7 @@ fn lookups(report: &mut Report, both: &Both) {
         || {
             (100..160)
                 .filter_map(|value| {
-                    let c = Constraint::ge(SORT, value);
+                    let c = mouldgrey::Condition::ge(SORT, value);
                     lent::fast_subset(&s.header, &s.sorts, c).expect("a known condition")
                 })
                 .map(|(start, end)| (end - start) as usize)

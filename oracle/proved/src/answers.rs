@@ -5,7 +5,9 @@
 use crate::listings::{MOST, disturb, listing, shown, spoil};
 use calls::Condition;
 use chance::Rng;
-use mouldgrey::{Constraint, Refusal, Verdict, check_answers};
+use mouldgrey::lent::check_answers;
+use mouldgrey::raw::Constraint;
+use mouldgrey::{Refusal, Verdict};
 use plain::answers;
 use plain::listings::{self, Form, Listing};
 use std::collections::{BTreeMap, BTreeSet};

@@ -11,9 +11,8 @@ use calls::{
 };
 use indexes::Indexes;
 pub use indexes::fill_index;
-use mouldgrey::{
-    Constraint, Header, Merge, Opening, Page, Refusal, SubsetRef, Version, Written, lent,
-};
+use mouldgrey::raw::{Constraint, Opening};
+use mouldgrey::{Header, Merge, PageWritten, Refusal, SubsetRef, Version, Written, lent};
 use stores::Stores;
 
 /// What stands behind a lent store, and in one that was never written.
@@ -48,7 +47,7 @@ impl ProvedTable {
         let s = &mut self.now;
         let done = match call {
             Call::Open(o) => lent::open_table(
-                &opening(o),
+                opening(o),
                 &mut s.header,
                 &s.rows[..lent.rows],
                 &mut s.keys[..lent.keys],
@@ -350,13 +349,17 @@ fn answer<T>(heard: Result<T, Refusal>, accepted: impl FnOnce(T) -> Answer) -> A
 }
 
 fn merge_answer(merge: Merge) -> Answer {
-    let (status, place) = merge.stop.map_or((0, 0), |(stop, at)| (stop.number(), at));
+    let (status, place) = match merge.stop {
+        None => (0, 0),
+        Some(stop) => (stop.reason.number(), stop.place),
+    };
+    let merged = merge.merged;
     Answer::Merged {
         status,
         place,
-        added: merge.added,
-        kept: merge.kept,
-        dropped: merge.dropped,
+        added: merged.added,
+        kept: merged.kept,
+        dropped: merged.dropped,
     }
 }
 
@@ -403,7 +406,7 @@ fn over_output(length: usize, ask: impl FnOnce(&mut [u32]) -> Result<Written, Re
 
 fn page_over_output(
     length: usize,
-    ask: impl FnOnce(&mut [u32]) -> Result<Page, Refusal>,
+    ask: impl FnOnce(&mut [u32]) -> Result<PageWritten, Refusal>,
 ) -> Answer {
     let (heard, ids) = heard_over_output(length, ask, |page| page.written);
     answer(heard, |page| Answer::Page {
