@@ -1,0 +1,140 @@
+"""Tests of the Python binding: python3 -m unittest in this folder."""
+
+import doctest
+import unittest
+
+import mouldgrey
+from mouldgrey import Condition, Refused, Rule, Stopped, Table, ValueIndex
+
+
+def twenty():
+    """Twenty rows, keys 0 to 19, sort values 0 to 9."""
+    table = Table(columns=3, keys=1, sort=2, rule=Rule.TAKE_NEW, capacity=40, generation=5, pending_words=200)
+    for key in range(20):
+        table.stage_insert([key, key % 3, key // 2])
+    table.merge()
+    return table
+
+
+class Calls(unittest.TestCase):
+    def refused(self, number, call, *arguments):
+        with self.assertRaises(Refused) as caught:
+            call(*arguments)
+        self.assertEqual(caught.exception.number, number)
+
+    def test_openings(self):
+        with self.assertRaises(Refused) as caught:
+            Table(columns=9, keys=1, sort=0, rule=0, capacity=1)
+        self.assertEqual(caught.exception.number, 1)
+        self.assertEqual(mouldgrey.library_version(), 1000)
+
+    def test_stagings(self):
+        table = twenty()
+        self.refused(3, table.stage_insert, [1, 2])
+        self.refused(5, table.stage_remove_row, 20, [1])
+        with self.assertRaises(OverflowError):
+            table.stage_insert([1, 2, 1 << 32])
+        table.stage_remove_row(3, [3])
+        table.stage_remove([4])
+        self.assertFalse(table.merge().added)
+        self.assertIsNone(table.get_row([3]))
+        self.assertEqual(table.get_row([5]).cells, (5, 2, 2))
+        self.assertTrue(table.is_sound())
+
+    def test_stops(self):
+        table = twenty()
+        table.stage_insert([60, 0, 9])
+        table.stage_insert([61, 0, 8])
+        with self.assertRaises(Stopped) as caught:
+            table.merge()
+        self.assertEqual((caught.exception.number, caught.exception.place), (9, 1))
+        self.assertEqual(table.version(), (5, 21))
+
+    def test_refreshes(self):
+        table, index = twenty(), ValueIndex()
+        self.refused(9, table.refresh, index, [1], [2], 8)
+        self.assertEqual(len(index._words), 0)
+        self.assertTrue(table.refresh(index, [1], [2], 9))
+        table.merge()
+        self.assertEqual(table.version().rows, 26)
+        self.assertFalse(table.refresh(index, [1], [7], 9))
+
+    def test_compaction_and_clear(self):
+        table = twenty()
+        noted = table.version()
+        self.assertEqual(table.rows_since(noted), range(20, 20))
+        table.stage_remove([0])
+        table.merge()
+        table.compact()
+        self.refused(18, table.rows_since, noted)
+        self.assertEqual([row.id for row in table], list(range(19)))
+        table.clear()
+        self.assertEqual(list(table), [])
+
+
+class Queries(unittest.TestCase):
+    def test_lookups(self):
+        table = twenty()
+        self.assertEqual(table.get_cell([7], 1), 1)
+        self.assertIsNone(table.get_cell([77], 1))
+        self.assertEqual(table.fast_range(Condition.eq(2, 4)), range(8, 10))
+        self.assertIsNone(table.fast_range(Condition.eq(1, 0)))
+        self.assertEqual(table.updates_since(18), range(18, 20))
+        self.assertEqual(table.check_precedence(0, [(7, 3), (3, 7)]), (3, 1))
+
+    def test_refining(self):
+        table = twenty()
+        third = Condition.eq(1, 0)
+        self.assertEqual(table.refine_one(table.all(), third), [0, 3, 6, 9, 12, 15, 18])
+        self.assertEqual(table.refine_one(range(5, 8), Condition.gt(0, 5)), range(6, 8))
+        self.assertEqual(table.refine([1, 3, 6, 7], [third, Condition.lt(2, 3)]), [3])
+        self.assertTrue(table.contains_match(range(4, 7), [third]))
+        with self.assertRaises(Refused):
+            table.refine_one([2, 1], third)
+
+    def test_pages(self):
+        table = twenty()
+        table.stage_remove([3])
+        table.merge()
+        found, dead, place = [], 0, 0
+        while place is not None:
+            page = table.read_page(table.all(), place, 7, [Condition.eq(1, 0)])
+            found, dead, place = found + page.ids, dead + page.dead, page.next
+        self.assertEqual((found, dead), ([0, 6, 9, 12, 15, 18], 1))
+
+    def test_intersections(self):
+        self.assertEqual(mouldgrey.intersect([1, 3, 5, 8], range(3, 8)), [3, 5])
+        self.assertEqual(mouldgrey.intersect(range(2, 6), range(6, 9)), range(6, 6))
+        self.assertEqual(mouldgrey.intersect(range(4, 6), [1, 6]), range(0, 0))
+
+
+class Texts(unittest.TestCase):
+    def test_listings(self):
+        table = twenty()
+        table.stage_remove([0])
+        table.merge()
+        new = mouldgrey.read_numbered(table.listing())
+        self.assertEqual((new.count, new.rows[0]), (20, (1, 1, 1, 0)))
+        old = mouldgrey.read_listing(table.listing(numbered=False))
+        self.assertEqual((old.count, old.rows[0]), (None, (1, 1, 0)))
+        with self.assertRaises(Refused) as caught:
+            mouldgrey.from_numbered(table.listing())
+        self.assertEqual(caught.exception.number, 17)
+        table.compact()
+        self.assertEqual(mouldgrey.to_numbered(table.listing(numbered=False)), table.listing())
+        verdict = mouldgrey.check_answers(table.listing(), [Condition.le(0, 2)], [0])
+        self.assertEqual(verdict, (2, 1))
+
+    def test_columns(self):
+        columns = mouldgrey.to_columns(2, [7, 160, 7, 163, 6, 170])
+        self.assertEqual(columns, [7, 0, 0xFFFFFFFF, 160, 3, 7])
+        self.assertEqual(mouldgrey.from_columns(2, columns), [7, 160, 7, 163, 6, 170])
+
+
+def load_tests(loader, tests, pattern):
+    tests.addTests(doctest.DocTestSuite(mouldgrey))
+    return tests
+
+
+if __name__ == "__main__":
+    unittest.main()
