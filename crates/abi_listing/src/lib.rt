@@ -1,15 +1,19 @@
 // Listings as text, and the test of answers against them, as C functions.
 ghost use mathlib.Core.Path.{_≡_};
-ghost use mathlib.Core.Bool.{true, false};
+ghost use mathlib.Core.Bool.{true, false, not};
+ghost use lib.Dec.{eqb};
 ghost use Rattle.listings.specs.Listings.{listingSays, numberedSays, moveSays, ListingRead, ListingMoved};
 ghost use Rattle.listing_answers.specs.Answers.{checkSays, AnswersChecked};
-ghost use Rattle.abi.specs.Encoding.{Stored, Answers};
+ghost use Rattle.listing_write.specs.Writing.{ListingWritten};
+ghost use Rattle.abi.specs.Encoding.{decodeHeader, Stored, Answers};
 ghost use Rattle.abi_listing.specs.Encoding.{encodeHead, encodeLength, encodeVerdict};
 use abi::ACCEPTED;
+use abi::decode_header;
 use constraints::Constraint;
 use listing_answers::CheckAnswer;
 use listing_answers::Verdict;
 use listing_answers::check_answers;
+use listing_write::write_listing;
 use listings::ListingAnswer;
 use listings::MoveAnswer;
 use listings::NumberedAnswer;
@@ -85,6 +89,22 @@ fn store_check(answer: CheckAnswer, verdict: &mut [u64; 2]) -> u32
             ACCEPTED
         }
     }
+}
+
+// Writes a listing of a table, in the new form if numbered is not 0. The answer is how many bytes were written.
+#[no_mangle]
+pub extern "C" fn mouldgrey_write_listing(
+    header: &[u32; 12],
+    rows: &[u32],
+    numbered: u32,
+    output: &mut [u8],
+    length: &mut [u64; 1],
+) -> u32
+    ensures { λ r. ⌜ Answers (λ answer. ListingWritten (not (eqb numbered 0)) (decodeHeader (now (header .entry))) (now (rows .entry)) (now (output .entry)) answer (now (output .exit))) moveSays encodeLength (now (length .entry)) r (now (length .exit)) ⌝ }
+{
+    let h = decode_header(header);
+    let answer = write_listing(h, rows, numbered != 0, output);
+    store_length(answer, length)
 }
 
 // Reads a listing in the old form. The answer is six words: columns, keys, sort, rule, generation, listed.

@@ -10,6 +10,9 @@ use Rattle.listings.specs.Listings.{listingSays, numberedSays, moveSays, Listin
 use Rattle.listings.specs.Laws.Determined as library
 use Rattle.listing_answers.specs.Answers.{checkSays, AnswersChecked}
 use Rattle.listing_answers.specs.Laws.Determined.{checked-determined}
+use Rattle.table.specs.declared.Header.{Header}
+use Rattle.listing_write.specs.Writing.{ListingWritten}
+use Rattle.listing_write.specs.Laws.Determined.{written-determined}
 use Rattle.abi.specs.Encoding.{Answers}
 use Rattle.abi.specs.Laws.Determined.{SameOutcome, answers-determined}
 use Rattle.abi_listing.specs.Encoding.{encodeHead, encodeLength, encodeVerdict}
@@ -32,3 +35,8 @@ module _ {words words₁ words₂ : List ℕ} {r₁ r₂ : ℕ} (text : List ℕ
   pub check-answers-determined : (conditions : List Constraint) (given : List ℕ) → Answers (λ a. AnswersChecked text conditions given a) checkSays encodeVerdict words r₁ words₁
       → Answers (λ a. AnswersChecked text conditions given a) checkSays encodeVerdict words r₂ words₂ → SameOutcome checkSays (λ x y. x ≡ y) r₁ r₂ words₁ words₂
   check-answers-determined conditions given = answers-determined (λ x y. checked-determined)
+
+module _ {words words₁ words₂ : List ℕ} {r₁ r₂ : ℕ} (numbered : Bool) (h : Header) (rows output output₁ output₂ : List ℕ) where
+  pub write-listing-determined : Answers (λ a. ListingWritten numbered h rows output a output₁) moveSays encodeLength words r₁ words₁
+      → Answers (λ a. ListingWritten numbered h rows output a output₂) moveSays encodeLength words r₂ words₂ → SameOutcome moveSays (λ x y. Same x y output₁ output₂) r₁ r₂ words₁ words₂
+  write-listing-determined = answers-determined (λ x y. written-determined)
