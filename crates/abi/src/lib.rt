@@ -1,7 +1,6 @@
 // Encodes headers and answers as words for C callers, and decodes their arguments. A fixed number of words is a fixed array, which
 // goes to C as a plain pointer.
 ghost use mathlib.Core.Path.{_≡_};
-ghost use mathlib.Core.List.{List};
 ghost use Rattle.table.specs.Numbers.{tableSays, mergeSays, rowSays, cellSays, rangeSays, versionSays, soundSays};
 ghost use Rattle.queries.specs.Queries.{matchSays, pageSays};
 ghost use Rattle.abi.specs.Encoding.{decodeLargest, decodeColumns, decodeHeader, decodeCondition, decodeSubset, bit, largestFlag, largestValue, encodeHeader, encodeMerge, encodeBool, encodeOption, encodeRange, encodeVersion, subsetSays, encodeSubset, encodePage, Stored};

@@ -1,7 +1,6 @@
 // The queries over a subset as C functions: refine by one and by a list, any match, page. A subset is three words, dense, start and
 // end, with the list of ids beside it; they make the struct that `borrowed` takes. A condition of a list is a struct of three
 // words, so a list of them is lent as it is. So each function is proved by hand: it decodes, queries and stores.
-ghost use mathlib.Core.Path.{_≡_};
 ghost use Rattle.offsets.specs.Answers.{subsetOf};
 ghost use Rattle.queries.specs.Queries.{matchSays, pageSays, RefinedOne, RefinedList, Matched, PageRead};
 ghost use Rattle.abi.specs.Encoding.{decodeHeader, decodeCondition, decodeSubset, encodeBool, subsetSays, encodeSubset, encodePage, Answers};

@@ -17,7 +17,7 @@ use abi::encode_bool;
 use abi::store_table;
 use question_words::RunAnswer;
 
-// The largest number of queries that is told apart.
+// The largest count of queries that fits a word; a larger count is stored as this one.
 const MOST_TAKEN: usize = 4294967295;
 
 // Opens a table and makes the calls, in order. The opening is six words: columns, keys, sort, rule, capacity, generation.
@@ -53,6 +53,7 @@ pub extern "C" fn mouldgrey_replay(
     store_table(answer, header)
 }
 
+// The number of queries taken, as a word.
 fn count_word(n: usize) -> u32
     ensures { λ r. ⌜ r ≡ min n 4294967295 ⌝ }
 {

@@ -7,8 +7,6 @@ use Rattle.refusals.specs.Laws.Determined.{Same}
 use Rattle.plain.specs.Staged.{Staged}
 use Rattle.table.specs.declared.Header.{Header}
 use Rattle.table.specs.declared.TableAnswer.{TableAnswer}
-use Rattle.table.specs.declared.MergeAnswer.{MergeAnswer}
-use Rattle.table.specs.declared.SoundAnswer.{SoundAnswer}
 use Rattle.table.specs.Numbers.{tableSays, mergeSays, soundSays}
 use Rattle.table.specs.Promises.{Body, CompactionWords, Opened, Staging, Merging, Compacting, Clearing, Checked, stores}
 use Rattle.table.specs.Laws.Determined.{Left, SameOpening, opened-determined, staging-determined, SameMerge, merging-determined, SameCompaction, compacting-determined, SameClear, clearing-determined, checked-determined}
