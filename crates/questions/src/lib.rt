@@ -7,11 +7,10 @@ use offsets::SubsetHead;
 use queries::MatchAnswer;
 use queries::PageAnswer;
 use sweeping::Question;
+use sweeping::ask_one;
 use sweeping::close_match;
 use sweeping::close_page;
 use sweeping::close_refine;
-use sweeping::open_refine;
-use sweeping::retain;
 use sweeping::write_found;
 use table::Header;
 use walks::ask;
@@ -27,12 +26,10 @@ pub fn refine_one(
 ) -> SubsetAnswer
     ensures { λ r. ⌜ RefinedOne h (now (rows .entry)) (subsetOf head (now (ids .entry))) c (now (out .entry)) r (now (out .exit)) ⌝ }
 {
-    let known = constraints::known(c, h.columns);
-    let begun = open_refine(h, rows.len(), head, ids, known, out.len());
-    if begun.refused != 0 {
-        return SubsetAnswer::Refused(begun.refused);
+    let done = ask_one(h, rows, head, ids, c, out);
+    if done.refused != 0 {
+        return SubsetAnswer::Refused(done.refused);
     }
-    let done = retain(h, rows, head, ids, c, begun, out);
     if head.dense {
         return retain::grown(done.found);
     }

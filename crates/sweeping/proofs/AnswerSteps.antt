@@ -33,8 +33,9 @@ use Rattle.queries.specs.inner.Tests.{Askable, RefineRefused, MatchRefused, Pag
 use Rattle.sweeping.specs.declared.Sweep.{Sweep}
 use Rattle.sweeping.specs.declared.Question.{Question}
 use Rattle.sweeping.specs.declared.Question.the-variants.{Refine, Match, Page}
-use Rattle.sweeping.specs.inner.Sweeping.{upTo, places, visits, firstPlace, roomAsked, refusalOf, BeginsAt, Finished, SweepBegins, SweepAnswered, CanWrite, Writes, whole, CanClose, RefineClosed}
-use Rattle.sweeping.proofs.Visits.{upTo-nil, upTo-all, visited-none, length-visited, visited-all, visited-end}
+use Rattle.sweeping.specs.inner.Sweeping.{upTo, places, firstPlace, roomAsked, refusalOf, BeginsAt, Finished, SweepBegins, SweepAnswered, CanWrite, Writes, whole, CanClose, RefineClosed}
+use Rattle.sweeping.specs.Visits.{idsVisited}
+use Rattle.sweeping.proofs.Visits.{upTo-nil, upTo-all, upTo-first, visited-none, length-visited, visited-all, visited-end}
 
 -- ---- replies
 
@@ -77,7 +78,7 @@ module _ (question : Question) (h : Header) (rows : ℕ) (subset : Subset) (know
 
   module _ (z : number ≡ 0) (a : Askable h rows subset) (next end most : ℕ) (p : BeginsAt subset 0 next end most s) where
     opened-over : next ≤ end → end ≤ size subset → (next < end → 0 < most) → (1 < most → end - next ≤ output) → next ≡ firstPlace question
-        → ((test : ℕ → Bool) → upTo most test (visited subset next (end - next)) ≡ visits question test subset) → roomAsked question subset ≤ output → SweepBegins question h rows subset knows output s
+        → ((test : ℕ → Bool) → upTo most test (visited subset next (end - next)) ≡ idsVisited question test subset) → roomAsked question subset ≤ output → SweepBegins question h rows subset knows output s
     unfolding places
     opened-over o w m r f v u =
         record {
@@ -117,20 +118,20 @@ module _ (h : Header) (rows : ℕ) (subset : Subset) (knows : Bool) (s : Sweep) 
   page-stopped start n output number r m p = opened-refused (Page start n) h rows subset knows output number (r .number-is) s m p
 
   pub refine-opened : (output number : ℕ) → RefineRefused h rows subset knows output number → number ≡ 0 → BeginsAt subset 0 0 (size subset) (size subset) s → SweepBegins Refine h rows subset knows output s
-  unfolding refusalOf visits firstPlace roomAsked
+  unfolding refusalOf idsVisited firstPlace roomAsked
   refine-opened output number r z p =
       opened-over Refine h rows subset knows output number (r .number-is) s z (r .askable z) 0 (size subset) (size subset) p (omega arith) (omega arith) (λ q. q) (λ _. omega (arith, r .room z)) refl
       (λ test. rw (all-places subset) (upTo-all test (size subset) (members subset) (omega (arith, length-members subset)))) (r .room z)
 
   pub match-opened : (number : ℕ) → MatchRefused h rows subset knows number → number ≡ 0 → BeginsAt subset 0 0 (size subset) 1 s → (output : ℕ) → SweepBegins Match h rows subset knows output s
-  unfolding refusalOf visits firstPlace roomAsked
+  unfolding refusalOf idsVisited firstPlace roomAsked
   match-opened number r z p output =
       opened-over Match h rows subset knows output number (r .number-is) s z (r .askable z) 0 (size subset) 1 p (omega arith) (omega arith) (λ _. omega arith) (λ q. absurd (omega (arith, q))) refl
-      (λ test. rw (all-places subset)) (omega arith)
+      (λ test. rw (all-places subset) (upTo-first test (members subset))) (omega arith)
 
   pub page-opened : (start n output number : ℕ) → PageRefused h rows subset start n knows output number → number ≡ 0
       → BeginsAt subset 0 start (start + min n (size subset - start)) (min n (size subset - start)) s → SweepBegins (Page start n) h rows subset knows output s
-  unfolding refusalOf visits firstPlace roomAsked
+  unfolding refusalOf idsVisited firstPlace roomAsked
   page-opened start n output number r z p =
       let few = min n (size subset - start) in
       let k : start + few - start ≡ few = omega arith in
@@ -170,9 +171,12 @@ module _ (question : Question) (h : Header) (rows : List ℕ) (subset : Subset) 
         askable = λ z. o .askable (was z);
         in-room = λ z. o .in-room (was z);
         within = λ z. let w = o .sweepable output refl in omega (arith, w .order, w .within, o .first-is (was z));
-        next-is = λ z. rw (← o .visits-is (was z) wanted, ← o .first-is (was z)) (f .next-is);
         grows = λ z. rw (← o .visits-is (was z) wanted) (f .grows);
-        dead-is = λ z. rw (← o .visits-is (was z) wanted) (f .dead-is);
+        counted = λ z.
+            record {
+              next = rw (← o .visits-is (was z) wanted, ← o .first-is (was z)) (f .next-is);
+              dead = rw (← o .visits-is (was z) wanted) (f .dead-is);
+            };
         unwritten = λ n. nothing-kept wanted _ output output′ (s′ .found) (no-visits n) (f .grows);
       }
 
@@ -183,7 +187,7 @@ module _ (h : Header) (rows : List ℕ) (subset : Subset) (conditions : List Con
   test = matches h rows conditions
 
   pub kept-all : Grows output output′ (s .found) (keep test (members subset))
-  unfolding visits
+  unfolding idsVisited
   kept-all = a .grows z
 
   pub can-write : CanWrite output′ (s .found)
@@ -206,21 +210,24 @@ module _ (h : Header) (rows : List ℕ) (subset : Subset) (c : Constraint) (know
   unfolding every
   one-known = k ∙ sym (and-true (known (h .columns) c))
 
-  one-number : s .refused ≡ refineRefusal h (length rows) subset (c ∷ []) (length output)
-  unfolding refusalOf
-  one-number = o .number-is (c ∷ []) one-known
-
   pub one-asked : (s′ : Sweep) (output′ : List ℕ) → Finished h rows subset (matches h rows (c ∷ [])) s output s′ output′ → SweepAnswered Refine h rows subset (c ∷ []) output s′ output′
   one-asked s′ output′ f = asked-all Refine h rows subset (c ∷ []) knows output s one-known o s′ output′ f
 
-  pub one-refused : (s .refused ≡ 0 → ⊥) → RefinedOne h rows subset c output (Refused (s .refused)) output
-  unfolding refineOneReply
-  one-refused z = record { answered = answered-refused _ _ output (s .refused) one-number z }
+-- and what it answers
+module _ (h : Header) (rows : List ℕ) (subset : Subset) (c : Constraint) (output : List ℕ) (s : Sweep) (output′ : List ℕ)
+    (a : SweepAnswered Refine h rows subset (c ∷ []) output s output′) where
+  one-number : s .refused ≡ refineRefusal h (length rows) subset (c ∷ []) (length output)
+  unfolding refusalOf
+  one-number = a .number-is
 
-  pub one-answered : (answer : SubsetAnswer) (output′ : List ℕ) → s .refused ≡ 0 → Answered (accepted (retain (matches h rows (c ∷ [])) subset)) output answer output′
-      → RefinedOne h rows subset c output answer output′
+  pub one-refused : (s .refused ≡ 0 → ⊥) → RefinedOne h rows subset c output (Refused (s .refused)) output′
   unfolding refineOneReply
-  one-answered answer output′ z a = record { answered = answered-accepted _ _ output answer output′ (sym one-number ∙ z) a }
+  one-refused n = rw (a .unwritten n) (record { answered = answered-refused _ _ output (s .refused) one-number n })
+
+  pub one-answered : (answer : SubsetAnswer) (output″ : List ℕ) → s .refused ≡ 0 → Answered (accepted (retain (matches h rows (c ∷ [])) subset)) output answer output″
+      → RefinedOne h rows subset c output answer output″
+  unfolding refineOneReply
+  one-answered answer output″ z k = record { answered = answered-accepted _ _ output answer output″ (sym one-number ∙ z) k }
 
 -- ---- refine by a list
 

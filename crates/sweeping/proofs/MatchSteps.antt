@@ -17,7 +17,8 @@ use Rattle.queries.specs.declared.MatchAnswer.the-variants.{Refused as MatchIsR
 use Rattle.sweeping.specs.declared.Sweep.{Sweep}
 use Rattle.sweeping.specs.declared.Question.the-variants.{Match}
 use Rattle.queries.specs.Queries.{matches, matchRefusal, matchSays, Matched}
-use Rattle.sweeping.specs.inner.Sweeping.{visits, refusalOf, SweepAnswered, MatchClosed}
+use Rattle.sweeping.specs.inner.Sweeping.{refusalOf, SweepAnswered, MatchClosed}
+use Rattle.sweeping.specs.Visits.{idsVisited}
 use Rattle.sweeping.proofs.Visits.{first-tells}
 
 module _ (s : Sweep) where
@@ -32,7 +33,7 @@ module _ (h : Header) (rows : List ℕ) (subset : Subset) (conditions : List Con
   test = matches h rows conditions
 
   found : s .refused ≡ 0 → not (eqb (s .found .count) 0) ≡ any test (members subset)
-  unfolding visits
+  unfolding idsVisited
   found z = ap (λ (n : ℕ). not (eqb n 0)) (a .grows z .number) ∙ first-tells test (members subset)
 
   pub match-answered : (answer : MatchAnswer) → MatchClosed s answer → Matched h rows subset conditions answer

@@ -23,7 +23,8 @@ use Rattle.queries.specs.declared.PageAnswer.the-variants.{Refused as PageIsRef
 use Rattle.sweeping.specs.declared.Sweep.{Sweep}
 use Rattle.sweeping.specs.declared.Question.the-variants.{Page}
 use Rattle.queries.specs.Queries.{matches, deadAmong, pageRefusal, visited, nextPlace, pageIds, PageReply, nextSays, pageSays, pageReply, PageRead}
-use Rattle.sweeping.specs.inner.Sweeping.{visits, firstPlace, roomAsked, refusalOf, SweepAnswered, CanWrite, Writes, nextOf, nextAt, PageClosed}
+use Rattle.sweeping.specs.inner.Sweeping.{firstPlace, roomAsked, refusalOf, SweepAnswered, CanWrite, Writes, nextOf, nextAt, PageClosed}
+use Rattle.sweeping.specs.Visits.{idsVisited}
 use Rattle.sweeping.proofs.Visits.{length-visited, visited-end, kept-few}
 
 -- ---- the end
@@ -74,7 +75,7 @@ module _ (h : Header) (rows : List ℕ) (subset : Subset) (start n : ℕ) (condi
   keeps = matches h rows conditions
 
   page-kept : s .refused ≡ 0 → Grows output output′ (s .found) (keep keeps (visited subset start n))
-  unfolding visits
+  unfolding idsVisited
   page-kept z = a .grows z
 
   -- what the end of a page asks
@@ -102,13 +103,13 @@ module _ (h : Header) (rows : List ℕ) (subset : Subset) (start n : ℕ) (condi
       read = record { written = length ids; dead = deadAmong h rows (visited subset start n); next = nextPlace subset start n }
 
       dead-is : s .refused ≡ 0 → s .dead ≡ read .dead
-      dead-is z = unfold visits in a .dead-is z
+      dead-is z = unfold idsVisited in a .counted z .dead
 
       goes-on : s .refused ≡ 0 → nextSays (nextOf (nextAt subset (s .next))) ≡ nextPlace subset start n
-      goes-on z = unfold visits firstPlace in
+      goes-on z = unfold idsVisited firstPlace in
           let l : start ≤ size subset = a .within z in
           let k : length (visited subset start n) ≡ min n (size subset - start) = rw (← visited-end subset start n) (length-visited subset start (min n (size subset - start)) (omega arith)) in
-          next-back _ ∙ next-is subset start n (s .next) l (a .next-is z ∙ ap (λ (i : ℕ). start + i) k)
+          next-back _ ∙ next-is subset start n (s .next) l (a .counted z .next ∙ ap (λ (i : ℕ). start + i) k)
 
       accepts : s .refused ≡ 0 → pageRefusal h (length rows) subset start n conditions (length output) ≡ 0 → answer ≡ Paged (record { written = length ids; dead = s .dead; next = nextOf (nextAt subset (s .next)) })
           → output″ ≡ putAt output 0 ids → PageRead h rows subset start n conditions output answer output″

@@ -16,6 +16,7 @@ use Rattle.offsets.specs.Subsets.{Subset, members, size}
 use Rattle.offsets.specs.Laws.Subsets.{length-members}
 use Rattle.table.specs.declared.Header.{Header}
 use Rattle.queries.specs.Queries.{deadAmong, visited}
+use Rattle.sweeping.specs.Visits.{upToFirst}
 use Rattle.sweeping.specs.inner.Sweeping.{upTo}
 
 -- ---- up to the nth that passes
@@ -45,9 +46,15 @@ module _ (test : ℕ → Bool) where
         | inr e ↦ upTo-miss n x xs (omega arith) e ∙ ap (λ (t : List ℕ). x ∷ t) (upTo-all n xs (omega arith))
       ]
 
+  -- up to the first
+  pub upTo-first : (ids : List ℕ) → upTo 1 test ids ≡ upToFirst test ids
+  unfolding upTo upToFirst
+  upTo-first [] = refl
+  upTo-first (x ∷ xs) = rw (upTo-first xs)
+
   -- whether any passes is seen by the first that does
-  pub first-tells : (ids : List ℕ) → not (eqb (length (keep test (upTo 1 test ids))) 0) ≡ any test ids
-  unfolding any keep upTo
+  pub first-tells : (ids : List ℕ) → not (eqb (length (keep test (upToFirst test ids))) 0) ≡ any test ids
+  unfolding any keep upToFirst
   first-tells [] = refl
   first-tells (x ∷ xs) =
       elim (split (test x)) [

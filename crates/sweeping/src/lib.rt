@@ -13,7 +13,7 @@ ghost use Rattle.offsets.specs.Subsets as subsets;
 ghost use Rattle.offsets.specs.Subsets.{members};
 ghost use Rattle.retain.specs.inner.Growing.{CanAdd};
 ghost use Rattle.queries.specs.Queries.{matches, deadAmong};
-ghost use Rattle.sweeping.specs.inner.Sweeping.{RowLies, RowNeeded, starts, passes, BeginsAt, CanMove, Moves, Keeps, CanStep, SweepSteps, Sweepable, Finished, SweepBegins, CanWrite, Writes, whole, CanClose, RefineClosed, nextOf, nextAt, PageClosed, MatchClosed};
+ghost use Rattle.sweeping.specs.inner.Sweeping.{RowLies, RowNeeded, starts, passes, BeginsAt, CanMove, Moves, Keeps, CanStep, SweepSteps, Sweepable, Finished, SweepBegins, SweepAnswered, CanWrite, Writes, whole, CanClose, RefineClosed, nextOf, nextAt, PageClosed, MatchClosed};
 use constraints::Constraint;
 use offsets::SubsetAnswer;
 use offsets::SubsetHead;
@@ -208,7 +208,7 @@ pub fn step(
 }
 
 // All places, by one condition.
-pub fn retain(
+fn retain(
     h: Header,
     rows: &[u32],
     head: SubsetHead,
@@ -231,7 +231,7 @@ pub fn retain(
 // ---- the beginning
 
 // A refine: refused, or over all places.
-pub fn open_refine(
+fn open_refine(
     h: Header,
     rows: usize,
     head: SubsetHead,
@@ -300,6 +300,22 @@ pub fn opening(
         Question::Match => open_match(h, rows, head, ids, known),
         Question::Page(start, n) => open_page(h, rows, head, ids, start, n, known, output),
     }
+}
+
+// Refine by one: refused, or all places swept by the condition.
+pub fn ask_one(
+    h: Header,
+    rows: &[u32],
+    head: SubsetHead,
+    ids: &[u32],
+    c: Constraint,
+    out: &mut [u32],
+) -> Sweep
+    ensures { λ r. ⌜ SweepAnswered Question.Refine h (now (rows .entry)) (subsetOf head (now (ids .entry))) (c ∷ []) (now (out .entry)) r (now (out .exit)) ⌝ }
+{
+    let known = constraints::known(c, h.columns);
+    let begun = open_refine(h, rows.len(), head, ids, known, out.len());
+    retain(h, rows, head, ids, c, begun, out)
 }
 
 // ---- the end

@@ -33,6 +33,7 @@ use Rattle.sweeping.specs.declared.Question.{Question}
 use Rattle.sweeping.specs.declared.Question.the-variants.{Refine, Match, Page}
 use Rattle.queries.specs.Queries.{refineRefusal, matchRefusal, pageRefusal, matches, deadAmong, visited}
 use Rattle.queries.specs.inner.Tests.{Askable}
+use Rattle.sweeping.specs.Visits.{idsVisited, Counted}
 
 -- ---- tests of a list of conditions
 
@@ -65,13 +66,6 @@ unfoldable pub upTo : ℕ → (ℕ → Bool) → List ℕ → List ℕ
 upTo zero test ids = []
 upTo (suc n) test [] = []
 upTo (suc n) test (x ∷ xs) = x ∷ cond (test x) (upTo n test xs) (upTo (suc n) test xs)
-
--- a refinement visits every member, any match the members up to and including the first that matches, a page n from its
--- start place on
-unfoldable pub visits : Question → (ℕ → Bool) → Subset → List ℕ
-visits Refine test subset = members subset
-visits Match test subset = upTo 1 test (members subset)
-visits (Page start n) test subset = visited subset start n
 
 unfoldable pub firstPlace : Question → ℕ
 firstPlace Refine = 0
@@ -194,7 +188,7 @@ pub record SweepBegins (question : Question) (h : Header) (rows : ℕ) (subset :
   pub askable : s .refused ≡ 0 → Askable h rows subset
   pub sweepable : (output₀ : List ℕ) → length output₀ ≡ output → Sweepable h rows subset s output₀
   pub first-is : s .refused ≡ 0 → s .next ≡ firstPlace question
-  pub visits-is : s .refused ≡ 0 → (test : ℕ → Bool) → upTo (s .most) test (places subset s) ≡ visits question test subset
+  pub visits-is : s .refused ≡ 0 → (test : ℕ → Bool) → upTo (s .most) test (places subset s) ≡ idsVisited question test subset
   pub in-room : s .refused ≡ 0 → roomAsked question subset ≤ output
   pub no-places : (s .refused ≡ 0 → ⊥) → s .next ≡ s .end
 
@@ -205,9 +199,8 @@ pub record SweepAnswered (question : Question) (h : Header) (rows : List ℕ) (s
   pub askable : s .refused ≡ 0 → Askable h (length rows) subset
   pub in-room : s .refused ≡ 0 → roomAsked question subset ≤ length output
   pub within : s .refused ≡ 0 → firstPlace question ≤ size subset
-  pub next-is : s .refused ≡ 0 → s .next ≡ firstPlace question + length (visits question (matches h rows conditions) subset)
-  pub grows : s .refused ≡ 0 → Grows output output′ (s .found) (keep (matches h rows conditions) (visits question (matches h rows conditions) subset))
-  pub dead-is : s .refused ≡ 0 → s .dead ≡ deadAmong h rows (visits question (matches h rows conditions) subset)
+  pub counted : s .refused ≡ 0 → Counted h rows (firstPlace question) (idsVisited question (matches h rows conditions) subset) s
+  pub grows : s .refused ≡ 0 → Grows output output′ (s .found) (keep (matches h rows conditions) (idsVisited question (matches h rows conditions) subset))
   pub unwritten : (s .refused ≡ 0 → ⊥) → output′ ≡ output
 
 -- what writing the ids kept asks, and does
