@@ -5,7 +5,7 @@ ghost use mathlib.Core.Bool.{true};
 ghost use Prim.Native.Nat.{_+_, _≤_, _<_};
 ghost use lib.ListN.{length};
 ghost use Rattle.offsets.specs.inner.Writing.{Wrote};
-ghost use Rattle.intersection.specs.inner.Common.{Fitting, Searchable, common};
+ghost use Rattle.intersection.specs.inner.Common.{Fitting, Searchable, common, alike};
 ghost use Rattle.intersection.specs.inner.Blocks.{Lacks, Apart, ApartAt, Passed, Went};
 
 // How many ids a block has.
@@ -128,7 +128,7 @@ fn walk_on(ids: &[u32], others: &[u32], output: &mut [u32], from: Walk) -> Walk
 
 // The ids that another list has too: walked in step, and gone over in blocks wherever a walk stops.
 pub fn walk_long(ids: &[u32], others: &[u32], output: &mut [u32]) -> usize
-    requires { ⌜ Fitting (now ids) (now output) × Searchable (now others) ⌝ }
+    requires { ⌜ Fitting (now ids) (now output) × Searchable (now others) × (alike (length (now ids)) (length (now others)) ≡ true) ⌝ }
     ensures { λ r. ⌜ Wrote (now (output .entry)) (common (now (ids .entry)) (now (others .entry))) r (now (output .exit)) ⌝ }
 {
     let mut walk = Walk { i: 0, o: 0, n: 0 };

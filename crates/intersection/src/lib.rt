@@ -1,6 +1,7 @@
 // `intersect` of offsets/mod.rs, with the Rust's forms and thresholds. Lists of like length are walked in step; else the
 // longer one is searched for the ids of the shorter.
 ghost use mathlib.Core.Path.{_≡_};
+ghost use mathlib.Core.Bool.{true};
 ghost use Prim.Native.Nat.{ℕ, _≤_, min, max};
 ghost use mathlib.Core.List.{List};
 ghost use lib.ListN.{length};
@@ -9,7 +10,7 @@ ghost use Rattle.refusals.specs.Refusals.{accepted};
 ghost use Rattle.offsets.specs.Subsets.{range, list, listOrNothing};
 ghost use Rattle.offsets.specs.Answers.{subsetOf, Answered, roomNeeded, intersectRefusal, intersectReply};
 ghost use Rattle.offsets.specs.inner.Writing.{Wrote};
-ghost use Rattle.intersection.specs.inner.Common.{Fitting, Searchable, common, alike};
+ghost use Rattle.intersection.specs.inner.Common.{Fitting, Searchable, common, alike, BothShort, MuchLonger};
 use offset_search::Scan;
 use offset_search::binary_search_by_id;
 use offset_search::binary_search_from;
@@ -51,7 +52,7 @@ fn keep_within(ids: &[u32], start: u32, end: u32, output: &mut [u32]) -> usize
 // The ids that another list has too, both lists walked in step. The two ids at hand are kept, and each turn reads one: a loop
 // that reads both again takes half as long again wherever it comes to lie badly.
 fn walk_in_step(ids: &[u32], others: &[u32], output: &mut [u32]) -> usize
-    requires { ⌜ Fitting (now ids) (now output) × Searchable (now others) ⌝ }
+    requires { ⌜ Fitting (now ids) (now output) × Searchable (now others) × BothShort (length (now ids)) (length (now others)) ⌝ }
     ensures { λ r. ⌜ Wrote (now (output .entry)) (common (now (ids .entry)) (now (others .entry))) r (now (output .exit)) ⌝ }
 {
     if ids.len() == 0 {
@@ -88,7 +89,7 @@ fn walk_in_step(ids: &[u32], others: &[u32], output: &mut [u32]) -> usize
 
 // The ids that another, longer list has too: that one is searched by strides, each search from where the last one ended.
 fn gallop_along(ids: &[u32], others: &[u32], output: &mut [u32]) -> usize
-    requires { ⌜ Fitting (now ids) (now output) × Searchable (now others) ⌝ }
+    requires { ⌜ Fitting (now ids) (now output) × Searchable (now others) × MuchLonger (length (now ids)) (length (now others)) ⌝ }
     ensures { λ r. ⌜ Wrote (now (output .entry)) (common (now (ids .entry)) (now (others .entry))) r (now (output .exit)) ⌝ }
 {
     let count = ids.len() as u32;
@@ -126,7 +127,7 @@ fn are_alike(a: usize, b: usize) -> bool
 
 // Lists of like length, short or long.
 fn walk_alike(ids: &[u32], others: &[u32], output: &mut [u32]) -> usize
-    requires { ⌜ Fitting (now ids) (now output) × Searchable (now others) ⌝ }
+    requires { ⌜ Fitting (now ids) (now output) × Searchable (now others) × (alike (length (now ids)) (length (now others)) ≡ true) ⌝ }
     ensures { λ r. ⌜ Wrote (now (output .entry)) (common (now (ids .entry)) (now (others .entry))) r (now (output .exit)) ⌝ }
 {
     if ids.len() <= SHORT && others.len() <= SHORT {

@@ -1,7 +1,7 @@
 -- The two ways of `catch_up`: going on after the rows seen, and starting afresh. Assumes nothing.
 use Prim.Native.Nat.{ℕ, _+_, _*_, _/_, _%_, _≤_, _<_}
-use mathlib.Core.Path.{_≡_, _∙_}
-use mathlib.Core.Bool.{true}
+use mathlib.Core.Path.{_≡_, sym, _∙_}
+use mathlib.Core.Bool.{true, false, false≢true}
 use mathlib.Core.List.{List}
 use native.Mathlib.Nat.{zero-mul, div-add-mod'}
 use native.Mathlib.Omega.{arith}
@@ -41,6 +41,9 @@ module _ (h : Header) (rows columns index : List ℕ) where
           written = f .written;
           current = λ i. f .current (listed-of (i u) (usable-is h columns index u));
           past = f .past;
+          entries-kept = λ _. f .same-below;
+          buckets-kept = λ _. f .buckets-are;
+          buckets-afresh = λ stale. absurd (false≢true (sym stale ∙ u));
         }
 
   -- it starts afresh
@@ -51,12 +54,15 @@ module _ (h : Header) (rows columns index : List ℕ) where
         let s = small h (length columns) (l .inside) (l .columns-few) in
         record { lendable = l; enough = omega arith; room = omega arith }
 
-    pub caught-afresh : (index₁ index₂ : List ℕ) → length index₂ ≡ length index → Emptied index (headsAt h columns) (2 * (h .rows * length columns)) index₁
+    pub caught-afresh : usable h columns index ≡ false → (index₁ index₂ : List ℕ) → length index₂ ≡ length index → Emptied index (headsAt h columns) (2 * (h .rows * length columns)) index₁
         → Filled h rows columns (2 * (h .rows * length columns)) 0 index₁ index₂ → CaughtUp h rows columns index index₂
-    caught-afresh index₁ index₂ same e f =
+    caught-afresh stale index₁ index₂ same e f =
         record {
           length-same = same;
           written = f .written;
           current = λ _. f .current (record { each = λ entry k. absurd (let none : entry < 0 = rw zero-mul at k in omega arith) });
           past = f .past ∙ e .past (16 + 3 * (h .capacity * length columns)) (omega (arith, fresh-room .room));
+          entries-kept = λ u. absurd (false≢true (sym stale ∙ u));
+          buckets-kept = λ u. absurd (false≢true (sym stale ∙ u));
+          buckets-afresh = λ _. f .buckets-are;
         }

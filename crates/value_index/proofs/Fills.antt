@@ -23,12 +23,24 @@ unfolding pushed
 pushed-past index head entry n h k =
     drop-set-lt n (set index (16 + entry) (getD index head 0)) head (entry + 1) k ∙ drop-set-lt n index (16 + entry) (getD index head 0) h
 
+pushed-below : (index : List ℕ) (head entry : ℕ) → 16 + entry < head → (e : ℕ) → e < entry → getD (pushed index head entry) (16 + e) 0 ≡ getD index (16 + e) 0
+unfolding pushed
+pushed-below index head entry h e k =
+    getD-set-other (set index (16 + entry) (getD index head 0)) head (16 + e) (entry + 1) 0 (omega arith)
+    ∙ getD-set-other index (16 + entry) (16 + e) (getD index head 0) 0 (omega arith)
+
 pub push-none : {h : Header} {rows columns index : List ℕ} {buckets n : ℕ} → Pushed h rows columns buckets n index n index
-push-none = record { lists = λ l. l; past = refl }
+push-none = record { up = omega arith; lists = λ l. l; same-below = λ entry k. refl; past = refl }
 
 pub push-then : {h : Header} {rows columns index index₁ index₂ : List ℕ} {buckets n n₁ n₂ : ℕ} → Pushed h rows columns buckets n index n₁ index₁
     → Pushed h rows columns buckets n₁ index₁ n₂ index₂ → Pushed h rows columns buckets n index n₂ index₂
-push-then p q = record { lists = λ l. q .lists (p .lists l); past = q .past ∙ p .past }
+push-then p q =
+    record {
+      up = omega (arith, p .up, q .up);
+      lists = λ l. q .lists (p .lists l);
+      same-below = λ entry k. q .same-below entry (omega (arith, k, p .up)) ∙ p .same-below entry k;
+      past = q .past ∙ p .past;
+    }
 
 module _ (h : Header) (rows columns : List ℕ) (buckets : ℕ) where
   -- one more entry stands under its value
@@ -76,6 +88,8 @@ module _ (h : Header) (rows columns : List ℕ) (buckets : ℕ) where
         let e : value ≡ entryValue h rows columns (row * length columns + place) = v ∙ sym value-of in
         let inside : headsAt h columns + bucketOf buckets value < length index₁ = omega arith in
         record {
+          up = omega arith;
+          same-below = λ entry k. rw done (pushed-below index₁ (headsAt h columns + bucketOf buckets value) (row * length columns + place) (omega (arith, a .below)) entry k);
           lists = λ l. rw (done, next, e) (listed-one (row * length columns + place) index₁ (a .below) (rw e at inside) l);
           past = rw done (pushed-past index₁ (headsAt h columns + bucketOf buckets value) (row * length columns + place) (16 + 3 * (h .capacity * length columns)) (omega arith) (omega (arith, f .room)));
         }

@@ -114,5 +114,7 @@ filled h rows columns buckets from index index₁ index₂ f same p e =
     record {
       written = rw e (front-written h columns buckets index₁ long few);
       current = λ l. rw e (front-current h columns buckets index₁ long few rows (f .room) (p .lists l));
+      same-below = λ entry k. rw e (front-after h columns buckets index₁ long few (16 + entry) (omega arith)) ∙ p .same-below entry k;
+      buckets-are = rw e (front-buckets h columns buckets index₁ long few);
       past = rw e (front-past h columns buckets index₁ long few (16 + 3 * (h .capacity * length columns)) (omega arith)) ∙ p .past;
     }

@@ -1,5 +1,5 @@
 -- The contracts of what `intersect` is made of. Assumes nothing.
-use Prim.Native.Nat.{ℕ, _*_, _/_, _≤_}
+use Prim.Native.Nat.{ℕ, _*_, _/_, _≤_, _<_}
 use mathlib.Core.Path.{_≡_}
 use mathlib.Core.Bool.{Bool, true, _&&_, _||_}
 use mathlib.Core.List.{List}
@@ -22,6 +22,16 @@ pub record Searchable (ids : List ℕ) : Type 0 where
 unfoldable pub common : List ℕ → List ℕ → List ℕ
 common ids others = keep (λ id. has id others) ids
 
--- "Lists of like length are walked in step .. on the Rust's thresholds"
+-- ---- which way is taken: by the lengths alone, "on the Rust's thresholds"
+
+-- both lists are short: they are walked in step from end to end
+abbrev pub BothShort : ℕ → ℕ → Type 0
+BothShort a b = (a ≤ 16) × (b ≤ 16)
+
+-- "Lists of like length are walked in step"
 unfoldable pub alike : ℕ → ℕ → Bool
 alike a b = (leb a 16 && leb b 16) || (leb (a / 4) b && leb b (a * 4))
+
+-- "otherwise": the second list is much the longer, and is searched by doubling strides for the ids of the first
+abbrev pub MuchLonger : ℕ → ℕ → Type 0
+MuchLonger a b = (16 < b) × (4 * a < b)

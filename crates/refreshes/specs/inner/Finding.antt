@@ -1,6 +1,6 @@
 -- What the parts of a refresh promise: the rows that mention a value, found by the index store and among the rows behind those that it
 -- has seen, and the index store brought up to the table. Assumes nothing.
-use Prim.Native.Nat.{ℕ, _+_, _*_, _≤_}
+use Prim.Native.Nat.{ℕ, _+_, _*_, _≤_, _<_}
 use mathlib.Core.Path.{_≡_}
 use mathlib.Core.Bool.{Bool, true, false, _&&_}
 use mathlib.Core.List.{List}
@@ -60,3 +60,8 @@ pub record CaughtUp (h : Header) (rows columns index index′ : List ℕ) : Type
   pub written : isNew index′ ≡ false
   pub current : (usable h columns index ≡ true → IndexOf h rows index) → Current h rows columns index′
   pub past : drop (16 + 3 * (h .capacity * length columns)) index′ ≡ drop (16 + 3 * (h .capacity * length columns)) index
+  -- "catches up from the version last seen": in a usable store the entries of the rows seen are as they were, and so is the number of
+  -- buckets. Another is started afresh, with twice as many buckets as there are entries
+  pub entries-kept : usable h columns index ≡ true → (entry : ℕ) → entry < rowsSeen index * length columns → getD index′ (16 + entry) 0 ≡ getD index (16 + entry) 0
+  pub buckets-kept : usable h columns index ≡ true → getD index′ 12 0 ≡ getD index 12 0
+  pub buckets-afresh : usable h columns index ≡ false → getD index′ 12 0 ≡ 2 * (h .rows * length columns)

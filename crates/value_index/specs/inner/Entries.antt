@@ -53,9 +53,11 @@ pub record Fillable (h : Header) (rows columns : List ℕ) (buckets : ℕ) (inde
   pub enough : h .rows * length columns ≤ buckets
   pub room : buckets ≤ 2 * (h .capacity * length columns)
 
--- entries n to n′ are pushed: a store that listed those below n lists those below n′
+-- entries n to n′ are pushed: a store that listed those below n lists those below n′, and their words are as they were
 pub record Pushed (h : Header) (rows columns : List ℕ) (buckets n : ℕ) (index : List ℕ) (n′ : ℕ) (index′ : List ℕ) : Type 0 where
+  pub up : n ≤ n′
   pub lists : Listed h rows columns buckets n index → Listed h rows columns buckets n′ index′
+  pub same-below : (entry : ℕ) → entry < n → getD index′ (16 + entry) 0 ≡ getD index (16 + entry) 0
   pub past : drop (16 + 3 * (h .capacity * length columns)) index′ ≡ drop (16 + 3 * (h .capacity * length columns)) index
 
 -- the words before the entries
@@ -67,6 +69,8 @@ fronted h columns buckets index =
 pub record Filled (h : Header) (rows columns : List ℕ) (buckets from : ℕ) (index index′ : List ℕ) : Type 0 where
   pub written : isNew index′ ≡ false
   pub current : Listed h rows columns buckets (from * length columns) index → Current h rows columns index′
+  pub same-below : (entry : ℕ) → entry < from * length columns → getD index′ (16 + entry) 0 ≡ getD index (16 + entry) 0
+  pub buckets-are : getD index′ 12 0 ≡ buckets
   pub past : drop (16 + 3 * (h .capacity * length columns)) index′ ≡ drop (16 + 3 * (h .capacity * length columns)) index
 
 -- so many buckets are empty
