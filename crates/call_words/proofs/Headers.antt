@@ -9,6 +9,10 @@ use Rattle.table.specs.declared.MergeAnswer.{MergeAnswer}
 use Rattle.table.specs.declared.MergeAnswer.the-variants.{Refused as MergeRefused, Merged}
 use Rattle.table.specs.Numbers.{tableSays, mergeSays}
 use Rattle.table.specs.Promises.{headerAfter, headerMerged}
+use Rattle.refreshes.specs.declared.Refreshed.{Refreshed as RefreshedTable}
+use Rattle.refreshes.specs.declared.RefreshAnswer.{RefreshAnswer}
+use Rattle.refreshes.specs.declared.RefreshAnswer.the-variants.{Refused as RefreshRefused, Refreshed}
+use Rattle.refreshes.specs.Refreshes.{refreshSays, headerRefreshed}
 
 pub after-refused : (h : Header) (answer : TableAnswer) (n : ℕ) → answer ≡ TableRefused n → h ≡ headerAfter h (tableSays answer)
 unfolding headerAfter tableSays
@@ -25,3 +29,11 @@ merge-refused h answer n e = rw e
 pub merge-done : (h : Header) (answer : MergeAnswer) (m : Merge) → answer ≡ Merged m → m .header ≡ headerMerged h (mergeSays answer)
 unfolding headerMerged mergeSays
 merge-done h answer m e = rw e
+
+pub refresh-refused : (h : Header) (answer : RefreshAnswer) (n : ℕ) → answer ≡ RefreshRefused n → h ≡ headerRefreshed h (refreshSays answer)
+unfolding headerRefreshed refreshSays
+refresh-refused h answer n e = rw e
+
+pub refresh-done : (h : Header) (answer : RefreshAnswer) (a : RefreshedTable) → answer ≡ Refreshed a → a .header ≡ headerRefreshed h (refreshSays answer)
+unfolding headerRefreshed refreshSays
+refresh-done h answer a e = rw e

@@ -1,3 +1,4 @@
 -- What follows from the definitions.
 pub mod Encoding
+pub mod Requests
 pub mod Making

@@ -1,4 +1,5 @@
-pub mod Encoding
 pub mod Lending
+pub mod Requests
+pub mod Encoding
 pub mod inner
 pub mod Laws

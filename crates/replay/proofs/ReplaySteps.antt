@@ -1,15 +1,15 @@
--- The turns of a replay: what holds before each call, and that the calls still to come end where all of them do. Assumes
+-- The turns of a replay: what holds before each request, and that the requests still to come end where all of them do. Assumes
 -- nothing.
 use Prim.Native.Nat.{ℕ, _+_, _-_}
 use mathlib.Core.Path.{_≡_, refl, _∙_}
 use mathlib.Core.List.{List}
 use native.Mathlib.Omega.{arith}
-use lib.ListN.{take, drop, getD}
+use lib.ListN.{length, take, drop, getD}
 use Rattle.frames.specs.inner.Lengths.{FrameLength}
 use Rattle.frames.specs.Laws.Frames.{framed-end, framed-next}
 use Rattle.plain.specs.Refusing.{Lengths}
 use Rattle.table.specs.Promises.{Stores, CompactionWords}
-use Rattle.call_words.specs.Encoding.{callOf, decoded}
+use Rattle.call_words.specs.Encoding.{requestOf, decoded}
 use Rattle.call_words.specs.inner.Making.{Made}
 use Rattle.call_words.specs.Laws.Making.{none-made, made-then}
 
@@ -18,30 +18,32 @@ pub lengths-same : {l l′ : Lengths} → l′ .rows ≡ l .rows → l′ .keys 
     → l′ ≡ l
 lengths-same a b c d e f = λ i. record { rows = a i; keys = b i; sorts = c i; pending = d i; liveWords = e i; baseWords = f i }
 
--- before the call at a place, with stores of these lengths
-pub record Going (words : List ℕ) (l l′ : Lengths) (s : Stores) (w : CompactionWords) (s′ : Stores) (w′ : CompactionWords) (at count : ℕ) : Type 0 where
+-- before the request at a place, with stores of these lengths
+pub record Going (words : List ℕ) (l l′ : Lengths) (s : Stores) (w : CompactionWords) (index : List ℕ) (s′ : Stores) (w′ : CompactionWords) (index′ : List ℕ) (at count : ℕ) : Type 0 where
   pub here : FrameLength words at count
   pub same : l′ ≡ l
-  pub rest : (t : Stores) (v : CompactionWords) → Made (decoded (drop at words)) l s′ w′ t v → Made (decoded words) l s w t v
+  pub index-same : length index′ ≡ length index
+  pub rest : (t : Stores) (v : CompactionWords) (i : List ℕ) → Made (decoded (drop at words)) l s′ w′ index′ t v i → Made (decoded words) l s w index t v i
 
-module _ {words : List ℕ} {l : Lengths} {s : Stores} {w : CompactionWords} where
-  pub going-begin : {count : ℕ} → FrameLength words 0 count → Going words l l s w s w 0 count
-  going-begin here = record { here = here; same = refl; rest = λ t v made. made }
+module _ {words : List ℕ} {l : Lengths} {s : Stores} {w : CompactionWords} {index : List ℕ} where
+  pub going-begin : {count : ℕ} → FrameLength words 0 count → Going words l l s w index s w index 0 count
+  going-begin here = record { here = here; same = refl; index-same = refl; rest = λ t v i made. made }
 
-  module _ {l′ : Lengths} {s′ : Stores} {w′ : CompactionWords} {at count : ℕ} (v : Going words l l′ s w s′ w′ at count) where
-    -- one call is made
-    pub going-again : {l″ : Lengths} {s″ : Stores} {w″ : CompactionWords} {next : ℕ} → (count ≡ 0 → ⊥) → l″ ≡ l′
-        → Made (callOf (getD words at 0) (take (at + count - (at + 2)) (drop (at + 2) words))) l′ s′ w′ s″ w″
-        → FrameLength words (at + count) next → Going words l l″ s w s″ w″ (at + count) next
-    going-again {l″} {s″} {w″} some lent one here =
+  module _ {l′ : Lengths} {s′ : Stores} {w′ : CompactionWords} {index′ : List ℕ} {at count : ℕ} (v : Going words l l′ s w index s′ w′ index′ at count) where
+    -- one request is made
+    pub going-again : {l″ : Lengths} {s″ : Stores} {w″ : CompactionWords} {index″ : List ℕ} {next : ℕ} → (count ≡ 0 → ⊥) → l″ ≡ l′ → length index″ ≡ length index′
+        → Made (requestOf (getD words at 0) (take (at + count - (at + 2)) (drop (at + 2) words))) l′ s′ w′ index′ s″ w″ index″
+        → FrameLength words (at + count) next → Going words l l″ s w index s″ w″ index″ (at + count) next
+    going-again {l″} {s″} {w″} {index″} some lent index-lent one here =
         let cells : at + count - (at + 2) ≡ count - 2 = omega arith in
-        let made : Made (callOf (getD words at 0) (take (count - 2) (drop (at + 2) words))) l s′ w′ s″ w″ = rw (v .same, cells) at one in
+        let made : Made (requestOf (getD words at 0) (take (count - 2) (drop (at + 2) words))) l s′ w′ index′ s″ w″ index″ = rw (v .same, cells) at one in
         record {
           here = here;
           same = lent ∙ v .same;
-          rest = λ t u more. v .rest t u (rw (framed-next callOf (v .here) some) (made-then made more));
+          index-same = index-lent ∙ v .index-same;
+          rest = λ t u i more. v .rest t u i (rw (framed-next requestOf (v .here) some) (made-then made more));
         }
 
-    -- no call is left
-    pub going-end : count ≡ 0 → Made (decoded words) l s w s′ w′
-    going-end none = v .rest s′ w′ (none-made l s′ w′ (framed-end callOf (v .here) none))
+    -- no request is left
+    pub going-end : count ≡ 0 → Made (decoded words) l s w index s′ w′ index′
+    going-end none = v .rest s′ w′ index′ (none-made l s′ w′ index′ (framed-end requestOf (v .here) none))

@@ -1,4 +1,4 @@
-// Lists of calls, read from words and made one after another on lent stores, from the opening on: what is claimed of histories
+// Lists of requests, read from words and made one after another on lent stores, from the opening on: what is claimed of histories
 // holds of running code.
 ghost use Rattle.table.specs.Promises.{stores, body, compactionWords, lengths};
 ghost use Rattle.call_words.specs.Encoding.{decoded};
@@ -10,7 +10,7 @@ use opening::open_table;
 use table::Header;
 use table::TableAnswer;
 
-// All calls, in order; a refused one leaves all as it is.
+// All requests, in order; a refused one leaves all as it is.
 fn make_calls(
     h: Header,
     calls: &[u32],
@@ -20,8 +20,9 @@ fn make_calls(
     pending: &mut [u32],
     live: &mut [u64],
     base: &mut [u32],
+    index: &mut [u32],
 ) -> Header
-    ensures { λ r. ⌜ Made (decoded (now (calls .entry))) (lengths (now (rows .entry)) (now (keys .entry)) (now (sorts .entry)) (now (pending .entry)) (now (live .entry)) (now (base .entry))) (stores h (now (rows .entry)) (now (keys .entry)) (now (sorts .entry)) (now (pending .entry))) (compactionWords (now (live .entry)) (now (base .entry))) (stores r (now (rows .exit)) (now (keys .exit)) (now (sorts .exit)) (now (pending .exit))) (compactionWords (now (live .exit)) (now (base .exit))) ⌝ }
+    ensures { λ r. ⌜ Made (decoded (now (calls .entry))) (lengths (now (rows .entry)) (now (keys .entry)) (now (sorts .entry)) (now (pending .entry)) (now (live .entry)) (now (base .entry))) (stores h (now (rows .entry)) (now (keys .entry)) (now (sorts .entry)) (now (pending .entry))) (compactionWords (now (live .entry)) (now (base .entry))) (now (index .entry)) (stores r (now (rows .exit)) (now (keys .exit)) (now (sorts .exit)) (now (pending .exit))) (compactionWords (now (live .exit)) (now (base .exit))) (now (index .exit)) ⌝ }
 {
     let mut n = h;
     let mut at: usize = 0;
@@ -37,6 +38,7 @@ fn make_calls(
             pending,
             live,
             base,
+            index,
         );
         at += words;
         words = frame_length(calls, at);
@@ -44,7 +46,7 @@ fn make_calls(
     n
 }
 
-// Opens a table and makes all calls on it.
+// Opens a table and makes all requests on it. Each refresh among them is lent the index store.
 pub fn replay(
     columns: u32,
     key_columns: u32,
@@ -59,8 +61,9 @@ pub fn replay(
     pending: &mut [u32],
     live: &mut [u64],
     base: &mut [u32],
+    index: &mut [u32],
 ) -> TableAnswer
-    ensures { λ r. ⌜ Replayed (record { columns = columns; keys = «key_columns»; sort = sort; rule = rule; capacity = capacity }) generation (decoded (now (calls .entry))) (body (now (rows .entry)) (now (keys .entry)) (now (sorts .entry))) (now (pending .entry)) (compactionWords (now (live .entry)) (now (base .entry))) r (body (now (rows .exit)) (now (keys .exit)) (now (sorts .exit))) (now (pending .exit)) (compactionWords (now (live .exit)) (now (base .exit))) ⌝ }
+    ensures { λ r. ⌜ Replayed (record { columns = columns; keys = «key_columns»; sort = sort; rule = rule; capacity = capacity }) generation (decoded (now (calls .entry))) (body (now (rows .entry)) (now (keys .entry)) (now (sorts .entry))) (now (pending .entry)) (compactionWords (now (live .entry)) (now (base .entry))) (now (index .entry)) r (body (now (rows .exit)) (now (keys .exit)) (now (sorts .exit))) (now (pending .exit)) (compactionWords (now (live .exit)) (now (base .exit))) (now (index .exit)) ⌝ }
 {
     let opened = open_table(
         columns,
@@ -77,7 +80,7 @@ pub fn replay(
     match opened {
         TableAnswer::Refused(n) => TableAnswer::Refused(n),
         TableAnswer::Table(h) => {
-            let n = make_calls(h, calls, rows, keys, sorts, pending, live, base);
+            let n = make_calls(h, calls, rows, keys, sorts, pending, live, base, index);
             TableAnswer::Table(n)
         }
     }

@@ -1,17 +1,22 @@
--- The promise of `replay` determines the outcome but for the program's choices: of a table, the key store's slots below 2 × capacity,
--- and, after a compaction, the compaction words needed. Assumes nothing.
+-- The promise of `replay` determines the outcome over a new index store, and over any where no refresh is requested, but for the
+-- program's choices: of a table, the key store's slots below 2 × capacity, after a compaction the compaction words needed, and after a
+-- refresh the index words needed. Over another index store, which of the rows that mention a value are staged is left open too. Assumes
+-- nothing.
 use Prim.Native.Nat.{ℕ, _<_}
 use mathlib.Core.Path.{_≡_, refl, sym, ap, _∙_}
-use mathlib.Core.Logic.{inl, inr}
-use mathlib.Core.List.{List, []}
+use mathlib.Core.Logic.{_⊎_, inl, inr}
+use mathlib.Core.Bool.{true, false}
+use mathlib.Core.List.{List, [], map}
 use native.Mathlib.Omega.{arith}
+use lib.ListN.{length}
+use Rattle.lists.specs.Lists.{any}
 use Rattle.refusals.specs.Refusals.{accepted, reply, verdict}
 use Rattle.refusals.specs.Laws.Replies.{some-number}
 use Rattle.refusals.specs.Laws.Determined.{refused-same}
 use Rattle.plain.specs.Staged.{Opening}
 use Rattle.plain.specs.Refusing.{openRefusal}
 use Rattle.plain.specs.Plain.{opened}
-use Rattle.plain.specs.Calls.{Call, afterAll}
+use Rattle.plain.specs.Calls.{LentCall, afterAll}
 use Rattle.table.specs.declared.Header.{Header}
 use Rattle.table.specs.declared.TableAnswer.{TableAnswer}
 use Rattle.table.specs.declared.TableAnswer.the-variants.{Refused, Table}
@@ -19,9 +24,14 @@ use Rattle.table.specs.Numbers.{tableSays}
 use Rattle.table.specs.Promises.{Stores, Body, stores, joined, CompactionWords, lengths, Represents, SlotsPast, WordsPast}
 use Rattle.table.specs.Laws.Answers.{table-said}
 use Rattle.table.specs.Laws.Keeps.{opening-done}
+use Rattle.refreshes.specs.Index.{isNew, IndexSound}
+use Rattle.history.specs.Histories.{Steps}
 use Rattle.history.specs.Laws.Calls.{steps-represents}
 use Rattle.history.specs.Laws.Determined.{SameCells, steps-determined}
+use Rattle.call_words.specs.Requests.{Request, isRefresh, requested, IndexPast}
+use Rattle.call_words.specs.Laws.Requests.{served-steps}
 use Rattle.replay.specs.Replays.{callsLent, MadeFrom, Replayed}
+use Rattle.replay.specs.Laws.Theorem.{replay-requested, replay-index}
 
 -- what a replay leaves
 pub record ReplayLeft : Type 0 where
@@ -29,10 +39,18 @@ pub record ReplayLeft : Type 0 where
   pub body : Body
   pub pending : List ℕ
   pub words : CompactionWords
+  pub index : List ℕ
 
-module _ (o : Opening) (generation : ℕ) (calls : List Call) (b : Body) (pending : List ℕ) (w : CompactionWords) where
+module _ (o : Opening) (generation : ℕ) (requests : List Request) (b : Body) (pending : List ℕ) (w : CompactionWords) (index : List ℕ) where
   abbrev ReplayedTo : ReplayLeft → Type 0
-  ReplayedTo x = Replayed o generation calls b pending w (x .answer) (x .body) (x .pending) (x .words)
+  ReplayedTo x = Replayed o generation requests b pending w index (x .answer) (x .body) (x .pending) (x .words) (x .index)
+
+  abbrev Sound : Type 0
+  Sound = (isNew index ≡ true) ⊎ (any isRefresh requests ≡ false)
+
+  -- the calls requested
+  abbrev requestedCalls : List LentCall
+  requestedCalls = callsLent (map (requested (length index)) requests) b pending w
 
   pub record SameReplay (x y : ReplayLeft) : Type 0 where
     pub answer : x .answer ≡ y .answer
@@ -44,12 +62,18 @@ module _ (o : Opening) (generation : ℕ) (calls : List Call) (b : Body) (pendin
     pub keys-refused : 0 < openRefusal o (lengths (b .rows) (b .keys) (b .sorts) pending [] []) → x .body .keys ≡ y .body .keys
     pub slots-past : SlotsPast (o .capacity) (x .body .keys) (y .body .keys)
     pub represent : (h : Header) → tableSays (x .answer) ≡ accepted h
-        → Represents (afterAll (opened o generation) (callsLent calls b pending w)) (joined h (x .body) (x .pending))
-        × Represents (afterAll (opened o generation) (callsLent calls b pending w)) (joined h (y .body) (y .pending))
+        → Represents (afterAll (opened o generation) requestedCalls) (joined h (x .body) (x .pending))
+        × Represents (afterAll (opened o generation) requestedCalls) (joined h (y .body) (y .pending))
     -- of the compaction words: all, where nothing was compacted; else those that are never written
     pub words-past : WordsPast (o .capacity) (x .words) (y .words)
     pub words-refused : 0 < openRefusal o (lengths (b .rows) (b .keys) (b .sorts) pending [] []) → x .words ≡ y .words
     pub words-kept : (h : Header) → tableSays (x .answer) ≡ accepted h → h .generation ≡ generation → x .words ≡ y .words
+    -- of the index store: all, where no refresh is requested; else words that are never written, and one that was new is sound
+    pub index-past : IndexPast (o .capacity) (x .index) (y .index)
+    pub index-refused : 0 < openRefusal o (lengths (b .rows) (b .keys) (b .sorts) pending [] []) → x .index ≡ y .index
+    pub index-kept : any isRefresh requests ≡ false → x .index ≡ y .index
+    pub index-sound : (h : Header) → tableSays (x .answer) ≡ accepted h → isNew index ≡ true → (columns : List ℕ)
+        → IndexSound h (x .body .rows) columns (x .index) × IndexSound h (y .body .rows) columns (y .index)
 
   -- the header of an accepted answer
   said-accepted : (answer : TableAnswer) → verdict (tableSays answer) ≡ accepted tt → (h : Header) × (tableSays answer ≡ accepted h)
@@ -57,39 +81,47 @@ module _ (o : Opening) (generation : ℕ) (calls : List Call) (b : Body) (pendin
   said-accepted (Refused n) e = absurd (let z : _≡_ {A = ℕ} 0 1 = cc in omega arith)
   said-accepted (Table h) e = (h, refl)
 
-  -- the table that the calls start on, and the one that they leave
-  module _ {s : Stores} (m : MadeFrom o generation calls b pending w s) where
+  -- the table that the requests start on, and the one that they leave
+  module _ {s : Stores} {index′ : List ℕ} (m : MadeFrom o generation requests b pending w index s index′) where
     starts : Represents (opened o generation) (stores (m .header) (b .rows) (m .keys) (b .sorts) pending)
     unfolding tableSays
     starts = opening-done (m .opened) (m .header) refl
 
-    ends : Represents (afterAll (opened o generation) (callsLent calls b pending w)) s
-    ends = steps-represents starts (m .steps)
+    steps : Sound → Steps (stores (m .header) (b .rows) (m .keys) (b .sorts) pending) requestedCalls s
+    steps sound = rw (replay-requested m sound) at (served-steps (m .served))
 
-  made-same : {s t : Stores} → MadeFrom o generation calls b pending w s → MadeFrom o generation calls b pending w t → SameCells s t
-  made-same x y =
+    ends : Sound → Represents (afterAll (opened o generation) requestedCalls) s
+    ends sound = steps-represents starts (steps sound)
+
+  made-same : {s t : Stores} {i j : List ℕ} → Sound → MadeFrom o generation requests b pending w index s i → MadeFrom o generation requests b pending w index t j → SameCells s t
+  made-same sound x y =
       steps-determined (starts x) (starts y)
       (record { header = starts x .shown .header ∙ sym (starts y .shown .header); rows = refl; sorts = refl; pending = refl })
-      (x .steps) (y .steps)
+      (steps x sound) (steps y sound)
 
-  module _ (x y : ReplayLeft) (u : ReplayedTo x) (v : ReplayedTo y) where
+  module _ (sound : Sound) (x y : ReplayLeft) (u : ReplayedTo x) (v : ReplayedTo y) where
     refused-replay : 0 < openRefusal o (lengths (b .rows) (b .keys) (b .sorts) pending [] []) → SameReplay x y
     refused-replay some =
         let e = u .unchanged some in
         let f = v .unchanged some in
         let bodies : x .body ≡ y .body = e .0 ∙ sym (f .0) in
         let words : x .words ≡ y .words = e .2 ∙ sym (f .2) in
+        let answers : x .answer ≡ y .answer = refused-same table-said (u .refusal) (v .refusal) some in
         record {
-          answer = refused-same table-said (u .refusal) (v .refusal) some;
+          answer = answers;
           rows = ap (λ (z : Body). z .rows) bodies;
           sorts = ap (λ (z : Body). z .sorts) bodies;
           pending-same = e .1 ∙ sym (f .1);
           keys-refused = λ k. ap (λ (z : Body). z .keys) bodies;
           slots-past = v .slots-past ∙ sym (u .slots-past);
-          represent = λ h said. (ends (u .calls-made h said), ends (v .calls-made h (ap tableSays (sym (refused-same table-said (u .refusal) (v .refusal) some)) ∙ said)));
+          represent = λ h said. (ends (u .calls-made h said) sound, ends (v .calls-made h (ap tableSays (sym answers) ∙ said)) sound);
           words-past = (v .words-past .0 ∙ sym (u .words-past .0), v .words-past .1 ∙ sym (u .words-past .1));
           words-refused = λ k. words;
           words-kept = λ h said same. words;
+          index-past = v .index-past ∙ sym (u .index-past);
+          index-refused = λ k. e .3 ∙ sym (f .3);
+          index-kept = λ none. e .3 ∙ sym (f .3);
+          index-sound = λ h said new columns. (replay-index (u .calls-made h said) new columns, replay-index (v .calls-made h (ap tableSays (sym answers) ∙ said)) new columns);
         }
 
     made-replay : openRefusal o (lengths (b .rows) (b .keys) (b .sorts) pending [] []) ≡ 0 → SameReplay x y
@@ -97,7 +129,7 @@ module _ (o : Opening) (generation : ℕ) (calls : List Call) (b : Body) (pendin
     made-replay none =
         let g = said-accepted (x .answer) (rw none at (u .refusal)) in
         let k = said-accepted (y .answer) (rw none at (v .refusal)) in
-        let same = made-same (u .calls-made (g .0) (g .1)) (v .calls-made (k .0) (k .1)) in
+        let same = made-same sound (u .calls-made (g .0) (g .1)) (v .calls-made (k .0) (k .1)) in
         let answers : tableSays (x .answer) ≡ tableSays (y .answer) = g .1 ∙ ap (λ (h : Header). accepted h) (same .header) ∙ sym (k .1) in
         record {
           answer = table-said (x .answer) (y .answer) answers;
@@ -106,10 +138,14 @@ module _ (o : Opening) (generation : ℕ) (calls : List Call) (b : Body) (pendin
           pending-same = same .pending;
           keys-refused = λ some. absurd (omega arith);
           slots-past = v .slots-past ∙ sym (u .slots-past);
-          represent = λ h said. (ends (u .calls-made h said), ends (v .calls-made h (sym answers ∙ said)));
+          represent = λ h said. (ends (u .calls-made h said) sound, ends (v .calls-made h (sym answers ∙ said)) sound);
           words-past = (v .words-past .0 ∙ sym (u .words-past .0), v .words-past .1 ∙ sym (u .words-past .1));
           words-refused = λ some. absurd (omega arith);
           words-kept = λ h said kept. u .words-kept h said kept ∙ sym (v .words-kept h (sym answers ∙ said) kept);
+          index-past = v .index-past ∙ sym (u .index-past);
+          index-refused = λ some. absurd (omega arith);
+          index-kept = λ none. u .index-kept none ∙ sym (v .index-kept none);
+          index-sound = λ h said new columns. (replay-index (u .calls-made h said) new columns, replay-index (v .calls-made h (sym answers ∙ said)) new columns);
         }
 
     pub replayed-determined : SameReplay x y

@@ -1,30 +1,67 @@
--- An opening and the calls behind it are a history, so that term 3 of the order holds of the stores that they leave. Assumes
+-- An opening and the requests behind it are a history, so that term 3 of the order holds of the stores that they leave. Assumes
 -- nothing.
 use Prim.Native.Nat.{ℕ, zero, suc, _<_}
 use mathlib.Core.Path.{_≡_, refl, sym, ap, _∙_}
-use mathlib.Core.List.{List, []}
+use mathlib.Core.Logic.{_⊎_, inl, inr}
+use mathlib.Core.Bool.{true, false}
+use mathlib.Core.List.{List, [], map}
 use native.Mathlib.Omega.{arith}
 use lib.ListN.{length}
+use Rattle.lists.specs.Lists.{any}
 use Rattle.refusals.specs.Refusals.{Reply, refused, reply, verdict}
 use Rattle.plain.specs.Staged.{Opening}
 use Rattle.plain.specs.Refusing.{openRefusal}
 use Rattle.plain.specs.Plain.{opened}
-use Rattle.plain.specs.Calls.{Call, afterAll}
+use Rattle.plain.specs.Calls.{afterAll}
 use Rattle.table.specs.declared.Header.{Header}
 use Rattle.table.specs.declared.TableAnswer.{TableAnswer}
 use Rattle.table.specs.declared.TableAnswer.the-variants.{Refused, Table}
 use Rattle.table.specs.Numbers.{tableSays}
 use Rattle.table.specs.Stores.{headerOf}
-use Rattle.table.specs.Promises.{Body, body, stores, joined, CompactionWords, lengths, Represents, SlotsPast, Opened}
+use Rattle.table.specs.Promises.{Stores, Body, body, stores, joined, CompactionWords, lengths, Represents, SlotsPast, Opened}
 use Rattle.table.specs.Laws.Replies.{accepted-number}
-use Rattle.history.specs.Histories.{History}
 use Rattle.table.specs.Laws.Keeps.{opening-done}
+use Rattle.refreshes.specs.Index.{isNew, IndexSound}
+use Rattle.history.specs.Histories.{end, History}
+use Rattle.history.specs.Claim.{Claimed}
 use Rattle.history.specs.Laws.Calls.{steps-represents}
 use Rattle.history.specs.Laws.Further.{history-whole}
 use Rattle.history.specs.Laws.Theorem.{term-three}
 use Rattle.call_words.specs.Lending.{lentAll}
+use Rattle.call_words.specs.Requests.{Request, isRefresh, requested}
 use Rattle.call_words.specs.inner.Making.{Made}
-use Rattle.replay.specs.Replays.{MadeFrom, Replayed}
+use Rattle.call_words.specs.Laws.Requests.{served-steps, index-unused, index-past, calls-requested, calls-plain, index-sound}
+use Rattle.replay.specs.Replays.{callsLent, MadeFrom, Replayed}
+
+-- ---- the claim
+
+module _ {o : Opening} {generation : ℕ} {requests : List Request} {b : Body} {pending : List ℕ} {w : CompactionWords} {index : List ℕ} {s : Stores} {index′ : List ℕ}
+    (m : MadeFrom o generation requests b pending w index s index′) where
+  -- what was opened, and what was made of it
+  opened-history : History o generation [] (stores (m .header) (b .rows) (m .keys) (b .sorts) pending)
+  opened-history = history-whole (b .keys) (m .opened) (end _)
+
+  pub made-history : History o generation (callsLent (m .calls) b pending w) s
+  made-history = history-whole (b .keys) (m .opened) (served-steps (m .served))
+
+  -- "the live rows, numbers and cells, are those of document 01's plain table after the same calls", and the ids left by questions
+  pub replay-claimed : Claimed o generation (callsLent (m .calls) b pending w) s
+  replay-claimed = term-three _ _ _ _ made-history
+
+  -- over an index store that is new, and where no refresh is requested, the calls are those requested: each refresh stages the plain
+  -- table's own records
+  pub replay-requested : (isNew index ≡ true) ⊎ (any isRefresh requests ≡ false) → m .calls ≡ map (requested (length index)) requests
+  replay-requested (inl new) = calls-requested opened-history new (m .served)
+  replay-requested (inr none) = calls-plain (length index) (m .served) none
+
+  pub requested-claimed : (isNew index ≡ true) ⊎ (any isRefresh requests ≡ false) → Claimed o generation (callsLent (map (requested (length index)) requests) b pending w) s
+  requested-claimed sound = rw (replay-requested sound) at replay-claimed
+
+  -- one that was new is sound afterwards, for a refresh by any columns
+  pub replay-index : isNew index ≡ true → (columns : List ℕ) → IndexSound (s .header) (s .rows) columns index′
+  replay-index new = index-sound opened-history new (m .served)
+
+-- ---- what an opening and the requests leave
 
 -- a refused reply was turned away, by its number
 refused-number : {A : Type 0} (n m : ℕ) (a : A) → refused m ≡ reply n a → (0 < n) × (_≡_ {A = Reply (Unit {0})} (refused m) (reply n tt))
@@ -32,22 +69,23 @@ unfolding reply
 refused-number zero m a e = absurd (let z : _≡_ {A = ℕ} 0 1 = cc in omega arith)
 refused-number (suc n) m a e = (omega arith, let same : m ≡ suc n = cc in rw same)
 
-module _ {o : Opening} {generation : ℕ} {b : Body} {pending keys′ : List ℕ} {answer : TableAnswer} (calls : List Call) (w : CompactionWords) (m : Opened o generation b pending answer keys′) where
+module _ {o : Opening} {generation : ℕ} {b : Body} {pending keys′ : List ℕ} {answer : TableAnswer} (requests : List Request) (w : CompactionWords) (index : List ℕ) (m : Opened o generation b pending answer keys′) where
   -- a refused opening
   pub replay-refused : (n : ℕ) → answer ≡ Refused n
-      → Replayed o generation calls b pending w (Refused n) (body (b .rows) keys′ (b .sorts)) pending w
+      → Replayed o generation requests b pending w index (Refused n) (body (b .rows) keys′ (b .sorts)) pending w index
   unfolding tableSays verdict
   replay-refused n e =
       let k : ℕ = openRefusal o (lengths (b .rows) (b .keys) (b .sorts) pending [] []) in
       let says = refused-number k n (headerOf (opened o generation)) (rw (ap tableSays e) at (m .answers)) in
       record {
         refusal = says .1;
-        unchanged = λ some. (rw (m .unchanged some), refl, refl);
+        unchanged = λ some. (rw (m .unchanged some), refl, refl, refl);
         calls-made = λ h said. absurd (let z : _≡_ {A = ℕ} 0 1 = cc in omega arith);
-        claimed = λ h said. absurd (let z : _≡_ {A = ℕ} 0 1 = cc in omega arith);
         slots-past = m .past;
         words-past = (refl, refl);
         words-kept = λ h said same. refl;
+        index-past = refl;
+        index-kept = λ none. refl;
       }
 
   -- the table that an accepted one leaves
@@ -55,26 +93,25 @@ module _ {o : Opening} {generation : ℕ} {b : Body} {pending keys′ : List ℕ
   unfolding tableSays
   opened-shows h e = opening-done (rw e at m) h refl
 
-  -- an accepted one, and the calls
-  pub replay-made : (h h′ : Header) (b′ : Body) (pending′ : List ℕ) (w′ : CompactionWords) → answer ≡ Table h → length keys′ ≡ length (b .keys)
-      → Made calls (lengths (b .rows) keys′ (b .sorts) pending (w .live) (w .base)) (stores h (b .rows) keys′ (b .sorts) pending) w (joined h′ b′ pending′) w′
-      → Replayed o generation calls b pending w (Table h′) b′ pending′ w′
+  -- an accepted one, and the requests
+  pub replay-made : (h h′ : Header) (b′ : Body) (pending′ : List ℕ) (w′ : CompactionWords) (index′ : List ℕ) → answer ≡ Table h → length keys′ ≡ length (b .keys)
+      → Made requests (lengths (b .rows) keys′ (b .sorts) pending (w .live) (w .base)) (stores h (b .rows) keys′ (b .sorts) pending) w index (joined h′ b′ pending′) w′ index′
+      → Replayed o generation requests b pending w index (Table h′) b′ pending′ w′ index′
   unfolding tableSays verdict reply opened
-  replay-made h h′ b′ pending′ w′ e same made =
+  replay-made h h′ b′ pending′ w′ index′ e same made =
       let none = accepted-number (openRefusal o (lengths (b .rows) (b .keys) (b .sorts) pending [] [])) h (headerOf (opened o generation)) (rw (ap tableSays e) at (m .answers)) in
-      let whole : History o generation (lentAll (lengths (b .rows) (b .keys) (b .sorts) pending (w .live) (w .base)) calls) (joined h′ b′ pending′) =
-      history-whole (b .keys) (rw e at m) (rw same at (made .steps)) in
-      let from : MadeFrom o generation calls b pending w (joined h′ b′ pending′) = record { header = h; keys = keys′; opened = rw e at m; steps = rw same at (made .steps) } in
+      let from : MadeFrom o generation requests b pending w index (joined h′ b′ pending′) index′ = record { header = h; keys = keys′; opened = rw e at m; calls = made .calls; served = rw same at (made .served) } in
       let shown = opened-shows h e in
-      let last : h′ .generation ≡ afterAll (opened o generation) (lentAll (lengths (b .rows) keys′ (b .sorts) pending (w .live) (w .base)) calls) .generation =
-      ap (λ (x : Header). x .generation) (steps-represents shown (made .steps) .shown .header) in
+      let last : h′ .generation ≡ afterAll (opened o generation) (lentAll (lengths (b .rows) keys′ (b .sorts) pending (w .live) (w .base)) (made .calls)) .generation =
+      ap (λ (x : Header). x .generation) (steps-represents shown (served-steps (made .served)) .shown .header) in
       let past : SlotsPast (o .capacity) keys′ (b′ .keys) = made .slots-past (opened o generation) shown in
       record {
         refusal = rw none;
         unchanged = λ some. absurd (omega arith);
         calls-made = λ g said. let is : h′ ≡ g = cc in rw (← is) from;
-        claimed = λ g said. let is : h′ ≡ g = cc in rw (← is) (term-three _ _ _ _ whole);
         slots-past = past ∙ m .past;
         words-past = made .words-past (opened o generation) shown;
         words-kept = λ g said e. let is : h′ ≡ g = cc in made .words-kept (opened o generation) shown (sym last ∙ ap (λ (x : Header). x .generation) is ∙ e);
+        index-past = index-past shown (made .served);
+        index-kept = index-unused (made .served);
       }
