@@ -20,7 +20,8 @@ use question_words::RunAnswer;
 // The largest count of queries that fits a word; a larger count is stored as this one.
 const MOST_TAKEN: usize = 4294967295;
 
-// Opens a table and makes the calls, in order. The opening is six words: columns, keys, sort, rule, capacity, generation.
+// Opens a table and makes the calls, in order, refreshes over the index store among them. The opening is six words: columns, keys,
+// sort, rule, capacity, generation.
 #[no_mangle]
 pub extern "C" fn mouldgrey_replay(
     opening: &[u32; 6],
@@ -32,8 +33,9 @@ pub extern "C" fn mouldgrey_replay(
     pending: &mut [u32],
     live: &mut [u64],
     base: &mut [u32],
+    index: &mut [u32],
 ) -> u32
-    ensures { λ r. ⌜ Answers (λ answer. Replayed (decodeOpening (now (opening .entry))) (openingGeneration (now (opening .entry))) (decoded (now (calls .entry))) (body (now (rows .entry)) (now (keys .entry)) (now (sorts .entry))) (now (pending .entry)) (compactionWords (now (live .entry)) (now (base .entry))) answer (body (now (rows .exit)) (now (keys .exit)) (now (sorts .exit))) (now (pending .exit)) (compactionWords (now (live .exit)) (now (base .exit)))) tableSays encodeHeader (now (header .entry)) r (now (header .exit)) ⌝ }
+    ensures { λ r. ⌜ Answers (λ answer. Replayed (decodeOpening (now (opening .entry))) (openingGeneration (now (opening .entry))) (decoded (now (calls .entry))) (body (now (rows .entry)) (now (keys .entry)) (now (sorts .entry))) (now (pending .entry)) (compactionWords (now (live .entry)) (now (base .entry))) (now (index .entry)) answer (body (now (rows .exit)) (now (keys .exit)) (now (sorts .exit))) (now (pending .exit)) (compactionWords (now (live .exit)) (now (base .exit))) (now (index .exit))) tableSays encodeHeader (now (header .entry)) r (now (header .exit)) ⌝ }
 {
     let answer = replay::replay(
         opening[0],
@@ -49,6 +51,7 @@ pub extern "C" fn mouldgrey_replay(
         pending,
         live,
         base,
+        index,
     );
     store_table(answer, header)
 }

@@ -1,15 +1,20 @@
 -- The contract of each C function determines what it returns, what it stores and the lent cells as far as the law of the library
 -- determines its answer and those cells. Assumes nothing.
 use Prim.Native.Nat.{ℕ}
+use mathlib.Core.Path.{_≡_}
+use mathlib.Core.Bool.{true, false}
+use mathlib.Core.Logic.{_⊎_}
 use mathlib.Core.List.{List}
+use Rattle.lists.specs.Lists.{any}
 use Rattle.offsets.specs.Subsets.{Subset}
-use Rattle.plain.specs.Calls.{Call}
 use Rattle.table.specs.declared.Header.{Header}
 use Rattle.table.specs.declared.TableAnswer.{TableAnswer}
 use Rattle.table.specs.Numbers.{tableSays}
 use Rattle.table.specs.Promises.{Body, CompactionWords}
 use Rattle.history.specs.Runs.{Question}
 use Rattle.question_words.specs.declared.RunAnswer.{RunAnswer}
+use Rattle.refreshes.specs.Index.{isNew}
+use Rattle.call_words.specs.Requests.{Request, isRefresh}
 use Rattle.replay.specs.Replays.{Replayed}
 use Rattle.replay.specs.Laws.Determined.{ReplayLeft, SameReplay, replayed-determined}
 use Rattle.runs.specs.Asking.{RunMade}
@@ -18,21 +23,23 @@ use Rattle.abi.specs.Encoding.{decodeOpening, openingGeneration, encodeHeader, 
 use Rattle.abi.specs.Laws.Determined.{SameOutcome, answers-determined}
 use Rattle.abi_replay.specs.Encoding.{runSays, encodeRun}
 
-abbrev replayLeft : TableAnswer → Body → List ℕ → CompactionWords → ReplayLeft
-replayLeft answer b pending w = record { answer = answer; body = b; pending = pending; words = w }
+abbrev replayLeft : TableAnswer → Body → List ℕ → CompactionWords → List ℕ → ReplayLeft
+replayLeft answer b pending w index = record { answer = answer; body = b; pending = pending; words = w; index = index }
 
 abbrev runLeft : RunAnswer → List ℕ → List ℕ → RunLeft
 runLeft answer first second = record { answer = answer; first = first; second = second }
 
-module _ (opening : List ℕ) (calls : List Call) (b : Body) (pending : List ℕ) (w : CompactionWords) where
-  abbrev Replays : List ℕ → ℕ → List ℕ → Body → List ℕ → CompactionWords → Type 0
-  Replays header r header′ b′ pending′ w′ =
-      Answers (λ a. Replayed (decodeOpening opening) (openingGeneration opening) calls b pending w a b′ pending′ w′) tableSays encodeHeader header r header′
+module _ (opening : List ℕ) (requests : List Request) (b : Body) (pending : List ℕ) (w : CompactionWords) (index : List ℕ) where
+  abbrev Replays : List ℕ → ℕ → List ℕ → Body → List ℕ → CompactionWords → List ℕ → Type 0
+  Replays header r header′ b′ pending′ w′ index′ =
+      Answers (λ a. Replayed (decodeOpening opening) (openingGeneration opening) requests b pending w index a b′ pending′ w′ index′) tableSays encodeHeader header r header′
 
-  pub replay-determined : {header header₁ header₂ : List ℕ} {r₁ r₂ : ℕ} (b₁ b₂ : Body) (pending₁ pending₂ : List ℕ) (w₁ w₂ : CompactionWords) → Replays header r₁ header₁ b₁ pending₁ w₁ → Replays header r₂ header₂ b₂ pending₂ w₂
-      → SameOutcome tableSays (λ x y. SameReplay (decodeOpening opening) (openingGeneration opening) calls b pending w (replayLeft x b₁ pending₁ w₁) (replayLeft y b₂ pending₂ w₂)) r₁ r₂ header₁ header₂
-  replay-determined b₁ b₂ pending₁ pending₂ w₁ w₂ =
-      answers-determined (λ x y u v. replayed-determined (decodeOpening opening) (openingGeneration opening) calls b pending w (replayLeft x b₁ pending₁ w₁) (replayLeft y b₂ pending₂ w₂) u v)
+  -- over a new index store, or without refreshes
+  pub replay-determined : (isNew index ≡ true) ⊎ (any isRefresh requests ≡ false) → {header header₁ header₂ : List ℕ} {r₁ r₂ : ℕ} (b₁ b₂ : Body) (pending₁ pending₂ : List ℕ) (w₁ w₂ : CompactionWords) (index₁ index₂ : List ℕ)
+      → Replays header r₁ header₁ b₁ pending₁ w₁ index₁ → Replays header r₂ header₂ b₂ pending₂ w₂ index₂
+      → SameOutcome tableSays (λ x y. SameReplay (decodeOpening opening) (openingGeneration opening) requests b pending w index (replayLeft x b₁ pending₁ w₁ index₁) (replayLeft y b₂ pending₂ w₂ index₂)) r₁ r₂ header₁ header₂
+  replay-determined sound b₁ b₂ pending₁ pending₂ w₁ w₂ index₁ index₂ =
+      answers-determined (λ x y u v. replayed-determined (decodeOpening opening) (openingGeneration opening) requests b pending w index sound (replayLeft x b₁ pending₁ w₁ index₁) (replayLeft y b₂ pending₂ w₂ index₂) u v)
 
 module _ (h : Header) (rows sorts : List ℕ) (start : Subset) (ids : List ℕ) (questions : List Question) (first second : List ℕ) where
   abbrev Runs : List ℕ → ℕ → List ℕ → List ℕ → List ℕ → Type 0
