@@ -1,14 +1,16 @@
 //! The two lists of the order's term 3, each made by one call of the proved library, beside the plain table: an opening with the
-//! calls of a history, all lent the same stores; and, on the table so made, runs of questions. The ids left are compared with
+//! calls of a history, all lent the same stores, refreshes one index store, new at first; and, on the table so made, runs of questions. The ids left are compared with
 //! what the plain table leaves question by question, and, once something refined, with the order's own sentence.
 
 use crate::generate::{ANY, history};
 use crate::history::Act;
-use calls::{Answer, Call, Condition, Contents, Judge, Lengths, Opening, Question, Subset};
+use calls::{
+    Answer, Call, Condition, Contents, Judge, Lengths, Opening, Question, Refresh, Subset,
+};
 use chance::Rng;
 use mouldgrey::lent::LeftIn;
 use mouldgrey::{Header, lent};
-use plain::Plain;
+use plain::{Plain, index_words};
 
 const GATE_COUNT: u64 = 20_000;
 const GATE_SEED: u64 = 20_260_903;
@@ -38,6 +40,8 @@ struct Seen {
     openings_refused: u64,
     calls_refused: u64,
     merges_stopped: u64,
+    /// Refused, answered no, answered yes.
+    refreshes: [u64; 3],
     runs: u64,
     questions: [u64; KINDS],
     questions_refused: [u64; KINDS],
@@ -81,8 +85,7 @@ fn lists(seed: u64) -> Vec<List> {
                 lent: step.lent,
                 calls: Vec::new(),
             }),
-            // A refresh is lent a store that a list of calls has none of.
-            Act::Call(Call::Refresh(_)) | Act::Ask(_) => {}
+            Act::Ask(_) => {}
             Act::Call(call) => {
                 if let Some(list) = lists.last_mut() {
                     list.calls.push(call);
@@ -114,10 +117,29 @@ fn call_words(calls: &[Call]) -> Vec<u32> {
             Call::Merge => frame(&mut words, 3, &[]),
             Call::Compact => frame(&mut words, 4, &[]),
             Call::Clear => frame(&mut words, 5, &[]),
-            Call::Refresh(_) => unreachable!("left out of every list"),
+            Call::Refresh(refresh) => frame(&mut words, 6, &refresh_words(refresh)),
         }
     }
     words
+}
+
+/// How many columns, these, the stamp, the values.
+fn refresh_words(refresh: &Refresh) -> Vec<u32> {
+    let mut words = vec![refresh.columns.len() as u32];
+    words.extend(&refresh.columns);
+    words.push(refresh.stamp);
+    words.extend(&refresh.values);
+    words
+}
+
+/// The length of the index store that a list is lent: mostly enough for any refresh, else for some columns, or a word less.
+fn index_length(rng: &mut Rng, capacity: u32) -> usize {
+    let columns = rng.place(10);
+    match rng.below(8) {
+        0 => index_words(capacity, columns) - 1,
+        1 => index_words(capacity, columns),
+        _ => index_words(capacity, 8) + rng.place(4),
+    }
 }
 
 fn condition_words(conditions: &[Condition]) -> Vec<u32> {
@@ -128,20 +150,31 @@ fn condition_words(conditions: &[Condition]) -> Vec<u32> {
 fn replay(list: &List, rng: &mut Rng, seen: &mut Seen) -> Result<(), String> {
     let mut words = call_words(&list.calls);
     // What is cut off, or of no kind, is no call.
-    match rng.below(4) {
+    match rng.below(5) {
         0 => words.extend([3, 7]),
-        1 => words.extend([6, 1, 0]),
+        1 => words.extend([7, 1, 0]),
+        2 => words.extend([6, 2, 1, 0]),
         _ => {}
     }
     let mut plain = Plain::new();
     let opened = plain.call(&list.lent, &Call::Open(list.opening));
+    let mut lent = list.lent;
+    if opened == Answer::Done {
+        lent.index = index_length(rng, list.opening.capacity);
+    }
     seen.lists += 1;
+    let mut is_refreshed = false;
     if opened == Answer::Done {
         for call in &list.calls {
             seen.calls += 1;
-            match plain.call(&list.lent, call) {
+            match plain.call(&lent, call) {
+                Answer::Refused(_) if matches!(call, Call::Refresh(_)) => seen.refreshes[0] += 1,
                 Answer::Refused(_) => seen.calls_refused += 1,
                 Answer::Merged { status, .. } if status != 0 => seen.merges_stopped += 1,
+                Answer::Refreshed(yes, _) => {
+                    is_refreshed = true;
+                    seen.refreshes[1 + usize::from(yes)] += 1;
+                }
                 _ => {}
             }
         }
@@ -163,6 +196,8 @@ fn replay(list: &List, rng: &mut Rng, seen: &mut Seen) -> Result<(), String> {
     let mut pending = vec![UNWRITTEN; list.lent.pending];
     let mut live = vec![u64::from(UNWRITTEN); list.lent.live_words];
     let mut base = vec![UNWRITTEN; list.lent.base_words];
+    let new = new_index(lent.index);
+    let mut index = new.clone();
     let answer = lent::replay(
         opening,
         &mut header,
@@ -173,7 +208,7 @@ fn replay(list: &List, rng: &mut Rng, seen: &mut Seen) -> Result<(), String> {
         &mut pending,
         &mut live,
         &mut base,
-        &mut [],
+        &mut index,
     );
     let answer = match answer {
         Ok(()) => Answer::Done,
@@ -189,7 +224,8 @@ fn replay(list: &List, rng: &mut Rng, seen: &mut Seen) -> Result<(), String> {
             && [&rows, &keys, &sorts, &pending, &base]
                 .iter()
                 .all(|store| is_kept(store))
-            && live.iter().all(|&word| word == u64::from(UNWRITTEN));
+            && live.iter().all(|&word| word == u64::from(UNWRITTEN))
+            && index == new;
         return if kept {
             Ok(())
         } else {
@@ -197,6 +233,7 @@ fn replay(list: &List, rng: &mut Rng, seen: &mut Seen) -> Result<(), String> {
         };
     }
     same_cells(&plain, &header, [&rows, &sorts, &pending])?;
+    check_index(list.opening.capacity, is_refreshed, &new, &index)?;
     let contents = plain.contents();
     if live_rows(&header, &rows) != contents.live {
         return Err("live rows".to_string());
@@ -205,7 +242,7 @@ fn replay(list: &List, rng: &mut Rng, seen: &mut Seen) -> Result<(), String> {
         let table = Made {
             plain: &plain,
             contents: &contents,
-            lent: &list.lent,
+            lent: &lent,
             header: &header,
             rows: &rows,
             sorts: &sorts,
@@ -232,6 +269,34 @@ fn same_cells(plain: &Plain, header: &Header, stores: [&[u32]; 3]) -> Result<(),
         }
     }
     Ok(())
+}
+
+/// An index store whose first word is 0; the others count for nothing then.
+fn new_index(length: usize) -> Vec<u32> {
+    let mut index = vec![UNWRITTEN; length];
+    if let Some(first) = index.first_mut() {
+        *first = 0;
+    }
+    index
+}
+
+/// Without an accepted refresh the index store is as it was; after one its first word is not 0, and past what any may need it is as it
+/// was.
+fn check_index(
+    capacity: u32,
+    is_refreshed: bool,
+    before: &[u32],
+    after: &[u32],
+) -> Result<(), String> {
+    let most = index_words(capacity, 8).min(before.len());
+    let is_right = match is_refreshed {
+        true => after[0] != 0 && after[most..] == before[most..],
+        false => after == before,
+    };
+    match is_right {
+        true => Ok(()),
+        false => Err("the index store".to_string()),
+    }
 }
 
 /// The live rows as the header and the row store have them.
@@ -553,6 +618,9 @@ impl Seen {
             ("a refused opening", self.openings_refused),
             ("a refused call", self.calls_refused),
             ("a stopped merge", self.merges_stopped),
+            ("a refused refresh", self.refreshes[0]),
+            ("a refresh of no row", self.refreshes[1]),
+            ("a refresh of some row", self.refreshes[2]),
             ("a range that is none", self.without_range),
             ("a run that refined", self.refined),
             ("refining refused", self.questions_refused[0]),
@@ -582,9 +650,15 @@ impl Seen {
                 "lists of calls: {} in one call each, of {} calls, {} refused; {} merges stopped; {} openings refused",
                 self.lists,
                 self.calls,
-                self.calls_refused,
+                self.calls_refused + self.refreshes[0],
                 self.merges_stopped,
                 self.openings_refused
+            ),
+            format!(
+                "refreshes in lists: {}, {} of them refused, {} of some row",
+                self.refreshes.iter().sum::<u64>(),
+                self.refreshes[0],
+                self.refreshes[2]
             ),
             format!(
                 "lists of questions: {} in one call each, {} of them refining, of {} questions, {} refused",
