@@ -242,16 +242,58 @@ impl Table {
     }
 
     /// The header and stores, to be kept.
+    ///
+    /// ```
+    /// # use mouldgrey::{Condition, Opening, Rule, Subset, Table};
+    /// # fn main() -> Result<(), mouldgrey::Error> {
+    /// # let opening = Opening { columns: 2, keys: 1, sort: 1, rule: Rule::KeepOld, capacity: 10, generation: 0 };
+    /// # let mut table = Table::new(&opening, 100)?;
+    /// # for key in 0..5 {
+    /// #     table.stage_insert(&[key, key])?;
+    /// # }
+    /// # table.merge()?;
+    /// assert_eq!(table.stores().header.rows, 5);
+    /// # Ok(())
+    /// # }
+    /// ```
     pub fn stores(&self) -> &Stores {
         &self.stores
     }
 
     /// The header and stores themselves.
+    ///
+    /// ```
+    /// # use mouldgrey::{Condition, Opening, Rule, Subset, Table};
+    /// # fn main() -> Result<(), mouldgrey::Error> {
+    /// # let opening = Opening { columns: 2, keys: 1, sort: 1, rule: Rule::KeepOld, capacity: 10, generation: 0 };
+    /// # let mut table = Table::new(&opening, 100)?;
+    /// # for key in 0..5 {
+    /// #     table.stage_insert(&[key, key])?;
+    /// # }
+    /// # table.merge()?;
+    /// assert_eq!(table.into_stores().rows[..4], [0, 0, 1, 1]);
+    /// # Ok(())
+    /// # }
+    /// ```
     pub fn into_stores(self) -> Stores {
         self.stores
     }
 
     /// The table's numbers.
+    ///
+    /// ```
+    /// # use mouldgrey::{Condition, Opening, Rule, Subset, Table};
+    /// # fn main() -> Result<(), mouldgrey::Error> {
+    /// # let opening = Opening { columns: 2, keys: 1, sort: 1, rule: Rule::KeepOld, capacity: 10, generation: 0 };
+    /// # let mut table = Table::new(&opening, 100)?;
+    /// # for key in 0..5 {
+    /// #     table.stage_insert(&[key, key])?;
+    /// # }
+    /// # table.merge()?;
+    /// assert_eq!(table.header().largest(), Some(4));
+    /// # Ok(())
+    /// # }
+    /// ```
     pub fn header(&self) -> &Header {
         &self.stores.header
     }
@@ -290,12 +332,44 @@ impl Table {
     }
 
     /// Stages a row for insertion at the next merge. Refused by 3, and by 7 if the pending store has no room.
+    ///
+    /// ```
+    /// # use mouldgrey::{Condition, Opening, Rule, Subset, Table};
+    /// # fn main() -> Result<(), mouldgrey::Error> {
+    /// # let opening = Opening { columns: 2, keys: 1, sort: 1, rule: Rule::KeepOld, capacity: 10, generation: 0 };
+    /// # let mut table = Table::new(&opening, 100)?;
+    /// # for key in 0..5 {
+    /// #     table.stage_insert(&[key, key])?;
+    /// # }
+    /// # table.merge()?;
+    /// table.stage_insert(&[7, 9])?;
+    /// table.merge()?;
+    /// assert_eq!(table.get_row_column(&[7], 1)?, Some(9));
+    /// # Ok(())
+    /// # }
+    /// ```
     #[inline]
     pub fn stage_insert(&mut self, cells: &[u32]) -> Result<(), Refusal> {
         lent::stage_insert(&mut self.stores.header, &mut self.stores.pending, cells)
     }
 
     /// Stages the removal of the live row with this key; no effect if there is none at merge time. Refused by 3 and 7.
+    ///
+    /// ```
+    /// # use mouldgrey::{Condition, Opening, Rule, Subset, Table};
+    /// # fn main() -> Result<(), mouldgrey::Error> {
+    /// # let opening = Opening { columns: 2, keys: 1, sort: 1, rule: Rule::KeepOld, capacity: 10, generation: 0 };
+    /// # let mut table = Table::new(&opening, 100)?;
+    /// # for key in 0..5 {
+    /// #     table.stage_insert(&[key, key])?;
+    /// # }
+    /// # table.merge()?;
+    /// table.stage_remove(&[2])?;
+    /// table.merge()?;
+    /// assert_eq!(table.get_row(&[2])?, None);
+    /// # Ok(())
+    /// # }
+    /// ```
     #[inline]
     pub fn stage_remove(&mut self, key: &[u32]) -> Result<(), Refusal> {
         lent::stage_remove(&mut self.stores.header, &mut self.stores.pending, key)
@@ -452,6 +526,21 @@ impl Table {
     }
 
     /// The live row with a key. Refused by 3.
+    ///
+    /// ```
+    /// # use mouldgrey::{Condition, Opening, Rule, Subset, Table};
+    /// # fn main() -> Result<(), mouldgrey::Error> {
+    /// # let opening = Opening { columns: 2, keys: 1, sort: 1, rule: Rule::KeepOld, capacity: 10, generation: 0 };
+    /// # let mut table = Table::new(&opening, 100)?;
+    /// # for key in 0..5 {
+    /// #     table.stage_insert(&[key, key])?;
+    /// # }
+    /// # table.merge()?;
+    /// let row = table.get_row(&[3])?.expect("a live row");
+    /// assert_eq!((row.id, row.cells), (3, &[3, 3][..]));
+    /// # Ok(())
+    /// # }
+    /// ```
     #[inline]
     pub fn get_row(&self, key: &[u32]) -> Result<Option<Row<'_>>, Refusal> {
         let s = &self.stores;
@@ -460,6 +549,21 @@ impl Table {
     }
 
     /// One cell of the live row with a key. Refused by 3 and 6.
+    ///
+    /// ```
+    /// # use mouldgrey::{Condition, Opening, Rule, Subset, Table};
+    /// # fn main() -> Result<(), mouldgrey::Error> {
+    /// # let opening = Opening { columns: 2, keys: 1, sort: 1, rule: Rule::KeepOld, capacity: 10, generation: 0 };
+    /// # let mut table = Table::new(&opening, 100)?;
+    /// # for key in 0..5 {
+    /// #     table.stage_insert(&[key, key])?;
+    /// # }
+    /// # table.merge()?;
+    /// assert_eq!(table.get_row_column(&[3], 1)?, Some(3));
+    /// assert_eq!(table.get_row_column(&[9], 1)?, None);
+    /// # Ok(())
+    /// # }
+    /// ```
     #[inline]
     pub fn get_row_column(&self, key: &[u32], column: u32) -> Result<Option<u32>, Refusal> {
         let s = &self.stores;
@@ -468,6 +572,21 @@ impl Table {
 
     /// The range of all rows that meet a condition on the sort column, found without a scan; none for two columns compared and for
     /// any other column. Dead rows may lie in it; [`refine_one`](Table::refine_one) leaves them out. Refused by 6.
+    ///
+    /// ```
+    /// # use mouldgrey::{Condition, Opening, Rule, Subset, Table};
+    /// # fn main() -> Result<(), mouldgrey::Error> {
+    /// # let opening = Opening { columns: 2, keys: 1, sort: 1, rule: Rule::KeepOld, capacity: 10, generation: 0 };
+    /// # let mut table = Table::new(&opening, 100)?;
+    /// # for key in 0..5 {
+    /// #     table.stage_insert(&[key, key])?;
+    /// # }
+    /// # table.merge()?;
+    /// assert_eq!(table.fast_subset(Condition::lt(1, 2))?, Some(Subset::Range(0, 2)));
+    /// assert_eq!(table.fast_subset(Condition::lt(0, 2))?, None);
+    /// # Ok(())
+    /// # }
+    /// ```
     #[inline]
     pub fn fast_subset(&self, condition: Condition) -> Result<Option<Subset>, Refusal> {
         let range = lent::fast_subset(&self.stores.header, &self.stores.sorts, condition)?;
@@ -475,6 +594,20 @@ impl Table {
     }
 
     /// Generation and row count. While the generation stays, a row below a former row count has the cells it had or is dead.
+    ///
+    /// ```
+    /// # use mouldgrey::{Condition, Opening, Rule, Subset, Table};
+    /// # fn main() -> Result<(), mouldgrey::Error> {
+    /// # let opening = Opening { columns: 2, keys: 1, sort: 1, rule: Rule::KeepOld, capacity: 10, generation: 0 };
+    /// # let mut table = Table::new(&opening, 100)?;
+    /// # for key in 0..5 {
+    /// #     table.stage_insert(&[key, key])?;
+    /// # }
+    /// # table.merge()?;
+    /// assert_eq!(table.version().rows, 5);
+    /// # Ok(())
+    /// # }
+    /// ```
     #[inline]
     pub fn version(&self) -> Version {
         lent::version(&self.stores.header)
@@ -482,6 +615,20 @@ impl Table {
     }
 
     /// The rows from this number on. Refused by 5.
+    ///
+    /// ```
+    /// # use mouldgrey::{Condition, Opening, Rule, Subset, Table};
+    /// # fn main() -> Result<(), mouldgrey::Error> {
+    /// # let opening = Opening { columns: 2, keys: 1, sort: 1, rule: Rule::KeepOld, capacity: 10, generation: 0 };
+    /// # let mut table = Table::new(&opening, 100)?;
+    /// # for key in 0..5 {
+    /// #     table.stage_insert(&[key, key])?;
+    /// # }
+    /// # table.merge()?;
+    /// assert_eq!(table.updates_since(3)?, Subset::Range(3, 5));
+    /// # Ok(())
+    /// # }
+    /// ```
     #[inline]
     pub fn updates_since(&self, row: u32) -> Result<Subset, Refusal> {
         let (start, end) = lent::updates_since(&self.stores.header, row)?;
@@ -541,11 +688,39 @@ impl Table {
     }
 
     /// All row numbers, dead rows among them.
+    ///
+    /// ```
+    /// # use mouldgrey::{Condition, Opening, Rule, Subset, Table};
+    /// # fn main() -> Result<(), mouldgrey::Error> {
+    /// # let opening = Opening { columns: 2, keys: 1, sort: 1, rule: Rule::KeepOld, capacity: 10, generation: 0 };
+    /// # let mut table = Table::new(&opening, 100)?;
+    /// # for key in 0..5 {
+    /// #     table.stage_insert(&[key, key])?;
+    /// # }
+    /// # table.merge()?;
+    /// assert_eq!(table.all(), Subset::Range(0, 5));
+    /// # Ok(())
+    /// # }
+    /// ```
     pub fn all(&self) -> Subset {
         Subset::Range(0, self.stores.header.rows)
     }
 
     /// The live rows of a subset that meet a condition. Refused by 4, 5 and 6.
+    ///
+    /// ```
+    /// # use mouldgrey::{Condition, Opening, Rule, Subset, Table};
+    /// # fn main() -> Result<(), mouldgrey::Error> {
+    /// # let opening = Opening { columns: 2, keys: 1, sort: 1, rule: Rule::KeepOld, capacity: 10, generation: 0 };
+    /// # let mut table = Table::new(&opening, 100)?;
+    /// # for key in 0..5 {
+    /// #     table.stage_insert(&[key, key])?;
+    /// # }
+    /// # table.merge()?;
+    /// assert_eq!(table.refine_one(&table.all(), Condition::ge(0, 3))?, Subset::Range(3, 5));
+    /// # Ok(())
+    /// # }
+    /// ```
     pub fn refine_one<'a>(
         &self,
         subset: impl Into<SubsetRef<'a>>,
@@ -589,6 +764,20 @@ impl Table {
     }
 
     /// Whether some live row of a subset meets all conditions. Refused by 4, 5 and 6.
+    ///
+    /// ```
+    /// # use mouldgrey::{Condition, Opening, Rule, Subset, Table};
+    /// # fn main() -> Result<(), mouldgrey::Error> {
+    /// # let opening = Opening { columns: 2, keys: 1, sort: 1, rule: Rule::KeepOld, capacity: 10, generation: 0 };
+    /// # let mut table = Table::new(&opening, 100)?;
+    /// # for key in 0..5 {
+    /// #     table.stage_insert(&[key, key])?;
+    /// # }
+    /// # table.merge()?;
+    /// assert!(!table.contains_match(&table.all(), &[Condition::gt(0, 4)])?);
+    /// # Ok(())
+    /// # }
+    /// ```
     pub fn contains_match<'a>(
         &self,
         subset: impl Into<SubsetRef<'a>>,
@@ -722,12 +911,40 @@ impl Table {
     }
 
     /// Whether header and stores are sound. They are, unless [`Stores`] were changed elsewhere.
+    ///
+    /// ```
+    /// # use mouldgrey::{Condition, Opening, Rule, Subset, Table};
+    /// # fn main() -> Result<(), mouldgrey::Error> {
+    /// # let opening = Opening { columns: 2, keys: 1, sort: 1, rule: Rule::KeepOld, capacity: 10, generation: 0 };
+    /// # let mut table = Table::new(&opening, 100)?;
+    /// # for key in 0..5 {
+    /// #     table.stage_insert(&[key, key])?;
+    /// # }
+    /// # table.merge()?;
+    /// assert!(table.is_sound()?);
+    /// # Ok(())
+    /// # }
+    /// ```
     pub fn is_sound(&self) -> Result<bool, Refusal> {
         let s = &self.stores;
         lent::is_sound(&s.header, &s.rows, &s.keys, &s.sorts, &s.pending)
     }
 
     /// The live rows, rising.
+    ///
+    /// ```
+    /// # use mouldgrey::{Condition, Opening, Rule, Subset, Table};
+    /// # fn main() -> Result<(), mouldgrey::Error> {
+    /// # let opening = Opening { columns: 2, keys: 1, sort: 1, rule: Rule::KeepOld, capacity: 10, generation: 0 };
+    /// # let mut table = Table::new(&opening, 100)?;
+    /// # for key in 0..5 {
+    /// #     table.stage_insert(&[key, key])?;
+    /// # }
+    /// # table.merge()?;
+    /// assert_eq!(table.rows().count(), 5);
+    /// # Ok(())
+    /// # }
+    /// ```
     pub fn rows(&self) -> Rows<'_> {
         let Header { columns, rows, .. } = self.stores.header;
         let cells = &self.stores.rows[..rows as usize * columns as usize];
