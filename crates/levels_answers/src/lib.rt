@@ -1,9 +1,9 @@
 // A line of `levels`, by its bytes: read, served, and what it says put at the start of a lent text.
-ghost use Prim.Native.Nat.{_≤_};
-ghost use lib.ListN.{length};
+ghost use Prim.Native.Nat.{_+_, _≤_};
+ghost use lib.ListN.{length, take};
 ghost use Rattle.table.specs.Promises.{stores};
 ghost use Rattle.levels_said.specs.Answers.{Answering};
-ghost use Rattle.levels_answers.specs.inner.Reading.{Responding};
+ghost use Rattle.levels_answers.specs.inner.Reading.{Responding, AnsweringBehind};
 use levels_letters::serve;
 use levels_said::Said;
 use levels_said::Served;
@@ -67,5 +67,38 @@ pub fn answer(
     LineAnswer {
         header: header,
         used: tell(header, said, rows, text),
+    }
+}
+
+// The line that the first bytes are, answered behind the first bytes of the text, which stay.
+pub fn answer_behind(
+    h: Header,
+    line: &[u8],
+    count: usize,
+    rows: &mut [u32],
+    keys: &mut [u32],
+    sorts: &mut [u32],
+    pending: &mut [u32],
+    text: &mut [u8],
+    from: usize,
+) -> LineAnswer
+    requires { ⌜ count ≤ length (now line) ⌝ }
+    requires { ⌜ length (now keys) ≤ 2048 ⌝ }
+    requires { ⌜ from + 103492 ≤ length (now text) ⌝ }
+    ensures { λ r. ⌜ AnsweringBehind (take count (now (line .entry))) (stores h (now (rows .entry)) (now (keys .entry)) (now (sorts .entry)) (now (pending .entry))) (stores (r .header) (now (rows .exit)) (now (keys .exit)) (now (sorts .exit)) (now (pending .exit))) (now (text .entry)) from (now (text .exit)) (r .used) ⌝ }
+{
+    let answered = answer(
+        h,
+        &line[..count],
+        rows,
+        keys,
+        sorts,
+        pending,
+        &mut text[from..],
+    );
+    let header = answered.header;
+    LineAnswer {
+        header: header,
+        used: from + answered.used,
     }
 }

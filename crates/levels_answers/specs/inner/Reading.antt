@@ -1,12 +1,13 @@
 -- From the bytes of a line to what it says, and from there to the bytes of its answer. Assumes nothing.
-use Prim.Native.Nat.{ℕ, _≤_}
-use mathlib.Core.Path.{_≡_, sym, _∙_}
+use Prim.Native.Nat.{ℕ, _+_, _≤_}
+use mathlib.Core.Path.{_≡_, sym, ap, _∙_}
 use mathlib.Core.Logic.{inl, inr}
 use mathlib.Core.Bool.{true, false, false≢true}
-use mathlib.Core.List.{List}
+use mathlib.Core.List.{List, _++_}
 use mathlib.Core.Option.{Option}
 use native.Mathlib.Omega.{arith}
-use lib.ListN.{length, take}
+use lib.ListN.{length, take, length-append, length-take}
+use lib.Seq.{take-append-le, take-append-add}
 use Rattle.lists.specs.Laws.Keep.{split}
 use Rattle.lists.specs.Laws.Search.{take-put}
 use Rattle.plain.specs.Refusing.{Lengths}
@@ -58,6 +59,13 @@ module _ {line lent′ : List ℕ} {r : Parsed} {numbers′ : List ℕ} (p : Par
     pub line-responds : {s s′ : Stores} {said : Said} → Serving first (take count numbers′) s s′ said → Responding line s s′ said
     line-responds {s} m = record { answers = λ t held. rw (line-read (lent s) t) at (m .answers t held) }
 
+-- A line is answered behind the first bytes of a text: whatever table was held, the text and the table are those of the line's turn
+-- on it.
+pub record AnsweringBehind (line : List ℕ) (s s′ : Stores) (text : List ℕ) (from : ℕ) (text′ : List ℕ) (used : ℕ) : Type 0 where
+  pub inside : used ≤ length text′
+  pub text-is : (t : Option Plain) → Held t s → take used text′ ≡ take from text ++ lineTurn (lent s) t line .text
+  pub held : (t : Option Plain) → Held t s → Held (lineTurn (lent s) t line .table) s′
+
 -- ---- the bytes
 
 -- a table that is held can be listed
@@ -83,4 +91,19 @@ told-answers keys room m w =
       answers = λ t held.
           let k = m .answers t held in
           record { text-is = w .begins (λ numbered l. held-listable keys room (k .held) (k .listed numbered l)) ∙ k .says; held = k .held };
+    }
+
+-- in a part of a text: what is before the part stays
+pub answering-behind : {line : List ℕ} {s s′ : Stores} {used : ℕ} (text part after : List ℕ) (from : ℕ) → from ≤ length text → Answering line s s′ part used
+    → AnsweringBehind line s s′ text from (take from text ++ (part ++ after)) (from + used)
+answering-behind {used = used} text part after from inside m =
+    let wide : length (take from text) ≡ from = rw length-take (omega arith) in
+    let whole : take (from + used) (take from text ++ (part ++ after)) ≡ take from text ++ take used part =
+    ap (λ (n : ℕ). take (n + used) (take from text ++ (part ++ after))) (sym wide)
+    ∙ take-append-add (take from text) (part ++ after) used
+    ∙ ap (λ (bytes : List ℕ). take from text ++ bytes) (take-append-le used part after (m .inside)) in
+    record {
+      inside = omega (arith, m .inside, wide, length-append (take from text) (part ++ after), length-append part after);
+      text-is = λ t held. whole ∙ ap (λ (bytes : List ℕ). take from text ++ bytes) (m .answers t held .text-is);
+      held = λ t held. m .answers t held .held;
     }
