@@ -1,17 +1,28 @@
-// The program `levels` (document 01): reads lines of table operations from standard input and answers each on standard
-// output before it reads the next. It makes the stores and lends them to the library.
+// The program `levels` (document 01): reads lines of table operations from standard input and answers each on standard output.
+// Answers are buffered, and written before each read. It makes the stores and lends them to the library.
 ghost use mathlib.Core.Path.{_≡_};
 ghost use mathlib.Core.Bool.{true};
-ghost use Prim.Native.Nat.{_≤_};
-ghost use lib.ListN.{length as len, take};
+ghost use Prim.Native.Nat.{_≤_, _<_};
+ghost use lib.ListN.{length as len};
 ghost use Rattle.table.specs.Refusing.{outside};
-ghost use Rattle.table.specs.Promises.{stores};
-ghost use Rattle.levels_lines.specs.inner.Taking.{unread};
-ghost use Rattle.levels.specs.inner.Turning.{Replied, Turned};
-use levels_answers::answer;
+ghost use Rattle.levels_lines.specs.Input.{InputIn};
+ghost use Rattle.levels.specs.Run.{Within, machine, Turned, Ran};
+ghost use Rattle.levels.specs.inner.Advancing.{ReadOn, Ready, Advanced};
+ghost use Rattle.levels.specs.inner.Turning.{Shorter};
+ghost use Rattle.levels.specs.inner.Running.{Finished};
+use levels_answers::answer_behind;
 use levels_lines::Input;
-use levels_lines::next_line;
-use libc::STDOUT_FILENO;
+use levels_lines::first_read;
+use levels_lines::is_at_end;
+use levels_lines::refill;
+use levels_lines::take_line;
+use levels_output::Handed;
+use levels_output::count;
+use levels_output::flush;
+use levels_output::is_written;
+use levels_output::make_room;
+use levels_output::nothing;
+use levels_output::report_failure;
 use table::Header;
 use table::Largest;
 
@@ -20,6 +31,9 @@ const KEPT: usize = 121;
 
 // The most bytes that a line prints: a listing's head of six numbers, then 1,024 rows of nine.
 const MOST_TEXT: usize = 103492;
+
+// Room for such a line behind 64 KiB of others.
+const BUFFER: usize = 169028;
 
 // The header before the first opening, which every operation refuses.
 fn no_table() -> Header
@@ -40,36 +54,118 @@ fn no_table() -> Header
     }
 }
 
-// Answers the line that the first bytes are, and writes the answer.
-fn write_answer(
-    h: Header,
-    line: &[u8],
-    length: usize,
-    rows: &mut [u32],
-    keys: &mut [u32],
-    sorts: &mut [u32],
-    pending: &mut [u32],
-    text: &mut [u8],
-) -> Header
-    requires { ⌜ length ≤ len (now line) ⌝ }
-    requires { ⌜ len (now keys) ≤ 2048 ⌝ }
-    requires { ⌜ 103492 ≤ len (now text) ⌝ }
-    ensures { λ r. ⌜ Replied (take length (now (line .entry))) (stores h (now (rows .entry)) (now (keys .entry)) (now (sorts .entry)) (now (pending .entry))) (stores r (now (rows .exit)) (now (keys .exit)) (now (sorts .exit)) (now (pending .exit))) (now (text .exit)) ⌝ }
-{
-    let answered = answer(h, &line[..length], rows, keys, sorts, pending, text);
-    let used = answered.used;
-    io::write_all(STDOUT_FILENO, &text[..used]);
-    answered.header
-}
-
-// The table and the input from one line to the next.
-struct State {
-    header: Header,
+// What a turn found: how many bytes of the line are kept, and whether it is to be answered; what was handed to write; and whether
+// this turn is the last.
+struct Step {
     input: Input,
+    length: usize,
+    handed: Handed,
+    is_line: bool,
     is_over: bool,
 }
 
-// Reads a line and answers it. After one that the end of the input ended, the input is over.
+// Hands over all buffered bytes, and then reads. After a write that failed nothing is read.
+fn read_on(chunk: &mut [u8], text: &[u8], rest: Input, length: usize, used: usize) -> Step
+    requires { ⌜ used ≤ len (now text) ⌝ }
+    requires { ⌜ rest .end ≤ rest .next ⌝ }
+    requires { ⌜ 0 < rest .reads ⌝ }
+    ensures { λ r. ⌜ ReadOn (now (chunk .entry)) rest length used (now (chunk .exit)) r ⌝ }
+{
+    let handed = flush(text, used);
+    if is_written(handed) {
+        let input = refill(chunk, rest);
+        return Step {
+            input: input,
+            length: length,
+            handed: handed,
+            is_line: false,
+            is_over: false,
+        };
+    }
+    Step {
+        input: rest,
+        length: length,
+        handed: handed,
+        is_line: false,
+        is_over: true,
+    }
+}
+
+// Makes room for the answer of a line.
+fn ready(text: &[u8], rest: Input, length: usize, used: usize, is_last: bool) -> Step
+    requires { ⌜ used ≤ len (now text) ⌝ }
+    ensures { λ r. ⌜ Ready (len (now (text .entry))) rest length used «is_last» r ⌝ }
+{
+    let handed = make_room(text, used, MOST_TEXT);
+    if is_written(handed) {
+        return Step {
+            input: rest,
+            length: length,
+            handed: handed,
+            is_line: true,
+            is_over: is_last,
+        };
+    }
+    Step {
+        input: rest,
+        length: length,
+        handed: handed,
+        is_line: false,
+        is_over: true,
+    }
+}
+
+// Takes bytes of the line. If it has ended, room is made for its answer; else more bytes are read, unless the input is over.
+fn advance(
+    line: &mut [u8],
+    chunk: &mut [u8],
+    text: &[u8],
+    input: Input,
+    length: usize,
+    used: usize,
+) -> Step
+    requires { ⌜ InputIn (now chunk) input ⌝ }
+    requires { ⌜ length ≤ len (now line) ⌝ }
+    requires { ⌜ used ≤ len (now text) ⌝ }
+    ensures { λ r. ⌜ Advanced (now (line .entry)) length (now (chunk .entry)) input (now (text .entry)) used (now (line .exit)) (now (chunk .exit)) r ⌝ }
+{
+    let taken = take_line(line, length, chunk, input);
+    let rest = taken.input;
+    let kept = taken.length;
+    if taken.is_whole {
+        return ready(text, rest, kept, used, false);
+    }
+    if !is_at_end(rest) {
+        return read_on(chunk, text, rest, kept, used);
+    }
+    if kept > 0 {
+        return ready(text, rest, kept, used, true);
+    }
+    Step {
+        input: rest,
+        length: 0,
+        handed: nothing(),
+        is_line: false,
+        is_over: true,
+    }
+}
+
+// The table, the input, how many bytes of the line are kept and how many of the text are buffered, from turn to turn.
+struct State {
+    header: Header,
+    input: Input,
+    length: usize,
+    used: usize,
+}
+
+// The state after a turn, what it handed to write, and whether it is the last.
+struct TurnDone {
+    state: State,
+    handed: Handed,
+    is_over: bool,
+}
+
+// A turn: answers the line, if it has ended, or reads.
 fn turn(
     state: State,
     line: &mut [u8; KEPT],
@@ -78,32 +174,99 @@ fn turn(
     keys: &mut [u32; 2048],
     sorts: &mut [u32; 2048],
     pending: &mut [u32; 2048],
-    text: &mut [u8; MOST_TEXT],
-) -> State
-    requires { ⌜ state .input .end ≤ len (now chunk) ⌝ }
-    ensures { λ r. ⌜ Turned (unread (now (chunk .entry)) (state .input)) (stores (state .header) (now (rows .entry)) (now (keys .entry)) (now (sorts .entry)) (now (pending .entry))) (r .«is_over») (now (chunk .exit)) (r .input) (stores (r .header) (now (rows .exit)) (now (keys .exit)) (now (sorts .exit)) (now (pending .exit))) (now (text .exit)) ⌝ }
+    text: &mut [u8; BUFFER],
+) -> TurnDone
+    requires { ⌜ Within (machine state (now line) (now chunk) (now rows) (now keys) (now sorts) (now pending) (now text)) ⌝ }
+    ensures { λ r. ⌜ Turned (machine state (now (line .entry)) (now (chunk .entry)) (now (rows .entry)) (now (keys .entry)) (now (sorts .entry)) (now (pending .entry)) (now (text .entry))) (r .handed) (machine (r .state) (now (line .exit)) (now (chunk .exit)) (now (rows .exit)) (now (keys .exit)) (now (sorts .exit)) (now (pending .exit)) (now (text .exit))) (r .«is_over») ⌝ }
+    ensures { λ r. ⌜ Shorter (state .input) (r .state .input) (r .«is_over») ⌝ }
 {
     let header = state.header;
     let from = state.input;
-    let read = next_line(line, chunk, from);
-    let input = read.input;
-    if read.is_over {
-        return State {
+    let step = advance(line, chunk, text, from, state.length, state.used);
+    let input = step.input;
+    let handed = step.handed;
+    let left = state.used - count(handed);
+    let length = step.length;
+    if !step.is_line {
+        let next = State {
             header: header,
             input: input,
-            is_over: true,
+            length: length,
+            used: left,
+        };
+        return TurnDone {
+            state: next,
+            handed: handed,
+            is_over: step.is_over,
         };
     }
-    let length = read.length;
-    let after = write_answer(header, line, length, rows, keys, sorts, pending, text);
-    State {
+    let answered = answer_behind(header, line, length, rows, keys, sorts, pending, text, left);
+    let after = answered.header;
+    let next = State {
         header: after,
         input: input,
-        is_over: read.is_last,
+        length: 0,
+        used: answered.used,
+    };
+    TurnDone {
+        state: next,
+        handed: handed,
+        is_over: step.is_over,
     }
 }
 
-// Nothing says that the input ends, so the turns are counted down, from a number that no run uses up.
+// The state at the end of a run, and what was handed to write last.
+struct Ended {
+    state: State,
+    handed: Handed,
+}
+
+// Hands over what is still buffered, unless a write has failed.
+fn finish(state: State, handed: Handed, text: &[u8]) -> Ended
+    requires { ⌜ state .used ≤ len (now text) ⌝ }
+    ensures { λ r. ⌜ Finished state handed r ⌝ }
+{
+    if is_written(handed) {
+        let last = flush(text, state.used);
+        return Ended {
+            state: state,
+            handed: last,
+        };
+    }
+    Ended {
+        state: state,
+        handed: handed,
+    }
+}
+
+// Turns until the input is over or a write fails. What is still buffered when the input is over is handed over last.
+fn run(
+    line: &mut [u8; KEPT],
+    chunk: &mut [u8; 4096],
+    rows: &mut [u32; 8192],
+    keys: &mut [u32; 2048],
+    sorts: &mut [u32; 2048],
+    pending: &mut [u32; 2048],
+    text: &mut [u8; BUFFER],
+) -> Ended
+    ensures { λ r. ⌜ Ran (machine (r .state) (now (line .exit)) (now (chunk .exit)) (now (rows .exit)) (now (keys .exit)) (now (sorts .exit)) (now (pending .exit)) (now (text .exit))) (r .handed) ⌝ }
+{
+    let mut state = State {
+        header: no_table(),
+        input: first_read(chunk),
+        length: 0,
+        used: 0,
+    };
+    loop {
+        let made = turn(state, line, chunk, rows, keys, sorts, pending, text);
+        state = made.state;
+        if made.is_over {
+            let handed = made.handed;
+            return finish(state, handed, text);
+        }
+    }
+}
+
 fn main() {
     let mut line = [0u8; KEPT];
     let mut chunk = [0u8; 4096];
@@ -111,27 +274,17 @@ fn main() {
     let mut keys = [0u32; 2048];
     let mut sorts = [0u32; 2048];
     let mut pending = [0u32; 2048];
-    let mut text = [0u8; MOST_TEXT];
-    let mut state = State {
-        header: no_table(),
-        input: Input { next: 0, end: 0 },
-        is_over: false,
-    };
-    let mut turns = u64::MAX;
-    while turns > 0 {
-        state = turn(
-            state,
-            &mut line,
-            &mut chunk,
-            &mut rows,
-            &mut keys,
-            &mut sorts,
-            &mut pending,
-            &mut text,
-        );
-        if state.is_over {
-            return;
-        }
-        turns -= 1;
+    let mut text = [0u8; BUFFER];
+    let ended = run(
+        &mut line,
+        &mut chunk,
+        &mut rows,
+        &mut keys,
+        &mut sorts,
+        &mut pending,
+        &mut text,
+    );
+    if !is_written(ended.handed) {
+        report_failure();
     }
 }

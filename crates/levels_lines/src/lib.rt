@@ -1,9 +1,11 @@
-// Lines of standard input.
-ghost use Prim.Native.Nat.{_-_, _≤_};
+// Lines of standard input, taken out of chunks that reads bring.
+ghost use Prim.Native.Nat.{_-_, _≤_, _<_};
+ghost use mathlib.Core.Path.{_≡_};
 ghost use mathlib.Core.List.{[], _∷_};
 ghost use lib.ListN.{length as len, take, drop};
+ghost use Rattle.levels_lines.specs.Input.{bytesRead, unread, InputIn};
 ghost use Rattle.levels_lines.specs.inner.Scanning.{Kept, Scanned};
-ghost use Rattle.levels_lines.specs.inner.Taking.{unread, Refilled, Took};
+ghost use Rattle.levels_lines.specs.inner.Taking.{Refilled, EndTested, LineTaken};
 use libc::STDIN_FILENO;
 
 // One byte more, if it has room.
@@ -19,10 +21,10 @@ fn keep(line: &mut [u8], length: usize, byte: u8) -> usize
 }
 
 // What was found: how many bytes of the line are kept, the place behind the bytes read, and whether the line ended.
-pub struct Scan {
-    pub length: usize,
-    pub next: usize,
-    pub is_whole: bool,
+struct Scan {
+    length: usize,
+    next: usize,
+    is_whole: bool,
 }
 
 // Takes bytes of the chunk up to the end of the line or of those that are there.
@@ -53,72 +55,72 @@ fn scan_chunk(line: &mut [u8], length: usize, chunk: &[u8], from: usize, end: us
     }
 }
 
-// The bytes of the chunk that are not read yet, from `next` up to `end`.
+// The input so far: the unread bytes of the chunk are those from `next` up to `end`; `got` is what the last read returned, and
+// `reads` how many reads are left. The fields are private, so that other crates have an `Input` from the functions below alone.
 pub struct Input {
-    pub next: usize,
-    pub end: usize,
+    next: usize,
+    end: usize,
+    got: isize,
+    reads: u64,
 }
 
-// The bytes of a line that its lent store holds, and whether the end of the input ended it; or the input is over.
-pub struct Line {
-    pub input: Input,
-    pub length: usize,
-    pub is_last: bool,
-    pub is_over: bool,
-}
-
-// Waits for more bytes if none is left. None comes at the end of the input, or where it cannot be read.
-fn refill(chunk: &mut [u8], input: Input) -> Input
-    requires { ⌜ input .end ≤ len (now chunk) ⌝ }
-    ensures { λ r. ⌜ Refilled (now (chunk .entry)) input (now (chunk .exit)) r ⌝ }
+// One read, after all bytes of the chunk are taken.
+pub fn refill(chunk: &mut [u8], input: Input) -> Input
+    requires { ⌜ input .end ≤ input .next ⌝ }
+    requires { ⌜ 0 < input .reads ⌝ }
+    ensures { λ r. ⌜ Refilled (unread (now (chunk .entry)) input) (input .reads) (now (chunk .exit)) r ⌝ }
 {
-    if input.next < input.end {
-        return input;
-    }
     let got = libc::read(STDIN_FILENO, chunk);
     Input {
         next: 0,
         end: io::count(got, chunk),
+        got: got,
+        reads: input.reads - 1,
     }
 }
 
-// The next line, of which as many bytes are kept as the lent store has.
-pub fn next_line(line: &mut [u8], chunk: &mut [u8], from: Input) -> Line
-    requires { ⌜ from .end ≤ len (now chunk) ⌝ }
-    ensures { λ r. ⌜ Took (unread (now (chunk .entry)) from) (now (line .exit)) (now (chunk .exit)) r ⌝ }
+// The first read of 2^64 - 1. Nothing shows that the input ends, so the reads are counted down.
+pub fn first_read(chunk: &mut [u8]) -> Input
+    ensures { λ r. ⌜ Refilled [] 18446744073709551615 (now (chunk .exit)) r ⌝ }
 {
-    let mut input = from;
-    let mut length = 0;
-    let mut turns = u64::MAX;
-    while turns > 0 {
-        input = refill(chunk, input);
-        let at = input.next;
-        let end = input.end;
-        if end <= at {
-            return Line {
-                input: input,
-                length: length,
-                is_last: true,
-                is_over: length == 0,
-            };
-        }
-        let found = scan_chunk(line, length, chunk, at, end);
-        input.next = found.next;
-        length = found.length;
-        if found.is_whole {
-            return Line {
-                input: input,
-                length: length,
-                is_last: false,
-                is_over: false,
-            };
-        }
-        turns -= 1;
-    }
-    Line {
-        input: input,
-        length: length,
-        is_last: true,
-        is_over: length == 0,
+    let none = Input {
+        next: 0,
+        end: 0,
+        got: 0,
+        reads: u64::MAX,
+    };
+    refill(chunk, none)
+}
+
+// The last read returned no byte, or no read is left.
+pub fn is_at_end(input: Input) -> bool
+    requires { ⌜ input .end ≡ bytesRead (input .got) ⌝ }
+    ensures { λ r. ⌜ EndTested input r ⌝ }
+{
+    input.end == 0 || input.reads == 0
+}
+
+// What was taken of the unread bytes: how many bytes of the line are kept, and whether its newline was among them.
+pub struct Taken {
+    pub input: Input,
+    pub length: usize,
+    pub is_whole: bool,
+}
+
+// Takes unread bytes up to the newline, or all, behind the `length` bytes of the line that are kept already.
+pub fn take_line(line: &mut [u8], length: usize, chunk: &[u8], input: Input) -> Taken
+    requires { ⌜ length ≤ len (now line) ⌝ }
+    requires { ⌜ InputIn (now chunk) input ⌝ }
+    ensures { λ r. ⌜ LineTaken (now (line .entry)) length (now (chunk .entry)) input (now (line .exit)) r ⌝ }
+{
+    let from = input.next;
+    let end = input.end;
+    let found = scan_chunk(line, length, chunk, from, end);
+    let mut rest = input;
+    rest.next = found.next;
+    Taken {
+        input: rest,
+        length: found.length,
+        is_whole: found.is_whole,
     }
 }

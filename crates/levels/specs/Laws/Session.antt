@@ -1,54 +1,98 @@
--- A whole run of `levels`: turns one after another, as `turn` promises them, print what `printed` says of the bytes that were read.
--- That reads bring the input's bytes, and nothing only at its end, that the text is handed on, and that `main` makes one turn after
--- another until one says that the input is over, is what no contract can say. Assumes nothing.
+-- A whole run of `levels`: where the input is over and every write succeeded, the bytes handed to write are what `printed` states of
+-- the bytes that reads brought; where a write failed, they begin it. Assumes nothing.
 use mathlib.Core.Path.{_≡_, refl, sym, ap, _∙_}
-use mathlib.Core.Bool.{Bool, true, false}
+use mathlib.Core.Bool.{true, false, false≢true}
 use mathlib.Core.List.{List, [], _∷_, _++_, append-assoc, append-nil}
-use mathlib.Core.Option.{Option, none}
 use Prim.Native.Nat.{ℕ}
 use lib.ListN.{take}
-use Rattle.plain.specs.Plain.{Plain}
-use Rattle.table.specs.Refusing.{outside}
-use Rattle.table.specs.Promises.{Stores}
+use Rattle.lists.specs.Lists.{flat}
+use Rattle.lists.specs.Laws.Rows.{flat-append}
 use Rattle.levels_said.specs.Said.{lineTurn}
-use Rattle.levels_said.specs.Answers.{Held, no-table}
 use Rattle.levels_said.specs.Session.{programLengths, linesIn, session, printed}
 use Rattle.levels_said.specs.Laws.Session.{lines-ended, lines-last}
-use Rattle.levels.specs.inner.Turning.{LineDone}
+use Rattle.levels_output.specs.declared.Handed.{Handed}
+use Rattle.levels.specs.Run.{Program, Turn, line-turn, read-turn, last-turn, over-turn, Turns, begin, then, Machine, bytesHanded, Ending, input-over, write-failed, Ran, input, output, Begins}
 
--- turns from some bytes at hand and some stores on, until the input is over: the bytes that they read besides, and what they write
-pub data Turns : List ℕ → Stores → List ℕ → List ℕ → Type 0 where
-  over : (s : Stores) → Turns [] s [] []
-  line : {before rest : List ℕ} {s s′ : Stores} {text input output : List ℕ} (d : LineDone before s rest false s′ text)
-      → Turns rest s′ input output → Turns before s (d .brought ++ input) (take (d .replied .used) text ++ output)
-  last : {before rest : List ℕ} {s s′ : Stores} {text : List ℕ} (d : LineDone before s rest true s′ text)
-      → Turns before s (d .brought) (take (d .replied .used) text)
+-- what a program prints from here on, if these bytes are all that is still read
+abbrev toCome : Program → List ℕ → List ℕ
+toCome p bytes = p .buffered ++ session (p .table) (linesIn (p .begun ++ (p .unread ++ bytes)))
 
-module _ {before rest : List ℕ} {end : Bool} {s s′ : Stores} {text : List ℕ} (d : LineDone before s rest end s′ text) (t : Option Plain) (h : Held t s) where
-  -- what its turn prints, and the table that it leaves
-  line-printed : take (d .replied .used) text ≡ lineTurn programLengths t (d .line) .text
-  line-printed = rw (d .stores-lent) at (d .replied .answering .answers t h .text-is)
+turn-to-come : {p q : Program} {bytes : List ℕ} {reads : List (List ℕ)} → Turn p bytes reads q false → (more : List ℕ)
+    → bytes ++ toCome q more ≡ toCome p (flat reads ++ more)
+unfolding flat session
+turn-to-come {p} (line-turn bytes rest handed buffered unread no-newline parts) more =
+    let text = lineTurn programLengths (p .table) (p .begun ++ bytes) .text in
+    let later = session (lineTurn programLengths (p .table) (p .begun ++ bytes) .table) (linesIn (rest ++ more)) in
+    let all : p .begun ++ (p .unread ++ more) ≡ (p .begun ++ bytes) ++ (10 ∷ (rest ++ more)) =
+    ap (λ (x : List ℕ). p .begun ++ (x ++ more)) unread
+    ∙ ap (λ (x : List ℕ). p .begun ++ x) (append-assoc bytes (10 ∷ rest) more)
+    ∙ sym (append-assoc (p .begun) bytes (10 ∷ (rest ++ more))) in
+    let lines : linesIn (p .begun ++ (p .unread ++ more)) ≡ (p .begun ++ bytes) ∷ linesIn (rest ++ more) =
+    ap linesIn all ∙ lines-ended (p .begun ++ bytes) (rest ++ more) no-newline in
+    ap (λ (x : List ℕ). handed ++ x) (append-assoc buffered text later)
+    ∙ sym (append-assoc handed buffered (text ++ later))
+    ∙ ap (λ (x : List ℕ). x ++ (text ++ later)) (sym parts)
+    ∙ ap (λ (x : List (List ℕ)). p .buffered ++ session (p .table) x) (sym lines)
+turn-to-come {p} (read-turn brought no-newline) more =
+    ap (λ (x : List ℕ). p .buffered ++ session (p .table) (linesIn x))
+    (append-assoc (p .begun) (p .unread) (brought ++ more)
+    ∙ ap (λ (x : List ℕ). p .begun ++ (p .unread ++ (x ++ more))) (sym (append-nil brought)))
 
-  line-held : Held (lineTurn programLengths t (d .line) .table) s′
-  line-held = rw (d .stores-lent) at (d .replied .answering .answers t h .held)
+turns-to-come : {p q : Program} {bytes : List ℕ} {reads : List (List ℕ)} → Turns p bytes reads q → (more : List ℕ) → bytes ++ toCome q more ≡ toCome p (flat reads ++ more)
+unfolding flat
+turns-to-come begin more = refl
+turns-to-come {p} (then {handed} {bytes} {reads} {read} {q} {r} turns turn) more =
+    append-assoc handed bytes (toCome r more)
+    ∙ ap (λ (x : List ℕ). handed ++ x) (turn-to-come turn more)
+    ∙ turns-to-come turns (flat read ++ more)
+    ∙ ap (toCome p) (sym (append-assoc (flat reads) (flat read) more) ∙ ap (λ (x : List ℕ). x ++ more) (sym (flat-append reads read)))
 
-turns-session : {before : List ℕ} {s : Stores} {input output : List ℕ} → Turns before s input output → (t : Option Plain) → Held t s
-    → output ≡ session t (linesIn (before ++ input))
+-- the last turn
+over-to-come : {p q : Program} {bytes : List ℕ} → Turn p bytes [] q true → bytes ++ q .buffered ≡ toCome p []
 unfolding session linesIn
-turns-session (over s) t h = refl
-turns-session (line {before} {rest} {input = input} d turns) t h =
-    let all : before ++ (d .brought ++ input) ≡ d .line ++ (10 ∷ (rest ++ input)) =
-    sym (append-assoc before (d .brought) input)
-    ∙ ap (λ (bytes : List ℕ). bytes ++ input) (d .balance)
-    ∙ append-assoc (d .line) (10 ∷ rest) input in
-    rw (all, lines-ended (d .line) (rest ++ input) (d .no-newline), line-printed d t h)
-    (ap (λ (output : List ℕ). lineTurn programLengths t (d .line) .text ++ output) (turns-session turns (lineTurn programLengths t (d .line) .table) (line-held d t h)))
-turns-session (last {before} d) t h =
-    let all : before ++ d .brought ≡ d .line = rw (d .at-end refl .0, append-nil (d .line)) at (d .balance) in
-    rw (all, lines-last (d .line) (d .no-newline) (d .at-end refl .1), line-printed d t h)
-    (sym (append-nil (lineTurn programLengths t (d .line) .text)))
+over-to-come {p} (last-turn handed buffered no-newline some parts) =
+    let text = lineTurn programLengths (p .table) (p .begun ++ p .unread) .text in
+    let lines : linesIn (p .begun ++ (p .unread ++ [])) ≡ (p .begun ++ p .unread) ∷ [] =
+    ap (λ (x : List ℕ). linesIn (p .begun ++ x)) (append-nil (p .unread)) ∙ lines-last (p .begun ++ p .unread) no-newline some in
+    sym (append-assoc handed buffered text)
+    ∙ ap (λ (x : List ℕ). x ++ text) (sym parts)
+    ∙ ap (λ (x : List ℕ). p .buffered ++ x) (sym (append-nil text))
+    ∙ ap (λ (x : List (List ℕ)). p .buffered ++ session (p .table) x) (sym lines)
+over-to-come {p} (over-turn no-line none-left) =
+    let lines : linesIn (p .begun ++ (p .unread ++ [])) ≡ [] = rw (no-line, none-left) in
+    sym (append-nil (p .buffered)) ∙ ap (λ (x : List (List ℕ)). p .buffered ++ session (p .table) x) (sym lines)
 
--- from no table and no byte at hand on
-pub run-printed : {s : Stores} {input output : List ℕ} → outside (s .header) ≡ true → Turns [] s input output → output ≡ printed input
-unfolding printed
-run-printed none-held turns = turns-session turns none (no-table none-held)
+module _ {m : Machine} {handed : Handed} where
+  ends-all : {p : Program} {bytes : List ℕ} → Ending m handed p bytes → handed .«is_written» ≡ true → bytes ≡ toCome p []
+  ends-all (input-over {p} {q} {bytes} turn holds end all) written =
+      ap (λ (x : List ℕ). bytes ++ x) (ap (λ (n : ℕ). take n (m .text)) all ∙ sym (holds .bytes-buffered)) ∙ over-to-come turn
+  ends-all (write-failed unwritten buffered) written = absurd (false≢true (sym unwritten ∙ written))
+
+  ends-begun : {p : Program} {bytes : List ℕ} → Ending m handed p bytes → Begins bytes (toCome p [])
+  ends-begun (input-over {p} {q} {bytes} turn holds end all) =
+      record {
+        rest = [];
+        whole = append-nil (bytes ++ bytesHanded handed m)
+            ∙ ap (λ (x : List ℕ). bytes ++ x) (ap (λ (n : ℕ). take n (m .text)) all ∙ sym (holds .bytes-buffered))
+            ∙ over-to-come turn;
+      }
+  ends-begun (write-failed {p} unwritten buffered) =
+      record { rest = session (p .table) (linesIn (p .begun ++ (p .unread ++ []))); whole = rw buffered }
+
+  -- from the first read on
+  run-to-come : (r : Ran m handed) → r .bytes ++ toCome (r .end) [] ≡ printed (input r)
+  unfolding printed
+  run-to-come r =
+      turns-to-come (r .turns) []
+      ∙ ap (λ (x : List ℕ). printed (r .first ++ x)) (append-nil (flat (r .reads)))
+
+  pub run-printed : (r : Ran m handed) → handed .«is_written» ≡ true → output r ≡ printed (input r)
+  run-printed r written = ap (λ (x : List ℕ). r .bytes ++ x) (ends-all (r .ending) written) ∙ run-to-come r
+
+  pub run-begins : (r : Ran m handed) → Begins (output r) (printed (input r))
+  run-begins r =
+      let b = ends-begun (r .ending) in
+      record {
+        rest = b .rest;
+        whole = append-assoc (r .bytes) (r .last) (b .rest) ∙ ap (λ (x : List ℕ). r .bytes ++ x) (b .whole) ∙ run-to-come r;
+      }

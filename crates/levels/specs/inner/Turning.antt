@@ -1,77 +1,343 @@
--- What a turn of the program's loop leaves: the table after the line that it read, and the bytes that are still to be read. Which
--- bytes a read brings, and what becomes of the text that is written, no contract of read and write can say. Assumes nothing.
-use Prim.Native.Nat.{ℕ, _≤_, _<_}
-use mathlib.Core.Path.{_≡_, refl, sym}
-use mathlib.Core.Bool.{Bool, true, false, cond, false≢true}
+-- What a turn promises, from what its steps do. Assumes nothing.
+use Prim.Native.Nat.{ℕ, _+_, _-_, _*_, _≤_, _<_}
+use mathlib.Core.Path.{_≡_, refl, sym, ap, _∙_}
+use mathlib.Core.Bool.{Bool, true, false, not, false≢true}
 use mathlib.Core.Logic.{_⊎_, inl, inr}
-use mathlib.Core.List.{List, [], _∷_, _++_}
+use mathlib.Core.List.{List, [], _∷_, _++_, append-nil}
 use native.Mathlib.Omega.{arith}
-use lib.ListN.{length, take}
+use lib.ListN.{length, take, length-append}
+use lib.Dec.{eqb}
+use lib.Seq.{take-nil}
+use borrow.Author.Tests.{eq-eqb, ne-eqb}
 use Rattle.lists.specs.Lists.{has}
+use Rattle.lists.specs.Laws.Keep.{split}
 use Rattle.table.specs.Promises.{Stores}
-use Rattle.levels_said.specs.Answers.{lent, Answering}
+use Rattle.levels_said.specs.Said.{lineTurn}
+use Rattle.levels_said.specs.Answers.{Held, lent}
 use Rattle.levels_said.specs.Session.{programLengths}
 use Rattle.levels_said.specs.Laws.Kept.{line-kept}
+use Rattle.levels_answers.specs.inner.Reading.{AnsweringBehind}
 use Rattle.levels_lines.specs.declared.Input.{Input}
-use Rattle.levels_lines.specs.declared.Line.{Line}
-use Rattle.levels_lines.specs.inner.Taking.{unread, Took}
+use Rattle.levels_lines.specs.declared.Taken.{Taken}
+use Rattle.levels_lines.specs.Input.{bytesRead, unread, AtEnd, Begun}
+use Rattle.levels_lines.specs.inner.Scanning.{left-none}
+use Rattle.levels_lines.specs.inner.Taking.{LineTaken}
+use Rattle.levels_output.specs.declared.Handed.{Handed}
+use Rattle.levels_output.specs.inner.Flushing.{RoomMade}
+use Rattle.levels.specs.declared.Step.{Step}
+use Rattle.levels.specs.Run.{Program, program, answered, line-turn, read-turn, last-turn, over-turn, Machine, Holds, Within, TurnMade, Turned}
+use Rattle.levels.specs.inner.Advancing.{ReadOn, Ready, Over, Advanced, found, more, ended, nothing-left}
 
--- a line is answered; the bytes of the text that are used are those that are handed to write
-pub record Replied (line : List ℕ) (s s′ : Stores) (text : List ℕ) : Type 0 where
-  pub used : ℕ
-  pub answering : Answering line s s′ text used
+-- the most bytes that may still be taken: each turn but the last leaves fewer, so that a run ends
+abbrev pub inputLeft : Input → ℕ
+inputLeft input = input .reads * 4097 + (input .end - input .next)
 
--- A line was read and answered: the bytes before, and those that reads brought, are the line, its newline (10) and the bytes that
--- are left; the last line has no newline, since the end of the input ended it.
-pub record LineDone (before : List ℕ) (s : Stores) (rest : List ℕ) (last : Bool) (s′ : Stores) (text : List ℕ) : Type 0 where
-  pub line : List ℕ
-  pub no-newline : has 10 line ≡ false
-  pub brought : List ℕ
-  pub balance : before ++ brought ≡ line ++ cond last rest (10 ∷ rest)
-  pub at-end : last ≡ true → (rest ≡ []) × (0 < length line)
-  pub stores-lent : lent s ≡ programLengths
-  pub replied : Replied line s s′ text
-
--- A turn: a line that a newline ended, or the input is over, with a last line or where no byte is left.
-pub record Turned (before : List ℕ) (s : Stores) (over : Bool) (chunk : List ℕ) (input : Input) (s′ : Stores) (text : List ℕ) : Type 0 where
-  pub inside : input .end ≤ length chunk
-  pub goes-on : over ≡ false → LineDone before s (unread chunk input) false s′ text
-  pub ends : over ≡ true → LineDone before s (unread chunk input) true s′ text ⊎ ((s′ ≡ s) × (before ≡ []))
+pub record Shorter (before after : Input) (over : Bool) : Type 0 where
+  pub shorter : over ≡ false → inputLeft after < inputLeft before
 
 -- the program's stores
 pub lent-program : (s : Stores) → length (s .rows) ≡ 8192 → length (s .keys) ≡ 2048 → length (s .sorts) ≡ 2048 → length (s .pending) ≡ 2048
     → lent s ≡ programLengths
 lent-program s rows keys sorts pending = rw (rows, keys, sorts, pending)
 
-module _ {before line chunk : List ℕ} {r : Line} {s : Stores} (k : Took before line chunk r) (wide : length line ≡ 121) where
-  pub turned-over : (text : List ℕ) → r .«is_over» ≡ true → Turned before s true chunk (r .input) s text
-  turned-over text over =
+pub begun-none : (line : List ℕ) → Begun [] line 0
+unfolding has
+begun-none line = record { no-newline = refl; counted = omega arith; kept = sym (take-nil (length line)) }
+
+pub not-true : {b : Bool} → not b ≡ true → b ≡ false
+not-true {b = true} e = absurd (false≢true e)
+not-true {b = false} e = refl
+
+pub not-false : {b : Bool} → not b ≡ false → b ≡ true
+not-false {b = true} e = refl
+not-false {b = false} e = absurd (false≢true (sym e))
+
+-- ---- the parts of a turn
+
+no-bytes : (bytes : List ℕ) → length bytes ≡ 0 → bytes ≡ []
+no-bytes [] e = refl
+no-bytes (byte ∷ bytes) e = absurd (omega (arith, e))
+
+-- all that is buffered is handed over, or nothing
+buffered-parts : (text : List ℕ) (used count : ℕ) → (count ≡ used) ⊎ (count ≡ 0) → take used text ≡ take count text ++ take (used - count) text
+buffered-parts text used count (inl all) =
+    let none : used - count ≡ 0 = omega (arith, all) in rw (none, append-nil (take count text), all)
+buffered-parts text used count (inr none) = let all : used - count ≡ used = omega (arith, none) in rw (all, none)
+
+room-parts : (text room : ℕ) {used : ℕ} {handed : Handed} → RoomMade text used room handed → (handed .count ≡ used) ⊎ (handed .count ≡ 0)
+room-parts text room (inl all) = inl all
+room-parts text room (inr none) = inr (none .0)
+
+room-failed : (text room : ℕ) {used : ℕ} {handed : Handed} → RoomMade text used room handed → handed .«is_written» ≡ false → handed .count ≡ used
+room-failed text room (inl all) e = all
+room-failed text room (inr none) e = absurd (false≢true (sym e ∙ none .1))
+
+pub room-left : {text used room : ℕ} {handed : Handed} → used ≤ text → RoomMade text used room handed → room ≤ text → (used - handed .count) + room ≤ text
+room-left inside (inl all) wide = omega (arith, all)
+room-left inside (inr none) wide = omega (arith, none .0, none .2)
+
+not-at-end : (input : Input) → (0 < bytesRead (input .got)) × (0 < input .reads) → AtEnd input → ⊥
+not-at-end input goes (inl none) = omega (arith, goes .0, none)
+not-at-end input goes (inr none) = omega (arith, goes .1, none)
+
+parts-used : {used count : ℕ} → (count ≡ used) ⊎ (count ≡ 0) → count ≤ used
+parts-used (inl all) = omega (arith, all)
+parts-used (inr none) = omega (arith, none)
+
+module _ (s : Stores) (line₀ : List ℕ) (count : ℕ) (chunk : List ℕ) (input : Input) (text : List ℕ) (used : ℕ) (line′ chunk′ : List ℕ) (r : Step) where
+  -- the machine before a turn, and after one that answers no line
+  abbrev before : Machine
+  before =
+      record { stores = s; line = line₀; length = count; chunk = chunk; input = input; text = text; used = used }
+
+  abbrev silent : Machine
+  silent =
       record {
-        inside = k .inside;
-        goes-on = λ e. absurd (false≢true (sym e));
-        ends = λ e. inr (refl, k .over over (omega (arith, wide)));
+        stores = s;
+        line = line′;
+        length = r .length;
+        chunk = chunk′;
+        input = r .input;
+        text = text;
+        used = used - r .handed .count;
       }
 
-  -- of a line no more than 121 bytes are kept, which changes no answer
-  pub turned-line : {s′ : Stores} {text : List ℕ} → lent s ≡ programLengths → r .«is_over» ≡ false → Replied (take (r .length) line) s s′ text
-      → Turned before s (r .«is_last») chunk (r .input) s′ text
-  turned-line {s′} {text} l on m = record { inside = k .inside; goes-on = λ e. rw e at done; ends = λ e. inl (rw e at done) }
-    where
-      done : LineDone before s (unread chunk (r .input)) (r .«is_last») s′ text
-      done =
-          let t = k .goes-on on in
+  abbrev Taking : Taken → Type 0
+  Taking taken = LineTaken line₀ count chunk input line′ taken
+
+  -- no read was made
+  same-left : {taken : Taken} → Taking taken → r .input ≡ taken .input → r .input .reads ≡ input .reads
+  same-left k same = ap (λ (i : Input). i .reads) same ∙ k .same-read .reads
+
+  same-reads : {taken : Taken} → Taking taken → r .input ≡ taken .input → eqb (r .input .reads) (input .reads) ≡ true
+  same-reads k same = eq-eqb (r .input .reads) (input .reads) (same-left k same)
+
+  -- ---- a write failed
+  failed-turned : (taken : Taken) → Within before → Taking taken → r .input ≡ taken .input → r .length ≡ taken .length → chunk′ ≡ chunk → r .handed .«is_written» ≡ false
+      → r .handed .count ≡ used → r .«is_over» ≡ true → Turned before (r .handed) silent (r .«is_over»)
+  failed-turned taken within k same kept still unwritten all is-over =
+      record {
+        within = record { input-in = rw (still, same) (k .within); line-in = omega (arith, kept, k .inside); text-in = omega (arith, within .text-in) };
+        reads-left = rw (same-reads k same) (omega (arith, same-left k same));
+        none-past-end = λ end. same-left k same;
+        made = λ e. absurd (false≢true (sym unwritten ∙ e));
+        at-end = λ e. absurd (false≢true (sym unwritten ∙ e));
+        failed = λ e. (is-over, all, same-left k same, refl);
+      }
+
+  -- ---- a read
+
+  module _ (taken : Taken) (k : Taking taken) (none : taken .«is_whole» ≡ false) where
+    all-bytes : (p : Program) → Holds p before → p .unread ≡ k .bytes
+    all-bytes p h = h .bytes-unread ∙ rw none at (k .parts) ∙ append-nil (k .bytes)
+
+    no-newline : (p : Program) → Holds p before → has 10 (p .begun ++ p .unread) ≡ false
+    no-newline p h = rw (all-bytes p h) (k .line-is (p .begun) (h .line-begun) .no-newline)
+
+    module _ (y : ReadOn chunk (taken .input) (taken .length) used chunk′ r) (written : r .handed .«is_written» ≡ true) where
+      one-read : r .input .reads + 1 ≡ input .reads
+      one-read = y .reads written .1 .one-read ∙ k .same-read .reads
+
+      fewer-reads : eqb (r .input .reads) (input .reads) ≡ false
+      fewer-reads = ne-eqb (r .input .reads) (input .reads) (λ e. omega (arith, e, one-read))
+
+      read-made : (p : Program) → Holds p before → TurnMade p before (r .handed) silent false
+      read-made p h =
+          let bytes = take (bytesRead (r .input .got)) chunk′ in
+          let no-more : used - r .handed .count ≡ 0 = omega (arith, y .all-handed) in
           record {
-            line = t .bytes;
-            no-newline = t .no-newline;
-            brought = t .brought;
-            balance = t .balance;
-            at-end = t .at-end;
-            stores-lent = l;
-            replied = record {
-              used = m .used;
-              answering = record {
-                inside = m .answering .inside;
-                answers = λ p h. rw (rw wide at (t .kept), line-kept (lent s) p (t .bytes)) at (m .answering .answers p h);
-              };
+            after = program (p .table) (p .begun ++ p .unread) bytes [];
+            turn = rw (fewer-reads, y .all-handed, ← h .bytes-buffered) (read-turn bytes (no-newline p h));
+            holds = record {
+              table-held = h .table-held;
+              line-begun = rw (all-bytes p h, y .same-length) (k .line-is (p .begun) (h .line-begun));
+              bytes-unread = sym (rw (left-none chunk (taken .input .next) (taken .input .end) (k .all-taken none)) at (y .reads written .1 .there));
+              bytes-buffered = rw no-more;
             };
           }
+
+      read-turned : (0 < bytesRead (taken .input .got)) × (0 < taken .input .reads) → Turned before (r .handed) silent false
+      read-turned goes =
+          record {
+            within = record { input-in = y .reads written .1 .within; line-in = omega (arith, y .same-length, k .inside); text-in = omega (arith, y .all-handed) };
+            reads-left = rw fewer-reads (omega (arith, one-read));
+            none-past-end = λ end. absurd (not-at-end input (rw (← k .same-read .got, ← k .same-read .reads) goes) end);
+            made = λ e. read-made;
+            at-end = λ e f. absurd (false≢true f);
+            failed = λ e. absurd (false≢true (sym e ∙ written));
+          }
+
+    -- ---- the input is over, with no line begun
+    module _ (wide : 0 < length line′) (end : AtEnd (taken .input)) (empty : taken .length ≡ 0) (y : Over (taken .input) r) (still : chunk′ ≡ chunk) where
+      nothing-begun : (p : Program) → Holds p before → length (p .begun ++ p .unread) ≡ 0
+      nothing-begun p h =
+          let counted = k .line-is (p .begun) (h .line-begun) .counted in
+          rw (all-bytes p h) (omega (arith, counted, empty, wide))
+
+      over-made : (p : Program) → Holds p before → TurnMade p before (r .handed) silent true
+      over-made p h =
+          let lengths = length-append (p .begun) (p .unread) in
+          let begun : p .begun ≡ [] = no-bytes (p .begun) (omega (arith, lengths, nothing-begun p h)) in
+          let unread-none : p .unread ≡ [] = no-bytes (p .unread) (omega (arith, lengths, nothing-begun p h)) in
+          let as-used : used - r .handed .count ≡ used = omega (arith, y .none-handed) in
+          record {
+            after = p;
+            turn = rw (same-reads k (y .same-input), y .none-handed) (over-turn begun unread-none);
+            holds = record {
+              table-held = h .table-held;
+              line-begun = rw (begun, y .no-length) (begun-none line′);
+              bytes-unread = unread-none ∙ sym (rw (still, y .same-input) (left-none chunk (taken .input .next) (taken .input .end) (k .all-taken none)));
+              bytes-buffered = h .bytes-buffered ∙ rw as-used;
+            };
+          }
+
+      over-turned : Within before → Turned before (r .handed) silent true
+      over-turned within =
+          record {
+            within = record { input-in = rw (still, y .same-input) (k .within); line-in = omega (arith, y .no-length); text-in = omega (arith, within .text-in) };
+            reads-left = rw (same-reads k (y .same-input)) (omega (arith, same-left k (y .same-input)));
+            none-past-end = λ past. same-left k (y .same-input);
+            made = λ e. over-made;
+            at-end = λ e f. rw (y .same-input) end;
+            failed = λ e. absurd (false≢true (sym e ∙ y .written));
+          }
+
+  -- ---- no line is answered
+  no-line-turned : 0 < length line′ → Within before → Advanced line₀ count chunk input text used line′ chunk′ r → r .«is_line» ≡ false → Turned before (r .handed) silent (r .«is_over»)
+  no-line-turned wide within (found taken k whole y still) e =
+      elim (split (r .handed .«is_written»)) [
+        | inl w ↦ absurd (false≢true (sym e ∙ y .answers w .0))
+        | inr w ↦ failed-turned taken within k (y .same-input) (y .same-length) still w (room-failed (length text) 103492 (y .room) w) (y .fails w .1)
+      ]
+  no-line-turned wide within (more taken k none goes y) e =
+      elim (split (r .handed .«is_written»)) [
+        | inl w ↦ rw (y .reads w .0) (read-turned taken k none y w goes)
+        | inr w ↦ failed-turned taken within k (y .fails w .1) (y .same-length) (y .fails w .2) w (y .all-handed) (y .fails w .0)
+      ]
+  no-line-turned wide within (ended taken k none end some y still) e =
+      elim (split (r .handed .«is_written»)) [
+        | inl w ↦ absurd (false≢true (sym e ∙ y .answers w .0))
+        | inr w ↦ failed-turned taken within k (y .same-input) (y .same-length) still w (room-failed (length text) 103492 (y .room) w) (y .fails w .1)
+      ]
+  no-line-turned wide within (nothing-left taken k none end empty y still) e = rw (y .is-over) (over-turned taken k none wide end empty y still within)
+
+  pub turned-silent : {left : ℕ} → left ≡ used - r .handed .count → 0 < length line′ → Within before → Advanced line₀ count chunk input text used line′ chunk′ r → r .«is_line» ≡ false
+      → Turned before (r .handed) (record { stores = s; line = line′; length = r .length; chunk = chunk′; input = r .input; text = text; used = left }) (r .«is_over»)
+  turned-silent left wide within a e = rw left (no-line-turned wide within a e)
+
+  -- ---- a line is answered
+  module _ {s′ : Stores} {text′ : List ℕ} {used′ : ℕ} (wide : length line′ ≡ 121) (lent-is : lent s ≡ programLengths)
+      {left : ℕ} (left-is : left ≡ used - r .handed .count) (a : AnsweringBehind (take (r .length) line′) s s′ text left text′ used′) where
+    abbrev after-line : Machine
+    after-line =
+        record { stores = s′; line = line′; length = 0; chunk = chunk′; input = r .input; text = text′; used = used′ }
+
+    -- of a line no more than 121 bytes are kept, which changes no answer
+    answered-holds : (p : Program) (bytes rest : List ℕ) → Held (p .table) s → take (r .length) line′ ≡ take 121 bytes → rest ≡ unread chunk′ (r .input)
+        → Holds (answered p bytes rest (take (used - r .handed .count) text)) after-line
+    answered-holds p bytes rest held cut there =
+        let same : lineTurn (lent s) (p .table) (take (r .length) line′) ≡ lineTurn programLengths (p .table) bytes = rw (cut, line-kept (lent s) (p .table) bytes, lent-is) in
+        record {
+          table-held = rw same at (a .held (p .table) held);
+          line-begun = begun-none line′;
+          bytes-unread = there;
+          bytes-buffered = sym (rw (same, left-is) at (a .text-is (p .table) held));
+        }
+
+    module _ (taken : Taken) (k : Taking taken) {over : Bool} (y : Ready (length text) (taken .input) (taken .length) used over r) (still : chunk′ ≡ chunk) where
+      line-cut : (p : Program) → Holds p before → take (r .length) line′ ≡ take 121 (p .begun ++ k .bytes)
+      line-cut p h = rw (y .same-length, ← wide) (k .line-is (p .begun) (h .line-begun) .kept)
+
+      parts : (p : Program) → Holds p before → p .buffered ≡ take (r .handed .count) text ++ take (used - r .handed .count) text
+      parts p h = h .bytes-buffered ∙ buffered-parts text used (r .handed .count) (room-parts (length text) 103492 (y .room))
+
+      line-turned : r .handed .«is_written» ≡ true → ((p : Program) → Holds p before → TurnMade p before (r .handed) after-line over) → (over ≡ true → AtEnd (taken .input))
+          → Turned before (r .handed) after-line over
+      line-turned written made end =
+          record {
+            within = record { input-in = rw (still, y .same-input) (k .within); line-in = omega arith; text-in = a .inside };
+            reads-left = rw (same-reads k (y .same-input)) (omega (arith, same-left k (y .same-input)));
+            none-past-end = λ past. same-left k (y .same-input);
+            made = λ e. made;
+            at-end = λ e f. rw (y .same-input) (end f);
+            failed = λ e. absurd (false≢true (sym e ∙ written));
+          }
+
+    line-made : (taken : Taken) (k : Taking taken) → taken .«is_whole» ≡ true → Ready (length text) (taken .input) (taken .length) used false r → chunk′ ≡ chunk
+        → (p : Program) → Holds p before → TurnMade p before (r .handed) after-line false
+    line-made taken k whole y still p h =
+        let rest = unread chunk (taken .input) in
+        record {
+          after = answered p (p .begun ++ k .bytes) rest (take (used - r .handed .count) text);
+          turn = rw (same-reads k (y .same-input))
+              (line-turn (k .bytes) rest (take (r .handed .count) text) (take (used - r .handed .count) text) (h .bytes-unread ∙ rw whole at (k .parts)) (k .line-is (p .begun) (h .line-begun) .no-newline) (parts taken k y still p h));
+          holds = answered-holds p (p .begun ++ k .bytes) rest (h .table-held) (line-cut taken k y still p h) (rw (still, y .same-input));
+        }
+
+    last-made : (taken : Taken) (k : Taking taken) → taken .«is_whole» ≡ false → 0 < taken .length → Ready (length text) (taken .input) (taken .length) used true r → chunk′ ≡ chunk
+        → (p : Program) → Holds p before → TurnMade p before (r .handed) after-line true
+    last-made taken k none some y still p h =
+        let counted = k .line-is (p .begun) (h .line-begun) .counted in
+        let more-than-none : 0 < length (p .begun ++ p .unread) = rw (all-bytes taken k none p h) (omega (arith, counted, some)) in
+        record {
+          after = answered p (p .begun ++ p .unread) [] (take (used - r .handed .count) text);
+          turn = rw (same-reads k (y .same-input))
+              (last-turn (take (r .handed .count) text) (take (used - r .handed .count) text) (no-newline taken k none p h) more-than-none (parts taken k y still p h));
+          holds = answered-holds p (p .begun ++ p .unread) [] (h .table-held) (rw (all-bytes taken k none p h) (line-cut taken k y still p h)) (sym (rw (still, y .same-input) (left-none chunk (taken .input .next) (taken .input .end) (k .all-taken none))));
+        }
+
+    pub turned-line : Advanced line₀ count chunk input text used line′ chunk′ r → r .«is_line» ≡ true → Turned before (r .handed) after-line (r .«is_over»)
+    turned-line (found taken k whole y still) e =
+        elim (split (r .handed .«is_written»)) [
+          | inl w ↦ rw (y .answers w .1) (line-turned taken k y still w (line-made taken k whole y still) (λ f. absurd (false≢true f)))
+          | inr w ↦ absurd (false≢true (sym (y .fails w .0) ∙ e))
+        ]
+    turned-line (more taken k none goes y) e = absurd (false≢true (sym (y .no-line) ∙ e))
+    turned-line (ended taken k none end some y still) e =
+        elim (split (r .handed .«is_written»)) [
+          | inl w ↦ rw (y .answers w .1) (line-turned taken k y still w (last-made taken k none some y still) (λ f. end))
+          | inr w ↦ absurd (false≢true (sym (y .fails w .0) ∙ e))
+        ]
+    turned-line (nothing-left taken k none end empty y still) e = absurd (false≢true (sym (y .no-line) ∙ e))
+
+-- ---- bounds
+
+module _ {line₀ : List ℕ} {count : ℕ} {chunk : List ℕ} {input : Input} {text : List ℕ} {used : ℕ} {line′ chunk′ : List ℕ} {r : Step} where
+  -- no more is handed over than is buffered
+  pub handed-used : Advanced line₀ count chunk input text used line′ chunk′ r → r .handed .count ≤ used
+  handed-used (found taken k whole y still) = parts-used (room-parts (length text) 103492 (y .room))
+  handed-used (more taken k none goes y) = omega (arith, y .all-handed)
+  handed-used (ended taken k none end some y still) = parts-used (room-parts (length text) 103492 (y .room))
+  handed-used (nothing-left taken k none end empty y still) = omega (arith, y .none-handed)
+
+  -- there is room for the answer, and the line's bytes are in its store
+  pub room-for-line : used ≤ length text → 103492 ≤ length text → Advanced line₀ count chunk input text used line′ chunk′ r → r .«is_line» ≡ true
+      → (r .length ≤ length line′) × ((used - r .handed .count) + 103492 ≤ length text)
+  room-for-line inside wide (found taken k whole y still) e = (omega (arith, y .same-length, k .inside), room-left inside (y .room) wide)
+  room-for-line inside wide (more taken k none goes y) e = absurd (false≢true (sym (y .no-line) ∙ e))
+  room-for-line inside wide (ended taken k none end some y still) e = (omega (arith, y .same-length, k .inside), room-left inside (y .room) wide)
+  room-for-line inside wide (nothing-left taken k none end empty y still) e = absurd (false≢true (sym (y .no-line) ∙ e))
+
+  -- a line or a read less
+  pub turn-shorter : (r .«is_line» ≡ false → length chunk′ ≡ 4096) → Advanced line₀ count chunk input text used line′ chunk′ r → Shorter input (r .input) (r .«is_over»)
+  turn-shorter wide (found taken k whole y still) =
+      record {
+        shorter = λ e. rw (y .same-input) (omega (arith, k .moved whole, k .within .ordered, k .same-read .end, k .same-read .reads));
+      }
+  turn-shorter wide (more taken k none goes y) =
+      record {
+        shorter = λ e.
+            elim (split (r .handed .«is_written»)) [
+              | inl w ↦ omega (arith, y .reads w .1 .one-read, y .reads w .1 .within .inside, wide (y .no-line), k .same-read .reads)
+              | inr w ↦ absurd (false≢true (sym e ∙ y .fails w .0))
+            ];
+      }
+  turn-shorter wide (ended taken k none end some y still) =
+      record {
+        shorter = λ e.
+            elim (split (r .handed .«is_written»)) [
+              | inl w ↦ absurd (false≢true (sym e ∙ y .answers w .1))
+              | inr w ↦ absurd (false≢true (sym e ∙ y .fails w .1))
+            ];
+      }
+  turn-shorter wide (nothing-left taken k none end empty y still) = record { shorter = λ e. absurd (false≢true (sym e ∙ y .is-over)) }

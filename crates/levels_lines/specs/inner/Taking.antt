@@ -1,59 +1,90 @@
--- What reading a line promises: the bytes that were there and those that reads brought are the line, its newline, and the bytes
--- that are left. Assumes nothing.
-use Prim.Native.Nat.{ℕ, suc, _+_, _-_, _≤_, _<_, min}
+-- What a read and the taking of a line promise: the unread bytes are those before and those that a read brought; the unread bytes
+-- are the line's next bytes, its newline, and the bytes that stay unread. Assumes nothing.
+use Prim.Native.Nat.{ℕ, suc, _+_, _-_, _≤_, _<_}
 use mathlib.Core.Path.{_≡_, refl, sym, ap, _∙_}
 use mathlib.Core.Logic.{inl, inr}
 use mathlib.Core.Bool.{Bool, true, false, cond, false≢true}
-use mathlib.Core.List.{List, [], _∷_, _++_, append-nil, append-assoc}
+use mathlib.Core.List.{List, [], _∷_, _++_, append-nil}
 use native.Mathlib.Omega.{arith}
+use lib.IntN.{ℤ, pos, negsuc}
 use lib.ListN.{length, take, drop, length-append, length-take, length-drop}
 use lib.Dec.{eqb}
-use lib.Seq.{take-nil, drop-drop}
-use borrow.Author.Tests.{ne-eqb, eqb-true, eqb-false}
+use lib.Seq.{drop-drop}
+use borrow.Author.Tests.{eq-eqb, ne-eqb, eqb-true, eqb-false}
+use Rattle.io.specs.Counts.{clamped}
+use Rattle.libc.specs.Io.{Moved}
 use Rattle.lists.specs.Lists.{has}
 use Rattle.lists.specs.Laws.Keep.{split}
 use Rattle.lists.specs.Laws.Parts.{take-drop}
 use Rattle.lists.specs.Laws.Rising.{has-append}
 use Rattle.levels_lines.specs.declared.Input.{Input}
-use Rattle.levels_lines.specs.declared.Line.{Line}
 use Rattle.levels_lines.specs.declared.Scan.{Scan}
+use Rattle.levels_lines.specs.declared.Taken.{Taken}
+use Rattle.levels_lines.specs.Input.{bytesRead, unread, InputIn, AtEnd, Begun}
 use Rattle.levels_lines.specs.inner.Scanning.{before-newline, Scanned, take-in, left, left-none}
 
--- the bytes of a chunk that are not read yet
-abbrev pub unread : List ℕ → Input → List ℕ
-unread chunk input = left chunk (input .next) (input .end)
+-- one read of those that are left: behind the bytes before come the first bytes of the chunk as it left it, as many as it returned
+pub record Refilled (before : List ℕ) (reads : ℕ) (chunk′ : List ℕ) (r : Input) : Type 0 where
+  pub one-read : r .reads + 1 ≡ reads
+  pub within : InputIn chunk′ r
+  pub there : unread chunk′ r ≡ before ++ take (bytesRead (r .got)) chunk′
 
--- the bytes that a read brought come behind those that were there
-pub record Refilled (chunk : List ℕ) (input : Input) (chunk′ : List ℕ) (r : Input) : Type 0 where
-  pub inside : r .end ≤ length chunk′
-  pub brought : List ℕ
-  pub there : unread chunk′ r ≡ unread chunk input ++ brought
+pub record EndTested (input : Input) (r : Bool) : Type 0 where
+  pub ended : r ≡ true → AtEnd input
+  pub goes-on : r ≡ false → (0 < bytesRead (input .got)) × (0 < input .reads)
 
--- a line of which so many bytes are kept in a store: ended by a newline, or the last one, which the end of the input ended
-pub record LineTaken (before line : List ℕ) (count : ℕ) (rest : List ℕ) (last : Bool) : Type 0 where
+-- nothing was read
+pub record SameRead (input r : Input) : Type 0 where
+  pub end : r .end ≡ input .end
+  pub got : r .got ≡ input .got
+  pub reads : r .reads ≡ input .reads
+
+-- bytes of a line are taken up to its newline (10), or all
+pub record LineTaken (line : List ℕ) (count : ℕ) (chunk : List ℕ) (input : Input) (line′ : List ℕ) (r : Taken) : Type 0 where
   pub bytes : List ℕ
-  pub no-newline : has 10 bytes ≡ false
-  pub counted : count ≡ min (length line) (length bytes)
-  pub kept : take count line ≡ take (length line) bytes
-  pub brought : List ℕ
-  pub balance : before ++ brought ≡ bytes ++ cond last rest (10 ∷ rest)
-  pub at-end : last ≡ true → (rest ≡ []) × (0 < length bytes)
-
-pub record Took (before line chunk : List ℕ) (r : Line) : Type 0 where
-  pub inside : r .input .end ≤ length chunk
-  pub goes-on : r .«is_over» ≡ false → LineTaken before line (r .length) (unread chunk (r .input)) (r .«is_last»)
-  -- the input is over only where no byte is left
-  pub over : r .«is_over» ≡ true → 0 < length line → before ≡ []
+  pub parts : unread chunk input ≡ bytes ++ cond (r .«is_whole») (10 ∷ unread chunk (r .input)) []
+  pub line-is : (begun : List ℕ) → Begun begun line count → Begun (begun ++ bytes) line′ (r .length)
+  pub within : InputIn chunk (r .input)
+  pub moved : r .«is_whole» ≡ true → input .next < r .input .next
+  pub all-taken : r .«is_whole» ≡ false → r .input .end ≤ r .input .next
+  pub same-read : SameRead input (r .input)
+  pub inside : r .length ≤ length line′
 
 -- ---- a read
 
-pub refilled-same : (chunk : List ℕ) (input : Input) → input .end ≤ length chunk → Refilled chunk input chunk input
-refilled-same chunk input inside = record { inside = inside; brought = []; there = sym (append-nil (unread chunk input)) }
+moved-count : (got : ℤ) (most : ℕ) → Moved most got → clamped got most ≡ bytesRead got
+moved-count (pos count) most inside = omega (arith, inside)
+moved-count (negsuc error) most inside = refl
 
-pub refilled-read : (chunk : List ℕ) (input : Input) (chunk′ : List ℕ) (end : ℕ) → input .end ≤ input .next → end ≤ length chunk′
-    → Refilled chunk input chunk′ (record { next = 0; end = end })
-refilled-read chunk input chunk′ end none inside =
-    record { inside = inside; brought = left chunk′ 0 end; there = rw (left-none chunk (input .next) (input .end) none) }
+pub refilled : (chunk : List ℕ) (input : Input) (chunk′ : List ℕ) (got : ℤ) {end reads : ℕ} → input .end ≤ input .next → length chunk′ ≡ length chunk → Moved (length chunk) got
+    → end ≡ clamped got (length chunk′) → end ≤ length chunk′ → reads + 1 ≡ input .reads
+    → Refilled (unread chunk input) (input .reads) chunk′ (record { next = 0; end = end; got = got; reads = reads })
+refilled chunk input chunk′ got {end} {reads} none same moved count inside one =
+    let counted : end ≡ bytesRead got = count ∙ rw same (moved-count got (length chunk) moved) in
+    let all : end - 0 ≡ bytesRead got = omega (arith, counted) in
+    record {
+      one-read = one;
+      within = record { ordered = omega arith; counted = counted; inside = inside };
+      there =
+          ap (λ (n : ℕ). take n chunk′) all
+          ∙ ap (λ (before : List ℕ). before ++ take (bytesRead got) chunk′) (sym (left-none chunk (input .next) (input .end) none));
+    }
+
+pub refilled-first : {chunk′ : List ℕ} {r : Input} (chunk : List ℕ) (input : Input) → input .end ≡ 0 → Refilled (unread chunk input) (input .reads) chunk′ r
+    → Refilled [] (input .reads) chunk′ r
+refilled-first chunk input none f = rw (left-none chunk (input .next) (input .end) (omega arith)) at f
+
+pub end-none : (input : Input) → input .end ≡ bytesRead (input .got) → input .end ≡ 0 → EndTested input (eqb (input .end) 0)
+end-none input counted none =
+    rw (eq-eqb (input .end) 0 none)
+    (record { ended = λ e. inl (omega (arith, none, counted)); goes-on = λ e. absurd (false≢true (sym e)) })
+
+pub end-some : (input : Input) → input .end ≡ bytesRead (input .got) → (input .end ≡ 0 → ⊥) → EndTested input (eqb (input .reads) 0)
+end-some input counted some =
+    record {
+      ended = λ e. inr (eqb-true (input .reads) 0 e);
+      goes-on = λ e. (omega (arith, some, counted), omega (arith, eqb-false (input .reads) 0 e));
+    }
 
 -- ---- a newline, or none
 
@@ -95,117 +126,67 @@ left-drop chunk at end k inside =
 length-left : (chunk : List ℕ) (at end : ℕ) → end ≤ length chunk → length (left chunk at end) ≡ end - at
 length-left chunk at end inside = rw (length-take, length-drop) (omega arith)
 
--- ---- a line of several chunks
+-- ---- a line
 
--- what was taken of a line so far, and what is not read yet
-pub record Taking (before line : List ℕ) (count : ℕ) (rest : List ℕ) : Type 0 where
-  pub bytes : List ℕ
-  pub no-newline : has 10 bytes ≡ false
-  pub counted : count ≡ min (length line) (length bytes)
-  pub kept : take count line ≡ take (length line) bytes
-  pub brought : List ℕ
-  pub balance : before ++ brought ≡ bytes ++ rest
-
-pub taking-begin : (before line : List ℕ) → Taking before line 0 before
-unfolding has
-taking-begin before line =
-    record { bytes = []; no-newline = refl; counted = omega arith; kept = sym (take-nil (length line)); brought = []; balance = append-nil before }
-
-pub taking-refill : {before line chunk chunk′ : List ℕ} {count : ℕ} {input input′ : Input} → Taking before line count (unread chunk input) → Refilled chunk input chunk′ input′
-    → Taking before line count (unread chunk′ input′)
-taking-refill {before} {line} {chunk} {chunk′} {count} {input} {input′} v f =
-    record {
-      bytes = v .bytes;
-      no-newline = v .no-newline;
-      counted = v .counted;
-      kept = v .kept;
-      brought = v .brought ++ f .brought;
-      balance =
-          sym (append-assoc before (v .brought) (f .brought))
-          ∙ ap (λ (x : List ℕ). x ++ f .brought) (v .balance)
-          ∙ append-assoc (v .bytes) (unread chunk input) (f .brought)
-          ∙ ap (λ (x : List ℕ). v .bytes ++ x) (sym (f .there));
-    }
-
-none-before : (a b : List ℕ) → length (a ++ b) ≡ 0 → a ≡ []
-none-before [] b e = refl
-none-before (x ∷ a) b e = absurd (omega (arith, e))
-
--- the input has ended: with a line, if there is a byte of it, else it is over
-module _ {before line : List ℕ} {count : ℕ} (chunk : List ℕ) (input : Input) (v : Taking before line count (unread chunk input)) (none : input .end ≤ input .next) where
-  taking-last : (eqb count 0 ≡ false) → LineTaken before line count (unread chunk input) true
-  taking-last e =
-      let some : 0 < count = omega (arith, eqb-false count 0 e) in
-      record {
-        bytes = v .bytes;
-        no-newline = v .no-newline;
-        counted = v .counted;
-        kept = v .kept;
-        brought = v .brought;
-        balance = v .balance;
-        at-end = λ f. (left-none chunk (input .next) (input .end) none, omega (arith, v .counted, some));
-      }
-
-  taking-nothing : (eqb count 0 ≡ true) → 0 < length line → before ≡ []
-  taking-nothing e wide =
-      let no-bytes : length (v .bytes) ≡ 0 = omega (arith, v .counted, eqb-true count 0 e, wide) in
-      let no-rest : length (unread chunk input) ≡ 0 = ap length (left-none chunk (input .next) (input .end) none) in
-      none-before before (v .brought) (omega (arith, ap length (v .balance), length-append (v .bytes) (unread chunk input), no-bytes, no-rest))
-
-  pub taking-over : input .end ≤ length chunk → Took before line chunk (record { input = input; length = count; «is_last» = true; «is_over» = eqb count 0 })
-  taking-over inside = record { inside = inside; goes-on = taking-last; over = taking-nothing }
-
-module _ {before line line′ : List ℕ} {count : ℕ} {r : Scan} (chunk : List ℕ) (at end : ℕ) (inside : end ≤ length chunk) (some : at < end) (v : Taking before line count (left chunk at end))
-    (same : length line′ ≡ length line) (k : Scanned line count (left chunk at end) at line′ r) where
-  -- the bytes so far
+module _ {line line′ : List ℕ} {count : ℕ} {r : Scan} (chunk : List ℕ) (input : Input) (within : InputIn chunk input) (room : count ≤ length line) (same : length line′ ≡ length line)
+    (k : Scanned line count (unread chunk input) (input .next) line′ r) where
+  -- the line's bytes that are taken, and the input behind them
   abbrev here : List ℕ
-  here = v .bytes ++ before-newline (left chunk at end)
+  here = before-newline (unread chunk input)
 
-  here-no-newline : has 10 here ≡ false
-  here-no-newline = rw (has-append 10 (v .bytes) (before-newline (left chunk at end)), v .no-newline) (no-newline-before (left chunk at end))
+  abbrev rest : Input
+  rest = record { next = r .next; end = input .end; got = input .got; reads = input .reads }
 
-  here-counted : r .length ≡ min (length line′) (length here)
-  here-counted = omega (arith, k .kept .counted, v .counted, length-append (v .bytes) (before-newline (left chunk at end)))
-
-  here-kept : take (r .length) line′ ≡ take (length line′) here
-  here-kept = k .kept .same ∙ rw (v .kept, same, take-in (length line) (v .bytes) (before-newline (left chunk at end)))
-
-  -- no newline among them: all are read
-  pub taken-all : r .«is_whole» ≡ false → end ≤ r .next
-  taken-all e =
-      let none : has 10 (left chunk at end) ≡ false = sym (k .whole) ∙ e in
-      omega (arith, rw (none, no-newline-whole (left chunk at end) none) at (k .next), length-left chunk at end inside)
-
-  pub taking-more : r .«is_whole» ≡ false → Taking before line′ (r .length) (left chunk (r .next) end)
-  taking-more e =
-      let all : before-newline (left chunk at end) ≡ left chunk at end = no-newline-whole (left chunk at end) (sym (k .whole) ∙ e) in
+  here-begun : (begun : List ℕ) → Begun begun line count → Begun (begun ++ here) line′ (r .length)
+  here-begun begun b =
       record {
-        bytes = here;
-        no-newline = here-no-newline;
-        counted = here-counted;
-        kept = here-kept;
-        brought = v .brought;
-        balance = v .balance ∙ rw (left-none chunk (r .next) end (taken-all e), append-nil here, all);
+        no-newline = rw (has-append 10 begun here, b .no-newline) (no-newline-before (unread chunk input));
+        counted = omega (arith, k .kept .counted, b .counted, length-append begun here);
+        kept = k .kept .same ∙ rw (b .kept, same, take-in (length line) begun here);
       }
+
+  -- no newline among them: all are taken
+  here-all : r .«is_whole» ≡ false → (here ≡ unread chunk input) × (r .next ≡ input .end)
+  here-all e =
+      let none : has 10 (unread chunk input) ≡ false = sym (k .whole) ∙ e in
+      let all : here ≡ unread chunk input = no-newline-whole (unread chunk input) none in
+      (all, omega (arith, rw (none, all) at (k .next), length-left chunk (input .next) (input .end) (within .inside), within .ordered))
 
   -- the line ends
-  pub taking-line : r .«is_whole» ≡ true → LineTaken before line′ (r .length) (left chunk (r .next) end) false
-  taking-line e =
-      let there : has 10 (left chunk at end) ≡ true = sym (k .whole) ∙ e in
-      let n : ℕ = length (before-newline (left chunk at end)) in
-      let parts = newline-first (left chunk at end) there in
-      let fits : suc n ≤ end - at = omega (arith, ap length parts, length-append (before-newline (left chunk at end)) (10 ∷ drop (suc n) (left chunk at end)), length-left chunk at end inside) in
-      let next : r .next ≡ at + (suc n) = omega (arith, rw there at (k .next)) in
-      record {
-        bytes = here;
-        no-newline = here-no-newline;
-        counted = here-counted;
-        kept = here-kept;
-        brought = v .brought;
-        balance =
-            v .balance
-            ∙ ap (λ (x : List ℕ). v .bytes ++ x) parts
-            ∙ sym (append-assoc (v .bytes) (before-newline (left chunk at end)) (10 ∷ drop (suc n) (left chunk at end)))
-            ∙ rw (next, left-drop chunk at end (suc n) (omega arith));
-        at-end = λ f. absurd (false≢true f);
-      }
+  here-line : r .«is_whole» ≡ true → (unread chunk input ≡ here ++ (10 ∷ unread chunk rest)) × (r .next ≤ input .end) × (input .next < r .next)
+  here-line e =
+      let there : has 10 (unread chunk input) ≡ true = sym (k .whole) ∙ e in
+      let n : ℕ = length here in
+      let parts = newline-first (unread chunk input) there in
+      let fits : suc n ≤ input .end - input .next = omega (arith, ap length parts, length-append here (10 ∷ drop (suc n) (unread chunk input)), length-left chunk (input .next) (input .end) (within .inside)) in
+      let next : r .next ≡ input .next + suc n = omega (arith, rw there at (k .next)) in
+      (parts ∙ rw (next, left-drop chunk (input .next) (input .end) (suc n) (omega arith)), omega (arith, next, fits), omega (arith, next))
+
+  pub line-taken : LineTaken line count chunk input line′ (record { input = rest; length = r .length; «is_whole» = r .«is_whole» })
+  line-taken =
+      elim (split (r .«is_whole»)) [
+        | inl e ↦
+            let p = here-line e in
+            record {
+              bytes = here;
+              parts = rw e (p .0);
+              line-is = here-begun;
+              within = record { ordered = p .1; counted = within .counted; inside = within .inside };
+              moved = λ f. p .2;
+              all-taken = λ f. absurd (false≢true (sym f ∙ e));
+              same-read = record { end = refl; got = refl; reads = refl };
+              inside = omega (arith, k .kept .counted, same);
+            }
+        | inr e ↦
+            let p = here-all e in
+            record {
+              bytes = here;
+              parts = rw e (sym (p .0) ∙ sym (append-nil here));
+              line-is = here-begun;
+              within = record { ordered = omega (arith, p .1); counted = within .counted; inside = within .inside };
+              moved = λ f. absurd (false≢true (sym e ∙ f));
+              all-taken = λ f. omega (arith, p .1);
+              same-read = record { end = refl; got = refl; reads = refl };
+              inside = omega (arith, k .kept .counted, same);
+            }
+      ]

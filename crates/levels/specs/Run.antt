@@ -1,0 +1,147 @@
+-- The program `levels` as it runs: turns one after another, each with the bytes that it hands to write and those that its read brings.
+-- Which bytes a read brings is what the read returned and the chunk as it left it; which bytes are handed over is what the write
+-- function returned. Assumes nothing.
+use Prim.Native.Nat.{ℕ, suc, _+_, _≤_, _<_}
+use mathlib.Core.Path.{_≡_}
+use mathlib.Core.Bool.{Bool, true, false, cond}
+use mathlib.Core.List.{List, [], _∷_, _++_}
+use mathlib.Core.Option.{Option, none}
+use lib.ListN.{length, take}
+use lib.Dec.{eqb}
+use Rattle.lists.specs.Lists.{has, flat}
+use Rattle.plain.specs.Plain.{Plain}
+use Rattle.table.specs.Promises.{Stores, stores}
+use Rattle.levels_said.specs.Said.{lineTurn}
+use Rattle.levels_said.specs.Answers.{Held}
+use Rattle.levels_said.specs.Session.{programLengths}
+use Rattle.levels_lines.specs.declared.Input.{Input}
+use Rattle.levels_lines.specs.Input.{bytesRead, unread, InputIn, AtEnd, Begun}
+use Rattle.levels_output.specs.declared.Handed.{Handed}
+use Rattle.levels.specs.declared.State.{State}
+
+-- What the program has between two turns: its table; the bytes of a line whose newline is not found yet; bytes behind them that were
+-- read and are not taken yet; and answers that are not handed to write yet.
+pub record Program : Type 0 where
+  pub table : Option Plain
+  pub begun : List ℕ
+  pub unread : List ℕ
+  pub buffered : List ℕ
+
+abbrev pub program : Option Plain → List ℕ → List ℕ → List ℕ → Program
+program table begun unread buffered = record { table = table; begun = begun; unread = unread; buffered = buffered }
+
+-- a program after a line is answered: what stays unread, and the answer behind what stays buffered
+abbrev pub answered : Program → List ℕ → List ℕ → List ℕ → Program
+answered p line unread buffered =
+    program (lineTurn programLengths (p .table) line .table) [] unread (buffered ++ lineTurn programLengths (p .table) line .text)
+
+-- A turn: the bytes that it hands to write, what each of its reads brings (there is one or none), and whether the input is over.
+pub data Turn : Program → List ℕ → List (List ℕ) → Program → Bool → Type 0 where
+  -- the line ends (10) among the unread bytes, and is answered; where there is no room, buffered bytes are handed over before
+  line-turn : {p : Program} (bytes rest handed buffered : List ℕ) → p .unread ≡ bytes ++ (10 ∷ rest) → has 10 (p .begun ++ bytes) ≡ false
+      → p .buffered ≡ handed ++ buffered → Turn p handed [] (answered p (p .begun ++ bytes) rest buffered) false
+  -- it does not: all buffered bytes are handed over, and then one read is made
+  read-turn : {p : Program} (brought : List ℕ) → has 10 (p .begun ++ p .unread) ≡ false
+      → Turn p (p .buffered) (brought ∷ []) (program (p .table) (p .begun ++ p .unread) brought []) false
+  -- it does not, and the input is over: the bytes so far are the last line, if there are any
+  last-turn : {p : Program} (handed buffered : List ℕ) → has 10 (p .begun ++ p .unread) ≡ false → 0 < length (p .begun ++ p .unread)
+      → p .buffered ≡ handed ++ buffered → Turn p handed [] (answered p (p .begun ++ p .unread) [] buffered) true
+  over-turn : {p : Program} → p .begun ≡ [] → p .unread ≡ [] → Turn p [] [] p true
+
+-- turns one after another, none of which ends the input
+pub data Turns (p : Program) : List ℕ → List (List ℕ) → Program → Type 0 where
+  begin : Turns p [] [] p
+  then : {handed bytes : List ℕ} {reads read : List (List ℕ)} {q r : Program} → Turns p handed reads q → Turn q bytes read r false
+      → Turns p (handed ++ bytes) (reads ++ read) r
+
+-- ---- the code's state and stores
+
+pub record Machine : Type 0 where
+  pub stores : Stores
+  -- the line so far
+  pub line : List ℕ
+  pub length : ℕ
+  pub chunk : List ℕ
+  pub input : Input
+  -- the first `used` bytes of the text are buffered
+  pub text : List ℕ
+  pub used : ℕ
+
+pub record Holds (p : Program) (m : Machine) : Type 0 where
+  pub table-held : Held (p .table) (m .stores)
+  pub line-begun : Begun (p .begun) (m .line) (m .length)
+  pub bytes-unread : p .unread ≡ unread (m .chunk) (m .input)
+  pub bytes-buffered : p .buffered ≡ take (m .used) (m .text)
+
+-- the state between two turns, with the stores
+abbrev pub machine : State → List ℕ → List ℕ → List ℕ → List ℕ → List ℕ → List ℕ → List ℕ → Machine
+machine state line chunk rows keys sorts pending text =
+    record {
+      stores = stores (state .header) rows keys sorts pending;
+      line = line;
+      length = state .length;
+      chunk = chunk;
+      input = state .input;
+      text = text;
+      used = state .used;
+    }
+
+-- the lengths and places are within the stores
+pub record Within (m : Machine) : Type 0 where
+  pub input-in : InputIn (m .chunk) (m .input)
+  pub line-in : m .length ≤ length (m .line)
+  pub text-in : m .used ≤ length (m .text)
+
+-- the bytes that were handed to write, and those that a read brought, if one was made
+abbrev pub bytesHanded : Handed → Machine → List ℕ
+bytesHanded handed m = take (handed .count) (m .text)
+
+abbrev pub brought : Input → Machine → List (List ℕ)
+brought before m =
+    cond (eqb (m .input .reads) (before .reads)) [] (take (bytesRead (m .input .got)) (m .chunk) ∷ [])
+
+-- A turn of the code, on whatever program it holds.
+pub record TurnMade (p : Program) (m : Machine) (handed : Handed) (m′ : Machine) (over : Bool) : Type 0 where
+  pub after : Program
+  pub turn : Turn p (bytesHanded handed m) (brought (m .input) m′) after over
+  pub holds : Holds after m′
+
+pub record Turned (m : Machine) (handed : Handed) (m′ : Machine) (over : Bool) : Type 0 where
+  pub within : Within m′
+  pub reads-left : length (brought (m .input) m′) + m′ .input .reads ≡ m .input .reads
+  -- after the end of the input no read is made
+  pub none-past-end : AtEnd (m .input) → m′ .input .reads ≡ m .input .reads
+  pub made : handed .«is_written» ≡ true → (p : Program) → Holds p m → TurnMade p m handed m′ over
+  pub at-end : handed .«is_written» ≡ true → over ≡ true → AtEnd (m′ .input)
+  -- a write of all buffered bytes failed: it is the last turn, and makes no read
+  pub failed : handed .«is_written» ≡ false → (over ≡ true) × (handed .count ≡ m .used) × (m′ .input .reads ≡ m .input .reads) × (m′ .text ≡ m .text)
+
+-- How a run ends, and not otherwise, with the bytes that are handed over last: the input is over, and all that is buffered is handed
+-- over; or a write of it failed.
+pub data Ending (m : Machine) (handed : Handed) : Program → List ℕ → Type 0 where
+  input-over : {p q : Program} {bytes : List ℕ} → Turn p bytes [] q true → Holds q m → AtEnd (m .input) → handed .count ≡ m .used
+      → Ending m handed p (bytes ++ bytesHanded handed m)
+  write-failed : {p : Program} → handed .«is_written» ≡ false → bytesHanded handed m ≡ p .buffered → Ending m handed p (bytesHanded handed m)
+
+-- A run from no table on: what the first read brought and what each other one did, and the bytes handed over before the last ones.
+pub record Ran (m : Machine) (handed : Handed) : Type 0 where
+  pub first : List ℕ
+  pub reads : List (List ℕ)
+  pub bytes : List ℕ
+  pub end : Program
+  pub turns : Turns (program none [] first []) bytes reads end
+  pub last : List ℕ
+  pub ending : Ending m handed end last
+  pub reads-made : suc (length reads) + m .input .reads ≡ 18446744073709551615
+
+-- all bytes that reads brought, and all that were handed to write
+abbrev pub input : {m : Machine} {handed : Handed} → Ran m handed → List ℕ
+input r = r .first ++ flat (r .reads)
+
+abbrev pub output : {m : Machine} {handed : Handed} → Ran m handed → List ℕ
+output r = r .bytes ++ r .last
+
+-- a list begins another
+pub record Begins (bytes all : List ℕ) : Type 0 where
+  pub rest : List ℕ
+  pub whole : bytes ++ rest ≡ all

@@ -1,0 +1,117 @@
+-- What holds from turn to turn of a run, and what its end promises. Assumes nothing.
+use Prim.Native.Nat.{ℕ, suc, _+_}
+use mathlib.Core.Path.{_≡_, refl, sym}
+use mathlib.Core.Bool.{Bool, true, false, false≢true}
+use mathlib.Core.Logic.{inl, inr}
+use mathlib.Core.List.{List, [], _++_}
+use mathlib.Core.Option.{none}
+use native.Mathlib.Omega.{arith}
+use lib.ListN.{length, take, length-append}
+use Rattle.lists.specs.Laws.Keep.{split}
+use Rattle.table.specs.declared.Header.{Header}
+use Rattle.table.specs.Refusing.{outside}
+use Rattle.levels_said.specs.Answers.{no-table}
+use Rattle.levels_lines.specs.declared.Input.{Input}
+use Rattle.levels_lines.specs.Input.{bytesRead}
+use Rattle.levels_lines.specs.inner.Taking.{Refilled}
+use Rattle.levels_output.specs.declared.Handed.{Handed}
+use Rattle.levels.specs.declared.State.{State}
+use Rattle.levels.specs.declared.Ended.{Ended}
+use Rattle.levels.specs.Run.{Program, program, Turn, last-turn, over-turn, Turns, begin, then, Machine, machine, Holds, Within, brought, Turned, input-over, write-failed, Ran}
+use Rattle.levels.specs.inner.Turning.{begun-none}
+
+-- what is buffered is handed over, unless a write failed before
+pub record Finished (state : State) (handed : Handed) (r : Ended) : Type 0 where
+  pub same-state : r .state ≡ state
+  pub all-handed : handed .«is_written» ≡ true → r .handed .count ≡ state .used
+  pub unwritten : handed .«is_written» ≡ false → r .handed ≡ handed
+
+-- turns so far
+pub record Running (m : Machine) : Type 0 where
+  pub within : Within m
+  pub first : List ℕ
+  pub reads : List (List ℕ)
+  pub bytes : List ℕ
+  pub here : Program
+  pub turns : Turns (program none [] first []) bytes reads here
+  pub holds : Holds here m
+  pub reads-made : suc (length reads) + m .input .reads ≡ 18446744073709551615
+
+pub running-begin : {h : Header} {input : Input} {chunk : List ℕ} (line rows keys sorts pending text : List ℕ) → outside h ≡ true → Refilled [] 18446744073709551615 chunk input
+    → Running (machine (record { header = h; input = input; length = 0; used = 0 }) line chunk rows keys sorts pending text)
+running-begin {input = input} {chunk = chunk} line rows keys sorts pending text none-held f =
+    record {
+      within = record { input-in = f .within; line-in = omega arith; text-in = omega arith };
+      first = take (bytesRead (input .got)) chunk;
+      reads = [];
+      bytes = [];
+      here = program none [] (take (bytesRead (input .got)) chunk) [];
+      turns = begin;
+      holds = record { table-held = no-table none-held; line-begun = begun-none line; bytes-unread = sym (f .there); bytes-buffered = refl };
+      reads-made = omega (arith, f .one-read);
+    }
+
+module _ {m m′ : Machine} {handed : Handed} (v : Running m) where
+  pub running-again : {over : Bool} → Turned m handed m′ over → over ≡ false → Running m′
+  running-again turned goes-on =
+      let t : Turned m handed m′ false = rw goes-on at turned in
+      elim (split (handed .«is_written»)) [
+        | inl w ↦
+            let made = t .made w (v .here) (v .holds) in
+            record {
+              within = t .within;
+              first = v .first;
+              reads = v .reads ++ brought (m .input) m′;
+              bytes = v .bytes ++ take (handed .count) (m .text);
+              here = made .after;
+              turns = then (v .turns) (made .turn);
+              holds = made .holds;
+              reads-made = omega (arith, v .reads-made, t .reads-left, length-append (v .reads) (brought (m .input) m′));
+            }
+        | inr w ↦ absurd (false≢true (t .failed w .0))
+      ]
+
+-- the last turn makes no read
+no-read : {p q : Program} {bytes : List ℕ} {reads : List (List ℕ)} → Turn p bytes reads q true → reads ≡ []
+no-read (last-turn handed buffered e some f) = refl
+no-read (over-turn e f) = refl
+
+same-left : (m m′ : Machine) → brought (m .input) m′ ≡ [] → length (brought (m .input) m′) + m′ .input .reads ≡ m .input .reads
+    → m′ .input .reads ≡ m .input .reads
+same-left m m′ none-read left = omega (arith, rw none-read at left)
+
+pub run-ends : {state : State} {handed : Handed} {r : Ended} {over : Bool} (m : Machine) (line chunk rows keys sorts pending text : List ℕ) → Running m
+    → Turned m handed (machine state line chunk rows keys sorts pending text) over → over ≡ true → Finished state handed r
+    → Ran (machine (r .state) line chunk rows keys sorts pending text) (r .handed)
+run-ends {state} {handed} {r} m line chunk rows keys sorts pending text v turned is-over f =
+    let t : Turned m handed (machine state line chunk rows keys sorts pending text) true = rw is-over at turned in
+    elim (split (handed .«is_written»)) [
+      | inl w ↦
+          let after = machine state line chunk rows keys sorts pending text in
+          let made = t .made w (v .here) (v .holds) in
+          let none-read : brought (m .input) after ≡ [] = no-read (made .turn) in
+          rw (f .same-state)
+          (record {
+            first = v .first;
+            reads = v .reads;
+            bytes = v .bytes;
+            end = v .here;
+            turns = v .turns;
+            last = take (handed .count) (m .text) ++ take (r .handed .count) text;
+            ending = input-over (rw none-read at (made .turn)) (made .holds) (t .at-end w refl) (f .all-handed w);
+            reads-made = omega (arith, v .reads-made, same-left m after none-read (t .reads-left));
+          })
+      | inr w ↦
+          let failed = t .failed w in
+          rw (f .same-state, f .unwritten w)
+          (record {
+            first = v .first;
+            reads = v .reads;
+            bytes = v .bytes;
+            end = v .here;
+            turns = v .turns;
+            last = take (handed .count) text;
+            ending = write-failed {p = v .here} w (rw (failed .1, failed .3) (sym (v .holds .bytes-buffered)));
+            reads-made = omega (arith, v .reads-made, failed .2);
+          })
+    ]
