@@ -14,7 +14,8 @@ use Rattle.table.specs.declared.Header.{Header}
 use Rattle.table.specs.Numbers.{rowSays, cellSays, rangeSays, versionSays}
 use Rattle.table.specs.Refusing.{lookupRefusal, cellRefusal, fastRefusal}
 use Rattle.table.specs.Promises.{LookedUp, CellRead, RangeRead, RowsSince, RowsSinceVersion, VersionRead}
-use Rattle.table.specs.Laws.Determined.{KnownKeys, looked-up-determined, cell-read-determined, range-read-determined, version-read-determined, rows-since-determined, rows-since-version-determined}
+use Rattle.table.specs.Laws.Determined as library
+use Rattle.table.specs.Laws.Determined.{KnownKeys, looked-up-determined, cell-read-determined, range-read-determined, version-read-determined, rows-since-determined}
 use Rattle.abi.specs.Encoding.{decodeCondition, encodeOption, encodeRange, encodeVersion, subsetSays, encodeSubset, Answers}
 use Rattle.abi.specs.Laws.Determined.{SameOutcome, answers-determined}
 
@@ -39,10 +40,10 @@ module _ {words words₁ words₂ : List ℕ} {r₁ r₂ : ℕ} where
       → SameOutcome rangeSays (λ x y. x ≡ y) r₁ r₂ words₁ words₂
   updates-since-determined h row = answers-determined (λ x y. rows-since-determined)
 
-  pub rows-since-version-same : (h : Header) (version : List ℕ)
+  pub rows-since-version-determined : (h : Header) (version : List ℕ)
       → Answers (λ a. RowsSinceVersion h (getD version 0 0) (getD version 1 0) a) rangeSays encodeRange words r₁ words₁ → Answers (λ a. RowsSinceVersion h (getD version 0 0) (getD version 1 0) a) rangeSays encodeRange words r₂ words₂
       → SameOutcome rangeSays (λ x y. x ≡ y) r₁ r₂ words₁ words₂
-  rows-since-version-same h version = answers-determined (λ x y. rows-since-version-determined)
+  rows-since-version-determined h version = answers-determined (λ x y. library.rows-since-version-determined)
 
   pub table-version-determined : (h : Header) → Answers (λ a. VersionRead h a) versionSays encodeVersion words r₁ words₁ → Answers (λ a. VersionRead h a) versionSays encodeVersion words r₂ words₂
       → SameOutcome versionSays (λ x y. x ≡ y) r₁ r₂ words₁ words₂
