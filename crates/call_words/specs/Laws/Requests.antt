@@ -102,6 +102,10 @@ index-past {l} {p} r (next {c = c} one more) =
 both : {c d : Call} {cs ds : List Call} → c ≡ d → cs ≡ ds → c ∷ cs ≡ d ∷ ds
 both e f = λ i. e i ∷ f i
 
+-- kept by some history
+abbrev KeptSome : Opening → ℕ → Stores → List ℕ → Type 0
+KeptSome o generation s index = (calls : List LentCall) × Kept o generation calls s index
+
 module _ {o : Opening} {generation : ℕ} where
   -- a refresh that is lent the whole of it
   refreshed-kept : {calls : List LentCall} {index pending′ index′ : List ℕ} (s : Stores) {r : Refresh} {answer : RefreshAnswer} → Kept o generation calls s index
@@ -117,27 +121,23 @@ module _ {o : Opening} {generation : ℕ} where
   kept-sound {calls} {s} {index} kept columns =
       kept-indexes .sound o generation calls s (body [] [] []) [] index [] columns (rw (behind-nothing s, append-nil index) kept)
 
-  -- kept by some history
-  abbrev KeptSome : Stores → List ℕ → Type 0
-  KeptSome s index = (calls : List LentCall) × Kept o generation calls s index
-
-  served-kept : {l : Lengths} {s t : Stores} {index index′ : List ℕ} {q : Request} {c : Call} → KeptSome s index → Served l s index q c t index′ → KeptSome t index′
+  served-kept : {l : Lengths} {s t : Stores} {index index′ : List ℕ} {q : Request} {c : Call} → KeptSome o generation s index → Served l s index q c t index′ → KeptSome o generation t index′
   served-kept (calls, kept) (made call) = (_, waits kept (whole-step call))
   served-kept {s = s} (calls, kept) (refreshed r answer pending′ index′ m sound call) = (_, refreshed-kept s kept m)
   served-kept {s = s} (calls, kept) (refreshed-unsound r answer pending′ index′ m unsound call) = (_, refreshed-kept s kept m)
 
-  all-kept : {l : Lengths} {s t : Stores} {index index′ : List ℕ} {qs : List Request} {cs : List Call} → KeptSome s index → ServedAll l s index qs cs t index′ → KeptSome t index′
+  all-kept : {l : Lengths} {s t : Stores} {index index′ : List ℕ} {qs : List Request} {cs : List Call} → KeptSome o generation s index → ServedAll l s index qs cs t index′ → KeptSome o generation t index′
   all-kept kept (end s index) = kept
   all-kept kept (next one more) = all-kept (served-kept kept one) more
 
-  served-requested : {l : Lengths} {s t : Stores} {index index′ : List ℕ} {q : Request} {c : Call} → KeptSome s index → Served l s index q c t index′
+  served-requested : {l : Lengths} {s t : Stores} {index index′ : List ℕ} {q : Request} {c : Call} → KeptSome o generation s index → Served l s index q c t index′
       → (c ≡ requested (length index) q) × (length index′ ≡ length index)
   unfolding requested
   served-requested kept (made call) = (refl, refl)
   served-requested kept (refreshed r answer pending′ index′ m sound call) = (refl, m .length-same)
   served-requested kept (refreshed-unsound r answer pending′ index′ m unsound call) = absurd (unsound (kept-sound (kept .1) (r .columns)))
 
-  all-requested : {l : Lengths} {s t : Stores} {index index′ : List ℕ} {qs : List Request} {cs : List Call} → KeptSome s index → ServedAll l s index qs cs t index′
+  all-requested : {l : Lengths} {s t : Stores} {index index′ : List ℕ} {qs : List Request} {cs : List Call} → KeptSome o generation s index → ServedAll l s index qs cs t index′
       → cs ≡ map (requested (length index)) qs
   all-requested kept (end s index) = refl
   all-requested kept (next one more) =
