@@ -25,7 +25,7 @@ use Rattle.abi.specs.Laws.Encoding.{answers as answered}
 use Rattle.listing_answers.proofs.check_answers as chk
 use Rattle.listing_answers.proofs.check_answers.Symbol as chk-def
 use Rattle.listing_answers.proofs.check_answers.Met as chk-thm
-use Rattle.abi_listing.specs.Encoding.{encodeVerdict}
+use Rattle.abi_listing.specs.Encoding.{encodeFinding}
 use Rattle.abi_listing.proofs.store_check as sto
 use Rattle.abi_listing.proofs.store_check.Symbol as sto-def
 use Rattle.abi_listing.proofs.store_check.Met as sto-thm
@@ -55,7 +55,7 @@ module _ {M : Type 1} (𝓤 : URA M) (H : Heap 𝓤) (A : Atoms 𝓤) (W : Given
       move ! (4 ∷ 3 ∷ []) $ owns-in ! (_ ∷ _ ∷ []) $ move ! (4 ∷ []) $ tokens-in ! 1 (κs .1 .1 .1 .0, tt) (qs .1 .1 .1 .0, tt) $
       -- [the verdict's token; what the call that stores it asks; the locals; the check's tokens and last values]
       answers ! fm sto.ended (sto.clauses 𝓤 H A mem run) known-store (((κs .1 .1 .1 .0, tt), (qs .1 .1 .1 .0, tt), tt, (r, (z, tt)), (rv ∷ [], (ptr-vals z, tt))), tt) (id⊢ 𝓤 _) refl (uint-lawful 𝓤 H A W w32) (λ v t. t .0) tt (λ tv t zs is.
-      move ! (4 ∷ []) $ heard ! (Stored checkSays encodeVerdict r (now z) t (zs .1 .0)) (λ stored. leaves ! refl tt $
+      move ! (4 ∷ []) $ heard ! (Stored checkSays encodeFinding r (now z) t (zs .1 .0)) (λ stored. leaves ! refl tt $
       -- [the verdict's token and last words; the result; the check's tokens and last values]
       tokens-out ! 1 (κs .1 .1 .1 .0, tt) (qs .1 .1 .1 .0, tt) $ move ! (3 ∷ []) $ tokens-out ! 3 κs′ qs′ $ move ! (3 ∷ 0 ∷ 1 ∷ 2 ∷ []) $ tokens-in ! 4 κs qs $
       move ! (1 ∷ []) $ skips ! 1 (fsep (FinalArray u64 2 z (zs .1 .0)) ftrue) $ pads ! 3 $ keep ! (1 ∷ 0 ∷ 2 ∷ []) $

@@ -9,5 +9,5 @@ pub mouldgrey-write-listing-spec : {M : Type 1} → statement M
 mouldgrey-write-listing-spec =
     tie.close
     (tie.spec
-    (λ c κs. search needs) (λ c κs. search needs) (λ c κs. search needs)
-    (λ c. rw (sym (c .before .before .before .decode-header .ensures)) (answers (c .before .before .write-listing .ensures) (c .store-length .ensures))))
+    (λ c κs. search needs) (λ c κs. search needs) (λ c κs. search needs) (λ c. search needs)
+    (λ c. rw (sym (c .before .before .before .before .before .before .decode-header .ensures)) (answers (c .before .before .before .before .write-listing .ensures) (c .store-length .ensures))))

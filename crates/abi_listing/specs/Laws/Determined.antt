@@ -15,7 +15,7 @@ use Rattle.listing_write.specs.Writing.{ListingWritten}
 use Rattle.listing_write.specs.Laws.Determined.{written-determined}
 use Rattle.abi.specs.Encoding.{Answers}
 use Rattle.abi.specs.Laws.Determined.{SameOutcome, answers-determined}
-use Rattle.abi_listing.specs.Encoding.{encodeHead, encodeLength, encodeVerdict}
+use Rattle.abi_listing.specs.Encoding.{encodeHead, encodeLength, encodeFinding}
 
 module _ {words words₁ words₂ : List ℕ} {r₁ r₂ : ℕ} (text : List ℕ) where
   module _ (output output₁ output₂ : List ℕ) where
@@ -32,8 +32,8 @@ module _ {words words₁ words₂ : List ℕ} {r₁ r₂ : ℕ} (text : List ℕ
         → Answers (λ a. ListingMoved numbered text output a output₂) moveSays encodeLength words r₂ words₂ → SameOutcome moveSays (λ x y. Same x y output₁ output₂) r₁ r₂ words₁ words₂
     move-determined numbered = answers-determined (λ x y. library.move-determined)
 
-  pub check-answers-determined : (conditions : List Constraint) (given : List ℕ) → Answers (λ a. AnswersChecked text conditions given a) checkSays encodeVerdict words r₁ words₁
-      → Answers (λ a. AnswersChecked text conditions given a) checkSays encodeVerdict words r₂ words₂ → SameOutcome checkSays (λ x y. x ≡ y) r₁ r₂ words₁ words₂
+  pub check-answers-determined : (conditions : List Constraint) (given : List ℕ) → Answers (λ a. AnswersChecked text conditions given a) checkSays encodeFinding words r₁ words₁
+      → Answers (λ a. AnswersChecked text conditions given a) checkSays encodeFinding words r₂ words₂ → SameOutcome checkSays (λ x y. x ≡ y) r₁ r₂ words₁ words₂
   check-answers-determined conditions given = answers-determined (λ x y. checked-determined)
 
 module _ {words words₁ words₂ : List ℕ} {r₁ r₂ : ℕ} (numbered : Bool) (h : Header) (rows output output₁ output₂ : List ℕ) where
