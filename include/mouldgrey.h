@@ -815,7 +815,8 @@ uint32_t mouldgrey_replay(const struct mouldgrey_opening *opening, struct mouldg
  * subset and meet every accepted condition, those of ranges too, rising, each once.
  *
  * first, second: work space; each query has room for as many ids as the shorter of them holds, and is
- * refused where that is too few. As many words as the starting subset has ids are always enough.
+ * refused where that is too few. Always enough are as many words as the starting subset has ids, or the
+ * longest list of ids among the queries if that is longer.
  * Writes answer, and words of first and second up to the length of the shorter.
  * Refuses: nothing; queries on a header or stores that refuse them are refused one by one.
  */
