@@ -1,5 +1,7 @@
-//! Listings as text: any bytes, and listings some of whose bytes were changed, into any output, the answer's words of any number.
+//! Listings as text: any bytes, and listings some of whose bytes were changed, into any output; and listings of any tables.
 
+use crate::image::hostile_number;
+use crate::parts;
 use crate::session::{Session, Slot};
 use crate::watch;
 use chance::Rng;
@@ -87,12 +89,58 @@ pub fn calls(session: &mut Session, rng: &mut Rng) -> Result<(), String> {
             let shown = String::from_utf8_lossy(&text);
             format!("{why}\n  at {}\n  {shown:?}", watch::place())
         };
-        match rng.percent(50) {
-            true => read(session, rng, named, &text).map_err(told)?,
-            false => moved(session, rng, named, &text).map_err(told)?,
+        match rng.below(3) {
+            0 => read(session, rng, named, &text).map_err(told)?,
+            1 => moved(session, rng, named, &text).map_err(told)?,
+            _ => written(session, rng, form).map_err(told)?,
         }
     }
     Ok(())
+}
+
+/// A listing of a table of any numbers and rows.
+fn written(session: &mut Session, rng: &mut Rng, form: Form) -> Result<(), String> {
+    let name = "mouldgrey_write_listing";
+    let mut image = parts::stores(rng);
+    match rng.below(8) {
+        0 => image.resize(rng),
+        1 => {
+            let place = rng.place(image.header.len());
+            image.header[place] = hostile_number(rng, &[]);
+        }
+        _ => {}
+    }
+    let h = image.numbers();
+    let tested = plain::test_listing(&h, &image.lengths());
+    let listed = tested.map(|()| listings::text(form, &listings::of_table(form, &h, &image.rows)));
+    let bytes = listed.as_ref().map_or(20, Vec::len);
+    let output = vec![rng.next() as u8; length(rng, bytes)];
+    let words = vec![rng.number(); 2];
+    let must = listed.and_then(|it| listings::fits(it, output.len()));
+    let numbered = match form {
+        Form::Old => 0,
+        Form::New => rng.number().max(1),
+    };
+    let header = session.given(rng, Slot::Header, &image.header);
+    let (r, r_len) = session.read(rng, Slot::Rows, &image.rows);
+    let (o, o_len) = session.write_bytes(rng, Slot::Output, &output);
+    let (w, _) = session.write(rng, Slot::Words, &words);
+    watch::call(name);
+    // SAFETY: as in `read`; an area begins and ends where a word of 64 bits may.
+    let given =
+        unsafe { raw::mouldgrey_write_listing(header, r, r_len, numbered, o, o_len, w.cast()) };
+    let expected = must.clone().err().unwrap_or(0);
+    let mut left = output;
+    let mut length = words;
+    if let Ok(text) = must {
+        left[..text.len()].copy_from_slice(&text);
+        length = halves(&[text.len() as u64]);
+    }
+    let is_so = session.left(Slot::Words) == Some(&length);
+    if given != expected || !is_so || session.left_bytes(Slot::Output) != Some(left) {
+        return Err(format!("{name}: {given}, not {expected}, or other bytes"));
+    }
+    session.close(name, given)
 }
 
 fn read(session: &mut Session, rng: &mut Rng, form: Form, text: &[u8]) -> Result<(), String> {

@@ -7,7 +7,7 @@ use std::collections::BTreeMap;
 /// not fit".
 type Kind = (&'static str, &'static [usize]);
 
-pub const SHIPPED: [Kind; 35] = [
+pub const SHIPPED: [Kind; 36] = [
     ("mouldgrey_open_table", &[1, 2]),
     ("mouldgrey_stage_insert", &[1, 3, 7]),
     ("mouldgrey_stage_remove", &[1, 3, 7]),
@@ -36,6 +36,7 @@ pub const SHIPPED: [Kind; 35] = [
     ("mouldgrey_position_of", &[15]),
     ("mouldgrey_sequence_at", &[2, 16]),
     ("mouldgrey_next_sequence", &[2, 15]),
+    ("mouldgrey_write_listing", &[1, 2]),
     ("mouldgrey_read_listing", &[2, 11]),
     ("mouldgrey_read_numbered", &[2, 11]),
     ("mouldgrey_to_numbered", &[2, 11]),

@@ -22,7 +22,9 @@ pub use columns::{from_columns, test_columns, to_columns};
 pub use layout::{key_hash, record, slots_in_use};
 use model::Model;
 pub use refresh::test_unsound;
-pub use refusals::{index_words, test_call, test_question, test_records, test_soundness};
+pub use refusals::{
+    index_words, test_call, test_listing, test_question, test_records, test_soundness,
+};
 pub use sequences::{sequences, short_opening, steps, test_output, test_position, test_sequence};
 pub use sound::is_sound;
 use std::collections::BTreeMap;

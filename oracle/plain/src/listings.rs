@@ -1,5 +1,6 @@
 //! Listings as text (document 02, change 11), read from the bytes; words in quotes are the document's.
 
+use calls::{DEAD, Header};
 use std::collections::BTreeSet;
 
 /// A form: "the head line is U in place of T with the row count added as a last field, and each D line has the row number as its
@@ -111,6 +112,24 @@ pub fn text(form: Form, listing: &Listing) -> Vec<u8> {
         line(&mut text, 'D', row);
     }
     text.into_bytes()
+}
+
+/// The listing of a table's numbers and rows: "each live row, rising", in the new form behind its number.
+pub fn of_table(form: Form, h: &Header, rows: &[u32]) -> Listing {
+    let mut head = vec![h.columns, h.keys, h.sort, h.rule, h.generation];
+    let mut listed = Vec::new();
+    for (number, row) in (0..h.rows).zip(rows.chunks(h.columns as usize)) {
+        if row[0] != DEAD {
+            listed.push(match form {
+                Form::Old => row.to_vec(),
+                Form::New => [&[number], row].concat(),
+            });
+        }
+    }
+    if form == Form::New {
+        head.push(h.rows);
+    }
+    Listing { head, rows: listed }
 }
 
 /// "Old to new numbers the rows from 0."

@@ -180,6 +180,12 @@ pub fn test_question(h: &Header, lent: &Lengths, question: &Question) -> Result<
     }
 }
 
+/// Writing a listing, added: 1, and 2 for the row store.
+pub fn test_listing(h: &Header, lent: &Lengths) -> Result<(), u32> {
+    test_header(h)?;
+    test_rows(&h.opening(), lent)
+}
+
 /// What turns the soundness check away: 1, 2.
 pub fn test_soundness(h: &Header, lent: &Lengths) -> Result<(), u32> {
     test_header_and_pending(h, lent)?;
