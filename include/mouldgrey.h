@@ -296,10 +296,10 @@ struct mouldgrey_verdict {
 /* What a list of queries leaves. */
 struct mouldgrey_query_result {
     uint32_t dense;   /* 1: the ids left are the range start..end; 0: they are a list */
-    uint32_t start;
-    uint32_t end;
-    uint32_t count;   /* of a list: how many ids are left */
-    uint32_t list;    /* which list they are the first ids of: 1 first, 2 second; 0: they are all of ids */
+    uint32_t start;   /* of a range; without meaning for a list */
+    uint32_t end;     /* of a range; without meaning for a list */
+    uint32_t count;   /* of list 1 or 2: how many of its first ids are left; 0 if list is 0 */
+    uint32_t list;    /* where a list is: 1 first, 2 second; 0: all of ids are left, nothing was dropped */
     uint32_t refined; /* 1 if some accepted query refines, else 0 */
     uint32_t taken;   /* queries taken from the list, refused ones too; 4294967295 also if more */
 };
