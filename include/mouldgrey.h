@@ -34,15 +34,20 @@
  *
  * The caller must ensure what no proof can:
  *
- *   - A pointer with a length above 0 is valid for that many words and aligned for them.
+ *   - A pointer with a length above 0 is valid for that many words and aligned for them. A pointer without
+ *     a length (to a struct or a single answer) is valid, aligned and not null.
+ *   - An answer does not overlap an argument.
  *   - Stores that are passed to one call do not overlap if one of them may be written (no const).
  *   - Nobody writes a store while a call reads or writes it. Calls whose stores are all const may run
  *     concurrently on one table.
  *
- * HOW TO SAVE AND LOAD. Save the header and the four stores, each up to the number of words needed
- * (rows, keys, sorts) or in use (pending: header.pending words). To load, read them back and call
- * mouldgrey_is_sound: it accepts exactly the stores of a sound table. It cannot see a changed cell
- * outside keys and sort column: keep a checksum beside the stores. docs/FORMAT.md describes every word.
+ * HOW TO SAVE AND LOAD. Clear the stores (calloc, memset) before you open a table that is to be saved:
+ * words that are not in use yet are saved too. Save the header and the four stores, each up to the number
+ * of words needed (rows, keys, sorts) or in use (pending: header.pending words). To load, read the header
+ * and call mouldgrey_table_version, which checks its numbers, before you use them as lengths; read the
+ * stores, with room for more in pending, and call mouldgrey_is_sound: it accepts exactly the stores of a
+ * sound table. It cannot see a changed cell outside keys and sort column: keep a checksum beside the
+ * stores. docs/FORMAT.md describes every word.
  *
  * HOW TO GROW. Open a second table with a larger capacity and stores of its own, stage every live row of
  * the first in rising row order, and merge. Row numbers change as they do in a compaction.
@@ -67,8 +72,8 @@ uint32_t mouldgrey_library_version(void);
 
 /* The call was accepted. */
 #define MOULDGREY_ACCEPTED 0
-/* A number of the header or a width is outside its bounds, or more pending words are in use than the
- * pending store has. */
+/* A number of the opening or the header, or a width, is outside its bounds, or more pending words are in
+ * use than the pending store has. */
 #define MOULDGREY_OUT_OF_BOUNDS 1
 /* A store or an output is shorter than needed. */
 #define MOULDGREY_TOO_SHORT 2
@@ -124,7 +129,11 @@ const char *mouldgrey_refusal_text(uint32_t number);
 #define MOULDGREY_SORTS_WORDS(capacity) (2 * (size_t)(capacity))
 #define MOULDGREY_COMPACTION_WORDS(capacity) (((size_t)(capacity) + 63) / 64)
 /* An index store for this many named columns; a column that is named twice counts twice. */
-#define MOULDGREY_INDEX_WORDS(capacity, columns) (16 + 3 * (size_t)(capacity) * (size_t)(columns))
+#define MOULDGREY_INDEX_WORDS(capacity, named) (16 + 3 * (size_t)(capacity) * (size_t)(named))
+/* Pending words of a staged record; a refresh takes a removal by row and an insert for each row. */
+#define MOULDGREY_INSERT_WORDS(columns) ((size_t)(columns) + 2)
+#define MOULDGREY_REMOVE_WORDS(keys) ((size_t)(keys) + 2)
+#define MOULDGREY_REMOVE_ROW_WORDS(keys) ((size_t)(keys) + 3)
 
 /* Outputs that are always long enough. */
 /* mouldgrey_read_listing and mouldgrey_read_numbered, in words, for a text of so many bytes. */
@@ -781,16 +790,17 @@ uint32_t mouldgrey_check_answers(const uint8_t *text, size_t text_len,
 #define MOULDGREY_CALL_INSERT 0     /* the cells */
 #define MOULDGREY_CALL_REMOVE 1     /* the key */
 #define MOULDGREY_CALL_REMOVE_ROW 2 /* the row number, then the key */
-#define MOULDGREY_CALL_MERGE 3      /* none */
-#define MOULDGREY_CALL_COMPACT 4    /* none */
-#define MOULDGREY_CALL_CLEAR 5      /* none */
+#define MOULDGREY_CALL_MERGE 3      /* not looked at */
+#define MOULDGREY_CALL_COMPACT 4    /* not looked at */
+#define MOULDGREY_CALL_CLEAR 5      /* not looked at */
 #define MOULDGREY_CALL_REFRESH 6    /* the number of columns, the columns, the stamp, then the values */
 
 /*
  * Opens a table as mouldgrey_open_table does and makes the calls of a list on it, in order, each with the
  * stores as they are passed here. A call that is refused changes nothing, and the next one is made; so it
  * is after a merge that stops. index is the index store of all refreshes of the list; length 0 will do if
- * there is none.
+ * there is none. If live or base is too short, every merge and compact of the list is refused. Nothing
+ * returned shows which calls were refused: compare the header and the rows with what you expect.
  *
  * Writes header, rows, keys, sorts, pending, index; live and base if something is compacted.
  * Refuses: as mouldgrey_open_table, 1 and 2; no call is made then.

@@ -6,7 +6,7 @@ const char *mouldgrey_refusal_text(uint32_t number) {
     case MOULDGREY_ACCEPTED:
         return "accepted";
     case MOULDGREY_OUT_OF_BOUNDS:
-        return "a number of the header or a width is outside its bounds";
+        return "a number of the opening or the header, or a width, is outside its bounds";
     case MOULDGREY_TOO_SHORT:
         return "a store or an output is shorter than needed";
     case MOULDGREY_WRONG_WIDTH:

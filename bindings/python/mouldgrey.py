@@ -13,18 +13,22 @@ the environment variable MOULDGREY_LIBRARIES names, then in target/lib of the re
     >>> table.refine(table.all(), [Condition.ge(2, 150)])
     range(0, 1)
 
-A refused call raises Refused and has changed nothing. A merge that stops raises Stopped.
+A refused call raises Refused and has changed nothing. A merge that stops raises Stopped. A table is not safe to change from two
+threads at a time. A negative level goes in as `level & 0xFFFFFFFF`.
 """
 
 import ctypes
 import enum
+import operator
 import os
 from ctypes import POINTER, byref, c_size_t, c_uint8, c_uint32, c_uint64
 from typing import NamedTuple
 
 __all__ = [
+    "DEAD",
     "Comparison",
     "Condition",
+    "Header",
     "Listing",
     "Merged",
     "Page",
@@ -178,17 +182,23 @@ class Refused(Exception):
     """A call was refused, and has changed nothing. `number` is the paper's."""
 
     def __init__(self, number):
-        super().__init__(f"refused {number}: {refusal_text(number)}")
+        super().__init__(number)
         self.number = number
+
+    def __str__(self):
+        return f"refused {self.number}: {refusal_text(self.number)}"
 
 
 class Stopped(Exception):
     """A merge stopped at the insert at `place`, from 0: earlier work remains, this insert and all later ones are dropped."""
 
     def __init__(self, number, place):
-        super().__init__(f"stopped {number} at insert {place}: {refusal_text(number)}")
+        super().__init__(number, place)
         self.number = number
         self.place = place
+
+    def __str__(self):
+        return f"stopped {self.number} at insert {self.place}: {refusal_text(self.number)}"
 
 
 class Rule(enum.IntEnum):
@@ -298,9 +308,14 @@ def _check(number):
 
 
 def _word(value):
+    value = operator.index(value)
     if not 0 <= value <= DEAD:
         raise OverflowError(f"{value} is no 32-bit word")
     return value
+
+
+def _constraint(condition):
+    return _Constraint(*map(_word, Condition(*condition)))
 
 
 def _words(values):
@@ -318,7 +333,7 @@ def _store(words):
 
 def _conditions(conditions):
     conditions = list(conditions)
-    return (_Constraint * len(conditions))(*(tuple(map(_word, it)) for it in conditions)), len(conditions)
+    return (_Constraint * len(conditions))(*map(_constraint, conditions)), len(conditions)
 
 
 def _subset(subset):
@@ -383,6 +398,45 @@ class Table:
                 *_store(self._pending),
             )
         )
+
+    def row(self, number):
+        """The row with this number, or None if it is dead."""
+        number = operator.index(number)
+        if not 0 <= number < self.header.rows:
+            raise IndexError(f"no row {number}")
+        row = self._row(number)
+        return None if row.cells[0] == DEAD else row
+
+    def stores(self):
+        """Header and stores as bytes, as docs/FORMAT.md describes them, one after another. Keep a checksum beside them."""
+        return b"".join(bytes(part) for part in (self.header, self._rows, self._keys, self._sorts)) + bytes(
+            self._pending
+        )[: 4 * self.header.pending]
+
+    @classmethod
+    def from_stores(cls, data, pending_words=65536):
+        """The table whose bytes stores() gave. Raises ValueError if they are no sound table."""
+        header = Header.from_buffer_copy(data)
+        _check(_table_version(byref(header), byref(_Version())))
+        table = cls(
+            columns=header.columns,
+            keys=header.keys,
+            sort=header.sort,
+            rule=header.rule,
+            capacity=header.capacity,
+            pending_words=max(pending_words, min(header.pending, len(data) // 4)),
+        )
+        at = 0
+        for part, size in [(p, ctypes.sizeof(p)) for p in (table.header, table._rows, table._keys, table._sorts)] + [
+            (table._pending, 4 * header.pending)
+        ]:
+            if len(data) < at + size:
+                raise ValueError("too few bytes")
+            ctypes.memmove(byref(part), data[at : at + size], size)
+            at += size
+        if at != len(data) or not table.is_sound():
+            raise ValueError("the stores are not sound")
+        return table
 
     def stage_insert(self, cells):
         """Stages a row for insertion at the next merge. Refused by 3 and 7."""
@@ -477,7 +531,7 @@ class Table:
     def rows_since(self, version):
         """The rows since a version that this table had. Refused by 18."""
         found = _Range()
-        _check(_rows_since_version(byref(self.header), byref(_Version(*map(_word, version))), byref(found)))
+        _check(_rows_since_version(byref(self.header), byref(_Version(*map(_word, Version(*version)))), byref(found)))
         return range(found.start, found.end)
 
     def updates_since(self, row):
@@ -517,7 +571,7 @@ class Table:
     def fast_range(self, condition):
         """The range of all rows that meet a condition on the sort column, or None. Dead rows may lie in it. Refused by 6."""
         found = _Range()
-        condition = _Constraint(*map(_word, condition))
+        condition = _constraint(condition)
         _check(_fast_subset(byref(self.header), *_store(self._sorts), byref(condition), byref(found)))
         return range(found.start, found.end) if found.found else None
 
@@ -530,7 +584,7 @@ class Table:
         subset, ids, size = _subset(subset)
         output = (c_uint32 * min(size, self.header.rows))()
         answer = _Subset()
-        condition = _Constraint(*map(_word, condition))
+        condition = _constraint(condition)
         _check(
             _refine_one(
                 byref(self.header),
@@ -581,6 +635,9 @@ class Table:
     def read_page(self, subset, place, n, conditions=()):
         """Visits n ids of a subset from a place on: the ids of live rows that meet all conditions. Refused by 4, 5 and 6."""
         subset, ids, size = _subset(subset)
+        n = min(operator.index(n), 2**32)
+        if n < 0:
+            raise ValueError("a page of fewer than 0 ids")
         output = (c_uint32 * min(n, size, self.header.rows))()
         page = _Page()
         _check(
@@ -601,7 +658,7 @@ class Table:
     def check_precedence(self, column, pairs):
         """The lowest row that fails a pair of values in a key column and the place of that pair, or None. Refused by 6, 14."""
         failure = _Failure()
-        words = _words(value for pair in pairs for value in pair)
+        words = _words(value for first, second in pairs for value in (first, second))
         _check(
             _check_precedence(
                 byref(self.header), *_store(self._rows), *_store(self._keys), _word(column), *words, byref(failure)

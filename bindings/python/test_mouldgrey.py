@@ -1,6 +1,7 @@
 """Tests of the Python binding: python3 -m unittest in this folder."""
 
 import doctest
+import pickle
 import unittest
 
 import mouldgrey
@@ -70,6 +71,35 @@ class Calls(unittest.TestCase):
         self.assertEqual([row.id for row in table], list(range(19)))
         table.clear()
         self.assertEqual(list(table), [])
+
+
+    def test_stores(self):
+        table = twenty()
+        data = table.stores()
+        again = Table.from_stores(data)
+        self.assertEqual(list(again), list(table))
+        again.stage_insert([50, 0, 9])
+        for damaged in (data[:-1], data + b"0", b"", data[:48], bytes([9]) + data[1:], data[:48] + bytes([1]) + data[49:]):
+            with self.assertRaises((ValueError, Refused)):
+                Table.from_stores(damaged)
+
+    def test_wrong_inputs(self):
+        table = twenty()
+        for wrong in (1.5, "1", None, -1, 1 << 32):
+            with self.assertRaises((TypeError, OverflowError)):
+                table.stage_insert([wrong, 0, 0])
+        with self.assertRaises(TypeError):
+            table.refine(table.all(), [(5, 2)])
+        with self.assertRaises(ValueError):
+            table.check_precedence(0, [(2, 1, 3)])
+        with self.assertRaises(ValueError):
+            table.read_page(table.all(), 0, -1)
+        self.assertIsNone(table.read_page(table.all(), 0, 1 << 64).next)
+        with self.assertRaises(IndexError):
+            table.row(20)
+        self.assertEqual(table.row(3).cells, (3, 0, 1))
+        refused = pickle.loads(pickle.dumps(Refused(3)))
+        self.assertEqual((refused.number, str(refused)), (3, "refused 3: wrong number of cells"))
 
 
 class Queries(unittest.TestCase):

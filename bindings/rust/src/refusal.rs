@@ -3,6 +3,7 @@
 use std::fmt;
 
 /// Why a call was refused. The numbers are the paper's; a refusal has changed nothing that was lent.
+#[non_exhaustive]
 #[derive(Clone, Copy, Debug, PartialEq, Eq, Hash)]
 pub enum Refusal {
     /// A header's number or a width is outside its bounds, or more pending words are in use than the pending store has.
@@ -106,28 +107,6 @@ impl Refusal {
     pub fn from_number(number: u32) -> Option<Refusal> {
         Refusal::ALL.into_iter().find(|it| it.number() == number)
     }
-
-    fn text(self) -> &'static str {
-        match self {
-            Refusal::OutOfBounds => "a header's number or a width is outside its bounds",
-            Refusal::TooShort => "a lent store or output is shorter than needed",
-            Refusal::WrongWidth => "wrong number of cells",
-            Refusal::MalformedSubset => "malformed or overlong subset",
-            Refusal::PastTheRows => "a row or place past what there is",
-            Refusal::NoSuchColumn => "no such column or kind of condition",
-            Refusal::PendingFull => "no room in the pending store",
-            Refusal::OldSortValue => "a stamp below the largest sort value appended",
-            Refusal::LastGeneration => "the generation cannot rise",
-            Refusal::NoListing => "no listing of the form named",
-            Refusal::TooManyColumns => "more than eight columns are named",
-            Refusal::BrokenRow => "not a multiple of the width",
-            Refusal::PairCount => "a number of pairs outside 1 to 16",
-            Refusal::UnknownSequence => "more than six steps, or an unknown step",
-            Refusal::PastTheLast => "a position past the last",
-            Refusal::MissingRow => "a number below the count has no row",
-            Refusal::OldNote => "a noted version of another generation or of more rows",
-        }
-    }
 }
 
 impl StopReason {
@@ -159,7 +138,8 @@ impl From<Stop> for Error {
 
 impl fmt::Display for Refusal {
     fn fmt(&self, f: &mut fmt::Formatter<'_>) -> fmt::Result {
-        write!(f, "refused {}: {}", self.number(), self.text())
+        let number = self.number();
+        write!(f, "refused {number}: {}", crate::refusal_text(number))
     }
 }
 
@@ -167,11 +147,8 @@ impl std::error::Error for Refusal {}
 
 impl fmt::Display for Stop {
     fn fmt(&self, f: &mut fmt::Formatter<'_>) -> fmt::Result {
-        let why = match self.reason {
-            StopReason::TableFull => "the table is full",
-            StopReason::OldSortValue => "a sort value below the largest one appended",
-        };
         let (number, place) = (self.reason.number(), self.place);
+        let why = crate::refusal_text(number);
         write!(f, "stopped {number} at insert {place}: {why}")
     }
 }

@@ -2,7 +2,8 @@
 
 use crate::raw;
 
-/// A set of row numbers: a range, end not included, or a strictly rising list of at most 65,536 ids.
+/// A set of row numbers: a range, end not included, or a strictly rising list of at most 65,536 ids. Equality is that of the form: a
+/// range and a list of the same ids differ; compare [`ids`](Subset::ids) for the set.
 ///
 /// ```
 /// use mouldgrey::Subset;

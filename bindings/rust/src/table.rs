@@ -959,6 +959,29 @@ impl Table {
         subset.size().min(self.stores.header.rows as usize)
     }
 
+    /// The live row with this number, such as one that a query has found; none if it is dead or there is no such row.
+    ///
+    /// ```
+    /// # use mouldgrey::{Condition, Opening, Rule, Table};
+    /// # fn main() -> Result<(), mouldgrey::Error> {
+    /// # let opening = Opening { columns: 2, keys: 1, sort: 1, rule: Rule::KeepOld, capacity: 10, generation: 0 };
+    /// # let mut table = Table::new(&opening, 100)?;
+    /// # table.stage_insert(&[7, 1])?;
+    /// # table.merge()?;
+    /// for id in table.refine_one(&table.all(), Condition::eq(0, 7))?.ids() {
+    ///     assert_eq!(table.row(id).expect("a live row").cells, [7, 1]);
+    /// }
+    /// assert_eq!(table.row(1), None);
+    /// # Ok(())
+    /// # }
+    /// ```
+    pub fn row(&self, id: u32) -> Option<Row<'_>> {
+        if id >= self.stores.header.rows {
+            return None;
+        }
+        Some(self.row_at(id)).filter(|row| row.cells[0] != DEAD)
+    }
+
     /// A row that the library has named.
     fn row_at(&self, id: u32) -> Row<'_> {
         let columns = self.stores.header.columns as usize;
