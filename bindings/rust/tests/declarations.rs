@@ -295,7 +295,7 @@ fn raw_declarations() {
 
 #[test]
 fn declarations_of_single_parts() {
-    let parts = exported("crates/probes/src/lib.rt");
+    let parts = exported("crates/test_probes/src/lib.rt");
     let expected = parts.iter().map(Exported::declared_in_rust).collect();
     assert_eq!(declared_in("oracle/probes/src/raw.rs"), sorted(expected));
 }

@@ -13,13 +13,13 @@ use Rattle.offsets.specs.declared.SubsetHead.{SubsetHead}
 use Rattle.offsets.specs.declared.SubsetAnswer.{SubsetAnswer}
 use Rattle.offsets.specs.declared.SubsetAnswer.the-variants.{Refused as SubsetRefused, Range as SubsetRange, List as SubsetList}
 use Rattle.constraints.specs.declared.Constraint.{Constraint}
-use Rattle.plain.specs.Staged.{Opening}
+use Rattle.plain_table.specs.Staged.{Opening}
 use Rattle.table.specs.declared.Largest.{Largest}
 use Rattle.table.specs.declared.Largest.the-variants.{None as NoLargest, Value}
 use Rattle.table.specs.declared.Header.{Header}
 use Rattle.table.specs.declared.Merge.{Merge}
 use Rattle.table.specs.declared.Version.{Version}
-use Rattle.queries.specs.Queries.{PageReply}
+use Rattle.query_spec.specs.Queries.{PageReply}
 
 -- ---- arguments
 

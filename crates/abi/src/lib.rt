@@ -2,14 +2,14 @@
 // goes to C as a plain pointer.
 ghost use mathlib.Core.Path.{_≡_};
 ghost use Rattle.table.specs.Numbers.{tableSays, mergeSays, rowSays, cellSays, rangeSays, versionSays, soundSays};
-ghost use Rattle.queries.specs.Queries.{matchSays, pageSays};
+ghost use Rattle.query_spec.specs.Queries.{matchSays, pageSays};
 ghost use Rattle.abi.specs.Encoding.{decodeLargest, decodeColumns, decodeHeader, decodeCondition, decodeSubset, bit, largestFlag, largestValue, encodeHeader, encodeMerge, encodeBool, encodeOption, encodeRange, encodeVersion, subsetSays, encodeSubset, encodePage, Stored};
 use constraints::Constraint;
 use offsets::SubsetAnswer;
 use offsets::SubsetHead;
-use queries::MatchAnswer;
-use queries::NextPlace;
-use queries::PageAnswer;
+use query_spec::MatchAnswer;
+use query_spec::NextPlace;
+use query_spec::PageAnswer;
 use table::CellAnswer;
 use table::Header;
 use table::Largest;

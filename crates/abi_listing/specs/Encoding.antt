@@ -1,7 +1,7 @@
 -- The encoding of the answers on listings as text. Assumes nothing.
 use Prim.Native.Nat.{ℕ}
 use mathlib.Core.List.{List, [], _∷_}
-use Rattle.listing_answers.specs.Answers.{Finding, correct, outOfOrder, lowestWrong}
+use Rattle.listing_check.specs.Answers.{Finding, correct, outOfOrder, lowestWrong}
 
 -- the head's numbers, and how many rows are listed
 abbrev pub encodeHead : List ℕ → List ℕ

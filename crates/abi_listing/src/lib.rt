@@ -2,21 +2,21 @@
 ghost use mathlib.Core.Path.{_≡_};
 ghost use mathlib.Core.Bool.{true, false, not};
 ghost use lib.Dec.{eqb};
-ghost use Rattle.listings.specs.Listings.{listingSays, numberedSays, moveSays, ListingRead, ListingMoved};
-ghost use Rattle.listing_answers.specs.Answers.{verdictSays, checkSays, AnswersChecked};
+ghost use Rattle.listing_spec.specs.Listings.{listingSays, numberedSays, moveSays, ListingRead, ListingMoved};
+ghost use Rattle.listing_check.specs.Answers.{verdictSays, checkSays, AnswersChecked};
 ghost use Rattle.listing_write.specs.Writing.{ListingWritten};
 ghost use Rattle.abi.specs.Encoding.{decodeHeader, Stored, Answers};
 ghost use Rattle.abi_listing.specs.Encoding.{encodeHead, encodeLength, encodeFinding};
 use abi::ACCEPTED;
 use abi::decode_header;
 use constraints::Constraint;
-use listing_answers::CheckAnswer;
-use listing_answers::Verdict;
-use listing_answers::check_answers;
+use listing_check::CheckAnswer;
+use listing_check::Verdict;
+use listing_check::check_answers;
+use listing_spec::ListingAnswer;
+use listing_spec::MoveAnswer;
+use listing_spec::NumberedAnswer;
 use listing_write::write_listing;
-use listings::ListingAnswer;
-use listings::MoveAnswer;
-use listings::NumberedAnswer;
 
 // Kinds of verdicts.
 const RIGHT: u64 = 0;
@@ -116,7 +116,7 @@ pub extern "C" fn mouldgrey_read_listing(
 ) -> u32
     ensures { λ r. ⌜ Answers (λ answer. ListingRead false (now (text .entry)) (now (output .entry)) (listingSays answer) (now (output .exit))) listingSays encodeHead (now (head .entry)) r (now (head .exit)) ⌝ }
 {
-    let answer = listing_reading::read_listing(text, output);
+    let answer = listing_read::read_listing(text, output);
     store_listing(answer, head)
 }
 
@@ -129,7 +129,7 @@ pub extern "C" fn mouldgrey_read_numbered(
 ) -> u32
     ensures { λ r. ⌜ Answers (λ answer. ListingRead true (now (text .entry)) (now (output .entry)) (numberedSays answer) (now (output .exit))) numberedSays encodeHead (now (head .entry)) r (now (head .exit)) ⌝ }
 {
-    let answer = listing_reading::read_numbered(text, output);
+    let answer = listing_read::read_numbered(text, output);
     store_numbered(answer, head)
 }
 
@@ -142,7 +142,7 @@ pub extern "C" fn mouldgrey_to_numbered(
 ) -> u32
     ensures { λ r. ⌜ Answers (λ answer. ListingMoved false (now (text .entry)) (now (output .entry)) answer (now (output .exit))) moveSays encodeLength (now (length .entry)) r (now (length .exit)) ⌝ }
 {
-    let answer = listing_moves::to_numbered(text, output);
+    let answer = listing_convert::to_numbered(text, output);
     store_length(answer, length)
 }
 
@@ -155,7 +155,7 @@ pub extern "C" fn mouldgrey_from_numbered(
 ) -> u32
     ensures { λ r. ⌜ Answers (λ answer. ListingMoved true (now (text .entry)) (now (output .entry)) answer (now (output .exit))) moveSays encodeLength (now (length .entry)) r (now (length .exit)) ⌝ }
 {
-    let answer = listing_moves::from_numbered(text, output);
+    let answer = listing_convert::from_numbered(text, output);
     store_length(answer, length)
 }
 

@@ -43,12 +43,12 @@ use Rattle.offsets.proofs.SubsetHead.Laws as ST′
 use Rattle.table.specs.declared.Header.{Header}
 use Rattle.table.proofs.Header as HT
 use Rattle.table.proofs.Header.Laws as HT′
-use Rattle.borrowed.specs.declared.SubsetRef.{SubsetRef}
-use Rattle.borrowed.proofs.SubsetRef as DT
-use Rattle.borrowed.proofs.SubsetRef.Laws as DT′
-use Rattle.borrowed.proofs.Locals.{Locals, Within, held, set, operands, cell, fills}
-use Rattle.borrowed.proofs.Walking.{answers as calls}
-use Rattle.borrowed.proofs.Arrays.{tokens-out, tokens-in, owns-in}
+use Rattle.query_borrowed.specs.declared.SubsetRef.{SubsetRef}
+use Rattle.query_borrowed.proofs.SubsetRef as DT
+use Rattle.query_borrowed.proofs.SubsetRef.Laws as DT′
+use Rattle.query_borrowed.proofs.Locals.{Locals, Within, held, set, operands, cell, fills}
+use Rattle.query_borrowed.proofs.Walking.{answers as calls}
+use Rattle.query_borrowed.proofs.Arrays.{tokens-out, tokens-in, owns-in}
 use Rattle.abi.specs.Encoding.{decodeHeader, decodeCondition, decodeSubset, Stored, Answers}
 use Rattle.abi.specs.Laws.Encoding.{answers}
 use Rattle.abi.proofs.decode_header as hdr

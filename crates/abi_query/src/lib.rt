@@ -1,8 +1,8 @@
 // The queries over a subset as C functions: refine by one and by a list, any match, page. A subset is three words, dense, start and
-// end, with the list of ids beside it; they make the struct that `borrowed` takes. A condition of a list is a struct of three
+// end, with the list of ids beside it; they make the struct that `query_borrowed` takes. A condition of a list is a struct of three
 // words, so a list of them is lent as it is. So each function is proved by hand: it decodes, queries and stores.
 ghost use Rattle.offsets.specs.Answers.{subsetOf};
-ghost use Rattle.queries.specs.Queries.{matchSays, pageSays, RefinedOne, RefinedList, Matched, PageRead};
+ghost use Rattle.query_spec.specs.Queries.{matchSays, pageSays, RefinedOne, RefinedList, Matched, PageRead};
 ghost use Rattle.abi.specs.Encoding.{decodeHeader, decodeCondition, decodeSubset, encodeBool, subsetSays, encodeSubset, encodePage, Answers};
 use abi::decode_condition;
 use abi::decode_header;
@@ -10,8 +10,8 @@ use abi::decode_subset;
 use abi::store_match;
 use abi::store_page;
 use abi::store_subset;
-use borrowed::SubsetRef;
 use constraints::Constraint;
+use query_borrowed::SubsetRef;
 
 // The condition is three words: kind, column, value. The answer is a subset.
 #[no_mangle]
@@ -35,7 +35,7 @@ pub extern "C" fn mouldgrey_refine_one(
         end: head.end,
         ids,
     };
-    let refined = borrowed::refine_one(h, rows, lent, c, output);
+    let refined = query_borrowed::refine_one(h, rows, lent, c, output);
     store_subset(refined, answer)
 }
 
@@ -60,7 +60,7 @@ pub extern "C" fn mouldgrey_refine_ref(
         end: head.end,
         ids,
     };
-    let refined = borrowed::refine_ref(h, rows, lent, conditions, output);
+    let refined = query_borrowed::refine_ref(h, rows, lent, conditions, output);
     store_subset(refined, answer)
 }
 
@@ -84,7 +84,7 @@ pub extern "C" fn mouldgrey_contains_match(
         end: head.end,
         ids,
     };
-    let found = borrowed::contains_match(h, rows, lent, conditions);
+    let found = query_borrowed::contains_match(h, rows, lent, conditions);
     store_match(found, matched)
 }
 
@@ -111,6 +111,6 @@ pub extern "C" fn mouldgrey_read_page(
         end: head.end,
         ids,
     };
-    let visited = borrowed::read_page(h, rows, lent, place, n, conditions, output);
+    let visited = query_borrowed::read_page(h, rows, lent, place, n, conditions, output);
     store_page(visited, page)
 }

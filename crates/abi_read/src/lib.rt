@@ -27,7 +27,7 @@ pub extern "C" fn mouldgrey_get_row(
 ) -> u32
     ensures { λ r. ⌜ Answers (λ answer. LookedUp (decodeHeader (now (header .entry))) (now (rows .entry)) (now (keys .entry)) (now (key .entry)) answer) rowSays encodeOption (now (row .entry)) r (now (row .exit)) ⌝ }
 {
-    let answer = reading::get_row(decode_header(header), rows, keys, key);
+    let answer = table_read::get_row(decode_header(header), rows, keys, key);
     store_row(answer, row)
 }
 
@@ -43,7 +43,7 @@ pub extern "C" fn mouldgrey_get_row_column(
 ) -> u32
     ensures { λ r. ⌜ Answers (λ answer. CellRead (decodeHeader (now (header .entry))) (now (rows .entry)) (now (keys .entry)) (now (key .entry)) column answer) cellSays encodeOption (now (cell .entry)) r (now (cell .exit)) ⌝ }
 {
-    let answer = reading::get_row_column(decode_header(header), rows, keys, key, column);
+    let answer = table_read::get_row_column(decode_header(header), rows, keys, key, column);
     store_cell(answer, cell)
 }
 
@@ -58,7 +58,7 @@ pub extern "C" fn mouldgrey_fast_subset(
     ensures { λ r. ⌜ Answers (λ answer. RangeRead (decodeHeader (now (header .entry))) (now (sorts .entry)) (decodeCondition (now (condition .entry))) answer) rangeSays encodeRange (now (range .entry)) r (now (range .exit)) ⌝ }
 {
     let h = decode_header(header);
-    let answer = reading::fast_subset(h, sorts, decode_condition(condition));
+    let answer = table_read::fast_subset(h, sorts, decode_condition(condition));
     store_range(answer, range)
 }
 
@@ -67,7 +67,7 @@ pub extern "C" fn mouldgrey_fast_subset(
 pub extern "C" fn mouldgrey_updates_since(header: &[u32; 12], row: u32, range: &mut [u32; 3]) -> u32
     ensures { λ r. ⌜ Answers (λ answer. RowsSince (decodeHeader (now (header .entry))) row answer) rangeSays encodeRange (now (range .entry)) r (now (range .exit)) ⌝ }
 {
-    let answer = reading::updates_since(decode_header(header), row);
+    let answer = table_read::updates_since(decode_header(header), row);
     store_range(answer, range)
 }
 
@@ -80,7 +80,7 @@ pub extern "C" fn mouldgrey_rows_since_version(
 ) -> u32
     ensures { λ r. ⌜ Answers (λ answer. RowsSinceVersion (decodeHeader (now (header .entry))) (getD (now (version .entry)) 0 0) (getD (now (version .entry)) 1 0) answer) rangeSays encodeRange (now (range .entry)) r (now (range .exit)) ⌝ }
 {
-    let answer = reading::rows_since_version(decode_header(header), version[0], version[1]);
+    let answer = table_read::rows_since_version(decode_header(header), version[0], version[1]);
     store_range(answer, range)
 }
 
@@ -89,7 +89,7 @@ pub extern "C" fn mouldgrey_rows_since_version(
 pub extern "C" fn mouldgrey_table_version(header: &[u32; 12], version: &mut [u32; 2]) -> u32
     ensures { λ r. ⌜ Answers (λ answer. VersionRead (decodeHeader (now (header .entry))) answer) versionSays encodeVersion (now (version .entry)) r (now (version .exit)) ⌝ }
 {
-    let answer = reading::version(decode_header(header));
+    let answer = table_read::version(decode_header(header));
     store_version(answer, version)
 }
 
@@ -107,7 +107,7 @@ pub extern "C" fn mouldgrey_intersect(
 {
     let a = decode_subset(first);
     let b = decode_subset(second);
-    let answer = intersection::intersect(a, first_ids, b, second_ids, output);
+    let answer = offsets_intersect::intersect(a, first_ids, b, second_ids, output);
     store_subset(answer, subset)
 }
 
@@ -122,6 +122,6 @@ pub extern "C" fn mouldgrey_intersect_ranges(
 ) -> u32
     ensures { λ r. ⌜ ((output : List ℕ) → Answers (λ answer. Answered (intersectReply (range start end) (range «other_start» «other_end») (length output)) output answer output) subsetSays encodeSubset (now (subset .entry)) r (now (subset .exit))) ⌝ }
 {
-    let answer = intersection::intersect_ranges(start, end, other_start, other_end);
+    let answer = offsets_intersect::intersect_ranges(start, end, other_start, other_end);
     store_subset(answer, subset)
 }

@@ -1,12 +1,12 @@
 // The refresh of rows that mention a value as a C function.
-ghost use Rattle.refreshes.specs.Refreshes.{refreshSays, Refreshing};
+ghost use Rattle.refresh_spec.specs.Refreshes.{refreshSays, Refreshing};
 ghost use Rattle.abi.specs.Encoding.{decodeHeader, encodeHeader, encodeBool, Stored, AnswersWithHeader};
 use abi::ACCEPTED;
 use abi::decode_header;
 use abi::encode_bool;
 use abi::encode_header;
-use refreshes::RefreshAnswer;
-use refreshing::refresh_rows_for_values;
+use refresh::refresh_rows_for_values;
+use refresh_spec::RefreshAnswer;
 
 fn store_refresh(answer: RefreshAnswer, header: &mut [u32; 12], staged: &mut [u32; 1]) -> u32
     ensures { λ r. ⌜ Stored refreshSays (λ a. encodeHeader (a .header)) answer (now (header .entry)) r (now (header .exit)) × Stored refreshSays (λ a. encodeBool (a .staged)) answer (now (staged .entry)) r (now (staged .exit)) ⌝ }

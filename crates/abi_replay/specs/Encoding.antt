@@ -2,7 +2,7 @@
 use Prim.Native.Nat.{ℕ, min}
 use mathlib.Core.List.{List, [], _∷_}
 use Rattle.refusals.specs.Refusals.{Reply, accepted}
-use Rattle.question_words.specs.declared.RunAnswer.{RunAnswer}
+use Rattle.replay_queries.specs.declared.RunAnswer.{RunAnswer}
 use Rattle.abi.specs.Encoding.{bit}
 
 -- a run of queries is never refused

@@ -4,10 +4,10 @@ ghost use Prim.Native.Nat.{min};
 ghost use Rattle.offsets.specs.Answers.{subsetOf};
 ghost use Rattle.table.specs.Numbers.{tableSays};
 ghost use Rattle.table.specs.Promises.{body, compactionWords};
-ghost use Rattle.call_words.specs.Encoding.{decoded};
+ghost use Rattle.replay_calls.specs.Encoding.{decoded};
 ghost use Rattle.replay.specs.Replays.{Replayed};
-ghost use Rattle.question_words.specs.Encoding.{questionsIn};
-ghost use Rattle.runs.specs.Asking.{RunMade};
+ghost use Rattle.replay_queries.specs.Encoding.{questionsIn};
+ghost use Rattle.replay_run.specs.Asking.{RunMade};
 ghost use Rattle.abi.specs.Encoding.{decodeHeader, decodeOpening, openingGeneration, decodeSubset, encodeHeader, Stored, Answers};
 ghost use Rattle.abi_replay.specs.Encoding.{runSays, encodeRun};
 use abi::ACCEPTED;
@@ -15,7 +15,7 @@ use abi::decode_header;
 use abi::decode_subset;
 use abi::encode_bool;
 use abi::store_table;
-use question_words::RunAnswer;
+use replay_queries::RunAnswer;
 
 // The largest count of queries that fits a word; a larger count is stored as this one.
 const MOST_TAKEN: usize = 4294967295;
@@ -99,6 +99,6 @@ pub extern "C" fn mouldgrey_run_queries(
 {
     let h = decode_header(header);
     let start = decode_subset(subset);
-    let run = runs::ask(h, rows, sorts, start, ids, queries, first, second);
+    let run = replay_run::ask(h, rows, sorts, start, ids, queries, first, second);
     store_run(run, answer)
 }

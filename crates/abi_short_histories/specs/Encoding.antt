@@ -2,8 +2,8 @@
 use Prim.Native.Nat.{ℕ}
 use mathlib.Core.List.{List, [], _∷_}
 use lib.ListN.{getD}
-use Rattle.plain.specs.Staged.{insert, removeKey, removeRow}
-use Rattle.plain.specs.Calls.{Call, staging, merging, compacting, clearing, refreshing, feeding}
+use Rattle.plain_table.specs.Staged.{insert, removeKey, removeRow}
+use Rattle.plain_table.specs.Calls.{Call, staging, merging, compacting, clearing, refreshing, feeding}
 
 -- 0 for an insert with its three cells, 1 for a removal with its key, 2 for a merge. No step is another call.
 unfoldable pub encodeCall : Call → List ℕ

@@ -1,7 +1,7 @@
 // The calls that change a table, and the soundness check, as C functions. A slice goes as a pointer and a length, a fixed array as a
 // pointer alone.
 ghost use mathlib.Core.Path.{_≡_};
-ghost use Rattle.plain.specs.Staged.{insert, removeKey, removeRow};
+ghost use Rattle.plain_table.specs.Staged.{insert, removeKey, removeRow};
 ghost use Rattle.table.specs.Numbers.{tableSays, mergeSays, soundSays};
 ghost use Rattle.table.specs.Promises.{stores, body, compactionWords, Opened, Staging, Merging, Compacting, Clearing, Checked};
 ghost use Rattle.abi.specs.Encoding.{decodeHeader, decodeOpening, openingGeneration, encodeHeader, encodeMerge, encodeBool, Answers, AnswersWithHeader};
@@ -32,7 +32,7 @@ pub extern "C" fn mouldgrey_open_table(
 ) -> u32
     ensures { λ r. ⌜ Answers (λ answer. Opened (decodeOpening (now (opening .entry))) (openingGeneration (now (opening .entry))) (body (now (rows .entry)) (now (keys .entry)) (now (sorts .entry))) (now (pending .entry)) answer (now (keys .exit))) tableSays encodeHeader (now (header .entry)) r (now (header .exit)) ⌝ }
 {
-    let answer = opening::open_table(
+    let answer = table_open::open_table(
         opening[0],
         opening[1],
         opening[2],
@@ -55,7 +55,7 @@ pub extern "C" fn mouldgrey_stage_insert(
 ) -> u32
     ensures { λ r. ⌜ Answers (λ answer. Staging (decodeHeader (now (header .entry))) (now (pending .entry)) (insert (now (cells .entry))) answer (now (pending .exit))) tableSays encodeHeader (now (header .entry)) r (now (header .exit)) ⌝ }
 {
-    let answer = staging::stage_insert(decode_header(header), pending, cells);
+    let answer = table_stage::stage_insert(decode_header(header), pending, cells);
     store_table(answer, header)
 }
 
@@ -67,7 +67,7 @@ pub extern "C" fn mouldgrey_stage_remove(
 ) -> u32
     ensures { λ r. ⌜ Answers (λ answer. Staging (decodeHeader (now (header .entry))) (now (pending .entry)) (removeKey (now (key .entry))) answer (now (pending .exit))) tableSays encodeHeader (now (header .entry)) r (now (header .exit)) ⌝ }
 {
-    let answer = staging::stage_remove(decode_header(header), pending, key);
+    let answer = table_stage::stage_remove(decode_header(header), pending, key);
     store_table(answer, header)
 }
 
@@ -80,7 +80,7 @@ pub extern "C" fn mouldgrey_stage_remove_row(
 ) -> u32
     ensures { λ r. ⌜ Answers (λ answer. Staging (decodeHeader (now (header .entry))) (now (pending .entry)) (removeRow row (now (key .entry))) answer (now (pending .exit))) tableSays encodeHeader (now (header .entry)) r (now (header .exit)) ⌝ }
 {
-    let answer = staging::stage_remove_row(decode_header(header), pending, row, key);
+    let answer = table_stage::stage_remove_row(decode_header(header), pending, row, key);
     store_table(answer, header)
 }
 
@@ -114,7 +114,7 @@ pub extern "C" fn mouldgrey_compact(
 ) -> u32
     ensures { λ r. ⌜ Answers (λ answer. Compacting (decodeHeader (now (header .entry))) (body (now (rows .entry)) (now (keys .entry)) (now (sorts .entry))) (compactionWords (now (live .entry)) (now (base .entry))) answer (body (now (rows .exit)) (now (keys .exit)) (now (sorts .exit))) (compactionWords (now (live .exit)) (now (base .exit)))) tableSays encodeHeader (now (header .entry)) r (now (header .exit)) ⌝ }
 {
-    let answer = compaction::compact(decode_header(header), rows, keys, sorts, live, base);
+    let answer = table_compact::compact(decode_header(header), rows, keys, sorts, live, base);
     store_table(answer, header)
 }
 
@@ -122,7 +122,7 @@ pub extern "C" fn mouldgrey_compact(
 pub extern "C" fn mouldgrey_clear(header: &mut [u32; 12], keys: &mut [u32]) -> u32
     ensures { λ r. ⌜ Answers (λ answer. Clearing (decodeHeader (now (header .entry))) (now (keys .entry)) answer (now (keys .exit))) tableSays encodeHeader (now (header .entry)) r (now (header .exit)) ⌝ }
 {
-    let answer = opening::clear(decode_header(header), keys);
+    let answer = table_open::clear(decode_header(header), keys);
     store_table(answer, header)
 }
 
@@ -138,6 +138,6 @@ pub extern "C" fn mouldgrey_is_sound(
 ) -> u32
     ensures { λ r. ⌜ Answers (λ answer. Checked (decodeHeader (now (header .entry))) (now (rows .entry)) (now (keys .entry)) (now (sorts .entry)) (now (pending .entry)) answer) soundSays encodeBool (now (sound .entry)) r (now (sound .exit)) ⌝ }
 {
-    let answer = soundness::is_sound(decode_header(header), rows, keys, sorts, pending);
+    let answer = table_check::is_sound(decode_header(header), rows, keys, sorts, pending);
     store_sound(answer, sound)
 }

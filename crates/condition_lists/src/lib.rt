@@ -2,11 +2,11 @@
 ghost use Prim.Native.Nat.{_≤_};
 ghost use lib.ListN.{take};
 ghost use Rattle.offsets.specs.Answers.{subsetOf};
-ghost use Rattle.queries.specs.Queries.{RefinedList};
+ghost use Rattle.query_spec.specs.Queries.{RefinedList};
 use constraints::Constraint;
 use offsets::SubsetAnswer;
 use offsets::SubsetHead;
-use questions::refine_ref;
+use query::refine_ref;
 use table::Header;
 
 // Refines by the first conditions of an array.

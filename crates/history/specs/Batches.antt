@@ -7,14 +7,14 @@ use Prim.Native.Nat.{ℕ, _≤_}
 use mathlib.Core.Path.{_≡_}
 use mathlib.Core.List.{List, [], _∷_, _++_, map}
 use Rattle.refusals.specs.Refusals.{Reply, refused, accepted, verdict}
-use Rattle.plain.specs.Staged.{insert}
-use Rattle.plain.specs.Refusing.{Lengths}
-use Rattle.plain.specs.Calls.{staging, merging, LentCall}
+use Rattle.plain_table.specs.Staged.{insert}
+use Rattle.plain_table.specs.Refusing.{Lengths}
+use Rattle.plain_table.specs.Calls.{staging, merging, LentCall}
 use Rattle.table.specs.declared.Merge.{Merge}
 use Rattle.table.specs.Numbers.{tableSays, mergeSays}
 use Rattle.table.specs.Sound.{Sound}
 use Rattle.table.specs.Promises.{Stores}
-use Rattle.refreshes.specs.Refreshes.{refreshSays}
+use Rattle.refresh_spec.specs.Refreshes.{refreshSays}
 use Rattle.history.specs.Histories.{Called, stages, merges, compacts, clears, refreshes, refreshes-unsound, Step, called}
 use Rattle.history.specs.Claim.{liveIn}
 

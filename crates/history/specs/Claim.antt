@@ -7,9 +7,9 @@ use lib.Dec.{ltb}
 use Rattle.lists.specs.Lists.{keep, every, any, rising, has, rowAt}
 use Rattle.offsets.specs.Subsets.{Subset, members}
 use Rattle.constraints.specs.Constraints.{isLive, met}
-use Rattle.plain.specs.Staged.{Opening}
-use Rattle.plain.specs.Plain.{Numbered, liveFrom, liveRows, opened}
-use Rattle.plain.specs.Calls.{LentCall, afterAll}
+use Rattle.plain_table.specs.Staged.{Opening}
+use Rattle.plain_table.specs.Plain.{Numbered, liveFrom, liveRows, opened}
+use Rattle.plain_table.specs.Calls.{LentCall, afterAll}
 use Rattle.table.specs.Stores.{rowsIn}
 use Rattle.table.specs.Promises.{Stores}
 use Rattle.history.specs.Histories.{History}

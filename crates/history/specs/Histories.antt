@@ -5,16 +5,16 @@
 use Prim.Native.Nat.{ℕ}
 use mathlib.Core.List.{List, [], _∷_, _++_}
 use lib.ListN.{length}
-use Rattle.plain.specs.Staged.{Opening, Staged}
-use Rattle.plain.specs.Refreshing.{Refresh}
-use Rattle.plain.specs.Calls.{staging, merging, compacting, clearing, refreshing, feeding, LentCall}
+use Rattle.plain_table.specs.Staged.{Opening, Staged}
+use Rattle.plain_table.specs.Refreshing.{Refresh}
+use Rattle.plain_table.specs.Calls.{staging, merging, compacting, clearing, refreshing, feeding, LentCall}
 use Rattle.table.specs.declared.TableAnswer.{TableAnswer}
 use Rattle.table.specs.declared.TableAnswer.the-variants.{Table}
 use Rattle.table.specs.declared.MergeAnswer.{MergeAnswer}
 use Rattle.table.specs.Numbers.{tableSays, mergeSays}
-use Rattle.refreshes.specs.declared.RefreshAnswer.{RefreshAnswer}
-use Rattle.refreshes.specs.Index.{IndexSound}
-use Rattle.refreshes.specs.Refreshes.{refreshSays, recordsFound, recordsStaged, headerRefreshed, Refreshing}
+use Rattle.refresh_spec.specs.declared.RefreshAnswer.{RefreshAnswer}
+use Rattle.refresh_spec.specs.Index.{IndexSound}
+use Rattle.refresh_spec.specs.Refreshes.{refreshSays, recordsFound, recordsStaged, headerRefreshed, Refreshing}
 use Rattle.table.specs.Promises.{Stores, stores, Body, body, bodyOf, joined, CompactionWords, compactionWords, lengthsLent, headerAfter, headerMerged, Opened, Staging, Merging, Compacting, Clearing}
 
 -- one call: from what it is lent to what it leaves there, by the promise of its entry point, with the stores' lengths. A store

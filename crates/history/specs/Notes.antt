@@ -13,8 +13,8 @@ use Rattle.lists.specs.Lists.{keep, has, rowAt}
 use Rattle.refusals.specs.Refusals.{accepted}
 use Rattle.offsets.specs.Subsets.{Subset, members}
 use Rattle.constraints.specs.Constraints.{isLive}
-use Rattle.plain.specs.Staged.{Opening}
-use Rattle.plain.specs.Calls.{LentCall}
+use Rattle.plain_table.specs.Staged.{Opening}
+use Rattle.plain_table.specs.Calls.{LentCall}
 use Rattle.table.specs.declared.RangeAnswer.{RangeAnswer}
 use Rattle.table.specs.Numbers.{rangeSays}
 use Rattle.table.specs.Promises.{Stores, RowsSinceVersion}

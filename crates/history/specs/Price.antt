@@ -4,10 +4,10 @@ use Prim.Native.Nat.{ℕ, _+_, _≤_}
 use mathlib.Core.Path.{_≡_}
 use mathlib.Core.List.{List}
 use Rattle.refusals.specs.Refusals.{Reply, refused, accepted}
-use Rattle.plain.specs.Staged.{Opening}
-use Rattle.plain.specs.Plain.{Plain, opened, mergeKeeps, mergeDrops}
-use Rattle.plain.specs.Calls.{LentCall}
-use Rattle.plain.specs.Appending.{overMerges, mergeAdds}
+use Rattle.plain_table.specs.Staged.{Opening}
+use Rattle.plain_table.specs.Plain.{Plain, opened, mergeKeeps, mergeDrops}
+use Rattle.plain_table.specs.Calls.{LentCall}
+use Rattle.plain_table.specs.Appending.{overMerges, mergeAdds}
 use Rattle.table.specs.Numbers.{tableSays, mergeSays}
 use Rattle.table.specs.Promises.{Stores}
 use Rattle.history.specs.Histories.{Called, stages, merges, compacts, clears, refreshes, refreshes-unsound, called, Steps, end, next, History}

@@ -8,15 +8,15 @@ use mathlib.Core.List.{List, [], _∷_, _++_, map}
 use lib.ListN.{length}
 use Rattle.lists.specs.Lists.{putAt, keep, flat}
 use Rattle.refusals.specs.Refusals.{reply}
-use Rattle.plain.specs.Staged.{Opening}
-use Rattle.plain.specs.Plain.{Plain, liveRows, opened}
-use Rattle.plain.specs.Refreshing.{Refresh, mentions}
-use Rattle.plain.specs.Calls.{refreshing, recordsOf, refusal, LentCall, afterAll}
+use Rattle.plain_table.specs.Staged.{Opening}
+use Rattle.plain_table.specs.Plain.{Plain, liveRows, opened}
+use Rattle.plain_table.specs.Refreshing.{Refresh, mentions}
+use Rattle.plain_table.specs.Calls.{refreshing, recordsOf, refusal, LentCall, afterAll}
 use Rattle.table.specs.Stores.{recordWords}
 use Rattle.table.specs.Promises.{Stores, Body, bodyOf, joined, compactionWords, lengthsLent}
-use Rattle.refreshes.specs.declared.RefreshAnswer.{RefreshAnswer}
-use Rattle.refreshes.specs.Index.{isNew, lookedUp, IndexSound, Current}
-use Rattle.refreshes.specs.Refreshes.{refreshSays, answered, headerRefreshed, Refreshing}
+use Rattle.refresh_spec.specs.declared.RefreshAnswer.{RefreshAnswer}
+use Rattle.refresh_spec.specs.Index.{isNew, lookedUp, IndexSound, Current}
+use Rattle.refresh_spec.specs.Refreshes.{refreshSays, answered, headerRefreshed, Refreshing}
 use Rattle.history.specs.Histories.{behind, Step, History}
 
 -- a refresh on a plain table, lent these stores

@@ -16,7 +16,7 @@ use Rattle.constraints.specs.declared.Constraint.{Constraint}
 use Rattle.table.specs.declared.RangeAnswer.{RangeAnswer}
 use Rattle.table.specs.Numbers.{rangeSays}
 use Rattle.table.specs.Promises.{Stores, RangeRead}
-use Rattle.queries.specs.Queries.{RefinedOne, RefinedList}
+use Rattle.query_spec.specs.Queries.{RefinedOne, RefinedList}
 
 pub data Question : Type 0 where
   refineOne : Constraint → Question

@@ -3,10 +3,10 @@ use Prim.Native.Nat.{ℕ, _≤_, _<_}
 use mathlib.Core.Path.{_≡_}
 use mathlib.Core.List.{List, []}
 use lib.ListN.{length, getD}
-use Rattle.plain.specs.Staged.{Opening}
-use Rattle.plain.specs.Plain.{opened}
-use Rattle.plain.specs.Calls.{LentCall}
-use Rattle.plain.specs.Appending.{stampsSince, greatest}
+use Rattle.plain_table.specs.Staged.{Opening}
+use Rattle.plain_table.specs.Plain.{opened}
+use Rattle.plain_table.specs.Calls.{LentCall}
+use Rattle.plain_table.specs.Appending.{stampsSince, greatest}
 use Rattle.table.specs.Numbers.{largestSays}
 use Rattle.table.specs.Promises.{Stores}
 use Rattle.history.specs.Histories.{History}

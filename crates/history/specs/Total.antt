@@ -2,15 +2,15 @@
 -- answer. So a history leaves out nothing that a program can do. Assumes nothing.
 use Prim.Native.Nat.{ℕ}
 use mathlib.Core.List.{List}
-use Rattle.plain.specs.Staged.{Staged}
-use Rattle.plain.specs.Refreshing.{Refresh}
-use Rattle.plain.specs.Calls.{LentCall}
+use Rattle.plain_table.specs.Staged.{Staged}
+use Rattle.plain_table.specs.Refreshing.{Refresh}
+use Rattle.plain_table.specs.Calls.{LentCall}
 use Rattle.table.specs.declared.TableAnswer.{TableAnswer}
 use Rattle.table.specs.declared.MergeAnswer.{MergeAnswer}
 use Rattle.table.specs.Numbers.{tableSays, mergeSays}
 use Rattle.table.specs.Promises.{Stores, Body, body, bodyOf, joined, CompactionWords, headerAfter, headerMerged, Staging, Merging, Compacting, Clearing}
-use Rattle.refreshes.specs.declared.RefreshAnswer.{RefreshAnswer}
-use Rattle.refreshes.specs.Refreshes.{refreshSays, headerRefreshed, Refreshing}
+use Rattle.refresh_spec.specs.declared.RefreshAnswer.{RefreshAnswer}
+use Rattle.refresh_spec.specs.Refreshes.{refreshSays, headerRefreshed, Refreshing}
 use Rattle.history.specs.Histories.{Called}
 
 -- some call of a history takes the one to the other

@@ -11,19 +11,19 @@ use lib.ListN.{length, take, drop, getD}
 use borrow.Author.Tests.{ne-eqb}
 use Rattle.lists.specs.Lists.{keep}
 use Rattle.refusals.specs.Refusals.{refused, accepted}
-use Rattle.plain.specs.Staged.{Staged, insert, removeKey, removeRow, wordsOf, inserts}
-use Rattle.plain.specs.Plain.{Inserted, inserted, insertAll, Plain, insertion}
+use Rattle.plain_table.specs.Staged.{Staged, insert, removeKey, removeRow, wordsOf, inserts}
+use Rattle.plain_table.specs.Plain.{Inserted, inserted, insertAll, Plain, insertion}
 use Rattle.table.specs.declared.Header.{Header}
 use Rattle.insertions.specs.declared.Passed.{Passed}
-use Rattle.appending.specs.declared.Insertion.{Insertion}
-use Rattle.appending.specs.declared.Insertion.the-variants.{Kept, Appended, Stopped}
+use Rattle.merge_append.specs.declared.Insertion.{Insertion}
+use Rattle.merge_append.specs.declared.Insertion.the-variants.{Kept, Appended, Stopped}
 use Rattle.table.specs.Numbers.{openingOf}
 use Rattle.table.specs.Promises.{Stores, stores, Represents, SlotsPast}
-use Rattle.pending.specs.inner.Becoming.{Becomes, Recounted, Ready, Waiting, kindOf, RecordLength, ofKind, Left, NextRecord}
+use Rattle.merge_pending.specs.inner.Becoming.{Becomes, Recounted, Ready, Waiting, kindOf, RecordLength, ofKind, Left, NextRecord}
 use Rattle.insertions.specs.inner.Insertions.{hasAdded, InsertedTable, Insertions, FirstInsert, InsertNext, InsertGoes, InsertedNext}
 use Rattle.inserts.specs.inner.Inserting.{Comes, Inserting}
-use Rattle.pending.specs.Laws.Steps.{steps-refl, steps-then, waiting-start, words-some, waiting-next, waiting-kind, waiting-hash, waiting-cells, recounted-refl, recounted-capacity, recounted-then, recounted-waiting}
-use Rattle.pending.proofs.PassRecords.{Next, record-long}
+use Rattle.merge_pending.specs.Laws.Steps.{steps-refl, steps-then, waiting-start, words-some, waiting-next, waiting-kind, waiting-hash, waiting-cells, recounted-refl, recounted-capacity, recounted-then, recounted-waiting}
+use Rattle.merge_pending.proofs.PassRecords.{Next, record-long}
 
 -- ---- one insert
 

@@ -1,12 +1,12 @@
 // All inserts of a merge, one after another: `do_insert` of table/mod.rs.
-ghost use Rattle.pending.specs.inner.Becoming.{Ready};
+ghost use Rattle.merge_pending.specs.inner.Becoming.{Ready};
 ghost use Prim.Native.Nat.{_≤_};
 ghost use lib.ListN.{length};
 ghost use Rattle.insertions.specs.inner.Insertions.{Insertions, FirstInsert, InsertNext, InsertedNext};
-use appending::Insertion;
 use inserts::insert_row;
-use pending::next_record;
-use pending::record_length;
+use merge_append::Insertion;
+use merge_pending::next_record;
+use merge_pending::record_length;
 use table::Header;
 use table::INSERT;
 

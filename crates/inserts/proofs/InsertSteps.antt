@@ -21,14 +21,14 @@ use Rattle.key_index.specs.declared.Found.the-variants.{None, At}
 use Rattle.key_index.specs.Slots.{slots}
 use Rattle.key_index.specs.inner.Index.{Fits, FoundIs}
 use Rattle.table.specs.declared.Header.{Header}
-use Rattle.appending.specs.declared.Insertion.{Insertion}
-use Rattle.appending.specs.declared.Insertion.the-variants.{Kept, Appended, Stopped}
+use Rattle.merge_append.specs.declared.Insertion.{Insertion}
+use Rattle.merge_append.specs.declared.Insertion.the-variants.{Kept, Appended, Stopped}
 use Rattle.table.specs.Sound.{keyedOf}
 use Rattle.table.specs.Laws.Refusals.{whole-fits}
-use Rattle.pending.specs.inner.Becoming.{Ready}
+use Rattle.merge_pending.specs.inner.Becoming.{Ready}
 use Rattle.inserts.specs.inner.Inserting.{Inserting}
-use Rattle.appending.specs.Laws.Places.{placed}
-use Rattle.appending.specs.inner.Appending.{Growable, NewIs, ReplaceIs}
+use Rattle.merge_append.specs.Laws.Places.{placed}
+use Rattle.merge_append.specs.inner.Appending.{Growable, NewIs, ReplaceIs}
 use Rattle.inserts.specs.inner.Ruling.{Changes, rowMade, Makeable, MadeIs, KeptOld, KnownIs}
 use Rattle.inserts.specs.Laws.Inserts.{length-made, skip-inserts, new-inserts, known-inserts}
 

@@ -3,14 +3,14 @@
 ghost use Prim.Native.Nat.{_≤_, _+_, _<_};
 ghost use Rattle.key_index.specs.Slots.{slots};
 ghost use Rattle.table.specs.Sound.{keyedOf};
-ghost use Rattle.pending.specs.inner.Becoming.{Ready};
+ghost use Rattle.merge_pending.specs.inner.Becoming.{Ready};
 ghost use lib.ListN.{take, drop};
 ghost use Rattle.inserts.specs.inner.Inserting.{Inserting};
 ghost use Rattle.inserts.specs.inner.Ruling.{MadeIs, Makeable, KnownIs};
-use appending::Insertion;
-use appending::insert_new;
-use appending::replace_row;
 use key_index::Found;
+use merge_append::Insertion;
+use merge_append::insert_new;
+use merge_append::replace_row;
 use table::Header;
 use table::keyed;
 

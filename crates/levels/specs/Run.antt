@@ -9,13 +9,13 @@ use mathlib.Core.Option.{Option, none}
 use lib.ListN.{length, take}
 use lib.Dec.{eqb}
 use Rattle.lists.specs.Lists.{has, flat}
-use Rattle.plain.specs.Plain.{Plain}
+use Rattle.plain_table.specs.Plain.{Plain}
 use Rattle.table.specs.Promises.{Stores, stores}
-use Rattle.levels_said.specs.Said.{lineTurn}
-use Rattle.levels_said.specs.Answers.{Held}
-use Rattle.levels_said.specs.Session.{programLengths}
-use Rattle.levels_lines.specs.declared.Input.{Input}
-use Rattle.levels_lines.specs.Input.{bytesRead, unread, InputIn, AtEnd, Begun}
+use Rattle.levels_spec.specs.Said.{lineTurn}
+use Rattle.levels_spec.specs.Answers.{Held}
+use Rattle.levels_spec.specs.Session.{programLengths}
+use Rattle.levels_input.specs.declared.Input.{Input}
+use Rattle.levels_input.specs.Input.{bytesRead, unread, InputIn, AtEnd, Begun}
 use Rattle.levels_output.specs.declared.Handed.{Handed}
 use Rattle.levels.specs.declared.State.{State}
 

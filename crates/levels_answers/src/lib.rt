@@ -2,11 +2,11 @@
 ghost use Prim.Native.Nat.{_+_, _≤_};
 ghost use lib.ListN.{length, take};
 ghost use Rattle.table.specs.Promises.{stores};
-ghost use Rattle.levels_said.specs.Answers.{Answering};
+ghost use Rattle.levels_spec.specs.Answers.{Answering};
 ghost use Rattle.levels_answers.specs.inner.Reading.{Responding, AnsweringBehind};
 use levels_letters::serve;
-use levels_said::Said;
-use levels_said::Served;
+use levels_spec::Said;
+use levels_spec::Served;
 use levels_text::MOST_NUMBERS;
 use levels_text::Parsed;
 use levels_told::tell;

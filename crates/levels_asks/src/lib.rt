@@ -5,10 +5,10 @@ ghost use mathlib.Core.Logic.{_⊎_};
 ghost use lib.ListN.{length};
 ghost use Rattle.table.specs.Numbers.{rangeSays, versionSays};
 ghost use Rattle.levels_text.specs.Lines.{isForm};
-ghost use Rattle.levels_said.specs.inner.Saying.{saidOf, saysRange, saysVersion, saysListing};
+ghost use Rattle.levels_spec.specs.inner.Saying.{saidOf, saysRange, saysVersion, saysListing};
 ghost use Rattle.levels_asks.specs.inner.Asking.{OnSorts};
 use constraints::Constraint;
-use levels_said::Said;
+use levels_spec::Said;
 use table::Header;
 use table::RangeAnswer;
 use table::VersionAnswer;
@@ -52,7 +52,7 @@ fn ask_range(h: Header, numbers: &[u32], sorts: &[u32]) -> Said
         column: numbers[1],
         value: numbers[2],
     };
-    say_range(reading::fast_subset(h, sorts, c))
+    say_range(table_read::fast_subset(h, sorts, c))
 }
 
 // F, V, U and L.
@@ -65,10 +65,10 @@ pub fn ask(h: Header, letter: u8, numbers: &[u32], sorts: &[u32]) -> Said
         return ask_range(h, numbers, sorts);
     }
     if letter == b'V' {
-        return say_version(reading::version(h));
+        return say_version(table_read::version(h));
     }
     if letter == b'U' {
-        return say_listing(true, reading::version(h));
+        return say_listing(true, table_read::version(h));
     }
-    say_listing(false, reading::version(h))
+    say_listing(false, table_read::version(h))
 }

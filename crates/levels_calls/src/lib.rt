@@ -7,10 +7,10 @@ ghost use Prim.Native.Nat.{_≤_};
 ghost use lib.ListN.{length};
 ghost use Rattle.table.specs.Numbers.{tableSays, mergeSays};
 ghost use Rattle.table.specs.Promises.{headerAfter, headerMerged, stores};
-ghost use Rattle.levels_said.specs.inner.Saying.{saidOf, saysNothing, saysMerge, Taken, Serving};
+ghost use Rattle.levels_spec.specs.inner.Saying.{saidOf, saysNothing, saysMerge, Taken, Serving};
 ghost use Rattle.levels_calls.specs.inner.Calling.{OnPending, OnKeys, OnBody, OnAll};
-use levels_said::Said;
-use levels_said::Served;
+use levels_spec::Said;
+use levels_spec::Served;
 use table::Header;
 use table::MergeAnswer;
 use table::TableAnswer;
@@ -42,7 +42,7 @@ fn stage_by_row(h: Header, numbers: &[u32], pending: &mut [u32]) -> Served
     requires { ⌜ 1 ≤ length (now numbers) ⌝ }
     ensures { λ r. ⌜ OnPending 75 (now (numbers .entry)) h (now (pending .entry)) r (now (pending .exit)) ⌝ }
 {
-    let answer = staging::stage_remove_row(h, pending, numbers[0], &numbers[1..]);
+    let answer = table_stage::stage_remove_row(h, pending, numbers[0], &numbers[1..]);
     taken(h, answer)
 }
 
@@ -53,11 +53,11 @@ pub fn stage(h: Header, letter: u8, numbers: &[u32], pending: &mut [u32]) -> Ser
     ensures { λ r. ⌜ OnPending letter (now (numbers .entry)) h (now (pending .entry)) r (now (pending .exit)) ⌝ }
 {
     if letter == b'I' {
-        let inserted = staging::stage_insert(h, pending, numbers);
+        let inserted = table_stage::stage_insert(h, pending, numbers);
         return taken(h, inserted);
     }
     if letter == b'R' {
-        let removed = staging::stage_remove(h, pending, numbers);
+        let removed = table_stage::stage_remove(h, pending, numbers);
         return taken(h, removed);
     }
     stage_by_row(h, numbers, pending)
@@ -82,7 +82,7 @@ pub fn open_table(
             said: Said::Refused(11),
         };
     }
-    let opened = opening::open_table(
+    let opened = table_open::open_table(
         numbers[0],
         numbers[1],
         numbers[2],
@@ -101,7 +101,7 @@ pub fn open_table(
 pub fn clear(h: Header, keys: &mut [u32]) -> Served
     ensures { λ r. ⌜ OnKeys 67 h (now (keys .entry)) r (now (keys .exit)) ⌝ }
 {
-    let cleared = opening::clear(h, keys);
+    let cleared = table_open::clear(h, keys);
     taken(h, cleared)
 }
 
@@ -111,7 +111,7 @@ pub fn compact(h: Header, rows: &mut [u32], keys: &mut [u32], sorts: &mut [u32])
 {
     let mut live = [0u64; WORDS];
     let mut base = [0u32; WORDS];
-    let compacted = compaction::compact(h, rows, keys, sorts, &mut live, &mut base);
+    let compacted = table_compact::compact(h, rows, keys, sorts, &mut live, &mut base);
     taken(h, compacted)
 }
 

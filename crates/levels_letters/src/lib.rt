@@ -5,14 +5,14 @@ ghost use mathlib.Core.Logic.{_⊎_};
 ghost use lib.ListN.{length};
 ghost use Rattle.table.specs.Promises.{stores};
 ghost use Rattle.levels_text.specs.Lines.{isForm};
-ghost use Rattle.levels_said.specs.inner.Saying.{Serving};
+ghost use Rattle.levels_spec.specs.inner.Saying.{Serving};
 use levels_asks::ask;
 use levels_calls::clear;
 use levels_calls::compact;
 use levels_calls::merge_pending;
 use levels_calls::open_table;
 use levels_calls::stage;
-use levels_said::Served;
+use levels_spec::Served;
 use table::Header;
 
 // O, C and G.

@@ -1,14 +1,14 @@
 // What a line says, as bytes at the start of a lent text.
 ghost use Prim.Native.Nat.{_≤_};
 ghost use lib.ListN.{length};
-ghost use Rattle.levels_said.specs.inner.Saying.{Telling};
+ghost use Rattle.levels_spec.specs.inner.Saying.{Telling};
 ghost use Rattle.levels_told.specs.inner.Telling.{Listed};
-use levels_said::Said;
+use levels_spec::Said;
 use levels_written::put_bytes;
 use levels_written::refuse;
 use levels_written::write_line;
+use listing_spec::MoveAnswer;
 use listing_write::write_listing;
-use listings::MoveAnswer;
 use table::Header;
 
 // A listing; nothing where the header, the row store or the text refuses one.

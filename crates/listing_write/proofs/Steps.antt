@@ -18,8 +18,8 @@ use Rattle.table.specs.Refusing.{outside, rowsShort}
 use Rattle.levels_text.specs.Written.{field, textLine}
 use Rattle.levels_written.specs.Laws.Decimals.{fields-more, length-fields, length-line, length-numbered}
 use Rattle.levels_written.specs.inner.Appending.{Appended, appended-none, appended-then, appended-put}
-use Rattle.listings.specs.declared.MoveAnswer.the-variants.{Refused, Written}
-use Rattle.listings.specs.Listings.{headLetter, moveSays}
+use Rattle.listing_spec.specs.declared.MoveAnswer.the-variants.{Refused, Written}
+use Rattle.listing_spec.specs.Listings.{headLetter, moveSays}
 use Rattle.listing_write.specs.Writing.{headNumbers, storedText, writeRefusal, ListingWritten}
 use Rattle.listing_write.specs.inner.Lines.{headLine, rowLine, rowLines, Stored}
 use Rattle.listing_write.specs.Laws.Lines.{stored-lines}

@@ -9,14 +9,14 @@ use lib.ListN.{length}
 use lib.Dec.{ltb}
 use Rattle.lists.specs.Lists.{putAt}
 use Rattle.refusals.specs.Refusals.{rung, first, reply}
-use Rattle.plain.specs.Staged.{Opening}
-use Rattle.plain.specs.Plain.{Row, Numbered, liveFrom}
+use Rattle.plain_table.specs.Staged.{Opening}
+use Rattle.plain_table.specs.Plain.{Row, Numbered, liveFrom}
 use Rattle.table.specs.declared.Header.{Header}
 use Rattle.table.specs.Numbers.{openingOf}
 use Rattle.table.specs.Refusing.{outside, rowsShort}
 use Rattle.table.specs.Stores.{rowsIn}
-use Rattle.listings.specs.declared.MoveAnswer.{MoveAnswer}
-use Rattle.listings.specs.Listings.{Listing, listingText, moveSays}
+use Rattle.listing_spec.specs.declared.MoveAnswer.{MoveAnswer}
+use Rattle.listing_spec.specs.Listings.{Listing, listingText, moveSays}
 
 -- the numbers of the head line: "(columns, keys, sort, rule, generation)", in the new form "with the row count added as a last field"
 unfoldable pub headNumbers : Bool → Opening → ℕ → ℕ → List ℕ

@@ -12,7 +12,7 @@ ghost use Rattle.listing_write.specs.inner.Lines.{headLine, rowLine, row
 use levels_written::number_length;
 use levels_written::put_line;
 use levels_written::put_numbered;
-use listings::MoveAnswer;
+use listing_spec::MoveAnswer;
 use table::Header;
 use table::refusing::is_outside;
 use table::refusing::is_rows_short;

@@ -12,8 +12,8 @@ use Rattle.lists.specs.Laws.Keep.{split, and-right}
 use Rattle.refusals.specs.Laws.Replies.{verdict-refused, verdict-accepted}
 use Rattle.key_index.specs.declared.Keyed.{Keyed}
 use Rattle.key_index.specs.inner.Index.{Fits}
-use Rattle.plain.specs.Staged.{due}
-use Rattle.plain.specs.Plain.{live as liveCount, compactsAfter, Plain, applied, unstaged, dead}
+use Rattle.plain_table.specs.Staged.{due}
+use Rattle.plain_table.specs.Plain.{live as liveCount, compactsAfter, Plain, applied, unstaged, dead}
 use Rattle.table.specs.declared.Header.{Header}
 use Rattle.table.specs.declared.Merge.{Merge}
 use Rattle.insertions.specs.declared.Passed.{Passed}
@@ -21,14 +21,14 @@ use Rattle.table.specs.declared.MergeAnswer.the-variants.{Refused as MergeRefus
 use Rattle.table.specs.Numbers.{mergeSays}
 use Rattle.table.specs.Refusing.{mergeRefusal}
 use Rattle.table.specs.Promises.{stores, body, compactionWords, lengths, Represents, withPending, Merging}
-use Rattle.pending.specs.inner.Becoming.{withCounts, withDead, Ready}
+use Rattle.merge_pending.specs.inner.Becoming.{withCounts, withDead, Ready}
 use Rattle.insertions.specs.inner.Insertions.{Insertions}
-use Rattle.removals.specs.inner.Removals.{Removable, Removals}
-use Rattle.compaction.specs.inner.Compaction.{Lendable, Compaction}
+use Rattle.merge_remove.specs.inner.Removals.{Removable, Removals}
+use Rattle.table_compact.specs.inner.Compaction.{Lendable, Compaction}
 use Rattle.merge.specs.inner.Parts.{Applying, finishedAs, Finishing}
 use Rattle.table.specs.Laws.Refusals.{inside-whole, Mergeable, merge-accepted}
 use Rattle.table.specs.Laws.Opening.{unstaged-represents}
-use Rattle.pending.specs.Laws.Steps.{steps-refl}
+use Rattle.merge_pending.specs.Laws.Steps.{steps-refl}
 use Rattle.merge.specs.Laws.Merging.{passes-table, stopped-not, due-not, due-compacts, compacted-rows, compacted-store, compacted-generation, merged-table}
 
 -- ---- a compaction is due

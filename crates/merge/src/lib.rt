@@ -1,16 +1,15 @@
 // `merge` of table/mod.rs: removals by key, removals by row, inserts; then pending emptied and, unless it stopped, the
 // compaction that may be due.
 ghost use Prim.Native.Nat.{_≤_};
-ghost use Rattle.pending.specs.inner.Becoming.{Ready};
+ghost use Rattle.merge_pending.specs.inner.Becoming.{Ready};
 ghost use mathlib.Core.Path.{_≡_};
-ghost use Rattle.plain.specs.Staged.{due};
+ghost use Rattle.plain_table.specs.Staged.{due};
 ghost use Rattle.table.specs.Promises.{stores, body, compactionWords, Merging};
-ghost use Rattle.compaction.specs.inner.Compaction.{Lendable};
+ghost use Rattle.table_compact.specs.inner.Compaction.{Lendable};
 ghost use Rattle.merge.specs.inner.Parts.{Applying, Finishing};
-use compaction::compact_rows;
 use insertions::Passed;
 use insertions::insert_all;
-use removals::remove_all;
+use merge_remove::remove_all;
 use table::Header;
 use table::Lent;
 use table::Merge;
@@ -19,6 +18,7 @@ use table::REMOVE_KEY;
 use table::REMOVE_ROW;
 use table::refusing::LAST_GENERATION;
 use table::refusing::merge_refusal;
+use table_compact::compact_rows;
 
 // Dead rows call for a compaction, and the generation has room for it.
 fn is_due(h: Header) -> bool

@@ -1,5 +1,5 @@
 // Subsets: offsets/mod.rs. A subset is a range or a rising list of ids; here is what a subset must be, how many ids it has
-// and its ends. `offset_search`, `intersection` and `retain` beside this crate are the rest of the subset layer; specs/Laws
+// and its ends. `offsets_search`, `offsets_intersect` and `offsets_retain` beside this crate are the rest of the subset layer; specs/Laws
 // has the set laws, by which proofs above it go.
 ghost use mathlib.Core.Path.{_≡_};
 ghost use mathlib.Core.Bool.{true};

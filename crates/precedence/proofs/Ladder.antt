@@ -13,7 +13,7 @@ use Rattle.lists.specs.Laws.Keep.{split}
 use Rattle.lists.specs.Laws.Every.{or-no-right}
 use Rattle.refusals.specs.Refusals.{rung, first, accepted}
 use Rattle.refusals.specs.Laws.Replies.{verdict-refused, verdict-accepted}
-use Rattle.plain.specs.Laws.Calls.{first-no, first-rest}
+use Rattle.plain_table.specs.Laws.Calls.{first-no, first-rest}
 use Rattle.table.specs.declared.Header.{Header}
 use Rattle.table.specs.Refusing.{outside, rowsShort, pairsShort, lookupTests, lookupRefusal}
 use Rattle.table.specs.Promises.{ofRows}

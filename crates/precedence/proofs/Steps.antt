@@ -26,9 +26,9 @@ use Rattle.key_index.specs.declared.Found.{Found}
 use Rattle.key_index.specs.declared.Found.the-variants.{None, At}
 use Rattle.key_index.specs.Slots.{LiveAt, keyAt}
 use Rattle.key_index.specs.inner.Index.{Fits, FoundIs}
-use Rattle.plain.specs.Staged.{hasKey}
-use Rattle.plain.specs.Plain.{Row, liveFrom, liveRows}
-use Rattle.plain.specs.Laws.Rows.{noRow, live-below}
+use Rattle.plain_table.specs.Staged.{hasKey}
+use Rattle.plain_table.specs.Plain.{Row, liveFrom, liveRows}
+use Rattle.plain_table.specs.Laws.Rows.{noRow, live-below}
 use Rattle.table.specs.declared.Header.{Header}
 use Rattle.table.specs.Numbers.{openingOf}
 use Rattle.table.specs.Stores.{rowsIn}

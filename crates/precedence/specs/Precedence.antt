@@ -10,8 +10,8 @@ use lib.Dec.{leb, ltb, eqb}
 use Rattle.lists.specs.Lists.{any, same}
 use Rattle.refusals.specs.Refusals.{rung, first, Reply, refused, accepted, reply, verdict}
 use Rattle.key_index.specs.Slots.{KeysSound}
-use Rattle.plain.specs.Staged.{Opening}
-use Rattle.plain.specs.Plain.{Plain, Numbered, liveRows}
+use Rattle.plain_table.specs.Staged.{Opening}
+use Rattle.plain_table.specs.Plain.{Plain, Numbered, liveRows}
 use Rattle.table.specs.declared.Header.{Header}
 use Rattle.table.specs.Refusing.{outside, rowsShort, pairsShort}
 use Rattle.table.specs.Sound.{keyedOf, KeysDiffer}

@@ -19,14 +19,14 @@ fn taken(h: Header, answer: TableAnswer) -> Said {
 // I, R and K
 fn stage(h: Header, letter: u8, numbers: &[u32], pending: &mut [u32]) -> Said {
     if letter == b'I' {
-        return taken(h, staging::stage_insert(h, pending, numbers));
+        return taken(h, table_stage::stage_insert(h, pending, numbers));
     }
     if letter == b'R' {
-        return taken(h, staging::stage_remove(h, pending, numbers));
+        return taken(h, table_stage::stage_remove(h, pending, numbers));
     }
     let row = number_at(numbers, 0);
     let key = part(numbers, 1, numbers.len());
-    taken(h, staging::stage_remove_row(h, pending, row, key))
+    taken(h, table_stage::stage_remove_row(h, pending, row, key))
 }
 
 fn digit_of(yes: bool) -> u32 {
@@ -64,7 +64,7 @@ fn merge_pending(
 fn compact(h: Header, rows: &mut [u32], keys: &mut [u32], sorts: &mut [u32]) -> Said {
     let mut live = [0u64; 1];
     let mut base = [0u32; 1];
-    let answer = compaction::compact(h, rows, keys, sorts, &mut live, &mut base);
+    let answer = table_compact::compact(h, rows, keys, sorts, &mut live, &mut base);
     taken(h, answer)
 }
 
@@ -86,9 +86,9 @@ fn empty(
     pending: &[u32],
 ) -> Said {
     if letter == b'C' {
-        return taken(h, opening::clear(h, keys));
+        return taken(h, table_open::clear(h, keys));
     }
-    let opened = opening::open_table(
+    let opened = table_open::open_table(
         number_at(numbers, 0),
         number_at(numbers, 1),
         number_at(numbers, 2),

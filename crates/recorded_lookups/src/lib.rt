@@ -39,7 +39,7 @@ fn row_told(h: Header, row: u32, rows: &[u32], out: &mut [u32]) -> Said {
 
 // L
 pub fn look_up(h: Header, key: &[u32], rows: &[u32], keys: &[u32], out: &mut [u32]) -> Said {
-    match reading::get_row(h, rows, keys, key) {
+    match table_read::get_row(h, rows, keys, key) {
         RowAnswer::Refused(number) => refused(h, number),
         RowAnswer::None => tell(h, b'N'),
         RowAnswer::Row(row) => row_told(h, row, rows, out),
@@ -49,7 +49,7 @@ pub fn look_up(h: Header, key: &[u32], rows: &[u32], keys: &[u32], out: &mut [u3
 // E
 pub fn one_cell(h: Header, numbers: &[u32], rows: &[u32], keys: &[u32]) -> Said {
     let key = part(numbers, 1, numbers.len());
-    match reading::get_row_column(h, rows, keys, key, number_at(numbers, 0)) {
+    match table_read::get_row_column(h, rows, keys, key, number_at(numbers, 0)) {
         CellAnswer::Refused(number) => refused(h, number),
         CellAnswer::None => tell(h, b'N'),
         CellAnswer::Cell(cell) => tell_one(h, b'C', cell),
@@ -66,7 +66,7 @@ pub fn range_told(h: Header, answer: RangeAnswer) -> Said {
 
 // V
 pub fn version(h: Header) -> Said {
-    match reading::version(h) {
+    match table_read::version(h) {
         VersionAnswer::Refused(number) => refused(h, number),
         VersionAnswer::Version(v) => tell_two(h, b'V', v.generation, v.rows),
     }

@@ -75,7 +75,7 @@ fn refine(h: Header, numbers: &[u32], rows: &[u32], out: &mut [u32]) -> Said {
     let passed = subset(numbers, 0);
     let ids = part(numbers, passed.from, passed.to);
     let c = constraint(numbers, passed.to);
-    let answer = questions::refine_one(h, rows, passed.head, ids, c, out);
+    let answer = query::refine_one(h, rows, passed.head, ids, c, out);
     subset_told(h, answer)
 }
 
@@ -85,7 +85,7 @@ fn intersect(h: Header, numbers: &[u32], out: &mut [u32]) -> Said {
     let second = subset(numbers, first.to);
     let ids = part(numbers, first.from, first.to);
     let others = part(numbers, second.from, second.to);
-    let answer = intersection::intersect(first.head, ids, second.head, others, out);
+    let answer = offsets_intersect::intersect(first.head, ids, second.head, others, out);
     subset_told(h, answer)
 }
 
@@ -102,12 +102,12 @@ pub fn ask(
     match letter {
         b'L' => look_up(h, numbers, rows, keys, out),
         b'E' => one_cell(h, numbers, rows, keys),
-        b'F' => range_told(h, reading::fast_subset(h, sorts, constraint(numbers, 0))),
-        b'S' => range_told(h, reading::updates_since(h, number_at(numbers, 0))),
+        b'F' => range_told(h, table_read::fast_subset(h, sorts, constraint(numbers, 0))),
+        b'S' => range_told(h, table_read::updates_since(h, number_at(numbers, 0))),
         b'V' => version(h),
         b'W' => range_told(
             h,
-            reading::rows_since_version(h, number_at(numbers, 0), number_at(numbers, 1)),
+            table_read::rows_since_version(h, number_at(numbers, 0), number_at(numbers, 1)),
         ),
         b'N' => refine(h, numbers, rows, out),
         b'T' => intersect(h, numbers, out),

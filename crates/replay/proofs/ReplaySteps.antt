@@ -5,13 +5,13 @@ use mathlib.Core.Path.{_≡_, refl, _∙_}
 use mathlib.Core.List.{List}
 use native.Mathlib.Omega.{arith}
 use lib.ListN.{length, take, drop, getD}
-use Rattle.frames.specs.inner.Lengths.{FrameLength}
-use Rattle.frames.specs.Laws.Frames.{framed-end, framed-next}
-use Rattle.plain.specs.Refusing.{Lengths}
+use Rattle.replay_frames.specs.inner.Lengths.{FrameLength}
+use Rattle.replay_frames.specs.Laws.Frames.{framed-end, framed-next}
+use Rattle.plain_table.specs.Refusing.{Lengths}
 use Rattle.table.specs.Promises.{Stores, CompactionWords}
-use Rattle.call_words.specs.Encoding.{requestOf, decoded}
-use Rattle.call_words.specs.inner.Making.{Made}
-use Rattle.call_words.specs.Laws.Making.{none-made, made-then}
+use Rattle.replay_calls.specs.Encoding.{requestOf, decoded}
+use Rattle.replay_calls.specs.inner.Making.{Made}
+use Rattle.replay_calls.specs.Laws.Making.{none-made, made-then}
 
 -- stores keep their lengths
 pub lengths-same : {l l′ : Lengths} → l′ .rows ≡ l .rows → l′ .keys ≡ l .keys → l′ .sorts ≡ l .sorts → l′ .pending ≡ l .pending → l′ .liveWords ≡ l .liveWords → l′ .baseWords ≡ l .baseWords

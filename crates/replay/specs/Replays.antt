@@ -6,16 +6,16 @@ use mathlib.Core.Bool.{false}
 use mathlib.Core.List.{List, []}
 use Rattle.lists.specs.Lists.{any}
 use Rattle.refusals.specs.Refusals.{accepted, reply, verdict}
-use Rattle.plain.specs.Staged.{Opening}
-use Rattle.plain.specs.Refusing.{openRefusal}
-use Rattle.plain.specs.Calls.{Call, LentCall}
+use Rattle.plain_table.specs.Staged.{Opening}
+use Rattle.plain_table.specs.Refusing.{openRefusal}
+use Rattle.plain_table.specs.Calls.{Call, LentCall}
 use Rattle.table.specs.declared.Header.{Header}
 use Rattle.table.specs.declared.TableAnswer.{TableAnswer}
 use Rattle.table.specs.declared.TableAnswer.the-variants.{Table}
 use Rattle.table.specs.Numbers.{tableSays}
 use Rattle.table.specs.Promises.{Stores, Body, stores, joined, CompactionWords, lengths, SlotsPast, WordsPast, Opened}
-use Rattle.call_words.specs.Lending.{lentAll}
-use Rattle.call_words.specs.Requests.{Request, isRefresh, IndexPast, ServedAll}
+use Rattle.replay_calls.specs.Lending.{lentAll}
+use Rattle.replay_calls.specs.Requests.{Request, isRefresh, IndexPast, ServedAll}
 
 -- calls that are lent the stores whole
 abbrev pub callsLent : List Call → Body → List ℕ → CompactionWords → List LentCall

@@ -1,14 +1,14 @@
 // Lists of requests, read from words and made one after another on lent stores, from the opening on: what is claimed of histories
 // holds of running code.
 ghost use Rattle.table.specs.Promises.{stores, body, compactionWords, lengths};
-ghost use Rattle.call_words.specs.Encoding.{decoded};
-ghost use Rattle.call_words.specs.inner.Making.{Made};
+ghost use Rattle.replay_calls.specs.Encoding.{decoded};
+ghost use Rattle.replay_calls.specs.inner.Making.{Made};
 ghost use Rattle.replay.specs.Replays.{Replayed};
-use call_words::make_call;
-use frames::frame_length;
-use opening::open_table;
+use replay_calls::make_call;
+use replay_frames::frame_length;
 use table::Header;
 use table::TableAnswer;
+use table_open::open_table;
 
 // All requests, in order; a refused one leaves all as it is.
 fn make_calls(

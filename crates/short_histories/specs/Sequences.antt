@@ -9,8 +9,8 @@ use lib.ListN.{length, getD}
 use lib.Dec.{leb, ltb}
 use Rattle.lists.specs.Lists.{putAt, every, flat, countFrom, same}
 use Rattle.refusals.specs.Refusals.{rung, first, Reply, refused, accepted, reply}
-use Rattle.plain.specs.Staged.{Opening, insert, removeKey}
-use Rattle.plain.specs.Calls.{Call, staging, merging}
+use Rattle.plain_table.specs.Staged.{Opening, insert, removeKey}
+use Rattle.plain_table.specs.Calls.{Call, staging, merging}
 use Rattle.short_histories.specs.declared.StepAnswer.{StepAnswer}
 use Rattle.short_histories.specs.declared.StepAnswer.the-variants.{Refused as StepRefused, Insert, Remove, Merge}
 use Rattle.short_histories.specs.declared.PositionAnswer.{PositionAnswer}

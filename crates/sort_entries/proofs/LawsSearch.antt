@@ -10,7 +10,7 @@ use lib.ListN.{length, drop, getD}
 use lib.Dec.{eqb}
 use borrow.Author.Tests.{ne-eqb}
 use Rattle.offsets.specs.Subsets.{Subset, range}
-use Rattle.offset_search.specs.inner.Search.{Bracketed}
+use Rattle.offsets_search.specs.inner.Search.{Bracketed}
 use Rattle.sort_entries.specs.Entries.{entriesOf, firstRow, entriesSound}
 use Rattle.sort_entries.specs.Laws.Stores.{length-entriesOf}
 use Rattle.sort_entries.specs.Laws.Sound.{valueOf, value-word, row-word, sound-climb, sound-facts, firstRow-drop, firstRow-past}

@@ -7,7 +7,7 @@ ghost use Rattle.sort_entries.specs.Laws.Positions.{rangeAt};
 ghost use Rattle.sort_entries.specs.inner.Append.{Room, Append};
 ghost use Rattle.sort_entries.specs.inner.Search.{Held, Stands, Ranged, standsAt, rangeOf};
 ghost use Rattle.sort_entries.specs.inner.Checks.{Decides, Follows, Advanced, headValue, Cells, cellSound, cellsSound};
-use offset_search::binary_search_cells;
+use offsets_search::binary_search_cells;
 
 // A row that is appended, or kept by a compaction: its entry, if its value rises. Gives the new number of entries.
 pub fn append_entry(sorts: &mut [u32], entries: u32, value: u32, row: u32) -> u32

@@ -14,10 +14,10 @@ use Rattle.offsets.specs.Subsets.{Subset, range}
 use Rattle.constraints.specs.declared.Constraint.{Constraint}
 use Rattle.sort_entries.specs.Entries.{entriesOf, entriesSound, fastRange}
 use Rattle.key_index.specs.Slots.{KeysSound}
-use Rattle.plain.specs.Staged.{Opening, Staged, wordsOf}
-use Rattle.plain.specs.Refusing.{Lengths, storesShort, openRefusal}
-use Rattle.plain.specs.Plain.{Plain, lookup, opened, applied, merged, mergeKeeps, mergeDrops, compacted, cleared}
-use Rattle.plain.specs.Proper.{Proper}
+use Rattle.plain_table.specs.Staged.{Opening, Staged, wordsOf}
+use Rattle.plain_table.specs.Refusing.{Lengths, storesShort, openRefusal}
+use Rattle.plain_table.specs.Plain.{Plain, lookup, opened, applied, merged, mergeKeeps, mergeDrops, compacted, cleared}
+use Rattle.plain_table.specs.Proper.{Proper}
 use Rattle.table.specs.declared.Header.{Header}
 use Rattle.table.specs.declared.TableAnswer.{TableAnswer}
 use Rattle.table.specs.declared.Merge.{Merge}

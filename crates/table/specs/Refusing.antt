@@ -7,8 +7,8 @@ use lib.Dec.{leb, ltb, eqb}
 use Rattle.refusals.specs.Refusals.{Rung, rung, first}
 use Rattle.constraints.specs.declared.Constraint.{Constraint}
 use Rattle.constraints.specs.Constraints.{known}
-use Rattle.plain.specs.Staged.{openable, Staged}
-use Rattle.plain.specs.Refusing.{Lengths, stageLadder, mergeLadder, compactLadder, clearLadder}
+use Rattle.plain_table.specs.Staged.{openable, Staged}
+use Rattle.plain_table.specs.Refusing.{Lengths, stageLadder, mergeLadder, compactLadder, clearLadder}
 use Rattle.table.specs.declared.Header.{Header}
 use Rattle.table.specs.Numbers.{openingOf}
 

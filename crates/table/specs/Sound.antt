@@ -10,8 +10,8 @@ use Rattle.constraints.specs.Constraints.{isLive}
 use Rattle.key_index.specs.declared.Keyed.{Keyed}
 use Rattle.key_index.specs.Slots.{LiveAt, keyAt, roomFor, KeysSound}
 use Rattle.sort_entries.specs.Entries.{entriesOf, entriesSound, valueAt}
-use Rattle.plain.specs.Staged.{Staged, wordsAll}
-use Rattle.plain.specs.Proper.{atMost}
+use Rattle.plain_table.specs.Staged.{Staged, wordsAll}
+use Rattle.plain_table.specs.Proper.{atMost}
 use Rattle.table.specs.declared.Header.{Header}
 use Rattle.table.specs.Numbers.{openingOf, largestSays}
 use Rattle.table.specs.Refusing.{soundRefusal}

@@ -9,10 +9,10 @@ use Rattle.lists.specs.Lists.{putAt, every, rowAt, rowsOf, flat}
 use Rattle.cells.specs.Cells.{compact, keyHash}
 use Rattle.constraints.specs.Constraints.{isLive}
 use Rattle.sort_entries.specs.Entries.{Entry, entriesOf, entryWords, rebuilt}
-use Rattle.plain.specs.Staged.{Opening, Staged, insert, removeKey, removeRow, wordsAll}
-use Rattle.plain.specs.Refusing.{wrongWidth}
-use Rattle.plain.specs.Plain.{Row, Plain, dead}
-use Rattle.plain.specs.Proper.{rowOf}
+use Rattle.plain_table.specs.Staged.{Opening, Staged, insert, removeKey, removeRow, wordsAll}
+use Rattle.plain_table.specs.Refusing.{wrongWidth}
+use Rattle.plain_table.specs.Plain.{Row, Plain, dead}
+use Rattle.plain_table.specs.Proper.{rowOf}
 use Rattle.table.specs.declared.Header.{Header}
 use Rattle.table.specs.Numbers.{largestOf, header}
 

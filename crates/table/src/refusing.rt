@@ -2,8 +2,8 @@
 // header and the lengths of what is lent. 0 if nothing is turned away.
 ghost use mathlib.Core.Path.{_≡_};
 ghost use mathlib.Core.Bool.{false};
-ghost use Rattle.plain.specs.Staged.{openable};
-ghost use Rattle.plain.specs.Refusing.{storesShort, wordsShort, openRefusal};
+ghost use Rattle.plain_table.specs.Staged.{openable};
+ghost use Rattle.plain_table.specs.Refusing.{storesShort, wordsShort, openRefusal};
 ghost use Rattle.table.specs.Numbers.{openingOf};
 ghost use Rattle.table.specs.Refusing as rules;
 ghost use Rattle.table.specs.inner.Lent.{lengthsOf};

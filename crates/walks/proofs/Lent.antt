@@ -17,15 +17,15 @@ use Rattle.offsets.proofs.SubsetHead.Laws as DT′
 use Rattle.table.specs.declared.Header.{Header}
 use Rattle.table.proofs.Header as HT
 use Rattle.table.proofs.Header.Laws as HT′
-use Rattle.sweeping.specs.declared.Sweep.{Sweep}
-use Rattle.sweeping.specs.declared.Question.{Question}
-use Rattle.sweeping.proofs.Sweep as ST
-use Rattle.sweeping.proofs.Sweep.Laws as ST′
-use Rattle.sweeping.specs.declared.Test.{Test}
-use Rattle.sweeping.proofs.Question as QT
-use Rattle.sweeping.proofs.Question.Laws as QT′
-use Rattle.sweeping.proofs.Test as TT
-use Rattle.sweeping.proofs.Test.Laws as TT′
+use Rattle.query_scan.specs.declared.Sweep.{Sweep}
+use Rattle.query_scan.specs.declared.Question.{Question}
+use Rattle.query_scan.proofs.Sweep as ST
+use Rattle.query_scan.proofs.Sweep.Laws as ST′
+use Rattle.query_scan.specs.declared.Test.{Test}
+use Rattle.query_scan.proofs.Question as QT
+use Rattle.query_scan.proofs.Question.Laws as QT′
+use Rattle.query_scan.proofs.Test as TT
+use Rattle.query_scan.proofs.Test.Laws as TT′
 use Rattle.walks.proofs.Walking.{Value, enum-value, own, struct-value, twice}
 
 -- the types of plain values that are passed

@@ -18,10 +18,10 @@ use Rattle.lists.specs.Laws.Every.{every-more, every-head, every-tail, every-co
 use Rattle.constraints.specs.declared.Constraint.{Constraint}
 use Rattle.constraints.specs.Constraints.{known, meets}
 use Rattle.table.specs.declared.Header.{Header}
-use Rattle.sweeping.specs.declared.Sweep.{Sweep}
-use Rattle.sweeping.specs.declared.Test.the-variants.{Known, Row}
-use Rattle.queries.specs.Queries.{matches}
-use Rattle.sweeping.specs.inner.Sweeping.{starts, passes, allPass}
+use Rattle.query_scan.specs.declared.Sweep.{Sweep}
+use Rattle.query_scan.specs.declared.Test.the-variants.{Known, Row}
+use Rattle.query_spec.specs.Queries.{matches}
+use Rattle.query_scan.specs.inner.Sweeping.{starts, passes, allPass}
 
 -- what is read past the end of a list of conditions
 abbrev pub none : Constraint

@@ -1,18 +1,18 @@
 // The walk behind every question: conditions one after another for each row, rows one after another for each question. Each
-// condition and each row is handed on by value to a step of `sweeping`.
+// condition and each row is handed on by value to a step of `query_scan`.
 ghost use mathlib.Core.Path.{_≡_};
 ghost use lib.ListN.{length};
 ghost use Rattle.offsets.specs.Answers.{subsetOf};
-ghost use Rattle.sweeping.specs.inner.Sweeping.{RowNeeded, allPass, SweepAnswered};
+ghost use Rattle.query_scan.specs.inner.Sweeping.{RowNeeded, allPass, SweepAnswered};
 use constraints::Constraint;
 use offsets::SubsetHead;
-use sweeping::Question;
-use sweeping::Sweep;
-use sweeping::Test;
-use sweeping::can_pass;
-use sweeping::opening;
-use sweeping::passes_test;
-use sweeping::step;
+use query_scan::Question;
+use query_scan::Sweep;
+use query_scan::Test;
+use query_scan::can_pass;
+use query_scan::opening;
+use query_scan::passes_test;
+use query_scan::step;
 use table::Header;
 
 // All conditions pass: up to the first that does not, and none for a dead row.

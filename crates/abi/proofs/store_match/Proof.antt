@@ -1,6 +1,6 @@
 -- `abi::store_match` meets its contract. Assumes nothing.
 use mathlib.Core.Path.{refl}
-use Rattle.queries.specs.Queries.{matchSays}
+use Rattle.query_spec.specs.Queries.{matchSays}
 use Rattle.abi.specs.Encoding.{encodeBool, returned, stored}
 use Rattle.abi.specs.Laws.Encoding.{stored-as}
 use borrow.Author.Needs.{needs}

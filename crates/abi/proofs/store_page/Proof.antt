@@ -1,6 +1,6 @@
 -- `abi::store_page` meets its contract. Assumes nothing.
 use mathlib.Core.Path.{refl}
-use Rattle.queries.specs.Queries.{pageSays, nextSays}
+use Rattle.query_spec.specs.Queries.{pageSays, nextSays}
 use Rattle.abi.specs.Encoding.{encodeOption, encodePage, returned, stored}
 use Rattle.abi.specs.Laws.Encoding.{stored-as}
 use borrow.Author.Needs.{needs}

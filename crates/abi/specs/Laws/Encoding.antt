@@ -7,7 +7,7 @@ use lib.ListN.{getD}
 use borrow.Author.Tests.{lt-leb}
 use Rattle.refusals.specs.Refusals.{Reply}
 use Rattle.offsets.specs.declared.SubsetHead.{SubsetHead}
-use Rattle.plain.specs.Staged.{openable}
+use Rattle.plain_table.specs.Staged.{openable}
 use Rattle.table.specs.declared.Largest.{Largest}
 use Rattle.table.specs.declared.Largest.the-variants.{None as NoLargest, Value}
 use Rattle.table.specs.declared.Header.{Header}

@@ -1,5 +1,5 @@
 -- `abi_listing::encode_verdict` meets its contract. Assumes nothing.
-use Rattle.listing_answers.specs.Answers.{verdictSays}
+use Rattle.listing_check.specs.Answers.{verdictSays}
 use Rattle.abi_listing.specs.Encoding.{encodeFinding}
 use borrow.Author.Needs.{needs}
 use Rattle.abi_listing.proofs.encode_verdict.Statement.{statement}

@@ -14,17 +14,17 @@ use denote.Ref.{now, ptr-vals}
 use denote.Slice.{slice-vals}
 use denote.Steps.{heard}
 use Rattle.constraints.proofs.Constraint as CT
-use Rattle.listing_answers.proofs.CheckAnswer as AT
-use Rattle.listing_answers.proofs.CheckAnswer.Laws as AT′
-use Rattle.listing_answers.specs.Answers.{checkSays, AnswersChecked}
-use Rattle.borrowed.proofs.Locals.{enters, leaves}
-use Rattle.borrowed.proofs.Walking.{URA, SProp, id⊢, Memory, Routine, Heap, Calls, Loops, WpFn, Atoms, Lfts, Fun, FmC, givenOf, Given, _$_, !, move, u32, typesAt, enum-lawful, Meets, tripleOf, Triple, cited, Knowns, reads, machine, met, ends-saying, answers, skips, pads, proved}
-use Rattle.borrowed.proofs.Arrays.{lent-array, FinalArray, lends-array, tokens-out, tokens-in, owns-out, owns-in}
+use Rattle.listing_check.proofs.CheckAnswer as AT
+use Rattle.listing_check.proofs.CheckAnswer.Laws as AT′
+use Rattle.listing_check.specs.Answers.{checkSays, AnswersChecked}
+use Rattle.query_borrowed.proofs.Locals.{enters, leaves}
+use Rattle.query_borrowed.proofs.Walking.{URA, SProp, id⊢, Memory, Routine, Heap, Calls, Loops, WpFn, Atoms, Lfts, Fun, FmC, givenOf, Given, _$_, !, move, u32, typesAt, enum-lawful, Meets, tripleOf, Triple, cited, Knowns, reads, machine, met, ends-saying, answers, skips, pads, proved}
+use Rattle.query_borrowed.proofs.Arrays.{lent-array, FinalArray, lends-array, tokens-out, tokens-in, owns-out, owns-in}
 use Rattle.abi.specs.Encoding.{Stored}
 use Rattle.abi.specs.Laws.Encoding.{answers as answered}
-use Rattle.listing_answers.proofs.check_answers as chk
-use Rattle.listing_answers.proofs.check_answers.Symbol as chk-def
-use Rattle.listing_answers.proofs.check_answers.Met as chk-thm
+use Rattle.listing_check.proofs.check_answers as chk
+use Rattle.listing_check.proofs.check_answers.Symbol as chk-def
+use Rattle.listing_check.proofs.check_answers.Met as chk-thm
 use Rattle.abi_listing.specs.Encoding.{encodeFinding}
 use Rattle.abi_listing.proofs.store_check as sto
 use Rattle.abi_listing.proofs.store_check.Symbol as sto-def
@@ -66,5 +66,5 @@ pub mouldgrey-check-answers-spec : {M : Type 1} → stated.statement M
 unfolding code.routine
 mouldgrey-check-answers-spec 𝓤 H 𝓜 𝓖 𝓡 =
     proved 𝓤 H 𝓜 𝓖 𝓡 code.env key.name code.function (tripleOf 𝓤 H (𝓖 .A) f.signature (f.spec 𝓤 H (𝓖 .A) (𝓜 .mem) (𝓡 .run))) (code.unfolded 𝓤 H 𝓜 𝓡) (meets 𝓤 H (𝓖 .A) (givenOf 𝓤 H 𝓜 𝓖) (𝓜 .mem) (𝓡 .run) _ _
-    (cited 𝓤 H (tripleOf 𝓤 H (𝓖 .A) chk.signature (chk.spec 𝓤 H (𝓖 .A) (𝓜 .mem) (𝓡 .run))) 𝓜 𝓡 code.env chk-def.name chk-def.routine code.calls-listing-answers·check-answers (chk-thm.met 𝓤 H 𝓜 𝓖 𝓡))
+    (cited 𝓤 H (tripleOf 𝓤 H (𝓖 .A) chk.signature (chk.spec 𝓤 H (𝓖 .A) (𝓜 .mem) (𝓡 .run))) 𝓜 𝓡 code.env chk-def.name chk-def.routine code.calls-listing-check·check-answers (chk-thm.met 𝓤 H 𝓜 𝓖 𝓡))
     (cited 𝓤 H (tripleOf 𝓤 H (𝓖 .A) sto.signature (sto.spec 𝓤 H (𝓖 .A) (𝓜 .mem) (𝓡 .run))) 𝓜 𝓡 code.env sto-def.name sto-def.routine code.calls-abi-listing·store-check (sto-thm.met 𝓤 H 𝓜 𝓖 𝓡)))

@@ -1,6 +1,6 @@
 -- `abi_listing::store_check` meets its contract. Assumes nothing.
 use mathlib.Core.Path.{refl}
-use Rattle.listing_answers.specs.Answers.{checkSays}
+use Rattle.listing_check.specs.Answers.{checkSays}
 use Rattle.abi.specs.Encoding.{returned, stored}
 use Rattle.abi.specs.Laws.Encoding.{stored-as}
 use borrow.Author.Needs.{needs}

@@ -1,6 +1,6 @@
 -- `abi_listing::store_length` meets its contract. Assumes nothing.
 use mathlib.Core.Path.{refl}
-use Rattle.listings.specs.Listings.{moveSays}
+use Rattle.listing_spec.specs.Listings.{moveSays}
 use Rattle.abi.specs.Encoding.{returned, stored}
 use Rattle.abi.specs.Laws.Encoding.{stored-as}
 use Rattle.abi_listing.specs.Encoding.{encodeLength}

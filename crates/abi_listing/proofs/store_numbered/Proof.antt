@@ -1,6 +1,6 @@
 -- `abi_listing::store_numbered` meets its contract. Assumes nothing.
 use mathlib.Core.Path.{refl}
-use Rattle.listings.specs.Listings.{numberedSays}
+use Rattle.listing_spec.specs.Listings.{numberedSays}
 use Rattle.abi.specs.Encoding.{returned, stored}
 use Rattle.abi.specs.Laws.Encoding.{stored-as}
 use borrow.Author.Needs.{needs}

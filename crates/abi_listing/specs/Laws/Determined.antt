@@ -6,10 +6,10 @@ use mathlib.Core.Bool.{Bool, true, false}
 use mathlib.Core.List.{List}
 use Rattle.refusals.specs.Laws.Determined.{Same}
 use Rattle.constraints.specs.declared.Constraint.{Constraint}
-use Rattle.listings.specs.Listings.{listingSays, numberedSays, moveSays, ListingRead, ListingMoved}
-use Rattle.listings.specs.Laws.Determined as library
-use Rattle.listing_answers.specs.Answers.{checkSays, AnswersChecked}
-use Rattle.listing_answers.specs.Laws.Determined.{checked-determined}
+use Rattle.listing_spec.specs.Listings.{listingSays, numberedSays, moveSays, ListingRead, ListingMoved}
+use Rattle.listing_spec.specs.Laws.Determined as library
+use Rattle.listing_check.specs.Answers.{checkSays, AnswersChecked}
+use Rattle.listing_check.specs.Laws.Determined.{checked-determined}
 use Rattle.table.specs.declared.Header.{Header}
 use Rattle.listing_write.specs.Writing.{ListingWritten}
 use Rattle.listing_write.specs.Laws.Determined.{written-determined}

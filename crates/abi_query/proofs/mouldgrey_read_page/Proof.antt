@@ -18,14 +18,14 @@ use Rattle.constraints.proofs.Constraint as CT
 use Rattle.offsets.specs.declared.SubsetHead.{SubsetHead}
 use Rattle.offsets.specs.Answers.{subsetOf}
 use Rattle.table.specs.declared.Header.{Header}
-use Rattle.queries.specs.declared.PageAnswer.{PageAnswer}
-use Rattle.queries.proofs.PageAnswer as AT
-use Rattle.queries.proofs.PageAnswer.Laws as AT′
-use Rattle.queries.specs.Queries.{PageRead, pageSays}
-use Rattle.borrowed.proofs.SubsetRef.Laws as DT′
-use Rattle.borrowed.proofs.Locals.{enters, cell, copies, lends, leaves}
-use Rattle.borrowed.proofs.Walking.{URA, SProp, id⊢, Memory, Routine, Heap, Calls, Loops, WpFn, Atoms, Lfts, Fun, FmC, givenOf, Given, _$_, !, move, fsplit, u32, typesAt, enum-lawful, Meets, tripleOf, Triple, cited, Knowns, number, reads, writes, machine, met, ends-saying, answers, skips, pads, proved}
-use Rattle.borrowed.proofs.Arrays.{shared-array, lent-array, FinalArray, lends-array, tokens-out, tokens-in, owns-out, owns-in}
+use Rattle.query_spec.specs.declared.PageAnswer.{PageAnswer}
+use Rattle.query_spec.proofs.PageAnswer as AT
+use Rattle.query_spec.proofs.PageAnswer.Laws as AT′
+use Rattle.query_spec.specs.Queries.{PageRead, pageSays}
+use Rattle.query_borrowed.proofs.SubsetRef.Laws as DT′
+use Rattle.query_borrowed.proofs.Locals.{enters, cell, copies, lends, leaves}
+use Rattle.query_borrowed.proofs.Walking.{URA, SProp, id⊢, Memory, Routine, Heap, Calls, Loops, WpFn, Atoms, Lfts, Fun, FmC, givenOf, Given, _$_, !, move, fsplit, u32, typesAt, enum-lawful, Meets, tripleOf, Triple, cited, Knowns, number, reads, writes, machine, met, ends-saying, answers, skips, pads, proved}
+use Rattle.query_borrowed.proofs.Arrays.{shared-array, lent-array, FinalArray, lends-array, tokens-out, tokens-in, owns-out, owns-in}
 use Rattle.abi.specs.Encoding.{encodePage, Stored}
 use Rattle.abi.proofs.decode_header as hdr
 use Rattle.abi.proofs.decode_header.Symbol as hdr-def
@@ -33,9 +33,9 @@ use Rattle.abi.proofs.decode_header.Met as hdr-thm
 use Rattle.abi.proofs.decode_subset as sub
 use Rattle.abi.proofs.decode_subset.Symbol as sub-def
 use Rattle.abi.proofs.decode_subset.Met as sub-thm
-use Rattle.borrowed.proofs.read_page as ask
-use Rattle.borrowed.proofs.read_page.Symbol as ask-def
-use Rattle.borrowed.proofs.read_page.Met as ask-thm
+use Rattle.query_borrowed.proofs.read_page as ask
+use Rattle.query_borrowed.proofs.read_page.Symbol as ask-def
+use Rattle.query_borrowed.proofs.read_page.Met as ask-thm
 use Rattle.abi.proofs.store_page as sto
 use Rattle.abi.proofs.store_page.Symbol as sto-def
 use Rattle.abi.proofs.store_page.Met as sto-thm
@@ -85,5 +85,5 @@ mouldgrey-read-page-spec 𝓤 H 𝓜 𝓖 𝓡 =
     proved 𝓤 H 𝓜 𝓖 𝓡 code.env key.name code.function (tripleOf 𝓤 H (𝓖 .A) f.signature (f.spec 𝓤 H (𝓖 .A) (𝓜 .mem) (𝓡 .run))) (code.unfolded 𝓤 H 𝓜 𝓡) (meets 𝓤 H (𝓖 .A) (givenOf 𝓤 H 𝓜 𝓖) (𝓜 .mem) (𝓡 .run) _ _
     (cited 𝓤 H (tripleOf 𝓤 H (𝓖 .A) hdr.signature (hdr.spec 𝓤 H (𝓖 .A) (𝓜 .mem) (𝓡 .run))) 𝓜 𝓡 code.env hdr-def.name hdr-def.routine code.calls-abi·decode-header (hdr-thm.met 𝓤 H 𝓜 𝓖 𝓡))
     (cited 𝓤 H (tripleOf 𝓤 H (𝓖 .A) sub.signature (sub.spec 𝓤 H (𝓖 .A) (𝓜 .mem) (𝓡 .run))) 𝓜 𝓡 code.env sub-def.name sub-def.routine code.calls-abi·decode-subset (sub-thm.met 𝓤 H 𝓜 𝓖 𝓡))
-    (cited 𝓤 H (tripleOf 𝓤 H (𝓖 .A) ask.signature (ask.spec 𝓤 H (𝓖 .A) (𝓜 .mem) (𝓡 .run))) 𝓜 𝓡 code.env ask-def.name ask-def.routine code.calls-borrowed·read-page (ask-thm.met 𝓤 H 𝓜 𝓖 𝓡))
+    (cited 𝓤 H (tripleOf 𝓤 H (𝓖 .A) ask.signature (ask.spec 𝓤 H (𝓖 .A) (𝓜 .mem) (𝓡 .run))) 𝓜 𝓡 code.env ask-def.name ask-def.routine code.calls-query-borrowed·read-page (ask-thm.met 𝓤 H 𝓜 𝓖 𝓡))
     (cited 𝓤 H (tripleOf 𝓤 H (𝓖 .A) sto.signature (sto.spec 𝓤 H (𝓖 .A) (𝓜 .mem) (𝓡 .run))) 𝓜 𝓡 code.env sto-def.name sto-def.routine code.calls-abi·store-page (sto-thm.met 𝓤 H 𝓜 𝓖 𝓡)))

@@ -20,11 +20,11 @@ use Rattle.table.specs.declared.Header.{Header}
 use Rattle.offsets.specs.declared.SubsetAnswer.{SubsetAnswer}
 use Rattle.offsets.proofs.SubsetAnswer as AT
 use Rattle.offsets.proofs.SubsetAnswer.Laws as AT′
-use Rattle.queries.specs.Queries.{RefinedOne}
-use Rattle.borrowed.proofs.SubsetRef.Laws as DT′
-use Rattle.borrowed.proofs.Locals.{enters, cell, copies, lends, leaves}
-use Rattle.borrowed.proofs.Walking.{URA, SProp, id⊢, Memory, Routine, Heap, Calls, Loops, WpFn, Atoms, Lfts, Fun, FmC, givenOf, Given, _$_, !, move, fsplit, u32, typesAt, enum-lawful, Meets, tripleOf, Triple, cited, Knowns, reads, writes, machine, met, ends-saying, answers, skips, pads, proved}
-use Rattle.borrowed.proofs.Arrays.{shared-array, lent-array, FinalArray, lends-array, tokens-out, tokens-in, owns-out, owns-in}
+use Rattle.query_spec.specs.Queries.{RefinedOne}
+use Rattle.query_borrowed.proofs.SubsetRef.Laws as DT′
+use Rattle.query_borrowed.proofs.Locals.{enters, cell, copies, lends, leaves}
+use Rattle.query_borrowed.proofs.Walking.{URA, SProp, id⊢, Memory, Routine, Heap, Calls, Loops, WpFn, Atoms, Lfts, Fun, FmC, givenOf, Given, _$_, !, move, fsplit, u32, typesAt, enum-lawful, Meets, tripleOf, Triple, cited, Knowns, reads, writes, machine, met, ends-saying, answers, skips, pads, proved}
+use Rattle.query_borrowed.proofs.Arrays.{shared-array, lent-array, FinalArray, lends-array, tokens-out, tokens-in, owns-out, owns-in}
 use Rattle.abi.specs.Encoding.{decodeCondition, subsetSays, encodeSubset, Stored}
 use Rattle.abi.proofs.decode_header as hdr
 use Rattle.abi.proofs.decode_header.Symbol as hdr-def
@@ -35,9 +35,9 @@ use Rattle.abi.proofs.decode_subset.Met as sub-thm
 use Rattle.abi.proofs.decode_condition as con
 use Rattle.abi.proofs.decode_condition.Symbol as con-def
 use Rattle.abi.proofs.decode_condition.Met as con-thm
-use Rattle.borrowed.proofs.refine_one as ask
-use Rattle.borrowed.proofs.refine_one.Symbol as ask-def
-use Rattle.borrowed.proofs.refine_one.Met as ask-thm
+use Rattle.query_borrowed.proofs.refine_one as ask
+use Rattle.query_borrowed.proofs.refine_one.Symbol as ask-def
+use Rattle.query_borrowed.proofs.refine_one.Met as ask-thm
 use Rattle.abi.proofs.store_subset as sto
 use Rattle.abi.proofs.store_subset.Symbol as sto-def
 use Rattle.abi.proofs.store_subset.Met as sto-thm
@@ -89,5 +89,5 @@ mouldgrey-refine-one-spec 𝓤 H 𝓜 𝓖 𝓡 =
     (cited 𝓤 H (tripleOf 𝓤 H (𝓖 .A) hdr.signature (hdr.spec 𝓤 H (𝓖 .A) (𝓜 .mem) (𝓡 .run))) 𝓜 𝓡 code.env hdr-def.name hdr-def.routine code.calls-abi·decode-header (hdr-thm.met 𝓤 H 𝓜 𝓖 𝓡))
     (cited 𝓤 H (tripleOf 𝓤 H (𝓖 .A) sub.signature (sub.spec 𝓤 H (𝓖 .A) (𝓜 .mem) (𝓡 .run))) 𝓜 𝓡 code.env sub-def.name sub-def.routine code.calls-abi·decode-subset (sub-thm.met 𝓤 H 𝓜 𝓖 𝓡))
     (cited 𝓤 H (tripleOf 𝓤 H (𝓖 .A) con.signature (con.spec 𝓤 H (𝓖 .A) (𝓜 .mem) (𝓡 .run))) 𝓜 𝓡 code.env con-def.name con-def.routine code.calls-abi·decode-condition (con-thm.met 𝓤 H 𝓜 𝓖 𝓡))
-    (cited 𝓤 H (tripleOf 𝓤 H (𝓖 .A) ask.signature (ask.spec 𝓤 H (𝓖 .A) (𝓜 .mem) (𝓡 .run))) 𝓜 𝓡 code.env ask-def.name ask-def.routine code.calls-borrowed·refine-one (ask-thm.met 𝓤 H 𝓜 𝓖 𝓡))
+    (cited 𝓤 H (tripleOf 𝓤 H (𝓖 .A) ask.signature (ask.spec 𝓤 H (𝓖 .A) (𝓜 .mem) (𝓡 .run))) 𝓜 𝓡 code.env ask-def.name ask-def.routine code.calls-query-borrowed·refine-one (ask-thm.met 𝓤 H 𝓜 𝓖 𝓡))
     (cited 𝓤 H (tripleOf 𝓤 H (𝓖 .A) sto.signature (sto.spec 𝓤 H (𝓖 .A) (𝓜 .mem) (𝓡 .run))) 𝓜 𝓡 code.env sto-def.name sto-def.routine code.calls-abi·store-subset (sto-thm.met 𝓤 H 𝓜 𝓖 𝓡)))

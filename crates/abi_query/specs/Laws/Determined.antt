@@ -7,8 +7,8 @@ use Rattle.refusals.specs.Laws.Determined.{Same}
 use Rattle.offsets.specs.Subsets.{Subset}
 use Rattle.constraints.specs.declared.Constraint.{Constraint}
 use Rattle.table.specs.declared.Header.{Header}
-use Rattle.queries.specs.Queries.{matchSays, pageSays, RefinedOne, RefinedList, Matched, PageRead}
-use Rattle.queries.specs.Laws.Determined.{refined-one-determined, refined-list-determined, matched-determined, page-read-determined}
+use Rattle.query_spec.specs.Queries.{matchSays, pageSays, RefinedOne, RefinedList, Matched, PageRead}
+use Rattle.query_spec.specs.Laws.Determined.{refined-one-determined, refined-list-determined, matched-determined, page-read-determined}
 use Rattle.abi.specs.Encoding.{decodeCondition, encodeBool, subsetSays, encodeSubset, encodePage, Answers}
 use Rattle.abi.specs.Laws.Determined.{SameOutcome, answers-determined}
 

@@ -1,6 +1,6 @@
 -- `abi_refresh::store_refresh` meets its contract. Assumes nothing.
 use mathlib.Core.Path.{refl}
-use Rattle.refreshes.specs.Refreshes.{refreshSays}
+use Rattle.refresh_spec.specs.Refreshes.{refreshSays}
 use Rattle.abi.specs.Encoding.{encodeBool, returned, stored}
 use Rattle.abi.specs.Laws.Encoding.{stored-as}
 use borrow.Author.Needs.{needs}

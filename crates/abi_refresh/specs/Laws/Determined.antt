@@ -3,10 +3,10 @@
 use Prim.Native.Nat.{ℕ}
 use mathlib.Core.List.{List}
 use Rattle.refusals.specs.Laws.Determined.{Same}
-use Rattle.plain.specs.Refreshing.{Refresh}
-use Rattle.refreshes.specs.Index.{IndexSound}
-use Rattle.refreshes.specs.Refreshes.{refreshSays, Refreshing}
-use Rattle.refreshes.specs.Laws.Determined.{refreshing-determined}
+use Rattle.plain_table.specs.Refreshing.{Refresh}
+use Rattle.refresh_spec.specs.Index.{IndexSound}
+use Rattle.refresh_spec.specs.Refreshes.{refreshSays, Refreshing}
+use Rattle.refresh_spec.specs.Laws.Determined.{refreshing-determined}
 use Rattle.abi.specs.Encoding.{decodeHeader, encodeBool, AnswersWithHeader}
 use Rattle.abi.specs.Laws.Determined.{SameWithHeader, answers-with-header-determined}
 

@@ -12,13 +12,13 @@ use Rattle.table.specs.declared.TableAnswer.{TableAnswer}
 use Rattle.table.specs.Numbers.{tableSays}
 use Rattle.table.specs.Promises.{Body, CompactionWords}
 use Rattle.history.specs.Runs.{Question}
-use Rattle.question_words.specs.declared.RunAnswer.{RunAnswer}
-use Rattle.refreshes.specs.Index.{isNew}
-use Rattle.call_words.specs.Requests.{Request, isRefresh}
+use Rattle.replay_queries.specs.declared.RunAnswer.{RunAnswer}
+use Rattle.refresh_spec.specs.Index.{isNew}
+use Rattle.replay_calls.specs.Requests.{Request, isRefresh}
 use Rattle.replay.specs.Replays.{Replayed}
 use Rattle.replay.specs.Laws.Determined.{ReplayLeft, SameReplay, replayed-determined}
-use Rattle.runs.specs.Asking.{RunMade}
-use Rattle.runs.specs.Laws.Determined.{RunLeft, SameRun, run-made-determined}
+use Rattle.replay_run.specs.Asking.{RunMade}
+use Rattle.replay_run.specs.Laws.Determined.{RunLeft, SameRun, run-made-determined}
 use Rattle.abi.specs.Encoding.{decodeOpening, openingGeneration, encodeHeader, Answers}
 use Rattle.abi.specs.Laws.Determined.{SameOutcome, answers-determined}
 use Rattle.abi_replay.specs.Encoding.{runSays, encodeRun}

@@ -4,7 +4,7 @@ use Prim.Native.Nat.{ℕ}
 use mathlib.Core.Path.{_≡_}
 use mathlib.Core.List.{List}
 use Rattle.refusals.specs.Laws.Determined.{Same}
-use Rattle.plain.specs.Staged.{Staged}
+use Rattle.plain_table.specs.Staged.{Staged}
 use Rattle.table.specs.declared.Header.{Header}
 use Rattle.table.specs.declared.TableAnswer.{TableAnswer}
 use Rattle.table.specs.Numbers.{tableSays, mergeSays, soundSays}

@@ -23,13 +23,13 @@ use Rattle.offsets.proofs.SubsetAnswer.Laws as AT′
 use Rattle.offsets.proofs.SubsetHead as DT
 use Rattle.table.specs.declared.Header.{Header}
 use Rattle.table.proofs.Header as HT
-use Rattle.queries.specs.Queries.{RefinedList}
+use Rattle.query_spec.specs.Queries.{RefinedList}
 use Rattle.walks.proofs.Lent.{Lent, OwnOut, Ranged, Slices, Tokens₃, fits, head-val, header-val, headers, heads, lifetimes, numbers, owns-off, owns-on, shares, slice-val, slices-on, slices-twice, together, tokens-off, tokens-on}
 use Rattle.walks.proofs.Walking.{AllPassed, Asked, Cites, Tokens, Value, Walked, arg, by-value, calls, given-slice, lent-slice, own, stays, typed, walk-runs}
-use Rattle.questions.proofs.refine_ref as ask
-use Rattle.questions.proofs.refine_ref.Symbol as ask-def
-use Rattle.questions.proofs.refine_ref.Symbol.{name as #questions·refine-ref}
-use Rattle.questions.proofs.refine_ref.Met as ask-thm
+use Rattle.query.proofs.refine_ref as ask
+use Rattle.query.proofs.refine_ref.Symbol as ask-def
+use Rattle.query.proofs.refine_ref.Symbol.{name as #query·refine-ref}
+use Rattle.query.proofs.refine_ref.Met as ask-thm
 use Rattle.walks.proofs.LentArray.{Kept, lends-front, front-back}
 use Rattle.walks.proofs.LentArray.{Lent as LentFront}
 use Rattle.condition_lists.proofs.refine_first.Key.{name as #condition-lists·refine-first}
@@ -85,7 +85,7 @@ module _ {M : Type 1} (𝓤 : URA M) (H : Heap 𝓤) (A : Atoms 𝓤) (W : Given
     counted : length (take k cs) ≡ k
     counted = length-take-le k cs (omega (arith, long, can))
 
-    walk : (𝓣 : Tables 𝓤 H) → Cites 𝓤 H A ask.ended asking (𝓣 .C) #questions·refine-ref → Room u32 (length (now rows)) → Room u32 (length (now ids)) → Room u32 (length (now z))
+    walk : (𝓣 : Tables 𝓤 H) → Cites 𝓤 H A ask.ended asking (𝓣 .C) #query·refine-ref → Room u32 (length (now rows)) → Room u32 (length (now ids)) → Room u32 (length (now z))
         → ent 𝓤 (onEntry 𝓤 H A f.signature (y .0 .0) (y .0 .1) (y .0 .3) (y .0 .4)) (WpFn 𝓤 H (𝓣 .C) (𝓣 .Λ) code.function (Walked f.ended params 𝓤 H A clauses .args y) (Walked f.ended params 𝓤 H A clauses .post y))
     walk 𝓣 known room-rows room-ids room =
         let wt = typed W arrays cs is-c .0 in
@@ -128,4 +128,4 @@ refine-first-spec 𝓤 H 𝓜 𝓖 𝓡 =
     walk-runs f.ended params 𝓤 H 𝓜 𝓖 𝓡 (f.clauses 𝓤 H (𝓖 .A) (𝓜 .mem) (𝓡 .run)) code.env #condition-lists·refine-first code.function (code.unfolded 𝓤 H 𝓜 𝓡) (λ κs qs bounds a g are. needs 𝓤 (a .1 .1 .1 .1 .1 .0 ≤ 16) _ (λ can.
     walk 𝓤 H (𝓖 .A) (givenOf 𝓤 H 𝓜 𝓖) (𝓜 .mem) (𝓡 .run) (κs .0) (κs .1 .0) (κs .1 .1 .0) (qs .0) (qs .1 .0) (qs .1 .1 .0) (a .0) (a .1 .0) (a .1 .1 .0) (a .1 .1 .1 .0) (a .1 .1 .1 .1 .0) (a .1 .1 .1 .1 .1 .0) (a .1 .1 .1 .1 .1 .1 .0)
     (are .0, are .1 .1 .0) (are .1 .1 .1 .1 .0) (are .1 .1 .1 .1 .1 .0) can (tablesOf 𝓤 H 𝓜 (tables 𝓤 H 𝓜 𝓡 code.env))
-    (cited 𝓤 H _ 𝓜 𝓡 code.env #questions·refine-ref ask-def.routine code.calls-questions·refine-ref (ask-thm.met 𝓤 H 𝓜 𝓖 𝓡)) (are .1 .0 .0 .1) (are .1 .1 .1 .0 .0 .1) (are .1 .1 .1 .1 .1 .1 .0 .0 .1)))
+    (cited 𝓤 H _ 𝓜 𝓡 code.env #query·refine-ref ask-def.routine code.calls-query·refine-ref (ask-thm.met 𝓤 H 𝓜 𝓖 𝓡)) (are .1 .0 .0 .1) (are .1 .1 .1 .0 .0 .1) (are .1 .1 .1 .1 .1 .1 .0 .0 .1)))

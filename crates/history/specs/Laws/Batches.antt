@@ -4,12 +4,12 @@ use mathlib.Core.Path.{_≡_, refl, sym, ap, _∙_}
 use mathlib.Core.List.{List, map}
 use native.Mathlib.Omega.{arith}
 use Rattle.refusals.specs.Refusals.{accepted, reply, verdict}
-use Rattle.plain.specs.Staged.{insert}
-use Rattle.plain.specs.Refusing.{Lengths}
-use Rattle.plain.specs.Plain.{Plain, Numbered, merged as mergedPlain, stage as stagePlain}
-use Rattle.plain.specs.Calls.{staging, merging, done}
-use Rattle.plain.specs.Laws.Calls.{accepted-done}
-use Rattle.plain.specs.Laws.Batches.{batch, liveCells, cut-anywhere}
+use Rattle.plain_table.specs.Staged.{insert}
+use Rattle.plain_table.specs.Refusing.{Lengths}
+use Rattle.plain_table.specs.Plain.{Plain, Numbered, merged as mergedPlain, stage as stagePlain}
+use Rattle.plain_table.specs.Calls.{staging, merging, done}
+use Rattle.plain_table.specs.Laws.Calls.{accepted-done}
+use Rattle.plain_table.specs.Laws.Batches.{batch, liveCells, cut-anywhere}
 use Rattle.table.specs.Promises.{Stores, Represents}
 use Rattle.table.specs.Laws.Ladders.{stage-ladders, merge-ladders}
 use Rattle.table.specs.Laws.Refusals.{merge-accepted}

@@ -9,13 +9,13 @@ use lib.ListN.{length}
 use Rattle.lists.specs.Lists.{any}
 use Rattle.refusals.specs.Refusals.{first}
 use Rattle.refusals.specs.Laws.Replies.{some-number}
-use Rattle.plain.specs.Staged.{Opening, Staged}
-use Rattle.plain.specs.Plain.{Plain, opened}
-use Rattle.plain.specs.Refusing.{Lengths, storesShort, wordsShort, compactLadder}
-use Rattle.plain.specs.Refreshing.{Refresh}
-use Rattle.plain.specs.Calls.{Call, staging, merging, compacting, clearing, refreshing, feeding, recordsOf, stageAll, refusal, done, after, LentCall, afterAll}
-use Rattle.plain.specs.Laws.Calls.{refused-nothing, accepted-done}
-use Rattle.plain.specs.Laws.Refreshing.{whole-right}
+use Rattle.plain_table.specs.Staged.{Opening, Staged}
+use Rattle.plain_table.specs.Plain.{Plain, opened}
+use Rattle.plain_table.specs.Refusing.{Lengths, storesShort, wordsShort, compactLadder}
+use Rattle.plain_table.specs.Refreshing.{Refresh}
+use Rattle.plain_table.specs.Calls.{Call, staging, merging, compacting, clearing, refreshing, feeding, recordsOf, stageAll, refusal, done, after, LentCall, afterAll}
+use Rattle.plain_table.specs.Laws.Calls.{refused-nothing, accepted-done}
+use Rattle.plain_table.specs.Laws.Refreshing.{whole-right}
 use Rattle.table.specs.declared.TableAnswer.{TableAnswer}
 use Rattle.table.specs.declared.MergeAnswer.{MergeAnswer}
 use Rattle.table.specs.Numbers.{tableSays, mergeSays}
@@ -26,10 +26,10 @@ use Rattle.table.specs.Laws.Staging.{stage-accepted}
 use Rattle.table.specs.Laws.Refusals.{merge-accepted, compact-accepted, clear-accepted}
 use Rattle.table.specs.Laws.Keeps.{opening-done, staging-done, staging-refused, merging-done, merging-refused, compacting-done, compacting-refused, clearing-done, clearing-refused}
 use Rattle.table.specs.Laws.Fronts.{pending-part, pending-more, rows-part, rows-more, keys-part, keys-more, body-part, body-more}
-use Rattle.refreshes.specs.declared.RefreshAnswer.{RefreshAnswer}
-use Rattle.refreshes.specs.Index.{IndexSound}
-use Rattle.refreshes.specs.Refreshes.{refreshSays, recordsStaged, headerRefreshed, Refreshing}
-use Rattle.refreshes.specs.Laws.Keeps.{refresh-ladders, records-all, records-whole, number, found-records, passed, refreshing-done, refreshing-refused, fed-accepted, fed-refused}
+use Rattle.refresh_spec.specs.declared.RefreshAnswer.{RefreshAnswer}
+use Rattle.refresh_spec.specs.Index.{IndexSound}
+use Rattle.refresh_spec.specs.Refreshes.{refreshSays, recordsStaged, headerRefreshed, Refreshing}
+use Rattle.refresh_spec.specs.Laws.Keeps.{refresh-ladders, records-all, records-whole, number, found-records, passed, refreshing-done, refreshing-refused, fed-accepted, fed-refused}
 use Rattle.history.specs.Histories.{Called, stages, merges, compacts, clears, refreshes, refreshes-unsound, behind, Step, called, Steps, end, next, History}
 
 -- ---- the calls

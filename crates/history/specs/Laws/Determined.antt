@@ -9,9 +9,9 @@ use lib.Dec.{eqb}
 use lib.ListN.{length, take, drop}
 use borrow.Author.Tests.{ne-eqb}
 use Rattle.lists.specs.Lists.{putAt, rowsOf, flat}
-use Rattle.plain.specs.Plain.{Plain, applied, merged, compacted}
-use Rattle.plain.specs.Refusing.{storesShort, wordsShort, compactLadder}
-use Rattle.plain.specs.Calls.{Call, staging, merging, compacting, clearing, refreshing, feeding, recordsOf, refusal, LentCall}
+use Rattle.plain_table.specs.Plain.{Plain, applied, merged, compacted}
+use Rattle.plain_table.specs.Refusing.{storesShort, wordsShort, compactLadder}
+use Rattle.plain_table.specs.Calls.{Call, staging, merging, compacting, clearing, refreshing, feeding, recordsOf, refusal, LentCall}
 use Rattle.table.specs.declared.Header.{Header}
 use Rattle.table.specs.Refusing.{compactRefusal}
 use Rattle.table.specs.Stores.{rowStore, sortStore, recordWords}
@@ -19,8 +19,8 @@ use Rattle.table.specs.Promises.{Stores, Body, bodyOf, joined, compactionWords,
 use Rattle.table.specs.Laws.Ladders.{stage-ladders, merge-ladders, compact-ladders}
 use Rattle.table.specs.Laws.Refusals.{merge-accepted, compact-accepted}
 use Rattle.table.specs.Laws.Fronts.{pending-part, body-part}
-use Rattle.refreshes.specs.Refreshes.{refreshSays, recordsStaged}
-use Rattle.refreshes.specs.Laws.Keeps.{found-records, passed, fed-written}
+use Rattle.refresh_spec.specs.Refreshes.{refreshSays, recordsStaged}
+use Rattle.refresh_spec.specs.Laws.Keeps.{found-records, passed, fed-written}
 use Rattle.history.specs.Histories.{Called, stages, merges, compacts, clears, refreshes, refreshes-unsound, behind, Step, called, Steps, end, next}
 use Rattle.history.specs.Laws.Calls.{own-records, refresh-same, fed-right, step-represents}
 

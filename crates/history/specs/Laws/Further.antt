@@ -3,8 +3,8 @@
 use Prim.Native.Nat.{ℕ}
 use mathlib.Core.Path.{_≡_}
 use mathlib.Core.List.{List, [], _++_, append-nil}
-use Rattle.plain.specs.Staged.{Opening}
-use Rattle.plain.specs.Calls.{LentCall}
+use Rattle.plain_table.specs.Staged.{Opening}
+use Rattle.plain_table.specs.Calls.{LentCall}
 use Rattle.table.specs.declared.TableAnswer.the-variants.{Table}
 use Rattle.table.specs.Promises.{Stores, stores, body, Opened}
 use Rattle.history.specs.Histories.{Called, behind, Step, called, Steps, end, next, History}

@@ -10,10 +10,10 @@ use Rattle.lists.specs.Lists.{putAt, count, rowsOf, flat}
 use Rattle.refusals.specs.Refusals.{first, reply, verdict}
 use Rattle.sort_entries.specs.Entries.{entryWords, rebuilt, pushAll}
 use Rattle.key_index.specs.Slots.{roomStep, roomFor}
-use Rattle.plain.specs.Staged.{Opening, openable, Staged, insert, removeKey, removeRow, wordsOf, wordsAll, inserts, due}
-use Rattle.plain.specs.Refusing.{Lengths, storesShort, wordsShort, openRefusal, compactLadder, mergeLadder}
-use Rattle.plain.specs.Plain.{Plain, Row, dead, opened, removed, insertAll, applied, unstaged, compactsAfter, merged}
-use Rattle.plain.specs.Calls.{merging, compacting}
+use Rattle.plain_table.specs.Staged.{Opening, openable, Staged, insert, removeKey, removeRow, wordsOf, wordsAll, inserts, due}
+use Rattle.plain_table.specs.Refusing.{Lengths, storesShort, wordsShort, openRefusal, compactLadder, mergeLadder}
+use Rattle.plain_table.specs.Plain.{Plain, Row, dead, opened, removed, insertAll, applied, unstaged, compactsAfter, merged}
+use Rattle.plain_table.specs.Calls.{merging, compacting}
 use Rattle.table.specs.declared.Largest.the-variants.{None as NoLargest}
 use Rattle.table.specs.declared.Header.{Header}
 use Rattle.table.specs.declared.TableAnswer.the-variants.{Refused as TableRefused, Table}

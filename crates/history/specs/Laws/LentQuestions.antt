@@ -17,16 +17,16 @@ use Rattle.offsets.specs.Laws.Forms.{size-range, end-range, formed-range, lengt
 use Rattle.constraints.specs.declared.Constraint.{Constraint}
 use Rattle.constraints.specs.Constraints.{known}
 use Rattle.key_index.specs.Slots.{roomStep, roomFor}
-use Rattle.plain.specs.Staged.{Opening, openable}
-use Rattle.plain.specs.Refusing.{storesShort, openRefusal}
-use Rattle.plain.specs.Plain.{Plain}
-use Rattle.plain.specs.Calls.{LentCall}
+use Rattle.plain_table.specs.Staged.{Opening, openable}
+use Rattle.plain_table.specs.Refusing.{storesShort, openRefusal}
+use Rattle.plain_table.specs.Plain.{Plain}
+use Rattle.plain_table.specs.Calls.{LentCall}
 use Rattle.table.specs.Refusing.{outside, rowsShort}
 use Rattle.table.specs.Promises.{Stores, stores, Represents, body}
 use Rattle.table.specs.Laws.Opening.{emptyHeader, opened-done}
 use Rattle.table.specs.Laws.Refusals.{outside-inside}
 use Rattle.table.specs.Laws.Shown.{represents-inside}
-use Rattle.queries.specs.Queries.{matches, pastRows, tests, refineRefusal, refineOneReply}
+use Rattle.query_spec.specs.Queries.{matches, pastRows, tests, refineRefusal, refineOneReply}
 use Rattle.history.specs.Histories.{end as no-calls, History}
 use Rattle.history.specs.Runs.{refineOne, refines, left, counting, Asked, one-refined, Run, end, next}
 use Rattle.history.specs.Claim.{wanted}

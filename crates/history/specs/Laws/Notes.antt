@@ -15,10 +15,10 @@ use Rattle.lists.specs.Laws.Rising.{within-of, within-below}
 use Rattle.offsets.specs.Subsets.{Subset, range, members}
 use Rattle.offsets.specs.Laws.Forms.{has-range}
 use Rattle.constraints.specs.Constraints.{isLive}
-use Rattle.plain.specs.Plain.{Row, Plain, liveFrom, liveRows, opened}
-use Rattle.plain.specs.Proper.{rowOf}
-use Rattle.plain.specs.Calls.{afterAll}
-use Rattle.plain.specs.Laws.Notes.{Follows, onward-all, follows-at, follows-length, follows-live, live-behind}
+use Rattle.plain_table.specs.Plain.{Row, Plain, liveFrom, liveRows, opened}
+use Rattle.plain_table.specs.Proper.{rowOf}
+use Rattle.plain_table.specs.Calls.{afterAll}
+use Rattle.plain_table.specs.Laws.Notes.{Follows, onward-all, follows-at, follows-length, follows-live, live-behind}
 use Rattle.table.specs.declared.Header.{Header}
 use Rattle.table.specs.Promises.{Stores, Represents}
 use Rattle.table.specs.Laws.Shown.{row-shown, rows-counted}

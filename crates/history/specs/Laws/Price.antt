@@ -8,12 +8,12 @@ use lib.ListN.{length}
 use borrow.Author.Tests.{eq-eqb, ne-eqb}
 use Rattle.refusals.specs.Refusals.{Reply, refused, accepted}
 use Rattle.refusals.specs.Laws.Replies.{some-number, ruled-refused}
-use Rattle.plain.specs.Plain.{Plain, opened, stage, dead, mergeKeeps, mergeDrops}
-use Rattle.plain.specs.Refusing.{storesShort, wordsShort, compactLadder}
-use Rattle.plain.specs.Calls.{merging, compacting, clearing, stageAll, refusal, done, after, LentCall, afterAll}
-use Rattle.plain.specs.Appending.{ofMerge, ofAccepted, overMerges, mergeAdds}
-use Rattle.plain.specs.Laws.Calls.{refused-nothing, accepted-done}
-use Rattle.plain.specs.Laws.Price.{live-dead, compacted-live, merged-rows, merged-price}
+use Rattle.plain_table.specs.Plain.{Plain, opened, stage, dead, mergeKeeps, mergeDrops}
+use Rattle.plain_table.specs.Refusing.{storesShort, wordsShort, compactLadder}
+use Rattle.plain_table.specs.Calls.{merging, compacting, clearing, stageAll, refusal, done, after, LentCall, afterAll}
+use Rattle.plain_table.specs.Appending.{ofMerge, ofAccepted, overMerges, mergeAdds}
+use Rattle.plain_table.specs.Laws.Calls.{refused-nothing, accepted-done}
+use Rattle.plain_table.specs.Laws.Price.{live-dead, compacted-live, merged-rows, merged-price}
 use Rattle.table.specs.declared.Header.{Header}
 use Rattle.table.specs.declared.Merge.{Merge}
 use Rattle.table.specs.declared.TableAnswer.{TableAnswer}

@@ -27,8 +27,8 @@ use Rattle.constraints.specs.Constraints.{known, compares, met, meets}
 use Rattle.sort_entries.specs.Entries.{Entry, entriesOf, fastRange}
 use Rattle.sort_entries.specs.Laws.Ranges.{fast-range}
 use Rattle.sort_entries.specs.Laws.Stores.{entriesOf-same}
-use Rattle.plain.specs.Plain.{Plain}
-use Rattle.plain.specs.Laws.Calls.{first-no, first-rest}
+use Rattle.plain_table.specs.Plain.{Plain}
+use Rattle.plain_table.specs.Laws.Calls.{first-no, first-rest}
 use Rattle.table.specs.declared.Header.{Header}
 use Rattle.table.specs.declared.RangeAnswer.{RangeAnswer}
 use Rattle.table.specs.Numbers.{rangeSays}
@@ -36,7 +36,7 @@ use Rattle.table.specs.Promises.{Stores, Represents, fastSubset, RangeRead}
 use Rattle.table.specs.Laws.Sound.{represents-sound}
 use Rattle.table.specs.Laws.Refusals.{outside-inside, rows-long-of, fast-accepted}
 use Rattle.table.specs.Laws.Replies.{ruled-accepted, accepted-number, accepted-same}
-use Rattle.queries.specs.Queries.{matches, pastRows, tests, refineRefusal, refineOneReply, refineListReply}
+use Rattle.query_spec.specs.Queries.{matches, pastRows, tests, refineRefusal, refineOneReply, refineListReply}
 use Rattle.history.specs.Runs.{Question, refines, left, counting, Intersected, Asked, one-refined, list-refined, intersected, range-intersected, range-nothing}
 use Rattle.history.specs.Claim.{satisfies}
 use Rattle.history.specs.Laws.Narrowing.{alive, alive-of, alive-below, alive-live, Narrows, narrows-not, narrows-keep}

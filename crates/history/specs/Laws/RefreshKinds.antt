@@ -8,21 +8,21 @@ use mathlib.Core.List.{List, [], _∷_}
 use native.Mathlib.Omega.{arith}
 use Rattle.lists.specs.Lists.{putAt, keep, every, flat, same, rowsOf}
 use Rattle.refusals.specs.Refusals.{first, reply}
-use Rattle.plain.specs.Staged.{openable, wordsAll}
-use Rattle.plain.specs.Plain.{liveFrom, liveRows, below}
-use Rattle.plain.specs.Refusing.{overfull}
-use Rattle.plain.specs.Refreshing.{Refresh, mentioning, refreshed, indexShort, refreshLadder}
-use Rattle.plain.specs.Calls.{refreshing, feeding}
+use Rattle.plain_table.specs.Staged.{openable, wordsAll}
+use Rattle.plain_table.specs.Plain.{liveFrom, liveRows, below}
+use Rattle.plain_table.specs.Refusing.{overfull}
+use Rattle.plain_table.specs.Refreshing.{Refresh, mentioning, refreshed, indexShort, refreshLadder}
+use Rattle.plain_table.specs.Calls.{refreshing, feeding}
 use Rattle.table.specs.declared.Header.{Header}
 use Rattle.table.specs.Numbers.{largestSays}
 use Rattle.table.specs.Refusing.{outside, pendingOutside}
 use Rattle.table.specs.Stores.{rowsIn}
 use Rattle.table.specs.Promises.{body, compactionWords, lengthsLent}
 use Rattle.table.specs.Laws.Opening.{emptyHeader}
-use Rattle.refreshes.specs.declared.Refreshed.{Refreshed}
-use Rattle.refreshes.specs.declared.RefreshAnswer.the-variants.{Refreshed as RefreshDone}
-use Rattle.refreshes.specs.Index.{isNew, generationSeen, rowsSeen, columnsNamed, namedIn, IndexSound, startsAfresh}
-use Rattle.refreshes.specs.Refreshes.{refreshSays, refreshRefusal, recordsFound, recordsStaged, headerRefreshed, Refreshing}
+use Rattle.refresh_spec.specs.declared.Refreshed.{Refreshed}
+use Rattle.refresh_spec.specs.declared.RefreshAnswer.the-variants.{Refreshed as RefreshDone}
+use Rattle.refresh_spec.specs.Index.{isNew, generationSeen, rowsSeen, columnsNamed, namedIn, IndexSound, startsAfresh}
+use Rattle.refresh_spec.specs.Refreshes.{refreshSays, refreshRefusal, recordsFound, recordsStaged, headerRefreshed, Refreshing}
 use Rattle.history.specs.Histories.{refreshes, refreshes-unsound, called, end, next, History}
 use Rattle.history.specs.Laws.LentLengths.{example, exampleStores, example-opened}
 

@@ -14,23 +14,23 @@ use Rattle.lists.specs.Lists.{rowAt}
 use Rattle.lists.specs.Laws.Rows.{row-in}
 use Rattle.refusals.specs.Laws.Replies.{some-number}
 use Rattle.constraints.specs.Constraints.{isLive}
-use Rattle.plain.specs.Staged.{Opening}
-use Rattle.plain.specs.Plain.{Plain}
-use Rattle.plain.specs.Refreshing.{Refresh, indexShort}
-use Rattle.plain.specs.Calls.{recordsOf, LentCall, after, afterAll}
-use Rattle.plain.specs.Laws.Proper.{openable-bounds}
-use Rattle.plain.specs.Laws.Notes.{onward-all, follows-length}
+use Rattle.plain_table.specs.Staged.{Opening}
+use Rattle.plain_table.specs.Plain.{Plain}
+use Rattle.plain_table.specs.Refreshing.{Refresh, indexShort}
+use Rattle.plain_table.specs.Calls.{recordsOf, LentCall, after, afterAll}
+use Rattle.plain_table.specs.Laws.Proper.{openable-bounds}
+use Rattle.plain_table.specs.Laws.Notes.{onward-all, follows-length}
 use Rattle.table.specs.declared.Header.{Header}
 use Rattle.table.specs.Promises.{Stores, Body, bodyOf, joined, Represents}
 use Rattle.table.specs.Laws.Replies.{reply-refused}
 use Rattle.table.specs.Laws.Shown.{rows-counted}
 use Rattle.table.specs.Laws.Fronts.{rows-part}
-use Rattle.refreshes.specs.declared.RefreshAnswer.{RefreshAnswer}
-use Rattle.refreshes.specs.Index.{isNew, generationSeen, lookedUp, IndexOf, IndexSound, Current}
-use Rattle.refreshes.specs.Refreshes.{refreshSays, answered, headerRefreshed, Refreshing}
-use Rattle.refreshes.specs.Laws.Keeps.{number, found-records, says-accepted, says-refused, passed}
-use Rattle.refreshes.specs.Laws.Fronts.{index-more, index-front, new-front, generation-front, goes-on, named-count}
-use Rattle.refreshes.specs.Laws.Lookup.{names-of, lookup-holding}
+use Rattle.refresh_spec.specs.declared.RefreshAnswer.{RefreshAnswer}
+use Rattle.refresh_spec.specs.Index.{isNew, generationSeen, lookedUp, IndexOf, IndexSound, Current}
+use Rattle.refresh_spec.specs.Refreshes.{refreshSays, answered, headerRefreshed, Refreshing}
+use Rattle.refresh_spec.specs.Laws.Keeps.{number, found-records, says-accepted, says-refused, passed}
+use Rattle.refresh_spec.specs.Laws.Fronts.{index-more, index-front, new-front, generation-front, goes-on, named-count}
+use Rattle.refresh_spec.specs.Laws.Lookup.{names-of, lookup-holding}
 use Rattle.history.specs.Histories.{refreshes, behind, Step, called, end, next, History}
 use Rattle.history.specs.Refreshes.{ownRefresh, Kept, taken, waits, refreshes as refreshes-kept, holding, ownRefusal, RefreshesOwn, KeptIndexes}
 use Rattle.history.specs.Laws.Calls.{own-records, refresh-same, step-represents, history-represents}

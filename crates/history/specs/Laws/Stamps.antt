@@ -1,6 +1,6 @@
 -- Old stamps stay out of every history, from the promises alone. Assumes nothing.
 use mathlib.Core.Path.{ap, _∙_}
-use Rattle.plain.specs.Laws.Stamps.{stamped-history}
+use Rattle.plain_table.specs.Laws.Stamps.{stamped-history}
 use Rattle.table.specs.declared.Header.{Header}
 use Rattle.table.specs.Numbers.{largestSays}
 use Rattle.table.specs.Laws.Sound.{says-of}

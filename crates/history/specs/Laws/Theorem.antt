@@ -2,7 +2,7 @@
 -- that the claim's histories and runs are made of.
 use mathlib.Core.List.{List}
 use Rattle.offsets.specs.Subsets.{Subset, members}
-use Rattle.plain.specs.Plain.{Plain}
+use Rattle.plain_table.specs.Plain.{Plain}
 use Rattle.table.specs.Promises.{Stores, Represents}
 use Rattle.table.specs.Laws.Live.{live-shown}
 use Rattle.history.specs.Runs.{Question, Run, end, next}

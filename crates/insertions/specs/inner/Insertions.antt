@@ -5,13 +5,13 @@ use mathlib.Core.Bool.{Bool, false}
 use mathlib.Core.List.{List, _∷_}
 use lib.ListN.{getD}
 use lib.Dec.{eqb}
-use Rattle.plain.specs.Staged.{Staged, inserts}
-use Rattle.plain.specs.Plain.{insertAll, inserted, Plain}
+use Rattle.plain_table.specs.Staged.{Staged, inserts}
+use Rattle.plain_table.specs.Plain.{insertAll, inserted, Plain}
 use Rattle.table.specs.declared.Header.{Header}
 use Rattle.insertions.specs.declared.Passed.{Passed}
 use Rattle.table.specs.Numbers.{openingOf}
 use Rattle.table.specs.Promises.{Stores, stores, Represents, SlotsPast}
-use Rattle.pending.specs.inner.Becoming.{Becomes, Recounted, Ready, Waiting, Left}
+use Rattle.merge_pending.specs.inner.Becoming.{Becomes, Recounted, Ready, Waiting, Left}
 
 -- a row was appended
 abbrev pub hasAdded : Passed → Bool

@@ -29,28 +29,28 @@ use Rattle.key_index.specs.inner.Index.{Fits, FoundAt, FoundIs, PutIs}
 use Rattle.key_index.specs.Laws.Index.{put-sound, replace-sound}
 use Rattle.key_index.specs.Laws.Rooms.{room-enough}
 use Rattle.key_index.specs.Laws.Rows.{WithRows, grown-rows, swapped-rows}
-use Rattle.plain.specs.Staged.{skipped}
-use Rattle.plain.specs.Plain.{Row, Plain, withRows, withRow, lookup, dead, liveWithKey, killIf, stop, append, put, insertion}
-use Rattle.plain.specs.Proper.{rowOf}
-use Rattle.plain.specs.Laws.Rows.{apart-of}
-use Rattle.plain.specs.Laws.Proper.{insertion-proper}
+use Rattle.plain_table.specs.Staged.{skipped}
+use Rattle.plain_table.specs.Plain.{Row, Plain, withRows, withRow, lookup, dead, liveWithKey, killIf, stop, append, put, insertion}
+use Rattle.plain_table.specs.Proper.{rowOf}
+use Rattle.plain_table.specs.Laws.Rows.{apart-of}
+use Rattle.plain_table.specs.Laws.Proper.{insertion-proper}
 use Rattle.table.specs.declared.Header.{Header}
-use Rattle.appending.specs.declared.Insertion.{Insertion}
-use Rattle.appending.specs.declared.Insertion.the-variants.{Kept, Appended, Stopped}
+use Rattle.merge_append.specs.declared.Insertion.{Insertion}
+use Rattle.merge_append.specs.declared.Insertion.the-variants.{Kept, Appended, Stopped}
 use Rattle.table.specs.Sound.{keyedOf}
 use Rattle.table.specs.inner.Whole.{wholeOf}
 use Rattle.table.specs.Laws.Refusals.{whole-fits}
 use Rattle.table.specs.Promises.{Stores, stores, Represents}
-use Rattle.pending.specs.inner.Becoming.{Recounted, hashOf}
+use Rattle.merge_pending.specs.inner.Becoming.{Recounted, hashOf}
 use Rattle.inserts.specs.inner.Inserting.{Comes, Inserting}
-use Rattle.appending.specs.inner.Appending.{grownTo, outgrown, Leading, Grew, NewIs, Replaced}
+use Rattle.merge_append.specs.inner.Appending.{grownTo, outgrown, Leading, Grew, NewIs, Replaced}
 use Rattle.inserts.specs.inner.Ruling.{Changes, rowMade, KnownIs}
 use Rattle.table.specs.Laws.Stored.{marked-dead}
 use Rattle.table.specs.Laws.Shown.{in-live}
 use Rattle.table.specs.Laws.Lookup.{live-passes, row-lookup, none-found}
-use Rattle.pending.specs.Laws.Dying.{killAt, killIf-one, dead-killAt}
-use Rattle.appending.specs.Laws.Admission.{stop-same}
-use Rattle.appending.specs.Laws.Growth.{prepared-same, prepared-dead, grown-steps}
+use Rattle.merge_pending.specs.Laws.Dying.{killAt, killIf-one, dead-killAt}
+use Rattle.merge_append.specs.Laws.Admission.{stop-same}
+use Rattle.merge_append.specs.Laws.Growth.{prepared-same, prepared-dead, grown-steps}
 
 keys-same : {p : Plain} {s : Stores} → Represents p s → s .header .keys ≡ p .opening .keys
 keys-same r = ap (λ (h : Header). h .keys) (r .shown .header)

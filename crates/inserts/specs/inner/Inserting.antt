@@ -4,13 +4,13 @@ use mathlib.Core.Path.{_≡_}
 use mathlib.Core.List.{List}
 use mathlib.Core.Option.{none, some}
 use Rattle.refusals.specs.Refusals.{refused, accepted}
-use Rattle.plain.specs.Staged.{insert}
-use Rattle.plain.specs.Plain.{Plain, insertion}
+use Rattle.plain_table.specs.Staged.{insert}
+use Rattle.plain_table.specs.Plain.{Plain, insertion}
 use Rattle.table.specs.declared.Header.{Header}
-use Rattle.appending.specs.declared.Insertion.{Insertion}
-use Rattle.appending.specs.declared.Insertion.the-variants.{Kept, Appended, Stopped}
+use Rattle.merge_append.specs.declared.Insertion.{Insertion}
+use Rattle.merge_append.specs.declared.Insertion.the-variants.{Kept, Appended, Stopped}
 use Rattle.table.specs.Promises.{Stores, stores, Represents, SlotsPast}
-use Rattle.pending.specs.inner.Becoming.{Becomes, Recounted, hashOf}
+use Rattle.merge_pending.specs.inner.Becoming.{Becomes, Recounted, hashOf}
 
 -- what an insert's answer says of the plain table's insert
 abbrev pub Comes : Plain → List ℕ → Stores → List ℕ → List ℕ → List ℕ → Insertion → Type 0

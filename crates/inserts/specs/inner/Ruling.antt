@@ -8,9 +8,9 @@ use lib.ListN.{length, take, drop}
 use Rattle.lists.specs.Lists.{putAt, rowAt}
 use Rattle.merge_rules.specs.Rules.{changesFrom, madeFrom, survivor}
 use Rattle.table.specs.declared.Header.{Header}
-use Rattle.appending.specs.declared.Insertion.{Insertion}
-use Rattle.appending.specs.declared.Insertion.the-variants.{Kept, Appended, Stopped}
-use Rattle.appending.specs.inner.Appending.{Stayed, Replaced}
+use Rattle.merge_append.specs.declared.Insertion.{Insertion}
+use Rattle.merge_append.specs.declared.Insertion.the-variants.{Kept, Appended, Stopped}
+use Rattle.merge_append.specs.inner.Appending.{Stayed, Replaced}
 
 -- a cell outside keys and sort column changes
 abbrev pub Changes : Header → List ℕ → List ℕ → Bool

@@ -1,6 +1,6 @@
 -- `levels::no_table` meets its contract. Assumes nothing.
 use mathlib.Core.Path.{refl}
-use Rattle.plain.specs.Staged.{openable}
+use Rattle.plain_table.specs.Staged.{openable}
 use Rattle.table.specs.Refusing.{outside}
 use Rattle.levels.proofs.no_table.Statement.{statement}
 use Rattle.levels.proofs.no_table.Tie as tie

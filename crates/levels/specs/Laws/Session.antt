@@ -7,9 +7,9 @@ use Prim.Native.Nat.{ℕ}
 use lib.ListN.{take}
 use Rattle.lists.specs.Lists.{flat}
 use Rattle.lists.specs.Laws.Rows.{flat-append}
-use Rattle.levels_said.specs.Said.{lineTurn}
-use Rattle.levels_said.specs.Session.{programLengths, linesIn, session, printed}
-use Rattle.levels_said.specs.Laws.Session.{lines-ended, lines-last}
+use Rattle.levels_spec.specs.Said.{lineTurn}
+use Rattle.levels_spec.specs.Session.{programLengths, linesIn, session, printed}
+use Rattle.levels_spec.specs.Laws.Session.{lines-ended, lines-last}
 use Rattle.levels_output.specs.declared.Handed.{Handed}
 use Rattle.levels.specs.Run.{Program, Turn, line-turn, read-turn, last-turn, over-turn, Turns, begin, then, Machine, bytesHanded, Ending, input-over, write-failed, Ran, input, output, Begins}
 

@@ -10,10 +10,10 @@ use lib.ListN.{length, take, length-append}
 use Rattle.lists.specs.Laws.Keep.{split}
 use Rattle.table.specs.declared.Header.{Header}
 use Rattle.table.specs.Refusing.{outside}
-use Rattle.levels_said.specs.Answers.{no-table}
-use Rattle.levels_lines.specs.declared.Input.{Input}
-use Rattle.levels_lines.specs.Input.{bytesRead}
-use Rattle.levels_lines.specs.inner.Taking.{Refilled}
+use Rattle.levels_spec.specs.Answers.{no-table}
+use Rattle.levels_input.specs.declared.Input.{Input}
+use Rattle.levels_input.specs.Input.{bytesRead}
+use Rattle.levels_input.specs.inner.Taking.{Refilled}
 use Rattle.levels_output.specs.declared.Handed.{Handed}
 use Rattle.levels.specs.declared.State.{State}
 use Rattle.levels.specs.declared.Ended.{Ended}

@@ -12,16 +12,16 @@ use borrow.Author.Tests.{eq-eqb, ne-eqb}
 use Rattle.lists.specs.Lists.{has}
 use Rattle.lists.specs.Laws.Keep.{split}
 use Rattle.table.specs.Promises.{Stores}
-use Rattle.levels_said.specs.Said.{lineTurn}
-use Rattle.levels_said.specs.Answers.{Held, lent}
-use Rattle.levels_said.specs.Session.{programLengths}
-use Rattle.levels_said.specs.Laws.Kept.{line-kept}
+use Rattle.levels_spec.specs.Said.{lineTurn}
+use Rattle.levels_spec.specs.Answers.{Held, lent}
+use Rattle.levels_spec.specs.Session.{programLengths}
+use Rattle.levels_spec.specs.Laws.Kept.{line-kept}
 use Rattle.levels_answers.specs.inner.Reading.{AnsweringBehind}
-use Rattle.levels_lines.specs.declared.Input.{Input}
-use Rattle.levels_lines.specs.declared.Taken.{Taken}
-use Rattle.levels_lines.specs.Input.{bytesRead, unread, AtEnd, Begun}
-use Rattle.levels_lines.specs.inner.Scanning.{left-none}
-use Rattle.levels_lines.specs.inner.Taking.{LineTaken}
+use Rattle.levels_input.specs.declared.Input.{Input}
+use Rattle.levels_input.specs.declared.Taken.{Taken}
+use Rattle.levels_input.specs.Input.{bytesRead, unread, AtEnd, Begun}
+use Rattle.levels_input.specs.inner.Scanning.{left-none}
+use Rattle.levels_input.specs.inner.Taking.{LineTaken}
 use Rattle.levels_output.specs.declared.Handed.{Handed}
 use Rattle.levels_output.specs.inner.Flushing.{RoomMade}
 use Rattle.levels.specs.declared.Step.{Step}

@@ -10,8 +10,8 @@ use lib.ListN.{length, take, length-append, length-take}
 use lib.Seq.{take-append-le, take-append-add}
 use Rattle.lists.specs.Laws.Keep.{split}
 use Rattle.lists.specs.Laws.Search.{take-put}
-use Rattle.plain.specs.Refusing.{Lengths}
-use Rattle.plain.specs.Plain.{Plain}
+use Rattle.plain_table.specs.Refusing.{Lengths}
+use Rattle.plain_table.specs.Plain.{Plain}
 use Rattle.table.specs.Refusing.{outside}
 use Rattle.table.specs.Promises.{Stores, Represents}
 use Rattle.table.specs.Laws.Shown.{represents-inside, represents-long, rows-counted}
@@ -20,12 +20,12 @@ use Rattle.levels_text.specs.declared.Parsed.the-variants.{Wrong, Line}
 use Rattle.levels_text.specs.Lines.{letter, numbers, ofForms}
 use Rattle.levels_text.specs.inner.Reading.{ParsedIs, read-taken}
 use Rattle.listing_write.specs.Laws.Represented.{rows-long}
-use Rattle.levels_said.specs.declared.Said.{Said}
-use Rattle.levels_said.specs.declared.Said.the-variants.{Refused}
-use Rattle.levels_said.specs.Said.{turn, lineTurn}
-use Rattle.levels_said.specs.Answers.{Held, no-table, table, lent, Answering}
-use Rattle.levels_said.specs.inner.Saying.{Listable, Telling, Told, Serving}
-use Rattle.levels_said.specs.Laws.Turns.{told-refused}
+use Rattle.levels_spec.specs.declared.Said.{Said}
+use Rattle.levels_spec.specs.declared.Said.the-variants.{Refused}
+use Rattle.levels_spec.specs.Said.{turn, lineTurn}
+use Rattle.levels_spec.specs.Answers.{Held, no-table, table, lent, Answering}
+use Rattle.levels_spec.specs.inner.Saying.{Listable, Telling, Told, Serving}
+use Rattle.levels_spec.specs.Laws.Turns.{told-refused}
 
 -- a line that is answered, up to what it says
 pub record Responding (line : List ℕ) (s s′ : Stores) (said : Said) : Type 0 where

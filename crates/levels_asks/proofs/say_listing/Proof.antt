@@ -1,5 +1,5 @@
 -- `levels_asks::say_listing` meets its contract. Assumes nothing.
-use Rattle.levels_said.specs.inner.Saying.{saysListing}
+use Rattle.levels_spec.specs.inner.Saying.{saysListing}
 use Rattle.levels_asks.specs.inner.Asking.{version-refused, version-says}
 use borrow.Author.Needs.{needs}
 use Rattle.levels_asks.proofs.say_listing.Statement.{statement}

@@ -1,5 +1,5 @@
 -- `levels_asks::say_version` meets its contract. Assumes nothing.
-use Rattle.levels_said.specs.inner.Saying.{saysVersion}
+use Rattle.levels_spec.specs.inner.Saying.{saysVersion}
 use Rattle.levels_asks.specs.inner.Asking.{version-refused, version-says}
 use borrow.Author.Needs.{needs}
 use Rattle.levels_asks.proofs.say_version.Statement.{statement}

@@ -13,12 +13,12 @@ use Rattle.table.specs.declared.VersionAnswer.{VersionAnswer}
 use Rattle.table.specs.declared.VersionAnswer.the-variants.{Refused as VersionRefused, Version as VersionTold}
 use Rattle.table.specs.Numbers.{rangeSays, versionSays}
 use Rattle.table.specs.Promises.{stores, RangeRead, VersionRead}
-use Rattle.levels_said.specs.declared.Said.{Said}
-use Rattle.levels_said.specs.declared.Said.the-variants.{Refused, NoRange, Range}
-use Rattle.levels_said.specs.inner.Saying.{saidOf, saysRange, saysVersion, saysListing, Serving}
-use Rattle.levels_said.specs.Laws.Letters.{turn-range, turn-version, turn-list, turn-numbered}
-use Rattle.levels_said.specs.Laws.Turns.{does-told}
-use Rattle.levels_said.specs.Laws.Questions.{range-does, version-does, list-does, numbered-does}
+use Rattle.levels_spec.specs.declared.Said.{Said}
+use Rattle.levels_spec.specs.declared.Said.the-variants.{Refused, NoRange, Range}
+use Rattle.levels_spec.specs.inner.Saying.{saidOf, saysRange, saysVersion, saysListing, Serving}
+use Rattle.levels_spec.specs.Laws.Letters.{turn-range, turn-version, turn-list, turn-numbered}
+use Rattle.levels_spec.specs.Laws.Turns.{does-told}
+use Rattle.levels_spec.specs.Laws.Questions.{range-does, version-does, list-does, numbered-does}
 
 -- lent the sort entries: it is served whatever the other stores hold, and all of them stay
 pub record OnSorts (letter : ℕ) (ns : List ℕ) (h : Header) (sorts : List ℕ) (said : Said) : Type 0 where

@@ -7,7 +7,7 @@ use mathlib.Core.Bool.{cond}
 use mathlib.Core.List.{List}
 use lib.ListN.{length, take, drop, getD}
 use Rattle.lists.specs.Laws.Parts.{part-to-end}
-use Rattle.plain.specs.Staged.{insert, removeKey, removeRow}
+use Rattle.plain_table.specs.Staged.{insert, removeKey, removeRow}
 use Rattle.table.specs.declared.Header.{Header}
 use Rattle.table.specs.declared.TableAnswer.{TableAnswer}
 use Rattle.table.specs.declared.TableAnswer.the-variants.{Refused as TableRefused, Table}
@@ -16,14 +16,14 @@ use Rattle.table.specs.declared.MergeAnswer.{MergeAnswer}
 use Rattle.table.specs.declared.MergeAnswer.the-variants.{Refused as MergeRefused, Merged as MergedTable}
 use Rattle.table.specs.Numbers.{tableSays, mergeSays}
 use Rattle.table.specs.Promises.{Stores, stores, body, compactionWords, headerAfter, headerMerged, Opened, Staging, Merging, Compacting, Clearing}
-use Rattle.levels_said.specs.declared.Said.the-variants.{Nothing, Refused, Merged}
-use Rattle.levels_said.specs.declared.Served.{Served}
-use Rattle.levels_said.specs.Said.{openingIn}
-use Rattle.levels_said.specs.inner.Saying.{saidOf, saysNothing, saysMerge, Taken, Serving}
-use Rattle.levels_said.specs.Laws.Letters.{turn-open, turn-insert, turn-by-key, turn-by-row, turn-merge, turn-clear, turn-compact}
-use Rattle.levels_said.specs.Laws.Turns.{does-told}
-use Rattle.levels_said.specs.Laws.Opening.{opening-told, large-told}
-use Rattle.levels_said.specs.Laws.Calls.{staging-does, clearing-does, compacting-does, merging-does}
+use Rattle.levels_spec.specs.declared.Said.the-variants.{Nothing, Refused, Merged}
+use Rattle.levels_spec.specs.declared.Served.{Served}
+use Rattle.levels_spec.specs.Said.{openingIn}
+use Rattle.levels_spec.specs.inner.Saying.{saidOf, saysNothing, saysMerge, Taken, Serving}
+use Rattle.levels_spec.specs.Laws.Letters.{turn-open, turn-insert, turn-by-key, turn-by-row, turn-merge, turn-clear, turn-compact}
+use Rattle.levels_spec.specs.Laws.Turns.{does-told}
+use Rattle.levels_spec.specs.Laws.Opening.{opening-told, large-told}
+use Rattle.levels_spec.specs.Laws.Calls.{staging-does, clearing-does, compacting-does, merging-does}
 
 -- lent the pending store
 pub record OnPending (letter : ℕ) (ns : List ℕ) (h : Header) (pending : List ℕ) (r : Served) (pending′ : List ℕ) : Type 0 where

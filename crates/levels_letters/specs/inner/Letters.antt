@@ -11,8 +11,8 @@ use Rattle.lists.specs.Laws.Keep.{split, and-left}
 use Rattle.table.specs.Promises.{Stores}
 use Rattle.levels_text.specs.Lines.{isBare, isForm}
 use Rattle.levels_text.specs.Laws.Lines.{form-insert, form-by-row, form-by-key}
-use Rattle.levels_said.specs.declared.Said.{Said}
-use Rattle.levels_said.specs.inner.Saying.{Serving}
+use Rattle.levels_spec.specs.declared.Said.{Said}
+use Rattle.levels_spec.specs.inner.Saying.{Serving}
 
 -- F, L, U and V are the letters that are left when the others are not it
 pub asking-letters : {letter : ℕ} (count : ℕ) → isForm letter count ≡ true → ((letter ≡ 73) ⊎ ((letter ≡ 75) ⊎ (letter ≡ 82)) → ⊥) → (letter ≡ 77 → ⊥)

@@ -9,15 +9,15 @@ use Rattle.table.specs.declared.Header.{Header}
 use Rattle.table.specs.Laws.Refusals.{outside-inside}
 use Rattle.levels_text.specs.Written.{textLine}
 use Rattle.levels_written.specs.inner.Appending.{Wrote}
-use Rattle.listings.specs.declared.MoveAnswer.{MoveAnswer}
-use Rattle.listings.specs.declared.MoveAnswer.the-variants.{Refused as NotWritten, Written}
+use Rattle.listing_spec.specs.declared.MoveAnswer.{MoveAnswer}
+use Rattle.listing_spec.specs.declared.MoveAnswer.the-variants.{Refused as NotWritten, Written}
 use Rattle.listing_write.specs.Writing.{storedText, ListingWritten}
 use Rattle.listing_write.specs.Laws.Lengths.{length-most}
 use Rattle.listing_write.specs.Laws.Answers.{written-inside, written-taken, not-refused}
-use Rattle.levels_said.specs.declared.Said.{Said}
-use Rattle.levels_said.specs.declared.Said.the-variants.{Nothing, Refused, Merged, NoRange, Range, Version, Listing}
-use Rattle.levels_said.specs.Said.{rangeText}
-use Rattle.levels_said.specs.inner.Saying.{textOf, Listable, Telling}
+use Rattle.levels_spec.specs.declared.Said.{Said}
+use Rattle.levels_spec.specs.declared.Said.the-variants.{Nothing, Refused, Merged, NoRange, Range, Version, Listing}
+use Rattle.levels_spec.specs.Said.{rangeText}
+use Rattle.levels_spec.specs.inner.Saying.{textOf, Listable, Telling}
 
 -- the listing, where there is room
 pub record Listed (numbered : Bool) (h : Header) (rows text : List ℕ) (used : ℕ) : Type 0 where

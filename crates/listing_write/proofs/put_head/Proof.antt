@@ -1,5 +1,5 @@
 -- `listing_write::put_head` meets its contract. Assumes nothing.
-use Rattle.listings.specs.Listings.{headLetter}
+use Rattle.listing_spec.specs.Listings.{headLetter}
 use Rattle.listing_write.specs.Writing.{headNumbers}
 use Rattle.listing_write.specs.inner.Lines.{headLine}
 use native.Mathlib.Omega.{arith}

@@ -9,12 +9,12 @@ use lib.ListN.{length, take}
 use borrow.Author.Tests.{ltb-false, le-ltb}
 use Rattle.lists.specs.Laws.Search.{take-put}
 use Rattle.refusals.specs.Refusals.{Rung, rung, first, reply}
-use Rattle.plain.specs.Laws.Calls.{first-no, first-rest}
+use Rattle.plain_table.specs.Laws.Calls.{first-no, first-rest}
 use Rattle.table.specs.declared.Header.{Header}
 use Rattle.table.specs.Refusing.{outside, rowsShort}
-use Rattle.listings.specs.declared.MoveAnswer.the-variants.{Refused, Written}
-use Rattle.listings.specs.Listings.{moveSays}
-use Rattle.listings.specs.Laws.Restored.{accepted-number, accepted-same}
+use Rattle.listing_spec.specs.declared.MoveAnswer.the-variants.{Refused, Written}
+use Rattle.listing_spec.specs.Listings.{moveSays}
+use Rattle.listing_spec.specs.Laws.Restored.{accepted-number, accepted-same}
 use Rattle.listing_write.specs.Writing.{storedText, writeRefusal, ListingWritten}
 
 -- an accepted call

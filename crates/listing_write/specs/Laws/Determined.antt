@@ -8,8 +8,8 @@ use lib.ListN.{length}
 use Rattle.refusals.specs.Laws.Replies.{some-number}
 use Rattle.refusals.specs.Laws.Determined.{Same}
 use Rattle.table.specs.declared.Header.{Header}
-use Rattle.listings.specs.declared.MoveAnswer.{MoveAnswer}
-use Rattle.listings.specs.Laws.Determined.{move-said}
+use Rattle.listing_spec.specs.declared.MoveAnswer.{MoveAnswer}
+use Rattle.listing_spec.specs.Laws.Determined.{move-said}
 use Rattle.listing_write.specs.Writing.{writeRefusal, ListingWritten}
 
 pub written-determined : {numbered : Bool} {h : Header} {rows output output₁ output₂ : List ℕ} {a b : MoveAnswer} → ListingWritten numbered h rows output a output₁

@@ -11,7 +11,7 @@ use Rattle.constraints.specs.Constraints.{isLive}
 use Rattle.table.specs.declared.Header.{Header}
 use Rattle.levels_text.specs.Written.{textLine}
 use Rattle.levels_written.specs.Laws.Decimals.{length-written}
-use Rattle.listings.specs.Listings.{headLetter}
+use Rattle.listing_spec.specs.Listings.{headLetter}
 use Rattle.listing_write.specs.Writing.{headNumbers, storedText}
 use Rattle.listing_write.specs.inner.Lines.{headLine, rowLine, rowLines}
 use Rattle.listing_write.specs.Laws.Lines.{stored-lines}

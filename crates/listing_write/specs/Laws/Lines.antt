@@ -11,14 +11,14 @@ use borrow.Author.Tests.{ltb-false}
 use Rattle.lists.specs.Lists.{rowsOf, flat}
 use Rattle.lists.specs.Laws.Keep.{split}
 use Rattle.constraints.specs.Constraints.{isLive}
-use Rattle.plain.specs.Plain.{liveFrom}
+use Rattle.plain_table.specs.Plain.{liveFrom}
 use Rattle.table.specs.declared.Header.{Header}
 use Rattle.table.specs.Refusing.{outside, rowsShort}
 use Rattle.table.specs.Stores.{rowsIn}
 use Rattle.table.specs.Laws.Live.{told, length-rowsIn}
 use Rattle.table.specs.Laws.Refusals.{outside-inside}
 use Rattle.levels_text.specs.Written.{textLine}
-use Rattle.listings.specs.Listings.{listingText}
+use Rattle.listing_spec.specs.Listings.{listingText}
 use Rattle.listing_write.specs.Writing.{rowFields, tableListing, storedListing, storedText}
 use Rattle.listing_write.specs.inner.Lines.{headLine, rowLine, rowLines, Stored}
 

@@ -14,11 +14,11 @@ use Rattle.lists.specs.Lists.{every}
 use Rattle.lists.specs.Laws.Every.{every-head, every-tail, every-cons, or-second}
 use Rattle.lists.specs.Laws.Keep.{split}
 use Rattle.cells.specs.Cells.{isDead}
-use Rattle.plain.specs.Staged.{Opening}
-use Rattle.plain.specs.Plain.{Row, liveFrom}
-use Rattle.plain.specs.Laws.Proper.{Bounds}
-use Rattle.listings.specs.Listings.{headWidth, lead, listingText, areNumbers, keepsBounds, isHead, Shows, shows}
-use Rattle.listings.specs.Laws.Texts.{RowsFit, fit-none, fit-more, row-of, listing-of}
+use Rattle.plain_table.specs.Staged.{Opening}
+use Rattle.plain_table.specs.Plain.{Row, liveFrom}
+use Rattle.plain_table.specs.Laws.Proper.{Bounds}
+use Rattle.listing_spec.specs.Listings.{headWidth, lead, listingText, areNumbers, keepsBounds, isHead, Shows, shows}
+use Rattle.listing_spec.specs.Laws.Texts.{RowsFit, fit-none, fit-more, row-of, listing-of}
 use Rattle.listing_write.specs.Writing.{headNumbers, rowFields, tableListing}
 
 -- every cell of a row is a u32, if the row is live

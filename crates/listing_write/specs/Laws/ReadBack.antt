@@ -11,9 +11,9 @@ use borrow.Author.Tests.{lt-ltb, le-ltb}
 use Rattle.lists.specs.Lists.{putAt, flat}
 use Rattle.refusals.specs.Refusals.{rung, first, Reply, reply}
 use Rattle.table.specs.declared.Header.{Header}
-use Rattle.listings.specs.declared.MoveAnswer.the-variants.{Written}
-use Rattle.listings.specs.Listings.{Listing, areNumbers, Shows, cellsIn, readRefusal, told, ListingRead}
-use Rattle.listings.specs.Laws.Texts.{shows-determined}
+use Rattle.listing_spec.specs.declared.MoveAnswer.the-variants.{Written}
+use Rattle.listing_spec.specs.Listings.{Listing, areNumbers, Shows, cellsIn, readRefusal, told, ListingRead}
+use Rattle.listing_spec.specs.Laws.Texts.{shows-determined}
 use Rattle.listing_write.specs.Writing.{storedListing, ListingWritten}
 use Rattle.listing_write.specs.Laws.Answers.{inside, stored, written-taken}
 use Rattle.listing_write.specs.Laws.Represented.{stored-listed}

@@ -15,7 +15,7 @@ use Rattle.lists.specs.Laws.Rows.{rowsOf-widths}
 use Rattle.refusals.specs.Refusals.{rung, first}
 use Rattle.cells.specs.Cells.{isDead}
 use Rattle.constraints.specs.Constraints.{isLive}
-use Rattle.plain.specs.Plain.{Plain, liveRows}
+use Rattle.plain_table.specs.Plain.{Plain, liveRows}
 use Rattle.table.specs.declared.Header.{Header}
 use Rattle.table.specs.Numbers.{openingOf}
 use Rattle.table.specs.Refusing.{outside, rowsShort}
@@ -24,7 +24,7 @@ use Rattle.table.specs.Promises.{Stores, Represents}
 use Rattle.table.specs.Laws.Live.{told, length-rowsIn, live-shown}
 use Rattle.table.specs.Laws.Refusals.{outside-inside}
 use Rattle.table.specs.Laws.Shown.{represents-inside, represents-long}
-use Rattle.listings.specs.Listings.{listingText, areNumbers, Shows}
+use Rattle.listing_spec.specs.Listings.{listingText, areNumbers, Shows}
 use Rattle.listing_write.specs.Writing.{tableListing, storedListing, storedText, writeRefusal}
 use Rattle.listing_write.specs.Laws.Lines.{stored-rows}
 use Rattle.listing_write.specs.Laws.Listed.{liveFits, table-listed}

@@ -7,7 +7,7 @@ use Rattle.constraints.specs.Constraints.{isLive}
 use Rattle.table.specs.declared.Header.{Header}
 use Rattle.table.specs.Numbers.{openingOf}
 use Rattle.levels_text.specs.Written.{textLine}
-use Rattle.listings.specs.Listings.{headLetter}
+use Rattle.listing_spec.specs.Listings.{headLetter}
 use Rattle.listing_write.specs.Writing.{headNumbers}
 
 unfoldable pub headLine : Bool → Header → List ℕ

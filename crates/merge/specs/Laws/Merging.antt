@@ -10,23 +10,23 @@ use borrow.Author.Tests.{eq-eqb, ne-eqb}
 use Rattle.refusals.specs.Refusals.{accepted}
 use Rattle.lists.specs.Lists.{putAt, flat}
 use Rattle.lists.specs.Laws.Keep.{every-keep}
-use Rattle.plain.specs.Staged.{Staged, due, inserts}
-use Rattle.plain.specs.Plain.{Inserted, insertAll, Plain, dead, withoutRow, removed, applied, live as liveCount, compacted, unstaged, compactsAfter, merged, mergeKeeps, mergeDrops}
+use Rattle.plain_table.specs.Staged.{Staged, due, inserts}
+use Rattle.plain_table.specs.Plain.{Inserted, insertAll, Plain, dead, withoutRow, removed, applied, live as liveCount, compacted, unstaged, compactsAfter, merged, mergeKeeps, mergeDrops}
 use Rattle.table.specs.declared.Header.{Header}
-use Rattle.plain.specs.Laws.Price.{compacted-live}
+use Rattle.plain_table.specs.Laws.Price.{compacted-live}
 use Rattle.table.specs.declared.Merge.{Merge}
 use Rattle.insertions.specs.declared.Passed.{Passed}
 use Rattle.table.specs.declared.MergeAnswer.the-variants.{Merged}
 use Rattle.table.specs.Numbers.{mergeSays}
 use Rattle.table.specs.Stores.{headerOf, rowStore}
 use Rattle.table.specs.Promises.{Stores, stores, body, compactionWords, Represents, mergeOf, mergedRows, MergedTable}
-use Rattle.pending.specs.inner.Becoming.{Becomes}
+use Rattle.merge_pending.specs.inner.Becoming.{Becomes}
 use Rattle.insertions.specs.inner.Insertions.{InsertedTable}
-use Rattle.removals.specs.inner.Removals.{removedAll}
+use Rattle.merge_remove.specs.inner.Removals.{removedAll}
 use Rattle.merge.specs.inner.Parts.{AppliedTable, finished, FinishedTable}
 use Rattle.table.specs.Laws.Stored.{stored-live}
-use Rattle.pending.specs.Laws.Steps.{steps-refl, first-stored, steps-then}
-use Rattle.removals.specs.Laws.Removals.{removedAll-keys, removedAll-rows}
+use Rattle.merge_pending.specs.Laws.Steps.{steps-refl, first-stored, steps-then}
+use Rattle.merge_remove.specs.Laws.Removals.{removedAll-keys, removedAll-rows}
 
 -- ---- the passes
 

@@ -5,14 +5,14 @@ use mathlib.Core.Path.{_≡_}
 use mathlib.Core.Bool.{cond}
 use mathlib.Core.List.{List}
 use Rattle.lists.specs.Lists.{rowsOf}
-use Rattle.plain.specs.Plain.{Plain, applied, live, dead, compacted, unstaged, compactsAfter}
+use Rattle.plain_table.specs.Plain.{Plain, applied, live, dead, compacted, unstaged, compactsAfter}
 use Rattle.table.specs.declared.Header.{Header}
 use Rattle.table.specs.declared.Merge.{Merge}
 use Rattle.insertions.specs.declared.Passed.{Passed}
 use Rattle.insertions.specs.inner.Insertions.{hasAdded}
 use Rattle.table.specs.Stores.{headerOf, rowStore, sortStore}
 use Rattle.table.specs.Promises.{Stores, stores, Represents, SlotsPast, PastNeeded}
-use Rattle.pending.specs.inner.Becoming.{Becomes, withCounts}
+use Rattle.merge_pending.specs.inner.Becoming.{Becomes, withCounts}
 
 -- ---- the passes over the pending records
 

@@ -15,10 +15,10 @@ use Rattle.lists.specs.Laws.Keep.{split, and-left, and-right}
 use Rattle.lists.specs.Laws.Every.{or-right, or-second}
 use Rattle.lists.specs.Laws.Rising.{same-refl, same-eq}
 use Rattle.refusals.specs.Refusals.{accepted}
-use Rattle.plain.specs.Staged.{Opening}
-use Rattle.plain.specs.Plain.{Row, Plain, Numbered, liveFrom, liveRows}
-use Rattle.plain.specs.Proper.{rowOf, sortCell}
-use Rattle.plain.specs.Laws.Rows.{noRow}
+use Rattle.plain_table.specs.Staged.{Opening}
+use Rattle.plain_table.specs.Plain.{Row, Plain, Numbered, liveFrom, liveRows}
+use Rattle.plain_table.specs.Proper.{rowOf, sortCell}
+use Rattle.plain_table.specs.Laws.Rows.{noRow}
 use Rattle.table.specs.declared.Header.{Header}
 use Rattle.table.specs.Numbers.{openingOf}
 use Rattle.table.specs.Promises.{stores, Represents, ofRows}

@@ -13,9 +13,9 @@ use lib.Seq.{getD-take}
 use Rattle.lists.specs.Lists.{any, same}
 use Rattle.lists.specs.Laws.Keep.{split}
 use Rattle.lists.specs.Laws.Every.{or-right}
-use Rattle.plain.specs.Staged.{hasKey}
-use Rattle.plain.specs.Plain.{Row, Plain, liveFrom}
-use Rattle.plain.specs.Laws.Rows.{noRow}
+use Rattle.plain_table.specs.Staged.{hasKey}
+use Rattle.plain_table.specs.Plain.{Row, Plain, liveFrom}
+use Rattle.plain_table.specs.Laws.Rows.{noRow}
 use Rattle.precedence.specs.Precedence.{Pair, pairsOf, otherKeyCells, firstFailing, failingPair, Failure, failureOr, failureAmong}
 
 -- ---- live rows that pass a test of their cells

@@ -11,8 +11,8 @@ use Rattle.lists.specs.Lists.{any, rowAt}
 use Rattle.constraints.specs.Constraints.{isLive}
 use Rattle.key_index.specs.Slots.{KeysSound}
 use Rattle.key_index.specs.inner.Index.{Fits}
-use Rattle.plain.specs.Staged.{hasKey}
-use Rattle.plain.specs.Plain.{liveRows}
+use Rattle.plain_table.specs.Staged.{hasKey}
+use Rattle.plain_table.specs.Plain.{liveRows}
 use Rattle.table.specs.declared.Header.{Header}
 use Rattle.table.specs.Numbers.{openingOf}
 use Rattle.table.specs.Sound.{keyedOf, KeysDiffer}

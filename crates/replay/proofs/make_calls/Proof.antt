@@ -5,7 +5,7 @@ use mathlib.Core.Path.{ap}
 use native.Mathlib.Omega.{arith}
 use lib.ListN.{length}
 use borrow.Author.Needs.{needs}
-use Rattle.plain.specs.Refusing.{Lengths}
+use Rattle.plain_table.specs.Refusing.{Lengths}
 use Rattle.table.specs.Promises.{stores, lengths, compactionWords}
 use Rattle.replay.proofs.ReplaySteps.{Going, lengths-same, going-begin, going-again, going-end}
 use Rattle.replay.proofs.make_calls.Statement.{statement}

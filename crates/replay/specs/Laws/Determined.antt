@@ -13,10 +13,10 @@ use Rattle.lists.specs.Lists.{any}
 use Rattle.refusals.specs.Refusals.{accepted, reply, verdict}
 use Rattle.refusals.specs.Laws.Replies.{some-number}
 use Rattle.refusals.specs.Laws.Determined.{refused-same}
-use Rattle.plain.specs.Staged.{Opening}
-use Rattle.plain.specs.Refusing.{openRefusal}
-use Rattle.plain.specs.Plain.{opened}
-use Rattle.plain.specs.Calls.{LentCall, afterAll}
+use Rattle.plain_table.specs.Staged.{Opening}
+use Rattle.plain_table.specs.Refusing.{openRefusal}
+use Rattle.plain_table.specs.Plain.{opened}
+use Rattle.plain_table.specs.Calls.{LentCall, afterAll}
 use Rattle.table.specs.declared.Header.{Header}
 use Rattle.table.specs.declared.TableAnswer.{TableAnswer}
 use Rattle.table.specs.declared.TableAnswer.the-variants.{Refused, Table}
@@ -24,12 +24,12 @@ use Rattle.table.specs.Numbers.{tableSays}
 use Rattle.table.specs.Promises.{Stores, Body, stores, joined, CompactionWords, lengths, Represents, SlotsPast, WordsPast}
 use Rattle.table.specs.Laws.Answers.{table-said}
 use Rattle.table.specs.Laws.Keeps.{opening-done}
-use Rattle.refreshes.specs.Index.{isNew, IndexSound}
+use Rattle.refresh_spec.specs.Index.{isNew, IndexSound}
 use Rattle.history.specs.Histories.{Steps}
 use Rattle.history.specs.Laws.Calls.{steps-represents}
 use Rattle.history.specs.Laws.Determined.{SameCells, steps-determined}
-use Rattle.call_words.specs.Requests.{Request, isRefresh, requested, IndexPast}
-use Rattle.call_words.specs.Laws.Requests.{served-steps}
+use Rattle.replay_calls.specs.Requests.{Request, isRefresh, requested, IndexPast}
+use Rattle.replay_calls.specs.Laws.Requests.{served-steps}
 use Rattle.replay.specs.Replays.{callsLent, MadeFrom, Replayed}
 use Rattle.replay.specs.Laws.Theorem.{replay-requested, replay-index}
 

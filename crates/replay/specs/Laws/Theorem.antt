@@ -9,10 +9,10 @@ use native.Mathlib.Omega.{arith}
 use lib.ListN.{length}
 use Rattle.lists.specs.Lists.{any}
 use Rattle.refusals.specs.Refusals.{Reply, refused, reply, verdict}
-use Rattle.plain.specs.Staged.{Opening}
-use Rattle.plain.specs.Refusing.{openRefusal}
-use Rattle.plain.specs.Plain.{opened}
-use Rattle.plain.specs.Calls.{afterAll}
+use Rattle.plain_table.specs.Staged.{Opening}
+use Rattle.plain_table.specs.Refusing.{openRefusal}
+use Rattle.plain_table.specs.Plain.{opened}
+use Rattle.plain_table.specs.Calls.{afterAll}
 use Rattle.table.specs.declared.Header.{Header}
 use Rattle.table.specs.declared.TableAnswer.{TableAnswer}
 use Rattle.table.specs.declared.TableAnswer.the-variants.{Refused, Table}
@@ -21,16 +21,16 @@ use Rattle.table.specs.Stores.{headerOf}
 use Rattle.table.specs.Promises.{Stores, Body, body, stores, joined, CompactionWords, lengths, Represents, SlotsPast, Opened}
 use Rattle.table.specs.Laws.Replies.{accepted-number}
 use Rattle.table.specs.Laws.Keeps.{opening-done}
-use Rattle.refreshes.specs.Index.{isNew, IndexSound}
+use Rattle.refresh_spec.specs.Index.{isNew, IndexSound}
 use Rattle.history.specs.Histories.{end, History}
 use Rattle.history.specs.Claim.{Claimed}
 use Rattle.history.specs.Laws.Calls.{steps-represents}
 use Rattle.history.specs.Laws.Further.{history-whole}
 use Rattle.history.specs.Laws.Theorem.{term-three}
-use Rattle.call_words.specs.Lending.{lentAll}
-use Rattle.call_words.specs.Requests.{Request, isRefresh, requested}
-use Rattle.call_words.specs.inner.Making.{Made}
-use Rattle.call_words.specs.Laws.Requests.{served-steps, index-unused, index-past, calls-requested, calls-plain, index-sound}
+use Rattle.replay_calls.specs.Lending.{lentAll}
+use Rattle.replay_calls.specs.Requests.{Request, isRefresh, requested}
+use Rattle.replay_calls.specs.inner.Making.{Made}
+use Rattle.replay_calls.specs.Laws.Requests.{served-steps, index-unused, index-past, calls-requested, calls-plain, index-sound}
 use Rattle.replay.specs.Replays.{callsLent, MadeFrom, Replayed}
 
 -- ---- the claim

@@ -8,8 +8,8 @@ use lib.ListN.{getD}
 use Rattle.refusals.specs.Refusals.{Reply, refused, accepted}
 use Rattle.refusals.specs.Laws.Replies.{some-number}
 use Rattle.refusals.specs.Laws.Determined.{Same}
-use Rattle.plain.specs.Staged.{insert, removeKey, removeRow}
-use Rattle.plain.specs.Calls.{Call, staging, merging, compacting, clearing, refreshing, feeding}
+use Rattle.plain_table.specs.Staged.{insert, removeKey, removeRow}
+use Rattle.plain_table.specs.Calls.{Call, staging, merging, compacting, clearing, refreshing, feeding}
 use Rattle.short_histories.specs.declared.StepAnswer.{StepAnswer}
 use Rattle.short_histories.specs.declared.StepAnswer.the-variants.{Refused as StepRefused, Insert, Remove, Merge}
 use Rattle.short_histories.specs.declared.PositionAnswer.{PositionAnswer}

@@ -8,9 +8,9 @@ use lib.Dec.{eqb}
 use borrow.Author.Tests.{le-leb}
 use Rattle.lists.specs.Lists.{every}
 use Rattle.refusals.specs.Refusals.{first, reply}
-use Rattle.plain.specs.Staged.{openable, wordsOf}
-use Rattle.plain.specs.Refusing.{wrongWidth, noSuchRow, overfull, stageLadder}
-use Rattle.plain.specs.Calls.{Call, staging, merging, compacting, clearing, refreshing, feeding}
+use Rattle.plain_table.specs.Staged.{openable, wordsOf}
+use Rattle.plain_table.specs.Refusing.{wrongWidth, noSuchRow, overfull, stageLadder}
+use Rattle.plain_table.specs.Calls.{Call, staging, merging, compacting, clearing, refreshing, feeding}
 use Rattle.short_histories.specs.declared.StepAnswer.{StepAnswer}
 use Rattle.short_histories.specs.declared.StepAnswer.the-variants.{Refused, Insert, Remove, Merge}
 use Rattle.short_histories.specs.Sequences.{shortOpening, thirdCell, inserting, removing, steps, stepCall, stepRefusal, stepSays, StepTold}

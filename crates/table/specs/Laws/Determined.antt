@@ -20,9 +20,9 @@ use Rattle.key_index.specs.Slots.{roomFor, KeysSound}
 use Rattle.key_index.specs.inner.Index.{zeros}
 use Rattle.key_index.specs.Laws.Index.{empty-free}
 use Rattle.key_index.specs.Laws.Rooms.{room-most}
-use Rattle.plain.specs.Staged.{Opening, Staged}
-use Rattle.plain.specs.Plain.{Plain, opened, merged, cleared}
-use Rattle.plain.specs.Refusing.{openRefusal}
+use Rattle.plain_table.specs.Staged.{Opening, Staged}
+use Rattle.plain_table.specs.Plain.{Plain, opened, merged, cleared}
+use Rattle.plain_table.specs.Refusing.{openRefusal}
 use Rattle.table.specs.declared.Header.{Header}
 use Rattle.table.specs.declared.TableAnswer.{TableAnswer}
 use Rattle.table.specs.declared.MergeAnswer.{MergeAnswer}

@@ -16,8 +16,8 @@ use Rattle.key_index.specs.Laws.Ring.{slot-below}
 use Rattle.key_index.specs.Laws.Rooms.{room-most}
 use Rattle.key_index.specs.Laws.Index.{SameLive, keys-same}
 use Rattle.sort_entries.specs.Laws.Stores.{entriesOf-same}
-use Rattle.plain.specs.Staged.{wordsAll}
-use Rattle.plain.specs.Plain.{Plain}
+use Rattle.plain_table.specs.Staged.{wordsAll}
+use Rattle.plain_table.specs.Plain.{Plain}
 use Rattle.table.specs.declared.Header.{Header}
 use Rattle.table.specs.Numbers.{openingOf}
 use Rattle.table.specs.Sound.{keyedOf}

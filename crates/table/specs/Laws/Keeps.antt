@@ -9,9 +9,9 @@ use lib.ListN.{length, getD}
 use Rattle.refusals.specs.Refusals.{Reply, refused, accepted}
 use Rattle.refusals.specs.Laws.Replies.{some-number, ruled-refused}
 use Rattle.constraints.specs.declared.Constraint.{Constraint}
-use Rattle.plain.specs.Staged.{Opening, Staged}
-use Rattle.plain.specs.Plain.{Plain, lookup, opened, stage, merged, compacted, cleared}
-use Rattle.plain.specs.Refusing.{openRefusal}
+use Rattle.plain_table.specs.Staged.{Opening, Staged}
+use Rattle.plain_table.specs.Plain.{Plain, lookup, opened, stage, merged, compacted, cleared}
+use Rattle.plain_table.specs.Refusing.{openRefusal}
 use Rattle.table.specs.declared.Header.{Header}
 use Rattle.table.specs.declared.Merge.{Merge}
 use Rattle.table.specs.declared.TableAnswer.{TableAnswer}

@@ -1,9 +1,9 @@
 -- The ladders over a header and those of the plain table that it shows turn away the same. Assumes nothing.
 use mathlib.Core.Path.{_≡_}
-use Rattle.plain.specs.Staged.{Staged}
-use Rattle.plain.specs.Refusing.{Lengths}
-use Rattle.plain.specs.Plain.{Plain}
-use Rattle.plain.specs.Calls.{staging, merging, compacting, clearing, refusal}
+use Rattle.plain_table.specs.Staged.{Staged}
+use Rattle.plain_table.specs.Refusing.{Lengths}
+use Rattle.plain_table.specs.Plain.{Plain}
+use Rattle.plain_table.specs.Calls.{staging, merging, compacting, clearing, refusal}
 use Rattle.table.specs.Refusing.{pendingOutside, stageRefusal, mergeRefusal, compactRefusal, clearRefusal}
 use Rattle.table.specs.Promises.{Stores, Represents}
 use Rattle.table.specs.Laws.Shown.{header-inside}

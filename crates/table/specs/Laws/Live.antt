@@ -9,8 +9,8 @@ use Rattle.lists.specs.Lists.{rowAt, rowsOf}
 use Rattle.lists.specs.Laws.Every.{getD-map-below}
 use Rattle.lists.specs.Laws.Rows.{length-rowsOf, getD-rowsOf}
 use Rattle.constraints.specs.Constraints.{isLive}
-use Rattle.plain.specs.Plain.{Row, Plain, liveFrom, liveRows}
-use Rattle.plain.specs.Laws.Rows.{noRow}
+use Rattle.plain_table.specs.Plain.{Row, Plain, liveFrom, liveRows}
+use Rattle.plain_table.specs.Laws.Rows.{noRow}
 use Rattle.table.specs.declared.Header.{Header}
 use Rattle.table.specs.Stores.{rowsIn, RowShown}
 use Rattle.table.specs.Promises.{Stores, Represents}

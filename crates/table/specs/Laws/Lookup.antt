@@ -10,11 +10,11 @@ use lib.ListN.{length, getD}
 use Rattle.lists.specs.Lists.{firstOf, rowAt}
 use Rattle.refusals.specs.Refusals.{accepted}
 use Rattle.key_index.specs.Slots.{LiveAt, keyAt}
-use Rattle.plain.specs.Staged.{hasKey}
-use Rattle.plain.specs.Plain.{Row, Plain, Numbered, liveFrom, liveRows, lookup, liveWithKey}
-use Rattle.plain.specs.Laws.Lookup.{none-lookup, one-lookup}
-use Rattle.plain.specs.Proper.{rowOf}
-use Rattle.plain.specs.Laws.Rows.{liveWithKey-of, liveWithKey-live, liveWithKey-key, live-below}
+use Rattle.plain_table.specs.Staged.{hasKey}
+use Rattle.plain_table.specs.Plain.{Row, Plain, Numbered, liveFrom, liveRows, lookup, liveWithKey}
+use Rattle.plain_table.specs.Laws.Lookup.{none-lookup, one-lookup}
+use Rattle.plain_table.specs.Proper.{rowOf}
+use Rattle.plain_table.specs.Laws.Rows.{liveWithKey-of, liveWithKey-live, liveWithKey-key, live-below}
 use Rattle.table.specs.declared.Header.{Header}
 use Rattle.table.specs.declared.RowAnswer.{RowAnswer}
 use Rattle.table.specs.declared.CellAnswer.{CellAnswer}

@@ -17,11 +17,11 @@ use Rattle.key_index.specs.inner.Index.{zeros, EmptyIs}
 use Rattle.key_index.specs.Slots.{roomFor}
 use Rattle.key_index.specs.Laws.Index.{emptied, empty-sound}
 use Rattle.key_index.specs.Laws.Rooms.{room-most, past-room}
-use Rattle.plain.specs.Staged.{Opening, openable, wordsAll}
-use Rattle.plain.specs.Plain.{Plain, dead, opened, unstaged, cleared}
-use Rattle.plain.specs.Refusing.{storesShort, openRefusal}
-use Rattle.plain.specs.Laws.Calls.{first-no, first-rest}
-use Rattle.plain.specs.Laws.Proper.{opened-proper, unstaged-proper}
+use Rattle.plain_table.specs.Staged.{Opening, openable, wordsAll}
+use Rattle.plain_table.specs.Plain.{Plain, dead, opened, unstaged, cleared}
+use Rattle.plain_table.specs.Refusing.{storesShort, openRefusal}
+use Rattle.plain_table.specs.Laws.Calls.{first-no, first-rest}
+use Rattle.plain_table.specs.Laws.Proper.{opened-proper, unstaged-proper}
 use Rattle.table.specs.declared.Largest.the-variants.{None as NoLargest}
 use Rattle.table.specs.declared.Header.{Header}
 use Rattle.table.specs.declared.TableAnswer.the-variants.{Refused, Table}

@@ -10,9 +10,9 @@ use Rattle.lists.specs.Lists.{putAt, flat}
 use Rattle.lists.specs.Laws.Parts.{front-putAt}
 use Rattle.lists.specs.Laws.Every.{every-head, every-tail, every-append}
 use Rattle.lists.specs.Laws.Rows.{flat-append}
-use Rattle.plain.specs.Staged.{Opening, Staged, insert, removeKey, removeRow, wordsOf, wordsAll}
-use Rattle.plain.specs.Refusing.{wrongWidth}
-use Rattle.plain.specs.Laws.Proper.{Whole}
+use Rattle.plain_table.specs.Staged.{Opening, Staged, insert, removeKey, removeRow, wordsOf, wordsAll}
+use Rattle.plain_table.specs.Refusing.{wrongWidth}
+use Rattle.plain_table.specs.Laws.Proper.{Whole}
 use Rattle.table.specs.Stores.{recordWords, Holds}
 
 -- "columns plus 2, keys plus 2, keys plus 3"

@@ -14,13 +14,13 @@ use Rattle.lists.specs.Laws.Rows.{widths, length-rowsOf, getD-rowsOf, rowsOf-wi
 use Rattle.lists.specs.Laws.Every.{every-weaker, or-no-left, or-no-right}
 use Rattle.key_index.specs.Slots.{LiveAt}
 use Rattle.sort_entries.specs.Laws.Rebuilt.{rebuilt-few}
-use Rattle.plain.specs.Staged.{Opening}
-use Rattle.plain.specs.Plain.{Plain}
-use Rattle.plain.specs.Refusing.{Lengths, storesShort}
-use Rattle.plain.specs.Proper.{Proper, rowOf}
-use Rattle.plain.specs.Laws.Rows.{live-below}
-use Rattle.plain.specs.Laws.Proper.{openable-bounds}
-use Rattle.plain.specs.Laws.Live.{dead-le}
+use Rattle.plain_table.specs.Staged.{Opening}
+use Rattle.plain_table.specs.Plain.{Plain}
+use Rattle.plain_table.specs.Refusing.{Lengths, storesShort}
+use Rattle.plain_table.specs.Proper.{Proper, rowOf}
+use Rattle.plain_table.specs.Laws.Rows.{live-below}
+use Rattle.plain_table.specs.Laws.Proper.{openable-bounds}
+use Rattle.plain_table.specs.Laws.Live.{dead-le}
 use Rattle.table.specs.declared.Header.{Header}
 use Rattle.table.specs.Refusing.{outside}
 use Rattle.table.specs.Stores.{entries, headerOf, stored, RowShown}

@@ -24,11 +24,11 @@ use Rattle.sort_entries.specs.Laws.Sound.{sound-climb}
 use Rattle.sort_entries.specs.Laws.Grow.{sound-some}
 use Rattle.sort_entries.specs.Laws.Tests.{rebuilt-every, valueAt-every}
 use Rattle.sort_entries.specs.Laws.Values.{valueAt-climbs, rebuilt-same}
-use Rattle.plain.specs.Staged.{Staged}
-use Rattle.plain.specs.Plain.{Row, Plain, dead}
-use Rattle.plain.specs.Proper.{Proper, rowOf, sortCell, atMost}
-use Rattle.plain.specs.Laws.Rows.{noRow, wideRow, firstFits, keptRow, live-below}
-use Rattle.plain.specs.Laws.Proper.{bounds-openable}
+use Rattle.plain_table.specs.Staged.{Staged}
+use Rattle.plain_table.specs.Plain.{Row, Plain, dead}
+use Rattle.plain_table.specs.Proper.{Proper, rowOf, sortCell, atMost}
+use Rattle.plain_table.specs.Laws.Rows.{noRow, wideRow, firstFits, keptRow, live-below}
+use Rattle.plain_table.specs.Laws.Proper.{bounds-openable}
 use Rattle.table.specs.declared.Largest.{Largest}
 use Rattle.table.specs.declared.Largest.the-variants.{None as NoLargest, Value}
 use Rattle.table.specs.declared.Header.{Header}

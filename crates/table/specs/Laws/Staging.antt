@@ -10,12 +10,12 @@ use lib.ListN.{length}
 use borrow.Author.Tests.{ltb-false}
 use Rattle.lists.specs.Lists.{putAt, every, flat}
 use Rattle.lists.specs.Laws.Every.{or-no-left}
-use Rattle.plain.specs.Staged.{Staged, wordsOf, wordsAll}
-use Rattle.plain.specs.Calls.{stageAll}
-use Rattle.plain.specs.Plain.{Plain, dead, stage}
-use Rattle.plain.specs.Refusing.{wrongWidth, noSuchRow, storesShort, stageLadder, overfull}
-use Rattle.plain.specs.Laws.Calls.{first-no, first-rest}
-use Rattle.plain.specs.Laws.Proper.{Whole, stageAll-proper}
+use Rattle.plain_table.specs.Staged.{Staged, wordsOf, wordsAll}
+use Rattle.plain_table.specs.Calls.{stageAll}
+use Rattle.plain_table.specs.Plain.{Plain, dead, stage}
+use Rattle.plain_table.specs.Refusing.{wrongWidth, noSuchRow, storesShort, stageLadder, overfull}
+use Rattle.plain_table.specs.Laws.Calls.{first-no, first-rest}
+use Rattle.plain_table.specs.Laws.Proper.{Whole, stageAll-proper}
 use Rattle.table.specs.declared.Header.{Header}
 use Rattle.table.specs.Numbers.{openingOf}
 use Rattle.table.specs.Refusing.{pendingOutside, stageRefusal}

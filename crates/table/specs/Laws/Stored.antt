@@ -13,8 +13,8 @@ use Rattle.lists.specs.Laws.Every.{or-second, every-head, every-tail, every-con
 use Rattle.lists.specs.Laws.Rows.{widths}
 use Rattle.cells.specs.Cells.{isDead}
 use Rattle.constraints.specs.Constraints.{isLive}
-use Rattle.plain.specs.Plain.{Row}
-use Rattle.plain.specs.Laws.Rows.{noRow, wideRow, firstFits}
+use Rattle.plain_table.specs.Plain.{Row}
+use Rattle.plain_table.specs.Laws.Rows.{noRow, wideRow, firstFits}
 use Rattle.table.specs.Stores.{marked, stored, RowShown}
 
 -- ---- the dead mark

@@ -1,5 +1,5 @@
 -- The lengths of what an operation is lent, as the code has them. Assumes nothing.
-use Rattle.plain.specs.Refusing.{Lengths}
+use Rattle.plain_table.specs.Refusing.{Lengths}
 use Rattle.table.specs.declared.Lent.{Lent}
 
 -- the lengths of what an operation is lent

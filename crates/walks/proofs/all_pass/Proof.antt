@@ -22,20 +22,20 @@ use Rattle.constraints.proofs.Constraint as CT
 use Rattle.constraints.proofs.Constraint.Laws as CT′
 use Rattle.table.specs.declared.Header.{Header}
 use Rattle.table.proofs.Header as HT
-use Rattle.sweeping.specs.declared.Test.{Test}
-use Rattle.sweeping.specs.inner.Sweeping.{RowNeeded, starts, passes, allPass}
-use Rattle.sweeping.proofs.Test as TT
+use Rattle.query_scan.specs.declared.Test.{Test}
+use Rattle.query_scan.specs.inner.Sweeping.{RowNeeded, starts, passes, allPass}
+use Rattle.query_scan.proofs.Test as TT
 use Rattle.walks.proofs.Lent.{fits, header-val, headers, slice-val, test-val, tests}
 use Rattle.walks.proofs.WalkSteps.{none, passed, passed-none, passed-next, passed-all, Up, up-wf}
 use Rattle.walks.proofs.Walking.{AllPassed, Asked, Cell, Cells, Cites, Tokens, Walked, arg, bool-lands, by-value, calls, empty, env-of, holds, lent-slice, own, stays, twice, typed, walk-runs}
-use Rattle.sweeping.proofs.can_pass as can
-use Rattle.sweeping.proofs.can_pass.Symbol as can-def
-use Rattle.sweeping.proofs.can_pass.Symbol.{name as #sweeping·can-pass}
-use Rattle.sweeping.proofs.can_pass.Met as can-thm
-use Rattle.sweeping.proofs.passes_test as too
-use Rattle.sweeping.proofs.passes_test.Symbol as too-def
-use Rattle.sweeping.proofs.passes_test.Symbol.{name as #sweeping·passes-test}
-use Rattle.sweeping.proofs.passes_test.Met as too-thm
+use Rattle.query_scan.proofs.can_pass as can
+use Rattle.query_scan.proofs.can_pass.Symbol as can-def
+use Rattle.query_scan.proofs.can_pass.Symbol.{name as #query-scan·can-pass}
+use Rattle.query_scan.proofs.can_pass.Met as can-thm
+use Rattle.query_scan.proofs.passes_test as too
+use Rattle.query_scan.proofs.passes_test.Symbol as too-def
+use Rattle.query_scan.proofs.passes_test.Symbol.{name as #query-scan·passes-test}
+use Rattle.query_scan.proofs.passes_test.Met as too-thm
 use Rattle.walks.proofs.all_pass.Key.{name as #walks·all-pass}
 use Rattle.walks.proofs.all_pass as f
 use Rattle.walks.proofs.all_pass.Statement as stated
@@ -103,7 +103,7 @@ module _ {M : Type 1} (𝓤 : URA M) (H : Heap 𝓤) (A : Atoms 𝓤) (W : Given
         qed W (‵ (flft κ q) ∷ ‵ OwnRows ∷ []) ∵ says ! need $ nothing ! $ owned ! CT.the-row (Is CT.the-row) (LL.makes CT.the-type CT′.the-plain 𝓤 H A) (c i) _ g $ fjoin ! $
         move ! (2 ∷ 0 ∷ []) $ fjoin ! $ own ! headers h is-h $ fjoin ! $ own ! tests test is-t $ fjoin ! $ nothing ! $ move ! (2 ∷ 0 ∷ []) $ join ! $ join ! $ done !
 
-    module _ (𝓣 : Tables 𝓤 H) (known-can : Cites 𝓤 H A can.ended starting (𝓣 .C) #sweeping·can-pass) (known : Cites 𝓤 H A too.ended testing (𝓣 .C) #sweeping·passes-test) (room : Room CT.the-row n) (l₀ l₁ l₂ l₃ l₄ l₅ l₆ l₇ l₈ l₉ l₁₀ l₁₁ : ℕ) where
+    module _ (𝓣 : Tables 𝓤 H) (known-can : Cites 𝓤 H A can.ended starting (𝓣 .C) #query-scan·can-pass) (known : Cites 𝓤 H A too.ended testing (𝓣 .C) #query-scan·passes-test) (room : Room CT.the-row n) (l₀ l₁ l₂ l₃ l₄ l₅ l₆ l₇ l₈ l₉ l₁₀ l₁₁ : ℕ) where
       abbrev E : Env 𝓤 H
       E = env-of mir.locals (l₀ ∷ l₁ ∷ l₂ ∷ l₃ ∷ l₄ ∷ l₅ ∷ l₆ ∷ l₇ ∷ l₈ ∷ l₉ ∷ l₁₀ ∷ l₁₁ ∷ [])
 
@@ -179,7 +179,7 @@ module _ {M : Type 1} (𝓤 : URA M) (H : Heap 𝓤) (A : Atoms 𝓤) (W : Given
           calls can.ended starting to-can (λ r ws. r ≡ start) (λ r ws. id⊢ 𝓤 _) ! (fmOf 𝓤 H (W .laws) 𝓣) known-can (arg ! 24 refl (arg ! 22 refl (arg ! 20 refl (no-more !)))) (λ w r ws e.
           move ! (2 ∷ []) $ drop ! $ move ! (1 ∷ []) $ bool-lands ! r w e $ split ! $ move ! (1 ∷ []) $ drop ! $ move ! (0 ∷ 2 ∷ []) $ land ! (from ! (stop !)) (init ! 16 refl (tt, tt)) $ loop)
 
-    walk : (𝓣 : Tables 𝓤 H) → Cites 𝓤 H A can.ended starting (𝓣 .C) #sweeping·can-pass → Cites 𝓤 H A too.ended testing (𝓣 .C) #sweeping·passes-test → Room u32 (length (now x)) → Room CT.the-row n
+    walk : (𝓣 : Tables 𝓤 H) → Cites 𝓤 H A can.ended starting (𝓣 .C) #query-scan·can-pass → Cites 𝓤 H A too.ended testing (𝓣 .C) #query-scan·passes-test → Room u32 (length (now x)) → Room CT.the-row n
         → ent 𝓤 (onEntry 𝓤 H A f.signature (y .0 .0) (y .0 .1) (y .0 .3) (y .0 .4)) (WpFn 𝓤 H (𝓣 .C) (𝓣 .Λ) code.function (Walked f.ended params 𝓤 H A clauses .args y) Post)
     walk 𝓣 known-can known room-rows room =
         qed W (Tokens 𝓤 H A 2 (y .0 .0) (y .0 .1) ∷ ‵ (fsep (TT.the-row .own test (test-val test ∷ [])) (fsep (HT.the-row .own h (header-val h ∷ [])) (fsep OwnRows (fsep OwnConditions ftrue)))) ∷ []) ∵
@@ -195,5 +195,5 @@ all-pass-spec 𝓤 H 𝓜 𝓖 𝓡 =
     walk-runs f.ended params 𝓤 H 𝓜 𝓖 𝓡 (f.clauses 𝓤 H (𝓖 .A) (𝓜 .mem) (𝓡 .run)) code.env #walks·all-pass code.function (code.unfolded 𝓤 H 𝓜 𝓡) (λ κs qs bounds a g are. needs 𝓤 (RowNeeded (a .0) (a .1 .0) (length (now (a .1 .1 .0)))) _ (λ need.
     walk 𝓤 H (𝓖 .A) (givenOf 𝓤 H 𝓜 𝓖) (𝓜 .mem) (𝓡 .run) (κs .0) (κs .1 .0) (qs .0) (qs .1 .0) (a .0) (a .1 .0) (a .1 .1 .0) (a .1 .1 .1 .0 .ptr .0) (a .1 .1 .1 .0 .ptr .1) (a .1 .1 .1 .0 .name) (a .1 .1 .1 .0 .now)
     (are .0) (are .1 .0) need (tablesOf 𝓤 H 𝓜 (tables 𝓤 H 𝓜 𝓡 code.env))
-    (cited 𝓤 H _ 𝓜 𝓡 code.env #sweeping·can-pass can-def.routine code.calls-sweeping·can-pass (can-thm.met 𝓤 H 𝓜 𝓖 𝓡))
-    (cited 𝓤 H _ 𝓜 𝓡 code.env #sweeping·passes-test too-def.routine code.calls-sweeping·passes-test (too-thm.met 𝓤 H 𝓜 𝓖 𝓡)) (are .1 .1 .0 .0 .1) (are .1 .1 .1 .0 .0 .1)))
+    (cited 𝓤 H _ 𝓜 𝓡 code.env #query-scan·can-pass can-def.routine code.calls-query-scan·can-pass (can-thm.met 𝓤 H 𝓜 𝓖 𝓡))
+    (cited 𝓤 H _ 𝓜 𝓡 code.env #query-scan·passes-test too-def.routine code.calls-query-scan·passes-test (too-thm.met 𝓤 H 𝓜 𝓖 𝓡)) (are .1 .1 .0 .0 .1) (are .1 .1 .1 .0 .0 .1)))

@@ -10,19 +10,19 @@ use borrow.Author.Tests.{le-ltb, lt-ltb, ltb-false, ltb-true}
 use denote.Enum.Laws as EL
 use denote.Struct.Laws as LL
 use Rattle.constraints.proofs.Constraint as CT
-use Rattle.queries.specs.Queries.{matches}
-use Rattle.sweeping.specs.declared.Question.{Question}
-use Rattle.sweeping.specs.declared.Sweep.{Sweep}
-use Rattle.sweeping.specs.declared.Test.{Test}
-use Rattle.sweeping.specs.declared.Test.the-variants.{Known, Row}
-use Rattle.sweeping.specs.inner.Sweeping.{RowLies, RowNeeded, SweepBegins, SweepSteps, Sweepable, Swept, allPass}
-use Rattle.sweeping.proofs.AnswerSteps.{asked-all}
-use Rattle.sweeping.proofs.SweepSteps.{can-step, finished, next-lies, stepped, steps-less, swept-begin}
-use Rattle.sweeping.proofs.Question as QT
-use Rattle.sweeping.proofs.Sweep as ST
-use Rattle.sweeping.proofs.Sweep.Laws as ST′
-use Rattle.sweeping.proofs.Test as TT
-use Rattle.sweeping.proofs.Test.Laws as TT′
+use Rattle.query_spec.specs.Queries.{matches}
+use Rattle.query_scan.specs.declared.Question.{Question}
+use Rattle.query_scan.specs.declared.Sweep.{Sweep}
+use Rattle.query_scan.specs.declared.Test.{Test}
+use Rattle.query_scan.specs.declared.Test.the-variants.{Known, Row}
+use Rattle.query_scan.specs.inner.Sweeping.{RowLies, RowNeeded, SweepBegins, SweepSteps, Sweepable, Swept, allPass}
+use Rattle.query_scan.proofs.AnswerSteps.{asked-all}
+use Rattle.query_scan.proofs.SweepSteps.{can-step, finished, next-lies, stepped, steps-less, swept-begin}
+use Rattle.query_scan.proofs.Question as QT
+use Rattle.query_scan.proofs.Sweep as ST
+use Rattle.query_scan.proofs.Sweep.Laws as ST′
+use Rattle.query_scan.proofs.Test as TT
+use Rattle.query_scan.proofs.Test.Laws as TT′
 use Rattle.walks.proofs.Again.{lends, gets-back}
 use Rattle.walks.proofs.Lent.{Lent, OwnConditions, OwnIds, OwnOut, OwnRows, Owns, Ranged, Rooms, Slices, Tokens₃, apart, fits, head-val, header-val, headers, heads, lent-of, lifetimes, numbers, out-at, owns-on, question-val, questions, shares, slice-val, slices-off, slices-on, subset, sweep-val, sweeps, test-val, tests, together, tokens-off, tokens-on}
 use Rattle.walks.proofs.WalkSteps.{Fewer, all-known, fewer-wf, row-matches}
@@ -31,14 +31,14 @@ use Rattle.walks.proofs.all_pass as all
 use Rattle.walks.proofs.all_pass.Symbol as all-def
 use Rattle.walks.proofs.all_pass.Symbol.{name as #walks·all-pass}
 use Rattle.walks.proofs.all_pass.Met as all-thm
-use Rattle.sweeping.proofs.opening as opn
-use Rattle.sweeping.proofs.opening.Symbol as opn-def
-use Rattle.sweeping.proofs.opening.Symbol.{name as #sweeping·opening}
-use Rattle.sweeping.proofs.opening.Met as opn-thm
-use Rattle.sweeping.proofs.step as stp
-use Rattle.sweeping.proofs.step.Symbol as stp-def
-use Rattle.sweeping.proofs.step.Symbol.{name as #sweeping·step}
-use Rattle.sweeping.proofs.step.Met as stp-thm
+use Rattle.query_scan.proofs.opening as opn
+use Rattle.query_scan.proofs.opening.Symbol as opn-def
+use Rattle.query_scan.proofs.opening.Symbol.{name as #query-scan·opening}
+use Rattle.query_scan.proofs.opening.Met as opn-thm
+use Rattle.query_scan.proofs.step as stp
+use Rattle.query_scan.proofs.step.Symbol as stp-def
+use Rattle.query_scan.proofs.step.Symbol.{name as #query-scan·step}
+use Rattle.query_scan.proofs.step.Met as stp-thm
 use Rattle.walks.proofs.ask.Key.{name as #walks·ask}
 use Rattle.walks.proofs.ask as f
 use Rattle.walks.proofs.ask.Statement as stated
@@ -138,7 +138,7 @@ module _ {M : Type 1} (𝓤 : URA M) (H : Heap 𝓤) (A : Atoms 𝓤) (W : Given
           move ! (2 ∷ 0 ∷ []) $ fjoin ! $ own ! heads (p .head) (is .1) $ fjoin ! $ own ! (numbers w64) (length rows) (refl, rooms .0 .0) $ fjoin ! $ own ! headers (p .header) (is .0) $ fjoin ! $ own ! questions question is-q $ fjoin ! $
           nothing ! $ move ! (2 ∷ 0 ∷ []) $ join ! $ join ! $ frame ! $ done !
 
-      module _ (𝓣 : Tables 𝓤 H) (known-all : Cites 𝓤 H A all.ended passing (𝓣 .C) #walks·all-pass) (known-open : Cites 𝓤 H A opn.ended opening (𝓣 .C) #sweeping·opening) (known-step : Cites 𝓤 H A stp.ended stepping (𝓣 .C) #sweeping·step)
+      module _ (𝓣 : Tables 𝓤 H) (known-all : Cites 𝓤 H A all.ended passing (𝓣 .C) #walks·all-pass) (known-open : Cites 𝓤 H A opn.ended opening (𝓣 .C) #query-scan·opening) (known-step : Cites 𝓤 H A stp.ended stepping (𝓣 .C) #query-scan·step)
           (l₀ l₁ l₂ l₃ l₄ l₅ l₆ l₇ l₈ l₉ l₁₀ l₁₁ l₁₂ l₁₃ l₁₄ l₁₅ l₁₆ l₁₇ : ℕ) where
         abbrev E : Env 𝓤 H
         E = env-of mir.locals (l₀ ∷ l₁ ∷ l₂ ∷ l₃ ∷ l₄ ∷ l₅ ∷ l₆ ∷ l₇ ∷ l₈ ∷ l₉ ∷ l₁₀ ∷ l₁₁ ∷ l₁₂ ∷ l₁₃ ∷ l₁₄ ∷ l₁₅ ∷ l₁₆ ∷ l₁₇ ∷ [])
@@ -253,7 +253,7 @@ module _ {M : Type 1} (𝓤 : URA M) (H : Heap 𝓤) (A : Atoms 𝓤) (W : Given
             is-t : Is TT.the-row Known (test-val Known ∷ [])
             is-t = EL.owes TT.the-type TT′.the-laws Known tt
 
-      walk : (𝓣 : Tables 𝓤 H) → Cites 𝓤 H A all.ended passing (𝓣 .C) #walks·all-pass → Cites 𝓤 H A opn.ended opening (𝓣 .C) #sweeping·opening → Cites 𝓤 H A stp.ended stepping (𝓣 .C) #sweeping·step
+      walk : (𝓣 : Tables 𝓤 H) → Cites 𝓤 H A all.ended passing (𝓣 .C) #walks·all-pass → Cites 𝓤 H A opn.ended opening (𝓣 .C) #query-scan·opening → Cites 𝓤 H A stp.ended stepping (𝓣 .C) #query-scan·step
           → ent 𝓤 (onEntry 𝓤 H A f.signature (y .0 .0) (y .0 .1) (y .0 .3) (y .0 .4)) (WpFn 𝓤 H (𝓣 .C) (𝓣 .Λ) code.function (Walked f.ended params 𝓤 H A clauses .args y) Post)
       walk 𝓣 known-all known-open known-step =
           qed W (Tokens 𝓤 H A 4 (y .0 .0) (y .0 .1) ∷ ‵ (fsep (QT.the-row .own question (question-val question ∷ [])) (Owns p (fsep (OwnConditions p) (fsep (OwnOut κ (out-at b o γ os) sz) ftrue)))) ∷ []) ∵
@@ -271,5 +271,5 @@ ask-spec 𝓤 H 𝓜 𝓖 𝓡 =
     (a .1 .1 .1 .1 .1 .1 .0 .ptr .0) (a .1 .1 .1 .1 .1 .1 .0 .ptr .1) (a .1 .1 .1 .1 .1 .1 .0 .name) (a .1 .1 .1 .1 .1 .1 .0 .now)
     (are .0) (are .1 .1 .0 .0 .1, (are .1 .1 .1 .1 .0 .0 .1, are .1 .1 .1 .1 .1 .0 .0 .1)) (are .1 .1 .1 .1 .1 .1 .0 .0 .1) (tablesOf 𝓤 H 𝓜 (tables 𝓤 H 𝓜 𝓡 code.env))
     (cited 𝓤 H _ 𝓜 𝓡 code.env #walks·all-pass all-def.routine code.calls-walks·all-pass (all-thm.met 𝓤 H 𝓜 𝓖 𝓡))
-    (cited 𝓤 H _ 𝓜 𝓡 code.env #sweeping·opening opn-def.routine code.calls-sweeping·opening (opn-thm.met 𝓤 H 𝓜 𝓖 𝓡))
-    (cited 𝓤 H _ 𝓜 𝓡 code.env #sweeping·step stp-def.routine code.calls-sweeping·step (stp-thm.met 𝓤 H 𝓜 𝓖 𝓡))))
+    (cited 𝓤 H _ 𝓜 𝓡 code.env #query-scan·opening opn-def.routine code.calls-query-scan·opening (opn-thm.met 𝓤 H 𝓜 𝓖 𝓡))
+    (cited 𝓤 H _ 𝓜 𝓡 code.env #query-scan·step stp-def.routine code.calls-query-scan·step (stp-thm.met 𝓤 H 𝓜 𝓖 𝓡))))

@@ -1,0 +1,40 @@
+-- `key_rebuild::put_row` meets its contract. Assumes nothing.
+use mathlib.Core.Path.{sym, _∙_}
+use native.Mathlib.Omega.{arith}
+use borrow.Author.Needs.{needs}
+use Rattle.key_index.specs.Laws.Index.{rows-in}
+use Rattle.key_index.specs.Laws.Places.{Inside, row-inside}
+use Rattle.key_rebuild.proofs.RebuildSteps.{row-dead, row-live}
+use Rattle.key_rebuild.proofs.put_row.Statement.{statement}
+use Rattle.key_rebuild.proofs.put_row.Tie as tie
+
+lies : (s : tie.Start) → Inside (s .args .rows .now) (s .args .t .columns) (s .args .row)
+lies s = row-inside _ _ _ (rows-in _ _ _ (s .pre .0)) (s .pre .1)
+
+mul-at : tie.Need-mul-at
+mul-at c = omega (arith, lies (c .before .before .before))
+
+cast-at : tie.Need-cast-at
+cast-at c = omega (arith, lies (c .before .before .before))
+
+is-dead-requires : tie.Need-is-dead-requires
+is-dead-requires c κs = omega (arith, lies (c .before .before .before), c .before .before .before .pre .0 .some-columns)
+
+returns : tie.Need-returns
+returns c =
+    let s = c .before .before .before .before .before in
+    row-dead _ _ _ (s .args .row) (s .pre .0) (s .pre .1) (sym (c .before .is-dead .ensures) ∙ c .if1 .taken)
+
+row-hash-requires : tie.Need-row-hash-requires
+row-hash-requires c κs = (rows-in _ _ _ (c .before .before .before .before .before .pre .0), c .before .before .before .before .before .pre .1)
+
+returns-2 : tie.Need-returns-2
+returns-2 c =
+    let s = c .before .before .before .before .before .before .before .before .before .before in
+    row-live _ _ _ (s .args .row) (s .pre .0) (s .pre .1) _ _ _ (sym (c .before .before .before .before .before .before .is-dead .ensures) ∙ c .before .before .before .before .before .if1 .left) (c .before .before .before .before .row-hash .ensures) (c .before .before .put .ensures)
+
+pub put-row-spec : {M : Type 1} → statement M
+put-row-spec =
+    tie.close
+    (tie.spec
+    mul-at cast-at is-dead-requires returns row-hash-requires (λ c κs. search needs) (λ c. search needs) returns-2)

@@ -1,0 +1,122 @@
+-- The steps of `take_out`: distances round the ring, the home of a word's row, and the
+-- walk that closes the gap. Assumes nothing.
+use Prim.Native.Nat.{ℕ, _+_, _-_, _%_, _^_, _≤_, _<_}
+use mathlib.Core.Path.{_≡_, refl, sym, ap, _∙_}
+use mathlib.Core.Bool.{true, false, cond}
+use mathlib.Core.Logic.{inl, inr}
+use mathlib.Core.List.{List}
+use native.Mathlib.Nat.{mod-eq-of-lt, add-mod-right}
+use native.Mathlib.Decide.{ℕ-discrete}
+use native.Mathlib.Omega.{arith}
+use lib.ListN.{length, getD, set, length-set}
+use lib.Dec.{leb}
+use lib.Seq.{set-getD, getD-set-same, getD-set-other}
+use borrow.Author.Tests.{leb-true, leb-false}
+use Rattle.lists.specs.Laws.Keep.{split}
+use Rattle.cells.specs.Cells.{compact, keyHash}
+use Rattle.key_index.specs.declared.Keyed.{Keyed}
+use Rattle.key_index.specs.Slots.{keyAt, slots, slotFrom}
+use Rattle.key_index.specs.inner.Ring.{spread, rowNamed, namesRow, away}
+use Rattle.key_index.specs.Laws.Ring.{home-spread}
+use Rattle.key_index.specs.inner.Index.{Fits, homeOf}
+use Rattle.key_remove.specs.inner.Gaps.{closed, Shifted, TakenOut}
+use Rattle.key_remove.specs.Laws.Gaps.{closed-spent, closed-stop, closed-stay, closed-move, closed-length, closed-rest, take-out-sound}
+
+-- ---- distances
+
+pub away-ahead : (n a b : ℕ) → b < n → a ≤ b → b - a ≡ away n a b
+unfolding away
+away-ahead n a b h k =
+    let e : b + (n - a) ≡ b - a + n = omega arith in
+    let i : b - a < n = omega arith in
+    sym (rw e (add-mod-right (b - a) n ∙ mod-eq-of-lt i))
+
+pub away-behind : (n a b : ℕ) → a < n → b < a → b + n - a ≡ away n a b
+unfolding away
+away-behind n a b h k =
+    let e : b + (n - a) ≡ b + n - a = omega arith in
+    let i : b + n - a < n = omega arith in
+    sym (rw e (mod-eq-of-lt i))
+
+-- ---- homes
+
+-- the home slot of the hash of its row's key
+pub home-hash : (t : Keyed) (rows : List ℕ) (w hash : ℕ) → hash ≡ compact (keyHash (keyAt t rows (w % 2 ^ 17 - 1))) → spread (slots t) hash ≡ homeOf t rows w
+unfolding homeOf rowNamed
+home-hash t rows w hash e = home-spread (slots t) hash (keyAt t rows (w % 2 ^ 17 - 1)) e
+
+-- ---- the walk that closes a gap
+
+-- what holds at the loop's head: what is to come from here is what was to come from the start
+pub record Walk (t : Keyed) (rows store₀ : List ℕ) (slot : ℕ) (store : List ℕ) (hole held gap at left : ℕ) : Type 0 where
+  pub hole-in : hole < slots t
+  pub at-in : at < slots t
+  pub count : gap + left ≤ slots t
+  pub same : length store ≡ length store₀
+  pub holds : held ≡ getD store hole 0
+  pub walk : closed t rows left hole gap at store ≡ closed t rows (slots t) slot 0 slot store₀
+
+pub begin : (t : Keyed) (rows store : List ℕ) (slot : ℕ) → slot < slots t → Walk t rows store slot store slot (getD store slot 0) 0 slot (slots t)
+begin t rows store slot h = record { hole-in = h; at-in = h; count = omega arith; same = refl; holds = refl; walk = refl }
+
+module _ (t : Keyed) (rows store₀ : List ℕ) (slot : ℕ) (store : List ℕ) (hole held gap at left : ℕ) (s : Walk t rows store₀ slot store hole held gap at left) where
+  pub finish : left ≤ 0 → Shifted t rows store₀ slot hole store
+  finish h = record { walk = sym (closed-spent t rows left hole gap at store h) ∙ s .walk; below = s .hole-in; same = s .same }
+
+  module _ (next : ℕ) (n : (next ≡ slotFrom (slots t) at 1) × (next < slots t)) (more : 0 < left) where
+    pub stop : namesRow t (getD store next 0) ≡ false → Shifted t rows store₀ slot hole store
+    stop e = record { walk = sym (closed-stop t rows left hole gap at store more (rw (n .0) at e)) ∙ s .walk; below = s .hole-in; same = s .same }
+
+    module _ (long : slots t ≤ length store₀) (e : namesRow t (getD store next 0) ≡ true) where
+      -- the word next stays, and the hole's own is written again
+      stay : away (slots t) (homeOf t rows (getD store next 0)) next < gap + 1
+          → Walk t rows store₀ slot (set store hole held) hole held (gap + 1) next (left - 1)
+      stay h =
+          let kept : set store hole held ≡ store = ap (set store hole) (s .holds) ∙ set-getD store hole 0 in
+          rw kept
+          (record {
+            hole-in = s .hole-in;
+            at-in = n .1;
+            count = omega (arith, s .count);
+            same = s .same;
+            holds = s .holds;
+            walk = rw (n .0) (sym (closed-stay t rows left hole gap at store more (rw (n .0) at e) (rw (n .0) at h)) ∙ s .walk);
+          })
+
+      -- it moves into the hole; what it leaves is the hole, and still has it
+      move : gap + 1 ≤ away (slots t) (homeOf t rows (getD store next 0)) next
+          → Walk t rows store₀ slot (set store hole (getD store next 0)) next (getD store next 0) 0 next (left - 1)
+      move h =
+          record {
+            hole-in = n .1;
+            at-in = n .1;
+            count = omega (arith, s .count);
+            same = length-set store hole (getD store next 0) ∙ s .same;
+            holds = sym (moved-holds (ℕ-discrete next hole));
+            walk = rw (n .0) (sym (closed-move t rows left hole gap at store more (rw (n .0) at e) (rw (n .0) at h)) ∙ s .walk);
+          }
+        where
+          moved-holds : Dec (next ≡ hole) → getD (set store hole (getD store next 0)) next 0 ≡ getD store next 0
+          moved-holds (yes q) = ap (λ (i : ℕ). getD (set store hole (getD store next 0)) i 0) q ∙ getD-set-same store hole (getD store next 0) 0 (omega (arith, s .hole-in, s .same))
+          moved-holds (no q) = getD-set-other store hole next (getD store next 0) 0 q
+
+      -- whichever it is: its home lies `far` slots before it
+      pub turn : (far held′ hole′ gap′ : ℕ) → far ≡ away (slots t) (homeOf t rows (getD store next 0)) next
+          → held′ ≡ cond (leb (gap + 1) far) (getD store next 0) held → hole′ ≡ cond (leb (gap + 1) far) next hole → gap′ ≡ cond (leb (gap + 1) far) 0 (gap + 1)
+          → Walk t rows store₀ slot (set store hole held′) hole′ held′ gap′ next (left - 1)
+      turn far held′ hole′ gap′ d a b c =
+          rw (a, b, c)
+          (elim (split (leb (gap + 1) far)) [
+            | inl q ↦ rw q (move (omega (arith, leb-true (gap + 1) far q)))
+            | inr q ↦ rw q (stay (omega (arith, leb-false (gap + 1) far q)))
+          ])
+
+-- once the last hole is freed the row is taken out
+pub taken : (t : Keyed) (rows store : List ℕ) (slot r : ℕ) (store′ : List ℕ) → Fits t rows store → slot < slots t → Shifted t rows store slot r store′
+    → TakenOut t rows store slot (set store′ r 0)
+taken t rows store slot r store′ f h s =
+    record {
+      sound = λ k row live e. rw (s .walk) (take-out-sound t rows store f row live k slot h e);
+      rest = rw (s .walk) (closed-rest t rows (slots t) slot 0 slot store h);
+      same = rw (s .walk) (closed-length t rows (slots t) slot 0 slot store);
+    }

@@ -1,0 +1,28 @@
+-- `key_remove::home_away` meets its contract. Assumes nothing.
+use Prim.Native.Nat.{ℕ}
+use mathlib.Core.Path.{ap, _∙_}
+use native.Mathlib.Omega.{arith}
+use borrow.Author.Needs.{needs}
+use Rattle.key_index.specs.Slots.{slots}
+use Rattle.key_index.specs.inner.Ring.{away}
+use Rattle.key_index.specs.Laws.Ring.{names-number}
+use Rattle.key_remove.proofs.GapSteps.{home-hash}
+use Rattle.key_remove.proofs.home_away.Statement.{statement}
+use Rattle.key_remove.proofs.home_away.Tie as tie
+
+sub-row-hash : tie.Need-sub-row-hash
+sub-row-hash c = omega (arith, names-number _ _ (c .before .pre .1))
+
+row-hash-requires : tie.Need-row-hash-requires
+row-hash-requires c κs = (c .before .pre .0, omega (arith, names-number _ _ (c .before .pre .1)))
+
+returns : tie.Need-returns
+returns c =
+    let a = c .before .before .before .before .before .args in
+    let home = c .before .home-slot .ensures .0 ∙ home-hash (a .t) (a .rows .now) (a .word) _ (c .before .before .before .row-hash .ensures) in
+    c .slots-away .ensures ∙ ap (λ (h : ℕ). away (slots (a .t)) h (a .at)) home
+
+pub home-away-spec : {M : Type 1} → statement M
+home-away-spec =
+    tie.close
+    (tie.spec sub-row-hash row-hash-requires (λ c. search needs) (λ c κs. search needs) (λ c κs. search needs) returns)

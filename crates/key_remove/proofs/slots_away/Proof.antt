@@ -1,0 +1,14 @@
+-- `key_remove::slots_away` meets its contract. Assumes nothing.
+use borrow.Author.Needs.{needs}
+use Rattle.key_remove.proofs.GapSteps.{away-ahead, away-behind}
+use Rattle.key_remove.proofs.slots_away.Statement.{statement}
+use Rattle.key_remove.proofs.slots_away.Tie as tie
+
+returns : tie.Need-returns
+returns c = away-ahead _ _ _ (c .before .pre .1) (c .if1 .taken)
+
+returns-2 : tie.Need-returns-2
+returns-2 c = away-behind _ _ _ (c .before .pre .0) (c .if1 .left)
+
+pub slots-away-spec : {M : Type 1} → statement M
+slots-away-spec = tie.close (tie.spec returns (λ c. search needs) (λ c. search needs) returns-2)

@@ -1,0 +1,55 @@
+// The rows' new numbers after a compaction, given to the key store in place, slot by slot: from the compaction words and
+// without a look at a key. Safe on any store: a word is tested before it is a row.
+ghost use mathlib.Core.Path.{_≡_};
+ghost use Prim.Native.Nat.{_≤_, _<_};
+ghost use lib.ListN.{length};
+ghost use Rattle.lists.specs.inner.Searching.{mapFront};
+ghost use Rattle.key_index.specs.Slots.{slots};
+ghost use Rattle.key_renumber.specs.inner.Renumbering.{renumbered, Ranked, Block, BlockRenumbered};
+use key_index::Keyed;
+use key_index::ROW_RANGE;
+use key_index::names_row;
+
+// A word with its row's new number, below the same 15 bits of its hash.
+fn renumber_word(t: Keyed, word: u32, live: &[u64], base: &[u32]) -> u32
+    requires { ⌜ Ranked t (now live) (now base) ⌝ }
+    ensures { λ r. ⌜ r ≡ renumbered t (now (live .entry)) (now (base .entry)) word ⌝ }
+{
+    if !names_row(t, word) {
+        return word;
+    }
+    let row = word % ROW_RANGE - 1;
+    let at = (row / 64) as usize;
+    let first = base[at];
+    if first > 65536 {
+        return word;
+    }
+    word / ROW_RANGE * ROW_RANGE + (row_buffer::rank(live[at], first, row % 64) + 1)
+}
+
+// Renumbers the next slots, up to 64, going from one that is taken to the next.
+fn renumber_block(t: Keyed, store: &mut [u32], from: u32, count: u32, live: &[u64], base: &[u32])
+    requires { ⌜ (Ranked t (now live) (now base)) × (Block (now store) from count) ⌝ }
+    ensures { λ _. ⌜ BlockRenumbered t (now (live .entry)) (now (base .entry)) (now (store .entry)) from count (now (store .exit)) ⌝ }
+{
+    let mut word = marks::marks_other(store, from as usize, 1, count, 0);
+    while word != 0 {
+        let at = (from + u64::trailing_zeros(word)) as usize;
+        word = word & (word - 1);
+        store[at] = renumber_word(t, store[at], live, base);
+    }
+}
+
+// Gives each row that the store holds its new number, in place and without a look at its key.
+pub fn renumber(t: Keyed, store: &mut [u32], live: &[u64], base: &[u32])
+    requires { ⌜ (Ranked t (now live) (now base)) × (slots t ≤ length (now store)) ⌝ }
+    ensures { λ _. ⌜ now (store .exit) ≡ mapFront (renumbered t (now (live .entry)) (now (base .entry))) (slots t) (now (store .entry)) ⌝ }
+{
+    let n = 2 * t.room;
+    let mut at: u32 = 0;
+    while at < n {
+        let count = marks::block(n - at);
+        renumber_block(t, store, at, count, live, base);
+        at += count;
+    }
+}

@@ -1,0 +1,40 @@
+-- What it is to answer a line on lent stores: the bytes of its answer stand at the start of a lent text, and the header and stores
+-- hold the table after it. Assumes nothing.
+use Prim.Native.Nat.{ℕ, _≤_}
+use mathlib.Core.Path.{_≡_}
+use mathlib.Core.Bool.{true}
+use mathlib.Core.List.{List}
+use mathlib.Core.Option.{Option, none, some}
+use lib.ListN.{length, take}
+use Rattle.plain_table.specs.Plain.{Plain}
+use Rattle.plain_table.specs.Refusing.{Lengths}
+use Rattle.table.specs.Refusing.{outside}
+use Rattle.table.specs.Promises.{Stores, Represents}
+use Rattle.levels_spec.specs.Said.{Turn, lineTurn}
+
+-- the table that a header and stores hold; before the first accepted O there is none, and test 1 turns the header away
+pub data Held : Option Plain → Stores → Type 0 where
+  no-table : {s : Stores} → outside (s .header) ≡ true → Held none s
+  table : {p : Plain} {s : Stores} → Represents p s → Held (some p) s
+
+-- the lengths of the stores; the compaction words are those for 1,024 rows
+abbrev pub lent : Stores → Lengths
+lent s =
+    record {
+      rows = length (s .rows);
+      keys = length (s .keys);
+      sorts = length (s .sorts);
+      pending = length (s .pending);
+      liveWords = 16;
+      baseWords = 16;
+    }
+
+-- what a turn leaves: its text, of which so many bytes are used, and its table
+pub record TurnLeaves (turn : Turn) (s : Stores) (text : List ℕ) (used : ℕ) : Type 0 where
+  pub text-is : take used text ≡ turn .text
+  pub held : Held (turn .table) s
+
+-- A line is answered: whatever table was held, the text and the table are those of the line's turn on it.
+pub record Answering (line : List ℕ) (s s′ : Stores) (text : List ℕ) (used : ℕ) : Type 0 where
+  pub inside : used ≤ length text
+  pub answers : (t : Option Plain) → Held t s → TurnLeaves (lineTurn (lent s) t line) s′ text used

@@ -1,0 +1,214 @@
+-- In a session on any input, a line U behind an accepted O prints a listing in the new form, and a line L one in the old (document 02,
+-- change 11). Assumes nothing.
+use Prim.Native.Nat.{ℕ, _≤_}
+use mathlib.Core.Path.{_≡_, refl, sym, ap, _∙_}
+use mathlib.Core.Logic.{inl, inr}
+use mathlib.Core.Bool.{Bool, true, false, cond, not, _&&_, false≢true}
+use mathlib.Core.List.{List, [], _∷_, _++_, append-assoc}
+use mathlib.Core.Option.{Option, none, some}
+use native.Mathlib.Decide.{decLt}
+use native.Mathlib.Omega.{arith}
+use lib.Dec.{leb, ltb, eqb}
+use lib.ListN.{length, drop, getD, List·getD-eq-default}
+use borrow.Author.Tests.{eqb-true, leb-true, not-false}
+use Rattle.lists.specs.Lists.{every, any}
+use Rattle.lists.specs.Laws.Every.{or-second}
+use Rattle.lists.specs.Laws.Keep.{split, and-left, and-right, every-getD}
+use Rattle.refusals.specs.Refusals.{rung}
+use Rattle.plain_table.specs.Staged.{Opening, openable, insert, removeKey, removeRow, inserts}
+use Rattle.plain_table.specs.Refusing.{Lengths, storesShort, openRefusal}
+use Rattle.plain_table.specs.Plain.{Plain, opened}
+use Rattle.plain_table.specs.Calls.{Call, staging, merging, compacting, clearing, done, after}
+use Rattle.plain_table.specs.Proper.{Proper}
+use Rattle.plain_table.specs.Laws.Calls.{first-no}
+use Rattle.plain_table.specs.Laws.Proper.{opened-proper, after-proper}
+use Rattle.levels_text.specs.Lines.{fields, isDecimal, isLine, letter, numbers, isBare, isForm, ofForms}
+use Rattle.listing_spec.specs.Listings.{Listing, areNumbers, Shows}
+use Rattle.listing_spec.specs.Laws.Lines.{line-numbers}
+use Rattle.levels_spec.specs.Said.{Turn, printing, replied, openNumber, opens, calls, asks, listText, numberedText, openingIn, served, onTable, turn, lineTurn}
+use Rattle.levels_spec.specs.Session.{programLengths, linesIn, session, tableAfter, printed}
+use Rattle.levels_spec.specs.Laws.Listings.{listingOf, plain-listed, numbered-listed}
+use Rattle.levels_spec.specs.Laws.Cells.{Fits, opened-fits, staged-fits, merged-fits, compacted-fits, cleared-fits, after-fits}
+
+-- ---- every table of a session
+
+-- what a listing asks of a table
+pub record Listable (p : Plain) : Type 0 where
+  pub proper : Proper p
+  pub fits : Fits p
+
+-- no table yet, or such a table
+pub data OfSession : Option Plain → Type 0 where
+  no-table : OfSession none
+  a-table : {p : Plain} → Listable p → OfSession (some p)
+
+pub record IsOpen (t : Option Plain) : Type 0 where
+  pub table : Plain
+  pub same : t ≡ some table
+  pub listable : Listable table
+
+-- an opening that is not refused
+open-bounds : (o : Opening) (l : Lengths) → openRefusal o l ≡ 0 → openable o ≡ true
+unfolding openRefusal
+open-bounds o l e = not-false (openable o) (first-no (not (openable o)) 0 (rung (storesShort o l) 2 ∷ []) e)
+
+-- What holds of every such table and held of the table before a line holds of the table after it.
+module _ (Q : Option Plain → Type 0) (every-table : (p : Plain) → Listable p → Q (some p)) (l : Lengths) where
+  one-of : (b : Bool) (x y : Turn) → Q (x .table) → Q (y .table) → Q (cond b x y .table)
+  one-of true x y f g = f
+  one-of false x y f g = g
+
+  called : {p : Plain} (c : Call) (text : List ℕ) → Listable p → Fits (done p c) → Q (calls l p c text .table)
+  unfolding calls
+  called {p} c text k f = every-table (after p l c) (record { proper = after-proper l c (k .proper); fits = after-fits l c (k .fits) f })
+
+  asked : {p : Plain} (number : ℕ) (text : List ℕ) → Listable p → Q (asks p number text .table)
+  unfolding asks
+  asked {p} number text k = every-table p k
+
+  insert-fits : (ns : List ℕ) → areNumbers ns ≡ true → every areNumbers (inserts (insert ns ∷ [])) ≡ true
+  unfolding inserts every
+  insert-fits ns f = rw f
+
+  served-table : {p : Plain} (letter : ℕ) (ns : List ℕ) → Listable p → areNumbers ns ≡ true → Q (served l p letter ns .table)
+  unfolding served done
+  served-table {p} letter ns k f =
+      one-of (eqb letter 73) _ _ (called (staging (insert ns)) [] k (staged-fits (insert ns) (k .fits) (insert-fits ns f)))
+      (one-of (eqb letter 82) _ _ (called (staging (removeKey ns)) [] k (staged-fits (removeKey ns) (k .fits) (unfold inserts every in refl)))
+      (one-of (eqb letter 75) _ _ (called (staging (removeRow (getD ns 0 0) (drop 1 ns))) [] k (staged-fits (removeRow (getD ns 0 0) (drop 1 ns)) (k .fits) (unfold inserts every in refl)))
+      (one-of (eqb letter 77) _ _ (called merging _ k (merged-fits (k .fits)))
+      (one-of (eqb letter 67) _ _ (called clearing [] k (cleared-fits (k .fits)))
+      (one-of (eqb letter 71) _ _ (called compacting [] k (compacted-fits (k .fits)))
+      (one-of (eqb letter 70) _ _ (asked _ _ k) (one-of (eqb letter 86) _ _ (asked 0 _ k) (one-of (eqb letter 85) _ _ (asked 0 _ k) (asked 0 _ k)))))))))
+
+  -- an accepted opening
+  opens-listable : (o : Opening) (generation : ℕ) → generation ≤ 4294967295 → openNumber l o ≡ 0 → Listable (opened o generation)
+  unfolding openNumber
+  opens-listable o generation fits e =
+      elim (split (ltb 1024 (o .capacity))) [
+        | inl large ↦ absurd (let z : _≡_ {A = ℕ} 11 0 = rw large at e in omega (arith, z))
+        | inr small ↦
+            let n : openRefusal o l ≡ 0 = rw small at e in
+            record { proper = opened-proper o generation (open-bounds o l n) fits; fits = unfold opened in opened-fits refl refl }
+      ]
+
+  opens-table : (t : Option Plain) (o : Opening) (generation : ℕ) → generation ≤ 4294967295 → Q t → Q (opens l t o generation .table)
+  unfolding opens
+  opens-table t o generation fits here =
+      elim (split (eqb (openNumber l o) 0)) [
+        | inl e ↦ rw e (every-table _ (opens-listable o generation fits (eqb-true (openNumber l o) 0 e)))
+        | inr e ↦ rw e here
+      ]
+
+  number-fits : (ns : List ℕ) (i : ℕ) → areNumbers ns ≡ true → getD ns i 0 ≤ 4294967295
+  unfolding areNumbers
+  number-fits ns i f =
+      elim (decLt i (length ns)) [
+        | yes h ↦ leb-true (getD ns i 0) 4294967295 (every-getD (λ n. leb n 4294967295) ns f i h 0)
+        | no h ↦ rw (List·getD-eq-default ns 0 {n = i} (omega arith)) (omega arith)
+      ]
+
+  on-table : {t : Option Plain} (letter : ℕ) (ns : List ℕ) → areNumbers ns ≡ true → OfSession t → Q t → Q (onTable t (λ p. served l p letter ns) .table)
+  unfolding onTable
+  on-table letter ns f no-table here = here
+  on-table letter ns f (a-table k) here = served-table letter ns k f
+
+  line-table : (t : Option Plain) (line : List ℕ) → OfSession t → Q t → Q (lineTurn l t line .table)
+  unfolding lineTurn turn
+  line-table t line k here =
+      elim (split (ofForms line)) [
+        | inl e ↦
+            let f = line-numbers line (unfold ofForms in and-left (isLine line) (isForm (letter line) (length (numbers line))) e) in
+            rw e (one-of (eqb (letter line) 79) _ _ (opens-table t (openingIn (numbers line)) (getD (numbers line) 5 0) (number-fits (numbers line) 5 f) here) (on-table (letter line) (numbers line) f k here))
+        | inr e ↦ rw e here
+      ]
+
+-- so of the tables after lines
+pub line-of-session : (t : Option Plain) (line : List ℕ) → OfSession t → OfSession (lineTurn programLengths t line .table)
+line-of-session t line k = line-table OfSession (λ p g. a-table g) programLengths t line k k
+
+open-of-session : {t : Option Plain} → IsOpen t → OfSession t
+open-of-session o = rw (o .same) (a-table (o .listable))
+
+open-of : (p : Plain) → Listable p → IsOpen (some p)
+open-of p k = record { table = p; same = refl; listable = k }
+
+-- a table that is open stays open
+pub open-stays : (t : Option Plain) (lines : List (List ℕ)) → IsOpen t → IsOpen (tableAfter t lines)
+unfolding tableAfter
+open-stays t [] o = o
+open-stays t (line ∷ lines) o = open-stays (lineTurn programLengths t line .table) lines (line-table IsOpen open-of programLengths t line (open-of-session o) o)
+
+-- ---- behind an accepted O
+
+-- a line that opens a table
+unfoldable pub opensTable : List ℕ → Bool
+opensTable line = ofForms line && eqb (letter line) 79 && eqb (openNumber programLengths (openingIn (numbers line))) 0
+
+opens-opens : (t : Option Plain) (line : List ℕ) → opensTable line ≡ true → IsOpen (lineTurn programLengths t line .table)
+unfolding lineTurn turn opens
+opens-opens t line e =
+    let n = eqb (openNumber programLengths (openingIn (numbers line))) 0 in
+    let a = and-left (ofForms line && eqb (letter line) 79) n (unfold opensTable in e) in
+    let b = and-right (ofForms line && eqb (letter line) 79) n (unfold opensTable in e) in
+    let o = and-left (ofForms line) (eqb (letter line) 79) a in
+    let f = line-numbers line (unfold ofForms in and-left (isLine line) (isForm (letter line) (length (numbers line))) o) in
+    rw (o, and-right (ofForms line) (eqb (letter line) 79) a, b)
+    (open-of _ (opens-listable IsOpen open-of programLengths (openingIn (numbers line)) (getD (numbers line) 5 0) (number-fits IsOpen open-of programLengths (numbers line) 5 f) (eqb-true (openNumber programLengths (openingIn (numbers line))) 0 b)))
+
+pub opened-open : (t : Option Plain) (lines : List (List ℕ)) → OfSession t → any opensTable lines ≡ true → IsOpen (tableAfter t lines)
+unfolding tableAfter any
+opened-open t [] k e = absurd (false≢true e)
+opened-open t (line ∷ lines) k e =
+    elim (split (opensTable line)) [
+      | inl f ↦ open-stays (lineTurn programLengths t line .table) lines (opens-opens t line f)
+      | inr f ↦ opened-open (lineTurn programLengths t line .table) lines (line-of-session t line k) (or-second (opensTable line) (any opensTable lines) e f)
+    ]
+
+-- ---- what U and L print
+
+-- U (85), or L (76)
+abbrev pub listLine : Bool → List ℕ
+listLine numbered = cond numbered 85 76 ∷ []
+
+abbrev listed : Bool → Plain → List ℕ
+listed numbered p = cond numbered (numberedText p) (listText p)
+
+line-lists : (numbered : Bool) (p : Plain) → lineTurn programLengths (some p) (listLine numbered) ≡ printing (listed numbered p) (some p)
+unfolding lineTurn ofForms isLine isForm isBare fields letter numbers every isDecimal turn onTable served asks replied
+line-lists true p = refl
+line-lists false p = refl
+
+listed-shown : (numbered : Bool) (p : Plain) → Listable p → Shows numbered (listed numbered p) (some (listingOf numbered p))
+listed-shown true p k = numbered-listed p (k .proper) (k .fits .rows)
+listed-shown false p k = plain-listed p (k .proper) (k .fits .rows)
+
+session-append : (t : Option Plain) (before after : List (List ℕ)) → session t (before ++ after) ≡ session t before ++ session (tableAfter t before) after
+unfolding session tableAfter
+session-append t [] after = refl
+session-append t (line ∷ before) after =
+    ap (λ (l : List ℕ). lineTurn programLengths t line .text ++ l) (session-append (lineTurn programLengths t line .table) before after)
+    ∙ sym (append-assoc (lineTurn programLengths t line .text) _ _)
+
+-- what an input prints, where it has a line U or L: what its lines before print, the text of a listing, what those behind print
+pub record ListingPrinted (numbered : Bool) (input : List ℕ) (before after : List (List ℕ)) : Type 0 where
+  pub listing : Listing
+  pub text : List ℕ
+  pub shown : Shows numbered text (some listing)
+  pub prints : printed input ≡ session none before ++ (text ++ session (tableAfter none before) after)
+
+pub listing-printed : (numbered : Bool) (input : List ℕ) (before after : List (List ℕ)) → linesIn input ≡ before ++ (listLine numbered ∷ after) → any opensTable before ≡ true
+    → ListingPrinted numbered input before after
+unfolding printed
+listing-printed numbered input before after e opens =
+    let o = opened-open none before no-table opens in
+    let p = o .table in
+    record {
+      listing = listingOf numbered p;
+      text = listed numbered p;
+      shown = listed-shown numbered p (o .listable);
+      prints = ap (session none) e ∙ session-append none before (listLine numbered ∷ after) ∙ ap (λ (l : List ℕ). session none before ++ l) (rest (o .same));
+    }
+  where
+    rest : {p : Plain} → tableAfter none before ≡ some p → session (tableAfter none before) (listLine numbered ∷ after) ≡ listed numbered p ++ session (tableAfter none before) after
+    rest {p} s = rw s (unfold session in rw (line-lists numbered p))

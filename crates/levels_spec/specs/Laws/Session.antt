@@ -1,0 +1,38 @@
+-- The lines of an input, one by one. Assumes nothing.
+use Prim.Native.Nat.{ℕ, _<_}
+use mathlib.Core.Path.{_≡_, refl, sym}
+use mathlib.Core.Bool.{false}
+use mathlib.Core.List.{List, [], _∷_, _++_}
+use mathlib.Core.Logic.{inl, inr}
+use native.Mathlib.Omega.{arith}
+use lib.ListN.{length}
+use lib.Dec.{eqb}
+use borrow.Author.Tests.{ne-eqb, eqb-false}
+use Rattle.lists.specs.Lists.{has}
+use Rattle.lists.specs.Laws.Keep.{split}
+use mathlib.Core.Bool.{false≢true}
+use Rattle.levels_spec.specs.Session.{begun, linesIn}
+
+-- a byte that is no newline, and what stands behind it
+byte-apart : (byte : ℕ) (bytes : List ℕ) → has 10 (byte ∷ bytes) ≡ false → (eqb byte 10 ≡ false) × (has 10 bytes ≡ false)
+unfolding has
+byte-apart byte bytes e =
+    elim (split (eqb 10 byte)) [
+      | inl f ↦ absurd (false≢true (sym (rw f at e)))
+      | inr f ↦ (ne-eqb byte 10 (λ g. eqb-false 10 byte f (sym g)), rw f at e)
+    ]
+
+-- a line, its newline, and what comes behind
+pub lines-ended : (line more : List ℕ) → has 10 line ≡ false → linesIn (line ++ (10 ∷ more)) ≡ line ∷ linesIn more
+unfolding linesIn begun
+lines-ended [] more e = refl
+lines-ended (byte ∷ line) more e = let b = byte-apart byte line e in rw (b .0, lines-ended line more (b .1))
+
+-- the last line, which the end of the input ends
+pub lines-last : (line : List ℕ) → has 10 line ≡ false → 0 < length line → linesIn line ≡ line ∷ []
+unfolding linesIn begun
+lines-last [] e some = absurd (omega (arith, some))
+lines-last (byte ∷ []) e some = rw (byte-apart byte [] e .0)
+lines-last (byte ∷ next ∷ line) e some =
+    let b = byte-apart byte (next ∷ line) e in
+    rw (b .0, lines-last (next ∷ line) (b .1) (omega arith))

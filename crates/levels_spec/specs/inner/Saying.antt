@@ -1,0 +1,88 @@
+-- What a line says before it is text: how that is text, and what the functions promise that answer by it. Assumes nothing.
+use Prim.Native.Nat.{ℕ, _+_, _*_, _≤_}
+use mathlib.Core.Path.{_≡_}
+use mathlib.Core.Bool.{Bool, false, cond}
+use mathlib.Core.List.{List, [], _∷_}
+use mathlib.Core.Option.{Option, none, some}
+use lib.ListN.{length, take}
+use Rattle.refusals.specs.Refusals.{Reply, refused, accepted}
+use Rattle.offsets.specs.Subsets.{Subset, range, list}
+use Rattle.plain_table.specs.Plain.{Plain}
+use Rattle.table.specs.declared.Header.{Header}
+use Rattle.table.specs.declared.Merge.{Merge}
+use Rattle.table.specs.declared.Version.{Version as Versioned}
+use Rattle.table.specs.Refusing.{outside, rowsShort}
+use Rattle.table.specs.Promises.{Stores}
+use Rattle.levels_text.specs.Written.{textLine}
+use Rattle.listing_write.specs.Writing.{storedText}
+use Rattle.levels_spec.specs.declared.Said.{Said}
+use Rattle.levels_spec.specs.declared.Said.the-variants.{Nothing, Refused, Merged, NoRange, Range, Version, Listing}
+use Rattle.levels_spec.specs.declared.Served.{Served}
+use Rattle.levels_spec.specs.Said.{Turn, rangeText, turn}
+use Rattle.levels_spec.specs.Answers.{Held, lent}
+
+-- ---- as text
+
+unfoldable pub textOf : Header → List ℕ → Said → List ℕ
+textOf h rows Nothing = []
+textOf h rows (Refused n) = textLine 88 (n ∷ [])
+textOf h rows (Merged status added place) = textLine 77 (status ∷ added ∷ place ∷ [])
+textOf h rows NoRange = rangeText none
+textOf h rows (Range start end) = textLine 70 (start ∷ end ∷ [])
+textOf h rows (Version generation count) = textLine 86 (generation ∷ count ∷ [])
+textOf h rows (Listing numbered) = storedText numbered h rows
+
+-- what a listing needs: a header and a row store that pass tests 1 and 2, and a text with room for the rows
+pub record Listable (h : Header) (rows text : List ℕ) : Type 0 where
+  pub inside : outside h ≡ false
+  pub stored : rowsShort h (length rows) ≡ false
+  pub room : 68 + 101 * h .rows ≤ length text
+
+-- the text of what is said stands at the start of a lent text
+pub record Telling (h : Header) (rows : List ℕ) (said : Said) (text : List ℕ) (used : ℕ) : Type 0 where
+  pub inside : used ≤ length text
+  pub begins : ((numbered : Bool) → said ≡ Listing numbered → Listable h rows text) → take used text ≡ textOf h rows said
+
+-- ---- what an entry point's answer says
+
+unfoldable pub saidOf : {A : Type 0} → (A → Said) → Reply A → Said
+saidOf says (refused n) = Refused n
+saidOf says (accepted a) = says a
+
+-- O, I, R, K, C and G
+abbrev pub saysNothing : Header → Said
+saysNothing h = Nothing
+
+-- M
+abbrev pub saysMerge : Merge → Said
+saysMerge m = Merged (m .status) (cond (m .added) 1 0) (m .place)
+
+-- F
+unfoldable pub saysRange : Option Subset → Said
+saysRange none = NoRange
+saysRange (some (range start end)) = Range start end
+saysRange (some (list ids)) = Nothing
+
+-- V
+abbrev pub saysVersion : Versioned → Said
+saysVersion v = Version (v .generation) (v .rows)
+
+-- L and U
+abbrev pub saysListing : Bool → Versioned → Said
+saysListing numbered v = Listing numbered
+
+-- the header that an answer leaves, and what it says
+pub record Taken (header : Header) (said : Said) (r : Served) : Type 0 where
+  pub header-same : r .header ≡ header
+  pub said-same : r .said ≡ said
+
+-- ---- a line that is served
+
+-- what a turn leaves: its text, as what is said, and its table. There is a listing only of a header that test 1 lets pass
+pub record Told (turn : Turn) (s : Stores) (said : Said) : Type 0 where
+  pub says : textOf (s .header) (s .rows) said ≡ turn .text
+  pub held : Held (turn .table) s
+  pub listed : (numbered : Bool) → said ≡ Listing numbered → outside (s .header) ≡ false
+
+pub record Serving (letter : ℕ) (ns : List ℕ) (s s′ : Stores) (said : Said) : Type 0 where
+  pub answers : (t : Option Plain) → Held t s → Told (turn (lent s) t letter ns) s′ said

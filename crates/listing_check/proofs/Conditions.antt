@@ -1,0 +1,25 @@
+-- A row's cells in an array of eight, tested as the first row of a store. Assumes nothing.
+use Prim.Native.Nat.{ℕ, _≤_}
+use mathlib.Core.Path.{_≡_, ap, _∙_}
+use mathlib.Core.List.{List}
+use native.Mathlib.Nat.{zero-mul}
+use native.Mathlib.Omega.{arith}
+use lib.ListN.{length, take}
+use lib.Seq.{take-all}
+use Rattle.lists.specs.Laws.Rows.{rowAt-zero}
+use Rattle.constraints.specs.declared.Constraint.{Constraint}
+use Rattle.constraints.specs.Constraints.{meets}
+use Rattle.table.specs.declared.Header.{Header}
+use Rattle.query_scan.specs.declared.Test.the-variants.{Row}
+use Rattle.query_scan.specs.inner.Sweeping.{RowLies, starts, passes, allPass}
+
+module _ (h : Header) (cells : List ℕ) (long : length cells ≡ 8) (narrow : (1 ≤ h .columns) × (h .columns ≤ 8)) where
+  whole : take 8 cells ≡ cells
+  whole = take-all 8 cells (omega (arith, long))
+
+  pub row-lies : RowLies h (length (take 8 cells)) 0
+  row-lies = rw whole (omega (arith, narrow), omega (arith, zero-mul (h .columns), narrow, long))
+
+  pub row-meets : (conditions : List Constraint) → allPass (Row 0) h (take 8 cells) conditions ≡ meets (take (h .columns) cells) conditions
+  unfolding allPass starts passes meets
+  row-meets conditions = ap (λ (row : List ℕ). meets row conditions) (rowAt-zero (h .columns) (take 8 cells) ∙ ap (take (h .columns)) whole)

@@ -1,0 +1,47 @@
+-- `listing_check::begin` meets its contract. Assumes nothing.
+use mathlib.Core.Path.{sym, _∙_}
+use borrow.Author.Needs.{needs}
+use borrow.Author.Tests.{not-true, not-false}
+use Rattle.listing_check.proofs.Steps.{settle, no-listing, unknown, out-of-place, begin}
+use Rattle.listing_check.proofs.begin.Statement.{statement}
+use Rattle.listing_check.proofs.begin.Tie as tie
+
+returns : tie.Need-returns
+returns c = record {
+  begins = λ conditions knows.
+      rw (c .settled .ensures) (settle (no-listing _ conditions _ (sym (c .before .before .before .before .before .pre .tested) ∙ not-true _ (c .before .if1 .taken))));
+}
+
+returns-2 : tie.Need-returns-2
+returns-2 c = record {
+  begins = λ conditions knows.
+      let l = c .before .before .before .before .before .before .pre .found (not-false _ (c .before .before .if1 .left)) in
+      rw (c .settled2 .ensures) (settle (unknown _ conditions _ _ l (sym knows ∙ not-true _ (c .before .if2 .taken))));
+}
+
+returns-3 : tie.Need-returns-3
+returns-3 c = record {
+  begins = λ conditions knows.
+      let l = c .before .before .before .before .before .before .before .before .pre .found (not-false _ (c .before .before .before .before .if1 .left)) in
+      rw (c .settled3 .ensures)
+      (settle (out-of-place _ conditions _ _ l (sym knows ∙ not-false _ (c .before .before .before .if2 .left)) (c .before .before .first-misplaced .ensures .found (c .before .if3 .taken))));
+}
+
+returns-4 : tie.Need-returns-4
+returns-4 c = record {
+  begins = λ conditions knows.
+      let l = c .before .before .before .before .before .before .before .pre .found (not-false _ (c .before .before .before .if1 .left)) in
+      begin _ conditions _ _ l (sym knows ∙ not-false _ (c .before .before .if2 .left)) (c .before .first-misplaced .ensures .rising (c .if3 .left));
+}
+
+pub begin-spec : {M : Type 1} → statement M
+begin-spec =
+    tie.close
+    (tie.spec
+    (λ c κs. search needs)
+    returns
+    (λ c κs. search needs)
+    returns-2
+    (λ c κs. search needs) (λ c κs. search needs)
+    returns-3
+    returns-4)

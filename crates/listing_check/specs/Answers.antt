@@ -1,0 +1,87 @@
+-- Testing a laboratory's answers (document 02, change 13): a listing in the new form, a list of conditions and the row numbers that
+-- the laboratory gives. Assumes nothing.
+use Prim.Native.Nat.{ℕ, suc, min}
+use mathlib.Core.Path.{_≡_}
+use mathlib.Core.Bool.{true, cond, not}
+use mathlib.Core.List.{List, [], _∷_, _++_, foldl}
+use mathlib.Core.Option.{Option, none, some}
+use lib.ListN.{drop, getD}
+use lib.Dec.{ltb}
+use Rattle.lists.specs.Lists.{keep, every, has}
+use Rattle.refusals.specs.Refusals.{rung, first, Reply, refused, accepted, reply}
+use Rattle.constraints.specs.declared.Constraint.{Constraint}
+use Rattle.constraints.specs.Constraints.{known, met}
+use Rattle.listing_spec.specs.Listings.{Listing, rowNumbers, Shows}
+use Rattle.listing_check.specs.declared.Verdict.{Verdict}
+use Rattle.listing_check.specs.declared.Verdict.the-variants.{Right, Misplaced, Wrong}
+use Rattle.listing_check.specs.declared.CheckAnswer.{CheckAnswer}
+use Rattle.listing_check.specs.declared.CheckAnswer.the-variants.{Refused, Checked}
+
+-- the numbers of "the rows of the listing that meet every condition": a row's first field is its number, then its cells follow
+unfoldable pub rightNumbers : List Constraint → Listing → List ℕ
+rightNumbers conditions l = rowNumbers (keep (λ ns. every (met (drop 1 ns)) conditions) (l .rows))
+
+-- "the place, from 0, of the first number not above the one before": here of numbers from this place on, behind one
+unfoldable pub misplacedBehind : ℕ → ℕ → List ℕ → Option ℕ
+misplacedBehind before place [] = none
+misplacedBehind before place (n ∷ ns) = cond (ltb before n) (misplacedBehind n (suc place) ns) (some place)
+
+unfoldable pub misplaced : List ℕ → Option ℕ
+misplaced [] = none
+misplaced (n ∷ ns) = misplacedBehind n 1 ns
+
+-- "wrongly present", then those wrongly "absent". "A number without a row in the listing counts as wrongly present": it is not
+-- among the right ones
+unfoldable pub wrongNumbers : List ℕ → List ℕ → List ℕ
+wrongNumbers given right = keep (λ n. not (has n right)) given ++ keep (λ n. not (has n given)) right
+
+unfoldable pub lowest : List ℕ → Option ℕ
+lowest [] = none
+lowest (n ∷ ns) = some (foldl min n ns)
+
+-- the checker's answers: "It says yes", "the place, from 0, of the first number not above the one before", "the lowest row number
+-- wrongly present or absent"
+pub data Finding : Type 0 where
+  correct : Finding
+  outOfOrder : ℕ → Finding
+  lowestWrong : ℕ → Finding
+
+-- what each case of the enum stands for
+unfoldable pub verdictSays : Verdict → Finding
+verdictSays Right = correct
+verdictSays (Misplaced place) = outOfOrder place
+verdictSays (Wrong number) = lowestWrong number
+
+-- "the lowest row number wrongly present or absent", and yes if there is none
+unfoldable pub rightOrWrong : Option ℕ → Finding
+rightOrWrong none = correct
+rightOrWrong (some number) = lowestWrong number
+
+-- "or, if the list is not strictly rising, the place"
+unfoldable pub placed : Option ℕ → Finding → Finding
+placed none finding = finding
+placed (some place) finding = outOfOrder place
+
+unfoldable pub verdictOn : List ℕ → List ℕ → Finding
+verdictOn given right = placed (misplaced given) (rightOrWrong (lowest (wrongNumbers given right)))
+
+-- of the listing that a text shows, if it shows one
+unfoldable pub verdictOf : Option Listing → List Constraint → List ℕ → Finding
+verdictOf none conditions given = correct
+verdictOf (some l) conditions given = verdictOn given (rightNumbers conditions l)
+
+-- "After 11 comes 6, as for any condition"
+unfoldable pub checkRefusal : Option Listing → List Constraint → ℕ
+checkRefusal none conditions = 11
+checkRefusal (some l) conditions = first (rung (not (every (known (getD (l .head) 0 0)) conditions)) 6 ∷ [])
+
+-- what an answer says
+unfoldable pub checkSays : CheckAnswer → Reply Finding
+checkSays (Refused n) = refused n
+checkSays (Checked verdict) = accepted (verdictSays verdict)
+
+-- What the checker promises; nothing is lent to be written.
+pub record AnswersChecked (text : List ℕ) (conditions : List Constraint) (given : List ℕ) (answer : CheckAnswer) : Type 0 where
+  pub listing : Option Listing
+  pub shown : Shows true text listing
+  pub answers : checkSays answer ≡ reply (checkRefusal listing conditions) (verdictOf listing conditions given)

@@ -1,0 +1,21 @@
+-- A listing with the rows 2, 5 and 8, of which 2 and 8 meet the condition that the first cell is 7, and what is said of some
+-- numbers. Assumes nothing.
+use mathlib.Core.Path.{_≡_, refl}
+use mathlib.Core.List.{[], _∷_, map}
+use mathlib.Core.Option.{some}
+use Rattle.lists.specs.Lists.{keep, every, has}
+use Rattle.constraints.specs.declared.Constraint.{Constraint}
+use Rattle.constraints.specs.Constraints.{compares, met}
+use Rattle.listing_spec.specs.Listings.{Listing, rowNumbers}
+use Rattle.listing_check.specs.Answers.{correct, outOfOrder, lowestWrong, rightNumbers, misplacedBehind, misplaced, wrongNumbers, lowest, rightOrWrong, placed, verdictOn, verdictOf}
+
+abbrev listing : Listing
+listing = record { head = 2 ∷ 1 ∷ 0 ∷ 0 ∷ 0 ∷ 9 ∷ []; rows = (2 ∷ 7 ∷ 1 ∷ []) ∷ (5 ∷ 3 ∷ 1 ∷ []) ∷ (8 ∷ 7 ∷ 4 ∷ []) ∷ [] }
+
+abbrev condition : Constraint
+condition = record { kind = 1; column = 0; value = 7 }
+
+pub example : map (verdictOf (some listing) (condition ∷ [])) ((2 ∷ 8 ∷ []) ∷ (2 ∷ 5 ∷ 8 ∷ []) ∷ (2 ∷ []) ∷ (1 ∷ 2 ∷ 8 ∷ []) ∷ (9 ∷ 2 ∷ 8 ∷ []) ∷ (2 ∷ 2 ∷ []) ∷ [])
+    ≡ correct ∷ lowestWrong 5 ∷ lowestWrong 8 ∷ lowestWrong 1 ∷ outOfOrder 1 ∷ outOfOrder 1 ∷ []
+unfolding verdictOf verdictOn rightNumbers rowNumbers keep every met compares misplaced misplacedBehind wrongNumbers has lowest placed rightOrWrong
+example = refl

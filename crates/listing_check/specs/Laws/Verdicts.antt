@@ -1,0 +1,97 @@
+-- What each verdict says of the numbers given and the right ones. Assumes nothing.
+use Prim.Native.Nat.{ℕ}
+use mathlib.Core.Path.{_≡_, refl, _∙_}
+use mathlib.Core.Logic.{inl, inr}
+use mathlib.Core.Bool.{Bool, true}
+use mathlib.Core.List.{List, [], _∷_}
+use mathlib.Core.Option.{Option, none, some}
+use native.Mathlib.Omega.{arith}
+use lib.ListN.{drop, getD}
+use Rattle.lists.specs.Lists.{keep, every, above, rising}
+use Rattle.lists.specs.Laws.Keep.{split}
+use Rattle.lists.specs.Laws.Rising.{above-head, above-tail, above-cons, above-weaker, above-rising, rising-ext}
+use Rattle.constraints.specs.declared.Constraint.{Constraint}
+use Rattle.constraints.specs.Constraints.{met}
+use Rattle.listing_spec.specs.Listings.{Listing, rowNumbers, isListing}
+use Rattle.listing_spec.specs.Laws.Texts.{rising-from, listing-parts}
+use Rattle.listing_check.specs.Answers.{correct, outOfOrder, lowestWrong, rightNumbers, misplaced, wrongNumbers, lowest, rightOrWrong, placed, verdictOn, verdictOf}
+use Rattle.listing_check.specs.Laws.Numbers.{Apart, wrong-none, wrong-some, wrong-same, FirstNotAbove, misplaced-none, misplaced-rising, misplaced-some, misplaced-at}
+
+-- ---- the right numbers rise
+
+module _ (test : List ℕ → Bool) where
+  pub above-kept : (x : ℕ) (rows : List (List ℕ)) → above x (rowNumbers rows) ≡ true → above x (rowNumbers (keep test rows)) ≡ true
+  unfolding rowNumbers keep
+  above-kept x [] e = e
+  above-kept x (row ∷ rows) e =
+      let n = getD row 0 0 in
+      let low = above-head x n (rowNumbers rows) e in
+      let rest = above-tail x n (rowNumbers rows) e in
+      elim (split (test row)) [
+        | inl t ↦ rw t (above-cons x n (rowNumbers (keep test rows)) low (above-kept n rows rest))
+        | inr t ↦ rw t (above-weaker x n (rowNumbers (keep test rows)) (omega (arith, low)) (above-kept n rows rest))
+      ]
+
+  rising-kept : (rows : List (List ℕ)) → rising (rowNumbers rows) ≡ true → rising (rowNumbers (keep test rows)) ≡ true
+  unfolding rowNumbers keep rising
+  rising-kept [] e = e
+  rising-kept (row ∷ rows) e =
+      let rest = above-kept (getD row 0 0) rows e in
+      elim (split (test row)) [ inl t ↦ rw t rest | inr t ↦ rw t (above-rising (getD row 0 0) (rowNumbers (keep test rows)) rest) ]
+
+pub right-rising : (conditions : List Constraint) (l : Listing) → isListing true l ≡ true → rising (rightNumbers conditions l) ≡ true
+unfolding rightNumbers
+right-rising conditions l e =
+    rising-kept (λ ns. every (met (drop 1 ns)) conditions) (l .rows) (rising-from (rowNumbers (l .rows)) ∙ listing-parts true l e .rows-fit .ordered refl .0)
+
+-- ---- what a verdict is made of
+
+said-right : (o w : Option ℕ) → placed o (rightOrWrong w) ≡ correct → (o ≡ none) × (w ≡ none)
+unfolding placed rightOrWrong
+said-right none none e = (refl, refl)
+said-right none (some m) e = absurd (let z : _≡_ {A = ℕ} 0 1 = cc in omega arith)
+said-right (some m) w e = absurd (let z : _≡_ {A = ℕ} 0 1 = cc in omega arith)
+
+module _ (n : ℕ) where
+  said-wrong : (o w : Option ℕ) → placed o (rightOrWrong w) ≡ lowestWrong n → w ≡ some n
+  unfolding placed rightOrWrong
+  said-wrong none none e = absurd (let z : _≡_ {A = ℕ} 0 1 = cc in omega arith)
+  said-wrong none (some m) e = cc
+  said-wrong (some m) w e = absurd (let z : _≡_ {A = ℕ} 0 1 = cc in omega arith)
+
+  said-misplaced : (o w : Option ℕ) → placed o (rightOrWrong w) ≡ outOfOrder n → o ≡ some n
+  unfolding placed rightOrWrong
+  said-misplaced none none e = absurd (let z : _≡_ {A = ℕ} 0 1 = cc in omega arith)
+  said-misplaced none (some m) e = absurd (let z : _≡_ {A = ℕ} 0 1 = cc in omega arith)
+  said-misplaced (some m) w e = cc
+
+module _ (given right : List ℕ) where
+  -- "It says yes exactly if those numbers are, rising and each once, the rows .. that meet every condition"
+  pub right-exactly : rising right ≡ true → (verdictOn given right ≡ correct → given ≡ right) × (given ≡ right → verdictOn given right ≡ correct)
+  unfolding verdictOn
+  right-exactly rises = (
+    λ e.
+        let s = said-right (misplaced given) (lowest (wrongNumbers given right)) e in
+        rising-ext given right (misplaced-none given (s .0)) rises (wrong-none given right (s .1)),
+    λ e. rw (e, misplaced-rising right rises, wrong-same right) (unfold placed rightOrWrong in refl),
+  )
+
+  -- "the lowest row number wrongly present or absent"
+  pub wrong-lowest : {number : ℕ} → verdictOn given right ≡ lowestWrong number → Apart given right number
+  unfolding verdictOn
+  wrong-lowest {number} e = wrong-some given right (said-wrong number (misplaced given) (lowest (wrongNumbers given right)) e)
+
+  -- "the place, from 0, of the first number not above the one before"
+  pub misplaced-first : {place : ℕ} → verdictOn given right ≡ outOfOrder place → FirstNotAbove given place
+  unfolding verdictOn
+  misplaced-first {place} e = misplaced-some given (said-misplaced place (misplaced given) (lowest (wrongNumbers given right)) e)
+
+  pub first-misplaced : {place : ℕ} → FirstNotAbove given place → verdictOn given right ≡ outOfOrder place
+  unfolding verdictOn
+  first-misplaced {place} f = rw (misplaced-at given f) (unfold placed in refl)
+
+-- and of a listing
+pub yes-exactly : (conditions : List Constraint) (l : Listing) (given : List ℕ) → isListing true l ≡ true
+    → (verdictOf (some l) conditions given ≡ correct → given ≡ rightNumbers conditions l) × (given ≡ rightNumbers conditions l → verdictOf (some l) conditions given ≡ correct)
+unfolding verdictOf
+yes-exactly conditions l given e = right-exactly given (rightNumbers conditions l) (right-rising conditions l e)

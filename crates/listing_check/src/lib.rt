@@ -1,0 +1,206 @@
+// Testing a laboratory's answers: whether the row numbers given are those of the rows of a listing that meet every condition.
+ghost use mathlib.Core.Path.{_≡_};
+ghost use mathlib.Core.Bool.{true};
+ghost use Prim.Native.Nat.{_≤_};
+ghost use lib.ListN.{take, getD};
+ghost use Rattle.constraints.specs.Constraints.{meets};
+ghost use Rattle.listing_parse.specs.inner.Surveys.{Surveyed};
+ghost use Rattle.listing_check.specs.Answers.{AnswersChecked};
+ghost use Rattle.listing_check.specs.inner.Walking.{MisplacedAt, Due, RowRead, settledAs, Begun, Stepped, closed};
+use constraints::Constraint;
+use levels_text::MOST_NUMBERS;
+use listing_parse::Survey;
+use listing_parse::line_at;
+use listing_parse::look_through;
+use query_scan::Test;
+use table::Header;
+use table::Largest;
+use walks::all_pass;
+
+// The numbers are right; or the number at this place is not above the one before; or this is the lowest row number that is wrongly
+// present or wrongly absent.
+pub enum Verdict {
+    Right,
+    Misplaced(usize),
+    Wrong(u32),
+}
+
+pub enum CheckAnswer {
+    Refused(u32),
+    Checked(Verdict),
+}
+
+// A row as its D line gives it, and the place behind the line. Cells past the listing's columns count for nothing.
+struct Row {
+    number: u32,
+    cells: [u32; 8],
+    next: usize,
+}
+
+// A walk over a listing's rows beside the numbers given: from the line at `start` on up to `end`, and from the number at `place`
+// on. Its answer stands unless a wrong number is still found; where it is settled, nothing is left of either.
+struct Walk {
+    answer: CheckAnswer,
+    start: usize,
+    end: usize,
+    place: usize,
+}
+
+// The header of a table with the listing's rows: the conditions are tested on it.
+fn header_of(s: Survey) -> Header
+    ensures { λ r. ⌜ r .columns ≡ s .columns ⌝ }
+{
+    Header {
+        columns: s.columns,
+        keys: s.keys,
+        sort: s.sort,
+        rule: s.rule,
+        capacity: s.rows,
+        rows: s.rows,
+        dead: 0,
+        entries: 0,
+        pending: 0,
+        generation: s.generation,
+        largest: Largest::None,
+    }
+}
+
+// The place of the first number not above the one before, or how many there are.
+fn first_misplaced(given: &[u32]) -> usize
+    ensures { λ r. ⌜ MisplacedAt (now (given .entry)) r ⌝ }
+{
+    let mut at = 1;
+    while at < given.len() {
+        if given[at] <= given[at - 1] {
+            return at;
+        }
+        at += 1;
+    }
+    given.len()
+}
+
+// Nothing is left that could overrule the answer.
+fn settled(answer: CheckAnswer, count: usize) -> Walk
+    ensures { λ r. ⌜ r ≡ settledAs answer count ⌝ }
+{
+    Walk {
+        answer: answer,
+        start: 0,
+        end: 0,
+        place: count,
+    }
+}
+
+// Refused, out of place, or right as long as the rows and the numbers agree.
+fn begin(s: Survey, known: bool, text: &[u8], given: &[u32]) -> Walk
+    requires { ⌜ Surveyed true (now text) s ⌝ }
+    ensures { λ r. ⌜ Begun s known (now (text .entry)) (now (given .entry)) r ⌝ }
+{
+    if !s.is_listing {
+        return settled(CheckAnswer::Refused(11), given.len());
+    }
+    if !known {
+        return settled(CheckAnswer::Refused(6), given.len());
+    }
+    let place = first_misplaced(given);
+    if place < given.len() {
+        return settled(CheckAnswer::Checked(Verdict::Misplaced(place)), given.len());
+    }
+    Walk {
+        answer: CheckAnswer::Checked(Verdict::Right),
+        start: s.start,
+        end: text.len(),
+        place: 0,
+    }
+}
+
+// Reads the D line that begins at a place.
+fn row_at(columns: u32, text: &[u8], start: usize) -> Row
+    requires { ⌜ Due columns (now text) start ⌝ }
+    ensures { λ r. ⌜ RowRead columns (now (text .entry)) start r ⌝ }
+{
+    let width = 1 + columns as usize;
+    let mut numbers = [0u32; MOST_NUMBERS];
+    let next = line_at(text, start, b'D', width, &mut numbers);
+    let mut cells = [0u32; 8];
+    row_buffer::write_row(&mut cells, 0, &numbers[1..width]);
+    Row {
+        number: numbers[0],
+        cells: cells,
+        next: next,
+    }
+}
+
+// The number given at a place; past the last one above any row's number.
+fn given_at(given: &[u32], place: usize) -> u64
+    ensures { λ r. ⌜ r ≡ getD (now (given .entry)) place 4294967296 ⌝ }
+{
+    if place < given.len() {
+        return given[place] as u64;
+    }
+    0x1_0000_0000
+}
+
+// One row further: a number given that is below the row's is wrong, and the row's own is, unless it is given exactly if the row
+// meets every condition.
+fn step(given: &[u32], at: Walk, row: Row, meets: bool) -> Walk
+    ensures { λ r. ⌜ Stepped (now (given .entry)) at row meets r ⌝ }
+{
+    let next = given_at(given, at.place);
+    let number = row.number as u64;
+    if next < number {
+        return settled(
+            CheckAnswer::Checked(Verdict::Wrong(next as u32)),
+            given.len(),
+        );
+    }
+    let there = next == number;
+    if there != meets {
+        return settled(
+            CheckAnswer::Checked(Verdict::Wrong(row.number)),
+            given.len(),
+        );
+    }
+    let mut n = at;
+    n.start = row.next;
+    if there {
+        n.place = at.place + 1;
+    }
+    n
+}
+
+// Behind the last row a number that is left is wrong.
+fn close(at: Walk, given: &[u32]) -> CheckAnswer
+    ensures { λ r. ⌜ r ≡ closed at (now (given .entry)) ⌝ }
+{
+    let place = at.place;
+    if place < given.len() {
+        return CheckAnswer::Checked(Verdict::Wrong(given[place]));
+    }
+    at.answer
+}
+
+// The row's cells meet every condition.
+fn meets_all(h: Header, cells: [u32; 8], conditions: &[Constraint]) -> bool
+    requires { ⌜ (1 ≤ h .columns) × (h .columns ≤ 8) ⌝ }
+    ensures { λ r. ⌜ r ≡ meets (take (h .columns) cells) (now (conditions .entry)) ⌝ }
+{
+    all_pass(Test::Row(0), h, &cells, conditions)
+}
+
+// The text is looked through first, then once more row by row beside the numbers given. Whether the conditions are known is asked
+// without a row, so that the cells lent there count for nothing.
+pub fn check_answers(text: &[u8], conditions: &[Constraint], given: &[u32]) -> CheckAnswer
+    ensures { λ r. ⌜ AnswersChecked (now (text .entry)) (now (conditions .entry)) (now (given .entry)) r ⌝ }
+{
+    let s = look_through(true, text);
+    let h = header_of(s);
+    let known = all_pass(Test::Known, h, given, conditions);
+    let mut at = begin(s, known, text, given);
+    while at.start < at.end {
+        let row = row_at(h.columns, text, at.start);
+        let meets = meets_all(h, row.cells, conditions);
+        at = step(given, at, row, meets);
+    }
+    close(at, given)
+}

@@ -1,0 +1,192 @@
+// Moves of a listing's text from one form to the other. The text is looked through first and the length of what is to be written
+// counted, so that nothing is written where it is refused.
+ghost use mathlib.Core.Path.{_≡_};
+ghost use mathlib.Core.Bool.{true, false, not, _&&_};
+ghost use mathlib.Core.List.{map};
+ghost use mathlib.Core.Option.{some};
+ghost use Prim.Native.Nat.{_+_, _≤_, _<_};
+ghost use lib.ListN.{length, take};
+ghost use lib.Dec.{ltb, eqb};
+ghost use Rattle.lists.specs.Lists.{flat, countFrom};
+ghost use Rattle.levels_text.specs.Written.{field, textLine};
+ghost use Rattle.levels_written.specs.inner.Appending.{Appended};
+ghost use Rattle.listing_spec.specs.Listings.{headLetter, lead, movedText, ListingMoved};
+ghost use Rattle.listing_spec.specs.inner.Checking.{listingIn};
+ghost use Rattle.listing_spec.specs.Laws.Moves.{fieldsLength};
+ghost use Rattle.listing_parse.specs.inner.Surveys.{Listed};
+ghost use Rattle.listing_parse.specs.Laws.Steps.{rowsFrom, Awaited};
+ghost use Rattle.listing_convert.specs.inner.Moving.{movedRow, movedFrom, movedHead, movedLength};
+use levels_text::MOST_NUMBERS;
+use levels_written::number_length;
+use levels_written::put_line;
+use levels_written::put_numbered;
+use listing_parse::Survey;
+use listing_parse::line_at;
+use listing_parse::look_through;
+use listing_parse::row_width;
+use listing_spec::MoveAnswer;
+
+// The bytes that the numbers below a count take as fields.
+fn numbers_length(count: u32) -> usize
+    requires { ⌜ count ≤ 65536 ⌝ }
+    ensures { λ r. ⌜ r ≡ length (flat (map field (countFrom 0 count))) ⌝ }
+{
+    let mut total = 0;
+    let mut number = 0;
+    while number < count {
+        total += number_length(number);
+        number += 1;
+    }
+    total
+}
+
+// A D line in the other form: its number left out, or this number before its cells.
+fn move_row(
+    numbered: bool,
+    columns: usize,
+    number: u32,
+    numbers: &[u32],
+    output: &mut [u8],
+    used: usize,
+) -> usize
+    requires { ⌜ columns ≤ 8 ⌝ }
+    requires { ⌜ lead numbered + columns ≤ length (now numbers) ⌝ }
+    requires { ⌜ used + length (textLine 68 (movedRow numbered number (take (lead numbered + columns) (now numbers)))) ≤ length (now output) ⌝ }
+    ensures { λ r. ⌜ Appended (now (output .entry)) used (textLine 68 (movedRow numbered number (take (lead numbered + columns) (now (numbers .entry))))) (now (output .exit)) r ⌝ }
+{
+    if numbered {
+        return put_line(output, used, b'D', &numbers[1..columns + 1]);
+    }
+    put_numbered(output, used, b'D', number, &numbers[..columns])
+}
+
+// The D lines in the other form.
+fn move_rows(
+    numbered: bool,
+    columns: usize,
+    text: &[u8],
+    start: usize,
+    numbers: &mut [u32],
+    output: &mut [u8],
+    used: usize,
+) -> usize
+    requires { ⌜ columns ≤ 8 ⌝ }
+    requires { ⌜ start ≤ length (now text) ⌝ }
+    requires { ⌜ 59 ≤ length (now numbers) ⌝ }
+    requires { ⌜ Awaited numbered columns (now text) start ⌝ }
+    requires { ⌜ length (rowsFrom (now text) start) ≤ 65536 ⌝ }
+    requires { ⌜ used + length (flat (map (textLine 68) (movedFrom numbered 0 (rowsFrom (now text) start)))) ≤ length (now output) ⌝ }
+    ensures { λ r. ⌜ Appended (now (output .entry)) used (flat (map (textLine 68) (movedFrom numbered 0 (rowsFrom (now (text .entry)) start)))) (now (output .exit)) r ⌝ }
+{
+    let width = row_width(numbered, columns);
+    let mut end = used;
+    let mut number = 0;
+    let mut at = start;
+    while at < text.len() {
+        let next = line_at(text, at, b'D', width, numbers);
+        if next == 0 {
+            return end;
+        }
+        end = move_row(numbered, columns, number, numbers, output, end);
+        number += 1;
+        at = next;
+    }
+    end
+}
+
+// The head line in the other form.
+fn move_head(numbered: bool, s: Survey, output: &mut [u8]) -> usize
+    requires { ⌜ length (textLine (headLetter (not numbered)) (movedHead numbered s)) ≤ length (now output) ⌝ }
+    ensures { λ r. ⌜ Appended (now (output .entry)) 0 (textLine (headLetter (not numbered)) (movedHead numbered s)) (now (output .exit)) r ⌝ }
+{
+    if numbered {
+        let head = [s.columns, s.keys, s.sort, s.rule, s.generation];
+        return put_line(output, 0, b'T', &head);
+    }
+    let head = [s.columns, s.keys, s.sort, s.rule, s.generation, s.rows];
+    put_line(output, 0, b'U', &head)
+}
+
+// The whole text in the other form.
+fn write_moved(numbered: bool, s: Survey, text: &[u8], output: &mut [u8]) -> usize
+    requires { ⌜ Listed numbered (now text) s ⌝ }
+    requires { ⌜ length (movedText numbered (some (listingIn (now text)))) ≤ length (now output) ⌝ }
+    ensures { λ r. ⌜ Appended (now (output .entry)) 0 (movedText numbered (some (listingIn (now (text .entry))))) (now (output .exit)) r ⌝ }
+{
+    let used = move_head(numbered, s, output);
+    let mut numbers = [0u32; MOST_NUMBERS];
+    move_rows(
+        numbered,
+        s.columns as usize,
+        text,
+        s.start,
+        &mut numbers,
+        output,
+        used,
+    )
+}
+
+// Some number below the count has no row: there are fewer rows than numbers.
+fn lacks_row(numbered: bool, s: Survey) -> bool
+    ensures { λ r. ⌜ r ≡ (numbered && not (eqb (s .rows) (s .count))) ⌝ }
+{
+    if numbered {
+        return s.rows != s.count;
+    }
+    false
+}
+
+// The output is shorter than the text in the other form, which the count and the row numbers make longer or shorter.
+fn lacks_room(numbered: bool, rows: u32, text: usize, output: usize) -> bool
+    requires { ⌜ rows ≤ 65536 ⌝ }
+    requires { ⌜ (numbered ≡ true → fieldsLength rows ≤ text) ⌝ }
+    ensures { λ r. ⌜ r ≡ ltb output (movedLength numbered rows text) ⌝ }
+{
+    let fields = number_length(rows) + numbers_length(rows);
+    if numbered {
+        return output < text - fields;
+    }
+    if output < text {
+        return true;
+    }
+    output - text < fields
+}
+
+// Moves a text that is of the form.
+fn move_found(numbered: bool, s: Survey, text: &[u8], output: &mut [u8]) -> MoveAnswer
+    requires { ⌜ Listed numbered (now text) s ⌝ }
+    ensures { λ r. ⌜ ListingMoved numbered (now (text .entry)) (now (output .entry)) r (now (output .exit)) ⌝ }
+{
+    if lacks_row(numbered, s) {
+        return MoveAnswer::Refused(17);
+    }
+    if lacks_room(numbered, s.rows, text.len(), output.len()) {
+        return MoveAnswer::Refused(2);
+    }
+    MoveAnswer::Written(write_moved(numbered, s, text, output))
+}
+
+// Both ways, from the form that is named.
+fn move_listing(numbered: bool, text: &[u8], output: &mut [u8]) -> MoveAnswer
+    ensures { λ r. ⌜ ListingMoved numbered (now (text .entry)) (now (output .entry)) r (now (output .exit)) ⌝ }
+{
+    let s = look_through(numbered, text);
+    if s.is_listing {
+        return move_found(numbered, s, text, output);
+    }
+    MoveAnswer::Refused(11)
+}
+
+// From the old form to the new: rows are numbered from 0.
+pub fn to_numbered(text: &[u8], output: &mut [u8]) -> MoveAnswer
+    ensures { λ r. ⌜ ListingMoved false (now (text .entry)) (now (output .entry)) r (now (output .exit)) ⌝ }
+{
+    move_listing(false, text, output)
+}
+
+// From the new form to the old.
+pub fn from_numbered(text: &[u8], output: &mut [u8]) -> MoveAnswer
+    ensures { λ r. ⌜ ListingMoved true (now (text .entry)) (now (output .entry)) r (now (output .exit)) ⌝ }
+{
+    move_listing(true, text, output)
+}

@@ -1,0 +1,166 @@
+-- The ways through `keeps_bounds`, `head_at` and `look_through`. Assumes nothing.
+use Prim.Native.Nat.{ℕ, _≤_, _<_}
+use mathlib.Core.Path.{_≡_, refl, sym, ap, _∙_}
+use mathlib.Core.Bool.{Bool, true, false, cond, not, _&&_, and-false, false≢true}
+use mathlib.Core.List.{List, [], _∷_}
+use native.Mathlib.Decide.{ℕ-discrete}
+use native.Mathlib.Omega.{arith}
+use lib.Dec.{leb, eqb}
+use lib.ListN.{length, take, drop, getD, List·getD-eq-default}
+use lib.Seq.{getD-take, length-take-le, take-suc}
+use borrow.Author.Tests.{eq-eqb, ne-eqb, le-leb, lt-leb, lt-ltb, le-ltb}
+use Rattle.listing_spec.specs.Listings.{headLetter, headWidth, keepsBounds, isHead}
+use Rattle.listing_spec.specs.inner.Checking.{pieces, begins, rowsGood, rowsIn, piecesGood, listingOf, textGood, listingIn}
+use Rattle.listing_spec.specs.Laws.Texts.{bounds-columns}
+use Rattle.listing_parse.specs.declared.Survey.{Survey}
+use Rattle.listing_parse.specs.inner.Lines.{lineIn, Found, LineAt}
+use Rattle.listing_parse.specs.inner.Surveys.{Counted, HeadFound, HeadAt, headOf, Surveyed}
+
+module _ (columns keys sort rule : ℕ) where
+  pub no-column : columns < 1 → false ≡ keepsBounds columns keys sort rule
+  unfolding keepsBounds
+  no-column h = rw (lt-leb 1 columns h)
+
+  module _ (some : 1 ≤ columns) where
+    pub too-many : 8 < columns → false ≡ keepsBounds columns keys sort rule
+    unfolding keepsBounds
+    too-many h = rw (le-leb 1 columns some, lt-leb columns 8 h)
+
+    module _ (narrow : columns ≤ 8) where
+      pub no-key : keys < 1 → false ≡ keepsBounds columns keys sort rule
+      unfolding keepsBounds
+      no-key h = rw (le-leb 1 columns some, le-leb columns 8 narrow, lt-leb 1 keys h)
+
+      module _ (keyed : 1 ≤ keys) where
+        pub keys-above : columns < keys → false ≡ keepsBounds columns keys sort rule
+        unfolding keepsBounds
+        keys-above h = rw (le-leb 1 columns some, le-leb columns 8 narrow, le-leb 1 keys keyed, lt-leb keys columns h)
+
+        module _ (fewer : keys ≤ columns) where
+          pub no-sort : columns ≤ sort → false ≡ keepsBounds columns keys sort rule
+          unfolding keepsBounds
+          no-sort h = rw (le-leb 1 columns some, le-leb columns 8 narrow, le-leb 1 keys keyed, le-leb keys columns fewer, le-ltb sort columns h)
+
+          pub by-rule : sort < columns → leb rule 3 ≡ keepsBounds columns keys sort rule
+          unfolding keepsBounds
+          by-rule h = rw (le-leb 1 columns some, le-leb columns 8 narrow, le-leb 1 keys keyed, le-leb keys columns fewer, lt-ltb sort columns h)
+
+-- ---- the head line
+
+width-some : (numbered : Bool) → 5 ≤ headWidth numbered
+unfolding headWidth
+width-some true = omega arith
+width-some false = omega arith
+
+last-number : (numbered : Bool) (stored : List ℕ) → headWidth numbered ≤ length stored → getD (take (headWidth numbered) stored) 5 0 ≡ cond numbered (getD stored 5 0) 0
+unfolding headWidth
+last-number true stored wide = getD-take 6 stored 5 0 (omega arith)
+last-number false stored wide = List·getD-eq-default (take 5 stored) 0 (omega (arith, length-take-le 5 stored wide))
+
+count-few : (numbered : Bool) (n m : ℕ) → n ≡ cond numbered m 0 → cond numbered (leb n 65536) true ≡ leb n 65536
+count-few true n m e = refl
+count-few false n m e = sym (le-leb n 65536 (omega (arith, e)))
+
+pub head-no-line : (numbered : Bool) (text : List ℕ) {next : ℕ} {stored stored′ : List ℕ} → LineAt text 0 (headLetter numbered) (headWidth numbered) next stored → next ≡ 0 → HeadAt numbered text 0 stored′
+head-no-line numbered text l zero = record { wrong = λ z. unfold textGood in no-head (pieces text) (l .wrong zero); found = λ some. absurd (omega (arith, some)) }
+  where
+    no-head : (ps : List (List ℕ)) → begins (headLetter numbered) (headWidth numbered) ps ≡ false → piecesGood numbered ps ≡ false
+    no-head [] e = unfold piecesGood in refl
+    no-head (line ∷ rest) e = unfold piecesGood in rw e
+
+module _ (numbered : Bool) (text : List ℕ) {next : ℕ} {stored : List ℕ} (f : Found text 0 (headLetter numbered) (headWidth numbered) next stored)
+    (count : ℕ) (counted : count ≡ cond numbered (getD stored 5 0) 0) where
+  abbrev ns : List ℕ
+  ns = take (headWidth numbered) stored
+
+  cut : pieces text ≡ lineIn text 0 next ∷ pieces (drop next text)
+  cut = f .cut
+
+  at-place : (i : ℕ) → i < 5 → getD ns i 0 ≡ getD stored i 0
+  at-place i h = getD-take (headWidth numbered) stored i 0 (omega (arith, width-some numbered))
+
+  last : getD ns 5 0 ≡ count
+  last = last-number numbered stored (f .wide) ∙ sym counted
+
+  in-bounds : Bool
+  in-bounds = keepsBounds (getD stored 0 0) (getD stored 1 0) (getD stored 2 0) (getD stored 3 0)
+
+  head-tests : isHead numbered ns ≡ (in-bounds && leb count 65536)
+  unfolding isHead in-bounds
+  head-tests =
+      rw (eq-eqb (length ns) (headWidth numbered) (length-take-le (headWidth numbered) stored (f .wide)), at-place 0 (omega arith), at-place 1 (omega arith), at-place 2 (omega arith), at-place 3 (omega arith), last, count-few numbered count (getD stored 5 0) counted)
+
+  text-tests : textGood numbered text ≡ (in-bounds && leb count 65536 && rowsGood numbered (getD stored 0 0) count 0 65536 (pieces (drop next text)))
+  unfolding textGood piecesGood
+  text-tests =
+      let good : begins (headLetter numbered) (headWidth numbered) (lineIn text 0 next ∷ pieces (drop next text)) ≡ true = rw cut at (f .good) in
+      rw (cut, good, ← f .read, head-tests, at-place 0 (omega arith), last)
+
+  pub head-large : {stored′ : List ℕ} → 65536 < count → HeadAt numbered text 0 stored′
+  head-large h = record { wrong = λ z. text-tests ∙ rw (lt-leb count 65536 h, and-false in-bounds); found = λ some. absurd (omega (arith, some)) }
+
+  module _ (few : count ≤ 65536) {b : Bool} (e : b ≡ keepsBounds (getD stored 0 0) (getD stored 1 0) (getD stored 2 0) (getD stored 3 0)) where
+    pub head-unbound : {stored′ : List ℕ} → b ≡ false → HeadAt numbered text 0 stored′
+    unfolding in-bounds
+    head-unbound no-bounds = record { wrong = λ z. text-tests ∙ rw (← e, no-bounds); found = λ some. absurd (omega (arith, some)) }
+
+    pub head-found : b ≡ true → HeadAt numbered text next stored
+    unfolding in-bounds
+    head-found kept = record {
+      wrong = λ z. absurd (omega (arith, z, f .forward));
+      found = λ some. record {
+        inside = f .inside;
+        narrow = bounds-columns (getD stored 0 0) (getD stored 1 0) (getD stored 2 0) (getD stored 3 0) (sym e ∙ kept);
+        good = text-tests ∙ rw (← e, kept, le-leb count 65536 few, counted);
+        head = head-same;
+        rows = rows-same;
+      };
+    }
+      where
+        head-same : listingIn text .head ≡ ns
+        head-same = unfold listingIn listingOf in rw (cut, f .read)
+
+        rows-same : listingIn text .rows ≡ rowsIn (pieces (drop next text))
+        rows-same = unfold listingIn listingOf in rw cut
+
+-- ---- the whole text
+
+head-shown : (numbered : Bool) (stored : List ℕ) → 6 ≤ length stored → (s : Survey) → s .columns ≡ getD stored 0 0 → s .keys ≡ getD stored 1 0 → s .sort ≡ getD stored 2 0
+    → s .rule ≡ getD stored 3 0 → s .generation ≡ getD stored 4 0 → s .count ≡ cond numbered (getD stored 5 0) 0 → take (headWidth numbered) stored ≡ headOf numbered s
+unfolding headWidth headOf
+head-shown true stored long s a b c d g n =
+    rw (a, b, c, d, g, n) (take-suc stored 5 0 (omega arith) ∙ rw (take-suc stored 4 0 (omega arith), take-suc stored 3 0 (omega arith), take-suc stored 2 0 (omega arith), take-suc stored 1 0 (omega arith), take-suc stored 0 0 (omega arith)))
+head-shown false stored long s a b c d g n =
+    rw (a, b, c, d, g) (take-suc stored 4 0 (omega arith) ∙ rw (take-suc stored 3 0 (omega arith), take-suc stored 2 0 (omega arith), take-suc stored 1 0 (omega arith), take-suc stored 0 0 (omega arith)))
+
+pub surveyed-none : (numbered : Bool) (text : List ℕ) {next : ℕ} {stored : List ℕ} {s : Survey} → HeadAt numbered text next stored → next ≡ 0 → s .«is_listing» ≡ false → Surveyed numbered text s
+surveyed-none numbered text h zero e = record { tested = e ∙ sym (h .wrong zero); found = λ t. absurd (false≢true (sym e ∙ t)) }
+
+pub surveyed : (numbered : Bool) (text : List ℕ) {stored : List ℕ} (s : Survey) → HeadFound numbered text (s .start) stored → 6 ≤ length stored
+    → s .columns ≡ getD stored 0 0 → s .keys ≡ getD stored 1 0 → s .sort ≡ getD stored 2 0 → s .rule ≡ getD stored 3 0 → s .generation ≡ getD stored 4 0
+    → s .count ≡ cond numbered (getD stored 5 0) 0 → Counted numbered (s .columns) (s .count) text (s .start) (s .rows) → s .«is_listing» ≡ not (eqb (s .rows) 65537)
+    → Surveyed numbered text s
+surveyed numbered text {stored} s f long a b c d g n k t =
+    elim (ℕ-discrete (s .rows) 65537) [
+      | yes e ↦
+          let no-listing : s .«is_listing» ≡ false = t ∙ rw (eq-eqb (s .rows) 65537 e) in
+          record { tested = no-listing ∙ sym (good ∙ k .wrong e); found = λ y. absurd (false≢true (sym no-listing ∙ y)) }
+      | no e ↦
+          let r = k .right e in
+          record {
+            tested = rw (t, ne-eqb (s .rows) 65537 e) (sym (good ∙ r .0));
+            found = λ y. record {
+              of-form = good ∙ r .0;
+              narrow = rw a (f .narrow);
+              few = omega (arith, k .bounded, e);
+              inside = f .inside;
+              head = f .head ∙ head-shown numbered stored long s a b c d g n;
+              counted = r .1 ∙ ap length (sym (f .rows));
+              rows-there = f .rows;
+              good = r .0;
+            };
+          }
+    ]
+  where
+    good : textGood numbered text ≡ rowsGood numbered (s .columns) (s .count) 0 65536 (pieces (drop (s .start) text))
+    good = rw (a, n) (f .good)

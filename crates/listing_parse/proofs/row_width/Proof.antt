@@ -1,0 +1,19 @@
+-- `listing_parse::row_width` meets its contract. Assumes nothing.
+use Rattle.listing_spec.specs.Listings.{lead}
+use borrow.Author.Needs.{needs}
+use Rattle.listing_parse.proofs.row_width.Statement.{statement}
+use Rattle.listing_parse.proofs.row_width.Tie as tie
+
+add-result : tie.Need-add-result
+add-result c = search needs
+
+returns : tie.Need-returns
+unfolding lead
+returns c = rw (c .if1 .taken)
+
+returns-2 : tie.Need-returns-2
+unfolding lead
+returns-2 c = rw (c .if1 .left) (search needs)
+
+pub row-width-spec : {M : Type 1} → statement M
+row-width-spec = tie.close (tie.spec add-result returns returns-2)

@@ -1,0 +1,58 @@
+-- D lines that have passed their tests, gone through again one by one. Assumes nothing.
+use Prim.Native.Nat.{ℕ, suc, _+_, _-_, _≤_, _<_}
+use mathlib.Core.Path.{_≡_, refl, sym, _∙_}
+use mathlib.Core.Bool.{Bool, true, _&&_, false≢true}
+use mathlib.Core.List.{List, [], _∷_}
+use native.Mathlib.Omega.{arith}
+use lib.Dec.{ltb}
+use lib.ListN.{length, take, drop, getD, length-drop, drop-of-length-le}
+use Rattle.lists.specs.Laws.Keep.{and-right}
+use Rattle.levels_text.specs.Lines.{numbers}
+use Rattle.listing_spec.specs.Listings.{lead}
+use Rattle.listing_spec.specs.inner.Checking.{pieces, isNil, begins, rowFits, rowsGood, rowsIn}
+use Rattle.listing_spec.specs.Laws.Pieces.{joined-pieces, pieces-some}
+use Rattle.listing_spec.specs.Laws.Texts.{good-more, no-row, rows-more}
+use Rattle.listing_parse.specs.inner.Lines.{lineIn, Found, LineAt}
+
+-- the rows from a place on
+unfoldable pub rowsFrom : List ℕ → ℕ → List (List ℕ)
+rowsFrom text at = rowsIn (pieces (drop at text))
+
+-- D lines that pass, from a place on
+pub record Awaited (numbered : Bool) (columns : ℕ) (text : List ℕ) (at : ℕ) : Type 0 where
+  pub count : ℕ
+  pub least : ℕ
+  pub left : ℕ
+  pub good : rowsGood numbered columns count least left (pieces (drop at text)) ≡ true
+
+module _ (numbered : Bool) (columns : ℕ) (text : List ℕ) (at : ℕ) where
+  -- where one is to come there is one
+  pub awaited-line : at < length text → Awaited numbered columns text at → {next : ℕ} {stored : List ℕ} → LineAt text at 68 (lead numbered + columns) next stored → next ≡ 0 → ⊥
+  awaited-line before w l zero =
+      false≢true
+      (sym (no-row numbered columns (w .count) (w .least) (w .left) (pieces (drop at text)) (l .wrong zero) (rw (joined-pieces (drop at text)) (omega (arith, length-drop at text))))
+      ∙ w .good)
+
+  module _ {next : ℕ} {stored : List ℕ} (f : Found text at 68 (lead numbered + columns) next stored) where
+    pub awaited-next : Awaited numbered columns text at → Awaited numbered columns text next
+    awaited-next w =
+        let line = lineIn text at next in
+        let rest = pieces (drop next text) in
+        let front = ltb 0 (w .left) && (begins 68 (lead numbered + columns) (line ∷ rest) && rowFits numbered (w .count) (w .least) (numbers line)) in
+        let behind = rowsGood numbered columns (w .count) (suc (getD (numbers line) 0 0)) (w .left - 1) rest in
+        let good : rowsGood numbered columns (w .count) (w .least) (w .left) (line ∷ rest) ≡ true = rw (f .cut) at (w .good) in
+        record {
+          count = w .count;
+          least = suc (getD (numbers line) 0 0);
+          left = w .left - 1;
+          good = and-right front behind (sym (good-more numbered columns (w .count) line rest (w .least) (w .left) (pieces-some (drop next text))) ∙ good);
+        }
+
+    pub awaited-row : rowsFrom text at ≡ take (lead numbered + columns) stored ∷ rowsFrom text next
+    unfolding rowsFrom
+    awaited-row = rw (f .cut, f .read) (rows-more (lineIn text at next) (pieces (drop next text)) (pieces-some (drop next text)))
+
+-- at the end none is to come
+pub none-from : (text : List ℕ) (at : ℕ) → length text ≤ at → rowsFrom text at ≡ []
+unfolding rowsFrom
+none-from text at over = rw (drop-of-length-le text over) (unfold pieces rowsIn isNil in refl)

@@ -1,0 +1,261 @@
+// The text of a listing, line by line: whether it is of a form, what its head says, and how many rows it has. Lines are read as
+// `levels` reads its own.
+ghost use mathlib.Core.Path.{_≡_};
+ghost use mathlib.Core.Bool.{false, cond};
+ghost use Prim.Native.Nat.{_+_, _≤_, _<_};
+ghost use lib.ListN.{length};
+ghost use Rattle.listing_spec.specs.Listings.{headLetter, headWidth, lead, keepsBounds};
+ghost use Rattle.listing_spec.specs.inner.Checking.{rowFits};
+ghost use Rattle.listing_parse.specs.inner.Lines.{LineEnd, LineAt, RowAt};
+ghost use Rattle.listing_parse.specs.inner.Surveys.{Counted, HeadAt, Surveyed};
+use levels_text::MOST_NUMBERS;
+use levels_text::Parsed;
+
+pub const MOST_ROWS: usize = 65536;
+
+// More rows than a listing has.
+const WRONG: usize = 65537;
+
+// Where the line ends that begins at a place: at its newline, or at the end of the text.
+fn line_end(text: &[u8], start: usize) -> usize
+    requires { ⌜ start ≤ length (now text) ⌝ }
+    ensures { λ r. ⌜ LineEnd (now (text .entry)) start r ⌝ }
+{
+    let mut at = start;
+    while at < text.len() {
+        if text[at] == b'\n' {
+            return at;
+        }
+        at += 1;
+    }
+    at
+}
+
+// Reads the line that begins at a place: the place behind its newline, or 0 if it is not of this letter with so many numbers.
+pub fn line_at(text: &[u8], start: usize, letter: u8, width: usize, numbers: &mut [u32]) -> usize
+    requires { ⌜ start ≤ length (now text) ⌝ }
+    requires { ⌜ 59 ≤ length (now numbers) ⌝ }
+    ensures { λ r. ⌜ LineAt (now (text .entry)) start letter width r (now (numbers .exit)) ⌝ }
+{
+    let end = line_end(text, start);
+    if end == text.len() {
+        return 0;
+    }
+    match levels_text::read_line(&text[start..end], numbers) {
+        Parsed::Wrong => 0,
+        Parsed::Line(first, count) => {
+            if first != letter {
+                return 0;
+            }
+            if count != width {
+                return 0;
+            }
+            end + 1
+        }
+    }
+}
+
+// The numbers of a D line.
+pub fn row_width(numbered: bool, columns: usize) -> usize
+    requires { ⌜ columns ≤ 8 ⌝ }
+    ensures { λ r. ⌜ r ≡ lead numbered + columns ⌝ }
+{
+    if numbered {
+        return 1 + columns;
+    }
+    columns
+}
+
+// A first cell that is not dead, and a row number that is high enough and below the count.
+fn row_fits(numbered: bool, count: u32, least: usize, numbers: &[u32]) -> bool
+    requires { ⌜ lead numbered < length (now numbers) ⌝ }
+    ensures { λ r. ⌜ r ≡ rowFits numbered count least (now (numbers .entry)) ⌝ }
+{
+    if numbered {
+        if numbers[1] == 0xffff_ffff {
+            return false;
+        }
+        if (numbers[0] as usize) < least {
+            return false;
+        }
+        return numbers[0] < count;
+    }
+    numbers[0] != 0xffff_ffff
+}
+
+// Reads the D line that begins at a place: the place behind it, or 0 if it is wrong.
+fn row_at(
+    numbered: bool,
+    columns: usize,
+    count: u32,
+    least: usize,
+    text: &[u8],
+    start: usize,
+    numbers: &mut [u32],
+) -> usize
+    requires { ⌜ (1 ≤ columns) × (columns ≤ 8) ⌝ }
+    requires { ⌜ start < length (now text) ⌝ }
+    requires { ⌜ 59 ≤ length (now numbers) ⌝ }
+    ensures { λ r. ⌜ RowAt numbered columns count least (now (text .entry)) start r (now (numbers .exit)) ⌝ }
+{
+    let width = row_width(numbered, columns);
+    let end = line_at(text, start, b'D', width, numbers);
+    if end == 0 {
+        return 0;
+    }
+    if row_fits(numbered, count, least, &numbers[..width]) {
+        return end;
+    }
+    0
+}
+
+// How many D lines there are from a place on, or more than a listing has if one is wrong.
+fn count_rows(
+    numbered: bool,
+    columns: usize,
+    count: u32,
+    text: &[u8],
+    start: usize,
+    numbers: &mut [u32],
+) -> usize
+    requires { ⌜ (1 ≤ columns) × (columns ≤ 8) ⌝ }
+    requires { ⌜ start ≤ length (now text) ⌝ }
+    requires { ⌜ 59 ≤ length (now numbers) ⌝ }
+    ensures { λ r. ⌜ Counted numbered columns count (now (text .entry)) start r ⌝ }
+{
+    let mut at = start;
+    let mut least = 0;
+    let mut rows = 0;
+    while at < text.len() {
+        if rows == MOST_ROWS {
+            return WRONG;
+        }
+        at = row_at(numbered, columns, count, least, text, at, numbers);
+        if at == 0 {
+            return WRONG;
+        }
+        least = (numbers[0] as usize) + 1;
+        rows += 1;
+    }
+    rows
+}
+
+// Test 1's bounds of a head's first numbers.
+fn keeps_bounds(columns: u32, keys: u32, sort: u32, rule: u32) -> bool
+    ensures { λ r. ⌜ r ≡ keepsBounds columns keys sort rule ⌝ }
+{
+    if columns < 1 {
+        return false;
+    }
+    if 8 < columns {
+        return false;
+    }
+    if keys < 1 {
+        return false;
+    }
+    if columns < keys {
+        return false;
+    }
+    if columns <= sort {
+        return false;
+    }
+    rule <= 3
+}
+
+// The row count that a head gives; the old form's gives none.
+fn count_in(numbered: bool, last: u32) -> u32
+    ensures { λ r. ⌜ r ≡ cond numbered last 0 ⌝ }
+{
+    if numbered {
+        return last;
+    }
+    0
+}
+
+// Reads the line that begins the text, of the form's letter and width.
+fn first_line(numbered: bool, text: &[u8], numbers: &mut [u32]) -> usize
+    requires { ⌜ 59 ≤ length (now numbers) ⌝ }
+    ensures { λ r. ⌜ LineAt (now (text .entry)) 0 (headLetter numbered) (headWidth numbered) r (now (numbers .exit)) ⌝ }
+{
+    if numbered {
+        return line_at(text, 0, b'U', 6, numbers);
+    }
+    line_at(text, 0, b'T', 5, numbers)
+}
+
+// Reads the head line: the place behind it, or 0 if it is wrong.
+fn head_at(numbered: bool, text: &[u8], numbers: &mut [u32]) -> usize
+    requires { ⌜ 59 ≤ length (now numbers) ⌝ }
+    ensures { λ r. ⌜ HeadAt numbered (now (text .entry)) r (now (numbers .exit)) ⌝ }
+{
+    let next = first_line(numbered, text, numbers);
+    if next == 0 {
+        return 0;
+    }
+    if 65536 < count_in(numbered, numbers[5]) {
+        return 0;
+    }
+    if keeps_bounds(numbers[0], numbers[1], numbers[2], numbers[3]) {
+        return next;
+    }
+    0
+}
+
+// What a text of a form says before its rows are read: the head's numbers, the row count among them, how many rows there are and
+// where they begin.
+pub struct Survey {
+    pub is_listing: bool,
+    pub columns: u32,
+    pub keys: u32,
+    pub sort: u32,
+    pub rule: u32,
+    pub generation: u32,
+    pub count: u32,
+    pub rows: u32,
+    pub start: usize,
+}
+
+fn no_listing() -> Survey
+    ensures { λ r. ⌜ r .«is_listing» ≡ false ⌝ }
+{
+    Survey {
+        is_listing: false,
+        columns: 0,
+        keys: 0,
+        sort: 0,
+        rule: 0,
+        generation: 0,
+        count: 0,
+        rows: 0,
+        start: 0,
+    }
+}
+
+// Looks through a whole text.
+pub fn look_through(numbered: bool, text: &[u8]) -> Survey
+    ensures { λ r. ⌜ Surveyed numbered (now (text .entry)) r ⌝ }
+{
+    let mut numbers = [0u32; MOST_NUMBERS];
+    let start = head_at(numbered, text, &mut numbers);
+    if start == 0 {
+        return no_listing();
+    }
+    let columns = numbers[0];
+    let keys = numbers[1];
+    let sort = numbers[2];
+    let rule = numbers[3];
+    let generation = numbers[4];
+    let count = count_in(numbered, numbers[5]);
+    let rows = count_rows(numbered, columns as usize, count, text, start, &mut numbers);
+    Survey {
+        is_listing: rows != WRONG,
+        columns: columns,
+        keys: keys,
+        sort: sort,
+        rule: rule,
+        generation: generation,
+        count: count,
+        rows: rows as u32,
+        start: start,
+    }
+}

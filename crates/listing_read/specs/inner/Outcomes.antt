@@ -1,0 +1,13 @@
+-- What reading says in either form. Assumes nothing.
+use Prim.Native.Nat.{ℕ}
+use mathlib.Core.Bool.{Bool}
+use mathlib.Core.List.{List, [], _∷_, _++_}
+use Rattle.refusals.specs.Refusals.{Reply, refused, accepted}
+use Rattle.listing_parse.specs.inner.Surveys.{headOf}
+use Rattle.listing_read.specs.declared.Outcome.{Outcome}
+use Rattle.listing_read.specs.declared.Outcome.the-variants.{Refused, Found}
+
+-- the head's numbers, and how many rows there are
+unfoldable pub outcomeSays : Bool → Outcome → Reply (List ℕ)
+outcomeSays numbered (Refused n) = refused n
+outcomeSays numbered (Found s) = accepted (headOf numbered s ++ (s .rows ∷ []))

@@ -1,0 +1,117 @@
+// Readers of a listing's text: what the head says, and the rows' cells written in turn. The text is looked through first, so that
+// nothing is written where it is refused.
+ghost use mathlib.Core.Path.{_≡_};
+ghost use mathlib.Core.Bool.{true, false};
+ghost use Prim.Native.Nat.{_≤_, _<_};
+ghost use lib.ListN.{length};
+ghost use Rattle.lists.specs.Lists.{putAt, flat};
+ghost use Rattle.listing_spec.specs.Listings.{ListingRead, listingSays, numberedSays};
+ghost use Rattle.listing_parse.specs.inner.Surveys.{Listed};
+ghost use Rattle.listing_parse.specs.Laws.Steps.{rowsFrom, Awaited};
+ghost use Rattle.listing_read.specs.inner.Outcomes.{outcomeSays};
+use levels_text::MOST_NUMBERS;
+use listing_parse::Survey;
+use listing_parse::line_at;
+use listing_parse::look_through;
+use listing_parse::row_width;
+use listing_spec::ListingAnswer;
+use listing_spec::ListingHead;
+use listing_spec::NumberedAnswer;
+use listing_spec::NumberedHead;
+
+// Writes the numbers of each D line in turn.
+fn write_rows(
+    numbered: bool,
+    columns: usize,
+    text: &[u8],
+    start: usize,
+    numbers: &mut [u32],
+    output: &mut [u32],
+)
+    requires { ⌜ columns ≤ 8 ⌝ }
+    requires { ⌜ start ≤ length (now text) ⌝ }
+    requires { ⌜ 59 ≤ length (now numbers) ⌝ }
+    requires { ⌜ Awaited numbered columns (now text) start ⌝ }
+    requires { ⌜ length (flat (rowsFrom (now text) start)) ≤ length (now output) ⌝ }
+    ensures { λ _. ⌜ now (output .exit) ≡ putAt (now (output .entry)) 0 (flat (rowsFrom (now (text .entry)) start)) ⌝ }
+{
+    let width = row_width(numbered, columns);
+    let mut at = start;
+    let mut used = 0;
+    while at < text.len() {
+        let next = line_at(text, at, b'D', width, numbers);
+        if next == 0 {
+            return;
+        }
+        row_buffer::write_row(output, used, &numbers[..width]);
+        used += width;
+        at = next;
+    }
+}
+
+// What reading found, in either form.
+enum Outcome {
+    Refused(u32),
+    Found(Survey),
+}
+
+// Reads a text that is of the form.
+fn read_found(numbered: bool, s: Survey, text: &[u8], output: &mut [u32]) -> Outcome
+    requires { ⌜ Listed numbered (now text) s ⌝ }
+    ensures { λ r. ⌜ ListingRead numbered (now (text .entry)) (now (output .entry)) (outcomeSays numbered r) (now (output .exit)) ⌝ }
+{
+    let columns = s.columns as usize;
+    let rows = s.rows as usize;
+    let width = row_width(numbered, columns);
+    if output.len() < rows * width {
+        return Outcome::Refused(2);
+    }
+    let mut numbers = [0u32; MOST_NUMBERS];
+    write_rows(numbered, columns, text, s.start, &mut numbers, output);
+    Outcome::Found(s)
+}
+
+fn read(numbered: bool, text: &[u8], output: &mut [u32]) -> Outcome
+    ensures { λ r. ⌜ ListingRead numbered (now (text .entry)) (now (output .entry)) (outcomeSays numbered r) (now (output .exit)) ⌝ }
+{
+    let s = look_through(numbered, text);
+    if s.is_listing {
+        return read_found(numbered, s, text, output);
+    }
+    Outcome::Refused(11)
+}
+
+// Reads a listing in the old form.
+pub fn read_listing(text: &[u8], output: &mut [u32]) -> ListingAnswer
+    ensures { λ r. ⌜ ListingRead false (now (text .entry)) (now (output .entry)) (listingSays r) (now (output .exit)) ⌝ }
+{
+    match read(false, text, output) {
+        Outcome::Refused(number) => ListingAnswer::Refused(number),
+        Outcome::Found(s) => ListingAnswer::Listing(ListingHead {
+            columns: s.columns,
+            keys: s.keys,
+            sort: s.sort,
+            rule: s.rule,
+            generation: s.generation,
+            listed: s.rows,
+        }),
+    }
+}
+
+// Reads a listing in the new form.
+pub fn read_numbered(text: &[u8], output: &mut [u32]) -> NumberedAnswer
+    ensures { λ r. ⌜ ListingRead true (now (text .entry)) (now (output .entry)) (numberedSays r) (now (output .exit)) ⌝ }
+{
+    match read(true, text, output) {
+        Outcome::Refused(number) => NumberedAnswer::Refused(number),
+        Outcome::Found(s) => NumberedAnswer::Listing(NumberedHead {
+            columns: s.columns,
+            keys: s.keys,
+            sort: s.sort,
+            rule: s.rule,
+            generation: s.generation,
+            count: s.count,
+            listed: s.rows,
+        }),
+    }
+}

@@ -1,0 +1,168 @@
+-- A line that `levels` reads is how its letter and numbers are written, and what is written is read back. Assumes nothing.
+use Prim.Native.Nat.{ℕ, suc, _+_, _≤_}
+use mathlib.Core.Path.{_≡_, refl, sym, ap, _∙_}
+use mathlib.Core.Logic.{inl, inr}
+use mathlib.Core.Bool.{true, false, _&&_, false≢true}
+use mathlib.Core.List.{List, [], _∷_, _++_, map, append-nil}
+use native.Mathlib.Omega.{arith}
+use lib.Dec.{leb, eqb}
+use lib.ListN.{length, getD, drop}
+use borrow.Author.Tests.{eqb-true, eqb-false, ne-eqb, le-leb, leb-true}
+use Rattle.lists.specs.Lists.{every, flat, has}
+use Rattle.lists.specs.Laws.Every.{every-head, every-tail}
+use Rattle.lists.specs.Laws.Rising.{has-append}
+use Rattle.lists.specs.Laws.Keep.{split, and-left, and-right}
+use Rattle.levels_text.specs.Lines.{valueFrom, isDecimal, isLine, letter, numbers, fields}
+use Rattle.levels_text.specs.Written.{decimal, field, textLine}
+use Rattle.levels_text.specs.Laws.Lines.{first, others, first-comma, first-more, others-comma, others-more, digit, is-line}
+use Rattle.levels_written.specs.Laws.Decimals.{length-fields}
+use Rattle.levels_written.specs.Laws.Reads.{decimal-value, decimal-read}
+use Rattle.listing_spec.specs.Listings.{areNumbers}
+use Rattle.listing_spec.specs.Laws.Decimals.{decimal-back, decimal-parts}
+
+-- ---- what is read is what was written
+
+-- the fields and the commas between them are the line
+fields-joined : (bytes : List ℕ) → bytes ≡ first bytes ++ flat (map (λ (f : List ℕ). 44 ∷ f) (others bytes))
+unfolding flat
+fields-joined [] = unfold first others fields in refl
+fields-joined (byte ∷ bytes) =
+    elim (split (eqb byte 44)) [
+      | inl e ↦ rw (eqb-true byte 44 e, first-comma bytes, others-comma bytes) (ap (λ (l : List ℕ). 44 ∷ l) (fields-joined bytes))
+      | inr e ↦ rw (first-more byte bytes (eqb-false byte 44 e), others-more byte bytes (eqb-false byte 44 e)) (ap (λ (l : List ℕ). byte ∷ l) (fields-joined bytes))
+    ]
+
+fields-back : (fs : List (List ℕ)) → every isDecimal fs ≡ true → map field (map (valueFrom 0) fs) ≡ map (λ (f : List ℕ). 44 ∷ f) fs
+unfolding field
+fields-back [] e = refl
+fields-back (f ∷ fs) e = rw (decimal-back f (every-head isDecimal f fs e), fields-back fs (every-tail isDecimal f fs e))
+
+fields-fit : (fs : List (List ℕ)) → every isDecimal fs ≡ true → areNumbers (map (valueFrom 0) fs) ≡ true
+unfolding areNumbers every
+fields-fit [] e = refl
+fields-fit (f ∷ fs) e = rw (le-leb (valueFrom 0 f) 4294967295 (decimal-parts f (every-head isDecimal f fs e) .fits)) (fields-fit fs (every-tail isDecimal f fs e))
+
+module _ (line : List ℕ) (e : isLine line ≡ true) where
+  line-decimals : every isDecimal (others line) ≡ true
+  unfolding isLine others
+  line-decimals = and-right (leb (length line) 120 && eqb (length (getD (fields line) 0 [])) 1) (every isDecimal (drop 1 (fields line))) e
+
+  line-letter : length (first line) ≡ 1
+  unfolding isLine first
+  line-letter =
+      eqb-true (length (first line)) 1
+      (and-right (leb (length line) 120) (eqb (length (getD (fields line) 0 [])) 1) (and-left (leb (length line) 120 && eqb (length (getD (fields line) 0 [])) 1) (every isDecimal (drop 1 (fields line))) e))
+
+  pub line-written : line ≡ letter line ∷ flat (map field (numbers line))
+  unfolding numbers others letter
+  line-written = one (first line) line-letter (fields-joined line ∙ ap (λ (l : List (List ℕ)). first line ++ flat l) (sym (fields-back (others line) line-decimals)))
+    where
+      one : (f : List ℕ) {rest : List ℕ} → length f ≡ 1 → line ≡ f ++ rest → line ≡ getD line 0 0 ∷ rest
+      one [] h p = absurd (omega (arith, h))
+      one (x ∷ []) {rest} h p = p ∙ ap (λ (y : ℕ). y ∷ rest) (sym (ap (λ (l : List ℕ). getD l 0 0) p))
+      one (x ∷ y ∷ f) h p = absurd (omega (arith, h))
+
+  pub line-numbers : areNumbers (numbers line) ≡ true
+  unfolding numbers others
+  line-numbers = fields-fit (others line) line-decimals
+
+-- ---- what is written is read back
+
+-- a decimal has neither comma nor newline
+digits-without : (x : ℕ) → digit x ≡ false → (f : List ℕ) → every digit f ≡ true → has x f ≡ false
+unfolding has
+digits-without x other [] e = refl
+digits-without x other (y ∷ f) e =
+    let ne : x ≡ y → ⊥ = λ p. false≢true (sym other ∙ (rw p (every-head digit y f e))) in
+    rw (ne-eqb x y ne) (digits-without x other f (every-tail digit y f e))
+
+decimal-without : (x n : ℕ) → digit x ≡ false → n ≤ 4294967295 → has x (decimal n) ≡ false
+decimal-without x n other fits = digits-without x other (decimal n) (decimal-parts (decimal n) (decimal-read n fits) .digits)
+
+has-tail : (x y : ℕ) (f : List ℕ) → has x (y ∷ f) ≡ false → (y ≡ x → ⊥) × (has x f ≡ false)
+unfolding has
+has-tail x y f e =
+    elim (split (eqb x y)) [
+      | inl p ↦ absurd (false≢true (sym (rw p at e)))
+      | inr p ↦ (λ q. eqb-false x y p (sym q), rw p at e)
+    ]
+
+-- a field without a comma, and what comes behind it
+first-field : (f bytes : List ℕ) → has 44 f ≡ false → first (f ++ bytes) ≡ f ++ first bytes
+first-field [] bytes e = refl
+first-field (x ∷ f) bytes e =
+    let t = has-tail 44 x f e in
+    first-more x (f ++ bytes) (t .0) ∙ ap (λ (l : List ℕ). x ∷ l) (first-field f bytes (t .1))
+
+others-field : (f bytes : List ℕ) → has 44 f ≡ false → others (f ++ bytes) ≡ others bytes
+others-field [] bytes e = refl
+others-field (x ∷ f) bytes e =
+    let t = has-tail 44 x f e in
+    others-more x (f ++ bytes) (t .0) ∙ others-field f bytes (t .1)
+
+module _ (n : ℕ) (ns : List ℕ) (e : areNumbers (n ∷ ns) ≡ true) where
+  numbers-first : n ≤ 4294967295
+  unfolding areNumbers
+  numbers-first = leb-true n 4294967295 (every-head (λ m. leb m 4294967295) n ns e)
+
+  numbers-rest : areNumbers ns ≡ true
+  unfolding areNumbers
+  numbers-rest = every-tail (λ m. leb m 4294967295) n ns e
+
+-- fields one after another
+written-first : (ns : List ℕ) → first (flat (map field ns)) ≡ []
+unfolding flat field
+written-first [] = unfold first fields in refl
+written-first (n ∷ ns) = first-comma (decimal n ++ flat (map field ns))
+
+written-others : (ns : List ℕ) → areNumbers ns ≡ true → others (flat (map field ns)) ≡ map decimal ns
+unfolding flat field
+written-others [] e = unfold others fields in refl
+written-others (n ∷ ns) e =
+    let free = decimal-without 44 n refl (numbers-first n ns e) in
+    others-comma (decimal n ++ flat (map field ns))
+    ∙ rw (first-field (decimal n) (flat (map field ns)) free, others-field (decimal n) (flat (map field ns)) free, written-first ns, append-nil (decimal n), written-others ns (numbers-rest n ns e))
+
+decimals-read : (ns : List ℕ) → areNumbers ns ≡ true → every isDecimal (map decimal ns) ≡ true
+unfolding every
+decimals-read [] e = refl
+decimals-read (n ∷ ns) e = rw (decimal-read n (numbers-first n ns e)) (decimals-read ns (numbers-rest n ns e))
+
+decimals-value : (ns : List ℕ) → areNumbers ns ≡ true → map (valueFrom 0) (map decimal ns) ≡ ns
+decimals-value [] e = refl
+decimals-value (n ∷ ns) e = rw (decimal-value n (numbers-first n ns e), decimals-value ns (numbers-rest n ns e))
+
+fields-without : (ns : List ℕ) → areNumbers ns ≡ true → has 10 (flat (map field ns)) ≡ false
+unfolding flat field has
+fields-without [] e = refl
+fields-without (n ∷ ns) e =
+    rw (has-append 10 (decimal n) (flat (map field ns)), decimal-without 10 n refl (numbers-first n ns e), fields-without ns (numbers-rest n ns e))
+
+-- a line's bytes but its newline
+unfoldable pub lineOf : ℕ → List ℕ → List ℕ
+lineOf letter ns = letter ∷ flat (map field ns)
+
+pub line-ended : (letter : ℕ) (ns : List ℕ) → textLine letter ns ≡ lineOf letter ns ++ (10 ∷ [])
+unfolding textLine lineOf
+line-ended letter ns = refl
+
+module _ (x : ℕ) (ns : List ℕ) (no-comma : x ≡ 44 → ⊥) (e : areNumbers ns ≡ true) where
+  pub read-numbers : numbers (lineOf x ns) ≡ ns
+  unfolding numbers lineOf others
+  read-numbers =
+      ap (map (valueFrom 0)) (others-more x (flat (map field ns)) no-comma ∙ written-others ns e) ∙ decimals-value ns e
+
+  pub read-letter : letter (lineOf x ns) ≡ x
+  unfolding letter lineOf
+  read-letter = refl
+
+  pub read-line : length ns ≤ 9 → isLine (lineOf x ns) ≡ true
+  unfolding lineOf
+  read-line few =
+      is-line (x ∷ flat (map field ns)) (omega (arith, length-fields ns))
+      (ap length (first-more x (flat (map field ns)) no-comma) ∙ ap (λ (l : List ℕ). suc (length l)) (written-first ns))
+      (ap (every isDecimal) (others-more x (flat (map field ns)) no-comma ∙ written-others ns e) ∙ decimals-read ns e)
+
+  pub read-ended : (x ≡ 10 → ⊥) → has 10 (lineOf x ns) ≡ false
+  unfolding lineOf has
+  read-ended no-end = rw (ne-eqb 10 x (λ p. no-end (sym p))) (fields-without ns e)

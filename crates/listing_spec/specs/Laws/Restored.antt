@@ -1,0 +1,243 @@
+-- A listing moved to the other form is of that form, and coming back restores the text. Assumes nothing.
+use Prim.Native.Nat.{ℕ, zero, suc, _+_, _-_, _≤_, _<_}
+use mathlib.Core.Path.{_≡_, refl, sym, ap, ap₂, _∙_}
+use mathlib.Core.Logic.{inl, inr}
+use mathlib.Core.Bool.{Bool, true, false, _&&_, false≢true}
+use mathlib.Core.List.{List, [], _∷_, _++_, map}
+use mathlib.Core.Option.{Option, none, some}
+use native.Mathlib.Decide.{decLt}
+use native.Mathlib.Omega.{arith}
+use lib.Dec.{leb, ltb}
+use lib.ListN.{length, take, drop, getD, length-append, List·getD-append}
+use lib.Seq.{getD-take, length-take-le, getD-at}
+use borrow.Author.Tests.{eq-eqb, le-leb, lt-ltb, le-ltb}
+use Rattle.lists.specs.Lists.{every}
+use Rattle.lists.specs.Laws.Every.{every-head, every-tail, every-cons, every-snoc}
+use Rattle.lists.specs.Laws.Keep.{split, every-getD, every-of}
+use Rattle.lists.specs.Laws.Search.{take-put}
+use Rattle.refusals.specs.Refusals.{rung, first, accepted, reply}
+use Rattle.listing_spec.specs.declared.MoveAnswer.{MoveAnswer}
+use Rattle.listing_spec.specs.declared.MoveAnswer.the-variants.{Written}
+use Rattle.listing_spec.specs.Listings.{Listing, headWidth, lead, listingText, areNumbers, isHead, isRow, isListing, Shows, shows, numberedFrom, toNumbered, fromNumbered, lacksRow, movedText, moveRefusal, moveSays, ListingMoved, Restored, RestoresText}
+use Rattle.listing_spec.specs.Laws.Texts.{RowsFit, Bounded, listing-parts, listing-of, head-wide, head-bounds, row-parts, row-of, fit-none, fit-more, fit-rest, shown-listing, shown-text, shows-determined}
+use Rattle.listing_spec.specs.Laws.Moves.{length-numberedFrom, lacks-none, to-from, from-to}
+
+-- ---- to the new form
+
+numbers-more : (n : ℕ) (ns : List ℕ) → n ≤ 4294967295 → areNumbers ns ≡ true → areNumbers (n ∷ ns) ≡ true
+unfolding areNumbers every
+numbers-more n ns fits e = rw (le-leb n 4294967295 fits) e
+
+row-numbered : (columns n : ℕ) (cells : List ℕ) → isRow false columns cells ≡ true → isRow true columns (n ∷ cells) ≡ true
+unfolding lead
+row-numbered columns n cells e =
+    let p = row-parts false columns 0 cells e in
+    row-of true columns 0 (n ∷ cells) (omega (arith, p .0)) (p .1)
+
+rows-numbered : (columns count n left least count′ : ℕ) (rows : List (List ℕ)) → RowsFit false columns count′ least left rows → n + length rows ≤ count → count ≤ 65536
+    → RowsFit true columns count n left (numberedFrom n rows)
+unfolding numberedFrom
+rows-numbered columns count n left least count′ [] r below few = fit-none true columns count n left
+rows-numbered columns count n left least count′ (cells ∷ rows) r below few =
+    let less : n < count = omega (arith, below) in
+    fit-more true columns count n left (n ∷ cells) (numberedFrom (suc n) rows) (omega (arith, r .few))
+    (numbers-more n cells (omega arith) (every-head areNumbers cells rows (r .fit)))
+    (row-numbered columns n cells (every-head (isRow false columns) cells rows (r .wide)))
+    (λ t. (le-leb n n (omega arith), lt-ltb n count less))
+    (rows-numbered columns count (suc n) (left - 1) (suc (getD cells 0 0)) count′ rows (fit-rest false columns count′ least left cells rows r) (omega (arith, below)) few)
+
+module _ (l : Listing) (e : isListing false l ≡ true) where
+  plain : Bounded false l
+  plain = listing-parts false l e
+
+  five : length (l .head) ≡ 5
+  five = head-wide false (l .head) (plain .head-good) ∙ (unfold headWidth in refl)
+
+  abbrev n : ℕ
+  n = length (l .rows)
+
+  before : (i : ℕ) → i < 5 → getD (l .head ++ (n ∷ [])) i 0 ≡ getD (l .head) i 0
+  before i h = List·getD-append (l .head) (n ∷ []) 0 i (omega (arith, five))
+
+  last : getD (l .head ++ (n ∷ [])) 5 0 ≡ n
+  last = getD-at (l .head) n [] 0 5 five
+
+  head-numbered : isHead true (l .head ++ (n ∷ [])) ≡ true
+  unfolding isHead headWidth
+  head-numbered =
+      let six : length (l .head ++ (n ∷ [])) ≡ 6 = omega (arith, length-append (l .head) (n ∷ []), five) in
+      rw (eq-eqb (length (l .head ++ (n ∷ []))) 6 six, before 0 (omega arith), before 1 (omega arith), before 2 (omega arith), before 3 (omega arith), last, head-bounds false (l .head) (plain .head-good), le-leb n 65536 (plain .rows-fit .few))
+
+  pub to-listing : isListing true (toNumbered l) ≡ true
+  to-listing = listing-of true (toNumbered l) (unfold toNumbered in record { head-fits = fits; head-good = head-numbered; rows-fit = rows })
+    where
+      fits : areNumbers (l .head ++ (n ∷ [])) ≡ true
+      fits = unfold areNumbers in every-snoc (λ m. leb m 4294967295) (l .head) n (plain .head-fits) (le-leb n 4294967295 (omega (arith, plain .rows-fit .few)))
+
+      rows : RowsFit true (getD (l .head ++ (n ∷ [])) 0 0) (getD (l .head ++ (n ∷ [])) 5 0) 0 65536 (numberedFrom 0 (l .rows))
+      rows = rw (before 0 (omega arith), last) (rows-numbered (getD (l .head) 0 0) n 0 65536 0 (getD (l .head) 5 0) (l .rows) (plain .rows-fit) (omega arith) (plain .rows-fit .few))
+
+  pub to-full : lacksRow (toNumbered l) ≡ false
+  to-full = lacks-none (toNumbered l) to-listing (unfold toNumbered in length-numberedFrom 0 (l .rows) ∙ sym last)
+
+-- ---- to the old form
+
+numbers-drop : (ns : List ℕ) → areNumbers ns ≡ true → areNumbers (drop 1 ns) ≡ true
+unfolding areNumbers
+numbers-drop [] e = e
+numbers-drop (n ∷ ns) e = every-tail (λ m. leb m 4294967295) n ns e
+
+row-plain : (columns : ℕ) (ns : List ℕ) → isRow true columns ns ≡ true → isRow false columns (drop 1 ns) ≡ true
+unfolding lead
+row-plain columns [] e = absurd (let p = row-parts true columns 0 [] e in omega (arith, p .0))
+row-plain columns (n ∷ ns) e = let p = row-parts true columns 0 (n ∷ ns) e in row-of false columns 0 ns (omega (arith, p .0)) (p .1)
+
+rows-plain : (columns : ℕ) (rows : List (List ℕ)) → every areNumbers rows ≡ true → every (isRow true columns) rows ≡ true
+    → (every areNumbers (map (drop 1) rows) ≡ true) × (every (isRow false columns) (map (drop 1) rows) ≡ true) × (length (map (drop 1) rows) ≡ length rows)
+rows-plain columns [] a b = (unfold every in refl, unfold every in refl, refl)
+rows-plain columns (ns ∷ rows) a b =
+    let ih = rows-plain columns rows (every-tail areNumbers ns rows a) (every-tail (isRow true columns) ns rows b) in (
+      every-cons areNumbers (drop 1 ns) (map (drop 1) rows) (numbers-drop ns (every-head areNumbers ns rows a)) (ih .0),
+      every-cons (isRow false columns) (drop 1 ns) (map (drop 1) rows) (row-plain columns ns (every-head (isRow true columns) ns rows b)) (ih .1),
+      ap suc (ih .2),
+    )
+
+module _ (l : Listing) (e : isListing true l ≡ true) where
+  numbered-parts : Bounded true l
+  numbered-parts = listing-parts true l e
+
+  six : length (l .head) ≡ 6
+  six = head-wide true (l .head) (numbered-parts .head-good) ∙ (unfold headWidth in refl)
+
+  kept : (i : ℕ) → i < 5 → getD (take 5 (l .head)) i 0 ≡ getD (l .head) i 0
+  kept i h = getD-take 5 (l .head) i 0 h
+
+  long : length (take 5 (l .head)) ≡ 5
+  long = length-take-le 5 (l .head) (omega (arith, six))
+
+  head-plain : isHead false (take 5 (l .head)) ≡ true
+  unfolding isHead headWidth
+  head-plain = rw (eq-eqb (length (take 5 (l .head))) 5 long, kept 0 (omega arith), kept 1 (omega arith), kept 2 (omega arith), kept 3 (omega arith), head-bounds true (l .head) (numbered-parts .head-good))
+
+  head-fits-plain : areNumbers (take 5 (l .head)) ≡ true
+  unfolding areNumbers
+  head-fits-plain =
+      every-of (λ m. leb m 4294967295) 0 (take 5 (l .head))
+      (λ i h. rw (kept i (omega (arith, long))) (every-getD (λ m. leb m 4294967295) (l .head) (numbered-parts .head-fits) i (omega (arith, long, six)) 0))
+
+  pub from-listing : isListing false (fromNumbered l) ≡ true
+  from-listing = listing-of false (fromNumbered l) (unfold fromNumbered in record { head-fits = head-fits-plain; head-good = head-plain; rows-fit = rows })
+    where
+      rows : RowsFit false (getD (take 5 (l .head)) 0 0) (getD (take 5 (l .head)) 5 0) 0 65536 (map (drop 1) (l .rows))
+      rows =
+          let p = rows-plain (getD (l .head) 0 0) (l .rows) (numbered-parts .rows-fit .fit) (numbered-parts .rows-fit .wide) in
+          record {
+            few = omega (arith, p .2, numbered-parts .rows-fit .few);
+            fit = p .0;
+            wide = rw (kept 0 (omega arith)) (p .1);
+            ordered = λ t. absurd (false≢true t);
+          }
+
+-- ---- the texts
+
+pub accepted-number : {bytes : ℕ} (m k : ℕ) → accepted bytes ≡ reply k m → k ≡ 0
+unfolding reply
+accepted-number m zero e = refl
+accepted-number m (suc k) e = absurd (let z : _≡_ {A = ℕ} 0 1 = cc in omega arith)
+
+pub accepted-same : {bytes m : ℕ} → accepted bytes ≡ accepted m → bytes ≡ m
+accepted-same e = cc
+
+-- an accepted move has written the text in the other form
+module _ {numbered : Bool} {text output output′ : List ℕ} {bytes : ℕ} (x : ListingMoved numbered text output (Written bytes) output′) where
+  accepted-move : moveRefusal numbered (x .listing) (length output) ≡ 0
+  unfolding moveSays
+  accepted-move = accepted-number (length (movedText numbered (x .listing))) (moveRefusal numbered (x .listing) (length output)) (x .answers)
+
+  moved-bytes : bytes ≡ length (movedText numbered (x .listing))
+  unfolding moveSays reply
+  moved-bytes = accepted-same (rw accepted-move at (x .answers))
+
+  pub moved-taken : take bytes output′ ≡ movedText numbered (x .listing)
+  moved-taken = rw (moved-bytes, x .written accepted-move) (take-put output (movedText numbered (x .listing)))
+
+no-gap : (l : Listing) (room : ℕ) → moveRefusal true (some l) room ≡ 0 → lacksRow l ≡ false
+unfolding moveRefusal first
+no-gap l room given =
+    elim (split (lacksRow l)) [
+      | inl t ↦ absurd (let z : _≡_ {A = ℕ} 17 0 = rw t at given in omega (arith, z))
+      | inr f ↦ f
+    ]
+
+-- the number of a move back: 2 if the output is shorter than the text, 0 otherwise
+abbrev short : List ℕ → ℕ → ℕ
+short text room = first (rung (ltb room (length text)) 2 ∷ [])
+
+-- a listing whose text in the other form is this one, with nothing to refuse but a short output
+record Back (numbered : Bool) (text : List ℕ) (m : Option Listing) : Type 0 where
+  pub same : movedText numbered m ≡ text
+  pub number : (room : ℕ) → moveRefusal numbered m room ≡ short text room
+
+back-of : (numbered : Bool) (text : List ℕ) (l : Listing) → (numbered && lacksRow l) ≡ false → movedText numbered (some l) ≡ text → Back numbered text (some l)
+back-of numbered text l full e = record { same = e; number = λ room. unfold moveRefusal in rw e (unfold first in rw full) }
+
+come-back : (text : List ℕ) (k : Option Listing) (room : ℕ) → Shows false text k → moveRefusal false k room ≡ 0 → (moved : List ℕ) → moved ≡ movedText false k → (m : Option Listing) → Shows true moved m
+    → Back true text m
+unfolding movedText
+come-back text none room s given moved e m sm = absurd (unfold moveRefusal in omega (arith, given))
+come-back text (some l) room s given moved e m sm =
+    let good = shown-listing s in
+    let there : Shows true moved (some (toNumbered l)) = shows (toNumbered l) (to-listing l good) e in
+    let n : m ≡ some (toNumbered l) = shows-determined true sm there in
+    rw n (back-of true text (toNumbered l) (to-full l good) (ap (listingText false) (from-to l good) ∙ sym (shown-text s)))
+
+come-again : (text : List ℕ) (k : Option Listing) (room : ℕ) → Shows true text k → moveRefusal true k room ≡ 0 → (moved : List ℕ) → moved ≡ movedText true k → (m : Option Listing) → Shows false moved m
+    → Back false text m
+unfolding movedText
+come-again text none room s given moved e m sm = absurd (unfold moveRefusal in omega (arith, given))
+come-again text (some l) room s given moved e m sm =
+    let good = shown-listing s in
+    let there : Shows false moved (some (fromNumbered l)) = shows (fromNumbered l) (from-listing l good) e in
+    let n : m ≡ some (fromNumbered l) = shows-determined false sm there in
+    rw n (back-of false text (fromNumbered l) refl (ap (listingText true) (to-from l good (no-gap l room given)) ∙ sym (shown-text s)))
+
+module _ (text : List ℕ) (room : ℕ) where
+  short-none : length text ≤ room → short text room ≡ 0
+  unfolding first
+  short-none long = rw (le-ltb room (length text) long)
+
+  short-some : room < length text → 0 < short text room
+  unfolding first
+  short-some less = rw (lt-ltb room (length text) less) (omega arith)
+
+-- so the move back restores the text
+restored : {numbered : Bool} {text moved again again′ : List ℕ} {answer : MoveAnswer} (y : ListingMoved numbered moved again answer again′) → Back numbered text (y .listing)
+    → Restored text again answer again′
+restored {text = text} {again = again} y b =
+    let n = b .number (length again) in
+    record {
+      answers = y .answers ∙ ap₂ (λ (k : ℕ) (t : List ℕ). reply k (length t)) n (b .same);
+      written = λ long. rw (← b .same) (y .written (n ∙ short-none text (length again) long));
+      unchanged = λ less. y .unchanged (rw n (short-some text (length again) less));
+    }
+
+-- "coming back restores the text exactly"
+pub there-and-back : RestoresText false
+there-and-back text output output′ again again′ bytes answer x y =
+    restored y (come-back text (x .listing) (length output) (x .shown) (accepted-move x) _ (moved-taken x) (y .listing) (y .shown))
+
+-- "New to old and again to new restores it too wherever it is accepted"
+pub back-and-there : RestoresText true
+back-and-there text output output′ again again′ bytes answer x y =
+    restored y (come-again text (x .listing) (length output) (x .shown) (accepted-move x) _ (moved-taken x) (y .listing) (y .shown))
+
+-- a move back that is accepted has written the text
+pub restored-taken : {text again again′ : List ℕ} {bytes : ℕ} → Restored text again (Written bytes) again′ → take bytes again′ ≡ text
+unfolding moveSays reply
+restored-taken {text} {again} {again′} {bytes} r =
+    let zero = accepted-number (length text) (short text (length again)) (r .answers) in
+    let long : bytes ≡ length text = accepted-same (r .answers ∙ ap (λ (k : ℕ). reply k (length text)) zero) in
+    rw (long, r .written (room-enough zero)) (take-put again text)
+  where
+    room-enough : short text (length again) ≡ 0 → length text ≤ length again
+    room-enough e = elim (decLt (length again) (length text)) [ yes h ↦ absurd (omega (arith, short-some text (length again) h)) | no h ↦ omega arith ]

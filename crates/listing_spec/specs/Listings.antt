@@ -1,0 +1,188 @@
+-- Listings as text (document 01, "The program `levels`"; document 02, change 11): the form that L prints, and the new form, which
+-- keeps row numbers. Where a definition takes a Bool, it says whether the form is the new one; for a move it is the form that the
+-- text is moved from. What L and U print is such a text (`levels_spec` laws `plain-listed`, `numbered-listed`). Bytes are numbers, in
+-- ASCII. Assumes nothing.
+--
+-- In the old form and in the new, of the same table:
+--
+--     T,4,2,3,1,0         U,4,2,3,1,0,1
+--     D,7,1,163,12        D,0,7,1,163,12
+--
+-- The text U,4,2,3,1,0,3 D,2,7,1,163,12 is of the new form too, but numbers 0 and 1 have no row: 17 on the way to the old form.
+use Prim.Native.Nat.{ℕ, suc, _+_, _≤_, _<_}
+use mathlib.Core.Path.{_≡_}
+use mathlib.Core.Bool.{Bool, true, false, cond, not, _&&_}
+use mathlib.Core.List.{List, [], _∷_, _++_, map}
+use mathlib.Core.Option.{Option, none, some}
+use lib.ListN.{length, take, drop, getD}
+use lib.Dec.{leb, ltb, eqb}
+use Rattle.lists.specs.Lists.{putAt, every, flat, countFrom, rising, has}
+use Rattle.refusals.specs.Refusals.{rung, first, Reply, refused, accepted, reply}
+use Rattle.levels_text.specs.Written.{textLine}
+use Rattle.listing_spec.specs.declared.ListingAnswer.{ListingAnswer}
+use Rattle.listing_spec.specs.declared.ListingAnswer.the-variants.{Refused as ReadRefused, Listing as Read}
+use Rattle.listing_spec.specs.declared.NumberedAnswer.{NumberedAnswer}
+use Rattle.listing_spec.specs.declared.NumberedAnswer.the-variants.{Refused as NumberedRefused, Listing as NumberedRead}
+use Rattle.listing_spec.specs.declared.MoveAnswer.{MoveAnswer}
+use Rattle.listing_spec.specs.declared.MoveAnswer.the-variants.{Refused as MoveRefused, Written as MoveWritten}
+
+-- a listing: the numbers of its head line, and those of each D line
+pub record Listing : Type 0 where
+  pub head : List ℕ
+  pub rows : List (List ℕ)
+
+-- the head line: "columns, keys, sort, rule, generation" behind T (84); in the new form it "is U in place of T with the row count
+-- added as a last field" (U is 85)
+unfoldable pub headLetter : Bool → ℕ
+headLetter numbered = cond numbered 85 84
+
+unfoldable pub headWidth : Bool → ℕ
+headWidth numbered = cond numbered 6 5
+
+-- how many numbers stand before a row's cells: "each D line has the row number as its first field after D"
+unfoldable pub lead : Bool → ℕ
+lead numbered = cond numbered 1 0
+
+-- its text: "each line ends in one newline" (D is 68)
+unfoldable pub listingText : Bool → Listing → List ℕ
+listingText numbered l = textLine (headLetter numbered) (l .head) ++ flat (map (textLine 68) (l .rows))
+
+-- "all fields are decimals": the numbers that fields can show. How they are written is how `levels` reads them (law
+-- `decimal-back`).
+unfoldable pub areNumbers : List ℕ → Bool
+areNumbers ns = every (λ n. leb n 4294967295) ns
+
+-- "the head's numbers keep test 1's bounds": 1 to 8 columns, 1 to that many keys, a sort column, rules 0 to 3
+unfoldable pub keepsBounds : ℕ → ℕ → ℕ → ℕ → Bool
+keepsBounds columns keys sort rule =
+    leb 1 columns && leb columns 8 && leb 1 keys && leb keys columns && ltb sort columns && leb rule 3
+
+-- ".. row count at most 65,536"
+unfoldable pub isHead : Bool → List ℕ → Bool
+isHead numbered ns =
+    eqb (length ns) (headWidth numbered)
+    && keepsBounds (getD ns 0 0) (getD ns 1 0) (getD ns 2 0) (getD ns 3 0)
+    && cond numbered (leb (getD ns 5 0) 65536) true
+
+-- "each D line has one cell for each column, its first cell is not 4294967295"
+unfoldable pub isRow : Bool → ℕ → List ℕ → Bool
+isRow numbered columns ns =
+    eqb (length ns) (lead numbered + columns) && not (eqb (getD ns (lead numbered) 0) 4294967295)
+
+-- the row numbers of a listing in the new form
+unfoldable pub rowNumbers : List (List ℕ) → List ℕ
+rowNumbers rows = map (λ ns. getD ns 0 0) rows
+
+-- "Numbers rise strictly and are below the count"
+unfoldable pub areNumbered : ℕ → List (List ℕ) → Bool
+areNumbered count rows = rising (rowNumbers rows) && every (λ n. ltb n count) (rowNumbers rows)
+
+-- a listing of a form: "rows .. at most 65,536"
+unfoldable pub isListing : Bool → Listing → Bool
+isListing numbered l =
+    areNumbers (l .head)
+    && every areNumbers (l .rows)
+    && isHead numbered (l .head)
+    && leb (length (l .rows)) 65536
+    && every (isRow numbered (getD (l .head) 0 0)) (l .rows)
+    && cond numbered (areNumbered (getD (l .head) 5 0) (l .rows)) true
+
+-- the listing of a form that a text is the text of, if there is one
+pub data Shows (numbered : Bool) (text : List ℕ) : Option Listing → Type 0 where
+  shows : (l : Listing) → isListing numbered l ≡ true → text ≡ listingText numbered l → Shows numbered text (some l)
+  shows-none : ((l : Listing) → isListing numbered l ≡ true → text ≡ listingText numbered l → ⊥) → Shows numbered text none
+
+-- ---- readers
+
+-- "write each row's cells in turn, in the new form after its number"
+unfoldable pub cellsIn : Option Listing → List ℕ
+cellsIn none = []
+cellsIn (some l) = flat (l .rows)
+
+-- "11, a text not of the form named, .. then 2, an output shorter than what is to be written"
+unfoldable pub readRefusal : Option Listing → ℕ → ℕ
+readRefusal none output = 11
+readRefusal (some l) output = first (rung (ltb output (length (flat (l .rows)))) 2 ∷ [])
+
+-- "give the head's numbers"; added to them is how many rows are listed, for the caller to find the end of the cells
+unfoldable pub told : Option Listing → List ℕ
+told none = []
+told (some l) = l .head ++ (length (l .rows) ∷ [])
+
+-- what an answer says
+unfoldable pub listingSays : ListingAnswer → Reply (List ℕ)
+listingSays (ReadRefused n) = refused n
+listingSays (Read h) =
+    accepted (h .columns ∷ h .keys ∷ h .sort ∷ h .rule ∷ h .generation ∷ h .listed ∷ [])
+
+unfoldable pub numberedSays : NumberedAnswer → Reply (List ℕ)
+numberedSays (NumberedRefused n) = refused n
+numberedSays (NumberedRead h) =
+    accepted (h .columns ∷ h .keys ∷ h .sort ∷ h .rule ∷ h .generation ∷ h .count ∷ h .listed ∷ [])
+
+-- What either reader promises: the cells at the start of the output, and nothing changed past them; on refusal nothing changed at
+-- all.
+pub record ListingRead (numbered : Bool) (text output : List ℕ) (says : Reply (List ℕ)) (output′ : List ℕ) : Type 0 where
+  pub listing : Option Listing
+  pub shown : Shows numbered text listing
+  pub answers : says ≡ reply (readRefusal listing (length output)) (told listing)
+  pub written : readRefusal listing (length output) ≡ 0 → output′ ≡ putAt output 0 (cellsIn listing)
+  pub unchanged : 0 < readRefusal listing (length output) → output′ ≡ output
+
+-- ---- moves
+
+-- "Old to new numbers the rows from 0"
+unfoldable pub numberedFrom : ℕ → List (List ℕ) → List (List ℕ)
+numberedFrom n [] = []
+numberedFrom n (cells ∷ rows) = (n ∷ cells) ∷ numberedFrom (suc n) rows
+
+unfoldable pub toNumbered : Listing → Listing
+toNumbered l = record { head = l .head ++ (length (l .rows) ∷ []); rows = numberedFrom 0 (l .rows) }
+
+-- new to old: the count and the numbers are left out
+unfoldable pub fromNumbered : Listing → Listing
+fromNumbered l = record { head = take 5 (l .head); rows = map (drop 1) (l .rows) }
+
+-- "some number below the count has no row"
+unfoldable pub lacksRow : Listing → Bool
+lacksRow l = not (every (λ n. has n (rowNumbers (l .rows))) (countFrom 0 (getD (l .head) 5 0)))
+
+-- the text in the other form of a listing in this one
+unfoldable pub movedText : Bool → Option Listing → List ℕ
+movedText numbered none = []
+movedText numbered (some l) = cond numbered (listingText false (fromNumbered l)) (listingText true (toNumbered l))
+
+-- "After 11, a text not of the form named, comes 17, given on the way to the old form exactly when some number below the count has
+-- no row, then 2, an output shorter than what is to be written"
+unfoldable pub moveRefusal : Bool → Option Listing → ℕ → ℕ
+moveRefusal numbered none output = 11
+moveRefusal numbered (some l) output =
+    first (rung (numbered && lacksRow l) 17 ∷ rung (ltb output (length (movedText numbered (some l)))) 2 ∷ [])
+
+-- what an answer says: how many bytes were written, for the caller to find the end of the text
+unfoldable pub moveSays : MoveAnswer → Reply ℕ
+moveSays (MoveRefused n) = refused n
+moveSays (MoveWritten bytes) = accepted bytes
+
+-- What a move from this form to the other promises: the text at the start of the output, its length as the answer, and nothing
+-- changed past it; on refusal nothing changed at all.
+pub record ListingMoved (numbered : Bool) (text output : List ℕ) (answer : MoveAnswer) (output′ : List ℕ) : Type 0 where
+  pub listing : Option Listing
+  pub shown : Shows numbered text listing
+  pub answers : moveSays answer ≡ reply (moveRefusal numbered listing (length output)) (length (movedText numbered listing))
+  pub written : moveRefusal numbered listing (length output) ≡ 0 → output′ ≡ putAt output 0 (movedText numbered listing)
+  pub unchanged : 0 < moveRefusal numbered listing (length output) → output′ ≡ output
+
+-- What a move back gives: the text again, at the start of the output. It is refused by no number but 2, and by 2 exactly if the output
+-- is shorter than the text.
+pub record Restored (text output : List ℕ) (answer : MoveAnswer) (output′ : List ℕ) : Type 0 where
+  pub answers : moveSays answer ≡ reply (first (rung (ltb (length output) (length text)) 2 ∷ [])) (length text)
+  pub written : length text ≤ length output → output′ ≡ putAt output 0 text
+  pub unchanged : length output < length text → output′ ≡ output
+
+-- "coming back restores the text exactly", where the text was moved from the old form; "New to old and again to new restores it too
+-- wherever it is accepted": a text moved to the other form, and what was written moved back, is the text again.
+abbrev pub RestoresText : Bool → Type 0
+RestoresText numbered =
+    (text output output′ again again′ : List ℕ) (bytes : ℕ) (answer : MoveAnswer) → ListingMoved numbered text output (MoveWritten bytes) output′
+    → ListingMoved (not numbered) (take bytes output′) again answer again′ → Restored text again answer again′

@@ -1,0 +1,39 @@
+-- `merge_append::insert_new` meets its contract. Assumes nothing.
+use mathlib.Core.Path.{sym, ap, _∙_}
+use native.Mathlib.Omega.{arith}
+use borrow.Author.Needs.{needs}
+use Rattle.key_index.specs.declared.Keyed.{Keyed}
+use Rattle.merge_append.proofs.AppendSteps.{stop-of, entered-of, Entering, entering, rebuilds, stayed-of, grew-stepped, grew-rebuilt}
+use Rattle.merge_append.proofs.insert_new.Statement.{statement}
+use Rattle.merge_append.proofs.insert_new.Tie as tie
+
+enters : (c : tie.After-entries) → let a = c .before .before .before .before .before .before .before .before .before .before .before .before .args in Entering (a .h) (a .rows .now) (a .keys .now) (a .cells .now)
+enters c = entering (c .before .before .before .before .before .before .before .before .before .before .before .before .pre) (entered-of _ _ _ _ _ (c .before .before .before .before .admit .ensures) _ (c .entries .given .1) .room)
+
+returns : tie.Need-returns
+returns c = grew-rebuilt _ _ _ _ _ _ _ _ (entered-of _ _ _ _ _ (c .before .before .before .before .before .before .before .before .before .before .before .before .before .before .before .before .before .admit .ensures) _ (c .before .before .before .before .before .before .before .before .before .before .before .before .before .entries .given .1)) _ _ (c .before .keys .given) (c .before .before .before .before .before .before .before .before .before .write-row .ensures) (sym (c .before .before .before .before .before .before .is-outgrown .ensures) ∙ c .before .before .before .before .before .if1 .taken) _ (c .before .before .rebuild-grown .ensures)
+
+returns-2 : tie.Need-returns-2
+returns-2 c = stayed-of _ _ _ _ _ _ _ (stop-of _ _ _ _ _ (c .before .before .before .before .before .admit .ensures) _ (c .before .number .given .1))
+
+returns-3 : tie.Need-returns-3
+returns-3 c = grew-stepped _ _ _ _ _ _ _ _ (entered-of _ _ _ _ _ (c .before .before .before .before .before .before .before .before .before .before .before .before .before .before .before .before .before .before .admit .ensures) _ (c .before .before .before .before .before .before .before .before .before .before .before .before .before .before .entries .given .1)) _ _ (c .before .before .keys2 .given) (c .before .before .before .before .before .before .before .before .before .before .write-row .ensures) (sym (c .before .before .before .before .before .before .before .is-outgrown .ensures) ∙ c .before .before .before .before .before .before .if1 .left) _ (c .before .before .before .before .before .keyed .ensures) _ (c .before .before .before .put .ensures) _ (c .grown .ensures)
+
+pub insert-new-spec : {M : Type 1} → statement M
+insert-new-spec =
+    tie.close
+    (tie.spec
+    (λ c. search needs) (λ c. search needs) (λ c. search needs) (λ c κs. search needs) (λ c. search needs) (λ c. search needs)
+    (λ c. omega (arith, enters (c .before .before .before))) (λ c. omega (arith, enters (c .before .before .before)))
+    (λ c κs. omega (arith, enters (c .before .before .before))) (λ c κs. omega (arith, enters (c .before .before .before .before .before .before)))
+    (λ c κs. rebuilds (enters (c .before .before .before .before .before .before .before .before .before .before)) _ (c .before .before .before .before .before .rows .given) 0 (omega arith))
+    (λ c. search needs) (λ c. search needs) (λ c. search needs)
+    returns
+    (λ c κs. search needs)
+    (λ c κs. omega (arith, ap (λ (t : Keyed). t .room) (c .before .keyed .ensures), enters (c .before .before .before .before .before .before .before .before .before .before)))
+    (λ c κs. omega (arith, enters (c .before .before .before .before .before .before .before .before .before .before .before .before .before)))
+    (λ c. search needs)
+    returns-2
+    (λ c. search needs) (λ c. search needs)
+    (λ c. entered-of _ _ _ _ _ (c .before .before .before .before .before .before .before .before .before .before .before .before .before .before .before .before .before .before .admit .ensures) _ (c .before .before .before .before .before .before .before .before .before .before .before .before .before .before .entries .given .1) .same)
+    returns-3)

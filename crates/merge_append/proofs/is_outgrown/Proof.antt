@@ -1,0 +1,14 @@
+-- `merge_append::is_outgrown` meets its contract. Assumes nothing.
+use borrow.Author.Needs.{needs}
+use Rattle.merge_append.specs.inner.Appending.{outgrown}
+use Rattle.merge_append.proofs.is_outgrown.Statement.{statement}
+use Rattle.merge_append.proofs.is_outgrown.Tie as tie
+
+returns : tie.Need-returns
+unfolding outgrown
+returns c = rw (c .before .room-for .ensures, c .room-for2 .ensures)
+
+pub is-outgrown-spec : {M : Type 1} → statement M
+is-outgrown-spec =
+    tie.close
+    (tie.spec (λ c. search needs) (λ c κs. search needs) (λ c κs. search needs) returns)

@@ -1,0 +1,22 @@
+-- `merge_append::rebuild_grown` meets its contract. Assumes nothing.
+use mathlib.Core.Path.{ap}
+use borrow.Author.Needs.{needs}
+use Rattle.merge_append.specs.declared.Insertion.the-variants.{Appended}
+use Rattle.merge_append.proofs.AppendSteps.{rebuildable, rebuilt-grown}
+use Rattle.merge_append.proofs.rebuild_grown.Statement.{statement}
+use Rattle.merge_append.proofs.rebuild_grown.Tie as tie
+
+rebuild-requires : tie.Need-rebuild-requires
+rebuild-requires c κs = let s = c .before .before .before .before .before in rebuildable _ _ _ _ _ _ (s .pre) _ (c .before .before .grown .ensures) _ (c .before .keyed .ensures)
+
+returns : tie.Need-returns
+returns c =
+    record {
+      answer = ap Appended (c .before .before .before .before .before .grown .ensures);
+      rebuilt = rebuilt-grown (c .before .before .before .before .before .before .before .before .args .h) _ _ _ _ _ _ (c .before .before .before .before .before .grown .result) (c .before .before .before .before .before .grown .ensures) _ (c .before .before .before .before .keyed .ensures) (c .before .before .rebuild .ensures);
+    }
+
+pub rebuild-grown-spec : {M : Type 1} → statement M
+rebuild-grown-spec =
+    tie.close
+    (tie.spec (λ c κs. search needs) (λ c κs. search needs) rebuild-requires (λ c. search needs) returns)

@@ -1,0 +1,64 @@
+-- `merge_append::replace_row` meets its contract. Assumes nothing.
+use Prim.Native.Nat.{ℕ, _*_}
+use mathlib.Core.Path.{sym, ap, _∙_}
+use mathlib.Core.List.{List}
+use native.Mathlib.Omega.{arith}
+use lib.ListN.{length, length-set}
+use borrow.Author.Needs.{needs}
+use Rattle.lists.specs.Lists.{putAt}
+use Rattle.merge_append.specs.Laws.Places.{Placed, placed}
+use Rattle.merge_append.proofs.AppendSteps.{stop-of, entered-of, Entering, entering, rebuilds, stayed-of, replaced-stepped, replaced-rebuilt}
+use Rattle.merge_append.proofs.replace_row.Statement.{statement}
+use Rattle.merge_append.proofs.replace_row.Tie as tie
+
+enters : (c : tie.After-entries) → let a = c .before .before .before .before .before .before .before .before .before .before .before .before .args in Entering (a .h) (a .rows .now) (a .keys .now) (a .cells .now)
+enters c = entering (c .before .before .before .before .before .before .before .before .before .before .before .before .pre .0) (entered-of _ _ _ _ _ (c .before .before .before .before .admit .ensures) _ (c .entries .given .1) .room)
+
+-- the old row's place
+old-place : (c : tie.After-entries) → let a = c .before .before .before .before .before .before .before .before .before .before .before .before .args in Placed (a .h) (a .rows .now) (a .old)
+old-place c = let s = c .before .before .before .before .before .before .before .before .before .before .before .before in placed _ _ _ (s .pre .0 .fits) _ (omega (arith, s .pre .1, enters c .room))
+
+write-row-requires : tie.Need-write-row-requires
+write-row-requires c κs =
+    let a = c .before .before .before .before .before .before .before .before .before .before .before .before .before .before .before .before .before .before .before .before .args in
+    omega (arith, enters (c .before .before .before .before .before .before .before .before), ap length (c .before .before .before .before .set-stale .ensures .cells) ∙ length-set (a .rows .now) (a .old * a .h .columns) 4294967295)
+
+returns : tie.Need-returns
+returns c =
+    let a = c .before .before .before .before .before .before .before .before .before .before .before .before .before .before .before .before .before .before .before .before .before .before .before .before .before .before .before .before .before .before .args in
+    replaced-rebuilt _ _ _ _ _ _ _ _ (entered-of _ _ _ _ _ (c .before .before .before .before .before .before .before .before .before .before .before .before .before .before .before .before .before .before .before .before .before .before .admit .ensures) _ (c .before .before .before .before .before .before .before .before .before .before .before .before .before .before .before .before .before .before .entries .given .1)) _ _ (c .before .keys .given) (a .old) (a .slot)
+    (c .before .before .before .before .before .before .before .before .before .write-row .ensures ∙ ap (λ (l : List ℕ). putAt l (a .h .rows * a .h .columns) (a .cells .now)) (c .before .before .before .before .before .before .before .before .before .before .before .before .before .before .set-stale .ensures .cells))
+    (sym (c .before .before .before .before .before .before .is-outgrown .ensures) ∙ c .before .before .before .before .before .if1 .taken) _ (c .before .before .rebuild-grown .ensures)
+
+returns-2 : tie.Need-returns-2
+returns-2 c = stayed-of _ _ _ _ _ _ _ (stop-of _ _ _ _ _ (c .before .before .before .before .before .admit .ensures) _ (c .before .number .given .1))
+
+returns-3 : tie.Need-returns-3
+returns-3 c =
+    let s = c .before .before .before .before .before .before .before .before .before .before .before .before .before .before .before .before .before .before .before .before .before .before .before .before .before .before .before .before .before .before in
+    let a = s .args in
+    replaced-stepped _ _ _ _ _ _ _ _ (entered-of _ _ _ _ _ (c .before .before .before .before .before .before .before .before .before .before .before .before .before .before .before .before .before .before .before .before .before .before .admit .ensures) _ (c .before .before .before .before .before .before .before .before .before .before .before .before .before .before .before .before .before .before .entries .given .1)) _ _ (c .before .before .keys2 .given) (a .old) (a .slot)
+    (c .before .before .before .before .before .before .before .before .before .write-row .ensures ∙ ap (λ (l : List ℕ). putAt l (a .h .rows * a .h .columns) (a .cells .now)) (c .before .before .before .before .before .before .before .before .before .before .before .before .before .before .set-stale .ensures .cells))
+    (sym (c .before .before .before .before .before .before .is-outgrown .ensures) ∙ c .before .before .before .before .before .if1 .left) (s .pre .2) (c .before .before .before .replace .ensures) _ (c .grown .ensures)
+
+pub replace-row-spec : {M : Type 1} → statement M
+replace-row-spec =
+    tie.close
+    (tie.spec
+    (λ c. search needs) (λ c. search needs) (λ c. search needs) (λ c κs. search needs) (λ c. search needs) (λ c. search needs)
+    (λ c. omega (arith, old-place (c .before .before .before))) (λ c. omega (arith, old-place (c .before .before .before)))
+    (λ c κs. omega (arith, old-place (c .before .before .before), enters (c .before .before .before) .fits .some-columns))
+    (λ c. omega (arith, enters (c .before .before .before .before .before .before .before .before))) (λ c. omega (arith, enters (c .before .before .before .before .before .before .before .before)))
+    write-row-requires
+    (λ c κs. omega (arith, enters (c .before .before .before .before .before .before .before .before .before .before .before)))
+    (λ c κs. rebuilds (enters (c .before .before .before .before .before .before .before .before .before .before .before .before .before .before .before)) _ (c .before .before .before .before .before .rows2 .given ∙ c .before .before .before .before .before .before .before .before .before .before .rows .given) 1 (omega arith))
+    (λ c. search needs) (λ c. search needs)
+    (λ c. entered-of _ _ _ _ _ (c .before .before .before .before .before .before .before .before .before .before .before .before .before .before .before .before .before .before .before .before .before .before .admit .ensures) _ (c .before .before .before .before .before .before .before .before .before .before .before .before .before .before .before .before .before .before .entries .given .1) .same)
+    returns
+    (λ c κs. omega (arith, enters (c .before .before .before .before .before .before .before .before .before .before .before .before .before .before), c .before .before .before .before .before .before .before .before .before .before .before .before .before .before .before .before .before .before .before .before .before .before .before .before .before .before .pre .2))
+    (λ c κs. omega (arith, enters (c .before .before .before .before .before .before .before .before .before .before .before .before .before .before .before .before .before)))
+    (λ c. search needs)
+    returns-2
+    (λ c. search needs) (λ c. search needs)
+    (λ c. entered-of _ _ _ _ _ (c .before .before .before .before .before .before .before .before .before .before .before .before .before .before .before .before .before .before .before .before .before .before .admit .ensures) _ (c .before .before .before .before .before .before .before .before .before .before .before .before .before .before .before .before .before .before .entries .given .1) .same)
+    returns-3)

@@ -1,0 +1,243 @@
+-- A row is appended to the rows of a plain table, of which one may have died: what its stores hold then, and that they show
+-- the table with the row. Assumes nothing.
+use Prim.Native.Nat.{ℕ, _+_, _*_, _≤_, _<_}
+use mathlib.Core.Path.{_≡_, refl, sym, ap, ap₂, _∙_}
+use mathlib.Core.Bool.{true, cond, not}
+use mathlib.Core.List.{List, [], _∷_, _++_, map, append-nil, map-append}
+use native.Mathlib.Nat.{add-zero, suc-mul}
+use native.Mathlib.Numerals.{add-one}
+use native.Mathlib.Omega.{arith}
+use lib.ListN.{length, take, drop, getD, set, length-append, length-map, length-set, List·getD-append}
+use lib.Seq.{drop-drop, drop-set-lt}
+use Rattle.lists.specs.Lists.{putAt, count, rowsOf, flat}
+use Rattle.lists.specs.Laws.Keep.{count-append}
+use Rattle.lists.specs.Laws.Parts.{length-putAt, putAt-start}
+use Rattle.lists.specs.Laws.Rows.{row-in, length-rowsOf, getD-rowsOf, rowsOf-appended, flat-rowsOf, flat-append}
+use Rattle.key_index.specs.Slots.{KeysSound}
+use Rattle.row_buffer.specs.Laws.Rows.{stale-rows}
+use Rattle.sort_entries.specs.Entries.{Entry, entriesOf, entryWords, push, rebuilt}
+use Rattle.sort_entries.specs.Laws.Push.{rebuilt-snoc}
+use Rattle.sort_entries.specs.Laws.Stores.{length-entriesOf}
+use Rattle.plain_table.specs.Plain.{Row, Plain, withRows, withRow, dead}
+use Rattle.plain_table.specs.Proper.{Proper, rowOf}
+use Rattle.plain_table.specs.Laws.Rows.{noRow, liveRow, live-below, raised-same}
+use Rattle.plain_table.specs.Laws.Proper.{openable-bounds}
+use Rattle.table.specs.declared.Header.{Header}
+use Rattle.table.specs.declared.Largest.the-variants.{Value}
+use Rattle.table.specs.Numbers.{largestOf}
+use Rattle.table.specs.Stores.{entries, headerOf, marked, stored, rowStore, sortStore}
+use Rattle.table.specs.Sound.{keyedOf}
+use Rattle.table.specs.Promises.{Stores, stores, lengths, Represents}
+use Rattle.merge_pending.specs.inner.Becoming.{Later, Becomes, withCounts}
+use Rattle.merge_append.specs.inner.Appending.{Entered, grownTo}
+use Rattle.merge_append.specs.Laws.Admission.{free-above}
+use Rattle.table.specs.Laws.Sound.{says-of}
+use Rattle.table.specs.Laws.Stored.{stored-again}
+use Rattle.table.specs.Laws.Shown.{long-stores, stored-rows, represents-long, rows-stored, rows-counted}
+use Rattle.merge_pending.specs.Laws.Dying.{killAt, length-killAt, killAt-cells, killAt-live, entries-killAt, stored-killAt}
+
+-- ---- one row more
+
+-- as stored
+pub stored-snoc : (rows : List Row) (cells : List ℕ) (before : List (List ℕ)) → length before ≡ length rows
+    → stored (rows ++ (liveRow cells ∷ [])) before ≡ stored rows before ++ (cells ∷ [])
+unfolding stored
+stored-snoc [] cells [] n = refl
+stored-snoc [] cells (old ∷ before) n = absurd (omega arith)
+stored-snoc (row ∷ rows) cells [] n = absurd (omega arith)
+stored-snoc (row ∷ rows) cells (old ∷ before) n =
+    ap (λ (rs : List (List ℕ)). cond (row .live) (row .cells) (marked old) ∷ rs) (stored-snoc rows cells before (omega arith))
+
+-- its sort entry
+pub entries-snoc : (p : Plain) (rows : List Row) (cells : List ℕ)
+    → entries (withRow p rows cells) ≡ push (getD cells (p .opening .sort) 0) (length rows) (entries (withRows p rows))
+unfolding entries
+entries-snoc p rows cells =
+    let sorts : Row → ℕ = λ row. getD (row .cells) (p .opening .sort) 0 in
+    ap rebuilt (map-append sorts rows (liveRow cells ∷ []))
+    ∙ rebuilt-snoc (map sorts rows) (getD cells (p .opening .sort) 0)
+    ∙ ap (λ (n : ℕ). push (getD cells (p .opening .sort) 0) n (rebuilt (map sorts rows))) (length-map rows sorts)
+
+-- no dead row more
+pub dead-snoc : (p : Plain) (rows : List Row) (cells : List ℕ) → dead (withRow p rows cells) ≡ dead (withRows p rows)
+unfolding dead
+dead-snoc p rows cells =
+    count-append (λ (row : Row). not (row .live)) rows (liveRow cells ∷ [])
+    ∙ unfold count in add-zero (count (λ (row : Row). not (row .live)) rows)
+
+-- ---- the rows that it comes after
+
+-- the rows, some dead now, and the row store in which those are marked
+pub record Prepared (p : Plain) (s : Stores) (kept : List Row) (base : List ℕ) : Type 0 where
+  pub count-same : length kept ≡ length (p .rows)
+  pub cells-same : (i : ℕ) → getD kept i noRow .cells ≡ getD (p .rows) i noRow .cells
+  pub was-live : (i : ℕ) → getD kept i noRow .live ≡ true → getD (p .rows) i noRow .live ≡ true
+  pub entries-same : entries (withRows p kept) ≡ entries p
+  pub rows-same : rowsOf (s .header .columns) (s .header .rows) base ≡ stored kept (rowsOf (s .header .columns) (s .header .rows) (s .rows))
+  pub past : drop (s .header .rows * s .header .columns) base ≡ drop (s .header .rows * s .header .columns) (s .rows)
+  pub long : length base ≡ length (s .rows)
+
+module _ {p : Plain} {s : Stores} (r : Represents p s) where
+  columns-same : s .header .columns ≡ p .opening .columns
+  columns-same = ap (λ (h : Header). h .columns) (r .shown .header)
+
+  capacity-same : s .header .capacity ≡ p .opening .capacity
+  capacity-same = ap (λ (h : Header). h .capacity) (r .shown .header)
+
+  some-columns : 0 < s .header .columns
+  some-columns = omega (arith, columns-same, openable-bounds (p .opening) (r .proper .numbers) .columns-some)
+
+  -- all rows as they were
+  pub prepared-same : Prepared p s (p .rows) (s .rows)
+  unfolding entries
+  prepared-same =
+      record {
+        count-same = refl;
+        cells-same = λ i. refl;
+        was-live = λ i e. e;
+        entries-same = refl;
+        rows-same = sym (rows-stored r);
+        past = refl;
+        long = refl;
+      }
+
+  -- one has died
+  pub prepared-dead : (i : ℕ) → rowOf p i .live ≡ true → Prepared p s (killAt i (p .rows)) (set (s .rows) (i * s .header .columns) 4294967295)
+  prepared-dead i live =
+      let w : ℕ = s .header .columns in
+      let n : ℕ = s .header .rows in
+      let below : i < n = omega (arith, rows-counted r, live-below (p .rows) i live) in
+      let before : List (List ℕ) = rowsOf w n (s .rows) in
+      record {
+        count-same = length-killAt i (p .rows);
+        cells-same = killAt-cells i (p .rows);
+        was-live = killAt-live i (p .rows);
+        entries-same = entries-killAt p i;
+        rows-same =
+            stale-rows w n i (s .rows) some-columns below
+            ∙ sym (stored-killAt i (p .rows) before (live-below (p .rows) i live) (omega (arith, below, length-rowsOf w n (s .rows)))
+            ∙ ap₂ (λ (rows : List (List ℕ)) (row : List ℕ). set rows i (marked row)) (rows-stored r) (getD-rowsOf w n (s .rows) i below));
+        past = drop-set-lt (n * w) (s .rows) (i * w) 4294967295 (omega (arith, row-in i n w below, some-columns));
+        long = length-set (s .rows) (i * w) 4294967295;
+      }
+
+  -- the row and those before it lie in the store
+  pub row-fits : s .header .rows < s .header .capacity → s .header .rows * s .header .columns + s .header .columns ≤ length (s .rows)
+  row-fits room =
+      omega (arith, row-in (s .header .rows) (s .header .capacity) (s .header .columns) room, rw (← capacity-same, ← columns-same) at (represents-long r .rows-long))
+
+-- ---- the stores with it
+
+module _ {p : Plain} {s : Stores} (r : Represents p s) {kept : List Row} {base : List ℕ} (q : Prepared p s kept base) (cells : List ℕ)
+    (width : length cells ≡ s .header .columns) (room : s .header .rows < s .header .capacity) where
+  stored-grown : stored (kept ++ (liveRow cells ∷ [])) (rowsOf (s .header .columns) (s .header .rows) (s .rows))
+      ≡ rowsOf (s .header .columns) (s .header .rows) base ++ (cells ∷ [])
+  stored-grown =
+      stored-snoc kept cells _ (length-rowsOf (s .header .columns) (s .header .rows) (s .rows) ∙ rows-counted r ∙ sym (q .count-same))
+      ∙ ap (λ (rs : List (List ℕ)). rs ++ (cells ∷ [])) (sym (q .rows-same))
+
+  flat-grown : flat (rowsOf (s .header .columns) (s .header .rows) base ++ (cells ∷ [])) ≡ take (s .header .rows * s .header .columns) base ++ cells
+  flat-grown =
+      flat-append (rowsOf (s .header .columns) (s .header .rows) base) (cells ∷ [])
+      ∙ ap₂ (λ (a b : List ℕ). a ++ b) (flat-rowsOf (s .header .columns) (s .header .rows) base) (unfold flat in append-nil cells)
+
+  past-row : drop (s .header .rows * s .header .columns + length cells) (s .rows) ≡ drop (s .header .rows * s .header .columns + length cells) base
+  past-row =
+      sym (drop-drop (length cells) (s .header .rows * s .header .columns) (s .rows))
+      ∙ ap (drop (length cells)) (sym (q .past))
+      ∙ drop-drop (length cells) (s .header .rows * s .header .columns) base
+
+  -- of the row store the row's cells change
+  pub grown-store : rowStore (withRow p kept cells) (rowsOf (s .header .columns) (s .header .rows) (s .rows)) (s .rows)
+      ≡ putAt base (s .header .rows * s .header .columns) cells
+  unfolding rowStore
+  grown-store =
+      ap (λ (rs : List (List ℕ)). putAt (s .rows) 0 (flat rs)) stored-grown
+      ∙ ap (putAt (s .rows) 0) flat-grown
+      ∙ putAt-start (s .rows) base cells (s .header .rows * s .header .columns) (omega (arith, row-fits r room, q .long)) past-row
+
+  rows-grown : rowsOf (s .header .columns) (s .header .rows + 1) (putAt base (s .header .rows * s .header .columns) cells)
+      ≡ stored (kept ++ (liveRow cells ∷ [])) (rowsOf (s .header .columns) (s .header .rows) (s .rows))
+  rows-grown =
+      let k : (s .header .rows + 1) * s .header .columns ≤ length base = rw (add-one, suc-mul) (omega (arith, row-fits r room, q .long)) in
+      rowsOf-appended (s .header .columns) (s .header .rows) base cells width k ∙ sym stored-grown
+
+  -- the rows are shown
+  grown-shown : stored (kept ++ (liveRow cells ∷ [])) (rowsOf (s .header .columns) (s .header .rows + 1) (putAt base (s .header .rows * s .header .columns) cells))
+      ≡ rowsOf (s .header .columns) (s .header .rows + 1) (putAt base (s .header .rows * s .header .columns) cells)
+  grown-shown = rw rows-grown (stored-again (kept ++ (liveRow cells ∷ [])) (rowsOf (s .header .columns) (s .header .rows) (s .rows)))
+
+  -- the sort entries have the row's
+  grown-entries : entries (withRow p kept cells) ≡ push (getD cells (s .header .sort) 0) (s .header .rows) (entriesOf (s .header .entries) (s .sorts))
+  grown-entries =
+      let sort-same : p .opening .sort ≡ s .header .sort = sym (ap (λ (h : Header). h .sort) (r .shown .header)) in
+      entries-snoc p kept cells
+      ∙ rw (q .entries-same, q .count-same, ← rows-counted r, r .shown .entries-shown, sort-same)
+
+  grown-later : Later p (withRow p kept cells)
+  grown-later =
+      let n = q .count-same in
+      record {
+        opening = refl;
+        generation = refl;
+        staged = refl;
+        grows = simp length-append (omega (arith, n));
+        cells = λ i h. ap (λ (row : Row). row .cells) (List·getD-append kept (liveRow cells ∷ []) noRow i (omega (arith, n))) ∙ q .cells-same i;
+        dies = λ i h e. q .was-live i (ap (λ (row : Row). row .live) (sym (List·getD-append kept (liveRow cells ∷ []) noRow i (omega (arith, n)))) ∙ e);
+      }
+
+  module _ (n : ℕ) (sorts′ : List ℕ) (entered : Entered (s .header) (s .sorts) (getD cells (s .header .sort) 0) n sorts′) where
+    entries-grown : entriesOf n sorts′ ≡ entries (withRow p kept cells)
+    entries-grown = entered .entries ∙ sym grown-entries
+
+    -- its sort value is the largest
+    grown-largest : Value (getD cells (s .header .sort) 0) ≡ headerOf (withRow p kept cells) .largest
+    unfolding largestOf
+    grown-largest =
+        let value : ℕ = getD cells (p .opening .sort) 0 in
+        let above = rw (r .shown .header, says-of (p .largest)) at (free-above (s .header) (getD cells (s .header .sort) 0) (entered .free)) in
+        rw (r .shown .header) (ap Value (sym (raised-same value (p .largest) above)))
+
+    grown-header : grownTo (s .header) (dead (withRows p kept)) n (getD cells (s .header .sort) 0) ≡ headerOf (withRow p kept cells)
+    grown-header =
+        let a : s .header .rows + 1 ≡ length (kept ++ (liveRow cells ∷ [])) = simp length-append (omega (arith, rows-counted r, q .count-same)) in
+        let b = sym (dead-snoc p kept cells) in
+        let c = sym (length-entriesOf n sorts′) ∙ ap length entries-grown in
+        let e = r .shown .header in
+        let l = grown-largest in
+        λ k. withCounts (e k) (a k) (b k) (c k) (l k)
+
+    -- the stores of p have become those of the table with the row
+    pub grown-steps : Proper (withRow p kept cells) → (d : ℕ) → d ≡ dead (withRows p kept) → (rows′ : List ℕ)
+        → rows′ ≡ putAt base (s .header .rows * s .header .columns) cells
+        → (keys′ : List ℕ) → length keys′ ≡ length (s .keys) → KeysSound (keyedOf (grownTo (s .header) d n (getD cells (s .header .sort) 0))) rows′ keys′
+        → Becomes p (withRow p kept cells) s (stores (grownTo (s .header) d n (getD cells (s .header .sort) 0)) rows′ keys′ sorts′ (s .pending))
+    unfolding sortStore
+    grown-steps proper d dead-is rows′ rows-is keys′ keys-same sound =
+        let long = represents-long r in
+        let rows-same : length rows′ ≡ length (s .rows) =
+        ap length rows-is ∙ length-putAt base cells (s .header .rows * s .header .columns) (omega (arith, row-fits r room, q .long, width)) ∙ q .long in
+        record {
+          later = grown-later;
+          rows-after = rows-is ∙ sym grown-store;
+          sorts-after = entered .cells ∙ ap (λ (es : List Entry). putAt (s .sorts) 0 (entryWords es)) (sym grown-entries);
+          represents =
+              record {
+                proper = proper;
+                long-enough =
+                    long-stores (p .opening) (lengths rows′ keys′ sorts′ (s .pending) [] [])
+                    (record {
+                      rows-long = rw rows-same (long .rows-long);
+                      keys-long = rw keys-same (long .keys-long);
+                      sorts-long = rw (entered .same) (long .sorts-long);
+                    });
+                shown =
+                    record {
+                      header = rw dead-is grown-header;
+                      rows-shown = stored-rows (grownTo (s .header) d n (getD cells (s .header .sort) 0)) rows′ proper (rw rows-same (long .rows-long)) (rw dead-is grown-header) (rw rows-is grown-shown);
+                      entries-shown = entries-grown;
+                      pending-held = r .shown .pending-held;
+                    };
+                keyed = sound;
+              };
+        }

@@ -1,0 +1,128 @@
+-- What the parts of an append promise: a row enters the sort entries or stops the merge, is appended for a new key, or replaces
+-- the old one of a known key. Of any stores, sound or not. Assumes nothing.
+use Prim.Native.Nat.{ℕ, _+_, _*_, _≤_, _<_}
+use mathlib.Core.Path.{_≡_}
+use mathlib.Core.Bool.{Bool, true, false, not}
+use mathlib.Core.List.{List, [], _∷_}
+use lib.Dec.{leb, eqb}
+use lib.ListN.{length, getD, set}
+use Rattle.lists.specs.Lists.{putAt}
+use Rattle.refusals.specs.Refusals.{rung, first}
+use Rattle.sort_entries.specs.Entries.{entriesOf, entryWords, push}
+use Rattle.key_index.specs.Slots.{roomFor, slots, KeysSound}
+use Rattle.key_index.specs.inner.Ring.{tagged}
+use Rattle.key_index.specs.inner.Index.{Fits, PutIs}
+use Rattle.key_rebuild.specs.inner.Growth.{Rebuilt}
+use Rattle.plain_table.specs.Plain.{below}
+use Rattle.table.specs.declared.Header.{Header}
+use Rattle.table.specs.declared.Largest.the-variants.{Value}
+use Rattle.table.specs.Numbers.{largestSays}
+use Rattle.merge_append.specs.declared.Insertion.{Insertion}
+use Rattle.merge_append.specs.declared.Insertion.the-variants.{Kept, Appended, Stopped}
+use Rattle.merge_append.specs.declared.Admission.{Admission}
+use Rattle.merge_append.specs.declared.Admission.the-variants.{Stop, Entries}
+use Rattle.table.specs.Sound.{keyedOf}
+use Rattle.table.specs.inner.Whole.{wholeOf}
+use Rattle.table.specs.Promises.{SlotsPast}
+use Rattle.merge_pending.specs.inner.Becoming.{withCounts}
+
+-- ---- a row enters the sort entries
+
+-- "8, row count equals capacity, tested before 9", "a sort value below that kept value"; 0 if neither
+unfoldable pub stopAt : Header → ℕ → ℕ
+stopAt h value =
+    first (rung (leb (h .capacity) (h .rows)) 8 ∷ rung (below value (largestSays (h .largest))) 9 ∷ [])
+
+-- there is place for an entry where there is place for a row
+pub record Enterable (h : Header) (sorts : List ℕ) : Type 0 where
+  pub most : h .capacity ≤ 65536
+  pub entries-fit : h .entries ≤ h .rows
+  pub sorts-long : 2 * h .capacity ≤ length sorts
+
+-- the merge stops with this number
+pub record Stops (h : Header) (value n : ℕ) : Type 0 where
+  pub number : stopAt h value ≡ n
+  pub some : 0 < n
+
+-- the store holds the entries with the next row's, as many as said
+pub record Entered (h : Header) (sorts : List ℕ) (value n : ℕ) (sorts′ : List ℕ) : Type 0 where
+  pub free : stopAt h value ≡ 0
+  pub room : h .rows < h .capacity
+  pub few : n ≤ h .entries + 1
+  pub entries : entriesOf n sorts′ ≡ push value (h .rows) (entriesOf (h .entries) sorts)
+  pub cells : sorts′ ≡ putAt sorts 0 (entryWords (push value (h .rows) (entriesOf (h .entries) sorts)))
+  pub same : length sorts′ ≡ length sorts
+
+-- a stop writes nothing
+abbrev pub AdmissionIs : Header → List ℕ → ℕ → List ℕ → Admission → Type 0
+AdmissionIs h sorts value sorts′ (Stop n) = Stops h value n × (sorts′ ≡ sorts)
+AdmissionIs h sorts value sorts′ (Entries n) = Entered h sorts value n sorts′
+
+-- ---- a row is appended
+
+-- the header with a row more: so many rows are dead, there are so many sort entries, and its sort value is the largest
+abbrev pub grownTo : Header → ℕ → ℕ → ℕ → Header
+grownTo h dead entries value = withCounts h (h .rows + 1) dead entries (Value value)
+
+-- one row more takes more room in the key store
+unfoldable pub outgrown : Header → Bool
+outgrown h = not (eqb (roomFor (h .capacity) (h .rows + 1)) (roomFor (h .capacity) (h .rows)))
+
+-- What becomes of the key store: where the row takes more room it leads to all rows, else the row has stepped in.
+pub record Leading (h h′ : Header) (rows′ keys : List ℕ) (Entry : Type 0) (keys′ : List ℕ) : Type 0 where
+  pub more : outgrown h ≡ true → KeysSound (keyedOf h′) rows′ keys′
+  pub stepped : outgrown h ≡ false → Entry
+  pub past : SlotsPast (h .capacity) keys keys′
+  pub same : length keys′ ≡ length keys
+
+-- there is place for a row more, which is written
+pub record Rebuildable (h : Header) (rows keys : List ℕ) (died : ℕ) : Type 0 where
+  pub fits : Fits (wholeOf h) rows keys
+  pub place : h .rows < h .capacity
+  pub dead-fits : h .dead + died ≤ 4294967295
+
+pub record RebuiltGrown (h : Header) (rows keys : List ℕ) (died entries value : ℕ) (r : Insertion) (keys′ : List ℕ) : Type 0 where
+  pub answer : r ≡ Appended (grownTo h (h .dead + died) entries value)
+  pub rebuilt : Rebuilt (keyedOf (grownTo h (h .dead + died) entries value)) rows keys keys′
+
+-- stores long enough for a row more, and the row's cells
+pub record Growable (h : Header) (rows keys sorts cells : List ℕ) : Type 0 where
+  pub fits : Fits (wholeOf h) rows keys
+  pub sort-column : h .sort < h .columns
+  pub entries-fit : h .entries ≤ h .rows
+  pub dead-fits : h .dead + h .capacity ≤ 4294967295 + h .rows
+  pub sorts-long : 2 * h .capacity ≤ length sorts
+  pub width : length cells ≡ h .columns
+
+-- a stop leaves the stores as they were
+pub record Stayed (h : Header) (rows keys sorts cells : List ℕ) (n : ℕ) (rows′ keys′ sorts′ : List ℕ) : Type 0 where
+  pub stops : Stops h (getD cells (h .sort) 0) n
+  pub same-rows : rows′ ≡ rows
+  pub same-keys : keys′ ≡ keys
+  pub same-sorts : sorts′ ≡ sorts
+
+-- the row stands after the others, its number in the key store
+pub record Grew (h : Header) (rows keys sorts cells : List ℕ) (hash : ℕ) (h′ : Header) (rows′ keys′ sorts′ : List ℕ) : Type 0 where
+  pub entered : Entered h sorts (getD cells (h .sort) 0) (h′ .entries) sorts′
+  pub header : h′ ≡ grownTo h (h .dead) (h′ .entries) (getD cells (h .sort) 0)
+  pub rows-after : rows′ ≡ putAt rows (h .rows * h .columns) cells
+  pub keys-after : Leading h h′ rows′ keys ((r : Bool) × PutIs (slots (keyedOf h)) keys hash (h .rows) r keys′) keys′
+
+-- "A new key is appended"
+abbrev pub NewIs : Header → List ℕ → List ℕ → List ℕ → List ℕ → ℕ → List ℕ → List ℕ → List ℕ → Insertion → Type 0
+NewIs h rows keys sorts cells hash rows′ keys′ sorts′ Kept = ⊥
+NewIs h rows keys sorts cells hash rows′ keys′ sorts′ (Appended h′) = Grew h rows keys sorts cells hash h′ rows′ keys′ sorts′
+NewIs h rows keys sorts cells hash rows′ keys′ sorts′ (Stopped n) = Stayed h rows keys sorts cells n rows′ keys′ sorts′
+
+-- the row stands after the others, its number in the old row's slot, and the old row has the dead mark
+pub record Replaced (h : Header) (rows keys sorts cells : List ℕ) (hash old slot : ℕ) (h′ : Header) (rows′ keys′ sorts′ : List ℕ) : Type 0 where
+  pub entered : Entered h sorts (getD cells (h .sort) 0) (h′ .entries) sorts′
+  pub header : h′ ≡ grownTo h (h .dead + 1) (h′ .entries) (getD cells (h .sort) 0)
+  pub rows-after : rows′ ≡ putAt (set rows (old * h .columns) 4294967295) (h .rows * h .columns) cells
+  pub keys-after : Leading h h′ rows′ keys (keys′ ≡ set keys slot (tagged hash (h .rows))) keys′
+
+-- "a row so made is appended and the old row dies"
+abbrev pub ReplaceIs : Header → List ℕ → List ℕ → List ℕ → List ℕ → ℕ → ℕ → ℕ → List ℕ → List ℕ → List ℕ → Insertion → Type 0
+ReplaceIs h rows keys sorts cells hash old slot rows′ keys′ sorts′ Kept = ⊥
+ReplaceIs h rows keys sorts cells hash old slot rows′ keys′ sorts′ (Appended h′) = Replaced h rows keys sorts cells hash old slot h′ rows′ keys′ sorts′
+ReplaceIs h rows keys sorts cells hash old slot rows′ keys′ sorts′ (Stopped n) = Stayed h rows keys sorts cells n rows′ keys′ sorts′

@@ -1,0 +1,145 @@
+// One row appended to a table: it enters the sort entries or stops the merge, stands after the other rows, and the key store leads
+// to it. Stops are tested before anything is written.
+ghost use mathlib.Core.Path.{_≡_};
+ghost use Prim.Native.Nat.{_≤_, _+_, _<_};
+ghost use Rattle.key_index.specs.Slots.{slots};
+ghost use Rattle.plain_table.specs.Plain.{below};
+ghost use Rattle.table.specs.Numbers.{largestSays};
+ghost use Rattle.table.specs.Sound.{keyedOf};
+ghost use Rattle.merge_append.specs.inner.Appending.{Enterable, AdmissionIs, grownTo, outgrown, Rebuildable, RebuiltGrown, Growable, NewIs, ReplaceIs};
+use table::Header;
+use table::Largest;
+use table::keyed;
+
+// What an insert of a merge does: nothing, a row is appended, or the merge stops with a number.
+pub enum Insertion {
+    Kept,
+    Appended(Header),
+    Stopped(u32),
+}
+
+// Whether a row can be appended: a stop's number, or the number of sort entries with it.
+enum Admission {
+    Stop(u32),
+    Entries(u32),
+}
+
+// Whether a sort value is below the largest one appended.
+pub fn is_old(h: Header, value: u32) -> bool
+    ensures { λ r. ⌜ r ≡ below value (largestSays (h .largest)) ⌝ }
+{
+    let largest = h.largest;
+    match largest {
+        Largest::None => false,
+        Largest::Value(last) => value < last,
+    }
+}
+
+// A row of this sort value enters the sort entries, unless it stops the merge: 8 is tested before 9.
+fn admit(h: Header, sorts: &mut [u32], value: u32) -> Admission
+    requires { ⌜ Enterable h (now sorts) ⌝ }
+    ensures { λ r. ⌜ AdmissionIs h (now (sorts .entry)) value (now (sorts .exit)) r ⌝ }
+{
+    if h.capacity <= h.rows {
+        return Admission::Stop(8);
+    }
+    if is_old(h, value) {
+        return Admission::Stop(9);
+    }
+    Admission::Entries(sort_entries::append_entry(sorts, h.entries, value, h.rows))
+}
+
+// The header with one row more, whose sort value is the largest from now on.
+fn grown(h: Header, died: u32, entries: u32, value: u32) -> Header
+    requires { ⌜ (h .rows < 65536) × (h .dead + died ≤ 4294967295) ⌝ }
+    ensures { λ r. ⌜ r ≡ grownTo h (h .dead + died) entries value ⌝ }
+{
+    let mut n = h;
+    n.rows = h.rows + 1;
+    n.dead = h.dead + died;
+    n.entries = entries;
+    Header {
+        largest: Largest::Value(value),
+        ..n
+    }
+}
+
+// Whether one row more takes more room in the key store.
+fn is_outgrown(h: Header) -> bool
+    requires { ⌜ h .rows < 65536 ⌝ }
+    ensures { λ r. ⌜ r ≡ outgrown h ⌝ }
+{
+    key_index::room_for(h.capacity, h.rows + 1) != key_index::room_for(h.capacity, h.rows)
+}
+
+// A row that takes more room was written: the key store is rebuilt with it.
+fn rebuild_grown(
+    h: Header,
+    rows: &[u32],
+    keys: &mut [u32],
+    died: u32,
+    entries: u32,
+    value: u32,
+) -> Insertion
+    requires { ⌜ Rebuildable h (now rows) (now keys) died ⌝ }
+    ensures { λ r. ⌜ RebuiltGrown h (now (rows .entry)) (now (keys .entry)) died entries value r (now (keys .exit)) ⌝ }
+{
+    let n = grown(h, died, entries, value);
+    key_rebuild::rebuild(keyed(n), rows, keys);
+    Insertion::Appended(n)
+}
+
+// A new key's row is appended. Where the key store is sound a slot is free.
+pub fn insert_new(
+    h: Header,
+    rows: &mut [u32],
+    keys: &mut [u32],
+    sorts: &mut [u32],
+    cells: &[u32],
+    hash: u32,
+) -> Insertion
+    requires { ⌜ Growable h (now rows) (now keys) (now sorts) (now cells) ⌝ }
+    ensures { λ r. ⌜ NewIs h (now (rows .entry)) (now (keys .entry)) (now (sorts .entry)) (now (cells .entry)) hash (now (rows .exit)) (now (keys .exit)) (now (sorts .exit)) r ⌝ }
+{
+    let value = cells[h.sort as usize];
+    match admit(h, sorts, value) {
+        Admission::Stop(number) => Insertion::Stopped(number),
+        Admission::Entries(entries) => {
+            row_buffer::write_row(rows, (h.rows * h.columns) as usize, cells);
+            if is_outgrown(h) {
+                return rebuild_grown(h, rows, keys, 0, entries, value);
+            }
+            key_index::put(keyed(h), keys, hash, h.rows);
+            Insertion::Appended(grown(h, 0, entries, value))
+        }
+    }
+}
+
+// A row of a known key is appended, takes over the key's slot, and the old row dies.
+pub fn replace_row(
+    h: Header,
+    rows: &mut [u32],
+    keys: &mut [u32],
+    sorts: &mut [u32],
+    cells: &[u32],
+    hash: u32,
+    old: u32,
+    slot: u32,
+) -> Insertion
+    requires { ⌜ Growable h (now rows) (now keys) (now sorts) (now cells) × (old < h .rows) × (slot < slots (keyedOf h)) ⌝ }
+    ensures { λ r. ⌜ ReplaceIs h (now (rows .entry)) (now (keys .entry)) (now (sorts .entry)) (now (cells .entry)) hash old slot (now (rows .exit)) (now (keys .exit)) (now (sorts .exit)) r ⌝ }
+{
+    let value = cells[h.sort as usize];
+    match admit(h, sorts, value) {
+        Admission::Stop(number) => Insertion::Stopped(number),
+        Admission::Entries(entries) => {
+            row_buffer::set_stale(rows, (old * h.columns) as usize);
+            row_buffer::write_row(rows, (h.rows * h.columns) as usize, cells);
+            if is_outgrown(h) {
+                return rebuild_grown(h, rows, keys, 1, entries, value);
+            }
+            key_index::replace(keys, slot, hash, h.rows);
+            Insertion::Appended(grown(h, 1, entries, value))
+        }
+    }
+}

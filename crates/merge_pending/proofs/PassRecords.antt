@@ -1,0 +1,157 @@
+-- The words of the record at a place of the pending store, one law for each way that `record_length` returns. Assumes
+-- nothing.
+use Prim.Native.Nat.{ℕ, zero, suc, _+_, _-_, _≤_, _<_}
+use mathlib.Core.Path.{_≡_, refl, sym, _∙_}
+use mathlib.Core.Bool.{false}
+use mathlib.Core.List.{List, [], _∷_}
+use native.Mathlib.Omega.{arith}
+use lib.ListN.{getD}
+use borrow.Author.Tests.{ne-eqb}
+use Rattle.lists.specs.Lists.{keep}
+use Rattle.plain_table.specs.Staged.{Staged, insert, removeKey, removeRow, wordsOf, wordsAll}
+use Rattle.table.specs.declared.Header.{Header}
+use Rattle.table.specs.Numbers.{openingOf}
+use Rattle.merge_pending.specs.inner.Becoming.{Waiting, kindOf, RecordLength, ofKind, Left, RunPassed, CanPass, NextRecord}
+use Rattle.merge_pending.specs.Laws.Steps.{words-some, waiting-inside, waiting-kind, waiting-next}
+
+most-kind : (r : Staged) → kindOf r ≤ 2
+unfolding kindOf
+most-kind (insert cells) = omega arith
+most-kind (removeKey key) = omega arith
+most-kind (removeRow row key) = omega arith
+
+-- how many words a record of a kind has
+pub record WordsFor (h : Header) (kind words : ℕ) : Type 0 where
+  pub of-insert : kind ≡ 0 → words ≡ h .columns + 2
+  pub of-removal : (kind ≡ 0 → ⊥) → words ≡ h .keys + 1 + kind
+
+pub words-insert : (h : Header) (kind words : ℕ) → kind ≡ 0 → words ≡ h .columns + 2 → WordsFor h kind words
+words-insert h kind words k e = record { of-insert = λ z. e; of-removal = λ z. absurd (z k) }
+
+pub words-removal : (h : Header) (kind words : ℕ) → (kind ≡ 0 → ⊥) → words ≡ h .keys + 1 + kind → WordsFor h kind words
+words-removal h kind words k e = record { of-insert = λ z. absurd (k z); of-removal = λ z. e }
+
+module _ (h : Header) (pending : List ℕ) (at : ℕ) where
+  -- the record that stands at the place, and those after it
+  abbrev pub Next : Staged → List Staged → Type 0
+  Next r rest = Waiting (openingOf h) pending (h .pending) at (r ∷ rest)
+
+  none-whole : at ≤ 4294967295 → ((r : Staged) (rest : List Staged) → Next r rest → ⊥) → RecordLength h pending at 0
+  none-whole fits f =
+      record {
+        inside = λ z. absurd (omega arith);
+        fits = omega arith;
+        of-insert = λ z. absurd (omega arith);
+        of-key = λ z. absurd (omega arith);
+        of-row = λ z. absurd (omega arith);
+        kind = λ z. absurd (omega arith);
+        none = λ w. refl;
+        next = λ r rest w. absurd (f r rest w);
+      }
+
+  -- no words are left
+  pub length-end : at ≤ 4294967295 → h .pending ≤ at → RecordLength h pending at 0
+  length-end fits k = none-whole fits (λ r rest w. omega (arith, waiting-inside w, words-some (openingOf h) r))
+
+  -- no record begins so
+  pub length-unknown : at ≤ 4294967295 → 2 < getD pending at 0 → RecordLength h pending at 0
+  length-unknown fits k = none-whole fits (λ r rest w. omega (arith, waiting-kind w, most-kind r))
+
+  module _ (words : ℕ) (n : WordsFor h (getD pending at 0) words) where
+    words-are : (r : Staged) (rest : List Staged) → Next r rest → words ≡ wordsOf (openingOf h) r
+    unfolding wordsOf kindOf
+    words-are (insert cells) rest w = n .of-insert (waiting-kind w)
+    words-are (removeKey key) rest w = let k = waiting-kind w in omega (arith, n .of-removal (λ z. omega arith))
+    words-are (removeRow row key) rest w = let k = waiting-kind w in omega (arith, n .of-removal (λ z. omega arith))
+
+    -- fewer words are left than it has
+    pub length-short : at ≤ 4294967295 → h .pending - at < words → RecordLength h pending at 0
+    length-short fits k = none-whole fits (λ r rest w. omega (arith, waiting-inside w, words-are r rest w))
+
+    -- it is whole
+    pub length-whole : h .pending ≤ 4294967295 → at < h .pending → getD pending at 0 ≤ 2 → words ≤ h .pending - at → RecordLength h pending at words
+    length-whole fits i k m =
+        record {
+          inside = λ z. omega arith;
+          fits = omega arith;
+          of-insert = λ z. n .of-insert;
+          of-key = λ z e. omega (arith, n .of-removal (λ q. omega arith));
+          of-row = λ z e. omega (arith, n .of-removal (λ q. omega arith));
+          kind = λ z. k;
+          none = λ w. let e : at + 0 ≡ h .pending = unfold wordsAll in w .counted in absurd (omega arith);
+          next = words-are;
+        }
+
+-- a record has three words at least
+pub record-long : {h : Header} {pending : List ℕ} {at n : ℕ} → RecordLength h pending at n → 1 ≤ h .columns → 1 ≤ h .keys → 0 < n → 3 ≤ n
+record-long {h} {pending} {at} {n} l a b z = go (getD pending at 0) refl
+  where
+    go : (k : ℕ) → getD pending at 0 ≡ k → 3 ≤ n
+    go zero e = omega (arith, l .of-insert z e)
+    go (suc zero) e = omega (arith, l .of-key z e)
+    go (suc (suc zero)) e = omega (arith, l .of-row z e)
+    go (suc (suc (suc k))) e = absurd (omega (arith, l .kind z))
+
+-- ---- a run of records of one kind
+
+-- nothing is passed over yet
+pub run-begin : {h : Header} {pending : List ℕ} {from kind words : ℕ} → from ≤ h .pending → RunPassed h pending from kind words from
+run-begin i = record { on = omega arith; inside = i; rest = λ of-kind wanted ne records w. record { left = records; same = refl; waiting = w } }
+
+passed-other : (wanted : ℕ) (r : Staged) (rest : List Staged) → ofKind wanted r ≡ false → keep (ofKind wanted) (r ∷ rest) ≡ keep (ofKind wanted) rest
+unfolding keep
+passed-other wanted r rest e = rw e refl
+
+-- one more record of the kind
+pub run-again : {h : Header} {pending : List ℕ} {from kind words at : ℕ} → 0 < words → RunPassed h pending from kind words at → getD pending at 0 ≡ kind
+    → words ≤ h .pending - at → RunPassed h pending from kind words (at + words)
+run-again {h} {pending} {from} {kind} {words} {at} some v e room =
+    record {
+      on = omega (arith, v .on);
+      inside = omega (arith, v .inside);
+      rest = λ of-kind wanted ne records w. on of-kind wanted ne records (v .rest of-kind wanted ne records w);
+    }
+  where
+    on : ((r : Staged) → kindOf r ≡ kind → wordsOf (openingOf h) r ≡ words) → (wanted : ℕ) → (kind ≡ wanted → ⊥)
+        → (records : List Staged) → Left h pending wanted at records → Left h pending wanted (at + words) records
+    on of-kind wanted ne records l = go (l .left) (l .same) (l .waiting)
+      where
+        go : (left : List Staged) → keep (ofKind wanted) records ≡ keep (ofKind wanted) left → Waiting (openingOf h) pending (h .pending) at left
+            → Left h pending wanted (at + words) records
+        go [] same w = let z : at + 0 ≡ h .pending = unfold wordsAll in w .counted in absurd (omega arith)
+        go (r ∷ rest) same w =
+            let k : kindOf r ≡ kind = sym (waiting-kind w) ∙ e in
+            let other : ofKind wanted r ≡ false = ne-eqb _ _ (λ q. ne (sym k ∙ q)) in
+            record { left = rest; same = same ∙ passed-other wanted r rest other; waiting = rw (← (of-kind r k)) (waiting-next w) }
+
+-- ---- the record at a place is passed
+
+module _ {h : Header} {pending : List ℕ} {at words : ℕ} (a : CanPass h pending at words) where
+  -- what follows it stands behind it
+  behind : (first : Staged) (rest : List Staged) → Next h pending at first rest → Waiting (openingOf h) pending (h .pending) (at + words) rest
+  behind first rest w = rw (a .here .next first rest w) (waiting-next w)
+
+  -- others of its kind have as many words
+  pub same-words : (r : Staged) → kindOf r ≡ getD pending at 0 → wordsOf (openingOf h) r ≡ words
+  unfolding wordsOf kindOf
+  same-words (insert cells) e = sym (a .here .of-insert (a .some) (sym e))
+  same-words (removeKey key) e = sym (a .here .of-key (a .some) (sym e))
+  same-words (removeRow row key) e = sym (a .here .of-row (a .some) (sym e))
+
+  -- it is wanted itself
+  pub passed-one : {wanted : ℕ} → NextRecord h pending at words wanted (at + words)
+  passed-one =
+      record {
+        on = omega arith;
+        inside = a .here .inside (a .some);
+        rest = λ first rest w. record { left = rest; same = refl; waiting = behind first rest w };
+      }
+
+  -- it is not
+  pub passed-run : {wanted next : ℕ} → (getD pending at 0 ≡ wanted → ⊥) → RunPassed h pending (at + words) (getD pending at 0) words next → NextRecord h pending at words wanted next
+  passed-run {wanted} ne v =
+      record {
+        on = v .on;
+        inside = v .inside;
+        rest = λ first rest w. v .rest same-words wanted ne rest (behind first rest w);
+      }

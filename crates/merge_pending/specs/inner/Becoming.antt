@@ -1,0 +1,125 @@
+-- What the parts of a merge promise: how the stores of one plain table become those of another, with every row cell and sort
+-- cell given, and where the records that are still to come stand in the pending store. Assumes nothing.
+use Prim.Native.Nat.{ℕ, _+_, _*_, _≤_, _<_}
+use mathlib.Core.Path.{_≡_}
+use mathlib.Core.Bool.{Bool, true}
+use mathlib.Core.List.{List, [], _∷_}
+use lib.ListN.{length, take, drop, getD}
+use lib.Dec.{eqb}
+use Rattle.lists.specs.Lists.{rowsOf, keep}
+use Rattle.cells.specs.Cells.{compact, keyHash}
+use Rattle.key_index.specs.inner.Index.{Fits}
+use Rattle.plain_table.specs.Staged.{Opening, Staged, insert, removeKey, removeRow, wordsOf, wordsAll}
+use Rattle.plain_table.specs.Plain.{Plain}
+use Rattle.plain_table.specs.Proper.{rowOf}
+use Rattle.table.specs.declared.Header.{Header}
+use Rattle.table.specs.declared.Largest.{Largest}
+use Rattle.table.specs.Numbers.{openingOf, header}
+use Rattle.table.specs.Stores.{rowStore, sortStore, Holds}
+use Rattle.table.specs.inner.Whole.{wholeOf}
+use Rattle.table.specs.Promises.{Stores, Represents}
+
+-- ---- from one plain table to another
+
+-- rows have died and rows were appended, and nothing else has changed
+pub record Later (p p′ : Plain) : Type 0 where
+  pub opening : p′ .opening ≡ p .opening
+  pub generation : p′ .generation ≡ p .generation
+  pub staged : p′ .staged ≡ p .staged
+  pub grows : length (p .rows) ≤ length (p′ .rows)
+  pub cells : (i : ℕ) → i < length (p .rows) → rowOf p′ i .cells ≡ rowOf p i .cells
+  pub dies : (i : ℕ) → i < length (p .rows) → rowOf p′ i .live ≡ true → rowOf p i .live ≡ true
+
+-- the stores of p have become those of p′
+pub record Becomes (p p′ : Plain) (s s′ : Stores) : Type 0 where
+  pub later : Later p p′
+  pub rows-after : s′ .rows ≡ rowStore p′ (rowsOf (s .header .columns) (s .header .rows) (s .rows)) (s .rows)
+  pub sorts-after : s′ .sorts ≡ sortStore p′ (s .sorts)
+  pub represents : Represents p′ s′
+
+-- ---- headers and what is lent
+
+abbrev pub withCounts : Header → ℕ → ℕ → ℕ → Largest → Header
+withCounts h rows dead entries largest = header (openingOf h) rows dead entries (h .pending) (h .generation) largest
+
+abbrev pub withDead : Header → ℕ → Header
+withDead h dead = withCounts h (h .rows) dead (h .entries) (h .largest)
+
+-- other counts, which still fit: for every row that has died one was appended
+pub record Recounted (h h′ : Header) : Type 0 where
+  pub counts : h′ ≡ withCounts h (h′ .rows) (h′ .dead) (h′ .entries) (h′ .largest)
+  pub rows-fit : h′ .rows ≤ h .capacity
+  pub rows-grow : h .rows ≤ h′ .rows
+  pub entries-fit : h′ .entries ≤ h′ .rows
+  pub dead-fit : h′ .dead + h .rows ≤ h .dead + h′ .rows
+
+-- numbers within their bounds and stores long enough for the inserts of a merge
+pub record Ready (h : Header) (rows keys sorts pending : List ℕ) : Type 0 where
+  pub fits : Fits (wholeOf h) rows keys
+  pub sort-column : h .sort < h .columns
+  pub rule-known : h .rule ≤ 3
+  pub entries-fit : h .entries ≤ h .rows
+  pub dead-fits : h .dead + h .capacity ≤ 4294967295 + h .rows
+  pub sorts-long : 2 * h .capacity ≤ length sorts
+  pub pending-fits : h .pending ≤ length pending
+
+-- ---- the pending records still to come
+
+-- a record's first word
+unfoldable pub kindOf : Staged → ℕ
+kindOf (insert cells) = 0
+kindOf (removeKey key) = 1
+kindOf (removeRow row key) = 2
+
+-- from a place on, the words in use hold these records
+pub record Waiting (o : Opening) (pending : List ℕ) (used at : ℕ) (rest : List Staged) : Type 0 where
+  pub held : Holds o (drop at pending) rest
+  pub counted : at + wordsAll o rest ≡ used
+
+-- the words of the record at a place, 0 if none begins there that is whole: on any store a number to go on by
+pub record RecordLength (h : Header) (pending : List ℕ) (at n : ℕ) : Type 0 where
+  pub inside : 0 < n → at + n ≤ h .pending
+  pub fits : at + n ≤ 4294967295
+  pub of-insert : 0 < n → getD pending at 0 ≡ 0 → n ≡ h .columns + 2
+  pub of-key : 0 < n → getD pending at 0 ≡ 1 → n ≡ h .keys + 2
+  pub of-row : 0 < n → getD pending at 0 ≡ 2 → n ≡ h .keys + 3
+  pub kind : 0 < n → getD pending at 0 ≤ 2
+  pub none : Waiting (openingOf h) pending (h .pending) at [] → n ≡ 0
+  pub next : (r : Staged) (rest : List Staged) → Waiting (openingOf h) pending (h .pending) at (r ∷ rest) → n ≡ wordsOf (openingOf h) r
+
+-- ---- records that a pass has no use for
+
+-- a record is of a kind
+abbrev pub ofKind : ℕ → Staged → Bool
+ofKind kind r = eqb (kindOf r) kind
+
+-- of these records, those from a place on are left, and none that is wanted was passed over
+pub record Left (h : Header) (pending : List ℕ) (wanted at : ℕ) (records : List Staged) : Type 0 where
+  pub left : List Staged
+  pub same : keep (ofKind wanted) records ≡ keep (ofKind wanted) left
+  pub waiting : Waiting (openingOf h) pending (h .pending) at left
+
+-- from one place to another only records of a kind are passed over, which have so many words each
+pub record RunPassed (h : Header) (pending : List ℕ) (from kind words at : ℕ) : Type 0 where
+  pub on : from ≤ at
+  pub inside : at ≤ h .pending
+  pub rest : ((r : Staged) → kindOf r ≡ kind → wordsOf (openingOf h) r ≡ words) → (wanted : ℕ) → (kind ≡ wanted → ⊥)
+      → (records : List Staged) → Waiting (openingOf h) pending (h .pending) from records → Left h pending wanted at records
+
+-- a record stands whole at a place
+pub record CanPass (h : Header) (pending : List ℕ) (at words : ℕ) : Type 0 where
+  pub here : RecordLength h pending at words
+  pub some : 0 < words
+  pub fits : h .pending ≤ length pending
+
+-- it is passed, with any that follow it and are not wanted
+pub record NextRecord (h : Header) (pending : List ℕ) (at words wanted next : ℕ) : Type 0 where
+  pub on : at + words ≤ next
+  pub inside : next ≤ h .pending
+  pub rest : (first : Staged) (rest : List Staged) → Waiting (openingOf h) pending (h .pending) at (first ∷ rest) → Left h pending wanted next rest
+
+-- the compact hash of a record's key
+unfoldable pub hashOf : ℕ → Staged → ℕ
+hashOf keys (insert cells) = compact (keyHash (take keys cells))
+hashOf keys (removeKey key) = compact (keyHash key)
+hashOf keys (removeRow row key) = compact (keyHash key)

@@ -1,0 +1,31 @@
+-- `merge_remove::kill` meets its contract. Assumes nothing.
+use native.Mathlib.Omega.{arith}
+use borrow.Author.Needs.{needs}
+use Rattle.merge_remove.proofs.RemovalSteps.{first-cell, killed}
+use Rattle.merge_remove.proofs.kill.Statement.{statement}
+use Rattle.merge_remove.proofs.kill.Tie as tie
+
+mul-at : tie.Need-mul-at
+mul-at c =
+    let s = c .before .before .before .before .before .before .before .before in
+    omega (arith, first-cell _ _ _ _ (s .pre .0) (s .pre .1) .1)
+
+cast-at : tie.Need-cast-at
+cast-at c =
+    let s = c .before .before .before .before .before .before .before .before in
+    omega (arith, first-cell _ _ _ _ (s .pre .0) (s .pre .1) .1)
+
+set-stale-requires : tie.Need-set-stale-requires
+set-stale-requires c κs =
+    let s = c .before .before .before .before .before .before .before .before .before in
+    first-cell _ _ _ _ (s .pre .0) (s .pre .1) .0
+
+returns : tie.Need-returns
+returns c =
+    let s = c .before .before .before .before .before .before .before .before .before .before .before .before in
+    killed _ _ _ _ _ _ _ _ (s .pre .0) (c .before .before .before .before .before .before .before .take-out .ensures) (c .before .before .set-stale .ensures)
+
+pub kill-spec : {M : Type 1} → statement M
+kill-spec =
+    tie.close
+    (tie.spec (λ c κs. search needs) mul-at cast-at set-stale-requires (λ c. search needs) (λ c. search needs) returns)

@@ -1,0 +1,58 @@
+-- Lists of like length, half of the test by half. Assumes nothing.
+use Prim.Native.Nat.{ℕ, _*_, _/_, _≤_, _<_}
+use mathlib.Core.Path.{_≡_, sym, _∙_}
+use mathlib.Core.Logic.{inl, inr}
+use mathlib.Core.Bool.{Bool, true, false, true≢false, _&&_}
+use native.Mathlib.Decide.{decLt}
+use native.Mathlib.Omega.{arith}
+use lib.Dec.{leb}
+use borrow.Author.Tests.{le-leb, lt-leb}
+use Rattle.lists.specs.Laws.Keep.{split}
+use Rattle.offsets_intersect.specs.inner.Common.{alike, MuchLonger}
+
+module _ (a b : ℕ) where
+  pub half-yes : (r : Bool) → a ≤ 16 → r ≡ leb b 16 → r ≡ (leb a 16 && leb b 16)
+  half-yes r h e = rw (le-leb a 16 h) e
+
+  pub half-no : (r : Bool) → 16 < a → r ≡ leb a 16 → r ≡ (leb a 16 && leb b 16)
+  half-no r h e = e ∙ rw (lt-leb a 16 h)
+
+  pub alike-short : (r : Bool) → r ≡ (leb a 16 && leb b 16) → r ≡ true → r ≡ alike a b
+  unfolding alike
+  alike-short r e q = let z : (leb a 16 && leb b 16) ≡ true = sym e ∙ q in rw z q
+
+  pub alike-upper : (r : Bool) → r ≡ (leb a 16 && leb b 16) → r ≡ false → a / 4 ≤ b → leb b (a * 4) ≡ alike a b
+  unfolding alike
+  alike-upper r e q h = let z : (leb a 16 && leb b 16) ≡ false = sym e ∙ q in rw (z, le-leb (a / 4) b h)
+
+  pub alike-not : (r : Bool) → r ≡ (leb a 16 && leb b 16) → r ≡ false → b < a / 4 → leb (a / 4) b ≡ alike a b
+  unfolding alike
+  alike-not r e q h = let z : (leb a 16 && leb b 16) ≡ false = sym e ∙ q in rw (z, lt-leb (a / 4) b h)
+
+  alike-near : a / 4 ≤ b → b ≤ a * 4 → alike a b ≡ true
+  unfolding alike
+  alike-near h k = elim (split (leb a 16 && leb b 16)) [ inl e ↦ rw e | inr e ↦ rw (e, le-leb (a / 4) b h, le-leb b (a * 4) k) ]
+
+  alike-both : a ≤ 16 → b ≤ 16 → alike a b ≡ true
+  unfolding alike
+  alike-both h k = rw (le-leb a 16 h, le-leb b 16 k)
+
+  -- lists of unlike length: the longer one is much the longer
+  module _ (e : alike a b ≡ false) where
+    not-both : a ≤ 16 → b ≤ 16 → ⊥
+    not-both h k = true≢false (sym (alike-both h k) ∙ e)
+
+    not-near : a / 4 ≤ b → b ≤ a * 4 → ⊥
+    not-near h k = true≢false (sym (alike-near h k) ∙ e)
+
+    pub first-longer : b < a → MuchLonger b a
+    first-longer l = (
+      elim (decLt 16 a) [ yes q ↦ q | no q ↦ absurd (not-both (omega arith) (omega arith)) ],
+      elim (decLt (4 * b) a) [ yes q ↦ q | no q ↦ absurd (not-near (omega arith) (omega arith)) ],
+    )
+
+    pub second-longer : a ≤ b → MuchLonger a b
+    second-longer l = (
+      elim (decLt 16 b) [ yes q ↦ q | no q ↦ absurd (not-both (omega arith) (omega arith)) ],
+      elim (decLt (4 * a) b) [ yes q ↦ q | no q ↦ absurd (not-near (omega arith) (omega arith)) ],
+    )

@@ -1,0 +1,277 @@
+// `intersect` of offsets/mod.rs, with the Rust's forms and thresholds. Lists of like length are walked in step; else the
+// longer one is searched for the ids of the shorter.
+ghost use mathlib.Core.Path.{_≡_};
+ghost use mathlib.Core.Bool.{true};
+ghost use Prim.Native.Nat.{ℕ, _≤_, min, max};
+ghost use mathlib.Core.List.{List};
+ghost use lib.ListN.{length};
+ghost use Rattle.lists.specs.Lists.{putAt, keep, within};
+ghost use Rattle.refusals.specs.Refusals.{accepted};
+ghost use Rattle.offsets.specs.Subsets.{range, list, listOrNothing};
+ghost use Rattle.offsets.specs.Answers.{subsetOf, Answered, roomNeeded, intersectRefusal, intersectReply};
+ghost use Rattle.offsets.specs.inner.Writing.{Wrote};
+ghost use Rattle.offsets_intersect.specs.inner.Common.{Fitting, Searchable, common, alike, BothShort, MuchLonger};
+use offsets::SubsetAnswer;
+use offsets::SubsetHead;
+use offsets::is_well_formed;
+use offsets_search::Scan;
+use offsets_search::binary_search_by_id;
+use offsets_search::binary_search_from;
+use offsets_search::scan_for_offset;
+
+mod blocks; // blocks.rt: long lists of like length
+
+// Lists of at most so many ids are walked in step from end to end.
+const SHORT: usize = 16;
+
+// Writes the ids to the start of the output.
+fn write_ids(output: &mut [u32], ids: &[u32])
+    requires { ⌜ length (now ids) ≤ length (now output) ⌝ }
+    ensures { λ _. ⌜ now (output .exit) ≡ putAt (now (output .entry)) 0 (now (ids .entry)) ⌝ }
+{
+    let mut i = 0;
+    while i < ids.len() {
+        output[i] = ids[i];
+        i += 1;
+    }
+}
+
+// The ids of a list that lie in a range: the part between two places.
+fn keep_within(ids: &[u32], start: u32, end: u32, output: &mut [u32]) -> usize
+    requires { ⌜ Fitting (now ids) (now output) × (start ≤ end) ⌝ }
+    ensures { λ r. ⌜ Wrote (now (output .entry)) (keep (within start end) (now (ids .entry))) r (now (output .exit)) ⌝ }
+{
+    let low = binary_search_by_id(ids, start);
+    let high = binary_search_from(ids, low, end);
+    let from = low as usize;
+    let upto = high as usize;
+    write_ids(output, &ids[from..upto]);
+    upto - from
+}
+
+// The ids that another list has too, both lists walked in step. The two ids at hand are kept, and each turn reads one: a loop
+// that reads both again takes half as long again wherever it comes to lie badly.
+fn walk_in_step(ids: &[u32], others: &[u32], output: &mut [u32]) -> usize
+    requires { ⌜ Fitting (now ids) (now output) × Searchable (now others) × BothShort (length (now ids)) (length (now others)) ⌝ }
+    ensures { λ r. ⌜ Wrote (now (output .entry)) (common (now (ids .entry)) (now (others .entry))) r (now (output .exit)) ⌝ }
+{
+    if ids.len() == 0 {
+        return 0;
+    }
+    if others.len() == 0 {
+        return 0;
+    }
+    let mut i = 0;
+    let mut o = 0;
+    let mut n = 0;
+    let mut id = ids[0];
+    let mut other = others[0];
+    loop {
+        if other < id {
+            o += 1;
+            if others.len() <= o {
+                return n;
+            }
+            other = others[o];
+        } else {
+            if id == other {
+                output[n] = id;
+                n += 1;
+            }
+            i += 1;
+            if ids.len() <= i {
+                return n;
+            }
+            id = ids[i];
+        }
+    }
+}
+
+// The ids that another, longer list has too: that one is searched by strides, each search from where the last one ended.
+fn gallop_along(ids: &[u32], others: &[u32], output: &mut [u32]) -> usize
+    requires { ⌜ Fitting (now ids) (now output) × Searchable (now others) × MuchLonger (length (now ids)) (length (now others)) ⌝ }
+    ensures { λ r. ⌜ Wrote (now (output .entry)) (common (now (ids .entry)) (now (others .entry))) r (now (output .exit)) ⌝ }
+{
+    let count = ids.len() as u32;
+    let end = others.len() as u32;
+    let mut i = 0;
+    let mut o = 0;
+    let mut n: u32 = 0;
+    while i < count {
+        if end <= o {
+            return n as usize;
+        }
+        let id = ids[i as usize];
+        i += 1;
+        match scan_for_offset(others, o, id) {
+            Scan::Hit(p) => {
+                output[n as usize] = id;
+                n += 1;
+                o = p + 1;
+            }
+            Scan::Next(p) => {
+                o = p;
+            }
+        }
+    }
+    n as usize
+}
+
+// Two lists are of like length.
+fn are_alike(a: usize, b: usize) -> bool
+    requires { ⌜ a ≤ 65536 ⌝ }
+    ensures { λ r. ⌜ r ≡ alike a b ⌝ }
+{
+    (a <= 16 && b <= 16) || (a / 4 <= b && b <= a * 4)
+}
+
+// Lists of like length, short or long.
+fn walk_alike(ids: &[u32], others: &[u32], output: &mut [u32]) -> usize
+    requires { ⌜ Fitting (now ids) (now output) × Searchable (now others) × (alike (length (now ids)) (length (now others)) ≡ true) ⌝ }
+    ensures { λ r. ⌜ Wrote (now (output .entry)) (common (now (ids .entry)) (now (others .entry))) r (now (output .exit)) ⌝ }
+{
+    if ids.len() <= SHORT && others.len() <= SHORT {
+        return walk_in_step(ids, others, output);
+    }
+    blocks::walk_long(ids, others, output)
+}
+
+// The ids that both lists have: walked in step, or the longer one searched for those of the shorter one.
+fn keep_common(ids: &[u32], others: &[u32], output: &mut [u32]) -> usize
+    requires { ⌜ Fitting (now ids) (now output) × Searchable (now others) ⌝ }
+    ensures { λ r. ⌜ Wrote (now (output .entry)) (common (now (ids .entry)) (now (others .entry))) r (now (output .exit)) ⌝ }
+{
+    if are_alike(ids.len(), others.len()) {
+        return walk_alike(ids, others, output);
+    }
+    if others.len() < ids.len() {
+        return gallop_along(others, ids, output);
+    }
+    gallop_along(ids, others, output)
+}
+
+fn larger(a: u32, b: u32) -> u32
+    ensures { λ r. ⌜ r ≡ max a b ⌝ }
+{
+    if a < b { b } else { a }
+}
+
+fn smaller(a: u32, b: u32) -> u32
+    ensures { λ r. ⌜ r ≡ min a b ⌝ }
+{
+    if a < b { a } else { b }
+}
+
+// Two ranges give a range. Where they do not meet it starts and ends at the larger start.
+pub fn intersect_ranges(a: u32, b: u32, c: u32, d: u32) -> SubsetAnswer
+    ensures { λ r. ⌜ ((output : List ℕ) → Answered (intersectReply (range a b) (range c d) (length output)) output r output) ⌝ }
+{
+    if b < a {
+        return SubsetAnswer::Refused(4);
+    }
+    if d < c {
+        return SubsetAnswer::Refused(4);
+    }
+    let start = larger(a, c);
+    let end = smaller(b, d);
+    SubsetAnswer::Range(start, larger(start, end))
+}
+
+// A range with a list gives a list, or 0..0 where nothing is common.
+fn intersect_range_list(start: u32, end: u32, ids: &[u32], output: &mut [u32]) -> SubsetAnswer
+    requires { ⌜ Fitting (now ids) (now output) × (start ≤ end) ⌝ }
+    ensures { λ r. ⌜ Answered (accepted (listOrNothing (keep (within start end) (now (ids .entry))))) (now (output .entry)) r (now (output .exit)) ⌝ }
+{
+    let n = keep_within(ids, start, end, output);
+    if n == 0 {
+        return SubsetAnswer::Range(0, 0);
+    }
+    SubsetAnswer::List(n as u32)
+}
+
+// A list with a range gives a list, even an empty one.
+fn intersect_list_range(ids: &[u32], start: u32, end: u32, output: &mut [u32]) -> SubsetAnswer
+    requires { ⌜ Fitting (now ids) (now output) × (start ≤ end) ⌝ }
+    ensures { λ r. ⌜ Answered (accepted (list (keep (within start end) (now (ids .entry))))) (now (output .entry)) r (now (output .exit)) ⌝ }
+{
+    let n = keep_within(ids, start, end, output);
+    SubsetAnswer::List(n as u32)
+}
+
+// Two lists give a list.
+fn intersect_lists(ids: &[u32], others: &[u32], output: &mut [u32]) -> SubsetAnswer
+    requires { ⌜ Fitting (now ids) (now output) × Searchable (now others) ⌝ }
+    ensures { λ r. ⌜ Answered (accepted (list (common (now (ids .entry)) (now (others .entry))))) (now (output .entry)) r (now (output .exit)) ⌝ }
+{
+    let n = keep_common(ids, others, output);
+    SubsetAnswer::List(n as u32)
+}
+
+// How many ids an intersection needs room for.
+fn room_needed(
+    first: SubsetHead,
+    first_ids: &[u32],
+    second: SubsetHead,
+    second_ids: &[u32],
+) -> usize
+    ensures { λ r. ⌜ r ≡ roomNeeded (subsetOf first (now («first_ids» .entry))) (subsetOf second (now («second_ids» .entry))) ⌝ }
+{
+    if first.dense {
+        if second.dense {
+            return 0;
+        }
+        return second_ids.len();
+    }
+    first_ids.len()
+}
+
+// The number of the first test that turns an intersection away, 0 if none does.
+fn intersect_refusal(
+    first: SubsetHead,
+    first_ids: &[u32],
+    second: SubsetHead,
+    second_ids: &[u32],
+    output: usize,
+) -> u32
+    ensures { λ r. ⌜ r ≡ intersectRefusal (subsetOf first (now («first_ids» .entry))) (subsetOf second (now («second_ids» .entry))) output ⌝ }
+{
+    if !is_well_formed(first, first_ids) {
+        return 4;
+    }
+    if !is_well_formed(second, second_ids) {
+        return 4;
+    }
+    let room = room_needed(first, first_ids, second, second_ids);
+    if output < room {
+        return 2;
+    }
+    0
+}
+
+// The ids that two subsets have in common, with the Rust's forms. A list is written to the start of the output. Two ranges are asked
+// for first: they need no test of a list, which goes through memory, being too long to be inlined.
+pub fn intersect(
+    first: SubsetHead,
+    first_ids: &[u32],
+    second: SubsetHead,
+    second_ids: &[u32],
+    output: &mut [u32],
+) -> SubsetAnswer
+    ensures { λ r. ⌜ Answered (intersectReply (subsetOf first (now («first_ids» .entry))) (subsetOf second (now («second_ids» .entry))) (length (now (output .entry)))) (now (output .entry)) r (now (output .exit)) ⌝ }
+{
+    let ranges = first.dense & second.dense;
+    if ranges {
+        return intersect_ranges(first.start, first.end, second.start, second.end);
+    }
+    let number = intersect_refusal(first, first_ids, second, second_ids, output.len());
+    if number != 0 {
+        return SubsetAnswer::Refused(number);
+    }
+    if first.dense {
+        return intersect_range_list(first.start, first.end, second_ids, output);
+    }
+    if second.dense {
+        return intersect_list_range(first_ids, second.start, second.end, output);
+    }
+    intersect_lists(first_ids, second_ids, output)
+}

@@ -1,0 +1,10 @@
+-- `offsets_retain::empty` meets its contract. Assumes nothing.
+use Rattle.offsets_retain.proofs.Grow.{begun}
+use Rattle.offsets_retain.proofs.empty.Statement.{statement}
+use Rattle.offsets_retain.proofs.empty.Tie as tie
+
+returns : tie.Need-returns
+returns c = begun
+
+pub empty-spec : {M : Type 1} → statement M
+empty-spec = tie.close (tie.spec returns)

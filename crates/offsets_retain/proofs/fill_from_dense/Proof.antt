@@ -1,0 +1,31 @@
+-- `offsets_retain::fill_from_dense` meets its contract. Assumes nothing.
+use Prim.Native.Nat.{_-_}
+use borrow.Author.Needs.{needs}
+use Rattle.offsets_retain.proofs.Grow.{Filled, filled-begin, filled-more, filled-end}
+use Rattle.offsets_retain.proofs.fill_from_dense.Statement.{statement}
+use Rattle.offsets_retain.proofs.fill_from_dense.Tie as tie
+
+abbrev Inv-loop : tie.InvT-loop
+Inv-loop output₀ start count i₀ output i = Filled output₀ output start count i
+
+abbrev μ-loop : tie.MeasureT-loop
+μ-loop output₀ start count i₀ output i = count - i
+
+loop-holds : tie.Need-loop-holds Inv-loop μ-loop
+loop-holds c = filled-begin _ _ _
+
+loop-again : tie.Need-loop-again Inv-loop μ-loop
+loop-again c = filled-more _ _ _ _ _ (c .before .before .pre .1) (c .before .loop .inv) (c .loop-test .taken)
+
+same-length : tie.Need-same-length Inv-loop μ-loop
+same-length c = c .before .loop .inv .same
+
+returns : tie.Need-returns Inv-loop μ-loop
+returns c = filled-end _ _ _ _ _ (c .before .loop .inv) (c .loop-test .left)
+
+pub fill-from-dense-spec : {M : Type 1} → statement M
+fill-from-dense-spec =
+    tie.close
+    (tie.spec
+    Inv-loop μ-loop loop-holds (λ c. search needs) (λ c. search needs) (λ c. search needs) (λ c. search needs)
+    (λ c. search needs) (λ c. search needs) loop-again same-length returns)

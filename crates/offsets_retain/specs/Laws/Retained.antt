@@ -1,0 +1,25 @@
+-- `retain`, by the ids that were handed in: a range whose kept ids were added one by one, and a list whose kept ids were written.
+-- Assumes nothing.
+use Prim.Native.Nat.{ℕ}
+use mathlib.Core.Bool.{Bool}
+use mathlib.Core.List.{List}
+use Rattle.lists.specs.Lists.{keep}
+use Rattle.refusals.specs.Refusals.{accepted}
+use Rattle.offsets_retain.specs.declared.Growing.{Growing}
+use Rattle.offsets.specs.declared.SubsetAnswer.{SubsetAnswer}
+use Rattle.offsets.specs.declared.SubsetAnswer.the-variants.{List as Ids}
+use Rattle.offsets.specs.Subsets.{range, list, members, retain}
+use Rattle.offsets.specs.Answers.{Answered}
+use Rattle.offsets.specs.inner.Writing.{Wrote}
+use Rattle.offsets.specs.Laws.Subsets.{answered-list}
+use Rattle.offsets.specs.Laws.Forms.{retain-range, retain-list}
+use Rattle.offsets_retain.specs.inner.Growing.{Grows, GrowthEnds}
+
+module _ (test : ℕ → Bool) where
+  pub grown-retains : (a b : ℕ) {output output′ : List ℕ} {g : Growing} {answer : SubsetAnswer} → Grows output output′ g (keep test (members (range a b))) → GrowthEnds g answer
+      → Answered (accepted (retain test (range a b))) output answer output′
+  grown-retains a b {output} {output′} grows ends = rw (retain-range test a b) (ends .ends output output′ _ grows)
+
+  pub listed-retains : (ids : List ℕ) {output output′ : List ℕ} {n : ℕ} → Wrote output (keep test (members (list ids))) n output′
+      → Answered (accepted (retain test (list ids))) output (Ids n) output′
+  listed-retains ids {output} {output′} {n} w = rw (retain-list test ids) (answered-list _ output n output′ w)

@@ -1,0 +1,86 @@
+// The answer of `retain` over a range as it grows: a range while the kept ids are neighbours, then a list of all of them.
+// `retain` itself stands where its test is.
+ghost use mathlib.Core.Path.{_≡_};
+ghost use Prim.Native.Nat.{_+_, _≤_, _<_};
+ghost use lib.ListN.{length, set};
+ghost use Rattle.lists.specs.Lists.{putAt, countFrom};
+ghost use Rattle.offsets_retain.specs.inner.Growing.{pushed, CanAdd, Adds, GrowthBegins, GrowthEnds};
+use offsets::SubsetAnswer;
+
+// The answer of `retain` over a range as it grows: how many ids are kept, the first of them, and how many are written. None is
+// while they are neighbours; all are once they are not. It is plain numbers, which a loop holds in registers.
+pub struct Growing {
+    pub start: u32,
+    pub count: u32,
+    pub written: u32,
+}
+
+// Nothing is kept yet.
+pub fn empty() -> Growing
+    ensures { λ r. ⌜ GrowthBegins r ⌝ }
+{
+    Growing {
+        start: 0,
+        count: 0,
+        written: 0,
+    }
+}
+
+// Writes neighbouring ids to the start of the output.
+pub fn fill_from_dense(output: &mut [u32], start: u32, count: u32)
+    requires { ⌜ (start + count < 4294967296) × (count ≤ length (now output)) ⌝ }
+    ensures { λ _. ⌜ now (output .exit) ≡ putAt (now (output .entry)) 0 (countFrom start count) ⌝ }
+{
+    let mut i = 0;
+    while i < count {
+        let at = i as usize;
+        output[at] = start + i;
+        i += 1;
+    }
+}
+
+// Writes one more id, after the others, which are written.
+fn push_id(g: Growing, output: &mut [u32], id: u32) -> Growing
+    requires { ⌜ (g .count < length (now output)) × (g .count < 4294967295) ⌝ }
+    ensures { λ r. ⌜ (r ≡ pushed g) × (now (output .exit) ≡ set (now (output .entry)) (g .count) id) ⌝ }
+{
+    let at = g.count as usize;
+    output[at] = id;
+    let mut more = g;
+    more.count = g.count + 1;
+    more.written = g.count + 1;
+    more
+}
+
+// One more kept id, above the others.
+pub fn add_row_sorted(g: Growing, output: &mut [u32], id: u32) -> Growing
+    requires { ⌜ CanAdd (now output) g id ⌝ }
+    ensures { λ r. ⌜ Adds (now (output .entry)) g id r (now (output .exit)) ⌝ }
+{
+    if g.written != 0 {
+        return push_id(g, output, id);
+    }
+    let mut more = g;
+    if g.count == 0 {
+        more.start = id;
+        more.count = 1;
+        return more;
+    }
+    if g.start + g.count == id {
+        more.count = g.count + 1;
+        return more;
+    }
+    fill_from_dense(output, g.start, g.count);
+    push_id(g, output, id)
+}
+
+// The answer, when no more is kept.
+pub fn grown(g: Growing) -> SubsetAnswer
+    requires { ⌜ (g .written ≡ 0 → g .start + g .count < 4294967296) ⌝ }
+    ensures { λ r. ⌜ GrowthEnds g r ⌝ }
+{
+    if g.written == 0 {
+        return SubsetAnswer::Range(g.start, g.start + g.count);
+    }
+    SubsetAnswer::List(g.count)
+}

@@ -1,0 +1,12 @@
+-- `offsets_search::binary_search_by_id` meets its contract. Assumes nothing.
+use native.Mathlib.Omega.{arith}
+use borrow.Author.Needs.{needs}
+use Rattle.offsets_search.proofs.binary_search_by_id.Statement.{statement}
+use Rattle.offsets_search.proofs.binary_search_by_id.Tie as tie
+
+returns : tie.Need-returns
+returns c = let s = c .binary-search-from .ensures in
+    record { within = s .within; first = λ e. s .first e (omega arith) }
+
+pub binary-search-by-id-spec : {M : Type 1} → statement M
+binary-search-by-id-spec = tie.close (tie.spec (λ c κs. search needs) returns)

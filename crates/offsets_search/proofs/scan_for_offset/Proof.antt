@@ -1,0 +1,45 @@
+-- `offsets_search::scan_for_offset` meets its contract. Assumes nothing.
+use native.Mathlib.Omega.{arith}
+use borrow.Author.Needs.{needs}
+use Rattle.lists.specs.Laws.Search.{notBelow-past}
+use Rattle.offsets_search.specs.inner.Search.{Reached}
+use Rattle.offsets_search.proofs.Search.{scanned-end, scanned-hit, scanned-before, scanned-part}
+use Rattle.offsets_search.proofs.scan_for_offset.Statement.{statement}
+use Rattle.offsets_search.proofs.scan_for_offset.Tie as tie
+
+returns : tie.Need-returns
+returns c = scanned-end _ _ _ (c .if1 .taken)
+
+returns-2 : tie.Need-returns-2
+returns-2 c = scanned-hit _ _ _ _ (c .before .before .if1 .left) (c .if2 .taken)
+
+returns-3 : tie.Need-returns-3
+returns-3 c = scanned-before _ _ _ (c .before .before .before .if1 .left) (c .if3 .taken)
+
+gallop-requires : tie.Need-gallop-requires
+gallop-requires c κs = (c .before .before .before .before .before .pre, c .before .before .before .if1 .left, λ e. notBelow-past _ _ e _ (c .before .before .before .if1 .left) (omega arith))
+
+binary-search-part-requires : tie.Need-binary-search-part-requires
+unfolding Reached
+binary-search-part-requires c κs = let g = rw (c .before .low .given .1) at (c .before .before .before .gallop .ensures) in (g .order, g .within)
+
+scan-at-requires : tie.Need-scan-at-requires
+unfolding Reached
+scan-at-requires c κs = let g = rw (c .before .before .low .given .1) at (c .before .before .before .before .gallop .ensures) in
+    let s = c .binary-search-part .ensures in
+    omega (arith, s .upto, g .within)
+
+returns-4 : tie.Need-returns-4
+unfolding Reached
+returns-4 c = let g = rw (c .before .p .given .1) at (c .before .before .before .gallop .ensures) in scanned-hit _ _ _ _ (g .inside) (g .hit)
+
+returns-5 : tie.Need-returns-5
+unfolding Reached
+returns-5 c = scanned-part _ _ _ _ _ _ _ (rw (c .before .before .before .low .given .1) at (c .before .before .before .before .before .gallop .ensures)) (c .before .binary-search-part .ensures) (c .scan-at .ensures)
+
+pub scan-for-offset-spec : {M : Type 1} → statement M
+scan-for-offset-spec =
+    tie.close
+    (tie.spec
+    (λ c. search needs) returns (λ c. search needs) (λ c. search needs) returns-2 returns-3 gallop-requires
+    (λ c. search needs) (λ c. search needs) binary-search-part-requires scan-at-requires returns-4 returns-5)

@@ -1,0 +1,68 @@
+-- Calls on a plain table: "stagings, merges, compactions and clears, stopped and refused ones included", and (change 2) refreshes. A
+-- refusal changes nothing. Assumes nothing.
+use Prim.Native.Nat.{ℕ}
+use mathlib.Core.Bool.{false, cond}
+use mathlib.Core.List.{List, [], _∷_, _++_}
+use lib.Dec.{ltb, eqb}
+use lib.ListN.{length}
+use Rattle.lists.specs.Lists.{any}
+use Rattle.refusals.specs.Refusals.{rung, first}
+use Rattle.plain_table.specs.Staged.{Staged, wordsAll}
+use Rattle.plain_table.specs.Plain.{Plain, with, stage, merged, compacted, cleared}
+use Rattle.plain_table.specs.Refusing.{Lengths, wrongWidth, stageLadder, mergeLadder, compactLadder, clearLadder}
+use Rattle.plain_table.specs.Refreshing.{Refresh, mentioning, refreshed, refreshLadder}
+
+pub data Call : Type 0 where
+  staging : Staged → Call
+  merging compacting clearing : Call
+  -- "A refresh joins demand 3's list: the plain table stages these records of its own rows"; beside it is the length of the index
+  -- store that it is lent
+  refreshing : Refresh → ℕ → Call
+  -- "Over such an unsound index store, and nowhere else, it is fed the records that the call staged, all of them whole": what is not
+  -- whole would be turned away by 3, but no refresh stages such a record (`history` law `fed-right`)
+  feeding : List Staged → Call
+
+-- its pending words used
+abbrev pub used : Plain → ℕ
+used p = wordsAll (p .opening) (p .staged)
+
+-- the records that a refresh stages
+abbrev pub recordsOf : Plain → Refresh → List Staged
+recordsOf p r = refreshed (p .opening) (r .stamp) (mentioning r p)
+
+-- all of these are staged, in order
+unfoldable pub stageAll : Plain → List Staged → Plain
+stageAll p rs = with p (p .generation) (p .rows) (p .staged ++ rs) (p .largest)
+
+-- the first number that applies, 0 if none. All that is left of test 1 on a table that was opened is "pending words used above
+-- the pending store"
+unfoldable pub refusal : Plain → Lengths → Call → ℕ
+refusal p l (staging r) = stageLadder (ltb (l .pending) (used p)) (p .opening) (length (p .rows)) (used p) (l .pending) r
+refusal p l merging = mergeLadder (ltb (l .pending) (used p)) (p .opening) l
+refusal p l compacting = compactLadder false (p .opening) (p .generation) l
+refusal p l clearing = clearLadder false (p .opening) (p .generation) (length (p .rows)) (l .keys)
+refusal p l (refreshing r index) =
+    refreshLadder (ltb (l .pending) (used p)) (p .opening) (p .largest) r (l .rows) index (used p) (l .pending) (wordsAll (p .opening) (recordsOf p r))
+refusal p l (feeding rs) = first (rung (any (wrongWidth (p .opening)) rs) 3 ∷ [])
+
+-- what an accepted call leaves
+unfoldable pub done : Plain → Call → Plain
+done p (staging r) = stage p r
+done p merging = merged p .table
+done p compacting = compacted p
+done p clearing = cleared p
+done p (refreshing r index) = stageAll p (recordsOf p r)
+done p (feeding rs) = stageAll p rs
+
+unfoldable pub after : Plain → Lengths → Call → Plain
+after p l c = cond (eqb (refusal p l c) 0) (done p c) p
+
+-- a call and the lengths of stores: those that it is lent are the ones that its ladder looks at
+pub record LentCall : Type 0 where
+  pub call : Call
+  pub lengths : Lengths
+
+-- all the calls, the first one first
+unfoldable pub afterAll : Plain → List LentCall → Plain
+afterAll p [] = p
+afterAll p (c ∷ cs) = afterAll (after p (c .lengths) (c .call)) cs

@@ -1,0 +1,234 @@
+-- Batches of inserts: what a merge that does not stop leaves of the live rows depends on the live rows alone, one insert after
+-- another, so that a batch may be cut anywhere. Why and when an insert stops plays no part. Assumes nothing.
+use Prim.Native.Nat.{ℕ, zero, suc, _<_}
+use mathlib.Core.Path.{_≡_, refl, sym, ap, ap₂, _∙_}
+use mathlib.Core.Logic.{inl, inr}
+use mathlib.Core.Bool.{Bool, true, false, cond, not}
+use mathlib.Core.List.{List, [], _∷_, _++_, map, foldl, map-append, append-nil, append-assoc}
+use mathlib.Core.Option.{Option, none, some, Option·map}
+use native.Mathlib.Omega.{arith}
+use lib.ListN.{take}
+use Rattle.lists.specs.Lists.{keep, firstOf}
+use Rattle.lists.specs.Laws.Keep.{split, keep-append}
+use Rattle.refusals.specs.Refusals.{Reply, refused, accepted, reply}
+use Rattle.merge_rules.specs.Rules.{ruled}
+use Rattle.plain_table.specs.Staged.{Opening, Staged, insert, inserts, hasKey, skipped}
+use Rattle.plain_table.specs.Plain.{Row, Plain, withRow, Numbered, liveRows, lookup, stage, liveWithKey, killIf, withoutKey, withoutRow, removed, stop, append, put, insertion, goOn, Inserted, insertAll, applied, compacted, unstaged, compactsAfter, merged}
+use Rattle.plain_table.specs.Laws.Rows.{liveRow}
+use Rattle.plain_table.specs.Laws.Counts.{insertion-alike, applied-alike}
+use Rattle.plain_table.specs.Laws.Live.{cells-liveFrom, liveRows-compacted}
+
+-- ---- the live rows' cells, in order
+
+unfoldable pub liveCells : Plain → List (List ℕ)
+liveCells p = map (λ row. row .cells) (liveRows p)
+
+-- those of a list of rows
+unfoldable cellsOf : List Row → List (List ℕ)
+cellsOf rows = map (λ row. row .cells) (keep (λ row. row .live) rows)
+
+live-cells-of : (p : Plain) → liveCells p ≡ cellsOf (p .rows)
+unfolding liveCells liveRows cellsOf
+live-cells-of p = cells-liveFrom 0 (p .rows)
+
+-- a row is appended
+cells-of-appended : (rows : List Row) (cells : List ℕ) → cellsOf (rows ++ (liveRow cells ∷ [])) ≡ cellsOf rows ++ (cells ∷ [])
+unfolding cellsOf keep
+cells-of-appended rows cells =
+    ap (map (λ (row : Row). row .cells)) (keep-append (λ (row : Row). row .live) rows (liveRow cells ∷ []))
+    ∙ map-append (λ (row : Row). row .cells) (keep (λ row. row .live) rows) (liveRow cells ∷ [])
+
+-- the rows of a key die
+cells-of-killed : (keys : ℕ) (key : List ℕ) (rows : List Row) → cellsOf (killIf (liveWithKey keys key) rows) ≡ keep (λ cells. not (hasKey keys key cells)) (cellsOf rows)
+unfolding cellsOf killIf keep liveWithKey
+cells-of-killed keys key [] = refl
+cells-of-killed keys key (row ∷ rows) =
+    let h = cells-of-killed keys key rows in
+    elim (split (row .live)) [
+      | inl e ↦ elim (split (hasKey keys key (row .cells))) [ inl k ↦ rw (e, k, h) | inr k ↦ rw (e, k, h) ]
+      | inr e ↦ rw (e, h)
+    ]
+
+-- the first that passes a test on what is mapped
+first-of-map : {A B : Type 0} (f : A → B) (test : B → Bool) (l : List A) → Option·map f (firstOf (λ x. test (f x)) l) ≡ firstOf test (map f l)
+unfolding firstOf
+first-of-map f test [] = refl
+first-of-map f test (x ∷ xs) =
+    let h = first-of-map f test xs in
+    elim (split (test (f x))) [ inl e ↦ rw e | inr e ↦ rw (e, h) ]
+
+-- ---- an insert, as the live rows see it
+
+-- "A new key is appended. A known key goes through the rule; a row so made is appended and the old row dies"
+unfoldable placed : Opening → List ℕ → Option (List ℕ) → List (List ℕ) → List (List ℕ)
+placed o cells none live = live ++ (cells ∷ [])
+placed o cells (some old) live =
+    elim (ruled (o .rule) (o .keys) (o .sort) old cells) [
+      | none ↦ live
+      | some row ↦ keep (λ other. not (hasKey (o .keys) (take (o .keys) cells) other)) live ++ (row ∷ [])
+    ]
+
+unfoldable arrived : Opening → List ℕ → List (List ℕ) → List (List ℕ)
+arrived o cells live = cond (skipped cells) live (placed o cells (firstOf (hasKey (o .keys) (take (o .keys) cells)) live) live)
+
+-- all of them, the first one first
+unfoldable allArrived : Opening → List (List ℕ) → List (List ℕ) → List (List ℕ)
+allArrived o [] live = live
+allArrived o (cells ∷ rest) live = allArrived o rest (arrived o cells live)
+
+all-arrived-then : (o : Opening) (a b live : List (List ℕ)) → allArrived o (a ++ b) live ≡ allArrived o b (allArrived o a live)
+unfolding allArrived
+all-arrived-then o [] b live = refl
+all-arrived-then o (cells ∷ rest) b live = all-arrived-then o rest b (arrived o cells live)
+
+-- what comes of an insert into p: these live rows, or a stop
+abbrev Leaves : Plain → List (List ℕ) → Reply (Option Plain) → Type 0
+Leaves p live (refused number) = 0 < number
+Leaves p live (accepted none) = liveCells p ≡ live
+Leaves p live (accepted (some p′)) = liveCells p′ ≡ live
+
+append-leaves : (cells : List ℕ) (p : Plain) (rows : List Row) → Leaves p (cellsOf rows ++ (cells ∷ [])) (append cells p rows)
+unfolding append reply
+append-leaves cells p rows = go (stop cells p)
+  where
+    go : (n : ℕ) → Leaves p (cellsOf rows ++ (cells ∷ [])) (reply n (some (withRow p rows cells)))
+    go zero = live-cells-of (withRow p rows cells) ∙ cells-of-appended rows cells
+    go (suc n) = omega arith
+
+put-leaves : (cells : List ℕ) (found : Option Numbered) (p : Plain) → Leaves p (placed (p .opening) cells (Option·map (λ row. row .cells) found) (liveCells p)) (put cells found p)
+unfolding put placed
+put-leaves cells none p = rw (live-cells-of p) (append-leaves cells p (p .rows))
+put-leaves cells (some old) p = go (ruled (p .opening .rule) (p .opening .keys) (p .opening .sort) (old .cells) cells)
+  where
+    key : List ℕ
+    key = take (p .opening .keys) cells
+
+    go : (r : Option (List ℕ))
+        → Leaves p
+        (elim r [ none ↦ liveCells p | some row ↦ keep (λ other. not (hasKey (p .opening .keys) key other)) (liveCells p) ++ (row ∷ []) ])
+        (elim r [ none ↦ accepted none | some row ↦ append row p (killIf (liveWithKey (p .opening .keys) key) (p .rows)) ])
+    go none = refl
+    go (some row) =
+        rw (live-cells-of p, ← cells-of-killed (p .opening .keys) key (p .rows))
+        (append-leaves row p (killIf (liveWithKey (p .opening .keys) key) (p .rows)))
+
+-- what is looked up by key is found among the cells
+lookup-cells : (p : Plain) (key : List ℕ) → Option·map (λ row. row .cells) (lookup p key) ≡ firstOf (hasKey (p .opening .keys) key) (liveCells p)
+unfolding lookup liveCells
+lookup-cells p key = first-of-map (λ (row : Numbered). row .cells) (hasKey (p .opening .keys) key) (liveRows p)
+
+insertion-leaves : (cells : List ℕ) (p : Plain) → Leaves p (arrived (p .opening) cells (liveCells p)) (insertion cells p)
+unfolding insertion arrived
+insertion-leaves cells p =
+    let key : List ℕ = take (p .opening .keys) cells in
+    elim (split (skipped cells)) [ inl e ↦ rw e | inr e ↦ rw (e, ← lookup-cells p key) (put-leaves cells (lookup p key) p) ]
+
+-- ---- a merge of inserts alone
+
+-- inserts none of which stops
+insert-all-leaves : (rows : List (List ℕ)) (place : ℕ) (added : Bool) (p : Plain) → insertAll rows place added p .status ≡ 0
+    → liveCells (insertAll rows place added p .table) ≡ allArrived (p .opening) rows (liveCells p)
+unfolding insertAll allArrived
+insert-all-leaves [] place added p e = refl
+insert-all-leaves (cells ∷ rest) place added p e =
+    go (insertion cells p) refl (insertion-leaves cells p) (insert-all-leaves rest (suc place)) e
+  where
+    now : List (List ℕ)
+    now = arrived (p .opening) cells (liveCells p)
+
+    go : (i : Reply (Option Plain)) → insertion cells p ≡ i → Leaves p now i
+        → ((added′ : Bool) (p′ : Plain) → insertAll rest (suc place) added′ p′ .status ≡ 0
+        → liveCells (insertAll rest (suc place) added′ p′ .table) ≡ allArrived (p′ .opening) rest (liveCells p′))
+        → goOn i place added p (insertAll rest (suc place)) .status ≡ 0
+        → liveCells (goOn i place added p (insertAll rest (suc place)) .table) ≡ allArrived (p .opening) rest now
+    go (accepted none) q l ih s = rw (← l) (ih added p s)
+    go (accepted (some p′)) q l ih s = rw (← l, ← insertion-alike cells p p′ q .opening) (ih true p′ s)
+    go (refused n) q l ih s = absurd (omega (arith, l, s))
+
+-- emptied of its staged records, and compacted or not, a table has the same live rows
+abbrev finished : Bool → Plain → Plain
+finished compacting p = cond compacting (compacted (unstaged p)) (unstaged p)
+
+live-cells-unstaged : (p : Plain) → liveCells (unstaged p) ≡ liveCells p
+unfolding liveCells liveRows unstaged
+live-cells-unstaged p = refl
+
+live-cells-finished : (compacting : Bool) (p : Plain) → liveCells (finished compacting p) ≡ liveCells p
+unfolding liveCells
+live-cells-finished true p = liveRows-compacted (unstaged p) ∙ live-cells-unstaged p
+live-cells-finished false p = live-cells-unstaged p
+
+-- and the same opening
+finished-rest : (compacting : Bool) (p : Plain) → (finished compacting p .opening ≡ p .opening) × (finished compacting p .staged ≡ [])
+unfolding compacted unstaged
+finished-rest true p = (refl, refl)
+finished-rest false p = (refl, refl)
+
+-- a batch staged: one insert after another
+unfoldable pub batch : List (List ℕ) → Plain → Plain
+batch [] p = p
+batch (cells ∷ rest) p = batch rest (stage p (insert cells))
+
+batch-staged : (rows : List (List ℕ)) (p : Plain) → batch rows p .staged ≡ p .staged ++ map insert rows
+unfolding batch stage
+batch-staged [] p = sym (append-nil (p .staged))
+batch-staged (cells ∷ rest) p = batch-staged rest (stage p (insert cells)) ∙ append-assoc (p .staged) (insert cells ∷ []) (map insert rest)
+
+-- only its inserts
+inserts-map : (rows : List (List ℕ)) → inserts (map insert rows) ≡ rows
+unfolding inserts
+inserts-map [] = refl
+inserts-map (cells ∷ rest) = ap (λ (l : List (List ℕ)). cells ∷ l) (inserts-map rest)
+
+-- nothing is removed
+kept-map : (rows : List (List ℕ)) (p : Plain) → (foldl withoutKey p (map insert rows) ≡ p) × (foldl withoutRow p (map insert rows) ≡ p)
+unfolding withoutKey withoutRow
+kept-map [] p = (refl, refl)
+kept-map (cells ∷ rest) p = kept-map rest p
+
+-- the rest is as it was
+batch-rest : (rows : List (List ℕ)) (p : Plain) → (batch rows p .opening ≡ p .opening) × (liveCells (batch rows p) ≡ liveCells p)
+unfolding batch stage liveCells liveRows
+batch-rest [] p = (refl, refl)
+batch-rest (cells ∷ rest) p = batch-rest rest (stage p (insert cells))
+
+module _ (rows : List (List ℕ)) (p : Plain) (e : p .staged ≡ []) where
+  -- what is staged is the batch
+  applied-batch : applied (batch rows p) ≡ insertAll rows 0 false (batch rows p)
+  unfolding applied removed
+  applied-batch =
+      let staged : batch rows p .staged ≡ map insert rows = batch-staged rows p ∙ ap (λ (l : List Staged). l ++ map insert rows) e in
+      let q : Plain = batch rows p in
+      let kept : removed q ≡ q =
+      ap (λ (rs : List Staged). foldl withoutRow (foldl withoutKey q rs) rs) staged
+      ∙ ap (λ (t : Plain). foldl withoutRow t (map insert rows)) (kept-map rows q .0)
+      ∙ kept-map rows q .1 in
+      ap₂ (λ (cells : List (List ℕ)) (t : Plain). insertAll cells 0 false t) (ap inserts staged ∙ inserts-map rows) kept
+
+  -- merged without a stop, it is the live rows' arrivals
+  merged-leaves : merged (batch rows p) .status ≡ 0 → liveCells (merged (batch rows p) .table) ≡ allArrived (p .opening) rows (liveCells p)
+  unfolding merged
+  merged-leaves q =
+      let rest = batch-rest rows p in
+      let k : insertAll rows 0 false (batch rows p) .status ≡ 0 = rw applied-batch at q in
+      let t : Inserted = applied (batch rows p) in
+      live-cells-finished (compactsAfter (t .status) (t .table)) (t .table)
+      ∙ ap (λ (x : Inserted). liveCells (x .table)) applied-batch
+      ∙ insert-all-leaves rows 0 false (batch rows p) k
+      ∙ ap₂ (λ (o : Opening) (live : List (List ℕ)). allArrived o rows live) (rest .0) (rest .1)
+
+  -- with the same opening, and nothing pending
+  merged-rest : merged (batch rows p) .status ≡ 0 → (merged (batch rows p) .table .opening ≡ p .opening) × (merged (batch rows p) .table .staged ≡ [])
+  unfolding merged
+  merged-rest q =
+      let t : Inserted = applied (batch rows p) in
+      let f = finished-rest (compactsAfter (t .status) (t .table)) (t .table) in
+      (f .0 ∙ applied-alike (batch rows p) .opening ∙ batch-rest rows p .0, f .1)
+
+-- "merging one batch and then another shall leave the same live rows in the same order as merging both as one"
+pub cut-anywhere : (p : Plain) (a b : List (List ℕ)) → p .staged ≡ [] → merged (batch a p) .status ≡ 0
+    → merged (batch b (merged (batch a p) .table)) .status ≡ 0 → merged (batch (a ++ b) p) .status ≡ 0
+    → liveCells (merged (batch b (merged (batch a p) .table)) .table) ≡ liveCells (merged (batch (a ++ b) p) .table)
+cut-anywhere p a b e one two whole =
+    merged-leaves b (merged (batch a p) .table) (merged-rest a p e one .1) two
+    ∙ (rw (merged-rest a p e one .0, merged-leaves a p e one, merged-leaves (a ++ b) p e whole) (sym (all-arrived-then (p .opening) a b (liveCells p))))

@@ -1,0 +1,49 @@
+-- A call that is refused, and one that is not. Assumes nothing.
+use Prim.Native.Nat.{ℕ, suc, _<_}
+use mathlib.Core.Path.{_≡_, refl}
+use mathlib.Core.Bool.{Bool, true, false}
+use mathlib.Core.List.{List, [], _∷_}
+use native.Mathlib.Decide.{ℕ-discrete}
+use native.Mathlib.Omega.{arith}
+use borrow.Author.Tests.{eq-eqb, ne-eqb}
+use Rattle.refusals.specs.Refusals.{Rung, rung, first}
+use Rattle.plain_table.specs.Refusing.{Lengths}
+use Rattle.plain_table.specs.Plain.{Plain}
+use Rattle.plain_table.specs.Calls.{Call, LentCall, refusal, done, after, afterAll}
+
+-- "A refusal .. changes nothing"
+pub refused-nothing : (p : Plain) (l : Lengths) (c : Call) → 0 < refusal p l c → after p l c ≡ p
+unfolding after
+refused-nothing p l c h = rw (ne-eqb (refusal p l c) 0 (omega arith))
+
+-- a call that is not refused is done
+pub accepted-done : (p : Plain) (l : Lengths) (c : Call) → refusal p l c ≡ 0 → after p l c ≡ done p c
+unfolding after
+accepted-done p l c e = rw (eq-eqb (refusal p l c) 0 e)
+
+-- where each call leads from a table as said, and ways can be joined, so do calls one after another
+module _ (Leads : Plain → Plain → Type 0) (same : (p : Plain) → Leads p p) (joined : (p q r : Plain) → Leads p q → Leads q r → Leads p r)
+    (each : (p : Plain) (c : Call) → Leads p (done p c)) where
+  leads-one : (p : Plain) (l : Lengths) (c : Call) → Leads p (after p l c)
+  leads-one p l c =
+      elim (ℕ-discrete (refusal p l c) 0) [
+        | yes e ↦ rw (accepted-done p l c e) (each p c)
+        | no e ↦ rw (refused-nothing p l c (omega arith)) (same p)
+      ]
+
+  pub leads-all : (p : Plain) (cs : List LentCall) → Leads p (afterAll p cs)
+  unfolding afterAll
+  leads-all p [] = same p
+  leads-all p (c ∷ cs) = joined _ _ _ (leads-one p (c .lengths) (c .call)) (leads-all (after p (c .lengths) (c .call)) cs)
+
+-- where no rung applies, the first does not
+pub first-no : (applies : Bool) (n : ℕ) (rest : List Rung) → first (rung applies (suc n) ∷ rest) ≡ 0 → applies ≡ false
+unfolding first
+first-no true n rest e = absurd (omega arith)
+first-no false n rest e = refl
+
+-- nor does one of the others
+pub first-rest : (applies : Bool) (n : ℕ) (rest : List Rung) → first (rung applies (suc n) ∷ rest) ≡ 0 → first rest ≡ 0
+unfolding first
+first-rest true n rest e = absurd (omega arith)
+first-rest false n rest e = e

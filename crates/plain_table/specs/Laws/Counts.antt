@@ -1,0 +1,186 @@
+-- What a merge's parts leave as it was: the count of rows, the opening, the generation, the staged records. Assumes
+-- nothing.
+use Prim.Native.Nat.{ℕ, zero, suc}
+use mathlib.Core.Path.{_≡_, refl, ap, _∙_}
+use mathlib.Core.Bool.{Bool, true, false, cond}
+use mathlib.Core.Option.{Option, none, some}
+use mathlib.Core.List.{List, [], _∷_, foldl}
+use native.Mathlib.Omega.{arith}
+use lib.ListN.{length, take, length-append, length-map}
+use Rattle.lists.specs.Lists.{every}
+use Rattle.lists.specs.Laws.Every.{every-head, every-tail}
+use Rattle.refusals.specs.Refusals.{Reply, refused, accepted, reply}
+use Rattle.merge_rules.specs.Rules.{ruled, madeFrom, changesFrom}
+use Rattle.plain_table.specs.Staged.{Staged, insert, removeKey, removeRow, inserts, skipped}
+use Rattle.plain_table.specs.Plain.{Row, Plain, withRows, withRow, liveWithKey, killIf, withoutKey, dies, withoutRow, removed, stop, append, put, insertion, applied, Numbered, lookup, goOn, insertAll}
+use Rattle.merge_rules.specs.Laws.Rules.{ruled-made}
+
+-- ---- removals keep the count of rows
+
+-- rows that die stay in their places
+pub length-killIf : (test : Row → Bool) (rows : List Row) → length (killIf test rows) ≡ length rows
+unfolding killIf
+length-killIf test rows = length-map rows (λ row. cond (test row) (record { live = false; cells = row .cells }) row)
+
+-- so does the row of a removal by row
+pub length-dies : (keys : ℕ) (key : List ℕ) (number : ℕ) (rows : List Row) → length (dies keys key number rows) ≡ length rows
+unfolding dies
+length-dies keys key number [] = refl
+length-dies keys key zero (row ∷ rows) = refl
+length-dies keys key (suc number) (row ∷ rows) = ap suc (length-dies keys key number rows)
+
+-- What rows that die leave as it was, a merge's removals leave as it was.
+pub removed-keeps : (P : Plain → Type 0)
+    → ((q : Plain) (test : Row → Bool) → P q → P (withRows q (killIf test (q .rows))))
+    → ((q : Plain) (keys : ℕ) (key : List ℕ) (number : ℕ) → P q → P (withRows q (dies keys key number (q .rows))))
+    → (p : Plain) → P p → P (removed p)
+unfolding removed withoutKey withoutRow
+removed-keeps P kill die p h = by-row (p .staged) _ (by-key (p .staged) p h)
+  where
+    by-key : (rs : List Staged) (q : Plain) → P q → P (foldl withoutKey q rs)
+    by-key [] q g = g
+    by-key (insert cells ∷ rs) q g = by-key rs q g
+    by-key (removeKey key ∷ rs) q g = by-key rs _ (kill q _ g)
+    by-key (removeRow row key ∷ rs) q g = by-key rs q g
+
+    by-row : (rs : List Staged) (q : Plain) → P q → P (foldl withoutRow q rs)
+    by-row [] q g = g
+    by-row (insert cells ∷ rs) q g = by-row rs q g
+    by-row (removeKey key ∷ rs) q g = by-row rs q g
+    by-row (removeRow row key ∷ rs) q g = by-row rs _ (die q _ key row g)
+
+-- they keep the count of rows
+pub length-removed : (p : Plain) → length (removed p .rows) ≡ length (p .rows)
+length-removed p =
+    removed-keeps (λ q. length (q .rows) ≡ length (p .rows)) (λ q test e. length-killIf test (q .rows) ∙ e)
+    (λ q keys key number e. length-dies keys key number (q .rows) ∙ e) p refl
+
+-- ---- what is left but the rows and the largest value
+
+-- the same opening, generation and staged records
+pub record Alike (p q : Plain) : Type 0 where
+  pub opening : q .opening ≡ p .opening
+  pub generation : q .generation ≡ p .generation
+  pub staged : q .staged ≡ p .staged
+
+-- other rows only
+pub alike-rows : (p : Plain) (rows : List Row) → Alike p (withRows p rows)
+alike-rows p rows = record { opening = refl; generation = refl; staged = refl }
+
+-- nothing changes
+pub alike-same : (p : Plain) → Alike p p
+alike-same p = record { opening = refl; generation = refl; staged = refl }
+
+-- one change after another
+pub alike-then : {p q r : Plain} → Alike p q → Alike q r → Alike p r
+alike-then a b =
+    record {
+      opening = b .opening ∙ a .opening;
+      generation = b .generation ∙ a .generation;
+      staged = b .staged ∙ a .staged;
+    }
+
+-- a merge's removals change rows only
+pub removed-alike : (p : Plain) → Alike p (removed p)
+removed-alike p =
+    removed-keeps (λ q. Alike p q) (λ q test a. alike-then a (alike-rows q _)) (λ q keys key number a. alike-then a (alike-rows q _)) p (alike-same p)
+
+-- ---- an insertion
+
+-- an insert that appends: it is not skipped, there is no stop, and its key is new or the rule makes a row
+pub data Appended (cells : List ℕ) (p : Plain) : Plain → Type 0 where
+  new : skipped cells ≡ false
+      → lookup p (take (p .opening .keys) cells) ≡ none
+      → stop cells p ≡ 0
+      → Appended cells p (withRow p (p .rows) cells)
+  again : (old : Numbered) (row : List ℕ) → skipped cells ≡ false
+      → lookup p (take (p .opening .keys) cells) ≡ some old
+      → changesFrom (p .opening .rule) (p .opening .keys) (p .opening .sort) 0 (old .cells) cells ≡ true
+      → madeFrom (p .opening .rule) (p .opening .keys) (p .opening .sort) 0 (old .cells) cells ≡ row
+      → stop row p ≡ 0
+      → Appended cells p (withRow p (killIf (liveWithKey (p .opening .keys) (take (p .opening .keys) cells)) (p .rows)) row)
+
+-- a row is appended only where there is no stop
+append-appended : (cells : List ℕ) (p p′ : Plain) (rows : List Row) → append cells p rows ≡ accepted (some p′)
+    → (stop cells p ≡ 0) × (withRow p rows cells ≡ p′)
+unfolding append reply
+append-appended cells p p′ rows e = go (stop cells p) e
+  where
+    go : (n : ℕ) → reply n (some (withRow p rows cells)) ≡ accepted (some p′) → (n ≡ 0) × (withRow p rows cells ≡ p′)
+    go zero f = (refl, cc)
+    go (suc n) f = absurd (let z : _≡_ {A = ℕ} 0 1 = cc in omega arith)
+
+-- what an insert that appends went through
+pub insertion-appended : (cells : List ℕ) (p p′ : Plain) → insertion cells p ≡ accepted (some p′) → Appended cells p p′
+unfolding insertion put
+insertion-appended cells p p′ e = skip (skipped cells) refl e
+  where
+    rule : (old : Numbered) (r : Option (List ℕ))
+        → skipped cells ≡ false
+        → lookup p (take (p .opening .keys) cells) ≡ some old
+        → ruled (p .opening .rule) (p .opening .keys) (p .opening .sort) (old .cells) cells ≡ r
+        → elim r [ none ↦ accepted none | some row ↦ append row p (killIf (liveWithKey (p .opening .keys) (take (p .opening .keys) cells)) (p .rows)) ] ≡ accepted (some p′)
+        → Appended cells p p′
+    rule old none s l q f = absurd (let z : _≡_ {A = ℕ} 0 1 = cc in omega arith)
+    rule old (some row) s l q f =
+        let a = append-appended row p p′ (killIf (liveWithKey (p .opening .keys) (take (p .opening .keys) cells)) (p .rows)) f in
+        let m = ruled-made (p .opening .rule) (p .opening .keys) (p .opening .sort) (old .cells) cells row q in
+        rw (← a .1) (again old row s l (m .0) (m .1) (a .0))
+
+    find : (found : Option Numbered) → skipped cells ≡ false → lookup p (take (p .opening .keys) cells) ≡ found → put cells found p ≡ accepted (some p′) → Appended cells p p′
+    find none s l f = let a = append-appended cells p p′ (p .rows) f in rw (← a .1) (new s l (a .0))
+    find (some old) s l f = rule old (ruled (p .opening .rule) (p .opening .keys) (p .opening .sort) (old .cells) cells) s l refl f
+
+    skip : (b : Bool) → skipped cells ≡ b
+        → cond b (accepted none) (put cells (lookup p (take (p .opening .keys) cells)) p) ≡ accepted (some p′) → Appended cells p p′
+    skip true s f = absurd (let z : _≡_ {A = ℕ} 0 1 = cc in omega arith)
+    skip false s f = find (lookup p (take (p .opening .keys) cells)) s refl f
+
+appended-count : {cells : List ℕ} {p p′ : Plain} → Appended cells p p′ → length (p′ .rows) ≡ suc (length (p .rows))
+appended-count {cells} {p} (new s l q) = simp length-append (omega arith)
+appended-count {cells} {p} (again old row s l c m q) = simp (length-append, length-killIf) (omega arith)
+
+appended-alike : {cells : List ℕ} {p p′ : Plain} → Appended cells p p′ → Alike p p′
+appended-alike (new s l q) = record { opening = refl; generation = refl; staged = refl }
+appended-alike (again old row s l c m q) = record { opening = refl; generation = refl; staged = refl }
+
+-- an insertion that appends adds one row; the others leave the table as it is
+pub insertion-count : (cells : List ℕ) (p p′ : Plain) → insertion cells p ≡ accepted (some p′) → length (p′ .rows) ≡ suc (length (p .rows))
+insertion-count cells p p′ e = appended-count (insertion-appended cells p p′ e)
+
+-- it changes rows and the largest value only
+pub insertion-alike : (cells : List ℕ) (p p′ : Plain) → insertion cells p ≡ accepted (some p′) → Alike p p′
+insertion-alike cells p p′ e = appended-alike (insertion-appended cells p p′ e)
+
+-- ---- all the inserts
+
+-- what each insert that appends keeps, the inserts keep, where all pass the test that it needs
+pub insertAll-keeps : (P : Plain → Type 0) (test : List ℕ → Bool)
+    → ((cells : List ℕ) (p p′ : Plain) → test cells ≡ true → P p → insertion cells p ≡ accepted (some p′) → P p′)
+    → (rows : List (List ℕ)) → every test rows ≡ true → (place : ℕ) (added : Bool) (p : Plain) → P p → P (insertAll rows place added p .table)
+unfolding insertAll
+insertAll-keeps P test f [] e place added p h = h
+insertAll-keeps P test f (cells ∷ rest) e place added p h =
+    go (insertion cells p) refl (insertAll-keeps P test f rest (every-tail test cells rest e) (suc place))
+  where
+    go : (i : Reply (Option Plain)) → insertion cells p ≡ i → ((added′ : Bool) (p′ : Plain) → P p′ → P (insertAll rest (suc place) added′ p′ .table))
+        → P (goOn i place added p (insertAll rest (suc place)) .table)
+    go (accepted none) q ih = ih added p h
+    go (accepted (some p′)) q ih = ih true p′ (f cells p p′ (every-head test cells rest e) h q)
+    go (refused n) q ih = h
+
+-- a test that all pass
+pub every-true : (rows : List (List ℕ)) → every (λ row. true) rows ≡ true
+unfolding every
+every-true [] = refl
+every-true (row ∷ rows) = every-true rows
+
+-- the inserts change rows and the largest value only
+pub insertAll-alike : (rows : List (List ℕ)) (place : ℕ) (added : Bool) (p : Plain) → Alike p (insertAll rows place added p .table)
+insertAll-alike rows place added p =
+    insertAll-keeps (λ t. Alike p t) (λ row. true) (λ cells t t′ u h q. alike-then h (insertion-alike cells t t′ q)) rows (every-true rows) place added p (alike-same p)
+
+-- a merge's removals and inserts leave all but the rows and the largest value
+pub applied-alike : (p : Plain) → Alike p (applied p .table)
+unfolding applied
+applied-alike p = alike-then (removed-alike p) (insertAll-alike (inserts (p .staged)) 0 false (removed p))

@@ -1,0 +1,35 @@
+-- The live rows, the dead rows and compaction. Assumes nothing.
+use Prim.Native.Nat.{ℕ, suc, _≤_}
+use mathlib.Core.Path.{_≡_, refl, sym, ap, _∙_}
+use mathlib.Core.Logic.{inl, inr}
+use mathlib.Core.Bool.{not}
+use mathlib.Core.List.{List, [], _∷_, map}
+use lib.ListN.{length}
+use Rattle.lists.specs.Lists.{keep}
+use Rattle.lists.specs.Laws.Keep.{split, count-le, every-keep}
+use Rattle.lists.specs.Laws.Every.{keep-again, count-not}
+use Rattle.plain_table.specs.Plain.{Row, Plain, liveFrom, liveRows, dead, compacted}
+
+-- the cells of the live rows, whatever they are numbered from
+pub cells-liveFrom : (n : ℕ) (rows : List Row) → map (λ r. r .cells) (liveFrom n rows) ≡ map (λ r. r .cells) (keep (λ row. row .live) rows)
+unfolding liveFrom keep
+cells-liveFrom n [] = refl
+cells-liveFrom n (row ∷ rows) = let h = cells-liveFrom (suc n) rows in elim (split (row .live)) [ inl e ↦ rw (e, h) | inr e ↦ rw (e, h) ]
+
+-- dead rows are rows
+pub dead-le : (p : Plain) → dead p ≤ length (p .rows)
+unfolding dead
+dead-le p = count-le (λ row. not (row .live)) (p .rows)
+
+-- after a compaction no row is dead
+pub dead-compacted : (p : Plain) → dead (compacted p) ≡ 0
+unfolding dead compacted
+dead-compacted p = count-not (λ row. row .live) (keep (λ row. row .live) (p .rows)) (every-keep (λ row. row .live) (p .rows))
+
+-- a compaction keeps the live rows' cells, in order
+pub liveRows-compacted : (p : Plain) → map (λ r. r .cells) (liveRows (compacted p)) ≡ map (λ r. r .cells) (liveRows p)
+unfolding liveRows compacted
+liveRows-compacted p =
+    cells-liveFrom 0 (keep (λ row. row .live) (p .rows))
+    ∙ ap (map (λ (r : Row). r .cells)) (keep-again (λ row. row .live) (p .rows))
+    ∙ sym (cells-liveFrom 0 (p .rows))

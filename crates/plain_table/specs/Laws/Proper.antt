@@ -1,0 +1,340 @@
+-- Opening makes a proper table, and every call keeps one proper. Assumes nothing.
+use Prim.Native.Nat.{ℕ, _+_, _≤_, _<_, max, _/_}
+use mathlib.Core.Path.{_≡_, refl, sym, ap, _∙_}
+use mathlib.Core.Logic.{inl, inr}
+use mathlib.Core.Bool.{Bool, true, false, not, _&&_, false≢true}
+use mathlib.Core.List.{List, [], _∷_}
+use mathlib.Core.Option.{Option, none, some}
+use native.Mathlib.Decide.{ℕ-discrete}
+use native.Mathlib.Omega.{arith}
+use lib.Dec.{leb, ltb, eqb}
+use lib.ListN.{length, take, getD}
+use borrow.Author.Tests.{leb-true, ltb-true, leb-false, eqb-true, eqb-false, le-leb, lt-ltb, not-true, not-false}
+use Rattle.lists.specs.Lists.{every}
+use Rattle.lists.specs.Laws.Keep.{split, and-left, and-right, every-getD, every-keep-of}
+use Rattle.lists.specs.Laws.Every.{and-both, every-head, every-tail, every-cons, every-snoc, every-append}
+use Rattle.cells.specs.Cells.{isDead}
+use Rattle.refusals.specs.Refusals.{accepted}
+use Rattle.plain_table.specs.Staged.{Opening, openable, Staged, insert, removeKey, removeRow, inserts, skipped, due}
+use Rattle.plain_table.specs.Plain.{Row, Plain, liveRows, withRows, opened, stage, liveWithKey, killIf, dies, removed, stop, insertion, applied, dead, compacted, unstaged, compactsAfter, merged, cleared, below, withRow, insertAll}
+use Rattle.plain_table.specs.Refreshing.{Refresh, mentions, mentioning}
+use Rattle.plain_table.specs.Refusing.{Lengths, wrongWidth, stageLadder, compactLadder, clearLadder}
+use Rattle.plain_table.specs.Calls.{Call, staging, merging, compacting, clearing, refreshing, feeding, recordsOf, stageAll, refusal, done, after, LentCall, afterAll, used}
+use Rattle.plain_table.specs.Proper.{rowOf, Proper}
+use Rattle.merge_rules.specs.Laws.Rules.{made-length, made-keys, made-first}
+use Rattle.plain_table.specs.Laws.Lookup.{lookup-none, lookup-at}
+use Rattle.plain_table.specs.Laws.Rows.{noRow, wideRow, freeRow, Tidy, liveWithKey-key, free-dead, apart-of, apart-at, up-of, up-sorted, Thinned, killIf-thinned, dies-thinned, keep-thinned, thinned-same, thinned-length, thinned-tidy, tidy-snoc}
+use Rattle.plain_table.specs.Laws.Calls.{refused-nothing, accepted-done, first-no, first-rest}
+use Rattle.plain_table.specs.Laws.Refreshing.{live-wide, refreshed-whole, none-wrong}
+use Rattle.plain_table.specs.Laws.Counts.{Appended, new, again, insertion-appended, insertion-alike, removed-keeps, removed-alike, insertAll-keeps}
+
+-- ---- an opening's numbers
+
+-- "its bounds"
+pub record Bounds (o : Opening) : Type 0 where
+  pub columns-some : 1 ≤ o .columns
+  pub columns-few : o .columns ≤ 8
+  pub keys-some : 1 ≤ o .keys
+  pub keys-few : o .keys ≤ o .columns
+  pub sort-column : o .sort < o .columns
+  pub rule-known : o .rule ≤ 3
+  pub capacity-some : 1 ≤ o .capacity
+  pub capacity-few : o .capacity ≤ 65536
+
+-- an accepted opening is within them
+pub openable-bounds : (o : Opening) → openable o ≡ true → Bounds o
+unfolding openable
+openable-bounds o e =
+    let a = and-left _ _ e in
+    let b = and-left _ _ a in
+    let c = and-left _ _ b in
+    let d = and-left _ _ c in
+    let f = and-left _ _ d in
+    let g = and-left _ _ f in
+    record {
+      columns-some = leb-true _ _ (and-left _ _ g);
+      columns-few = leb-true _ _ (and-right (leb 1 (o .columns)) _ g);
+      keys-some = leb-true _ _ (and-right (leb 1 (o .columns) && leb (o .columns) 8) _ f);
+      keys-few = leb-true _ _ (and-right (leb 1 (o .columns) && leb (o .columns) 8 && leb 1 (o .keys)) _ d);
+      sort-column = ltb-true _ _ (and-right (leb 1 (o .columns) && leb (o .columns) 8 && leb 1 (o .keys) && leb (o .keys) (o .columns)) _ c);
+      rule-known = leb-true _ _ (and-right (leb 1 (o .columns) && leb (o .columns) 8 && leb 1 (o .keys) && leb (o .keys) (o .columns) && ltb (o .sort) (o .columns)) _ b);
+      capacity-some = leb-true _ _ (and-right (leb 1 (o .columns) && leb (o .columns) 8 && leb 1 (o .keys) && leb (o .keys) (o .columns) && ltb (o .sort) (o .columns) && leb (o .rule) 3) _ a);
+      capacity-few = leb-true _ _ (and-right (leb 1 (o .columns) && leb (o .columns) 8 && leb 1 (o .keys) && leb (o .keys) (o .columns) && ltb (o .sort) (o .columns) && leb (o .rule) 3 && leb 1 (o .capacity)) _ e);
+    }
+
+-- numbers within their bounds are accepted
+pub bounds-openable : (o : Opening) → Bounds o → openable o ≡ true
+unfolding openable
+bounds-openable o b =
+    rw (
+      le-leb _ _ (b .columns-some),
+      le-leb _ _ (b .columns-few),
+      le-leb _ _ (b .keys-some),
+      le-leb _ _ (b .keys-few),
+      lt-ltb _ _ (b .sort-column),
+      le-leb _ _ (b .rule-known),
+      le-leb _ _ (b .capacity-some),
+      le-leb _ _ (b .capacity-few),
+    )
+
+-- ---- proper, and the rows as a list
+
+-- every staged record has the right number of cells
+abbrev pub Whole : Opening → List Staged → Type 0
+Whole o staged = every (λ r. not (wrongWidth o r)) staged ≡ true
+
+-- a proper table's rows are tidy
+pub proper-tidy : {p : Plain} → Proper p → Tidy (p .opening) (p .largest) (p .rows)
+proper-tidy {p} h =
+    record {
+      fit = h .rows-fit;
+      wide = h .widths;
+      first = h .live-first;
+      differ = apart-of (p .opening .keys) (p .rows) (h .keys-differ);
+      climb = up-of (p .opening .sort) 0 (p .rows) (λ j k. omega arith) (h .sorted);
+      kept = h .largest-kept;
+    }
+
+-- tidy rows, and the rest, make a proper table
+pub tidy-proper : (p : Plain) → openable (p .opening) ≡ true → p .generation ≤ 4294967295 → Tidy (p .opening) (p .largest) (p .rows) → Whole (p .opening) (p .staged) → Proper p
+tidy-proper p bounds fits t whole =
+    record {
+      numbers = bounds;
+      generation-fits = fits;
+      rows-fit = t .fit;
+      widths = t .wide;
+      live-first = t .first;
+      keys-differ = apart-at (p .opening .keys) (p .rows) (t .differ);
+      sorted = up-sorted (p .opening .sort) 0 (p .rows) (t .climb);
+      largest-kept = t .kept;
+      staged-whole = whole;
+    }
+
+-- no rows
+pub tidy-none : (o : Opening) (largest : Option ℕ) → Tidy o largest []
+unfolding every
+tidy-none o largest =
+    record {
+      fit = omega arith;
+      wide = refl;
+      first = refl;
+      differ = apart-of (o .keys) [] (λ i j p q k. absurd (false≢true p));
+      climb = up-of (o .sort) 0 [] (λ j k. omega arith) (λ i j h k. absurd (omega arith));
+      kept = refl;
+    }
+
+-- a table is opened
+pub opened-proper : (o : Opening) (generation : ℕ) → openable o ≡ true → generation ≤ 4294967295 → Proper (opened o generation)
+unfolding opened
+opened-proper o generation e h = tidy-proper (opened o generation) e h (tidy-none o none) (unfold every in refl)
+
+-- ---- rows die, and rows go
+
+-- other rows, all else the same
+pub withRows-proper : {p : Plain} (rows : List Row) → Proper p → Tidy (p .opening) (p .largest) rows → Proper (withRows p rows)
+withRows-proper {p} rows h t = tidy-proper (withRows p rows) (h .numbers) (h .generation-fits) t (h .staged-whole)
+
+-- some rows dead or gone
+pub thinned-proper : {p : Plain} {rows : List Row} → Proper p → Thinned (p .rows) rows → Proper (withRows p rows)
+thinned-proper {p} {rows} h t = withRows-proper rows h (thinned-tidy (p .opening) t (proper-tidy h))
+
+-- every row that passes a test dies
+pub killIf-proper : {p : Plain} (test : Row → Bool) → Proper p → Proper (withRows p (killIf test (p .rows)))
+killIf-proper {p} test h = thinned-proper h (killIf-thinned test (p .rows))
+
+-- one row dies, if it is live and has the key
+pub dies-proper : {p : Plain} (keys : ℕ) (key : List ℕ) (number : ℕ) → Proper p → Proper (withRows p (dies keys key number (p .rows)))
+dies-proper {p} keys key number h = thinned-proper h (dies-thinned keys key number (p .rows))
+
+-- a merge's removals
+pub removed-proper : {p : Plain} → Proper p → Proper (removed p)
+removed-proper {p} h = removed-keeps Proper (λ q test k. killIf-proper test k) (λ q keys key number k. dies-proper keys key number k) p h
+
+-- ---- a row is appended
+
+-- where nothing stops an insert there is room
+pub stop-room : (cells : List ℕ) (p : Plain) → stop cells p ≡ 0 → length (p .rows) < p .opening .capacity
+unfolding stop
+stop-room cells p e = leb-false _ _ (first-no _ 7 _ e)
+
+-- its sort cell is not below the largest value
+pub stop-above : (cells : List ℕ) (p : Plain) → stop cells p ≡ 0 → below (getD cells (p .opening .sort) 0) (p .largest) ≡ false
+unfolding stop
+stop-above cells p e = first-no _ 8 _ (first-rest _ 7 _ e)
+
+-- a live row of a key that no live row has, after rows that some of the table's are dead in
+pub append-proper : {p : Plain} (cells : List ℕ) {rows : List Row} → Proper p → Thinned (p .rows) rows
+    → length cells ≡ p .opening .columns
+    → isDead (getD cells 0 0) ≡ false
+    → every (freeRow (p .opening .keys) (take (p .opening .keys) cells)) rows ≡ true
+    → stop cells p ≡ 0
+    → Proper (withRow p rows cells)
+append-proper {p} cells {rows} h t width head free e =
+    let room = stop-room cells p e in
+    tidy-proper (withRow p rows cells) (h .numbers) (h .generation-fits)
+    (tidy-snoc (p .opening) (p .largest) rows cells (thinned-tidy (p .opening) t (proper-tidy h)) (omega (arith, thinned-length t)) width head free (stop-above cells p e))
+    (h .staged-whole)
+
+-- ---- inserts
+
+-- no live row of a key is left once those of that key died
+pub killIf-free : (keys : ℕ) (key : List ℕ) (rows : List Row) → every (freeRow keys key) (killIf (liveWithKey keys key) rows) ≡ true
+unfolding killIf
+killIf-free keys key [] = unfold every in refl
+killIf-free keys key (row ∷ rows) =
+    every-cons (freeRow keys key) _ _
+    (elim (split (liveWithKey keys key row)) [ inl e ↦ rw e (free-dead keys key row) | inr e ↦ rw (e, e) ])
+    (killIf-free keys key rows)
+
+appended-proper : {cells : List ℕ} {p p′ : Plain} → Proper p → length cells ≡ p .opening .columns → Appended cells p p′ → Proper p′
+unfolding skipped
+appended-proper {cells} {p} h w (new s l e) = append-proper cells h (thinned-same (p .rows)) w s (lookup-none p _ l) e
+appended-proper {cells} {p} h w (again old row s l c m e) =
+    let keys : ℕ = p .opening .keys in
+    let t = lookup-at p (take keys cells) old l in
+    let b = openable-bounds (p .opening) (h .numbers) in
+    let width : length (old .cells) ≡ p .opening .columns = ap length (sym (t .2)) ∙ eqb-true _ _ (every-getD (wideRow (p .opening .columns)) (p .rows) (h .widths) (old .number) (t .0) noRow) in
+    let key : take keys (old .cells) ≡ take keys cells = ap (take keys) (sym (t .2)) ∙ liveWithKey-key keys (take keys cells) (rowOf p (old .number)) (t .1) in
+    let row-key : take keys row ≡ take keys cells = ap (take keys) (sym m) ∙ made-keys (p .opening .rule) keys (p .opening .sort) (old .cells) cells (width ∙ sym w) key ∙ key in
+    append-proper row h (killIf-thinned _ (p .rows))
+    (ap length (sym m) ∙ made-length (p .opening .rule) keys (p .opening .sort) (old .cells) cells (width ∙ sym w) ∙ width)
+    (ap (λ (r : List ℕ). isDead (getD r 0 0)) (sym m) ∙ ap isDead (made-first (p .opening .rule) keys (p .opening .sort) (old .cells) cells (b .keys-some) (width ∙ sym w) key) ∙ s)
+    (rw row-key (killIf-free keys (take keys cells) (p .rows)))
+    e
+
+-- a row of the right width is inserted: what is appended leaves a proper table; otherwise it is the table itself
+pub insertion-proper : (cells : List ℕ) (p p′ : Plain) → Proper p → length cells ≡ p .opening .columns → insertion cells p ≡ accepted (some p′) → Proper p′
+insertion-proper cells p p′ h w e = appended-proper h w (insertion-appended cells p p′ e)
+
+-- all the inserts, each of the right width
+pub insertAll-proper : {p : Plain} (rows : List (List ℕ)) (place : ℕ) (added : Bool) → Proper p → every (λ cells. eqb (length cells) (p .opening .columns)) rows ≡ true
+    → Proper (insertAll rows place added p .table)
+insertAll-proper {p} rows place added h e =
+    insertAll-keeps (λ t. (Proper t) × (t .opening ≡ p .opening)) (λ cells. eqb (length cells) (p .opening .columns))
+    (λ cells t t′ w k q.
+    (insertion-proper cells t t′ (k .0) (eqb-true _ _ w ∙ ap (λ (o : Opening). o .columns) (sym (k .1))) q, insertion-alike cells t t′ q .opening ∙ k .1))
+    rows e place added p (h, refl)
+    .0
+
+-- staged inserts have the right width
+pub inserts-wide : (o : Opening) (rs : List Staged) → Whole o rs → every (λ cells. eqb (length cells) (o .columns)) (inserts rs) ≡ true
+unfolding inserts
+inserts-wide o [] e = unfold every in refl
+inserts-wide o (insert cells ∷ rs) e =
+    every-cons (λ row. eqb (length row) (o .columns)) cells (inserts rs)
+    (unfold wrongWidth in not-false _ (not-true _ (every-head (λ r. not (wrongWidth o r)) (insert cells) rs e)))
+    (inserts-wide o rs (every-tail (λ r. not (wrongWidth o r)) (insert cells) rs e))
+inserts-wide o (removeKey key ∷ rs) e = inserts-wide o rs (every-tail (λ r. not (wrongWidth o r)) (removeKey key) rs e)
+inserts-wide o (removeRow row key ∷ rs) e = inserts-wide o rs (every-tail (λ r. not (wrongWidth o r)) (removeRow row key) rs e)
+
+-- ---- merge
+
+-- a merge's removals and inserts
+pub applied-proper : {p : Plain} → Proper p → Proper (applied p .table)
+unfolding applied
+applied-proper {p} h =
+    insertAll-proper (inserts (p .staged)) 0 false (removed-proper h)
+    (rw (removed-alike p .opening) (inserts-wide (p .opening) (p .staged) (h .staged-whole)))
+
+-- a compaction, where a generation is left
+pub compacted-proper : {p : Plain} → Proper p → p .generation < 4294967295 → Proper (compacted p)
+unfolding compacted
+compacted-proper {p} h k =
+    tidy-proper (compacted p) (h .numbers) (omega arith) (thinned-tidy (p .opening) (keep-thinned (λ row. row .live) (p .rows)) (proper-tidy h)) (h .staged-whole)
+
+-- pending is emptied
+pub unstaged-proper : {p : Plain} → Proper p → Proper (unstaged p)
+unfolding unstaged
+unstaged-proper {p} h = tidy-proper (unstaged p) (h .numbers) (h .generation-fits) (proper-tidy h) (unfold every in refl)
+
+-- a generation that fits and is not the last is below it
+below-last : (g : ℕ) → g ≤ 4294967295 → eqb g 4294967295 ≡ false → g < 4294967295
+below-last g h e = omega (arith, eqb-false g 4294967295 e)
+
+-- a merge compacts only where a generation is left
+compacts-below : {p : Plain} (status : ℕ) → Proper p → compactsAfter status p ≡ true → p .generation < 4294967295
+unfolding compactsAfter due
+compacts-below {p} status h e =
+    below-last (p .generation) (h .generation-fits) (not-true _ (and-right (ltb (max 16 (length (p .rows) / 2)) (dead p)) _ (and-right (eqb status 0) _ e)))
+
+-- a merge, stopped or not
+pub merged-proper : {p : Plain} → Proper p → Proper (merged p .table)
+unfolding merged unstaged
+merged-proper {p} h =
+    let q : Plain = applied p .table in
+    let k = unstaged-proper (applied-proper h) in
+    elim (split (compactsAfter (applied p .status) q)) [ inl e ↦ rw e (compacted-proper k (compacts-below (applied p .status) (applied-proper h) e)) | inr e ↦ rw e k ]
+
+-- ---- stage and clear
+
+-- a record is staged that is not refused
+pub staged-proper : {p : Plain} (outside : Bool) (pending : ℕ) (r : Staged) → Proper p → stageLadder outside (p .opening) (length (p .rows)) (used p) pending r ≡ 0 → Proper (stage p r)
+unfolding stage stageLadder
+staged-proper {p} outside pending r h e =
+    let w : wrongWidth (p .opening) r ≡ false = first-no _ 2 _ (first-rest _ 0 _ e) in
+    tidy-proper (stage p r) (h .numbers) (h .generation-fits) (proper-tidy h)
+    (every-snoc (λ s. not (wrongWidth (p .opening) s)) (p .staged) r (h .staged-whole) (rw w))
+
+-- whole records
+pub stageAll-proper : {p : Plain} (rs : List Staged) → Proper p → Whole (p .opening) rs → Proper (stageAll p rs)
+unfolding stageAll
+stageAll-proper {p} rs h whole =
+    tidy-proper (stageAll p rs) (h .numbers) (h .generation-fits) (proper-tidy h)
+    (every-append (λ s. not (wrongWidth (p .opening) s)) (p .staged) rs (h .staged-whole) whole)
+
+-- those of a refresh
+pub records-whole : {p : Plain} (r : Refresh) → Proper p → Whole (p .opening) (recordsOf p r)
+unfolding mentioning liveRows
+records-whole {p} r h =
+    let o = p .opening in
+    refreshed-whole o (r .stamp) (mentioning r p) (openable-bounds o (h .numbers) .keys-few)
+    (every-keep-of (λ row. eqb (length (row .cells)) (o .columns)) (λ row. mentions (r .columns) (r .values) (row .cells)) (liveRows p) (live-wide o 0 (p .rows) (h .widths)))
+
+-- a clear, where a generation is left if there are rows
+pub cleared-proper : {p : Plain} → Proper p → (0 < length (p .rows) → p .generation < 4294967295) → Proper (cleared p)
+unfolding cleared
+cleared-proper {p} h f =
+    elim (split (ltb 0 (length (p .rows)))) [
+      | inl e ↦
+          let k = f (ltb-true _ _ e) in
+          rw e (opened-proper (p .opening) (p .generation + 1) (h .numbers) (omega arith))
+      | inr e ↦ rw e (unstaged-proper h)
+    ]
+
+-- ---- calls
+
+-- a call that is not refused
+pub done-proper : {p : Plain} (l : Lengths) (c : Call) → Proper p → refusal p l c ≡ 0 → Proper (done p c)
+unfolding done refusal
+done-proper {p} l (staging r) h e = staged-proper (ltb (l .pending) (used p)) (l .pending) r h e
+done-proper l merging h e = merged-proper h
+done-proper {p} l compacting h e =
+    compacted-proper h (below-last (p .generation) (h .generation-fits) (unfold compactLadder in first-no _ 9 _ (first-rest _ 1 _ (first-rest _ 0 _ e))))
+done-proper {p} l clearing h e =
+    let n : (eqb (p .generation) 4294967295 && ltb 0 (length (p .rows))) ≡ false = unfold clearLadder in first-no _ 9 _ (first-rest _ 1 _ (first-rest _ 0 _ e)) in
+    cleared-proper h
+    (λ k.
+    elim (split (eqb (p .generation) 4294967295)) [
+      | inl q ↦ absurd (false≢true (sym n ∙ and-both _ _ q (lt-ltb _ _ k)))
+      | inr q ↦ below-last (p .generation) (h .generation-fits) q
+    ])
+done-proper {p} l (refreshing r index) h e = stageAll-proper (recordsOf p r) h (records-whole r h)
+done-proper {p} l (feeding rs) h e = stageAll-proper rs h (none-wrong (p .opening) rs (first-no _ 2 _ e))
+
+-- every call keeps a table proper, a refused one too
+pub after-proper : {p : Plain} (l : Lengths) (c : Call) → Proper p → Proper (after p l c)
+after-proper {p} l c h =
+    elim (ℕ-discrete (refusal p l c) 0) [
+      | yes e ↦ rw (accepted-done p l c e) (done-proper l c h e)
+      | no e ↦ rw (refused-nothing p l c (omega arith)) h
+    ]
+
+-- all the calls
+pub afterAll-proper : {p : Plain} (cs : List LentCall) → Proper p → Proper (afterAll p cs)
+unfolding afterAll
+afterAll-proper [] h = h
+afterAll-proper (c ∷ cs) h = afterAll-proper cs (after-proper (c .lengths) (c .call) h)
+
+-- "every plain table that calls lead to from an opening"
+pub history-proper : (o : Opening) (generation : ℕ) (cs : List LentCall) → openable o ≡ true → generation ≤ 4294967295 → Proper (afterAll (opened o generation) cs)
+history-proper o generation cs e h = afterAll-proper cs (opened-proper o generation e h)

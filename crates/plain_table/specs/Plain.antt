@@ -1,0 +1,199 @@
+-- The plain table (document 01, "Plain table"): what a table is, with no header, no store and no key index. Assumes
+-- nothing.
+use Prim.Native.Nat.{ℕ, zero, suc, _+_, max}
+use mathlib.Core.Bool.{Bool, true, false, cond, not, _&&_}
+use mathlib.Core.List.{List, [], _∷_, _++_, map, foldl}
+use mathlib.Core.Option.{Option, none, some}
+use lib.ListN.{length, take, getD}
+use lib.Dec.{leb, ltb, eqb}
+use Rattle.lists.specs.Lists.{keep, count, firstOf}
+use Rattle.refusals.specs.Refusals.{rung, first, Reply, refused, accepted, reply}
+use Rattle.merge_rules.specs.Rules.{ruled}
+use Rattle.plain_table.specs.Staged.{Opening, Staged, insert, removeKey, removeRow, inserts, hasKey, skipped, due}
+
+-- "rows live or dead": "dead rows keep their cells until compaction drops them"
+pub record Row : Type 0 where
+  pub live : Bool
+  pub cells : List ℕ
+
+abbrev pub deadRow : Row → Row
+deadRow row = record { live = false; cells = row .cells }
+
+-- "an opening's numbers, a generation, rows live or dead, numbered from 0, staged records in order", and (change 7) "the
+-- largest sort value appended since opening or the last clear that emptied rows, and whether there is one"
+pub record Plain : Type 0 where
+  pub opening : Opening
+  pub generation : ℕ
+  pub rows : List Row
+  pub staged : List Staged
+  pub largest : Option ℕ
+
+-- the same opening, with other parts
+abbrev pub with : Plain → ℕ → List Row → List Staged → Option ℕ → Plain
+with p generation rows staged largest =
+    record { opening = p .opening; generation = generation; rows = rows; staged = staged; largest = largest }
+
+abbrev pub withRows : Plain → List Row → Plain
+withRows p rows = with p (p .generation) rows (p .staged) (p .largest)
+
+-- what is asked of it: the live rows, numbers and cells, rising
+pub record Numbered : Type 0 where
+  pub number : ℕ
+  pub cells : List ℕ
+
+unfoldable pub liveFrom : ℕ → List Row → List Numbered
+liveFrom n [] = []
+liveFrom n (row ∷ rows) =
+    cond (row .live) (record { number = n; cells = row .cells } ∷ liveFrom (suc n) rows) (liveFrom (suc n) rows)
+
+unfoldable pub liveRows : Plain → List Numbered
+liveRows p = liveFrom 0 (p .rows)
+
+-- "a key .. its one live row", if there is one
+unfoldable pub lookup : Plain → List ℕ → Option Numbered
+lookup p key = firstOf (λ row. hasKey (p .opening .keys) key (row .cells)) (liveRows p)
+
+unfoldable pub live : Plain → ℕ
+live p = count (λ row. row .live) (p .rows)
+
+unfoldable pub dead : Plain → ℕ
+dead p = count (λ row. not (row .live)) (p .rows)
+
+-- Open: "Empties the table"
+unfoldable pub opened : Opening → ℕ → Plain
+opened o generation = record { opening = o; generation = generation; rows = []; staged = []; largest = none }
+
+-- Stage insert, removal by key, removal by row
+unfoldable pub stage : Plain → Staged → Plain
+stage p r = with p (p .generation) (p .rows) (p .staged ++ (r ∷ [])) (p .largest)
+
+-- Merge
+
+-- a live row of this key
+unfoldable pub liveWithKey : ℕ → List ℕ → Row → Bool
+liveWithKey keys key row = row .live && hasKey keys key (row .cells)
+
+-- every row that passes the test dies
+unfoldable pub killIf : (Row → Bool) → List Row → List Row
+killIf test rows = map (λ row. cond (test row) (deadRow row) row) rows
+
+-- what a staged record does where removals by key are taken
+unfoldable pub withoutKey : Plain → Staged → Plain
+withoutKey p (insert cells) = p
+withoutKey p (removeKey key) = withRows p (killIf (liveWithKey (p .opening .keys) key) (p .rows))
+withoutKey p (removeRow row key) = p
+
+-- "A removal by row works if that row still exists, is live and has that key"
+unfoldable pub dies : ℕ → List ℕ → ℕ → List Row → List Row
+dies keys key number [] = []
+dies keys key zero (row ∷ rows) = cond (liveWithKey keys key row) (deadRow row) row ∷ rows
+dies keys key (suc number) (row ∷ rows) = row ∷ dies keys key number rows
+
+-- what it does where removals by row are taken
+unfoldable pub withoutRow : Plain → Staged → Plain
+withoutRow p (insert cells) = p
+withoutRow p (removeKey key) = p
+withoutRow p (removeRow row key) = withRows p (dies (p .opening .keys) key row (p .rows))
+
+-- "takes removals by key, then removals by row, .. each in staging order": `foldl` takes the records one after another, from the
+-- first on
+unfoldable pub removed : Plain → Plain
+removed p = foldl withoutRow (foldl withoutKey p (p .staged)) (p .staged)
+
+-- "a sort value below that kept value", if there is one
+unfoldable pub below : ℕ → Option ℕ → Bool
+below value none = false
+below value (some largest) = ltb value largest
+
+-- "8, row count equals capacity, tested before 9", which (change 7) "is now given for a sort value below that kept value"
+unfoldable pub stop : List ℕ → Plain → ℕ
+stop cells p =
+    first
+    (rung (leb (p .opening .capacity) (length (p .rows))) 8
+    ∷ rung (below (getD cells (p .opening .sort) 0) (p .largest)) 9
+    ∷ [])
+
+-- the largest value, once this one is appended too
+unfoldable pub raised : ℕ → Option ℕ → ℕ
+raised value none = value
+raised value (some largest) = max value largest
+
+-- the table with this row after these
+abbrev pub withRow : Plain → List Row → List ℕ → Plain
+withRow p rows cells =
+    with p (p .generation) (rows ++ (record { live = true; cells = cells } ∷ [])) (p .staged) (some (raised (getD cells (p .opening .sort) 0) (p .largest)))
+
+-- What an insert does: refused, it stops the merge with that number; accepted, it leaves a table with a row more, or none where
+-- nothing changes.
+
+-- a row that must be appended, and the rows that it is appended to
+unfoldable pub append : List ℕ → Plain → List Row → Reply (Option Plain)
+append cells p rows = reply (stop cells p) (some (withRow p rows cells))
+
+-- "A new key is appended. A known key goes through the rule; a row so made is appended and the old row dies"
+unfoldable pub put : List ℕ → Option Numbered → Plain → Reply (Option Plain)
+put cells none p = append cells p (p .rows)
+put cells (some old) p =
+    elim (ruled (p .opening .rule) (p .opening .keys) (p .opening .sort) (old .cells) cells) [
+      | none ↦ accepted none
+      | some row ↦ append row p (killIf (liveWithKey (p .opening .keys) (take (p .opening .keys) cells)) (p .rows))
+    ]
+
+unfoldable pub insertion : List ℕ → Plain → Reply (Option Plain)
+insertion cells p = cond (skipped cells) (accepted none) (put cells (lookup p (take (p .opening .keys) cells)) p)
+
+-- what the inserts of a merge leave: the table, the stop's number and place ("both 0 if not stopped"), and "*added*: a row
+-- was appended"
+pub record Inserted : Type 0 where
+  pub table : Plain
+  pub status : ℕ
+  pub place : ℕ
+  pub added : Bool
+
+abbrev pub inserted : Plain → ℕ → ℕ → Bool → Inserted
+inserted p status place added = record { table = p; status = status; place = place; added = added }
+
+-- what comes of an insert at a place: the rest goes on, or the merge stops there
+abbrev pub goOn : Reply (Option Plain) → ℕ → Bool → Plain → (Bool → Plain → Inserted) → Inserted
+goOn (refused number) place added p rest = inserted p number place added
+goOn (accepted none) place added p rest = rest added p
+goOn (accepted (some p′)) place added p rest = rest true p′
+
+-- the inserts from this place on, "among all staged inserts from 0", until one must be appended and cannot be
+unfoldable pub insertAll : List (List ℕ) → ℕ → Bool → Plain → Inserted
+insertAll [] place added p = inserted p 0 0 added
+insertAll (cells ∷ rest) place added p = goOn (insertion cells p) place added p (insertAll rest (suc place))
+
+-- ".. then inserts"
+unfoldable pub applied : Plain → Inserted
+applied p = insertAll (inserts (p .staged)) 0 false (removed p)
+
+-- Compaction: "drops them and the others close up in order", "the generation rises by one"
+unfoldable pub compacted : Plain → Plain
+compacted p = with p (p .generation + 1) (keep (λ row. row .live) (p .rows)) (p .staged) (p .largest)
+
+unfoldable pub unstaged : Plain → Plain
+unstaged p = with p (p .generation) (p .rows) [] (p .largest)
+
+-- whether a merge whose inserts leave this compacts: if it stopped, "no compaction follows"
+unfoldable pub compactsAfter : ℕ → Plain → Bool
+compactsAfter status p = eqb status 0 && due (dead p) (length (p .rows)) (p .generation)
+
+-- what a merge leaves: stopped or not, "pending is emptied"
+unfoldable pub merged : Plain → Inserted
+merged p =
+    let m = applied p in
+    inserted (cond (compactsAfter (m .status) (m .table)) (compacted (unstaged (m .table))) (unstaged (m .table))) (m .status) (m .place) (m .added)
+
+-- (change 9) "how many rows its own compaction kept, 0 if there was none, and how many it dropped": those live and those dead
+-- at that moment
+unfoldable pub mergeKeeps : Plain → ℕ
+mergeKeeps p = let m = applied p in cond (compactsAfter (m .status) (m .table)) (live (m .table)) 0
+
+unfoldable pub mergeDrops : Plain → ℕ
+mergeDrops p = let m = applied p in cond (compactsAfter (m .status) (m .table)) (dead (m .table)) 0
+
+-- Clear: "Unless refused, empties pending; with rows, the rest too, and the generation rises by one". With rows nothing is
+-- left but the opening's numbers and the generation; without, the largest value stays
+unfoldable pub cleared : Plain → Plain
+cleared p = cond (ltb 0 (length (p .rows))) (opened (p .opening) (p .generation + 1)) (unstaged p)

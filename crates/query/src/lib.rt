@@ -1,0 +1,93 @@
+// Refine by one and by a list, any match, page.
+ghost use Rattle.offsets.specs.Answers.{subsetOf};
+ghost use Rattle.query_spec.specs.Queries.{RefinedOne, RefinedList, Matched, PageRead};
+use constraints::Constraint;
+use offsets::SubsetAnswer;
+use offsets::SubsetHead;
+use query_scan::Question;
+use query_scan::ask_one;
+use query_scan::close_match;
+use query_scan::close_page;
+use query_scan::close_refine;
+use query_scan::write_found;
+use query_spec::MatchAnswer;
+use query_spec::PageAnswer;
+use table::Header;
+use walks::ask;
+
+// The rows of a subset that are live and meet a condition: a range while they are neighbours, of a list a list.
+pub fn refine_one(
+    h: Header,
+    rows: &[u32],
+    head: SubsetHead,
+    ids: &[u32],
+    c: Constraint,
+    out: &mut [u32],
+) -> SubsetAnswer
+    ensures { λ r. ⌜ RefinedOne h (now (rows .entry)) (subsetOf head (now (ids .entry))) c (now (out .entry)) r (now (out .exit)) ⌝ }
+{
+    let done = ask_one(h, rows, head, ids, c, out);
+    if done.refused != 0 {
+        return SubsetAnswer::Refused(done.refused);
+    }
+    if head.dense {
+        return offsets_retain::grown(done.found);
+    }
+    let count = write_found(done.found, out);
+    SubsetAnswer::List(count)
+}
+
+// The rows of a subset that are live and meet all conditions: the range if all of it is kept, else a list.
+pub fn refine_ref(
+    h: Header,
+    rows: &[u32],
+    head: SubsetHead,
+    ids: &[u32],
+    conditions: &[Constraint],
+    out: &mut [u32],
+) -> SubsetAnswer
+    ensures { λ r. ⌜ RefinedList h (now (rows .entry)) (subsetOf head (now (ids .entry))) (now (conditions .entry)) (now (out .entry)) r (now (out .exit)) ⌝ }
+{
+    let done = ask(Question::Refine, h, rows, head, ids, conditions, out);
+    close_refine(head, done, out)
+}
+
+// Whether a row of a subset is live and meets all conditions.
+pub fn contains_match(
+    h: Header,
+    rows: &[u32],
+    head: SubsetHead,
+    ids: &[u32],
+    conditions: &[Constraint],
+) -> MatchAnswer
+    ensures { λ r. ⌜ Matched h (now (rows .entry)) (subsetOf head (now (ids .entry))) (now (conditions .entry)) r ⌝ }
+{
+    let mut none = [0u32; 0];
+    let done = ask(Question::Match, h, rows, head, ids, conditions, &mut none);
+    close_match(done)
+}
+
+// A page: visits n ids of a subset from the start place on, and writes those of the live rows that meet all conditions.
+pub fn read_page(
+    h: Header,
+    rows: &[u32],
+    head: SubsetHead,
+    ids: &[u32],
+    start: u32,
+    n: usize,
+    conditions: &[Constraint],
+    out: &mut [u32],
+) -> PageAnswer
+    ensures { λ r. ⌜ PageRead h (now (rows .entry)) (subsetOf head (now (ids .entry))) start n (now (conditions .entry)) (now (out .entry)) r (now (out .exit)) ⌝ }
+{
+    let done = ask(
+        Question::Page(start, n),
+        h,
+        rows,
+        head,
+        ids,
+        conditions,
+        out,
+    );
+    close_page(head, ids, done, out)
+}

@@ -1,0 +1,131 @@
+-- A page: what it asks at its end, and what it answers. Assumes nothing.
+use Prim.Native.Nat.{ℕ, _+_, _-_, _≤_, _<_, min}
+use mathlib.Core.Path.{_≡_, refl, sym, ap, ap₂, _∙_}
+use mathlib.Core.Bool.{Bool, false, cond}
+use mathlib.Core.Option.{Option, none, some}
+use mathlib.Core.List.{List}
+use native.Mathlib.Decide.{decLt, ℕ-discrete}
+use native.Mathlib.Omega.{arith}
+use lib.Dec.{ltb}
+use lib.ListN.{length}
+use borrow.Author.Tests.{lt-ltb, le-ltb}
+use Rattle.lists.specs.Lists.{putAt, keep}
+use Rattle.refusals.specs.Refusals.{refused, accepted}
+use Rattle.refusals.specs.Laws.Replies.{reply-refused, reply-accepted}
+use Rattle.offsets.specs.Subsets.{Subset, size}
+use Rattle.offsets_retain.specs.inner.Growing.{Grows}
+use Rattle.constraints.specs.declared.Constraint.{Constraint}
+use Rattle.table.specs.declared.Header.{Header}
+use Rattle.query_spec.specs.declared.NextPlace.{NextPlace}
+use Rattle.query_spec.specs.declared.NextPlace.the-variants.{None, At}
+use Rattle.query_spec.specs.declared.PageAnswer.{PageAnswer}
+use Rattle.query_spec.specs.declared.PageAnswer.the-variants.{Refused as PageIsRefused, Page as Paged}
+use Rattle.query_scan.specs.declared.Sweep.{Sweep}
+use Rattle.query_scan.specs.declared.Question.the-variants.{Page}
+use Rattle.query_spec.specs.Queries.{matches, deadAmong, pageRefusal, visited, nextPlace, pageIds, PageReply, nextSays, pageSays, pageReply, PageRead}
+use Rattle.query_scan.specs.inner.Sweeping.{firstPlace, roomAsked, refusalOf, SweepAnswered, CanWrite, Writes, nextOf, nextAt, PageClosed}
+use Rattle.query_scan.specs.Visits.{idsVisited}
+use Rattle.query_scan.proofs.Visits.{length-visited, visited-end, kept-few}
+
+-- ---- the end
+
+module _ (subset : Subset) (next : ℕ) where
+  pub next-some : next < size subset → At next ≡ nextOf (nextAt subset next)
+  unfolding nextAt nextOf
+  next-some l = rw (lt-ltb next (size subset) l)
+
+  pub next-none : size subset ≤ next → None ≡ nextOf (nextAt subset next)
+  unfolding nextAt nextOf
+  next-none l = rw (le-ltb next (size subset) l)
+
+module _ (subset : Subset) (s : Sweep) (output : List ℕ) where
+  pub page-refused : (s .refused ≡ 0 → ⊥) → PageClosed subset s output (PageIsRefused (s .refused)) output
+  page-refused m = record { refuses = λ _. (refl, refl); pages = λ z. absurd (m z) }
+
+  pub page-written : (next : NextPlace) (count : ℕ) (output′ : List ℕ) → s .refused ≡ 0 → next ≡ nextOf (nextAt subset (s .next)) → Writes output (s .found) count output′
+      → PageClosed subset s output (Paged (record { written = count; dead = s .dead; next = next })) output′
+  page-written next count output′ z e w =
+      record {
+        refuses = λ m. absurd (m z);
+        pages = λ _ output₀ kept grows. let u = w .writes output₀ kept grows in
+            (ap₂ (λ (c : ℕ) (p : NextPlace). Paged (record { written = c; dead = s .dead; next = p })) (u .number) e, u .cells);
+      }
+
+-- ---- the answer
+
+next-back : (m : Option ℕ) → nextSays (nextOf m) ≡ m
+unfolding nextSays nextOf
+next-back none = refl
+next-back (some place) = refl
+
+next-is : (subset : Subset) (start n next : ℕ) → start ≤ size subset → next ≡ start + min n (size subset - start) → nextAt subset next ≡ nextPlace subset start n
+unfolding nextAt nextPlace
+next-is subset start n next l e =
+    elim (decLt (start + n) (size subset)) [
+      | yes q ↦ let m : next ≡ start + n = omega arith in ap (λ (i : ℕ). cond (ltb i (size subset)) (some i) none) m
+      | no q ↦
+          let a : ltb next (size subset) ≡ false = le-ltb next (size subset) (omega arith) in
+          let b : ltb (start + n) (size subset) ≡ false = le-ltb (start + n) (size subset) (omega arith) in
+          rw (a, b)
+    ]
+
+module _ (h : Header) (rows : List ℕ) (subset : Subset) (start n : ℕ) (conditions : List Constraint) (output : List ℕ) (s : Sweep) (output′ : List ℕ)
+    (a : SweepAnswered (Page start n) h rows subset conditions output s output′) where
+  abbrev keeps : ℕ → Bool
+  keeps = matches h rows conditions
+
+  page-kept : s .refused ≡ 0 → Grows output output′ (s .found) (keep keeps (visited subset start n))
+  unfolding idsVisited
+  page-kept z = a .grows z
+
+  -- what the end of a page asks
+  pub can-page : s .refused ≡ 0 → CanWrite output′ (s .found)
+  unfolding roomAsked
+  can-page z =
+      let few : length (keep keeps (visited subset start n)) ≤ min n (size subset - start) = rw (← visited-end subset start n) (kept-few subset keeps start (min n (size subset - start))) in
+      record { output₀ = output; kept = _; grows = page-kept z; room = omega (arith, a .in-room z) }
+
+  -- and answers
+  pub page-answered : (answer : PageAnswer) (output″ : List ℕ) → PageClosed subset s output′ answer output″ → PageRead h rows subset start n conditions output answer output″
+  page-answered answer output″ c =
+      elim (ℕ-discrete (s .refused) 0) [
+        | yes z ↦ let q = c .pages z output _ (page-kept z) in accepts z (sym number ∙ z) (q .0) (q .1)
+        | no m ↦ let q = c .refuses m in refuses (s .refused) number m (q .0) (q .1 ∙ a .unwritten m)
+      ]
+    where
+      number : s .refused ≡ pageRefusal h (length rows) subset start n conditions (length output)
+      number = unfold refusalOf in a .number-is
+
+      ids : List ℕ
+      ids = keep keeps (visited subset start n)
+
+      read : PageReply
+      read = record { written = length ids; dead = deadAmong h rows (visited subset start n); next = nextPlace subset start n }
+
+      dead-is : s .refused ≡ 0 → s .dead ≡ read .dead
+      dead-is z = unfold idsVisited in a .counted z .dead
+
+      goes-on : s .refused ≡ 0 → nextSays (nextOf (nextAt subset (s .next))) ≡ nextPlace subset start n
+      goes-on z = unfold idsVisited firstPlace in
+          let l : start ≤ size subset = a .within z in
+          let k : length (visited subset start n) ≡ min n (size subset - start) = rw (← visited-end subset start n) (length-visited subset start (min n (size subset - start)) (omega arith)) in
+          next-back _ ∙ next-is subset start n (s .next) l (a .counted z .next ∙ ap (λ (i : ℕ). start + i) k)
+
+      accepts : s .refused ≡ 0 → pageRefusal h (length rows) subset start n conditions (length output) ≡ 0 → answer ≡ Paged (record { written = length ids; dead = s .dead; next = nextOf (nextAt subset (s .next)) })
+          → output″ ≡ putAt output 0 ids → PageRead h rows subset start n conditions output answer output″
+      accepts y z p q = unfold pageReply pageIds pageSays in
+          record {
+            answers =
+                ap pageSays p ∙ ap₂ (λ (d : ℕ) (m : Option ℕ). accepted (record { written = length ids; dead = d; next = m })) (dead-is y) (goes-on y)
+                ∙ reply-accepted (accepted read) (pageRefusal h (length rows) subset start n conditions (length output)) read refl z;
+            unchanged = λ m. absurd (omega (arith, z, m));
+            written = λ _. q;
+          }
+
+      refuses : (m : ℕ) → m ≡ pageRefusal h (length rows) subset start n conditions (length output) → (m ≡ 0 → ⊥) → answer ≡ PageIsRefused m → output″ ≡ output → PageRead h rows subset start n conditions output answer output″
+      refuses m z l p q = unfold pageReply pageIds pageSays in
+          record {
+            answers = ap pageSays p ∙ reply-refused (refused m) (pageRefusal h (length rows) subset start n conditions (length output)) m read refl z l;
+            unchanged = λ _. q;
+            written = λ e. absurd (l (z ∙ e));
+          }

@@ -1,0 +1,394 @@
+// A sweep over places of a subset, one row after another: what refine, any match and page share. They differ in the places,
+// and in how many matches end the sweep. The ids of the rows that match are kept in a growing answer, so nothing is written
+// while they are neighbours.
+ghost use mathlib.Core.Path.{_≡_};
+ghost use mathlib.Core.Bool.{true};
+ghost use mathlib.Core.List.{_∷_, []};
+ghost use Prim.Native.Nat.{ℕ, _≤_, _<_};
+ghost use lib.ListN.{length, getD};
+ghost use Rattle.lists.specs.Lists.{rowAt};
+ghost use Rattle.constraints.specs.Constraints as rules;
+ghost use Rattle.offsets.specs.Answers.{subsetOf};
+ghost use Rattle.offsets.specs.Subsets as subsets;
+ghost use Rattle.offsets.specs.Subsets.{members};
+ghost use Rattle.offsets_retain.specs.inner.Growing.{CanAdd};
+ghost use Rattle.query_spec.specs.Queries.{matches, deadAmong};
+ghost use Rattle.query_scan.specs.inner.Sweeping.{RowLies, RowNeeded, starts, passes, BeginsAt, CanMove, Moves, Keeps, CanStep, SweepSteps, Sweepable, Finished, SweepBegins, SweepAnswered, CanWrite, Writes, whole, CanClose, RefineClosed, nextOf, nextAt, PageClosed, MatchClosed};
+use constraints::Constraint;
+use offsets::SubsetAnswer;
+use offsets::SubsetHead;
+use offsets_retain::Growing;
+use query_spec::MatchAnswer;
+use query_spec::NextPlace;
+use query_spec::Page;
+use query_spec::PageAnswer;
+use query_spec::refusing::match_refusal;
+use query_spec::refusing::page_refusal;
+use query_spec::refusing::refine_refusal;
+use query_spec::refusing::smaller;
+use table::Header;
+
+// From place `next` on, whose id is `id`, up to `end`, or to where `most` ids are kept. `dead` of the ids visited have a dead
+// row. A refused question has its number, and no places. It is plain numbers, which a loop holds in registers.
+pub struct Sweep {
+    pub refused: u32,
+    pub next: u32,
+    pub end: u32,
+    pub id: u32,
+    pub most: u32,
+    pub dead: u32,
+    pub found: Growing,
+}
+
+// What is asked of conditions: that they are known, or that a row is live and meets them.
+pub enum Test {
+    Known,
+    Row(u32),
+}
+
+// What is asked of a subset. A page has its start place and how many ids it visits.
+pub enum Question {
+    Refine,
+    Match,
+    Page(u32, usize),
+}
+
+// ---- a row
+
+// The row is live: its first cell says so.
+fn is_live_at(h: Header, rows: &[u32], id: u32) -> bool
+    requires { ⌜ RowLies h (length (now rows)) id ⌝ }
+    ensures { λ r. ⌜ r ≡ rules.isLive (rowAt (h .columns) id (now (rows .entry))) ⌝ }
+{
+    let from = (id as usize) * (h.columns as usize);
+    !cells::is_stale(rows[from])
+}
+
+// The cells of the row meet the condition.
+fn is_met_at(h: Header, rows: &[u32], id: u32, c: Constraint) -> bool
+    requires { ⌜ RowLies h (length (now rows)) id ⌝ }
+    ensures { λ r. ⌜ r ≡ rules.met (rowAt (h .columns) id (now (rows .entry))) c ⌝ }
+{
+    let from = (id as usize) * (h.columns as usize);
+    let to = from + h.columns as usize;
+    constraints::met(c, &rows[from..to])
+}
+
+// The row meets the condition and is live. The condition comes first: it fails oftener, and is foreseen better.
+fn is_match(h: Header, rows: &[u32], id: u32, c: Constraint) -> bool
+    requires { ⌜ RowLies h (length (now rows)) id ⌝ }
+    ensures { λ r. ⌜ r ≡ matches h (now (rows .entry)) (c ∷ []) id ⌝ }
+{
+    if !is_met_at(h, rows, id, c) {
+        return false;
+    }
+    is_live_at(h, rows, id)
+}
+
+// 1 for a dead row, else 0.
+fn dead_at(h: Header, rows: &[u32], id: u32) -> u32
+    requires { ⌜ RowLies h (length (now rows)) id ⌝ }
+    ensures { λ r. ⌜ r ≡ deadAmong h (now (rows .entry)) (id ∷ []) ⌝ }
+{
+    if is_live_at(h, rows, id) {
+        return 0;
+    }
+    1
+}
+
+// ---- conditions
+
+// Before any condition: a row must be live.
+pub fn can_pass(test: Test, h: Header, rows: &[u32]) -> bool
+    requires { ⌜ RowNeeded test h (length (now rows)) ⌝ }
+    ensures { λ r. ⌜ r ≡ starts test h (now (rows .entry)) ⌝ }
+{
+    match test {
+        Test::Known => true,
+        Test::Row(id) => is_live_at(h, rows, id),
+    }
+}
+
+// One condition: it is known, or the row's cells meet it.
+pub fn passes_test(test: Test, h: Header, rows: &[u32], c: Constraint) -> bool
+    requires { ⌜ RowNeeded test h (length (now rows)) ⌝ }
+    ensures { λ r. ⌜ r ≡ passes test h (now (rows .entry)) c ⌝ }
+{
+    match test {
+        Test::Known => constraints::known(c, h.columns),
+        Test::Row(id) => is_met_at(h, rows, id, c),
+    }
+}
+
+// ---- places
+
+// The id at a place.
+fn id_at(head: SubsetHead, ids: &[u32], place: u32) -> u32
+    requires { ⌜ place < subsets.size (subsetOf head (now ids)) ⌝ }
+    ensures { λ r. ⌜ r ≡ getD (members (subsetOf head (now (ids .entry)))) place 0 ⌝ }
+{
+    if head.dense {
+        return head.start + place;
+    }
+    let at = place as usize;
+    ids[at]
+}
+
+// A sweep that begins. Without places it has no id.
+fn at_place(head: SubsetHead, ids: &[u32], refused: u32, next: u32, end: u32, most: u32) -> Sweep
+    requires { ⌜ end ≤ subsets.size (subsetOf head (now ids)) ⌝ }
+    ensures { λ r. ⌜ BeginsAt (subsetOf head (now (ids .entry))) refused next end most r ⌝ }
+{
+    let mut s = Sweep {
+        refused: refused,
+        next: next,
+        end: end,
+        id: 0,
+        most: most,
+        dead: 0,
+        found: offsets_retain::empty(),
+    };
+    if next < end {
+        s.id = id_at(head, ids, next);
+    }
+    s
+}
+
+// The id at the next place is kept. With as many as are wanted the sweep ends.
+fn keep_id(s: Sweep, out: &mut [u32]) -> Sweep
+    requires { ⌜ (s .next < s .end) × CanAdd (now out) (s .found) (s .id) ⌝ }
+    ensures { λ r. ⌜ Keeps s (now (out .entry)) r (now (out .exit)) ⌝ }
+{
+    let found = offsets_retain::add_row_sorted(s.found, out, s.id);
+    let mut n = s;
+    n.found = found;
+    if found.count == s.most {
+        n.end = s.next + 1;
+    }
+    n
+}
+
+// One place further. In a range the id is one more, whether or not there is such a place.
+fn move_on(head: SubsetHead, ids: &[u32], s: Sweep) -> Sweep
+    requires { ⌜ CanMove (subsetOf head (now ids)) s ⌝ }
+    ensures { λ r. ⌜ Moves (subsetOf head (now (ids .entry))) s r ⌝ }
+{
+    let mut n = s;
+    n.next = s.next + 1;
+    if head.dense {
+        n.id = s.id + 1;
+        return n;
+    }
+    if n.next < n.end {
+        n.id = id_at(head, ids, n.next);
+    }
+    n
+}
+
+// The row at the next place is visited: a hit is one that matches.
+pub fn step(
+    h: Header,
+    rows: &[u32],
+    head: SubsetHead,
+    ids: &[u32],
+    s: Sweep,
+    hit: bool,
+    out: &mut [u32],
+) -> Sweep
+    requires { ⌜ CanStep h (length (now rows)) (subsetOf head (now ids)) s hit (now out) ⌝ }
+    ensures { λ r. ⌜ SweepSteps h (now (rows .entry)) (subsetOf head (now (ids .entry))) s hit (now (out .entry)) r (now (out .exit)) ⌝ }
+{
+    let mut n = s;
+    n.dead = s.dead + dead_at(h, rows, s.id);
+    if !hit {
+        return move_on(head, ids, n);
+    }
+    let kept = keep_id(n, out);
+    move_on(head, ids, kept)
+}
+
+// All places, by one condition.
+fn retain(
+    h: Header,
+    rows: &[u32],
+    head: SubsetHead,
+    ids: &[u32],
+    c: Constraint,
+    s: Sweep,
+    out: &mut [u32],
+) -> Sweep
+    requires { ⌜ Sweepable h (length (now rows)) (subsetOf head (now ids)) s (now out) ⌝ }
+    ensures { λ r. ⌜ Finished h (now (rows .entry)) (subsetOf head (now (ids .entry))) (matches h (now (rows .entry)) (c ∷ [])) s (now (out .entry)) r (now (out .exit)) ⌝ }
+{
+    let mut at = s;
+    while at.next < at.end {
+        let hit = is_match(h, rows, at.id, c);
+        at = step(h, rows, head, ids, at, hit, out);
+    }
+    at
+}
+
+// ---- the beginning
+
+// A refine: refused, or over all places.
+fn open_refine(
+    h: Header,
+    rows: usize,
+    head: SubsetHead,
+    ids: &[u32],
+    known: bool,
+    output: usize,
+) -> Sweep
+    ensures { λ r. ⌜ SweepBegins Question.Refine h rows (subsetOf head (now (ids .entry))) known output r ⌝ }
+{
+    let number = refine_refusal(h, rows, head, ids, known, output);
+    if number != 0 {
+        return at_place(head, ids, number, 0, 0, 0);
+    }
+    let size = offsets::size(head, ids) as u32;
+    at_place(head, ids, 0, 0, size, size)
+}
+
+// A search for a match: refused, or over all places up to the first match.
+fn open_match(h: Header, rows: usize, head: SubsetHead, ids: &[u32], known: bool) -> Sweep
+    ensures { λ r. ⌜ ((output : ℕ) → SweepBegins Question.Match h rows (subsetOf head (now (ids .entry))) known output r) ⌝ }
+{
+    let number = match_refusal(h, rows, head, ids, known);
+    if number != 0 {
+        return at_place(head, ids, number, 0, 0, 0);
+    }
+    let size = offsets::size(head, ids) as u32;
+    at_place(head, ids, 0, 0, size, 1)
+}
+
+// A page: refused, or over n places from the start place on, as far as there are.
+fn open_page(
+    h: Header,
+    rows: usize,
+    head: SubsetHead,
+    ids: &[u32],
+    start: u32,
+    n: usize,
+    known: bool,
+    output: usize,
+) -> Sweep
+    ensures { λ r. ⌜ SweepBegins (Question.Page start n) h rows (subsetOf head (now (ids .entry))) known output r ⌝ }
+{
+    let number = page_refusal(h, rows, head, ids, start, n, known, output);
+    if number != 0 {
+        return at_place(head, ids, number, 0, 0, 0);
+    }
+    let left = offsets::size(head, ids) - start as usize;
+    let places = smaller(n, left) as u32;
+    at_place(head, ids, 0, start, start + places, places)
+}
+
+// A question begins: refused, or over its places.
+pub fn opening(
+    question: Question,
+    h: Header,
+    rows: usize,
+    head: SubsetHead,
+    ids: &[u32],
+    known: bool,
+    output: usize,
+) -> Sweep
+    ensures { λ r. ⌜ SweepBegins question h rows (subsetOf head (now (ids .entry))) known output r ⌝ }
+{
+    match question {
+        Question::Refine => open_refine(h, rows, head, ids, known, output),
+        Question::Match => open_match(h, rows, head, ids, known),
+        Question::Page(start, n) => open_page(h, rows, head, ids, start, n, known, output),
+    }
+}
+
+// Refine by one: refused, or all places swept by the condition.
+pub fn ask_one(
+    h: Header,
+    rows: &[u32],
+    head: SubsetHead,
+    ids: &[u32],
+    c: Constraint,
+    out: &mut [u32],
+) -> Sweep
+    ensures { λ r. ⌜ SweepAnswered Question.Refine h (now (rows .entry)) (subsetOf head (now (ids .entry))) (c ∷ []) (now (out .entry)) r (now (out .exit)) ⌝ }
+{
+    let known = constraints::known(c, h.columns);
+    let begun = open_refine(h, rows.len(), head, ids, known, out.len());
+    retain(h, rows, head, ids, c, begun, out)
+}
+
+// ---- the end
+
+// Writes the ids kept to the start of the output, if they are not there yet, and answers how many they are.
+pub fn write_found(g: Growing, out: &mut [u32]) -> u32
+    requires { ⌜ CanWrite (now out) g ⌝ }
+    ensures { λ r. ⌜ Writes (now (out .entry)) g r (now (out .exit)) ⌝ }
+{
+    if g.written == 0 {
+        offsets_retain::fill_from_dense(out, g.start, g.count);
+    }
+    g.count
+}
+
+// Whether the ids kept are all of a range.
+fn is_whole(head: SubsetHead, g: Growing) -> bool
+    requires { ⌜ (head .dense ≡ true → head .start ≤ head .end) ⌝ }
+    ensures { λ r. ⌜ r ≡ whole head g ⌝ }
+{
+    if !head.dense {
+        return false;
+    }
+    g.count == head.end - head.start
+}
+
+// A refine by a list ends: refused, the range as it was, or a list.
+pub fn close_refine(head: SubsetHead, s: Sweep, out: &mut [u32]) -> SubsetAnswer
+    requires { ⌜ (s .refused ≡ 0 → CanClose head s (now out)) ⌝ }
+    ensures { λ r. ⌜ RefineClosed head s (now (out .entry)) r (now (out .exit)) ⌝ }
+{
+    if s.refused != 0 {
+        return SubsetAnswer::Refused(s.refused);
+    }
+    if is_whole(head, s.found) {
+        return SubsetAnswer::Range(head.start, head.end);
+    }
+    SubsetAnswer::List(write_found(s.found, out))
+}
+
+// The place to go on from.
+fn next_place(head: SubsetHead, ids: &[u32], next: u32) -> NextPlace
+    ensures { λ r. ⌜ r ≡ nextOf (nextAt (subsetOf head (now (ids .entry))) next) ⌝ }
+{
+    if (next as usize) < offsets::size(head, ids) {
+        return NextPlace::At(next);
+    }
+    NextPlace::None
+}
+
+// A page ends: its ids are written.
+pub fn close_page(head: SubsetHead, ids: &[u32], s: Sweep, out: &mut [u32]) -> PageAnswer
+    requires { ⌜ (s .refused ≡ 0 → CanWrite (now out) (s .found)) ⌝ }
+    ensures { λ r. ⌜ PageClosed (subsetOf head (now (ids .entry))) s (now (out .entry)) r (now (out .exit)) ⌝ }
+{
+    if s.refused != 0 {
+        return PageAnswer::Refused(s.refused);
+    }
+    let next = next_place(head, ids, s.next);
+    let written = write_found(s.found, out);
+    PageAnswer::Page(Page {
+        written: written,
+        dead: s.dead,
+        next: next,
+    })
+}
+
+// A search for a match ends: refused, or whether there was one.
+pub fn close_match(s: Sweep) -> MatchAnswer
+    ensures { λ r. ⌜ MatchClosed s r ⌝ }
+{
+    if s.refused != 0 {
+        return MatchAnswer::Refused(s.refused);
+    }
+    MatchAnswer::Match(s.found.count != 0)
+}

@@ -1,0 +1,48 @@
+-- The tests of a question, one after another: those that all share, and each question's own. Assumes nothing.
+use Prim.Native.Nat.{ℕ, _-_, _≤_, min}
+use mathlib.Core.Path.{_≡_}
+use mathlib.Core.Bool.{Bool, true, false, not}
+use mathlib.Core.List.{List, [], _∷_}
+use Rattle.lists.specs.Lists.{every}
+use Rattle.refusals.specs.Refusals.{rung, first}
+use Rattle.offsets.specs.Subsets.{Subset, wellFormed, size}
+use Rattle.constraints.specs.declared.Constraint.{Constraint}
+use Rattle.constraints.specs.Constraints.{known}
+use Rattle.table.specs.declared.Header.{Header}
+use Rattle.table.specs.Refusing.{outside, rowsShort}
+use Rattle.query_spec.specs.Queries.{pastRows, refineRefusal, matchRefusal, pageRefusal}
+
+-- none of the tests 1, 2, 4 and 5 applies; `rows` is the length of the row store
+pub record Askable (h : Header) (rows : ℕ) (subset : Subset) : Type 0 where
+  pub inside : outside h ≡ false
+  pub long : rowsShort h rows ≡ false
+  pub formed : wellFormed subset ≡ true
+  pub below : pastRows h subset ≡ false
+
+-- those tests, which all questions share
+unfoldable pub subsetRefusal : Header → ℕ → Subset → ℕ
+subsetRefusal h rows subset =
+    first
+    (rung (outside h) 1
+    ∷ rung (rowsShort h rows) 2
+    ∷ rung (not (wellFormed subset)) 4
+    ∷ rung (pastRows h subset) 5
+    ∷ [])
+
+-- the refusal of a refine by the conditions that `knows` says are known or not
+pub record RefineRefused (h : Header) (rows : ℕ) (subset : Subset) (knows : Bool) (output number : ℕ) : Type 0 where
+  pub number-is : (conditions : List Constraint) → knows ≡ every (known (h .columns)) conditions → number ≡ refineRefusal h rows subset conditions output
+  pub askable : number ≡ 0 → Askable h rows subset
+  pub room : number ≡ 0 → size subset ≤ output
+
+-- the refusal of a search for a match
+pub record MatchRefused (h : Header) (rows : ℕ) (subset : Subset) (knows : Bool) (number : ℕ) : Type 0 where
+  pub number-is : (conditions : List Constraint) → knows ≡ every (known (h .columns)) conditions → number ≡ matchRefusal h rows subset conditions
+  pub askable : number ≡ 0 → Askable h rows subset
+
+-- the refusal of a page
+pub record PageRefused (h : Header) (rows : ℕ) (subset : Subset) (start n : ℕ) (knows : Bool) (output number : ℕ) : Type 0 where
+  pub number-is : (conditions : List Constraint) → knows ≡ every (known (h .columns)) conditions → number ≡ pageRefusal h rows subset start n conditions output
+  pub askable : number ≡ 0 → Askable h rows subset
+  pub within : number ≡ 0 → start ≤ size subset
+  pub room : number ≡ 0 → min n (size subset - start) ≤ output

@@ -1,0 +1,188 @@
+-- The ways out of a refresh: turned away before its rows are looked for, for want of room, or done. Assumes nothing.
+use Prim.Native.Nat.{ℕ, zero, suc, _+_, _*_, _≤_, _<_}
+use mathlib.Core.Path.{_≡_, refl, sym, ap, _∙_}
+use mathlib.Core.Logic.{inl, inr}
+use mathlib.Core.Bool.{Bool, true, false}
+use mathlib.Core.List.{List, [], _∷_, map}
+use native.Mathlib.Nat.{mul-le-mul}
+use native.Mathlib.Omega.{arith}
+use lib.Dec.{ltb}
+use lib.ListN.{length, replicate}
+use borrow.Author.Tests.{ltb-false, lt-ltb}
+use Rattle.lists.specs.Lists.{putAt, flat}
+use Rattle.lists.specs.Laws.Every.{or-right, or-no-left, or-no-right}
+use Rattle.lists.specs.Laws.Keep.{split}
+use Rattle.refusals.specs.Refusals.{rung, first, accepted}
+use Rattle.refusals.specs.Laws.Replies.{reply-refused, reply-accepted}
+use Rattle.row_buffer.specs.Ranks.{countTo}
+use Rattle.row_marks.specs.Laws.Bitmaps.{bitmap-none, countTo-le}
+use Rattle.plain_table.specs.Staged.{Staged, wordsAll}
+use Rattle.plain_table.specs.Plain.{Numbered}
+use Rattle.plain_table.specs.Refusing.{overfull}
+use Rattle.plain_table.specs.Refreshing.{Refresh, refreshed}
+use Rattle.table.specs.declared.Header.{Header}
+use Rattle.table.specs.Numbers.{openingOf}
+use Rattle.table.specs.Stores.{recordWords}
+use Rattle.table.specs.Promises.{withPending}
+use Rattle.table.specs.Laws.Refusals.{outside-inside}
+use Rattle.refresh_spec.specs.declared.Refreshed.{Refreshed}
+use Rattle.refresh_spec.specs.declared.RefreshAnswer.the-variants.{Refused, Refreshed as RefreshDone}
+use Rattle.refresh_spec.specs.Index.{IndexSound}
+use Rattle.refresh_spec.specs.Refreshes.{refreshSays, refreshRefusal, recordsFound, answered, Refreshing}
+use Rattle.refresh_spec.specs.inner.Finding.{mentionsAt, Lendable, CaughtUp}
+use Rattle.refresh.specs.inner.Testing.{ladder}
+use Rattle.refresh.specs.inner.Finding.{Found}
+use Rattle.refresh.specs.inner.Staging.{markedRows, rowsWords, rowWords, Stageable, AllWritten}
+use Rattle.refresh.proofs.TestSteps.{turned-away, Passed, only-seven, lendable}
+use Rattle.refresh.proofs.FindSteps.{FoundRows, found-rows, there-below, found, records-found}
+use Rattle.refresh_index.specs.Laws.Using.{usable-index}
+use Rattle.refresh.proofs.StageSteps.{length-marked, all-marked, words-of, length-refreshed}
+
+-- the words of the removals and of the inserts of so many rows fit a u32
+pub record WordsFew (h : Header) (count : ℕ) : Type 0 where
+  pub keys-few : h .keys ≤ 8
+  pub columns-few : h .columns ≤ 8
+  pub removals : count * (h .keys + 3) ≤ 720896
+  pub inserts : count * (h .columns + 2) ≤ 720896
+
+twice : (n : ℕ) → ltb 0 n ≡ ltb 0 (2 * n)
+twice zero = refl
+twice (suc n) = lt-ltb 0 (suc n) (omega arith) ∙ sym (lt-ltb 0 (2 * suc n) (omega arith))
+
+module _ (h : Header) (rows pending index : List ℕ) (r : Refresh) where
+  abbrev number : List Staged → ℕ
+  number records = refreshRefusal h (length rows) (length pending) (length index) r records
+
+  refused-as : (n : ℕ) (found : ℕ → Bool) → (IndexSound h rows (r .columns) index → (row : ℕ) → found row ≡ true) → n ≡ number (recordsFound h rows r found) → (n ≡ 0 → ⊥)
+      → Refreshing h rows pending index r (Refused n) pending index
+  refused-as n found all e some =
+      record {
+        found = found;
+        all-found = all;
+        answers = reply-refused (refreshSays (Refused n)) _ n _ (unfold refreshSays in refl) e some;
+        unchanged = λ k. (refl, refl);
+        staged = λ z. absurd (some (e ∙ z));
+        written = λ z. absurd (some (e ∙ z));
+        current = λ z. absurd (some (e ∙ z));
+        past = refl;
+        length-same = refl;
+      }
+
+  -- by the tests before 7
+  pub refused-early : (n : ℕ) → n ≡ ladder h (length rows) (length pending) (length index) (r .columns) (r .stamp) → (n ≡ 0 → ⊥)
+      → Refreshing h rows pending index r (Refused n) pending index
+  refused-early n e some =
+      refused-as n (λ row. true) (λ sound row. refl) (e ∙ turned-away h (length rows) (length pending) (length index) r _ (λ z. some (e ∙ z))) some
+
+  module _ (p : Passed h (length rows) (length pending) (length index) r) {words : List ℕ} {count : ℕ} (marks : Found h rows index (r .columns) (r .values) (replicate 1024 0) words count) where
+    lent : Lendable h rows (r .columns) index
+    lent = lendable h rows (length pending) index r p
+
+    f : FoundRows h rows index (r .columns) (r .values) words count
+    f = found-rows (lent .inside) bitmap-none marks
+
+    only : (i : ℕ) → f .test i ≡ true → i < h .rows
+    only i t = there-below h rows (r .columns) (r .values) i (f .mention i t)
+
+    rows-few : h .rows ≤ 65536
+    rows-few = let i = outside-inside h (lent .inside) in omega (arith, i .rows-fit, i .bounds .capacity-few)
+
+    count-rows : countTo (f .test) (h .rows) ≡ count
+    count-rows = sym (all-marked h rows (f .test) only 65536 rows-few .1) ∙ f .counted
+
+    pub words-few : WordsFew h count
+    words-few =
+        let b = outside-inside h (lent .inside) .bounds in
+        let few : count ≤ 65536 = omega (arith, sym (f .counted), countTo-le (f .test) 65536) in
+        let keys : h .keys + 3 ≤ 11 = omega (arith, b .keys-few, b .columns-few) in
+        let columns : h .columns + 2 ≤ 11 = omega (arith, b .columns-few) in
+        record {
+          keys-few = omega (arith, b .keys-few, b .columns-few);
+          columns-few = b .columns-few;
+          removals = omega (arith, mul-le-mul few keys);
+          inserts = omega (arith, mul-le-mul few columns);
+        }
+
+    abbrev records : List Staged
+    records = recordsFound h rows r (found h rows r (f .test) (f .mention))
+
+    abbrev marked : List Numbered
+    marked = markedRows h rows (f .test) (h .rows)
+
+    records-are : records ≡ refreshed (openingOf h) (r .stamp) marked
+    records-are = records-found h rows r (f .test) (f .mention)
+
+    marked-count : length marked ≡ count
+    marked-count = length-marked h rows (f .test) (h .rows) ∙ count-rows
+
+    -- their words, as the code counts them
+    records-words : wordsAll (openingOf h) records ≡ count * (h .keys + 3) + count * (h .columns + 2)
+    records-words =
+        ap (wordsAll (openingOf h)) records-are
+        ∙ words-of h (r .stamp) marked
+        ∙ ap (λ (k : ℕ). k * rowWords h) marked-count
+        ∙ omega arith
+
+    all-found : IndexSound h rows (r .columns) index → (row : ℕ) → found h rows r (f .test) (f .mention) row ≡ true
+    unfolding found
+    all-found sound row = elim (split (mentionsAt h rows (r .columns) (r .values) row)) [
+      | inl m ↦ rw (f .all sound row m)
+      | inr m ↦ or-right (f .test row) _ (rw m)
+    ]
+
+    seven : number records ≡ first (rung (overfull (h .pending) (length pending) (count * (h .keys + 3) + count * (h .columns + 2))) 7 ∷ [])
+    seven = only-seven h (length rows) (length pending) (length index) r p records ∙ rw records-words
+
+    -- for want of room
+    pub refused-full : overfull (h .pending) (length pending) (count * (h .keys + 3) + count * (h .columns + 2)) ≡ true
+        → Refreshing h rows pending index r (Refused 7) pending index
+    refused-full full =
+        refused-as 7 (found h rows r (f .test) (f .mention)) all-found (sym (seven ∙ unfold first in rw full)) (λ z. omega arith)
+
+    -- there is room
+    module _ (free : overfull (h .pending) (length pending) (count * (h .keys + 3) + count * (h .columns + 2)) ≡ false) where
+      total : countTo (f .test) (h .rows) * rowWords h ≡ count * (h .keys + 3) + count * (h .columns + 2)
+      total = rw count-rows (omega arith)
+
+      pub stageable : Stageable h rows pending words
+      unfolding overfull
+      stageable =
+          let n : ℕ = h .pending + (count * (h .keys + 3) + count * (h .columns + 2)) in
+          let left : ltb (length pending) n ≡ false = or-no-left (ltb (length pending) n) _ free in
+          let right : ltb 4294967295 n ≡ false = or-no-right (ltb (length pending) n) _ free in
+          record {
+            test = f .test;
+            bitmap = f .bitmap;
+            room = record {
+              inside = lent .inside;
+              rows-long = lent .rows-long;
+              rows-only = only;
+              free = omega (arith, total, ltb-false (length pending) n left);
+              counted = omega (arith, total, ltb-false 4294967295 n right);
+            };
+          }
+
+      some-staged : ltb 0 count ≡ ltb 0 (length records)
+      some-staged =
+          let n : length records ≡ 2 * count = ap length records-are ∙ length-refreshed h (r .stamp) marked ∙ ap (λ (k : ℕ). 2 * k) marked-count in
+          rw n (twice count)
+
+      pub done : {used : ℕ} {pending′ index′ : List ℕ} → CaughtUp h rows (r .columns) index index′ → AllWritten h rows pending words (r .stamp) used pending′
+          → Refreshing h rows pending index r (RefreshDone (record { header = withPending h used; staged = ltb 0 count })) pending′ index′
+      unfolding stageable rowsWords refreshSays
+      done {used} up all =
+          let w = all .on stageable in
+          let none : number records ≡ 0 = seven ∙ unfold first in rw free in
+          let u : used ≡ h .pending + wordsAll (openingOf h) records = w .words-used ∙ ap (λ (k : ℕ). h .pending + k) (total ∙ sym records-words) in
+          let a : _≡_ {A = Refreshed} (record { header = withPending h used; staged = ltb 0 count }) (answered h records) = rw (u, some-staged) in
+          record {
+            found = found h rows r (f .test) (f .mention);
+            all-found = all-found;
+            answers = reply-accepted (refreshSays (RefreshDone _)) _ (answered h records) (ap accepted a) none;
+            unchanged = λ k. absurd (omega (arith, none));
+            staged = λ z. w .words ∙ ap (λ (rs : List Staged). putAt pending (h .pending) (flat (map (recordWords (h .keys)) rs))) (sym records-are);
+            written = λ z. up .written;
+            current = λ z sound. up .current (λ u. usable-index lent u sound);
+            past = up .past;
+            length-same = up .length-same;
+          }

@@ -1,0 +1,99 @@
+-- The records of a row, word for word. Assumes nothing.
+use Prim.Native.Nat.{ℕ, _+_, _-_, _*_, _≤_, _<_}
+use mathlib.Core.Path.{_≡_, sym, ap, _∙_}
+use mathlib.Core.List.{List, [], _∷_, _++_, append-nil}
+use native.Mathlib.Nat.{suc-mul}
+use native.Mathlib.Numerals.{add-one}
+use native.Mathlib.Omega.{arith}
+use lib.ListN.{length, take, drop, set, length-set}
+use lib.Seq.{length-take-le, take-take, take-set-lt}
+use Rattle.lists.specs.Lists.{putAt, rowAt, flat}
+use Rattle.lists.specs.Laws.Parts.{part-width, length-putAt, putAt-then}
+use Rattle.lists.specs.Laws.Rows.{length-rowAt}
+use Rattle.lists.specs.Laws.Search.{take-put}
+use Rattle.cells.specs.Cells.{compact, keyHash}
+use Rattle.row_buffer.specs.Laws.Rows.{key-row}
+use Rattle.key_index.specs.Laws.Places.{Inside, inside}
+use Rattle.plain_table.specs.Staged.{insert, removeRow}
+use Rattle.plain_table.specs.Refreshing.{restamping, refreshed}
+use Rattle.table.specs.declared.Header.{Header}
+use Rattle.table.specs.Stores.{recordWords}
+use Rattle.table.specs.Laws.Refusals.{outside-inside}
+use Rattle.refresh.specs.inner.Staging.{Lying, numbered, rowsWords, rowWords}
+
+module _ {h : Header} {rows : List ℕ} {row : ℕ} (l : Lying h rows row) where
+  -- where a row lies, and its numbers
+  pub record Within : Type 0 where
+    pub place : Inside rows (h .columns) row
+    pub columns-few : h .columns ≤ 8
+    pub keys-few : h .keys ≤ h .columns
+    pub sort-there : h .sort < h .columns
+
+  pub within : Within
+  within =
+      let i = outside-inside h (l .inside) in
+      record {
+        place = inside rows (h .columns) (h .capacity) row (i .bounds .capacity-few) (i .bounds .columns-few) (l .rows-long) (omega (arith, l .row-below, i .rows-fit));
+        columns-few = i .bounds .columns-few;
+        keys-few = i .bounds .keys-few;
+        sort-there = i .bounds .sort-column;
+      }
+
+  abbrev here : List ℕ
+  here = rowAt (h .columns) row rows
+
+  pub here-wide : length here ≡ h .columns
+  here-wide = length-rowAt (h .columns) row rows (rw (add-one row, suc-mul) (within .place .in-store))
+
+  pub removal-words : (hash : ℕ) → hash ≡ compact (keyHash (take (row * h .columns + h .keys - row * h .columns) (drop (row * h .columns) rows)))
+      → _≡_ {A = List ℕ} (2 ∷ hash ∷ row ∷ take (row * h .columns + h .keys - row * h .columns) (drop (row * h .columns) rows)) (recordWords (h .keys) (removeRow row (take (h .keys) here)))
+  unfolding recordWords
+  removal-words hash e =
+      let k : take (row * h .columns + h .keys - row * h .columns) (drop (row * h .columns) rows) ≡ take (h .keys) here =
+      part-width rows (row * h .columns) (h .keys) ∙ sym (key-row (h .columns) row (h .keys) rows (within .keys-few)) in
+      rw (e, k)
+
+  -- the row goes into an array of eight cells
+  pub part-fits : 0 + length (take (row * h .columns + h .columns - row * h .columns) (drop (row * h .columns) rows)) ≤ 8
+  unfolding rowAt
+  part-fits = rw (part-width rows (row * h .columns) (h .columns)) (omega (arith, here-wide, within))
+
+  -- the row written into an array and restamped there
+  module _ (array written : List ℕ) (stamp : ℕ) (long : length array ≡ 8) (made : written ≡ putAt array 0 (take (row * h .columns + h .columns - row * h .columns) (drop (row * h .columns) rows))) where
+    row-made : written ≡ putAt array 0 here
+    unfolding rowAt
+    row-made = made ∙ ap (putAt array 0) (part-width rows (row * h .columns) (h .columns))
+
+    pub cells-fit : h .columns ≤ length (set written (h .sort) stamp)
+    cells-fit = omega (arith, length-set written (h .sort) stamp, ap length row-made, length-putAt array here 0 (omega (arith, here-wide, within)), within)
+
+    pub key-fits : h .keys ≤ length (set written (h .sort) stamp)
+    key-fits = omega (arith, cells-fit, within)
+
+    pub cells-restamped : take (h .columns) (set written (h .sort) stamp) ≡ set here (h .sort) stamp
+    cells-restamped =
+        rw row-made
+        (take-set-lt (h .columns) (putAt array 0 here) (h .sort) stamp (within .sort-there)
+        ∙ ap (λ (x : List ℕ). set x (h .sort) stamp) (ap (λ (n : ℕ). take n (putAt array 0 here)) (sym here-wide) ∙ take-put array here))
+
+    pub restamped-words : (hash : ℕ) → hash ≡ compact (keyHash (take (h .keys) (set written (h .sort) stamp)))
+        → _≡_ {A = List ℕ} (0 ∷ hash ∷ take (h .columns - 0) (set written (h .sort) stamp)) (recordWords (h .keys) (insert (set here (h .sort) stamp)))
+    unfolding recordWords
+    restamped-words hash e =
+        let k : take (h .keys) (set written (h .sort) stamp) ≡ take (h .keys) (set here (h .sort) stamp) =
+        sym (take-take (h .keys) (h .columns) (set written (h .sort) stamp) (within .keys-few)) ∙ ap (take (h .keys)) cells-restamped in
+        let z : h .columns - 0 ≡ h .columns = omega arith in
+        rw (e, k, z, cells-restamped)
+
+  -- both, one after the other
+  pub both-words : (stamp : ℕ) (pending : List ℕ) (at : ℕ) → at + rowWords h ≤ length pending
+      → putAt (putAt pending at (recordWords (h .keys) (removeRow row (take (h .keys) here)))) (at + (h .keys + 3)) (recordWords (h .keys) (insert (set here (h .sort) stamp)))
+      ≡ putAt pending at (rowsWords h stamp (numbered h rows row ∷ []))
+  unfolding rowsWords refreshed restamping flat recordWords
+  both-words stamp pending at fits =
+      let k : length (take (h .keys) here) ≡ h .keys = length-take-le (h .keys) here (omega (arith, here-wide, within)) in
+      let n : length (set here (h .sort) stamp) ≡ h .columns = length-set here (h .sort) stamp ∙ here-wide in
+      let v : List ℕ = 2 ∷ compact (keyHash (take (h .keys) here)) ∷ row ∷ take (h .keys) here in
+      let w : List ℕ = 0 ∷ compact (keyHash (take (h .keys) (set here (h .sort) stamp))) ∷ set here (h .sort) stamp in
+      let e : at + (h .keys + 3) ≡ at + length v = omega arith in
+      ap (λ (i : ℕ). putAt (putAt pending at v) i w) e ∙ putAt-then pending v w at (omega arith) ∙ ap (λ (x : List ℕ). putAt pending at (v ++ x)) (sym (append-nil w))

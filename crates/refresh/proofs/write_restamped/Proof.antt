@@ -1,0 +1,40 @@
+-- `refresh::write_restamped` meets its contract. Assumes nothing.
+use Prim.Native.Nat.{ℕ}
+use mathlib.Core.Path.{refl, sym, ap, _∙_}
+use mathlib.Core.List.{List}
+use native.Mathlib.Omega.{arith}
+use lib.Seq.{length-take-le}
+use Rattle.lists.specs.Lists.{putAt}
+use borrow.Author.Needs.{needs}
+use Rattle.refresh.proofs.WriteSteps.{within, part-fits, cells-fit, key-fits, restamped-words}
+use Rattle.refresh.proofs.write_restamped.Statement.{statement}
+use Rattle.refresh.proofs.write_restamped.Tie as tie
+
+returns : tie.Need-returns
+returns c =
+    let a = c .before .before .before .before .before .before .before .before .before .before .before .before .before .before .before .before .before .before in
+    c .before .before .write-record .ensures
+    ∙ ap (λ (w : List ℕ). putAt (a .args .pending .now) (a .args .at) w) (restamped-words (a .pre .0) _ _ _ refl (c .before .before .before .before .before .before .before .before .before .before .before .write-row .ensures) _ (c .before .before .before .before .before .before .compact-hash .ensures))
+
+pub write-restamped-spec : {M : Type 1} → statement M
+write-restamped-spec =
+    tie.close
+    (tie.spec
+    (λ c. omega (arith, within (c .before .before .before .pre .0)))
+    (λ c. omega (arith, within (c .before .before .before .pre .0)))
+    (λ c. search needs) (λ c. search needs)
+    (λ c. omega (arith, within (c .before .before .before .before .before .pre .0)))
+    (λ c. omega (arith, within (c .before .before .before .before .before .pre .0)))
+    (λ c. search needs) (λ c. search needs)
+    (λ c. omega (arith, within (c .before .before .before .before .before .pre .0)))
+    (λ c κs. part-fits (c .before .before .before .before .before .before .pre .0))
+    (λ c. search needs) (λ c. search needs)
+    (λ c. omega (arith, within (c .before .before .before .before .before .before .before .before .before .pre .0)))
+    (λ c. search needs)
+    (λ c. key-fits (c .before .before .before .before .before .before .before .before .before .before .pre .0) _ _ _ refl (c .before .before .before .write-row .ensures))
+    (λ c. sym (length-take-le _ _ (key-fits (c .before .before .before .before .before .before .before .before .before .before .before .pre .0) _ _ _ refl (c .before .before .before .before .write-row .ensures))))
+    (λ c κs. search needs)
+    (λ c. search needs) (λ c. search needs)
+    (λ c. cells-fit (c .before .before .before .before .before .before .before .before .before .before .before .before .before .before .pre .0) _ _ _ refl (c .before .before .before .before .before .before .before .write-row .ensures))
+    (λ c κs. search needs) (λ c. search needs)
+    returns)

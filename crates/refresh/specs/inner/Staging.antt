@@ -1,0 +1,71 @@
+-- How the records of marked rows are written: those of one row, of the rows that a word marks, of all. Assumes nothing.
+use Prim.Native.Nat.{ℕ, _+_, _*_, _≤_, _<_}
+use mathlib.Core.Path.{_≡_}
+use mathlib.Core.Bool.{Bool, true, false}
+use mathlib.Core.List.{List, map}
+use lib.ListN.{length}
+use Rattle.lists.specs.Lists.{putAt, keep, rowAt, flat, countFrom}
+use Rattle.row_buffer.specs.Ranks.{marks, countTo}
+use Rattle.row_marks.specs.inner.Bitmaps.{Bitmap}
+use Rattle.plain_table.specs.Plain.{Numbered}
+use Rattle.plain_table.specs.Refreshing.{refreshed}
+use Rattle.table.specs.declared.Header.{Header}
+use Rattle.table.specs.Numbers.{openingOf}
+use Rattle.table.specs.Refusing.{outside}
+use Rattle.table.specs.Stores.{recordWords}
+
+abbrev pub numbered : Header → List ℕ → ℕ → Numbered
+numbered h rows i = record { number = i; cells = rowAt (h .columns) i rows }
+
+-- the marked ones of the first n rows
+unfoldable pub markedRows : Header → List ℕ → (ℕ → Bool) → ℕ → List Numbered
+markedRows h rows test n = map (numbered h rows) (keep test (countFrom 0 n))
+
+-- the words of the two records of each row
+unfoldable pub rowsWords : Header → ℕ → List Numbered → List ℕ
+rowsWords h stamp rows = flat (map (recordWords (h .keys)) (refreshed (openingOf h) stamp rows))
+
+-- as many as one row's are
+abbrev pub rowWords : Header → ℕ
+rowWords h = h .keys + 3 + (h .columns + 2)
+
+-- a row lies in the store
+pub record Lying (h : Header) (rows : List ℕ) (row : ℕ) : Type 0 where
+  pub inside : outside h ≡ false
+  pub rows-long : h .capacity * h .columns ≤ length rows
+  pub row-below : row < h .rows
+
+-- there is room for the records of all marked rows
+pub record Room (h : Header) (rows pending : List ℕ) (test : ℕ → Bool) : Type 0 where
+  pub inside : outside h ≡ false
+  pub rows-long : h .capacity * h .columns ≤ length rows
+  pub rows-only : (i : ℕ) → test i ≡ true → i < h .rows
+  pub free : h .pending + countTo test (h .rows) * rowWords h ≤ length pending
+  pub counted : h .pending + countTo test (h .rows) * rowWords h ≤ 4294967295
+
+-- the records of the first n rows' marked ones are written
+pub record Written (h : Header) (rows pending : List ℕ) (test : ℕ → Bool) (stamp : ℕ) (pending′ : List ℕ) (used n : ℕ) : Type 0 where
+  pub words-used : used ≡ h .pending + countTo test n * rowWords h
+  pub words : pending′ ≡ putAt pending (h .pending) (rowsWords h stamp (markedRows h rows test n))
+
+-- up to a row, and a word marks some of the 64 from there on
+pub record Block (h : Header) (rows pending : List ℕ) (used first word stamp : ℕ) : Type 0 where
+  pub pending₀ : List ℕ
+  pub test : ℕ → Bool
+  pub room : Room h rows pending₀ test
+  pub marked : word ≡ marks (λ bit. test (first + bit)) 64
+  pub written : Written h rows pending₀ test stamp pending used first
+
+-- and then those of these 64
+pub record BlockWritten (h : Header) (rows pending : List ℕ) (used first word stamp : ℕ) (r : ℕ) (pending′ : List ℕ) : Type 0 where
+  pub on : (b : Block h rows pending used first word stamp) → Written h rows (b .pending₀) (b .test) stamp pending′ r (first + 64)
+
+-- a bitmap of rows, and room for their records
+pub record Stageable (h : Header) (rows pending words : List ℕ) : Type 0 where
+  pub test : ℕ → Bool
+  pub bitmap : Bitmap words test
+  pub room : Room h rows pending test
+
+-- and then all are written
+pub record AllWritten (h : Header) (rows pending words : List ℕ) (stamp r : ℕ) (pending′ : List ℕ) : Type 0 where
+  pub on : (s : Stageable h rows pending words) → Written h rows pending (s .test) stamp pending′ r (h .rows)

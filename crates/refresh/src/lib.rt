@@ -1,0 +1,222 @@
+// Rows that mention a value get a new stamp: `refresh_rows_for_values` of table/rebuild.rs. They are marked and counted before
+// anything lent is written; then the index store is brought up to the table, and each marked row is staged for removal and, with
+// the stamp as its sort cell, for insertion.
+ghost use mathlib.Core.Path.{_≡_};
+ghost use mathlib.Core.Bool.{false};
+ghost use mathlib.Core.List.{[], _∷_};
+ghost use Prim.Native.Nat.{_+_, _≤_};
+ghost use lib.Dec.{ltb};
+ghost use lib.ListN.{length, take, set};
+ghost use Rattle.lists.specs.Lists.{putAt, every, rowAt};
+ghost use Rattle.plain_table.specs.Staged.{insert, removeRow};
+ghost use Rattle.plain_table.specs.Refreshing.{indexShort};
+ghost use Rattle.table.specs.Numbers.{openingOf};
+ghost use Rattle.table.specs.Refusing.{outside};
+ghost use Rattle.table.specs.Stores.{recordWords};
+ghost use Rattle.row_marks.specs.inner.Bitmaps.{Bitmap};
+ghost use Rattle.refresh_spec.specs.Refreshes.{Refreshing};
+ghost use Rattle.refresh_spec.specs.inner.Finding.{Lendable, usable};
+ghost use Rattle.refresh.specs.inner.Testing.{ladder};
+ghost use Rattle.refresh.specs.inner.Finding.{Found};
+ghost use Rattle.refresh.specs.inner.Staging.{Lying, rowWords, rowsWords, numbered, Block, BlockWritten, Stageable, AllWritten};
+use refresh_index::ROWS_SEEN;
+use refresh_index::catch_up;
+use refresh_index::is_usable;
+use refresh_index::mark_listed;
+use refresh_scan::mark_unlisted;
+use refresh_spec::RefreshAnswer;
+use refresh_spec::Refreshed;
+use row_marks::WORDS;
+use table::Header;
+use table::INSERT;
+use table::refusing::is_pending_outside;
+use table::refusing::is_rows_short;
+use table_stage::is_overfull;
+
+const MOST_COLUMNS: usize = 8;
+
+// Every column named is one of the table's.
+fn are_columns_there(h: Header, columns: &[u32]) -> bool
+    ensures { λ r. ⌜ r ≡ every (λ column. ltb column (h .columns)) (now (columns .entry)) ⌝ }
+{
+    let mut i = 0;
+    while i < columns.len() {
+        if h.columns <= columns[i] {
+            return false;
+        }
+        i += 1;
+    }
+    true
+}
+
+// Test 2 of the index store.
+fn is_index_short(h: Header, index: usize, columns: &[u32]) -> bool
+    requires { ⌜ (outside h ≡ false) × (length (now columns) ≤ 8) ⌝ }
+    ensures { λ r. ⌜ r ≡ indexShort (openingOf h) (now (columns .entry)) index ⌝ }
+{
+    let needed = 16 + 3 * (h.capacity as usize * columns.len());
+    index < needed
+}
+
+// The tests before 7.
+fn refresh_refusal(
+    h: Header,
+    rows: usize,
+    pending: usize,
+    index: usize,
+    columns: &[u32],
+    stamp: u32,
+) -> u32
+    ensures { λ r. ⌜ r ≡ ladder h rows pending index (now (columns .entry)) stamp ⌝ }
+{
+    if is_pending_outside(h, pending) {
+        return 1;
+    }
+    if is_rows_short(h, rows) {
+        return 2;
+    }
+    if MOST_COLUMNS < columns.len() {
+        return 12;
+    }
+    if !are_columns_there(h, columns) {
+        return 6;
+    }
+    if is_index_short(h, index, columns) {
+        return 2;
+    }
+    if merge_append::is_old(h, stamp) {
+        return 9;
+    }
+    0
+}
+
+// Marks the live rows that mention a value, and answers how many they are. Those that the index store has seen are looked up in it
+// where it is of use; the others are found by their cells.
+fn mark_mentioning(
+    h: Header,
+    rows: &[u32],
+    index: &[u32],
+    columns: &[u32],
+    values: &[u32],
+    goes_on: bool,
+    words: &mut [u64],
+) -> u32
+    requires { ⌜ Lendable h (now rows) (now columns) (now index) × («goes_on» ≡ usable h (now columns) (now index)) × Bitmap (now words) (λ i. false) ⌝ }
+    ensures { λ r. ⌜ Found h (now (rows .entry)) (now (index .entry)) (now (columns .entry)) (now (values .entry)) (now (words .entry)) (now (words .exit)) r ⌝ }
+{
+    if !goes_on {
+        return mark_unlisted(h, rows, 0, columns, values, words);
+    }
+    let seen = index[ROWS_SEEN];
+    let listed = mark_listed(h, rows, index, columns, values, words);
+    listed + mark_unlisted(h, rows, seen, columns, values, words)
+}
+
+// A row's removal.
+fn write_removal(h: Header, rows: &[u32], pending: &mut [u32], at: usize, row: u32)
+    requires { ⌜ Lying h (now rows) row × (at + (h .keys + 3) ≤ length (now pending)) ⌝ }
+    ensures { λ _. ⌜ now (pending .exit) ≡ putAt (now (pending .entry)) at (recordWords (h .keys) (removeRow row (take (h .keys) (rowAt (h .columns) row (now (rows .entry)))))) ⌝ }
+{
+    let from = (row * h.columns) as usize;
+    let end = from + h.keys as usize;
+    let key = &rows[from..end];
+    let hash = cells::compact_hash(key);
+    table_stage::write_row_record(pending, at, hash, row, key);
+}
+
+// The row anew, with the stamp as its sort cell: its key is another one if that is a key column.
+fn write_restamped(h: Header, rows: &[u32], pending: &mut [u32], at: usize, row: u32, stamp: u32)
+    requires { ⌜ Lying h (now rows) row × (at + (h .columns + 2) ≤ length (now pending)) ⌝ }
+    ensures { λ _. ⌜ now (pending .exit) ≡ putAt (now (pending .entry)) at (recordWords (h .keys) (insert (set (rowAt (h .columns) row (now (rows .entry))) (h .sort) stamp))) ⌝ }
+{
+    let from = (row * h.columns) as usize;
+    let width = h.columns as usize;
+    let mut restamped = [0u32; 8];
+    row_buffer::write_row(&mut restamped, 0, &rows[from..from + width]);
+    restamped[h.sort as usize] = stamp;
+    let hash = cells::compact_hash(&restamped[..h.keys as usize]);
+    table_stage::write_record(pending, at, INSERT, hash, &restamped[0..width]);
+}
+
+// Both records of a row.
+fn write_row(h: Header, rows: &[u32], pending: &mut [u32], at: usize, row: u32, stamp: u32)
+    requires { ⌜ Lying h (now rows) row × (at + rowWords h ≤ length (now pending)) ⌝ }
+    ensures { λ _. ⌜ now (pending .exit) ≡ putAt (now (pending .entry)) at (rowsWords h stamp (numbered h (now (rows .entry)) row ∷ [])) ⌝ }
+{
+    write_removal(h, rows, pending, at, row);
+    write_restamped(h, rows, pending, at + (h.keys + 3) as usize, row, stamp);
+}
+
+// Those of the rows that a word marks, from its lowest mark up. Answers the words in use.
+fn write_block(
+    h: Header,
+    rows: &[u32],
+    pending: &mut [u32],
+    before: u32,
+    first: u32,
+    marked: u64,
+    stamp: u32,
+) -> u32
+    requires { ⌜ Block h (now rows) (now pending) before first marked stamp ⌝ }
+    ensures { λ r. ⌜ BlockWritten h (now (rows .entry)) (now (pending .entry)) before first marked stamp r (now (pending .exit)) ⌝ }
+{
+    let mut used = before;
+    let mut word = marked;
+    while word != 0 {
+        let row = first + u64::trailing_zeros(word);
+        word = word & (word - 1);
+        write_row(h, rows, pending, used as usize, row, stamp);
+        used += h.keys + 3 + (h.columns + 2);
+    }
+    used
+}
+
+// Those of all marked rows, in rising order.
+fn write_marked(h: Header, rows: &[u32], pending: &mut [u32], words: &[u64], stamp: u32) -> u32
+    requires { ⌜ Stageable h (now rows) (now pending) (now words) ⌝ }
+    ensures { λ r. ⌜ AllWritten h (now (rows .entry)) (now (pending .entry)) (now (words .entry)) stamp r (now (pending .exit)) ⌝ }
+{
+    let mut used = h.pending;
+    let mut first: u32 = 0;
+    while first < h.rows {
+        let word = words[(first / 64) as usize];
+        used = write_block(h, rows, pending, used, first, word, stamp);
+        first += 64;
+    }
+    used
+}
+
+// Stages each live row with one of the values in one of the columns for removal and, with the stamp as its sort cell, for insertion.
+// The index store is brought up to the table.
+pub fn refresh_rows_for_values(
+    h: Header,
+    rows: &[u32],
+    pending: &mut [u32],
+    index: &mut [u32],
+    columns: &[u32],
+    values: &[u32],
+    stamp: u32,
+) -> RefreshAnswer
+    ensures { λ r. ⌜ Refreshing h (now (rows .entry)) (now (pending .entry)) (now (index .entry)) (record { columns = now (columns .entry); values = now (values .entry); stamp = stamp }) r (now (pending .exit)) (now (index .exit)) ⌝ }
+{
+    let refusal = refresh_refusal(h, rows.len(), pending.len(), index.len(), columns, stamp);
+    if refusal != 0 {
+        return RefreshAnswer::Refused(refusal);
+    }
+    let goes_on = is_usable(h, index, columns);
+    let mut words = [0u64; WORDS];
+    let count = mark_mentioning(h, rows, index, columns, values, goes_on, &mut words);
+    let removals = count * (h.keys + 3);
+    let inserts = count * (h.columns + 2);
+    if is_overfull(h.pending, pending.len(), removals, inserts) {
+        return RefreshAnswer::Refused(7);
+    }
+    catch_up(h, rows, index, columns, goes_on);
+    let used = write_marked(h, rows, pending, &words, stamp);
+    let mut n = h;
+    n.pending = used;
+    RefreshAnswer::Refreshed(Refreshed {
+        header: n,
+        staged: 0 < count,
+    })
+}

@@ -1,0 +1,43 @@
+-- `refresh_index::catch_up` meets its contract. Assumes nothing.
+use mathlib.Core.Path.{_≡_, sym, _∙_}
+use mathlib.Core.Bool.{true}
+use native.Mathlib.Omega.{arith}
+use lib.ListN.{length}
+use borrow.Author.Needs.{needs}
+use Rattle.refresh_spec.specs.inner.Finding.{usable}
+use Rattle.refresh_index.proofs.Sizes.{Small, small, fillable-same}
+use Rattle.refresh_index.proofs.Catches.{goes-on, caught-on, fresh-room, caught-afresh}
+use Rattle.refresh_index.proofs.catch_up.Statement.{statement}
+use Rattle.refresh_index.proofs.catch_up.Tie as tie
+
+sizes : (s : tie.Start) → Small (s .args .h) (length (s .args .columns .now))
+sizes s = small _ _ (s .pre .0 .inside) (s .pre .0 .columns-few)
+
+going : (c : tie.Then1) → let a = c .before .before .before .before .args in usable (a .h) (a .columns .now) (a .index .now) ≡ true
+going c = sym (c .before .before .before .before .pre .1) ∙ c .if1 .taken
+
+fill-requires : tie.Need-fill-requires
+fill-requires c κs = goes-on _ _ _ _ (going (c .before .before .before)) (c .before .before .before .before .before .before .before .pre .0)
+
+returns : tie.Need-returns
+returns c = caught-on _ _ _ _ (going (c .before .before .before .before .before .before)) _ (c .before .index .given) (c .before .before .fill .ensures)
+
+empty-buckets-requires : tie.Need-empty-buckets-requires
+empty-buckets-requires c κs = let l = c .before .before .before .before .before .before .before .pre .0 in omega (arith, sizes (c .before .before .before .before .before .before .before), c .heads-at .ensures, l .index-long)
+
+fill-requires-2 : tie.Need-fill-requires-2
+fill-requires-2 c κs = (fillable-same (fresh-room _ _ _ _ (c .before .before .before .before .before .before .before .before .before .before .before .pre .0)) _ (c .before .before .index2 .given), omega arith)
+
+returns-2 : tie.Need-returns-2
+returns-2 c =
+    caught-afresh _ _ _ _ (c .before .before .before .before .before .before .before .before .before .before .before .before .before .before .pre .0) (sym (c .before .before .before .before .before .before .before .before .before .before .before .before .before .before .pre .1) ∙ c .before .before .before .before .before .before .before .before .before .before .if1 .left) _ _ (c .before .index3 .given ∙ c .before .before .before .before .before .index2 .given)
+    (rw (c .before .before .before .before .before .before .before .heads-at .ensures) at (c .before .before .before .before .before .before .empty-buckets .ensures)) (c .before .before .fill2 .ensures)
+
+pub catch-up-spec : {M : Type 1} → statement M
+catch-up-spec =
+    tie.close
+    (tie.spec
+    (λ c. search needs) (λ c. search needs) fill-requires (λ c. search needs) returns (λ c. search needs)
+    (λ c. omega (arith, sizes (c .before .before .before .before .before))) (λ c. omega (arith, sizes (c .before .before .before .before .before)))
+    (λ c κs. (c .before .before .before .before .before .before .pre .0 .inside, c .before .before .before .before .before .before .pre .0 .columns-few)) empty-buckets-requires fill-requires-2
+    (λ c. search needs) returns-2)

@@ -1,0 +1,65 @@
+-- `refresh_index::push_row` meets its contract. The loop's invariant: the entries of the places passed are pushed. Assumes nothing.
+use Prim.Native.Nat.{_+_, _*_, _-_, _≤_}
+use mathlib.Core.Path.{_≡_, refl, _∙_}
+use native.Mathlib.Nat.{add-zero}
+use native.Mathlib.Omega.{arith}
+use lib.ListN.{length}
+use borrow.Author.Needs.{needs}
+use Rattle.lists.specs.Laws.Rows.{row-in}
+use Rattle.refresh_index.specs.inner.Entries.{Pushed}
+use Rattle.refresh_index.proofs.Sizes.{small, readable}
+use Rattle.refresh_index.proofs.Fills.{push-none, push-then, push-one, Pushable, pushable}
+use Rattle.refresh_index.proofs.push_row.Statement.{statement}
+use Rattle.refresh_index.proofs.push_row.Tie as tie
+
+abbrev Inv-loop : tie.InvT-loop
+Inv-loop h rows index₀ columns buckets row heads first place₀ index place =
+    (place ≤ length columns) × (length index ≡ length index₀) × Pushed h rows columns buckets (row * length columns) index₀ (row * length columns + place) index
+
+abbrev μ-loop : tie.MeasureT-loop
+μ-loop h rows index₀ columns buckets row heads first place₀ index place = length columns - place
+
+mul-first : tie.Need-mul-first Inv-loop μ-loop
+mul-first c =
+    let s = c .before .before .before .before in
+    let l = s .pre .0 .lendable in
+    omega (arith, small _ _ (l .inside) (l .columns-few), row-in _ _ (length (s .args .columns .now)) (s .pre .1))
+
+loop-holds : tie.Need-loop-holds Inv-loop μ-loop
+loop-holds c = (omega arith, refl, rw add-zero push-none)
+
+cell-named-requires : tie.Need-cell-named-requires Inv-loop μ-loop
+cell-named-requires c κs = let s = c .before .before .before .before .before .before in (readable (s .pre .0 .lendable), s .pre .1, c .loop-test .taken)
+
+-- the entry has room
+fits : (c : tie.After-push-entry-arg Inv-loop μ-loop) → let a = c .before .before .before .before .before .before .before .before .args in
+    Pushable (a .h) (a .rows .now) (a .columns .now) (a .buckets) (a .row) (c .before .before .before .loop .place) (c .before .before .before .loop .index)
+fits c = let s = c .before .before .before .before .before .before .before .before in pushable _ _ _ _ _ (s .pre .0) _ _ (s .pre .1) (c .before .before .loop-test .taken) _ (c .before .before .before .loop .inv .1)
+
+push-entry-requires : tie.Need-push-entry-requires Inv-loop μ-loop
+push-entry-requires c κs = let a = fits c in let e = c .before .before .before .before .heads-at .ensures in (a .some, omega arith, omega arith, a .few)
+
+loop-again : tie.Need-loop-again Inv-loop μ-loop
+loop-again c =
+    let s = c .before .before .before .before .before .before .before .before .before .before .before in
+    let l = c .before .before .before .before .before .before .loop in (
+      omega arith,
+      c .before .index .given ∙ l .inv .1,
+      push-then (l .inv .2)
+          (push-one _ _ _ _ _ (s .pre .0) _ _ (s .pre .1) (c .before .before .before .before .before .loop-test .taken) _ (l .inv .1) _ (c .before .before .before .before .cell-named .ensures) _
+          (rw (c .before .before .before .before .before .before .before .heads-at .ensures) at (c .before .before .push-entry .ensures))),
+    )
+
+returns : tie.Need-returns Inv-loop μ-loop
+returns c =
+    let l = c .before .loop in
+    let e : l .place ≡ length (c .before .before .before .before .before .before .args .columns .now) = omega arith in
+    rw e at (l .inv .2)
+
+pub push-row-spec : {M : Type 1} → statement M
+push-row-spec =
+    tie.close
+    (tie.spec
+    Inv-loop μ-loop (λ c κs. (c .before .before .before .pre .0 .lendable .inside, c .before .before .before .pre .0 .lendable .columns-few)) (λ c. search needs) mul-first loop-holds
+    cell-named-requires (λ c. search needs) (λ c. omega (arith, fits c)) push-entry-requires (λ c. search needs)
+    (λ c. search needs) loop-again (λ c. search needs) returns)

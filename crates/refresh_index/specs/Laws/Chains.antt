@@ -1,0 +1,74 @@
+-- Laws of the entries that a link leads to, and of an entry pushed. Assumes nothing.
+use Prim.Native.Nat.{ℕ, zero, suc, _+_, _-_, _≤_, _<_}
+use mathlib.Core.Path.{_≡_, refl, ap, _∙_}
+use mathlib.Core.Logic.{_≢_}
+use mathlib.Core.Bool.{true, false≢true}
+use mathlib.Core.List.{List, [], _∷_}
+use native.Mathlib.Decide.{ℕ-discrete}
+use native.Mathlib.Numerals.{add-one}
+use native.Mathlib.Omega.{arith}
+use lib.ListN.{length, getD, set}
+use lib.Seq.{getD-set-same, getD-set-other, lt-length-set}
+use Rattle.lists.specs.Lists.{has}
+use Rattle.lists.specs.Laws.Rising.{has-here, has-there}
+use Rattle.refresh_spec.specs.Index.{chain}
+use Rattle.refresh_spec.specs.Laws.Chains.{chain-here, chain-below}
+use Rattle.refresh_spec.specs.Laws.Fronts.{chain-same}
+use Rattle.refresh_index.specs.inner.Entries.{pushed}
+
+-- a link that is too high
+pub chain-above : (index : List ℕ) (n link : ℕ) → n < link → chain index n link ≡ []
+chain-above index zero link h = unfold chain in refl
+chain-above index (suc n) link h = chain-below index n link (omega arith) ∙ chain-above index n link (omega arith)
+
+-- a link to an entry below the limit
+pub chain-on : (index : List ℕ) (n link : ℕ) → 0 < link → link ≤ n → chain index n link ≡ (link - 1) ∷ chain index (link - 1) (getD index (16 + (link - 1)) 0)
+chain-on index zero link some below = absurd (omega arith)
+chain-on index (suc n) link some below =
+    elim (ℕ-discrete link (suc n)) [
+      | yes e ↦ let p : link - 1 ≡ n = omega arith in rw p (chain-here index n link e)
+      | no e ↦ chain-below index n link e ∙ chain-on index n link some (omega arith)
+    ]
+
+-- a link to none
+pub chain-none : (index : List ℕ) (n : ℕ) → chain index n 0 ≡ []
+chain-none index zero = unfold chain in refl
+chain-none index (suc n) = chain-below index n 0 (omega arith) ∙ chain-none index n
+
+module _ (index : List ℕ) (head n : ℕ) (below : 16 + n < head) (inside : head < length index) where
+  other : (at : ℕ) → at ≢ 16 + n → at ≢ head → getD (pushed index head n) at 0 ≡ getD index at 0
+  unfolding pushed
+  other at p q =
+      getD-set-other (set index (16 + n) (getD index head 0)) head at (n + 1) 0 q ∙ getD-set-other index (16 + n) at (getD index head 0) 0 p
+
+  links : (e : ℕ) → e < n → getD (pushed index head n) (16 + e) 0 ≡ getD index (16 + e) 0
+  links e h = other (16 + e) (omega arith) (omega arith)
+
+  own-link : getD (pushed index head n) (16 + n) 0 ≡ getD index head 0
+  unfolding pushed
+  own-link =
+      getD-set-other (set index (16 + n) (getD index head 0)) head (16 + n) (n + 1) 0 (omega arith)
+      ∙ getD-set-same index (16 + n) (getD index head 0) 0 (omega arith)
+
+  own-head : getD (pushed index head n) head 0 ≡ suc n
+  unfolding pushed
+  own-head =
+      getD-set-same (set index (16 + n) (getD index head 0)) head (n + 1) 0 (lt-length-set index (16 + n) (getD index head 0) inside) ∙ add-one n
+
+  -- its own bucket: the entry, and those that stood there
+  pub pushed-own : chain (pushed index head n) (suc n) (getD (pushed index head n) head 0) ≡ n ∷ chain index n (getD index head 0)
+  pushed-own =
+      chain-here (pushed index head n) n (getD (pushed index head n) head 0) own-head
+      ∙ rw own-link (ap (λ (es : List ℕ). n ∷ es) (chain-same n index (pushed index head n) (getD index head 0) links))
+
+  -- no bucket loses one: where another's link leads to this entry, it led to none before
+  pub pushed-keeps : (at e : ℕ) → 16 + n < at → has e (chain index n (getD index at 0)) ≡ true
+      → has e (chain (pushed index head n) (suc n) (getD (pushed index head n) at 0)) ≡ true
+  pushed-keeps at e h q =
+      elim (ℕ-discrete at head) [
+        | yes p ↦ rw (p, pushed-own) (elim (ℕ-discrete e n) [ yes r ↦ has-here e n _ r | no r ↦ has-there e n _ r ∙ rw p at q ])
+        | no p ↦ rw (other at (omega arith) p) (elim (ℕ-discrete (getD index at 0) (suc n)) [
+          | yes r ↦ absurd (false≢true (unfold has in rw (chain-above index n (getD index at 0) (omega arith)) at q))
+          | no r ↦ rw (chain-below (pushed index head n) n (getD index at 0) r, chain-same n index (pushed index head n) (getD index at 0) links) q
+        ])
+      ]

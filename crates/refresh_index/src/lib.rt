@@ -1,0 +1,228 @@
+// An index from value to rows in a lent store: whether a refresh can go on with it, the rows that it leads to, and bringing it up to
+// the table. Index.antt of `refresh_spec` says what the store's words are. What it holds is not relied on for safety: each walk goes down
+// from entry to entry, and a row is tested before it is marked.
+ghost use mathlib.Core.Path.{_≡_};
+ghost use mathlib.Core.Bool.{true, false};
+ghost use Prim.Native.Nat.{_+_, _*_, _≤_, _<_};
+ghost use lib.ListN.{length};
+ghost use Rattle.table.specs.Refusing.{outside};
+ghost use Rattle.refresh_spec.specs.Index.{bucketOf, entriesUnder, leadsTo, leads};
+ghost use Rattle.refresh_spec.specs.inner.Finding.{Lendable, usable, ListedMarked, CaughtUp};
+ghost use Rattle.refresh_index.specs.inner.Entries.{Readable, cellNamed, fronted, pushed, Fillable, Pushed, Filled, Emptied};
+ghost use Rattle.refresh_index.specs.inner.Marking.{MarkedAll};
+use table::Header;
+
+// Words before those of the entries.
+const FRONT: usize = 16;
+
+// The words of how many rows were seen, and of how many buckets there are.
+pub const ROWS_SEEN: usize = 2;
+
+const BUCKETS: usize = 12;
+
+// An odd number near the golden section of 2^32: values at even distances fall into buckets far apart.
+const SPREAD: u64 = 0x9e37_79b9;
+
+// Whether a refresh by these columns can go on with the store: of this generation and these columns, with no more rows than there are,
+// and with buckets enough for all of them.
+pub fn is_usable(h: Header, index: &[u32], columns: &[u32]) -> bool
+    requires { ⌜ (outside h ≡ false) × (length (now columns) ≤ 8) × (16 + 3 * (h .capacity * length (now columns)) ≤ length (now index)) ⌝ }
+    ensures { λ r. ⌜ r ≡ usable h (now (columns .entry)) (now (index .entry)) ⌝ }
+{
+    if index[0] != 1 {
+        return false;
+    }
+    if index[1] != h.generation {
+        return false;
+    }
+    if index[3] as usize != columns.len() {
+        return false;
+    }
+    if !row_buffer::same_key(index, 4, columns) {
+        return false;
+    }
+    if h.rows < index[ROWS_SEEN] {
+        return false;
+    }
+    let buckets = index[BUCKETS] as usize;
+    if buckets < h.rows as usize * columns.len() {
+        return false;
+    }
+    buckets <= 2 * (h.capacity as usize * columns.len())
+}
+
+// The bucket of a value, of so many.
+fn bucket_of(buckets: u32, value: u32) -> usize
+    requires { ⌜ 0 < buckets ⌝ }
+    ensures { λ r. ⌜ (r ≡ bucketOf buckets value) × (r < buckets) ⌝ }
+{
+    let hash = value as u64 * SPREAD % 0x1_0000_0000;
+    key_index::home_slot(buckets, hash as u32) as usize
+}
+
+// Where the links of the buckets begin.
+fn heads_at(h: Header, count: usize) -> usize
+    requires { ⌜ (outside h ≡ false) × (count ≤ 8) ⌝ }
+    ensures { λ r. ⌜ r ≡ 16 + h .capacity * count ⌝ }
+{
+    FRONT + h.capacity as usize * count
+}
+
+// The cell of a row in the column named at a place.
+fn cell_named(h: Header, rows: &[u32], columns: &[u32], row: u32, place: usize) -> u32
+    requires { ⌜ Readable h (now rows) (now columns) × (row < h .rows) × (place < length (now columns)) ⌝ }
+    ensures { λ r. ⌜ r ≡ cellNamed h (now (rows .entry)) (now (columns .entry)) row place ⌝ }
+{
+    let at = (row * h.columns + columns[place]) as usize;
+    rows[at]
+}
+
+// An entry becomes the last of its value's bucket and links to the one that was.
+fn push_entry(index: &mut [u32], heads: usize, buckets: u32, entry: u32, value: u32)
+    requires { ⌜ (0 < buckets) × (16 + entry < heads) × (heads + buckets ≤ length (now index)) × (entry < 524288) ⌝ }
+    ensures { λ _. ⌜ now (index .exit) ≡ pushed (now (index .entry)) (heads + bucketOf buckets value) entry ⌝ }
+{
+    let head = heads + bucket_of(buckets, value);
+    index[FRONT + entry as usize] = index[head];
+    index[head] = entry + 1;
+}
+
+// The entries of a row, one for each named column.
+fn push_row(h: Header, rows: &[u32], index: &mut [u32], columns: &[u32], buckets: u32, row: u32)
+    requires { ⌜ Fillable h (now rows) (now columns) buckets (now index) × (row < h .rows) ⌝ }
+    ensures { λ _. ⌜ Pushed h (now (rows .entry)) (now (columns .entry)) buckets (row * length (now (columns .entry))) (now (index .entry)) (row * length (now (columns .entry)) + length (now (columns .entry))) (now (index .exit)) ⌝ }
+{
+    let heads = heads_at(h, columns.len());
+    let first = row * columns.len() as u32;
+    let mut place = 0;
+    while place < columns.len() {
+        let value = cell_named(h, rows, columns, row, place);
+        push_entry(index, heads, buckets, first + place as u32, value);
+        place += 1;
+    }
+}
+
+// The words before the entries: what the index is of.
+fn write_front(h: Header, index: &mut [u32], columns: &[u32], buckets: u32)
+    requires { ⌜ (16 ≤ length (now index)) × (length (now columns) ≤ 8) ⌝ }
+    ensures { λ _. ⌜ now (index .exit) ≡ fronted h (now (columns .entry)) buckets (now (index .entry)) ⌝ }
+{
+    let front = [1, h.generation, h.rows, columns.len() as u32];
+    row_buffer::write_row(index, 0, &front);
+    row_buffer::write_row(index, 4, columns);
+    index[BUCKETS] = buckets;
+}
+
+// The entries of the rows from one on, over an index of those before it.
+fn fill(h: Header, rows: &[u32], index: &mut [u32], columns: &[u32], buckets: u32, from: u32)
+    requires { ⌜ Fillable h (now rows) (now columns) buckets (now index) × (from ≤ h .rows) ⌝ }
+    ensures { λ _. ⌜ Filled h (now (rows .entry)) (now (columns .entry)) buckets from (now (index .entry)) (now (index .exit)) ⌝ }
+{
+    let mut row = from;
+    while row < h.rows {
+        push_row(h, rows, index, columns, buckets, row);
+        row += 1;
+    }
+    write_front(h, index, columns, buckets);
+}
+
+// Empties the buckets, so that no chain runs on into entries of another.
+fn empty_buckets(index: &mut [u32], heads: usize, buckets: u32)
+    requires { ⌜ heads + buckets ≤ length (now index) ⌝ }
+    ensures { λ _. ⌜ Emptied (now (index .entry)) heads buckets (now (index .exit)) ⌝ }
+{
+    let mut bucket = 0;
+    while bucket < buckets {
+        index[heads + bucket as usize] = 0;
+        bucket += 1;
+    }
+}
+
+// Brings the store up to the table: it goes on after the rows seen, or starts afresh with twice as many buckets as there are entries,
+// which leaves room to go on and takes time by the rows and not by the capacity.
+pub fn catch_up(h: Header, rows: &[u32], index: &mut [u32], columns: &[u32], goes_on: bool)
+    requires { ⌜ Lendable h (now rows) (now columns) (now index) × («goes_on» ≡ usable h (now columns) (now index)) ⌝ }
+    ensures { λ _. ⌜ CaughtUp h (now (rows .entry)) (now (columns .entry)) (now (index .entry)) (now (index .exit)) ⌝ }
+{
+    if goes_on {
+        let seen = index[ROWS_SEEN];
+        let buckets = index[BUCKETS];
+        fill(h, rows, index, columns, buckets, seen);
+        return;
+    }
+    let buckets = 2 * (h.rows * columns.len() as u32);
+    empty_buckets(index, heads_at(h, columns.len()), buckets);
+    fill(h, rows, index, columns, buckets, 0);
+}
+
+// Marks an entry's row if it is live and has the value in the entry's column.
+fn mark_entry(
+    h: Header,
+    rows: &[u32],
+    columns: &[u32],
+    entry: u32,
+    value: u32,
+    words: &mut [u64],
+) -> u32
+    requires { ⌜ Readable h (now rows) (now columns) × (entry < h .rows * length (now columns)) × (length (now words) ≡ 1024) ⌝ }
+    ensures { λ r. ⌜ MarkedAll (leadsTo h (now (rows .entry)) (now (columns .entry)) value entry) (now (words .entry)) (now (words .exit)) r ⌝ }
+{
+    let count = columns.len() as u32;
+    let row = entry / count;
+    let place = (entry % count) as usize;
+    if row_buffer::is_dead(rows, (row * h.columns) as usize) {
+        return 0;
+    }
+    if cell_named(h, rows, columns, row, place) != value {
+        return 0;
+    }
+    row_marks::mark(words, row)
+}
+
+// Marks the rows that the entries under a value lead to. A link goes to an entry below the last one, so that the walk ends.
+fn mark_chain(
+    h: Header,
+    rows: &[u32],
+    index: &[u32],
+    columns: &[u32],
+    value: u32,
+    words: &mut [u64],
+) -> u32
+    requires { ⌜ Lendable h (now rows) (now columns) (now index) × (usable h (now columns) (now index) ≡ true) × (length (now words) ≡ 1024) ⌝ }
+    ensures { λ r. ⌜ MarkedAll (leads h (now (rows .entry)) (now (columns .entry)) value (entriesUnder (h .capacity) (now (index .entry)) value)) (now (words .entry)) (now (words .exit)) r ⌝ }
+{
+    let mut limit = index[ROWS_SEEN] * columns.len() as u32;
+    if limit == 0 {
+        return 0;
+    }
+    let mut link = index[heads_at(h, columns.len()) + bucket_of(index[BUCKETS], value)];
+    let mut marked: u32 = 0;
+    while 0 < link && link <= limit {
+        let entry = link - 1;
+        marked += mark_entry(h, rows, columns, entry, value, words);
+        limit = entry;
+        link = index[FRONT + entry as usize];
+    }
+    marked
+}
+
+// Marks the live rows seen that the store leads to from the values, and answers how many were not marked before.
+pub fn mark_listed(
+    h: Header,
+    rows: &[u32],
+    index: &[u32],
+    columns: &[u32],
+    values: &[u32],
+    words: &mut [u64],
+) -> u32
+    requires { ⌜ Lendable h (now rows) (now columns) (now index) × (usable h (now columns) (now index) ≡ true) × (length (now words) ≡ 1024) ⌝ }
+    ensures { λ r. ⌜ ListedMarked h (now (rows .entry)) (now (index .entry)) (now (columns .entry)) (now (values .entry)) (now (words .entry)) (now (words .exit)) r ⌝ }
+{
+    let mut marked: u32 = 0;
+    let mut i = 0;
+    while i < values.len() {
+        marked += mark_chain(h, rows, index, columns, values[i], words);
+        i += 1;
+    }
+    marked
+}

@@ -1,0 +1,75 @@
+-- `refresh_scan::mark_row` meets its contract. Assumes nothing.
+use mathlib.Core.Path.{_∙_}
+use borrow.Author.Needs.{needs}
+use borrow.Author.Tests.{not-true, not-false}
+use native.Mathlib.Omega.{arith}
+use Rattle.refresh_scan.proofs.Marks.{RowLies, row-lies, columns-in, dead-mentions, live-mentions, row-passed, row-marked}
+use Rattle.refresh_scan.proofs.mark_row.Statement.{statement}
+use Rattle.refresh_scan.proofs.mark_row.Tie as tie
+
+lies : (s : tie.Start) → RowLies (s .args .h) (s .args .rows .now) (s .args .row)
+lies s = row-lies (s .pre .0) (s .pre .1)
+
+mul-at : tie.Need-mul-at
+mul-at c = omega (arith, lies (c .before .before .before .before .before .before))
+
+is-dead-requires : tie.Need-is-dead-requires
+is-dead-requires c κs = omega (arith, lies (c .before .before .before .before .before .before))
+
+returns : tie.Need-returns
+returns c =
+    let s = c .before .before .before .before .before .before .before .before in
+    row-passed _ _ _ _ _ (dead-mentions _ _ _ _ _ (lies s) (s .pre .1) _ (c .before .is-dead .ensures) (c .if1 .taken))
+
+add-end : tie.Need-add-end
+add-end c = omega (arith, lies (c .before .before .before .before .before .before .before .before))
+
+mul-mentions-one : tie.Need-mul-mentions-one
+mul-mentions-one c = omega (arith, lies (c .before .before .before .before .before .before .before .before))
+
+part-mentions-one-end : tie.Need-part-mentions-one-end
+part-mentions-one-end c = omega (arith, lies (c .before .before .before .before .before .before .before .before))
+
+mentions-one-requires : tie.Need-mentions-one-requires
+mentions-one-requires c κs =
+    let s = c .before .before .before .before .before .before .before .before .before in
+    (columns-in _ _ _ (s .args .values .now) _ (lies s) (s .pre .1) (s .pre .0 .columns-there), s .pre .2)
+
+returns-2 : tie.Need-returns-2
+returns-2 c =
+    let s = c .before .before .before .before .before .before .before .before .before .before .before in
+    row-passed _ _ _ _ _
+    (live-mentions _ _ _ _ _ (lies s) (s .pre .1) _ (c .before .before .before .before .is-dead .ensures) (c .before .before .before .if1 .left) _ (c .before .mentions-one .ensures)
+    ∙ not-true _ (c .if2 .taken))
+
+mark-requires : tie.Need-mark-requires
+mark-requires c κs = (search needs, lies (c .before .before .before .before .before .before .before .before .before .before .before .before) .below)
+
+returns-3 : tie.Need-returns-3
+returns-3 c =
+    let b = c .before .before .before .before in
+    let s = b .before .before .before .before .before .before .before .before .before .before .before in
+    row-marked _ _ _ _ _
+    (live-mentions _ _ _ _ _ (lies s) (s .pre .1) _ (b .before .before .before .before .is-dead .ensures) (b .before .before .before .if1 .left) _ (b .before .mentions-one .ensures)
+    ∙ not-false _ (b .if2 .left))
+    (lies s .below)
+    (c .before .before .mark .ensures)
+
+pub mark-row-spec : {M : Type 1} → statement M
+mark-row-spec =
+    tie.close
+    (tie.spec
+    (λ c. search needs)
+    mul-at
+    is-dead-requires
+    returns
+    add-end
+    mul-mentions-one
+    (λ c. search needs)
+    (λ c. search needs)
+    part-mentions-one-end
+    mentions-one-requires
+    returns-2
+    mark-requires
+    (λ c. search needs)
+    returns-3)

@@ -1,0 +1,38 @@
+-- What is asked of a scan of rows for values, and how the values of a part of the list are linked. Assumes nothing.
+use Prim.Native.Nat.{ℕ, zero, suc, _+_, _*_, _≤_, _<_}
+use mathlib.Core.Path.{_≡_}
+use mathlib.Core.Bool.{Bool, true, false, cond, _&&_}
+use mathlib.Core.List.{List}
+use lib.Dec.{eqb, ltb}
+use lib.ListN.{length, getD}
+use Rattle.lists.specs.Lists.{every}
+use Rattle.table.specs.declared.Header.{Header}
+use Rattle.table.specs.Refusing.{outside}
+use Rattle.refresh_spec.specs.Index.{bucketOf}
+use Rattle.refresh_spec.specs.inner.Finding.{mentionsAt}
+
+-- the rows from this one on can be scanned, in these columns, and a bitmap marks rows
+pub record Scannable (h : Header) (rows : List ℕ) (from : ℕ) (columns words : List ℕ) : Type 0 where
+  pub inside : outside h ≡ false
+  pub rows-long : h .capacity * h .columns ≤ length rows
+  pub from-inside : from ≤ h .rows
+  pub columns-few : length columns ≤ 8
+  pub columns-there : every (λ column. ltb column (h .columns)) columns ≡ true
+  pub words-long : length words ≡ 1024
+
+-- row i is this one, is live and mentions a value
+unfoldable pub mentionsOnly : Header → List ℕ → List ℕ → List ℕ → ℕ → ℕ → Bool
+mentionsOnly h rows columns values row i = eqb i row && mentionsAt h rows columns values i
+
+-- the link to the last of the first n values that is in a bucket: one more than its place, or 0 if none is
+unfoldable pub linkTo : List ℕ → ℕ → ℕ → ℕ
+linkTo values bucket zero = 0
+linkTo values bucket (suc n) = cond (eqb (bucketOf 4096 (getD values n 0)) bucket) (suc n) (linkTo values bucket n)
+
+-- The first n of up to 1,024 values are linked: at a value's place stands the link to the one before it in its bucket; from place
+-- 1,024 on, for each bucket, the link to its last.
+pub record Linked (values : List ℕ) (n : ℕ) (links : List ℕ) : Type 0 where
+  pub few : length values ≤ 1024
+  pub long : length links ≡ 5120
+  pub before : (i : ℕ) → i < n → getD links i 0 ≡ linkTo values (bucketOf 4096 (getD values i 0)) i
+  pub last : (bucket : ℕ) → bucket < 4096 → getD links (1024 + bucket) 0 ≡ linkTo values bucket n

@@ -1,0 +1,175 @@
+// The rows that mention one of a list of values, found by testing their cells. The values are taken in parts that go into local links,
+// each value's to the one before it in its bucket, so that a cell is looked up and not compared with all of them.
+ghost use mathlib.Core.Path.{_≡_};
+ghost use mathlib.Core.Bool.{true};
+ghost use Prim.Native.Nat.{_+_, _≤_, _<_, min};
+ghost use lib.Dec.{ltb};
+ghost use lib.ListN.{length};
+ghost use Rattle.lists.specs.Lists.{every, has};
+ghost use Rattle.plain_table.specs.Refreshing.{mentions};
+ghost use Rattle.row_marks.specs.inner.Bitmaps.{Marked};
+ghost use Rattle.refresh_spec.specs.Index.{bucketOf};
+ghost use Rattle.refresh_spec.specs.inner.Finding.{mentionsFrom};
+ghost use Rattle.refresh_scan.specs.inner.Scanning.{Scannable, mentionsOnly, Linked};
+use table::Header;
+
+// The values of a part; their links, behind which stand the links of the buckets, four times as many so that most are empty.
+const PART: usize = 1024;
+
+const BUCKETS: u64 = 4096;
+
+const LINKS: usize = 5120;
+
+// The place of the link to the last value of a value's bucket.
+fn bucket_place(value: u32) -> usize
+    ensures { λ r. ⌜ (r ≡ 1024 + bucketOf 4096 value) × (r < 5120) ⌝ }
+{
+    let bucket = value as u64 * 2_654_435_769 % 0x1_0000_0000 * BUCKETS / 0x1_0000_0000;
+    PART + bucket as usize
+}
+
+// Links the values of a part. A link is one more than a place, 0 for none; a value's goes to a place below its own.
+fn link_values(values: &[u32], links: &mut [u32])
+    requires { ⌜ Linked (now values) 0 (now links) ⌝ }
+    ensures { λ _. ⌜ Linked (now (values .entry)) (length (now (values .entry))) (now (links .exit)) ⌝ }
+{
+    let mut place = 0;
+    while place < values.len() {
+        let bucket = bucket_place(values[place]);
+        links[place] = links[bucket];
+        place += 1;
+        links[bucket] = place as u32;
+    }
+}
+
+// Whether a value is one of a part.
+fn is_among(values: &[u32], links: &[u32], value: u32) -> bool
+    requires { ⌜ Linked (now values) (length (now values)) (now links) ⌝ }
+    ensures { λ r. ⌜ r ≡ has value (now (values .entry)) ⌝ }
+{
+    let mut link = links[bucket_place(value)] as usize;
+    while link != 0 {
+        link -= 1;
+        if values[link] == value {
+            return true;
+        }
+        link = links[link] as usize;
+    }
+    false
+}
+
+// Whether a row has one of a part's values in one of the columns.
+fn mentions_one(row: &[u32], columns: &[u32], values: &[u32], links: &[u32]) -> bool
+    requires { ⌜ (every (λ column. ltb column (length (now row))) (now columns) ≡ true) × Linked (now values) (length (now values)) (now links) ⌝ }
+    ensures { λ r. ⌜ r ≡ mentions (now (columns .entry)) (now (values .entry)) (now (row .entry)) ⌝ }
+{
+    let mut i = 0;
+    while i < columns.len() {
+        let column = columns[i] as usize;
+        if is_among(values, links, row[column]) {
+            return true;
+        }
+        i += 1;
+    }
+    false
+}
+
+// Marks a row if it is live and has one of a part's values.
+fn mark_row(
+    h: Header,
+    rows: &[u32],
+    row: u32,
+    columns: &[u32],
+    values: &[u32],
+    links: &[u32],
+    words: &mut [u64],
+) -> u32
+    requires { ⌜ Scannable h (now rows) row (now columns) (now words) × (row < h .rows) × Linked (now values) (length (now values)) (now links) ⌝ }
+    ensures { λ r. ⌜ Marked (mentionsOnly h (now (rows .entry)) (now (columns .entry)) (now (values .entry)) row) (mentionsOnly h (now (rows .entry)) (now (columns .entry)) (now (values .entry)) row) (now (words .entry)) (now (words .exit)) r ⌝ }
+{
+    let width = h.columns as usize;
+    let at = row as usize * width;
+    if row_buffer::is_dead(rows, at) {
+        return 0;
+    }
+    let end = at + width;
+    if !mentions_one(&rows[at..end], columns, values, links) {
+        return 0;
+    }
+    row_marks::mark(words, row)
+}
+
+// Marks the rows from this one on that have one of a part's values.
+fn mark_rows(
+    h: Header,
+    rows: &[u32],
+    from: u32,
+    columns: &[u32],
+    values: &[u32],
+    links: &[u32],
+    words: &mut [u64],
+) -> u32
+    requires { ⌜ Scannable h (now rows) from (now columns) (now words) × Linked (now values) (length (now values)) (now links) ⌝ }
+    ensures { λ r. ⌜ Marked (mentionsFrom h (now (rows .entry)) (now (columns .entry)) (now (values .entry)) from) (mentionsFrom h (now (rows .entry)) (now (columns .entry)) (now (values .entry)) from) (now (words .entry)) (now (words .exit)) r ⌝ }
+{
+    let mut marked: u32 = 0;
+    let mut row = from;
+    while row < h.rows {
+        marked += mark_row(h, rows, row, columns, values, links, words);
+        row += 1;
+    }
+    marked
+}
+
+// Likewise, of a part that is yet to be linked.
+fn mark_part(
+    h: Header,
+    rows: &[u32],
+    from: u32,
+    columns: &[u32],
+    values: &[u32],
+    words: &mut [u64],
+) -> u32
+    requires { ⌜ Scannable h (now rows) from (now columns) (now words) × (length (now values) ≤ 1024) ⌝ }
+    ensures { λ r. ⌜ Marked (mentionsFrom h (now (rows .entry)) (now (columns .entry)) (now (values .entry)) from) (mentionsFrom h (now (rows .entry)) (now (columns .entry)) (now (values .entry)) from) (now (words .entry)) (now (words .exit)) r ⌝ }
+{
+    let mut links = [0u32; LINKS];
+    link_values(values, &mut links);
+    mark_rows(h, rows, from, columns, values, &links, words)
+}
+
+// Where the part that begins at a place ends.
+fn part_end(at: usize, count: usize) -> usize
+    requires { ⌜ at ≤ count ⌝ }
+    ensures { λ r. ⌜ r ≡ min (at + 1024) count ⌝ }
+{
+    if count - at < PART {
+        return count;
+    }
+    at + PART
+}
+
+// Marks the live rows from this one on that have one of the values in one of the columns, and answers how many were not marked before.
+pub fn mark_unlisted(
+    h: Header,
+    rows: &[u32],
+    from: u32,
+    columns: &[u32],
+    values: &[u32],
+    words: &mut [u64],
+) -> u32
+    requires { ⌜ Scannable h (now rows) from (now columns) (now words) ⌝ }
+    ensures { λ r. ⌜ Marked (mentionsFrom h (now (rows .entry)) (now (columns .entry)) (now (values .entry)) from) (mentionsFrom h (now (rows .entry)) (now (columns .entry)) (now (values .entry)) from) (now (words .entry)) (now (words .exit)) r ⌝ }
+{
+    if from == h.rows {
+        return 0;
+    }
+    let mut marked: u32 = 0;
+    let mut at = 0;
+    while at < values.len() {
+        let end = part_end(at, values.len());
+        marked += mark_part(h, rows, from, columns, &values[at..end], words);
+        at = end;
+    }
+    marked
+}

@@ -1,0 +1,66 @@
+-- What a refresh promises (document 02, change 2): of every input. Assumes nothing.
+use Prim.Native.Nat.{ℕ, _+_, _*_, _<_}
+use mathlib.Core.Path.{_≡_}
+use mathlib.Core.Bool.{Bool, true, false}
+use mathlib.Core.List.{List, [], map}
+use lib.ListN.{length, drop}
+use lib.Dec.{ltb}
+use Rattle.lists.specs.Lists.{putAt, keep, flat}
+use Rattle.refusals.specs.Refusals.{Reply, refused, accepted, reply}
+use Rattle.plain_table.specs.Staged.{Staged, wordsAll}
+use Rattle.plain_table.specs.Refreshing.{Refresh, mentioning, refreshed, refreshLadder}
+use Rattle.table.specs.declared.Header.{Header}
+use Rattle.table.specs.Numbers.{openingOf, largestSays}
+use Rattle.table.specs.Refusing.{pendingOutside}
+use Rattle.table.specs.Stores.{recordWords}
+use Rattle.table.specs.Promises.{withPending, ofRows}
+use Rattle.refresh_spec.specs.declared.Refreshed.{Refreshed}
+use Rattle.refresh_spec.specs.declared.RefreshAnswer.{RefreshAnswer}
+use Rattle.refresh_spec.specs.declared.RefreshAnswer.the-variants.{Refused as RefreshRefused, Refreshed as RefreshDone}
+use Rattle.refresh_spec.specs.Index.{isNew, IndexSound, Current}
+
+unfoldable pub refreshSays : RefreshAnswer → Reply Refreshed
+refreshSays (RefreshRefused n) = refused n
+refreshSays (RefreshDone a) = accepted a
+
+-- the plain table's ladder, with this table's test 1
+unfoldable pub refreshRefusal : Header → ℕ → ℕ → ℕ → Refresh → List Staged → ℕ
+refreshRefusal h rows pending index r records =
+    refreshLadder (pendingOutside h pending) (openingOf h) (largestSays (h .largest)) r rows index (h .pending) pending (wordsAll (openingOf h) records)
+
+-- the records of those rows that are found, of the live rows that mention a value
+unfoldable pub recordsFound : Header → List ℕ → Refresh → (ℕ → Bool) → List Staged
+recordsFound h rows r found = refreshed (openingOf h) (r .stamp) (keep (λ row. found (row .number)) (mentioning r (ofRows h rows)))
+
+-- "The answer is yes exactly if a row was staged"
+abbrev pub answered : Header → List Staged → Refreshed
+answered h records = record { header = withPending h (h .pending + wordsAll (openingOf h) records); staged = ltb 0 (length records) }
+
+-- what of these was staged, and the header after it: refused, nothing and as it was
+unfoldable pub recordsStaged : Reply Refreshed → List Staged → List Staged
+recordsStaged (refused n) records = []
+recordsStaged (accepted a) records = records
+
+unfoldable pub headerRefreshed : Header → Reply Refreshed → Header
+headerRefreshed h (refused n) = h
+headerRefreshed h (accepted a) = a .header
+
+-- Lent are rows, shared, pending and the index store. Whatever the index store holds, what is staged are records of live rows that
+-- mention a value, whole and in rising row order: of those for which the program's choice `found` says so. Over a sound one it says so
+-- of every row, and the index store is one of the version of now; over another its first word is not 0, and no more is promised of the
+-- words needed: "Its inside is the program's choice".
+pub record Refreshing (h : Header) (rows pending index : List ℕ) (r : Refresh) (answer : RefreshAnswer) (pending′ index′ : List ℕ) : Type 0 where
+  pub found : ℕ → Bool
+  pub all-found : IndexSound h rows (r .columns) index → (row : ℕ) → found row ≡ true
+  pub answers : refreshSays answer
+      ≡ reply (refreshRefusal h (length rows) (length pending) (length index) r (recordsFound h rows r found)) (answered h (recordsFound h rows r found))
+  pub unchanged : 0 < refreshRefusal h (length rows) (length pending) (length index) r (recordsFound h rows r found)
+      → (pending′ ≡ pending) × (index′ ≡ index)
+  pub staged : refreshRefusal h (length rows) (length pending) (length index) r (recordsFound h rows r found) ≡ 0
+      → pending′ ≡ putAt pending (h .pending) (flat (map (recordWords (h .keys)) (recordsFound h rows r found)))
+  pub written : refreshRefusal h (length rows) (length pending) (length index) r (recordsFound h rows r found) ≡ 0 → isNew index′ ≡ false
+  pub current : refreshRefusal h (length rows) (length pending) (length index) r (recordsFound h rows r found) ≡ 0 → IndexSound h rows (r .columns) index
+      → Current h rows (r .columns) index′
+  -- words past those needed are never written
+  pub past : drop (16 + 3 * (h .capacity * length (r .columns))) index′ ≡ drop (16 + 3 * (h .capacity * length (r .columns))) index
+  pub length-same : length index′ ≡ length index

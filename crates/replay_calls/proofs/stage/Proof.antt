@@ -1,0 +1,33 @@
+-- `replay_calls::stage` meets its contract. Assumes nothing.
+use mathlib.Core.Path.{_∙_}
+use native.Mathlib.Omega.{arith}
+use Rattle.replay_calls.specs.Laws.Encoding.{call-insert, call-remove, call-row, row-none, row-some}
+use Rattle.replay_calls.specs.Laws.Making.{nothing-staged, staging-made}
+use borrow.Author.Needs.{needs}
+use Rattle.replay_calls.proofs.stage.Statement.{statement}
+use Rattle.replay_calls.proofs.stage.Tie as tie
+
+returns : tie.Need-returns
+returns c = staging-made (call-insert _ _ (c .before .before .before .before .before .if1 .taken)) (c .before .before .before .stage-insert .ensures) (c .header-after .ensures)
+
+returns-2 : tie.Need-returns-2
+returns-2 c = staging-made (call-remove _ _ (c .before .before .before .before .before .if2 .taken)) (c .before .before .before .stage-remove .ensures) (c .header-after2 .ensures)
+
+returns-3 : tie.Need-returns-3
+returns-3 c = nothing-staged (call-row _ _ (omega (arith, c .before .before .before .before .before .pre, c .before .if2 .left, c .before .before .if1 .left)) ∙ row-none _ (c .if3 .taken))
+
+returns-4 : tie.Need-returns-4
+returns-4 c =
+    let t = c .before .before .before .before .before .before .before in
+    staging-made
+    (call-row _ _ (omega (arith, t .before .before .before .before .before .pre, t .before .if2 .left, t .before .before .if1 .left)) ∙ row-some _ (omega (arith, t .if3 .left)))
+    (c .before .before .before .stage-remove-row .ensures)
+    (c .header-after3 .ensures)
+
+pub stage-spec : {M : Type 1} → statement M
+stage-spec =
+    tie.close
+    (tie.spec
+    (λ c κs. search needs) (λ c κs. search needs) (λ c. search needs) returns (λ c κs. search needs)
+    (λ c κs. search needs) (λ c. search needs) returns-2 returns-3 (λ c. search needs) (λ c. search needs)
+    (λ c. search needs) (λ c. search needs) (λ c κs. search needs) (λ c κs. search needs) (λ c. search needs) returns-4)

@@ -1,0 +1,169 @@
+-- Requests made one after another: they are steps of a history; what they leave of the index store; and from a new index store on, the
+-- calls are those requested. Assumes nothing.
+use Prim.Native.Nat.{ℕ, _+_, _*_, _-_, _≤_}
+use mathlib.Core.Path.{_≡_, refl, sym, ap, _∙_}
+use mathlib.Core.Logic.{inl, inr}
+use mathlib.Core.Bool.{true, false, false≢true}
+use mathlib.Core.List.{List, [], _∷_, _++_, map, append-nil}
+use native.Mathlib.Nat.{mul-le-mul-left}
+use native.Mathlib.Omega.{arith}
+use lib.ListN.{length, drop}
+use lib.Seq.{drop-drop}
+use borrow.Author.Tests.{ltb-false}
+use Rattle.lists.specs.Lists.{any}
+use Rattle.lists.specs.Laws.Every.{or-no-left, or-no-right}
+use Rattle.refusals.specs.Laws.Replies.{some-number}
+use Rattle.plain_table.specs.Staged.{Opening}
+use Rattle.plain_table.specs.Refusing.{Lengths}
+use Rattle.plain_table.specs.Plain.{Plain}
+use Rattle.plain_table.specs.Refreshing.{Refresh, refreshLadder}
+use Rattle.plain_table.specs.Calls.{Call, afterAll, LentCall}
+use Rattle.plain_table.specs.Laws.Calls.{first-no, first-rest}
+use Rattle.plain_table.specs.Laws.Notes.{onward-all}
+use Rattle.table.specs.declared.Header.{Header}
+use Rattle.table.specs.Promises.{Stores, body, Represents}
+use Rattle.refresh_spec.specs.declared.RefreshAnswer.{RefreshAnswer}
+use Rattle.refresh_spec.specs.Index.{isNew, IndexSound}
+use Rattle.refresh_spec.specs.Refreshes.{refreshRefusal, Refreshing}
+use Rattle.refresh_spec.specs.Laws.Keeps.{number}
+use Rattle.history.specs.Histories.{Called, behind, Steps, end as steps-end, next as steps-next, History}
+use Rattle.history.specs.Refreshes.{ownRefresh, Kept, taken, waits, refreshes}
+use Rattle.history.specs.Laws.Calls.{step-represents}
+use Rattle.history.specs.Laws.Refreshes.{kept-indexes}
+use Rattle.history.specs.Laws.Further.{behind-nothing, whole-step}
+use Rattle.replay_calls.specs.Lending.{lentTo, lentAll}
+use Rattle.replay_calls.specs.Requests.{Request, isRefresh, requested, refreshedStores, IndexPast, Served, made, refreshed, refreshed-unsound, ServedAll, end, next}
+
+-- ---- steps of a history
+
+pub served-called : {l : Lengths} {s t : Stores} {index index′ : List ℕ} {q : Request} {c : Call} → Served l s index q c t index′ → Called s (lentTo l c) t
+served-called (made call) = call
+served-called (refreshed r answer pending′ index′ m sound call) = call
+served-called (refreshed-unsound r answer pending′ index′ m unsound call) = call
+
+pub served-steps : {l : Lengths} {s t : Stores} {index index′ : List ℕ} {qs : List Request} {cs : List Call} → ServedAll l s index qs cs t index′ → Steps s (lentAll l cs) t
+served-steps (end s index) = steps-end s
+served-steps (next one more) = steps-next (whole-step (served-called one)) (served-steps more)
+
+pub served-then : {l : Lengths} {s t u : Stores} {index index′ index″ : List ℕ} {qs rs : List Request} {cs ds : List Call}
+    → ServedAll l s index qs cs t index′ → ServedAll l t index′ rs ds u index″ → ServedAll l s index (qs ++ rs) (cs ++ ds) u index″
+served-then (end s index) rest = rest
+served-then (next one more) rest = next one (served-then more rest)
+
+-- ---- the index store
+
+-- without a refresh it stays as it is
+served-unused : {l : Lengths} {s t : Stores} {index index′ : List ℕ} {q : Request} {c : Call} → Served l s index q c t index′ → isRefresh q ≡ false → index′ ≡ index
+unfolding isRefresh
+served-unused (made call) none = refl
+served-unused (refreshed r answer pending′ index′ m sound call) none = absurd (false≢true (sym none))
+served-unused (refreshed-unsound r answer pending′ index′ m unsound call) none = absurd (false≢true (sym none))
+
+pub index-unused : {l : Lengths} {s t : Stores} {index index′ : List ℕ} {qs : List Request} {cs : List Call} → ServedAll l s index qs cs t index′ → any isRefresh qs ≡ false → index′ ≡ index
+unfolding any
+index-unused (end s index) none = refl
+index-unused (next {q = q} one more) none = index-unused more (or-no-right (isRefresh q) _ none) ∙ served-unused one (or-no-left (isRefresh q) _ none)
+
+-- words past those that a refresh may need stay as they are
+drop-further : (a b : List ℕ) (m n : ℕ) → m ≤ n → drop m a ≡ drop m b → drop n a ≡ drop n b
+drop-further a b m n h e =
+    let k : m + (n - m) ≡ n = omega arith in
+    rw (sym k) (sym (drop-drop (n - m) m a) ∙ ap (drop (n - m)) e ∙ drop-drop (n - m) m b)
+
+module _ {h : Header} {rows pending index pending′ index′ : List ℕ} {r : Refresh} {answer : RefreshAnswer} (m : Refreshing h rows pending index r answer pending′ index′) where
+  columns-few : number m ≡ 0 → length (r .columns) ≤ 8
+  unfolding refreshRefusal refreshLadder
+  columns-few e = ltb-false _ _ (first-no _ 11 _ (first-rest _ 1 _ (first-rest _ 0 _ e)))
+
+  refreshing-past : IndexPast (h .capacity) index index′
+  refreshing-past =
+      elim (some-number (number m)) [
+        | inl e ↦
+            let few = mul-le-mul-left (h .capacity) (columns-few e) in
+            drop-further index′ index (16 + 3 * (h .capacity * length (r .columns))) (16 + 24 * h .capacity) (omega arith) (m .past)
+        | inr some ↦ ap (drop (16 + 24 * h .capacity)) (m .unchanged some .1)
+      ]
+
+module _ {p : Plain} {s : Stores} (r : Represents p s) where
+  served-past : {l : Lengths} {t : Stores} {index index′ : List ℕ} {q : Request} {c : Call} → Served l s index q c t index′ → IndexPast (p .opening .capacity) index index′
+  served-past (made call) = refl
+  served-past (refreshed q answer pending′ index′ m sound call) = rw (ap (λ (h : Header). h .capacity) (r .shown .header)) at (refreshing-past m)
+  served-past (refreshed-unsound q answer pending′ index′ m unsound call) = rw (ap (λ (h : Header). h .capacity) (r .shown .header)) at (refreshing-past m)
+
+pub index-past : {l : Lengths} {p : Plain} {s t : Stores} {index index′ : List ℕ} {qs : List Request} {cs : List Call} → Represents p s → ServedAll l s index qs cs t index′ → IndexPast (p .opening .capacity) index index′
+unfolding afterAll
+index-past r (end s index) = refl
+index-past {l} {p} r (next {c = c} one more) =
+    let opening = onward-all p (lentTo l c ∷ []) .opening in
+    (rw opening at (index-past (step-represents r (whole-step (served-called one))) more)) ∙ served-past r one
+
+-- ---- from a new index store on
+
+both : {c d : Call} {cs ds : List Call} → c ≡ d → cs ≡ ds → c ∷ cs ≡ d ∷ ds
+both e f = λ i. e i ∷ f i
+
+-- kept by some history
+abbrev KeptSome : Opening → ℕ → Stores → List ℕ → Type 0
+KeptSome o generation s index = (calls : List LentCall) × Kept o generation calls s index
+
+module _ {o : Opening} {generation : ℕ} where
+  -- a refresh that is lent the whole of it
+  refreshed-kept : {calls : List LentCall} {index pending′ index′ : List ℕ} (s : Stores) {r : Refresh} {answer : RefreshAnswer} → Kept o generation calls s index
+      → Refreshing (s .header) (s .rows) (s .pending) index r answer pending′ index′ → Kept o generation (calls ++ (ownRefresh s index r ∷ [])) (refreshedStores s answer pending′) index′
+  refreshed-kept {calls} {index} {pending′} {index′} s {r} {answer} kept m =
+      go (behind-nothing (refreshedStores s answer pending′)) (append-nil index′)
+    where
+      go : {a : Stores} {b : List ℕ} → behind (refreshedStores s answer pending′) (body [] [] []) [] ≡ a → index′ ++ [] ≡ b → Kept o generation (calls ++ (ownRefresh s index r ∷ [])) a b
+      go e f = rw (← e, ← f) (refreshes {calls = calls} s (body [] [] []) [] index [] r answer pending′ index′ (rw (behind-nothing s, append-nil index) kept) m)
+
+  -- it is sound for a refresh by any columns
+  kept-sound : {calls : List LentCall} {s : Stores} {index : List ℕ} → Kept o generation calls s index → (columns : List ℕ) → IndexSound (s .header) (s .rows) columns index
+  kept-sound {calls} {s} {index} kept columns =
+      kept-indexes .sound o generation calls s (body [] [] []) [] index [] columns (rw (behind-nothing s, append-nil index) kept)
+
+  served-kept : {l : Lengths} {s t : Stores} {index index′ : List ℕ} {q : Request} {c : Call} → KeptSome o generation s index → Served l s index q c t index′ → KeptSome o generation t index′
+  served-kept (calls, kept) (made call) = (_, waits kept (whole-step call))
+  served-kept {s = s} (calls, kept) (refreshed r answer pending′ index′ m sound call) = (_, refreshed-kept s kept m)
+  served-kept {s = s} (calls, kept) (refreshed-unsound r answer pending′ index′ m unsound call) = (_, refreshed-kept s kept m)
+
+  all-kept : {l : Lengths} {s t : Stores} {index index′ : List ℕ} {qs : List Request} {cs : List Call} → KeptSome o generation s index → ServedAll l s index qs cs t index′ → KeptSome o generation t index′
+  all-kept kept (end s index) = kept
+  all-kept kept (next one more) = all-kept (served-kept kept one) more
+
+  served-requested : {l : Lengths} {s t : Stores} {index index′ : List ℕ} {q : Request} {c : Call} → KeptSome o generation s index → Served l s index q c t index′
+      → (c ≡ requested (length index) q) × (length index′ ≡ length index)
+  unfolding requested
+  served-requested kept (made call) = (refl, refl)
+  served-requested kept (refreshed r answer pending′ index′ m sound call) = (refl, m .length-same)
+  served-requested kept (refreshed-unsound r answer pending′ index′ m unsound call) = absurd (unsound (kept-sound (kept .1) (r .columns)))
+
+  all-requested : {l : Lengths} {s t : Stores} {index index′ : List ℕ} {qs : List Request} {cs : List Call} → KeptSome o generation s index → ServedAll l s index qs cs t index′
+      → cs ≡ map (requested (length index)) qs
+  all-requested kept (end s index) = refl
+  all-requested kept (next one more) =
+      let e = served-requested kept one in
+      let f = all-requested (served-kept kept one) more in
+      both (e .0) (rw (e .1) at f)
+
+  module _ {before : List LentCall} {s t : Stores} {l : Lengths} {index index′ : List ℕ} {qs : List Request} {cs : List Call}
+      (history : History o generation before s) (new : isNew index ≡ true) (all : ServedAll l s index qs cs t index′) where
+    -- "the plain table stages these records of its own rows"
+    pub calls-requested : cs ≡ map (requested (length index)) qs
+    calls-requested = all-requested (before, taken index history new) all
+
+    -- afterwards it is still sound
+    pub index-sound : (columns : List ℕ) → IndexSound (t .header) (t .rows) columns index′
+    index-sound = kept-sound (all-kept (before, taken index history new) all .1)
+
+-- without a refresh they are those requested, whatever it holds
+served-plain : {l : Lengths} {s t : Stores} {index index′ : List ℕ} {q : Request} {c : Call} (n : ℕ) → Served l s index q c t index′ → isRefresh q ≡ false → c ≡ requested n q
+unfolding isRefresh requested
+served-plain n (made call) none = refl
+served-plain n (refreshed r answer pending′ index′ m sound call) none = absurd (false≢true (sym none))
+served-plain n (refreshed-unsound r answer pending′ index′ m unsound call) none = absurd (false≢true (sym none))
+
+pub calls-plain : {l : Lengths} {s t : Stores} {index index′ : List ℕ} {qs : List Request} {cs : List Call} (n : ℕ) → ServedAll l s index qs cs t index′ → any isRefresh qs ≡ false
+    → cs ≡ map (requested n) qs
+unfolding any
+calls-plain n (end s index) none = refl
+calls-plain n (next {q = q} one more) none = both (served-plain n one (or-no-left (isRefresh q) _ none)) (calls-plain n more (or-no-right (isRefresh q) _ none))

@@ -1,0 +1,58 @@
+-- Requests, and the calls of a history that they are. Each is lent the stores whole; refreshes are lent one index store too, whole, as
+-- the refresh before left it. Assumes nothing.
+use Prim.Native.Nat.{ℕ, _+_, _*_}
+use mathlib.Core.Path.{_≡_}
+use mathlib.Core.Bool.{Bool, true, false}
+use mathlib.Core.List.{List, [], _∷_}
+use lib.ListN.{length, drop}
+use Rattle.plain_table.specs.Refusing.{Lengths}
+use Rattle.plain_table.specs.Refreshing.{Refresh}
+use Rattle.plain_table.specs.Calls.{Call, refreshing, feeding}
+use Rattle.table.specs.Promises.{Stores, bodyOf, joined}
+use Rattle.refresh_spec.specs.declared.RefreshAnswer.{RefreshAnswer}
+use Rattle.refresh_spec.specs.Index.{IndexSound}
+use Rattle.refresh_spec.specs.Refreshes.{refreshSays, recordsFound, recordsStaged, headerRefreshed, Refreshing}
+use Rattle.history.specs.Histories.{Called}
+use Rattle.replay_calls.specs.Lending.{lentTo}
+
+-- A refresh is a request of its own: which call of the plain table it is depends on the index store.
+pub data Request : Type 0 where
+  make : Call → Request
+  refresh : Refresh → Request
+
+unfoldable pub isRefresh : Request → Bool
+isRefresh (make c) = false
+isRefresh (refresh r) = true
+
+-- the call that a request is over a sound index store of this length
+unfoldable pub requested : ℕ → Request → Call
+requested index (make c) = c
+requested index (refresh r) = refreshing r index
+
+-- the stores after a refresh
+abbrev pub refreshedStores : Stores → RefreshAnswer → List ℕ → Stores
+refreshedStores s answer pending′ = joined (headerRefreshed (s .header) (refreshSays answer)) (bodyOf s) pending′
+
+-- "16 words plus 3 for each row of the capacity and named column", of at most eight columns: words past these are never written
+abbrev pub IndexPast : ℕ → List ℕ → List ℕ → Type 0
+IndexPast capacity index index′ = drop (16 + 24 * capacity) index′ ≡ drop (16 + 24 * capacity) index
+
+-- one request, the call of the history that it is, and what it leaves: of stores of these lengths, and of the index store
+pub data Served (l : Lengths) (s : Stores) (index : List ℕ) : Request → Call → Stores → List ℕ → Type 0 where
+  made : {c : Call} {t : Stores} → Called s (lentTo l c) t → Served l s index (make c) c t index
+  -- "the plain table stages these records of its own rows"
+  refreshed : (r : Refresh) (answer : RefreshAnswer) (pending′ index′ : List ℕ) → Refreshing (s .header) (s .rows) (s .pending) index r answer pending′ index′
+      → IndexSound (s .header) (s .rows) (r .columns) index
+      → Called s (lentTo l (refreshing r (length index))) (refreshedStores s answer pending′)
+      → Served l s index (refresh r) (refreshing r (length index)) (refreshedStores s answer pending′) index′
+  -- "Over such an unsound index store, and nowhere else, it is fed the records that the call staged"
+  refreshed-unsound : (r : Refresh) (answer : RefreshAnswer) (pending′ index′ : List ℕ) (m : Refreshing (s .header) (s .rows) (s .pending) index r answer pending′ index′)
+      → (IndexSound (s .header) (s .rows) (r .columns) index → ⊥)
+      → Called s (lentTo l (feeding (recordsStaged (refreshSays answer) (recordsFound (s .header) (s .rows) r (m .found))))) (refreshedStores s answer pending′)
+      → Served l s index (refresh r) (feeding (recordsStaged (refreshSays answer) (recordsFound (s .header) (s .rows) r (m .found)))) (refreshedStores s answer pending′) index′
+
+-- the requests one after another, the first one first
+pub data ServedAll (l : Lengths) : Stores → List ℕ → List Request → List Call → Stores → List ℕ → Type 0 where
+  end : (s : Stores) (index : List ℕ) → ServedAll l s index [] [] s index
+  next : {s t u : Stores} {index index′ index″ : List ℕ} {q : Request} {qs : List Request} {c : Call} {cs : List Call}
+      → Served l s index q c t index′ → ServedAll l t index′ qs cs u index″ → ServedAll l s index (q ∷ qs) (c ∷ cs) u index″

@@ -1,0 +1,30 @@
+-- Requests made one after another on lent stores: each is a step of a history. Assumes nothing.
+use Prim.Native.Nat.{ℕ}
+use mathlib.Core.Path.{_≡_}
+use mathlib.Core.List.{List}
+use Rattle.plain_table.specs.Refusing.{Lengths}
+use Rattle.plain_table.specs.Plain.{Plain}
+use Rattle.plain_table.specs.Calls.{Call, afterAll}
+use Rattle.table.specs.declared.Header.{Header}
+use Rattle.table.specs.Promises.{Stores, stores, lengths, Represents, CompactionWords, compactionWords, SlotsPast, WordsPast}
+use Rattle.replay_calls.specs.Lending.{lentAll}
+use Rattle.replay_calls.specs.Requests.{Request, ServedAll}
+
+-- requests on stores and compaction words of these lengths, and on an index store
+pub record Made (requests : List Request) (l : Lengths) (s : Stores) (w : CompactionWords) (index : List ℕ) (s′ : Stores) (w′ : CompactionWords) (index′ : List ℕ) : Type 0 where
+  pub calls : List Call
+  pub served : ServedAll l s index requests calls s′ index′
+  -- of a table: what is never written, and the compaction words where nothing is compacted
+  pub slots-past : (p : Plain) → Represents p s → SlotsPast (p .opening .capacity) (s .keys) (s′ .keys)
+  pub words-past : (p : Plain) → Represents p s → WordsPast (p .opening .capacity) w w′
+  pub words-kept : (p : Plain) → Represents p s → afterAll p (lentAll l calls) .generation ≡ p .generation → w′ ≡ w
+
+-- requests on the pending store alone, whatever the other stores hold
+pub record MadeOnPending (requests : List Request) (h : Header) (pending : List ℕ) (h′ : Header) (pending′ : List ℕ) : Type 0 where
+  pub made : (rows keys sorts live base index : List ℕ)
+      → Made requests (lengths rows keys sorts pending live base) (stores h rows keys sorts pending) (compactionWords live base) index (stores h′ rows keys sorts pending′) (compactionWords live base) index
+
+-- requests on the pending store and the index store, beside these rows
+pub record MadeOnIndex (requests : List Request) (h : Header) (rows pending index : List ℕ) (h′ : Header) (pending′ index′ : List ℕ) : Type 0 where
+  pub made : (keys sorts live base : List ℕ)
+      → Made requests (lengths rows keys sorts pending live base) (stores h rows keys sorts pending) (compactionWords live base) index (stores h′ rows keys sorts pending′) (compactionWords live base) index′

@@ -1,0 +1,115 @@
+// One request in words, made by its entry point on lent stores.
+ghost use mathlib.Core.Path.{_≡_};
+ghost use Prim.Native.Nat.{_≤_};
+ghost use Rattle.table.specs.Numbers.{tableSays, mergeSays};
+ghost use Rattle.table.specs.Promises.{headerAfter, headerMerged, stores, compactionWords, lengths};
+ghost use Rattle.refresh_spec.specs.Refreshes.{refreshSays, headerRefreshed};
+ghost use Rattle.replay_calls.specs.Encoding.{refreshIn, requestOf};
+ghost use Rattle.replay_calls.specs.inner.Making.{Made, MadeOnPending, MadeOnIndex};
+use merge::merge;
+use refresh::refresh_rows_for_values;
+use refresh_spec::RefreshAnswer;
+use table::Header;
+use table::MergeAnswer;
+use table::TableAnswer;
+use table_compact::compact;
+use table_open::clear;
+use table_stage::stage_insert;
+use table_stage::stage_remove;
+use table_stage::stage_remove_row;
+
+// A refused call leaves the header as it was.
+fn header_after(h: Header, answer: TableAnswer) -> Header
+    ensures { λ r. ⌜ r ≡ headerAfter h (tableSays answer) ⌝ }
+{
+    match answer {
+        TableAnswer::Refused(_) => h,
+        TableAnswer::Table(n) => n,
+    }
+}
+
+fn header_merged(h: Header, answer: MergeAnswer) -> Header
+    ensures { λ r. ⌜ r ≡ headerMerged h (mergeSays answer) ⌝ }
+{
+    match answer {
+        MergeAnswer::Refused(_) => h,
+        MergeAnswer::Merged(m) => m.header,
+    }
+}
+
+fn header_refreshed(h: Header, answer: RefreshAnswer) -> Header
+    ensures { λ r. ⌜ r ≡ headerRefreshed h (refreshSays answer) ⌝ }
+{
+    match answer {
+        RefreshAnswer::Refused(_) => h,
+        RefreshAnswer::Refreshed(a) => a.header,
+    }
+}
+
+// Kinds 0 to 2, which need the pending store alone.
+fn stage(h: Header, kind: u32, cells: &[u32], pending: &mut [u32]) -> Header
+    requires { ⌜ kind ≤ 2 ⌝ }
+    ensures { λ r. ⌜ MadeOnPending (requestOf kind (now (cells .entry))) h (now (pending .entry)) r (now (pending .exit)) ⌝ }
+{
+    if kind == 0 {
+        return header_after(h, stage_insert(h, pending, cells));
+    }
+    if kind == 1 {
+        return header_after(h, stage_remove(h, pending, cells));
+    }
+    if cells.len() == 0 {
+        return h;
+    }
+    header_after(h, stage_remove_row(h, pending, cells[0], &cells[1..]))
+}
+
+// Kind 6: the number of columns, the columns, the stamp, then the values.
+fn refresh(h: Header, words: &[u32], rows: &[u32], pending: &mut [u32], index: &mut [u32]) -> Header
+    ensures { λ r. ⌜ MadeOnIndex (refreshIn (now (words .entry))) h (now (rows .entry)) (now (pending .entry)) (now (index .entry)) r (now (pending .exit)) (now (index .exit)) ⌝ }
+{
+    if words.len() == 0 {
+        return h;
+    }
+    let count = words[0] as usize;
+    if words.len() < count + 2 {
+        return h;
+    }
+    let columns = &words[1..count + 1];
+    let values = &words[count + 2..];
+    let stamp = words[count + 1];
+    let answer = refresh_rows_for_values(h, rows, pending, index, columns, values, stamp);
+    header_refreshed(h, answer)
+}
+
+// One request.
+pub fn make_call(
+    h: Header,
+    kind: u32,
+    cells: &[u32],
+    rows: &mut [u32],
+    keys: &mut [u32],
+    sorts: &mut [u32],
+    pending: &mut [u32],
+    live: &mut [u64],
+    base: &mut [u32],
+    index: &mut [u32],
+) -> Header
+    ensures { λ r. ⌜ Made (requestOf kind (now (cells .entry))) (lengths (now (rows .entry)) (now (keys .entry)) (now (sorts .entry)) (now (pending .entry)) (now (live .entry)) (now (base .entry))) (stores h (now (rows .entry)) (now (keys .entry)) (now (sorts .entry)) (now (pending .entry))) (compactionWords (now (live .entry)) (now (base .entry))) (now (index .entry)) (stores r (now (rows .exit)) (now (keys .exit)) (now (sorts .exit)) (now (pending .exit))) (compactionWords (now (live .exit)) (now (base .exit))) (now (index .exit)) ⌝ }
+{
+    if kind <= 2 {
+        return stage(h, kind, cells, pending);
+    }
+    if kind == 3 {
+        return header_merged(h, merge(h, rows, keys, sorts, pending, live, base));
+    }
+    if kind == 4 {
+        return header_after(h, compact(h, rows, keys, sorts, live, base));
+    }
+    if kind == 5 {
+        return header_after(h, clear(h, keys));
+    }
+    if kind == 6 {
+        return refresh(h, cells, rows, pending, index);
+    }
+    h
+}

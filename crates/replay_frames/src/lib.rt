@@ -1,0 +1,20 @@
+// Lists in words: each item a kind, a count and so many words.
+ghost use Prim.Native.Nat.{_≤_};
+ghost use lib.ListN.{length};
+ghost use Rattle.replay_frames.specs.inner.Lengths.{FrameLength};
+
+// The words of the item at a place, its kind and count among them; 0 if none stands there whole.
+pub fn frame_length(words: &[u32], at: usize) -> usize
+    requires { ⌜ at ≤ length (now words) ⌝ }
+    ensures { λ r. ⌜ FrameLength (now (words .entry)) at r ⌝ }
+{
+    let left = words.len() - at;
+    if left < 2 {
+        return 0;
+    }
+    let count = words[at + 1] as usize;
+    if left < count + 2 {
+        return 0;
+    }
+    count + 2
+}

@@ -1,0 +1,41 @@
+-- An encoding of lists of questions as words: each question a kind, a count and so many words (`replay_frames`). Every list of words
+-- is one; what is no question is passed over. Assumes nothing.
+use Prim.Native.Nat.{ℕ, _*_, _/_}
+use mathlib.Core.Bool.{cond, _&&_}
+use mathlib.Core.List.{List, [], _∷_}
+use lib.ListN.{length, getD}
+use lib.Dec.{eqb, leb}
+use Rattle.replay_frames.specs.Frames.{framed}
+use Rattle.offsets.specs.Subsets.{range, list}
+use Rattle.condition_words.specs.Conditions.{conditionIn, conditionsIn}
+use Rattle.history.specs.Runs.{Question, refineOne, refineList, intersectWith, intersectRange}
+
+-- a question of so many words, or none
+unfoldable pub ofWords : ℕ → List ℕ → Question → List Question
+ofWords n words question = cond (eqb (length words) n) (question ∷ []) []
+
+-- refining by a list of conditions, of three words each, at most 16 of them
+unfoldable pub listOf : List ℕ → List Question
+listOf words =
+    cond
+    (eqb (length words / 3 * 3) (length words) && leb (length words / 3) 16)
+    (refineList (conditionsIn (length words / 3) words) ∷ [])
+    []
+
+-- the question of a kind and its words: kind 0 refines by a condition, of three words, kind 1 by a list of them; kind 2 intersects
+-- with these ids, kind 3 with the range of two words, kind 4 with the sort-column range of a condition, of three words
+unfoldable pub questionOf : ℕ → List ℕ → List Question
+questionOf kind words =
+    cond (eqb kind 0)
+    (ofWords 3 words (refineOne (conditionIn words 0)))
+    (cond (eqb kind 1)
+    (listOf words)
+    (cond (eqb kind 2)
+    (intersectWith (list words) ∷ [])
+    (cond (eqb kind 3)
+    (ofWords 2 words (intersectWith (range (getD words 0 0) (getD words 1 0))))
+    (cond (eqb kind 4) (ofWords 3 words (intersectRange (conditionIn words 0))) []))))
+
+-- the questions of a list of words
+abbrev pub questionsIn : List ℕ → List Question
+questionsIn words = framed questionOf words

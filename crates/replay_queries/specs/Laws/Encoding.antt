@@ -1,0 +1,64 @@
+-- The question of each kind. Assumes nothing.
+use Prim.Native.Nat.{ℕ, _*_, _/_, _≤_, _<_}
+use mathlib.Core.Path.{_≡_}
+use mathlib.Core.List.{List, [], _∷_}
+use native.Mathlib.Omega.{arith}
+use lib.ListN.{length, getD}
+use borrow.Author.Tests.{eq-eqb, ne-eqb, le-leb, lt-leb}
+use Rattle.offsets.specs.Subsets.{range, list}
+use Rattle.condition_words.specs.Conditions.{conditionIn, conditionsIn}
+use Rattle.history.specs.Runs.{refineOne, refineList, intersectWith, intersectRange}
+use Rattle.replay_queries.specs.Encoding.{ofWords, listOf, questionOf}
+
+-- a list of conditions that is whole and not too long
+module _ (words : List ℕ) where
+  pub list-whole : length words / 3 * 3 ≡ length words → length words / 3 ≤ 16 → listOf words ≡ refineList (conditionsIn (length words / 3) words) ∷ []
+  unfolding listOf
+  list-whole e m = rw (eq-eqb (length words / 3 * 3) (length words) e, le-leb (length words / 3) 16 m)
+
+  pub list-cut : (length words / 3 * 3 ≡ length words → ⊥) → listOf words ≡ []
+  unfolding listOf
+  list-cut n = rw (ne-eqb (length words / 3 * 3) (length words) n)
+
+  pub list-long : length words / 3 * 3 ≡ length words → 16 < length words / 3 → listOf words ≡ []
+  unfolding listOf
+  list-long e m = rw (eq-eqb (length words / 3 * 3) (length words) e, lt-leb (length words / 3) 16 m)
+
+module _ (kind : ℕ) (words : List ℕ) where
+  pub ask-one : kind ≡ 0 → length words ≡ 3 → questionOf kind words ≡ refineOne (conditionIn words 0) ∷ []
+  unfolding questionOf ofWords
+  ask-one e n = rw (e, n)
+
+  pub ask-list : kind ≡ 1 → questionOf kind words ≡ listOf words
+  unfolding questionOf
+  ask-list e = rw e
+
+  pub ask-ids : kind ≡ 2 → questionOf kind words ≡ intersectWith (list words) ∷ []
+  unfolding questionOf
+  ask-ids e = rw e
+
+  pub ask-ends : kind ≡ 3 → length words ≡ 2 → questionOf kind words ≡ intersectWith (range (getD words 0 0) (getD words 1 0)) ∷ []
+  unfolding questionOf ofWords
+  ask-ends e n = rw (e, n)
+
+  pub ask-range : kind ≡ 4 → length words ≡ 3 → questionOf kind words ≡ intersectRange (conditionIn words 0) ∷ []
+  unfolding questionOf ofWords
+  ask-range e n = rw (e, n)
+
+  -- of another number of words, or of another kind, none
+  pub no-one : kind ≡ 0 → (length words ≡ 3 → ⊥) → questionOf kind words ≡ []
+  unfolding questionOf ofWords
+  no-one e n = rw (e, ne-eqb (length words) 3 n)
+
+  pub no-ends : kind ≡ 3 → (length words ≡ 2 → ⊥) → questionOf kind words ≡ []
+  unfolding questionOf ofWords
+  no-ends e n = rw (e, ne-eqb (length words) 2 n)
+
+  pub no-range : kind ≡ 4 → (length words ≡ 3 → ⊥) → questionOf kind words ≡ []
+  unfolding questionOf ofWords
+  no-range e n = rw (e, ne-eqb (length words) 3 n)
+
+  pub no-kind : 4 < kind → questionOf kind words ≡ []
+  unfolding questionOf
+  no-kind h =
+      rw (ne-eqb kind 0 (λ e. omega arith), ne-eqb kind 1 (λ e. omega arith), ne-eqb kind 2 (λ e. omega arith), ne-eqb kind 3 (λ e. omega arith), ne-eqb kind 4 (λ e. omega arith))

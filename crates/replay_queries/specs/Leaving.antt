@@ -1,0 +1,67 @@
+-- What an answer tells of the ids left; and what a list of questions leaves, each put on the very subset that the last accepted
+-- one answered, with an output of so many ids. Assumes nothing.
+use Prim.Native.Nat.{ℕ}
+use mathlib.Core.Path.{_≡_}
+use mathlib.Core.Bool.{cond}
+use mathlib.Core.List.{List, [], _∷_, _++_}
+use mathlib.Core.Option.{Option, none, some}
+use lib.ListN.{take}
+use lib.Dec.{eqb}
+use Rattle.refusals.specs.Refusals.{Reply, refused, accepted}
+use Rattle.offsets.specs.Subsets.{Subset}
+use Rattle.offsets.specs.Answers.{subsetOf, intersectReply}
+use Rattle.constraints.specs.declared.Constraint.{Constraint}
+use Rattle.table.specs.declared.Header.{Header}
+use Rattle.table.specs.declared.RangeAnswer.{RangeAnswer}
+use Rattle.table.specs.Numbers.{rangeSays}
+use Rattle.table.specs.Promises.{RangeRead}
+use Rattle.query_spec.specs.Queries.{refineOneReply, refineListReply}
+use Rattle.history.specs.Runs.{Question, refineOne, refineList, intersectWith, intersectRange, left, counting}
+use Rattle.replay_queries.specs.declared.RunAnswer.{RunAnswer}
+
+-- the first ids of the list of a place: 1 and 2 the two lent ones; else the starting one, which is meant whole
+unfoldable pub idsAt : ℕ → ℕ → List ℕ → List ℕ → List ℕ → List ℕ
+idsAt place count ids first second = cond (eqb place 1) (take count first) (cond (eqb place 2) (take count second) ids)
+
+-- the ids left: a range, or a list
+unfoldable pub subsetLeft : RunAnswer → List ℕ → List ℕ → List ℕ → Subset
+subsetLeft l ids first second =
+    subsetOf (record { dense = l .dense; start = l .start; end = l .end }) (idsAt (l .place) (l .count) ids first second)
+
+-- the ids left, and the questions that were accepted
+pub record Outcome : Type 0 where
+  pub ids : Subset
+  pub accepted : List Question
+
+abbrev pub outcome : Subset → List Question → Outcome
+outcome ids counted = record { ids = ids; accepted = counted }
+
+-- what questions leave behind others that were accepted
+abbrev pub behind : List Question → Outcome → Outcome
+behind before o = outcome (o .ids) (before ++ o .accepted)
+
+-- by the reply to a question
+abbrev pub byReply : Subset → Question → Reply Subset → Outcome
+byReply a q r = outcome (left a r) (counting q r)
+
+-- a range step, by the fast range: where there is none, it counts for nothing
+unfoldable pub rangeStep : Subset → Constraint → ℕ → Reply (Option Subset) → Outcome
+rangeStep a c output (refused n) = outcome a []
+rangeStep a c output (accepted none) = outcome a []
+rangeStep a c output (accepted (some b)) = byReply a (intersectRange c) (intersectReply a b output)
+
+-- one question, with a fast range that a range step alone uses; the ids left come first in `intersect`
+module _ (h : Header) (rows : List ℕ) (output : ℕ) where
+  unfoldable pub asked : Subset → Question → Reply (Option Subset) → Outcome
+  asked a (refineOne c) found = byReply a (refineOne c) (refineOneReply h rows a c output)
+  asked a (refineList cs) found = byReply a (refineList cs) (refineListReply h rows a cs output)
+  asked a (intersectWith b) found = byReply a (intersectWith b) (intersectReply a b output)
+  asked a (intersectRange c) found = rangeStep a c output found
+
+-- the questions, the first one first; each range step has what `fast_subset` returned for its condition
+pub data AskedAll (h : Header) (rows sorts : List ℕ) (output : ℕ) : Subset → List Question → Outcome → Type 0 where
+  end : (a : Subset) → AskedAll h rows sorts output a [] (outcome a [])
+  next : {a : Subset} {q : Question} {qs : List Question} {rest : Outcome} (range : RangeAnswer)
+      → ((c : Constraint) → q ≡ intersectRange c → RangeRead h sorts c range)
+      → AskedAll h rows sorts output (asked h rows output a q (rangeSays range) .ids) qs rest
+      → AskedAll h rows sorts output a (q ∷ qs) (behind (asked h rows output a q (rangeSays range) .accepted) rest)

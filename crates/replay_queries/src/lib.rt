@@ -1,0 +1,189 @@
+// One question in words, put on the ids left.
+ghost use mathlib.Core.Path.{_≡_};
+ghost use mathlib.Core.Bool.{_||_};
+ghost use Prim.Native.Nat.{_<_};
+ghost use Rattle.offsets.specs.Answers.{subsetOf};
+ghost use Rattle.replay_queries.specs.Encoding.{questionOf};
+ghost use Rattle.replay_queries.specs.inner.Putting.{counted, leftBy, Put, ListPut, RangePut};
+use condition_lists::refine_first;
+use condition_words::read_condition;
+use condition_words::read_conditions;
+use constraints::Constraint;
+use offsets::SubsetAnswer;
+use offsets::SubsetHead;
+use offsets_intersect::intersect;
+use query::refine_one;
+use table::Header;
+use table::RangeAnswer;
+use table_read::fast_subset;
+
+// The ids left: a range, or the starting list (place 0), or the first ids of the first or second lent list. Whether some
+// accepted question refined, and how many questions were taken from the list, refused ones too.
+pub struct RunAnswer {
+    pub dense: bool,
+    pub start: u32,
+    pub end: u32,
+    pub count: u32,
+    pub place: u32,
+    pub refined: bool,
+    pub taken: usize,
+}
+
+// A question that counts for nothing.
+fn count_one(l: RunAnswer) -> RunAnswer
+    requires { ⌜ l .taken < 18446744073709551615 ⌝ }
+    ensures { λ r. ⌜ r ≡ counted l ⌝ }
+{
+    let mut n = l;
+    n.taken = l.taken + 1;
+    n
+}
+
+fn either(a: bool, b: bool) -> bool
+    ensures { λ r. ⌜ r ≡ (a || b) ⌝ }
+{
+    if a {
+        return true;
+    }
+    b
+}
+
+// The ids left after the answer to a question that refines or intersects, which went into the list of this place.
+fn left_by(l: RunAnswer, place: u32, refines: bool, answer: SubsetAnswer) -> RunAnswer
+    requires { ⌜ l .taken < 18446744073709551615 ⌝ }
+    ensures { λ r. ⌜ r ≡ leftBy l place refines answer ⌝ }
+{
+    let refined = either(refines, l.refined);
+    match answer {
+        SubsetAnswer::Refused(_) => count_one(l),
+        SubsetAnswer::Range(start, end) => RunAnswer {
+            dense: true,
+            start: start,
+            end: end,
+            count: 0,
+            place: 0,
+            refined: refined,
+            taken: l.taken + 1,
+        },
+        SubsetAnswer::List(count) => RunAnswer {
+            dense: false,
+            start: 0,
+            end: 0,
+            count: count,
+            place: place,
+            refined: refined,
+            taken: l.taken + 1,
+        },
+    }
+}
+
+// The ids left, intersected with a condition's sort-column range. Where there is none, the step counts for nothing, as one that is
+// refused.
+fn put_range(
+    h: Header,
+    sorts: &[u32],
+    c: Constraint,
+    l: RunAnswer,
+    head: SubsetHead,
+    ids: &[u32],
+    place: u32,
+    out: &mut [u32],
+) -> RunAnswer
+    requires { ⌜ l .taken < 18446744073709551615 ⌝ }
+    ensures { λ r. ⌜ RangePut h (now (sorts .entry)) (subsetOf head (now (ids .entry))) c l place (now (out .entry)) r (now (out .exit)) ⌝ }
+{
+    let found = fast_subset(h, sorts, c);
+    match found {
+        RangeAnswer::Refused(_) => count_one(l),
+        RangeAnswer::None => count_one(l),
+        RangeAnswer::Range(start, end) => {
+            let range = SubsetHead {
+                dense: true,
+                start: start,
+                end: end,
+            };
+            left_by(l, place, false, intersect(head, ids, range, ids, out))
+        }
+    }
+}
+
+// The ids left, refined by a list of at most 16 conditions; what is none is passed over.
+fn put_list(
+    h: Header,
+    rows: &[u32],
+    cells: &[u32],
+    l: RunAnswer,
+    head: SubsetHead,
+    ids: &[u32],
+    place: u32,
+    out: &mut [u32],
+) -> RunAnswer
+    requires { ⌜ l .taken < 18446744073709551615 ⌝ }
+    ensures { λ r. ⌜ ListPut h (now (rows .entry)) (subsetOf head (now (ids .entry))) (now (cells .entry)) l place (now (out .entry)) r (now (out .exit)) ⌝ }
+{
+    let count = cells.len() / 3;
+    if count * 3 != cells.len() {
+        return l;
+    }
+    if count > 16 {
+        return l;
+    }
+    let conditions = read_conditions(cells, count);
+    left_by(
+        l,
+        place,
+        true,
+        refine_first(h, rows, head, ids, conditions, count, out),
+    )
+}
+
+// One question, put on the ids left, its answer written to the list of this place; what is no question is passed over.
+pub fn put(
+    h: Header,
+    rows: &[u32],
+    sorts: &[u32],
+    kind: u32,
+    cells: &[u32],
+    l: RunAnswer,
+    head: SubsetHead,
+    ids: &[u32],
+    place: u32,
+    out: &mut [u32],
+) -> RunAnswer
+    requires { ⌜ l .taken < 18446744073709551615 ⌝ }
+    ensures { λ r. ⌜ Put h (now (rows .entry)) (now (sorts .entry)) (subsetOf head (now (ids .entry))) (questionOf kind (now (cells .entry))) l place (now (out .entry)) r (now (out .exit)) ⌝ }
+{
+    if kind == 1 {
+        return put_list(h, rows, cells, l, head, ids, place, out);
+    }
+    if kind == 2 {
+        let listed = SubsetHead {
+            dense: false,
+            start: 0,
+            end: 0,
+        };
+        return left_by(l, place, false, intersect(head, ids, listed, cells, out));
+    }
+    if kind == 3 {
+        if cells.len() != 2 {
+            return l;
+        }
+        let range = SubsetHead {
+            dense: true,
+            start: cells[0],
+            end: cells[1],
+        };
+        return left_by(l, place, false, intersect(head, ids, range, ids, out));
+    }
+    if cells.len() != 3 {
+        return l;
+    }
+    let c = read_condition(cells, 0);
+    if kind == 0 {
+        return left_by(l, place, true, refine_one(h, rows, head, ids, c, out));
+    }
+    if kind == 4 {
+        return put_range(h, sorts, c, l, head, ids, place, out);
+    }
+    l
+}

@@ -1,0 +1,95 @@
+-- `replay_run::ask_within` meets its contract. The loop's invariant: the questions still to come end where all of them do. Assumes nothing.
+use Prim.Native.Nat.{_-_}
+use mathlib.Core.Path.{sym, _∙_}
+use native.Mathlib.Omega.{arith}
+use lib.ListN.{length}
+use borrow.Author.Needs.{needs}
+use Rattle.replay_run.proofs.AskingSteps.{Going, going-begin, going-again, going-end}
+use Rattle.replay_run.proofs.ask_within.Statement.{statement}
+use Rattle.replay_run.proofs.ask_within.Tie as tie
+
+abbrev Inv-loop : tie.InvT-loop
+Inv-loop h rows sorts ids questions first₀ second₀ n₀ at₀ words₀ first second n at words =
+    Going h rows sorts ids questions first₀ second₀ n₀ first second n at words
+
+abbrev μ-loop : tie.MeasureT-loop
+μ-loop h rows sorts ids questions first₀ second₀ n₀ at₀ words₀ first second n at words = length questions - at
+
+frame-length-requires : tie.Need-frame-length-requires Inv-loop μ-loop
+frame-length-requires c κs = omega arith
+
+loop-holds : tie.Need-loop-holds Inv-loop μ-loop
+loop-holds c = let p = c .before .before .before .before .before .before .before .pre in going-begin (c .frame-length .ensures) (p .0) (p .1) (p .2)
+
+mul-put-question : tie.Need-mul-put-question Inv-loop μ-loop
+mul-put-question c = search needs
+
+shared-slice-read-put-question : tie.Need-shared-slice-read-put-question Inv-loop μ-loop
+shared-slice-read-put-question c = let v = c .before .before .loop .inv .here in omega (arith, v .inside, v .whole (c .before .loop-test .taken))
+
+add-put-question : tie.Need-add-put-question Inv-loop μ-loop
+add-put-question c = let v = c .before .before .loop .inv .here in omega (arith, v .inside, v .whole (c .before .loop-test .taken))
+
+add-put-question-2 : tie.Need-add-put-question-2 Inv-loop μ-loop
+add-put-question-2 c = let v = c .before .before .loop .inv .here in omega (arith, v .inside, v .whole (c .before .loop-test .taken))
+
+mul-put-question-2 : tie.Need-mul-put-question-2 Inv-loop μ-loop
+mul-put-question-2 c = let v = c .before .before .loop .inv .here in omega (arith, v .inside, v .whole (c .before .loop-test .taken))
+
+sub-put-question : tie.Need-sub-put-question Inv-loop μ-loop
+sub-put-question c = let v = c .before .before .loop .inv .here in omega (arith, v .inside, v .whole (c .before .loop-test .taken))
+
+part-put-question-start : tie.Need-part-put-question-start Inv-loop μ-loop
+part-put-question-start c = let v = c .before .before .loop .inv .here in omega (arith, v .inside, v .whole (c .before .loop-test .taken))
+
+part-put-question-end : tie.Need-part-put-question-end Inv-loop μ-loop
+part-put-question-end c = let v = c .before .before .loop .inv .here in omega (arith, v .inside, v .whole (c .before .loop-test .taken))
+
+put-question-requires : tie.Need-put-question-requires Inv-loop μ-loop
+put-question-requires c κs = let v = c .before .before .before .before .before .loop .inv in (rw (v .first-long) (v .fits), v .second-long ∙ v .alike ∙ sym (v .first-long), omega (arith, v .early, v .here .inside, c .before .before .before .before .before .before .before .before .before .before .before .before .before .good .1 .1 .1 .1 .1 .0))
+
+add-at : tie.Need-add-at Inv-loop μ-loop
+add-at c = omega (arith, c .before .before .before .before .before .before .before .before .before .before .before .before .before .before .before .before .before .before .good .1 .1 .1 .1 .1 .0, c .before .before .before .before .before .before .before .before .before .before .loop .inv .here .inside)
+
+frame-length-requires-2 : tie.Need-frame-length-requires-2 Inv-loop μ-loop
+frame-length-requires-2 c κs = c .before .before .before .before .before .before .before .before .before .before .loop .inv .here .inside
+
+loop-less : tie.Need-loop-less Inv-loop μ-loop
+loop-less c = omega (arith, c .before .before .before .before .before .before .before .before .before .before .before .loop .inv .here .inside, c .before .before .before .before .before .before .before .before .before .before .before .loop .inv .here .whole (c .before .before .before .before .before .before .before .before .before .before .loop-test .taken))
+
+loop-again : tie.Need-loop-again Inv-loop μ-loop
+loop-again c = going-again (c .before .before .before .before .before .before .before .before .before .before .before .loop .inv) (c .before .before .before .before .before .before .before .before .before .before .loop-test .taken) (c .before .before .before .before .before .put-question .ensures) (c .before .before .before .before .first .given) (c .before .before .second .given) (c .frame-length2 .ensures)
+
+same-length : tie.Need-same-length Inv-loop μ-loop
+same-length c = c .before .loop .inv .first-long
+
+same-length-2 : tie.Need-same-length-2 Inv-loop μ-loop
+same-length-2 c = c .before .loop .inv .second-long
+
+returns : tie.Need-returns Inv-loop μ-loop
+returns c = going-end (c .before .loop .inv) (c .loop-test .left)
+
+pub ask-within-spec : {M : Type 1} → statement M
+ask-within-spec =
+    tie.close
+    (tie.spec
+    Inv-loop
+    μ-loop
+    frame-length-requires
+    loop-holds
+    mul-put-question
+    shared-slice-read-put-question
+    add-put-question
+    add-put-question-2
+    mul-put-question-2
+    sub-put-question
+    part-put-question-start
+    part-put-question-end
+    put-question-requires
+    add-at
+    frame-length-requires-2
+    loop-less
+    loop-again
+    same-length
+    same-length-2
+    returns)

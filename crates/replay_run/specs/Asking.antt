@@ -1,0 +1,32 @@
+-- What `ask` promises: a list of questions, put one after another on the ids that the last accepted one left. That it is a run, of
+-- which the claim of the order's term 3 holds, is a law (Laws/Claimed). Assumes nothing.
+use Prim.Native.Nat.{ℕ, _≤_, min}
+use mathlib.Core.Path.{_≡_}
+use mathlib.Core.List.{List}
+use lib.ListN.{length, drop}
+use Rattle.lists.specs.Lists.{any}
+use Rattle.offsets.specs.Subsets.{Subset}
+use Rattle.table.specs.declared.Header.{Header}
+use Rattle.history.specs.Runs.{Question, refines}
+use Rattle.replay_queries.specs.declared.RunAnswer.{RunAnswer}
+use Rattle.replay_queries.specs.Leaving.{subsetLeft, outcome, AskedAll}
+
+-- both lent lists are used up to the length of the shorter: the ids that each question has room for
+abbrev pub shorter : List ℕ → List ℕ → ℕ
+shorter first second = min (length first) (length second)
+
+-- on a header, its row store and sort entries, from a starting subset, which is a range or these ids
+module _ (h : Header) (rows sorts : List ℕ) (start : Subset) (ids : List ℕ) (questions : List Question) (first second : List ℕ) (answer : RunAnswer) (first′ second′ : List ℕ) where
+  pub record RunMade : Type 0 where
+    -- a caller who knows how many questions the list was to have sees whether it was taken whole
+    pub taken : answer .taken ≡ length questions
+    -- the questions that were accepted, and whether some of them refined
+    pub accepted : List Question
+    pub told : answer .refined ≡ any refines accepted
+    -- ids left in a lent list are as many as are told
+    pub inside : answer .count ≤ shorter first second
+    -- these and the ids left are what the questions leave, whatever the stores hold
+    pub asked : AskedAll h rows sorts (shorter first second) start questions (outcome (subsetLeft answer ids first′ second′) accepted)
+    -- past that length nothing is written; which list the ids left lie in, and what else stands in both, is the program's choice
+    pub past : (drop (shorter first second) first′ ≡ drop (shorter first second) first)
+        × (drop (shorter first second) second′ ≡ drop (shorter first second) second)

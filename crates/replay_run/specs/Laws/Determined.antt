@@ -1,0 +1,45 @@
+-- The promise of `ask` determines the outcome: on a table, the ids left in their form and order, whether some accepted question
+-- refined, how many were taken, and all that is never written. Which lent list the ids lie in is the program's choice. Assumes nothing.
+use Prim.Native.Nat.{ℕ}
+use mathlib.Core.Path.{_≡_, sym, ap, _∙_}
+use mathlib.Core.Bool.{true}
+use mathlib.Core.List.{List}
+use lib.ListN.{drop}
+use Rattle.lists.specs.Lists.{any}
+use Rattle.offsets.specs.Subsets.{Subset}
+use Rattle.sort_entries.specs.Entries.{entriesOf, entriesSound}
+use Rattle.table.specs.declared.Header.{Header}
+use Rattle.history.specs.Runs.{Question, refines}
+use Rattle.replay_queries.specs.declared.RunAnswer.{RunAnswer}
+use Rattle.replay_queries.specs.Leaving.{subsetLeft, Outcome}
+use Rattle.replay_run.specs.Asking.{shorter, RunMade}
+use Rattle.replay_run.specs.Laws.Claimed.{made-leaves}
+
+-- what a run leaves
+pub record RunLeft : Type 0 where
+  pub answer : RunAnswer
+  pub first : List ℕ
+  pub second : List ℕ
+
+module _ (h : Header) (rows sorts : List ℕ) (start : Subset) (ids : List ℕ) (questions : List Question) (first second : List ℕ) where
+  pub record SameRun (x y : RunLeft) : Type 0 where
+    -- of any stores
+    pub taken : x .answer .taken ≡ y .answer .taken
+    pub past : (drop (shorter first second) (x .first) ≡ drop (shorter first second) (y .first))
+        × (drop (shorter first second) (x .second) ≡ drop (shorter first second) (y .second))
+    -- where the sort entries are sound
+    pub ids-same : entriesSound (entriesOf (h .entries) sorts) (h .rows) ≡ true
+        → subsetLeft (x .answer) ids (x .first) (x .second) ≡ subsetLeft (y .answer) ids (y .first) (y .second)
+    pub refined : entriesSound (entriesOf (h .entries) sorts) (h .rows) ≡ true → x .answer .refined ≡ y .answer .refined
+
+  abbrev RunTo : RunLeft → Type 0
+  RunTo x = RunMade h rows sorts start ids questions first second (x .answer) (x .first) (x .second)
+
+  pub run-made-determined : (x y : RunLeft) → RunTo x → RunTo y → SameRun x y
+  run-made-determined x y u v =
+      record {
+        taken = u .taken ∙ sym (v .taken);
+        past = (u .past .0 ∙ sym (v .past .0), u .past .1 ∙ sym (v .past .1));
+        ids-same = λ sound. ap (λ (o : Outcome). o .ids) (made-leaves u sound ∙ sym (made-leaves v sound));
+        refined = λ sound. u .told ∙ ap (λ (o : Outcome). any refines (o .accepted)) (made-leaves u sound ∙ sym (made-leaves v sound)) ∙ sym (v .told);
+      }

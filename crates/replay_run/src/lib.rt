@@ -1,0 +1,144 @@
+// Lists of questions, read from words and put one after another on the ids left: what is claimed of runs holds of running code.
+ghost use mathlib.Core.Path.{_≡_};
+ghost use Prim.Native.Nat.{_≤_, _<_, min};
+ghost use lib.ListN.{length};
+ghost use Rattle.offsets.specs.Answers.{subsetOf};
+ghost use Rattle.replay_queries.specs.Encoding.{questionOf, questionsIn};
+ghost use Rattle.replay_run.specs.Asking.{RunMade};
+ghost use Rattle.replay_run.specs.inner.Putting.{QuestionsPut, QuestionPut};
+use offsets::SubsetHead;
+use replay_frames::frame_length;
+use replay_queries::RunAnswer;
+use replay_queries::put;
+use table::Header;
+
+// One question, put on the ids left; its answer goes into the lent list that they do not lie in.
+fn put_question(
+    h: Header,
+    rows: &[u32],
+    sorts: &[u32],
+    kind: u32,
+    cells: &[u32],
+    l: RunAnswer,
+    ids: &[u32],
+    first: &mut [u32],
+    second: &mut [u32],
+) -> RunAnswer
+    requires { ⌜ (l .count ≤ length (now first)) × (length (now second) ≡ length (now first)) × (l .taken < 18446744073709551615) ⌝ }
+    ensures { λ r. ⌜ QuestionPut h (now (rows .entry)) (now (sorts .entry)) (now (ids .entry)) (questionOf kind (now (cells .entry))) l (now (first .entry)) (now (second .entry)) r (now (first .exit)) (now (second .exit)) ⌝ }
+{
+    let head = SubsetHead {
+        dense: l.dense,
+        start: l.start,
+        end: l.end,
+    };
+    let count = l.count as usize;
+    if l.place == 1 {
+        return put(
+            h,
+            rows,
+            sorts,
+            kind,
+            cells,
+            l,
+            head,
+            &first[..count],
+            2,
+            second,
+        );
+    }
+    if l.place == 2 {
+        return put(
+            h,
+            rows,
+            sorts,
+            kind,
+            cells,
+            l,
+            head,
+            &second[..count],
+            1,
+            first,
+        );
+    }
+    put(h, rows, sorts, kind, cells, l, head, ids, 1, first)
+}
+
+// All questions, in order, each on the ids that the last accepted one left, in two lists of one length.
+fn ask_within(
+    h: Header,
+    rows: &[u32],
+    sorts: &[u32],
+    l: RunAnswer,
+    ids: &[u32],
+    questions: &[u32],
+    first: &mut [u32],
+    second: &mut [u32],
+) -> RunAnswer
+    requires { ⌜ (l .count ≡ 0) × (l .taken ≡ 0) × (length (now second) ≡ length (now first)) ⌝ }
+    ensures { λ r. ⌜ QuestionsPut h (now (rows .entry)) (now (sorts .entry)) (now (ids .entry)) (questionsIn (now (questions .entry))) l (now (first .entry)) (now (second .entry)) r (now (first .exit)) (now (second .exit)) ⌝ }
+{
+    let mut n = l;
+    let mut at: usize = 0;
+    let mut words = frame_length(questions, at);
+    while words != 0 {
+        n = put_question(
+            h,
+            rows,
+            sorts,
+            questions[at],
+            &questions[at + 2..at + words],
+            n,
+            ids,
+            first,
+            second,
+        );
+        at += words;
+        words = frame_length(questions, at);
+    }
+    n
+}
+
+fn smaller(a: usize, b: usize) -> usize
+    ensures { λ r. ⌜ r ≡ min a b ⌝ }
+{
+    if a < b {
+        return a;
+    }
+    b
+}
+
+// Puts all questions; both lists are used up to the length of the shorter, so that it does not matter which one is lent first.
+pub fn ask(
+    h: Header,
+    rows: &[u32],
+    sorts: &[u32],
+    head: SubsetHead,
+    ids: &[u32],
+    questions: &[u32],
+    first: &mut [u32],
+    second: &mut [u32],
+) -> RunAnswer
+    ensures { λ r. ⌜ RunMade h (now (rows .entry)) (now (sorts .entry)) (subsetOf head (now (ids .entry))) (now (ids .entry)) (questionsIn (now (questions .entry))) (now (first .entry)) (now (second .entry)) r (now (first .exit)) (now (second .exit)) ⌝ }
+{
+    let l = RunAnswer {
+        dense: head.dense,
+        start: head.start,
+        end: head.end,
+        count: 0,
+        place: 0,
+        refined: false,
+        taken: 0,
+    };
+    let room = smaller(first.len(), second.len());
+    ask_within(
+        h,
+        rows,
+        sorts,
+        l,
+        ids,
+        questions,
+        &mut first[..room],
+        &mut second[..room],
+    )
+}

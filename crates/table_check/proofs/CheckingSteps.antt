@@ -1,0 +1,303 @@
+-- The steps of checking.rt, by the laws of specs/Laws/Checks.antt: one law for each way that a function answers, and what
+-- holds at the head of the loop over the pending words. Assumes nothing.
+use Prim.Native.Nat.{ℕ, _+_, _-_, _*_, _≤_, _<_}
+use mathlib.Core.Path.{_≡_, refl, sym, ap, _∙_}
+use mathlib.Core.Bool.{Bool, true, false, not, false≢true}
+use mathlib.Core.List.{List, [], _∷_}
+use mathlib.Core.Option.{Option, none as no-value, some as a-value}
+use native.Mathlib.Nat.{add-zero}
+use native.Mathlib.Decide.{ℕ-discrete}
+use native.Mathlib.Omega.{arith}
+use lib.Dec.{leb, eqb}
+use lib.ListN.{length, take, drop, getD, length-drop}
+use lib.Seq.{getD-drop, drop-drop}
+use borrow.Author.Tests.{ne-eqb, le-leb, leb-true}
+use Rattle.refusals.specs.Refusals.{reply, verdict}
+use Rattle.refusals.specs.Laws.Replies.{verdict-refused}
+use Rattle.lists.specs.Lists.{every, count, rowAt, rowsOf}
+use Rattle.lists.specs.Laws.Keep.{count-append, count-le}
+use Rattle.lists.specs.Laws.Rows.{length-rowsOf, rowsOf-snoc}
+use Rattle.cells.specs.Cells.{isDead, compact, keyHash}
+use Rattle.constraints.specs.Constraints.{isLive}
+use Rattle.constraints.specs.Laws.Rows.{live-first}
+use Rattle.key_index.specs.Laws.Places.{key-part}
+use Rattle.key_index.specs.declared.Keyed.{Keyed}
+use Rattle.key_index.specs.declared.Found.{Found}
+use Rattle.key_index.specs.declared.Found.the-variants.{None, At}
+use Rattle.key_index.specs.Slots.{LiveAt, keyAt, KeysSound}
+use Rattle.key_index.specs.inner.Index.{Fits, FoundIs, KeysDiffer}
+use Rattle.sort_entries.specs.Entries.{entriesOf, entriesSound}
+use Rattle.sort_entries.specs.inner.Checks.{Decides, decides-yes, decides-no, cellsSound}
+use Rattle.sort_entries.specs.Laws.Cells.{cells-live, cells-of}
+use Rattle.sort_entries.specs.Laws.Stores.{last-entriesOf, last-none}
+use Rattle.sort_entries.specs.Laws.Sound.{sound-climb}
+use Rattle.sort_entries.specs.Laws.Tests.{last-every}
+use Rattle.plain_table.specs.Proper.{atMost}
+use Rattle.plain_table.specs.Staged.{Opening, Staged, insert, removeKey, removeRow, wordsOf}
+use Rattle.table.specs.declared.Header.{Header}
+use Rattle.table.specs.declared.Largest.the-variants.{None as NoLargest, Value}
+use Rattle.table.specs.declared.SoundAnswer.the-variants.{Refused, Sound as IsSound}
+use Rattle.table.specs.Numbers.{openingOf, largestSays, soundSays}
+use Rattle.table.specs.Refusing.{soundRefusal}
+use Rattle.table.specs.Sound.{keyedOf}
+use Rattle.table.specs.Promises.{Checked}
+use Rattle.table_check.specs.inner.Checks.{deadRows, lastKept, RowsSound, IndexSound, OwnIs, kindWords, keyPlace, keyWords, Begins, RecordRead, HoldsFrom, PendingWhole, SoundStores}
+use Rattle.table_check.specs.Laws.Checks.{parts-sound, sound-rows, sound-index, sound-whole, own-dead, own-none, own-at, begins-words, begins-hash, words-begin, holds-cons, holds-head, holds-tail, holds-none, holds-some, holds-pending, pending-holds}
+
+-- ---- rows
+
+abbrev pub deadAmong : ℕ → ℕ → List ℕ → ℕ
+deadAmong w n rows = count (λ row. not (isLive row)) (rowsOf w n rows)
+
+module _ (w n : ℕ) (rows : List ℕ) where
+  dead-next : deadAmong w (n + 1) rows ≡ deadAmong w n rows + count (λ row. not (isLive row)) (rowAt w n rows ∷ [])
+  dead-next = ap (count (λ row. not (isLive row))) (rowsOf-snoc w n rows) ∙ count-append (λ row. not (isLive row)) (rowsOf w n rows) (rowAt w n rows ∷ [])
+
+  -- one row more, dead or live
+  pub dead-more : 0 < w → isDead (getD rows (n * w) 0) ≡ true → deadAmong w (n + 1) rows ≡ deadAmong w n rows + 1
+  unfolding count
+  dead-more h e = dead-next ∙ rw (live-first w n rows h, e)
+
+  pub dead-same : 0 < w → isDead (getD rows (n * w) 0) ≡ false → deadAmong w (n + 1) rows ≡ deadAmong w n rows
+  unfolding count
+  dead-same h e = dead-next ∙ rw (live-first w n rows h, e, add-zero)
+
+  pub dead-few : deadAmong w n rows ≤ n
+  dead-few = omega (arith, count-le (λ row. not (isLive row)) (rowsOf w n rows), length-rowsOf w n rows)
+
+-- where entries rise, the last one's value decides whether one exceeds the largest
+
+lower-kept : (largest : Option ℕ) (a b : ℕ) → a ≤ b → atMost b largest ≡ true → atMost a largest ≡ true
+unfolding atMost
+lower-kept no-value a b h e = absurd (false≢true e)
+lower-kept (a-value n) a b h e = le-leb a n (omega (arith, leb-true b n e))
+
+kept-last : (h : Header) (sorts : List ℕ) → true ≡ entriesSound (entriesOf (h .entries) sorts) (h .rows)
+    → lastKept h sorts ≡ every (λ e. atMost (e .value) (largestSays (h .largest))) (entriesOf (h .entries) sorts)
+kept-last h sorts e =
+    last-every (λ v. atMost v (largestSays (h .largest))) (lower-kept (largestSays (h .largest))) (entriesOf (h .entries) sorts) (h .rows)
+    (sound-climb (entriesOf (h .entries) sorts) (h .rows) (sym e))
+
+-- the answers of `largest_sound`
+module _ (h : Header) (sorts : List ℕ) where
+  pub largest-empty : h .entries ≡ 0 → true ≡ lastKept h sorts
+  largest-empty e = sym (last-none (λ v. atMost v (largestSays (h .largest))) (h .entries) sorts e)
+
+  last-here : (h .entries ≡ 0 → ⊥) → lastKept h sorts ≡ atMost (getD sorts (2 * h .entries - 2) 0) (largestSays (h .largest))
+  last-here ne =
+      let e : 2 * h .entries - 2 ≡ 2 * (h .entries - 1) = omega arith in
+      rw e (last-entriesOf (λ v. atMost v (largestSays (h .largest))) (h .entries) sorts (omega arith))
+
+  pub largest-missing : (h .entries ≡ 0 → ⊥) → h .largest ≡ NoLargest → false ≡ lastKept h sorts
+  unfolding atMost largestSays
+  largest-missing ne e = sym (last-here ne ∙ rw e)
+
+  pub largest-compared : (h .entries ≡ 0 → ⊥) → (v : ℕ) → h .largest ≡ Value v
+      → leb (getD sorts (2 * h .entries - 2) 0) v ≡ lastKept h sorts
+  unfolding atMost largestSays
+  largest-compared ne v e = sym (last-here ne ∙ rw e)
+
+-- the answers of `rows_sound`
+module _ (h : Header) (rows sorts : List ℕ) where
+  pub rows-miscounted : (h .dead ≡ deadRows h rows → ⊥) → Decides (RowsSound h rows sorts) false
+  rows-miscounted f = decides-no (λ s. f (s .dead-counted))
+
+  pub rows-unsorted : false ≡ entriesSound (entriesOf (h .entries) sorts) (h .rows) → Decides (RowsSound h rows sorts) false
+  rows-unsorted e = decides-no (λ s. false≢true (e ∙ s .entries-rise))
+
+  pub rows-exceeding : true ≡ entriesSound (entriesOf (h .entries) sorts) (h .rows)
+      → false ≡ lastKept h sorts → Decides (RowsSound h rows sorts) false
+  rows-exceeding e f = decides-no (λ s. false≢true (f ∙ kept-last h sorts e ∙ s .largest-kept))
+
+  pub rows-told : h .dead ≡ deadRows h rows → true ≡ entriesSound (entriesOf (h .entries) sorts) (h .rows)
+      → true ≡ lastKept h sorts
+      → (r : Bool) → r ≡ cellsSound rows (h .columns) (h .sort) (h .rows) (entriesOf (h .entries) sorts) → Decides (RowsSound h rows sorts) r
+  rows-told d e m r f =
+      record {
+        yes = λ q.
+            record {
+              dead-counted = d;
+              entries-rise = sym e;
+              sorted = λ i l. cells-live rows (h .columns) (h .sort) (h .rows) (entriesOf (h .entries) sorts) (sym f ∙ q) i (l .0) (l .1);
+              largest-kept = sym (m ∙ kept-last h sorts e);
+            };
+        no = λ q s.
+            false≢true (sym q ∙ f ∙ cells-of rows (h .columns) (h .sort) (h .rows) (entriesOf (h .entries) sorts) (λ i k l. s .sorted i (k, l)));
+      }
+
+-- ---- keys
+
+-- the answers of `finds_itself`, after the row's key is looked up
+module _ (t : Keyed) (rows keys : List ℕ) (row : ℕ) (fits : Fits t rows keys) (sound : KeysSound t rows keys) (below : row < t .rows) where
+  abbrev lent : List ℕ
+  lent = take (row * t .columns + t .keys - row * t .columns) (drop (row * t .columns) rows)
+
+  pub itself-dead : isDead (getD rows (row * t .columns) 0) ≡ true → OwnIs t rows keys row true
+  itself-dead e = own-dead t rows keys row (live-first (t .columns) row rows (fits .some-columns) ∙ ap not e)
+
+  module _ (first : isDead (getD rows (row * t .columns) 0) ≡ false) (hash : ℕ) (r : Found) (h : hash ≡ compact (keyHash lent)) (f : FoundIs t rows keys lent hash r) where
+    live : LiveAt t rows row
+    live = (below, live-first (t .columns) row rows (fits .some-columns) ∙ ap not first)
+
+    found : FoundIs t rows keys (keyAt t rows row) (compact (keyHash (keyAt t rows row))) r
+    found = rw (← key-part t rows row (fits .most-keys), ← h) f
+
+    pub itself-none : r ≡ None → OwnIs t rows keys row false
+    itself-none e = own-none t rows keys row live sound (rw e at found)
+
+    pub itself-at : (i slot : ℕ) → r ≡ At i slot → OwnIs t rows keys row (eqb i row)
+    itself-at i slot e = own-at t rows keys row live sound i slot (rw e at found)
+
+-- the answers of `index_sound`
+module _ (t : Keyed) (rows keys : List ℕ) where
+  pub index-astray : (KeysSound t rows keys → ⊥) → Decides (IndexSound t rows keys) false
+  index-astray f = decides-no (λ s. f (s .keyed))
+
+  pub index-told : KeysSound t rows keys → (r : Bool) → Decides (KeysDiffer t rows) r → Decides (IndexSound t rows keys) r
+  index-told k r d = record { yes = λ q. record { keyed = k; keys-differ = d .yes q }; no = λ q s. d .no q (s .keys-differ) }
+
+-- ---- pending records
+
+-- a record takes words
+words-some : (o : Opening) (r : Staged) → 0 < wordsOf o r
+unfolding wordsOf
+words-some o (insert cells) = omega arith
+words-some o (removeKey key) = omega arith
+words-some o (removeRow row key) = omega arith
+
+-- a record has a hash and a key
+pub record KeyInside (o : Opening) (kind words : ℕ) : Type 0 where
+  pub some : 2 ≤ words
+  pub end : keyPlace kind + o .keys ≤ words
+
+pub key-inside : (o : Opening) (kind : ℕ) {words : ℕ} → words ≡ kindWords o kind → (words ≡ 0 → ⊥) → o .keys ≤ o .columns → KeyInside o kind words
+unfolding kindWords keyPlace
+key-inside o kind {words} e some narrow =
+    elim (ℕ-discrete kind 0) [
+      | yes a ↦ let f : words ≡ o .columns + 2 = rw a at e in rw a (record { some = omega arith; end = omega arith })
+      | no a ↦ elim (ℕ-discrete kind 1) [
+        | yes b ↦ let f : words ≡ o .keys + 2 = rw b at e in rw b (record { some = omega arith; end = omega arith })
+        | no b ↦ elim (ℕ-discrete kind 2) [
+          | yes d ↦ let f : words ≡ o .keys + 3 = rw d at e in rw d (record { some = omega arith; end = omega arith })
+          | no d ↦ absurd (some (e ∙ rw (ne-eqb _ _ a, ne-eqb _ _ b, ne-eqb _ _ d)))
+        ]
+      ]
+    ]
+
+-- the answers of `record_words`
+module _ (o : Opening) (pending : List ℕ) (end at words : ℕ) (kind : words ≡ kindWords o (getD pending at 0)) where
+  first-word : getD (drop at pending) 0 0 ≡ getD pending at 0
+  first-word = getD-drop at pending 0 0 ∙ rw add-zero
+
+  words-are : (r : Staged) → Begins o (drop at pending) r → wordsOf o r ≡ words
+  words-are r b = begins-words o (drop at pending) r b ∙ ap (kindWords o) first-word ∙ sym kind
+
+  pub read-no-kind : words ≡ 0 → RecordRead o pending end at 0
+  read-no-kind z =
+      record { yes = λ h. absurd (omega arith); no = λ _ r b k. let n = words-are r b in let m = words-some o r in omega arith }
+
+  pub read-short : end - at < words → RecordRead o pending end at 0
+  read-short h =
+      record { yes = λ k. absurd (omega arith); no = λ _ r b k. let n = words-are r b in omega arith }
+
+  module _ (narrow : o .keys ≤ o .columns) (place hash : ℕ) (p : place ≡ keyPlace (getD pending at 0))
+      (h : hash ≡ compact (keyHash (take (at + place + o .keys - (at + place)) (drop (at + place) pending)))) where
+    key-hash : hash ≡ compact (keyHash (keyWords o (drop at pending)))
+    unfolding keyWords
+    key-hash =
+        let n : at + place + o .keys - (at + place) ≡ o .keys = omega arith in
+        h ∙ rw (n, first-word, ← p, drop-drop place at pending)
+
+    pub read-other-hash : (getD pending (at + 1) 0 ≡ hash → ⊥) → RecordRead o pending end at 0
+    read-other-hash f =
+        record {
+          yes = λ k. absurd (omega arith);
+          no = λ _ r b k. f (sym (getD-drop at pending 1 0) ∙ begins-hash o (drop at pending) narrow r b ∙ sym key-hash);
+        }
+
+    pub read-whole : getD pending (at + 1) 0 ≡ hash → (words ≡ 0 → ⊥) → words ≤ end - at → at < end → end ≤ length pending → RecordRead o pending end at words
+    read-whole e some fit inside long =
+        let n : words ≡ kindWords o (getD (drop at pending) 0 0) = kind ∙ ap (kindWords o) (sym first-word) in
+        let b = words-begin o (drop at pending) (getD-drop at pending 1 0 ∙ e ∙ key-hash) narrow (omega arith) (simp length-drop (omega arith)) in
+        record { yes = λ k. (b .0, b .1, words-are (b .0) (b .1), omega arith); no = λ z. absurd (some z) }
+
+-- what holds at the loop's head of `pending_whole`: records fill the words from here on exactly if they fill all words
+pub record Reached (o : Opening) (pending : List ℕ) (end at : ℕ) : Type 0 where
+  pub inside : at ≤ end
+  pub back : (staged : List Staged) → HoldsFrom o pending end at staged → (all : List Staged) × HoldsFrom o pending end 0 all
+  pub on : (all : List Staged) → HoldsFrom o pending end 0 all → (staged : List Staged) × HoldsFrom o pending end at staged
+
+pub reach-start : (o : Opening) (pending : List ℕ) (end : ℕ) → Reached o pending end 0
+reach-start o pending end = record { inside = omega arith; back = λ staged s. (staged, s); on = λ all s. (all, s) }
+
+module _ (o : Opening) (pending : List ℕ) (end at : ℕ) (reached : Reached o pending end at) where
+  pub reach-on : (words : ℕ) → RecordRead o pending end at words → (words ≡ 0 → ⊥) → Reached o pending end (at + words)
+  reach-on words read some =
+      record {
+        inside = r .3;
+        back = λ staged s. reached .back (r .0 ∷ staged) (holds-cons o pending end at (r .0) staged (r .1) (rw (r .2) s));
+        on = λ all s. let g = reached .on all s in rest (g .0) (g .1);
+      }
+    where
+      r : (q : Staged) × Begins o (drop at pending) q × (wordsOf o q ≡ words) × (at + words ≤ end)
+      r = read .yes (omega arith)
+
+      rest : (staged : List Staged) → HoldsFrom o pending end at staged → (others : List Staged) × HoldsFrom o pending end (at + words) others
+      rest [] s = absurd (omega (arith, holds-some o pending end at s, r .3))
+      rest (q ∷ staged) s =
+          let b = holds-head o pending end at q staged s in
+          let n : wordsOf o q ≡ words = begins-words o (drop at pending) q b ∙ sym (begins-words o (drop at pending) (r .0) (r .1)) ∙ r .2 in
+          (staged, rw n at (holds-tail o pending end at q staged s))
+
+module _ (h : Header) (pending : List ℕ) (at : ℕ) (reached : Reached (openingOf h) pending (h .pending) at) where
+  pub reach-broken : at < h .pending → RecordRead (openingOf h) pending (h .pending) at 0 → Decides (PendingWhole h pending) false
+  reach-broken k read = decides-no (λ w. let g = reached .on (w .0) (pending-holds h pending (w .0) (w .1)) in none (g .0) (g .1))
+    where
+      none : (staged : List Staged) → HoldsFrom (openingOf h) pending (h .pending) at staged → ⊥
+      none [] s = omega (arith, holds-some (openingOf h) pending (h .pending) at s)
+      none (q ∷ staged) s =
+          let t = holds-tail (openingOf h) pending (h .pending) at q staged s in
+          read .no refl q (holds-head (openingOf h) pending (h .pending) at q staged s) (omega (arith, t .counted))
+
+  pub reach-end : h .pending ≤ at → Decides (PendingWhole h pending) true
+  reach-end k =
+      let g = reached .back [] (holds-none (openingOf h) pending (h .pending) at (omega (arith, reached .inside))) in
+      decides-yes (g .0, holds-pending h pending (g .0) (g .1))
+
+-- ---- all parts
+
+module _ (h : Header) (rows keys sorts pending : List ℕ) where
+  pub stores-rows : (RowsSound h rows sorts → ⊥) → Decides (SoundStores h rows keys sorts pending) false
+  stores-rows f = decides-no (λ s. f (sound-rows h rows keys sorts pending (s .0) (s .1)))
+
+  module _ (t : Keyed) (e : t ≡ keyedOf h) where
+    pub stores-index : (IndexSound t rows keys → ⊥) → Decides (SoundStores h rows keys sorts pending) false
+    stores-index f = decides-no (λ s. f (rw e (sound-index h rows keys sorts pending (s .0) (s .1))))
+
+    pub stores-told : soundRefusal h (length rows) (length keys) (length sorts) (length pending) ≡ 0 → RowsSound h rows sorts → IndexSound t rows keys
+        → (r : Bool) → Decides (PendingWhole h pending) r → Decides (SoundStores h rows keys sorts pending) r
+    stores-told tested a b r w =
+        record {
+          yes = λ q. let p = w .yes q in (p .0, parts-sound h rows keys sorts pending (p .0) tested a (rw e at b) (p .1));
+          no = λ q s. w .no q (s .0, sound-whole h rows keys sorts pending (s .0) (s .1));
+        }
+
+  -- a refusal, and an answer
+  pub checked-refused : (n : ℕ) → n ≡ soundRefusal h (length rows) (length keys) (length sorts) (length pending) → (n ≡ 0 → ⊥) → Checked h rows keys sorts pending (Refused n)
+  unfolding soundSays verdict
+  checked-refused n e some =
+      record {
+        refusal = verdict-refused (soundSays (Refused n)) _ n refl e some;
+        sound = λ q. absurd (let z : _≡_ {A = ℕ} 0 1 = cc in omega arith);
+        unsound = λ q. absurd (let z : _≡_ {A = ℕ} 0 1 = cc in omega arith);
+      }
+
+  pub checked-answered : (n : ℕ) → n ≡ soundRefusal h (length rows) (length keys) (length sorts) (length pending) → n ≡ 0 → (r : Bool)
+      → Decides (SoundStores h rows keys sorts pending) r → Checked h rows keys sorts pending (IsSound r)
+  unfolding soundSays verdict reply
+  checked-answered n e z r w =
+      record {
+        refusal = rw (sym e ∙ z);
+        sound = λ q. let k : r ≡ true = cc in w .yes k;
+        unsound = λ q staged s. let k : r ≡ false = cc in w .no k (staged, s);
+      }

@@ -1,0 +1,59 @@
+-- `table_check::finds_itself` meets its contract. Assumes nothing.
+use mathlib.Core.Path.{sym, _∙_}
+use native.Mathlib.Omega.{arith}
+use borrow.Author.Needs.{needs}
+use Rattle.key_index.specs.Laws.Index.{rows-in}
+use Rattle.key_index.specs.Laws.Places.{Inside, row-inside}
+use Rattle.table_check.proofs.CheckingSteps.{itself-dead, itself-none, itself-at}
+use Rattle.table_check.proofs.finds_itself.Statement.{statement}
+use Rattle.table_check.proofs.finds_itself.Tie as tie
+
+lies : (s : tie.Start) → Inside (s .args .rows .now) (s .args .t .columns) (s .args .row)
+lies s = row-inside _ _ _ (rows-in _ _ _ (s .pre .0)) (s .pre .2)
+
+mul-from : tie.Need-mul-from
+mul-from c = omega (arith, lies (c .before .before .before))
+
+cast-from : tie.Need-cast-from
+cast-from c = omega (arith, lies (c .before .before .before))
+
+is-dead-requires : tie.Need-is-dead-requires
+is-dead-requires c κs = omega (arith, lies (c .before .before .before), c .before .before .before .pre .0 .some-columns)
+
+returns : tie.Need-returns
+returns c = let s = c .before .before .before .before .before in itself-dead _ _ _ _ (s .pre .0) (s .pre .1) (s .pre .2) (sym (c .before .is-dead .ensures) ∙ c .if1 .taken)
+
+add-to : tie.Need-add-to
+add-to c = omega (arith, lies (c .before .before .before .before .before .before), c .before .before .before .before .before .before .pre .0 .most-keys)
+
+mul-compact-hash : tie.Need-mul-compact-hash
+mul-compact-hash c = omega (arith, lies (c .before .before .before .before .before .before))
+
+part-compact-hash-end : tie.Need-part-compact-hash-end
+part-compact-hash-end c = omega (arith, lies (c .before .before .before .before .before .before), c .before .before .before .before .before .before .pre .0 .most-keys)
+
+mul-find : tie.Need-mul-find
+mul-find c = omega (arith, lies (c .before .before .before .before .before .before .before .before))
+
+part-find-end : tie.Need-part-find-end
+part-find-end c = omega (arith, lies (c .before .before .before .before .before .before .before .before), c .before .before .before .before .before .before .before .before .pre .0 .most-keys)
+
+returns-2 : tie.Need-returns-2
+returns-2 c =
+    let s = c .before .before .before .before .before .before .before .before .before .before .before .before in
+    itself-none _ _ _ _ (s .pre .0) (s .pre .1) (s .pre .2) (sym (c .before .before .before .before .before .before .before .before .is-dead .ensures) ∙ c .before .before .before .before .before .before .before .if1 .left) _ _
+    (c .before .before .before .before .compact-hash .ensures) (c .before .before .find .ensures) (c .enum-told .given .1)
+
+returns-3 : tie.Need-returns-3
+returns-3 c =
+    let s = c .before .before .before .before .before .before .before .before .before .before .before .before .before in
+    itself-at _ _ _ _ (s .pre .0) (s .pre .1) (s .pre .2) (sym (c .before .before .before .before .before .before .before .before .before .is-dead .ensures) ∙ c .before .before .before .before .before .before .before .before .if1 .left) _ _
+    (c .before .before .before .before .before .compact-hash .ensures) (c .before .before .before .find .ensures) _ _ (c .before .found .given .1)
+
+pub finds-itself-spec : {M : Type 1} → statement M
+finds-itself-spec =
+    tie.close
+    (tie.spec
+    mul-from cast-from is-dead-requires returns (λ c. search needs) add-to mul-compact-hash (λ c. search needs)
+    (λ c. search needs) part-compact-hash-end (λ c κs. search needs) mul-find (λ c. search needs) (λ c. search needs)
+    part-find-end (λ c κs. search needs) (λ c. search needs) (λ c. search needs) returns-2 returns-3)

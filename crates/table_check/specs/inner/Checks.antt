@@ -1,0 +1,104 @@
+-- What the parts of the soundness check ask and promise, and how the words of the pending store are read as records. Assumes
+-- nothing.
+use Prim.Native.Nat.{ℕ, _+_, _≤_, _<_}
+use mathlib.Core.Path.{_≡_}
+use mathlib.Core.Bool.{Bool, true, false, cond, not}
+use mathlib.Core.List.{List, map}
+use lib.Dec.{eqb}
+use lib.ListN.{length, take, drop, getD}
+use Rattle.lists.specs.Lists.{count, every, rowAt, rowsOf, flat}
+use Rattle.cells.specs.Cells.{compact, keyHash}
+use Rattle.constraints.specs.Constraints.{isLive}
+use Rattle.key_index.specs.declared.Keyed.{Keyed}
+use Rattle.key_index.specs.Slots.{LiveAt, keyAt, KeysSound}
+use Rattle.key_index.specs.inner.Index.{FirstHit, KeysDiffer}
+use Rattle.sort_entries.specs.Entries.{entriesOf, last, entriesSound, valueAt}
+use Rattle.plain_table.specs.Staged.{Opening, Staged, wordsOf, wordsAll}
+use Rattle.plain_table.specs.Refusing.{wrongWidth}
+use Rattle.plain_table.specs.Proper.{atMost}
+use Rattle.table.specs.declared.Header.{Header}
+use Rattle.table.specs.Numbers.{openingOf, largestSays}
+use Rattle.table.specs.Stores.{recordWords, Holds}
+use Rattle.table.specs.Sound.{keyedOf, Sound}
+
+-- ---- rows and sort entries
+
+abbrev pub deadRows : Header → List ℕ → ℕ
+deadRows h rows = count (λ row. not (isLive row)) (rowsOf (h .columns) (h .rows) rows)
+
+-- there is no entry, or the last one's value does not exceed the largest
+abbrev pub lastKept : Header → List ℕ → Bool
+lastKept h sorts = last (λ v. atMost v (largestSays (h .largest))) (entriesOf (h .entries) sorts)
+
+-- the part of soundness that is about the rows and the sort entries
+pub record RowsSound (h : Header) (rows sorts : List ℕ) : Type 0 where
+  pub dead-counted : h .dead ≡ deadRows h rows
+  pub entries-rise : entriesSound (entriesOf (h .entries) sorts) (h .rows) ≡ true
+  pub sorted : (i : ℕ) → LiveAt (keyedOf h) rows i
+      → getD (rowAt (h .columns) i rows) (h .sort) 0 ≡ valueAt i (entriesOf (h .entries) sorts)
+  pub largest-kept : every (λ e. atMost (e .value) (largestSays (h .largest))) (entriesOf (h .entries) sorts) ≡ true
+
+-- ---- keys
+
+-- the part of soundness that is about the key store
+pub record IndexSound (t : Keyed) (rows keys : List ℕ) : Type 0 where
+  pub keyed : KeysSound t rows keys
+  pub keys-differ : KeysDiffer t rows
+
+-- the first slot that a row's key leads to is the row's own
+abbrev pub Own : Keyed → List ℕ → List ℕ → ℕ → Type 0
+Own t rows keys row = (d : ℕ) × FirstHit t rows keys (keyAt t rows row) (compact (keyHash (keyAt t rows row))) row d
+
+-- whether a row is dead or found by its key
+pub record OwnIs (t : Keyed) (rows keys : List ℕ) (row : ℕ) (r : Bool) : Type 0 where
+  pub yes : r ≡ true → LiveAt t rows row → Own t rows keys row
+  pub no : r ≡ false → KeysDiffer t rows → ⊥
+
+-- ---- pending records
+
+-- the pending words in use lie in their store
+pub record PendingIn (h : Header) (pending : List ℕ) : Type 0 where
+  pub most-columns : h .columns ≤ 8
+  pub most-keys : h .keys ≤ h .columns
+  pub fits : h .pending ≤ length pending
+
+-- how many words a record of a kind takes; 0 for no kind
+unfoldable pub kindWords : Opening → ℕ → ℕ
+kindWords o kind = cond (eqb kind 0) (o .columns + 2) (cond (eqb kind 1) (o .keys + 2) (cond (eqb kind 2) (o .keys + 3) 0))
+
+-- where in a record its key begins
+unfoldable pub keyPlace : ℕ → ℕ
+keyPlace kind = cond (eqb kind 2) 3 2
+
+-- the key of the record that words begin with
+unfoldable pub keyWords : Opening → List ℕ → List ℕ
+keyWords o words = take (o .keys) (drop (keyPlace (getD words 0 0)) words)
+
+-- words begin with a record
+pub record Begins (o : Opening) (words : List ℕ) (r : Staged) : Type 0 where
+  pub right-width : wrongWidth o r ≡ false
+  pub there : take (wordsOf o r) words ≡ recordWords (o .keys) r
+
+-- how many words the record at a place takes; 0 if there is none that ends in time
+pub record RecordRead (o : Opening) (pending : List ℕ) (end at r : ℕ) : Type 0 where
+  pub yes : 0 < r → (q : Staged) × Begins o (drop at pending) q × (wordsOf o q ≡ r) × (at + r ≤ end)
+  pub no : r ≡ 0 → (q : Staged) → Begins o (drop at pending) q → at + wordsOf o q ≤ end → ⊥
+
+-- records fill the words from one place to another
+pub record HoldsFrom (o : Opening) (pending : List ℕ) (end at : ℕ) (staged : List Staged) : Type 0 where
+  pub whole : every (λ r. not (wrongWidth o r)) staged ≡ true
+  pub counted : at + wordsAll o staged ≡ end
+  pub in-order : take (wordsAll o staged) (drop at pending) ≡ flat (map (recordWords (o .keys)) staged)
+
+-- the part of soundness that is about the pending store
+pub record Pending (h : Header) (pending : List ℕ) (staged : List Staged) : Type 0 where
+  pub pending-counted : h .pending ≡ wordsAll (openingOf h) staged
+  pub pending-whole : Holds (openingOf h) pending staged
+
+abbrev pub PendingWhole : Header → List ℕ → Type 0
+PendingWhole h pending = (staged : List Staged) × Pending h pending staged
+
+-- ---- all of it
+
+abbrev pub SoundStores : Header → List ℕ → List ℕ → List ℕ → List ℕ → Type 0
+SoundStores h rows keys sorts pending = (staged : List Staged) × Sound h rows keys sorts pending staged

@@ -1,0 +1,226 @@
+// The soundness check: yes exactly for sound stores. Time linear in slots, rows and pending words, where keys spread over
+// the slots as they should. Is safe on any stores: a
+// word is tested before it is a row or a length.
+ghost use mathlib.Core.Path.{_≡_};
+ghost use Prim.Native.Nat.{_<_, _≤_};
+ghost use lib.ListN.{length};
+ghost use Rattle.key_index.specs.Slots.{KeysSound};
+ghost use Rattle.key_index.specs.inner.Index.{Fits, KeysDiffer};
+ghost use Rattle.sort_entries.specs.inner.Search.{Held};
+ghost use Rattle.sort_entries.specs.inner.Checks.{Decides, Cells};
+ghost use Rattle.table.specs.Numbers.{openingOf};
+ghost use Rattle.table.specs.Refusing.{soundRefusal};
+ghost use Rattle.table.specs.Promises.{Checked};
+ghost use Rattle.table_check.specs.inner.Checks.{deadRows, lastKept, RowsSound, IndexSound, OwnIs, PendingIn, kindWords, keyPlace, RecordRead, PendingWhole, SoundStores};
+use key_index::Found;
+use key_index::Keyed;
+use table::Header;
+use table::INSERT;
+use table::Largest;
+use table::Lent;
+use table::REMOVE_KEY;
+use table::REMOVE_ROW;
+use table::SoundAnswer;
+use table::refusing;
+
+// How many rows are dead.
+fn dead_rows(h: Header, rows: &[u32]) -> u32
+    requires { ⌜ Cells (now rows) (h .columns) (h .sort) (h .rows) ⌝ }
+    ensures { λ r. ⌜ r ≡ deadRows h (now (rows .entry)) ⌝ }
+{
+    let mut dead: u32 = 0;
+    let mut row: u32 = 0;
+    while row < h.rows {
+        let at = (row * h.columns) as usize;
+        let one = row_buffer::is_dead(rows, at);
+        row += 1;
+        if one {
+            dead += 1;
+        }
+    }
+    dead
+}
+
+// Whether the last sort entry's value does not exceed the largest value appended: where entries rise, then no entry's does.
+fn largest_sound(h: Header, sorts: &[u32]) -> bool
+    requires { ⌜ Held (now sorts) (h .entries) ⌝ }
+    ensures { λ r. ⌜ r ≡ lastKept h (now (sorts .entry)) ⌝ }
+{
+    if h.entries == 0 {
+        return true;
+    }
+    let largest = h.largest;
+    match largest {
+        Largest::None => false,
+        Largest::Value(value) => {
+            let at = (2 * h.entries - 2) as usize;
+            sorts[at] <= value
+        }
+    }
+}
+
+// Whether the dead count is right, and the sort entries, the largest value and the live sort cells are.
+fn rows_sound(h: Header, rows: &[u32], sorts: &[u32]) -> bool
+    requires { ⌜ Cells (now rows) (h .columns) (h .sort) (h .rows) ⌝ }
+    requires { ⌜ Held (now sorts) (h .entries) ⌝ }
+    ensures { λ r. ⌜ Decides (RowsSound h (now (rows .entry)) (now (sorts .entry))) r ⌝ }
+{
+    if h.dead != dead_rows(h, rows) {
+        return false;
+    }
+    if !sort_entries::entries_sound(sorts, h.entries, h.rows) {
+        return false;
+    }
+    if !largest_sound(h, sorts) {
+        return false;
+    }
+    sort_entries::sort_cells_sound(rows, h.columns, h.sort, h.rows, sorts, h.entries)
+}
+
+// Whether a row is dead or found by its key. Of two live rows of one key the first in the key store is found for both.
+fn finds_itself(t: Keyed, rows: &[u32], keys: &[u32], row: u32) -> bool
+    requires { ⌜ (Fits t (now rows) (now keys)) × (KeysSound t (now rows) (now keys)) × (row < t .rows) ⌝ }
+    ensures { λ r. ⌜ OwnIs t (now (rows .entry)) (now (keys .entry)) row r ⌝ }
+{
+    let from = (row * t.columns) as usize;
+    if row_buffer::is_dead(rows, from) {
+        return true;
+    }
+    let to = from + t.keys as usize;
+    let hash = cells::compact_hash(&rows[from..to]);
+    let found = key_index::find(t, rows, keys, &rows[from..to], hash);
+    match found {
+        Found::None => false,
+        Found::At(at, _) => at == row,
+    }
+}
+
+// Whether the keys of live rows differ, where the key store is sound.
+fn keys_differ(t: Keyed, rows: &[u32], keys: &[u32]) -> bool
+    requires { ⌜ (Fits t (now rows) (now keys)) × (KeysSound t (now rows) (now keys)) ⌝ }
+    ensures { λ r. ⌜ Decides (KeysDiffer t (now (rows .entry))) r ⌝ }
+{
+    let mut row: u32 = 0;
+    while row < t.rows {
+        if !finds_itself(t, rows, keys, row) {
+            return false;
+        }
+        row += 1;
+    }
+    true
+}
+
+// Whether the key store leads to exactly the live rows, and their keys differ.
+fn index_sound(t: Keyed, rows: &[u32], keys: &[u32]) -> bool
+    requires { ⌜ Fits t (now rows) (now keys) ⌝ }
+    ensures { λ r. ⌜ Decides (IndexSound t (now (rows .entry)) (now (keys .entry))) r ⌝ }
+{
+    if !key_check::keys_sound(t, rows, keys) {
+        return false;
+    }
+    keys_differ(t, rows, keys)
+}
+
+// How many words a record of a kind takes; 0 for no kind.
+fn kind_words(h: Header, kind: u32) -> u32
+    requires { ⌜ (h .columns ≤ 8) × (h .keys ≤ h .columns) ⌝ }
+    ensures { λ r. ⌜ r ≡ kindWords (openingOf h) kind ⌝ }
+{
+    if kind == INSERT {
+        return h.columns + 2;
+    }
+    if kind == REMOVE_KEY {
+        return h.keys + 2;
+    }
+    if kind == REMOVE_ROW {
+        return h.keys + 3;
+    }
+    0
+}
+
+// Where in a record its key begins.
+fn key_place(kind: u32) -> u32
+    ensures { λ r. ⌜ r ≡ keyPlace kind ⌝ }
+{
+    if kind == REMOVE_ROW {
+        return 3;
+    }
+    2
+}
+
+// How many words the record at a place takes; 0 if there is no whole one there.
+fn record_words(h: Header, pending: &[u32], at: u32) -> u32
+    requires { ⌜ (PendingIn h (now pending)) × (at < h .pending) ⌝ }
+    ensures { λ r. ⌜ RecordRead (openingOf h) (now (pending .entry)) (h .pending) at r ⌝ }
+{
+    let start = at as usize;
+    let kind = pending[start];
+    let words = kind_words(h, kind);
+    if words == 0 {
+        return 0;
+    }
+    if h.pending - at < words {
+        return 0;
+    }
+    let from = start + key_place(kind) as usize;
+    let to = from + h.keys as usize;
+    if pending[start + 1] != cells::compact_hash(&pending[from..to]) {
+        return 0;
+    }
+    words
+}
+
+// Whether the pending words in use are whole records.
+fn pending_whole(h: Header, pending: &[u32]) -> bool
+    requires { ⌜ PendingIn h (now pending) ⌝ }
+    ensures { λ r. ⌜ Decides (PendingWhole h (now (pending .entry))) r ⌝ }
+{
+    let mut at: u32 = 0;
+    while at < h.pending {
+        let words = record_words(h, pending, at);
+        if words == 0 {
+            return false;
+        }
+        at += words;
+    }
+    true
+}
+
+// Whether a header and stores that passed tests 1 and 2 are sound.
+fn stores_sound(h: Header, rows: &[u32], keys: &[u32], sorts: &[u32], pending: &[u32]) -> bool
+    requires { ⌜ soundRefusal h (length (now rows)) (length (now keys)) (length (now sorts)) (length (now pending)) ≡ 0 ⌝ }
+    ensures { λ r. ⌜ Decides (SoundStores h (now (rows .entry)) (now (keys .entry)) (now (sorts .entry)) (now (pending .entry))) r ⌝ }
+{
+    if !rows_sound(h, rows, sorts) {
+        return false;
+    }
+    let t = table::keyed(h);
+    if !index_sound(t, rows, keys) {
+        return false;
+    }
+    pending_whole(h, pending)
+}
+
+pub fn is_sound(
+    h: Header,
+    rows: &[u32],
+    keys: &[u32],
+    sorts: &[u32],
+    pending: &[u32],
+) -> SoundAnswer
+    ensures { λ r. ⌜ Checked h (now (rows .entry)) (now (keys .entry)) (now (sorts .entry)) (now (pending .entry)) r ⌝ }
+{
+    let lent = Lent {
+        rows: rows.len(),
+        keys: keys.len(),
+        sorts: sorts.len(),
+        pending: pending.len(),
+        live: 0,
+        base: 0,
+    };
+    let refused = refusing::sound_refusal(h, lent);
+    if refused != 0 {
+        return SoundAnswer::Refused(refused);
+    }
+    SoundAnswer::Sound(stores_sound(h, rows, keys, sorts, pending))
+}

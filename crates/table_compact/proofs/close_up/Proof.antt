@@ -1,0 +1,69 @@
+-- `table_compact::close_up` meets its contract. Assumes nothing.
+use Prim.Native.Nat.{_-_}
+use native.Mathlib.Omega.{arith}
+use borrow.Author.Needs.{needs}
+use Rattle.table_compact.proofs.CompactionSteps.{Turn, turn-begin, words-in, cells-in, spaced, the-block, turn-on, close-end}
+use Rattle.table_compact.proofs.close_up.Statement.{statement}
+use Rattle.table_compact.proofs.close_up.Tie as tie
+
+abbrev Inv-loop : tie.InvT-loop
+Inv-loop h rows₀ sorts₀ live₀ base₀ kept₀ next₀ rows sorts live base kept next = Turn h rows₀ sorts₀ live₀ base₀ rows sorts live base kept next
+
+abbrev μ-loop : tie.MeasureT-loop
+μ-loop h rows₀ sorts₀ live₀ base₀ kept₀ next₀ rows sorts live base kept next = h .rows - next
+
+loop-holds : tie.Need-loop-holds Inv-loop μ-loop
+loop-holds c = turn-begin _ _ _ _ _
+
+sub-block : tie.Need-sub-block Inv-loop μ-loop
+sub-block c = omega (arith, c .before .if1 .taken)
+
+add-next : tie.Need-add-next Inv-loop μ-loop
+add-next c = omega (arith, c .block .ensures, c .before .before .if1 .taken)
+
+mul-from : tie.Need-mul-from Inv-loop μ-loop
+mul-from c = omega (arith, cells-in (c .before .before .before .before .before .before .before .before .before .before .pre) (c .before .before .before .before .before .loop .inv) (c .before .before .before .if1 .taken) _ (c .before .block .ensures))
+
+cast-from : tie.Need-cast-from Inv-loop μ-loop
+cast-from c = omega (arith, cells-in (c .before .before .before .before .before .before .before .before .before .before .pre) (c .before .before .before .before .before .loop .inv) (c .before .before .before .if1 .taken) _ (c .before .block .ensures))
+
+marks-other-requires : tie.Need-marks-other-requires Inv-loop μ-loop
+marks-other-requires c κs = spaced (c .before .before .before .before .before .before .before .before .before .before .before .before .pre) (c .before .before .before .before .before .before .before .loop .inv) (c .before .before .before .before .before .if1 .taken) _ (c .before .before .before .block .ensures)
+
+slice-write-live : tie.Need-slice-write-live Inv-loop μ-loop
+slice-write-live c = words-in (c .before .before .before .before .before .before .before .before .before .before .before .before .before .pre) (c .before .before .before .before .before .before .before .before .loop .inv) (c .before .before .before .before .before .before .if1 .taken) _ (c .before .before .before .before .block .ensures) .0
+
+slice-write-base : tie.Need-slice-write-base Inv-loop μ-loop
+slice-write-base c = words-in (c .before .before .before .before .before .before .before .before .before .before .before .before .before .pre) (c .before .before .before .before .before .before .before .before .loop .inv) (c .before .before .before .before .before .before .if1 .taken) _ (c .before .before .before .before .block .ensures) .1
+
+keep-block-requires : tie.Need-keep-block-requires Inv-loop μ-loop
+keep-block-requires c κs = the-block (c .before .before .before .before .before .before .before .before .before .before .before .before .before .before .before .pre) (c .before .before .before .before .before .before .before .before .before .before .loop .inv) (c .before .before .before .before .before .before .before .before .if1 .taken) _ (c .before .before .before .before .before .before .block .ensures) _ (c .before .before .marks-other .ensures)
+
+loop-less : tie.Need-loop-less Inv-loop μ-loop
+loop-less c = omega (arith, c .before .before .before .before .before .before .before .before .before .before .before .block .ensures, c .before .before .before .before .before .before .before .before .before .before .before .before .before .if1 .taken)
+
+loop-again : tie.Need-loop-again Inv-loop μ-loop
+loop-again c = turn-on (c .before .before .before .before .before .before .before .before .before .before .before .before .before .before .before .before .before .before .before .before .pre) (c .before .before .before .before .before .before .before .before .before .before .before .before .before .before .before .loop .inv) (c .before .before .before .before .before .before .before .before .before .before .before .before .before .if1 .taken) _ (c .before .before .before .before .before .before .before .before .before .before .before .block .ensures) _ (c .before .before .before .before .before .before .before .marks-other .ensures) (c .before .before .before .before .keep-block .ensures)
+
+same-length : tie.Need-same-length Inv-loop μ-loop
+same-length c = c .before .before .loop .inv .closing .rows-same
+
+same-length-2 : tie.Need-same-length-2 Inv-loop μ-loop
+same-length-2 c = c .before .before .loop .inv .closing .sorts-same
+
+same-length-3 : tie.Need-same-length-3 Inv-loop μ-loop
+same-length-3 c = c .before .before .loop .inv .live-same
+
+same-length-4 : tie.Need-same-length-4 Inv-loop μ-loop
+same-length-4 c = c .before .before .loop .inv .base-same
+
+returns : tie.Need-returns Inv-loop μ-loop
+returns c = close-end (c .before .before .before .before .before .before .before .pre) (c .before .before .loop .inv) (omega (arith, c .if1 .left))
+
+pub close-up-spec : {M : Type 1} → statement M
+close-up-spec =
+    tie.close
+    (tie.spec
+    Inv-loop μ-loop loop-holds sub-block (λ c κs. search needs) add-next mul-from cast-from (λ c. search needs)
+    marks-other-requires (λ c. search needs) (λ c. search needs) slice-write-live (λ c. search needs) slice-write-base
+    keep-block-requires loop-less loop-again same-length same-length-2 same-length-3 same-length-4 returns)

@@ -1,0 +1,40 @@
+-- `table_compact::keep_row` meets its contract. Assumes nothing.
+use native.Mathlib.Omega.{arith}
+use borrow.Author.Needs.{needs}
+use Rattle.table_compact.proofs.CompactionSteps.{from-place, to-place, row-kept}
+use Rattle.table_compact.proofs.keep_row.Statement.{statement}
+use Rattle.table_compact.proofs.keep_row.Tie as tie
+
+mul-to : tie.Need-mul-to
+mul-to c = omega (arith, from-place (c .before .before .before .before .pre), to-place (c .before .before .before .before .pre))
+
+cast-to : tie.Need-cast-to
+cast-to c = omega (arith, from-place (c .before .before .before .before .pre), to-place (c .before .before .before .before .pre))
+
+mul-from : tie.Need-mul-from
+mul-from c = omega (arith, from-place (c .before .before .before .before .before .pre))
+
+cast-from : tie.Need-cast-from
+cast-from c = omega (arith, from-place (c .before .before .before .before .before .pre))
+
+move-down-requires : tie.Need-move-down-requires
+move-down-requires c κs = (to-place (c .before .before .before .before .before .before .before .pre), from-place (c .before .before .before .before .before .before .before .pre) .in-store)
+
+add-cell : tie.Need-add-cell
+add-cell c = omega (arith, from-place (c .before .before .before .before .before .before .before .before .before .before .before .pre), to-place (c .before .before .before .before .before .before .before .before .before .before .before .pre))
+
+mul-append-entry : tie.Need-mul-append-entry
+mul-append-entry c = omega (arith, from-place (c .before .before .before .before .before .before .before .before .before .before .before .before .pre), to-place (c .before .before .before .before .before .before .before .before .before .before .before .before .pre))
+
+slice-read-append-entry : tie.Need-slice-read-append-entry
+slice-read-append-entry c = omega (arith, from-place (c .before .before .before .before .before .before .before .before .before .before .before .before .before .pre), to-place (c .before .before .before .before .before .before .before .before .before .before .before .before .before .pre), c .before .before .before .before .before .before .before .before .before .before .before .before .before .pre .sort-column)
+
+returns : tie.Need-returns
+returns c = row-kept (c .before .before .before .before .before .before .before .before .before .before .before .before .before .before .before .before .pre) _ _ _ (c .before .before .before .before .before .before .before .before .move-down .ensures) (c .before .before .append-entry .ensures)
+
+pub keep-row-spec : {M : Type 1} → statement M
+keep-row-spec =
+    tie.close
+    (tie.spec
+    mul-to cast-to mul-from cast-from (λ c. search needs) move-down-requires (λ c. search needs) add-cell
+    mul-append-entry slice-read-append-entry (λ c κs. search needs) (λ c. search needs) (λ c. search needs) returns)

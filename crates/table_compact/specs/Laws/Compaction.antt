@@ -1,0 +1,346 @@
+-- Laws of a compaction: how the live rows of a store close up row by row, their sort entries and the words that number
+-- them; and that stores so left show the compacted plain table. Assumes nothing.
+use Prim.Native.Nat.{ℕ, zero, suc, _+_, _-_, _*_, _/_, _%_, _≤_, _<_, min, suc-le-suc}
+use mathlib.Core.Path.{_≡_, refl, sym, ap, ap₂, _∙_}
+use mathlib.Core.Logic.{inl, inr}
+use mathlib.Core.Bool.{Bool, true, false, cond}
+use mathlib.Core.List.{List, [], _∷_, _++_, map, map-append, map-map, append-nil}
+use native.Mathlib.Nat.{add-zero, suc-mul, mul-le-mul-right}
+use native.Mathlib.Numerals.{add-one}
+use native.Mathlib.Decide.{ℕ-discrete}
+use native.Mathlib.Omega.{arith}
+use lib.ListN.{length, getD, set, length-map}
+use lib.Seq.{getD-set-same, getD-set-other}
+use lib.Dec.{ltb}
+use Rattle.lists.specs.Lists.{putAt, keep, rowAt, rowsOf, flat}
+use Rattle.lists.specs.Laws.Keep.{split, keep-append, length-keep, count-le, every-keep}
+use Rattle.lists.specs.Laws.Parts.{length-putAt, putAt-then, part-after}
+use Rattle.lists.specs.Laws.Rows.{widths, length-rowsOf, length-rowAt, rowsOf-snoc, rowsOf-widths, widths-keep, length-flat, flat-append, getD-rowsOf, rowsOf-put-flat}
+use Rattle.constraints.specs.Constraints.{isLive}
+use Rattle.sort_entries.specs.Entries.{Entry, entry, entriesOf, entryWords, last, push, rebuilt}
+use Rattle.sort_entries.specs.inner.Append.{Append}
+use Rattle.sort_entries.specs.Laws.Push.{push-new, push-same, rebuilt-snoc}
+use Rattle.sort_entries.specs.Laws.Rebuilt.{rebuilt-few}
+use Rattle.sort_entries.specs.Laws.Stores.{length-words, words-snoc, entriesOf-put}
+use Rattle.row_buffer.specs.Ranks.{liveWord, newNumber}
+use Rattle.row_buffer.specs.Laws.Rows.{number-rank, keep-at}
+use Rattle.key_index.specs.Slots.{LiveAt, KeysSound}
+use Rattle.key_index.specs.inner.Index.{Fits}
+use Rattle.key_index.specs.Laws.Lines.{small}
+use Rattle.key_index.specs.Laws.Rooms.{past-room}
+use Rattle.key_renumber.specs.inner.Renumbering.{liveBelow, Renumbered, newRow}
+use Rattle.key_renumber.specs.Laws.Renumbering.{below-number, live-among, live-rises, Compacted, renumber-sound, slots-renumbered}
+use Rattle.plain_table.specs.Plain.{Row, Plain, compacted}
+use Rattle.plain_table.specs.Refusing.{storesShort}
+use Rattle.plain_table.specs.Laws.Rows.{noRow}
+use Rattle.plain_table.specs.Laws.Proper.{compacted-proper}
+use Rattle.plain_table.specs.Laws.Live.{dead-compacted}
+use Rattle.table.specs.declared.Header.{Header}
+use Rattle.table_compact.specs.declared.Kept.{Kept}
+use Rattle.table.specs.Sound.{keyedOf}
+use Rattle.table.specs.Stores.{entries, headerOf, stored, rowStore, sortStore, Shows, RowShown}
+use Rattle.table.specs.Promises.{stores, lengths, Represents, SlotsPast}
+use Rattle.table.specs.Laws.Refusals.{whole-fits}
+use Rattle.table_compact.specs.inner.Compaction.{Lendable, Leading, ClosedUp, Compaction}
+use Rattle.table_compact.specs.inner.ClosingUp.{liveStored, entriesFor, closedRows, Closed, closedHeader}
+use Rattle.table.specs.Laws.Stored.{stored-live}
+use Rattle.plain_table.specs.Proper.{Proper}
+use Rattle.table.specs.Laws.Shown.{stores-long, stored-rows, rows-counted, row-shown}
+
+-- ---- the live rows close up
+
+module _ (w n : ℕ) (rows : List ℕ) where
+  -- they are not more than the rows
+  pub length-live : length (liveStored w n rows) ≤ n
+  unfolding liveStored
+  length-live = omega (arith, length-keep isLive (rowsOf w n rows), count-le isLive (rowsOf w n rows), length-rowsOf w n rows)
+
+  live-more : liveStored w (n + 1) rows ≡ liveStored w n rows ++ keep isLive (rowAt w n rows ∷ [])
+  unfolding liveStored
+  live-more = ap (keep isLive) (rowsOf-snoc w n rows) ∙ keep-append isLive (rowsOf w n rows) (rowAt w n rows ∷ [])
+
+  -- one row more: live, or dead
+  pub live-one : isLive (rowAt w n rows) ≡ true → liveStored w (n + 1) rows ≡ liveStored w n rows ++ (rowAt w n rows ∷ [])
+  unfolding keep
+  live-one e = live-more ∙ rw e
+
+  live-none : isLive (rowAt w n rows) ≡ false → liveStored w (n + 1) rows ≡ liveStored w n rows
+  unfolding keep
+  live-none e = live-more ∙ rw e (append-nil (liveStored w n rows))
+
+-- some more, all dead
+pub live-skip : (w n k : ℕ) (rows : List ℕ) → ((i : ℕ) → n ≤ i → i < n + k → isLive (rowAt w i rows) ≡ false) → liveStored w (n + k) rows ≡ liveStored w n rows
+live-skip w n zero rows dead = rw add-zero
+live-skip w n (suc k) rows dead =
+    let e : n + suc k ≡ n + k + 1 = omega arith in
+    let low : n ≤ n + k = omega arith in
+    rw e (live-none w (n + k) rows (dead (n + k) low (omega arith)) ∙ live-skip w n k rows (λ i p q. dead i p (omega arith)))
+
+module _ (w n : ℕ) (rows : List ℕ) (fits : n * w ≤ length rows) where
+  -- they are a row's width
+  pub widths-live : widths w (liveStored w n rows) ≡ true
+  unfolding liveStored
+  widths-live = widths-keep w isLive (rowsOf w n rows) (rowsOf-widths w n rows fits)
+
+  flat-live : length (flat (liveStored w n rows)) ≡ length (liveStored w n rows) * w
+  flat-live = length-flat w (liveStored w n rows) widths-live
+
+  -- their cells end at or below the rows' end
+  pub flat-below : length (flat (liveStored w n rows)) ≤ n * w
+  flat-below = omega (arith, flat-live, mul-le-mul-right w (length-live w n rows))
+
+-- a later row stands as it stood, after those before row n have closed up
+pub later-row : (w n i : ℕ) (rows : List ℕ) → n ≤ i → i * w + w ≤ length rows → rowAt w i (putAt rows 0 (flat (liveStored w n rows))) ≡ rowAt w i rows
+unfolding rowAt
+later-row w n i rows h fits =
+    let m : n * w ≤ i * w = mul-le-mul-right w h in
+    let b = flat-below w n rows (omega arith) in
+    part-after rows (flat (liveStored w n rows)) 0 (omega arith) (i * w) w (omega arith)
+
+module _ (w n : ℕ) (rows : List ℕ) (fits : n * w + w ≤ length rows) where
+  below : length (flat (liveStored w n rows)) ≤ n * w
+  below = flat-below w n rows (omega arith)
+
+  -- it is moved to their end
+  pub close-one : isLive (rowAt w n rows) ≡ true
+      → putAt (putAt rows 0 (flat (liveStored w n rows))) (length (liveStored w n rows) * w) (rowAt w n rows) ≡ putAt rows 0 (flat (liveStored w (n + 1) rows))
+  unfolding flat
+  close-one e =
+      let lv = liveStored w n rows in
+      let row = rowAt w n rows in
+      let wide : length row ≡ w = length-rowAt w n rows (rw (add-one, suc-mul) fits) in
+      let end : length lv * w ≡ 0 + length (flat lv) = omega (arith, flat-live w n rows (omega arith)) in
+      rw (end, live-one w n rows e, flat-append lv (row ∷ []), append-nil row)
+      (putAt-then rows (flat lv) row 0 (omega (arith, below)))
+
+-- ---- their sort entries
+
+-- those of one row more
+pub entries-one : (sort : ℕ) (rows : List (List ℕ)) (row : List ℕ) → entriesFor sort (rows ++ (row ∷ [])) ≡ push (getD row sort 0) (length rows) (entriesFor sort rows)
+unfolding entriesFor
+entries-one sort rows row =
+    ap rebuilt (map-append (λ (r : List ℕ). getD r sort 0) rows (row ∷ []))
+    ∙ rebuilt-snoc (map (λ (r : List ℕ). getD r sort 0) rows) (getD row sort 0)
+    ∙ ap (λ (k : ℕ). push (getD row sort 0) k (rebuilt (map (λ (r : List ℕ). getD r sort 0) rows))) (length-map rows (λ (r : List ℕ). getD r sort 0))
+
+-- they are not more than the rows
+pub entries-at-most : (sort : ℕ) (rows : List (List ℕ)) → length (entriesFor sort rows) ≤ length rows
+unfolding entriesFor
+entries-at-most sort rows = omega (arith, rebuilt-few (map (λ (r : List ℕ). getD r sort 0) rows), length-map rows (λ (r : List ℕ). getD r sort 0))
+
+-- a store of rebuilt entries, one row later
+module _ (sorts : List ℕ) (es : List Entry) (fits : 2 * length es + 2 ≤ length sorts) (value row : ℕ) where
+  rebuilt-words : (b : Bool) → last (λ v. ltb v value) es ≡ b
+      → cond b (putAt (putAt sorts 0 (entryWords es)) (2 * length es) (value ∷ row ∷ [])) (putAt sorts 0 (entryWords es)) ≡ putAt sorts 0 (entryWords (push value row es))
+  rebuilt-words true e =
+      let end : 2 * length es ≡ 0 + length (entryWords es) = omega (arith, length-words es) in
+      rw (end, push-new value row es e, words-snoc es (entry value row))
+      (putAt-then sorts (entryWords es) (value ∷ row ∷ []) 0 (omega (arith, length-words es)))
+  rebuilt-words false e = rw (push-same value row es e)
+
+  pub rebuild-one : (n r : ℕ) (after : List ℕ) → n ≡ length es → Append (putAt sorts 0 (entryWords es)) n value row r after
+      → (r ≡ length (push value row es)) × (after ≡ putAt sorts 0 (entryWords (push value row es)))
+  rebuild-one n r after e b =
+      let held : entriesOf n (putAt sorts 0 (entryWords es)) ≡ es = entriesOf-put es sorts n e in
+      (b .count ∙ ap (λ (l : List Entry). length (push value row l)) held, rw (held, e) at (b .cells) ∙ rebuilt-words (last (λ v. ltb v value) es) refl)
+
+-- ---- the words that number the rows
+
+-- the words whose first row is below m mark the live ones of n rows
+pub record Words (rows : List (List ℕ)) (n m : ℕ) (live base : List ℕ) : Type 0 where
+  pub marks : (k : ℕ) → k * 64 < m → getD live k 0 ≡ liveWord isLive rows (k * 64) (min 64 (n - k * 64))
+  pub firsts : (k : ℕ) → k * 64 < m → getD base k 0 ≡ newNumber isLive rows (k * 64)
+
+pub words-begin : (rows : List (List ℕ)) (n : ℕ) (live base : List ℕ) → Words rows n 0 live base
+words-begin rows n live base = record { marks = λ k h. absurd (omega arith); firsts = λ k h. absurd (omega arith) }
+
+-- the next word
+pub words-next : (rows : List (List ℕ)) (n m : ℕ) (live base : List ℕ) (word kept : ℕ) → Words rows n m live base → m % 64 ≡ 0 → m / 64 < length live → m / 64 < length base
+    → word ≡ liveWord isLive rows m (min 64 (n - m)) → kept ≡ newNumber isLive rows m
+    → Words rows n (m + min 64 (n - m)) (set live (m / 64) word) (set base (m / 64) kept)
+words-next rows n m live base word kept s start live-in base-in e f =
+    record {
+      marks = λ k h. elim (ℕ-discrete (m / 64) k) [
+        | yes q ↦ let z : k * 64 ≡ m = omega arith in rw (z, ← e, ← q) (getD-set-same live (m / 64) word 0 live-in)
+        | no q ↦ getD-set-other live (m / 64) k word 0 (omega arith) ∙ s .marks k (omega arith)
+      ];
+      firsts = λ k h. elim (ℕ-discrete (m / 64) k) [
+        | yes q ↦ let z : k * 64 ≡ m = omega arith in rw (z, ← f, ← q) (getD-set-same base (m / 64) kept 0 base-in)
+        | no q ↦ getD-set-other base (m / 64) k kept 0 (omega arith) ∙ s .firsts k (omega arith)
+      ];
+    }
+
+-- the numbers that the words tell
+pub words-number : (rows : List (List ℕ)) (n : ℕ) (live base : List ℕ) → Words rows n n live base → (i : ℕ) → i < n → newRow live base i ≡ newNumber isLive rows i
+unfolding newRow
+words-number rows n live base s i h =
+    let b : i % 64 ≤ min 64 (n - i / 64 * 64) = omega arith in
+    let e : i / 64 * 64 + i % 64 ≡ i = omega arith in
+    rw (s .firsts (i / 64) (omega arith), s .marks (i / 64) (omega arith))
+    (number-rank isLive rows (i / 64 * 64) (min 64 (n - i / 64 * 64)) (i % 64) b ∙ ap (newNumber isLive rows) e)
+
+-- ---- the stores of a compacted plain table
+
+-- the live rows of a plain table, as they are stored
+pub live-cells-of : (ps : List Row) (rows : List (List ℕ)) → length rows ≡ length ps → ((i : ℕ) → i < length ps → RowShown (getD ps i noRow) (getD rows i []))
+    → keep isLive rows ≡ map (λ row. row .cells) (keep (λ row. row .live) ps)
+unfolding keep
+live-cells-of [] [] n f = refl
+live-cells-of [] (row ∷ rows) n f = absurd (omega arith)
+live-cells-of (p ∷ ps) [] n f = absurd (omega arith)
+live-cells-of (p ∷ ps) (row ∷ rows) n f =
+    let ih = live-cells-of ps rows (omega arith) (λ i h. f (suc i) (suc-le-suc h)) in
+    let s = f 0 (omega arith) in
+    elim (split (p .live)) [
+      | inl e ↦ rw (← s .live, e, ih, s .same e)
+      | inr e ↦ rw (← s .live, e, ih)
+    ]
+
+module _ (h : Header) (rows sorts live base : List ℕ) (kept : Kept) (rows′ sorts′ live′ base′ : List ℕ) (c : Closed h rows sorts live base kept rows′ sorts′ live′ base′)
+    (fits : h .rows * h .columns ≤ length rows) where
+  closed-fits : 0 + length (flat (closedRows h rows)) ≤ length rows
+  closed-fits = omega (arith, flat-below (h .columns) (h .rows) rows fits)
+
+  -- the rows after are the live ones
+  closed-read : rowsOf (h .columns) (kept .rows) rows′ ≡ closedRows h rows
+  closed-read =
+      rw (c .rows-counted, c .rows-after)
+      (rowsOf-put-flat (h .columns) (closedRows h rows) rows (widths-live (h .columns) (h .rows) rows fits))
+
+  closed-count : kept .rows ≡ liveBelow (keyedOf h) rows (h .rows)
+  unfolding liveStored
+  closed-count = c .rows-counted ∙ length-keep isLive (rowsOf (h .columns) (h .rows) rows)
+
+  -- each stands at its new number
+  closed-moved : (i : ℕ) → LiveAt (keyedOf h) rows i → rowAt (h .columns) (liveBelow (keyedOf h) rows i) rows′ ≡ rowAt (h .columns) i rows
+  unfolding liveStored
+  closed-moved i l =
+      let t = keyedOf h in
+      let new = liveBelow t rows i in
+      let k : new < kept .rows = omega (arith, closed-count, live-rises t rows i (h .rows) (l .1) (l .0)) in
+      sym (getD-rowsOf (h .columns) (kept .rows) rows′ new k)
+      ∙ ap₂ (λ (rs : List (List ℕ)) (n : ℕ). getD rs n []) closed-read (below-number t rows (h .rows) i (omega (arith, l .0)))
+      ∙ keep-at isLive (rowsOf (h .columns) (h .rows) rows) i [] (live-among t rows (h .rows) i (l .0) ∙ l .1)
+      ∙ getD-rowsOf (h .columns) (h .rows) rows i (l .0)
+
+  -- so that the key store leads to them by their new numbers
+  closed-numbers : keyedOf (closedHeader h kept) .room ≡ keyedOf h .room → Compacted (keyedOf h) rows (keyedOf (closedHeader h kept)) rows′
+  closed-numbers room-same =
+      record {
+        columns = refl;
+        keys = refl;
+        room = room-same;
+        count = closed-count;
+        moved = closed-moved;
+      }
+
+module _ (h : Header) (rows keys sorts live base : List ℕ) (lent : Lendable h rows keys sorts live base) (kept : Kept) (rows′ sorts′ live′ base′ : List ℕ)
+    (c : Closed h rows sorts live base kept rows′ sorts′ live′ base′) (keys′ : List ℕ) (same-keys : length keys′ ≡ length keys)
+    (led : Leading h (closedHeader h kept) rows′ keys live′ base′ keys′) where
+  rows-fit : h .rows * h .columns ≤ length rows
+  rows-fit = omega (arith, lent .fits .cells, mul-le-mul-right (h .columns) (lent .fits .count))
+
+  same-rows : length rows′ ≡ length rows
+  same-rows = rw (c .rows-after) (length-putAt rows (flat (closedRows h rows)) 0 (closed-fits h rows sorts live base kept rows′ sorts′ live′ base′ c rows-fit))
+
+  same-sorts : length sorts′ ≡ length sorts
+  same-sorts =
+      let es = entriesFor (h .sort) (closedRows h rows) in
+      rw (c .sorts-after)
+      (length-putAt sorts (entryWords es) 0
+      (omega (arith, length-words es, entries-at-most (h .sort) (closedRows h rows), length-live (h .columns) (h .rows) rows, lent .fits .count, lent .sorts-long)))
+
+  fits : Fits (keyedOf h) rows keys
+  fits = whole-fits h rows keys (lent .fits)
+
+  -- in the same room the slots have the new numbers
+  renumbered-keys : keyedOf (closedHeader h kept) .room ≡ keyedOf h .room → Renumbered (keyedOf h) rows keys keys′
+  renumbered-keys e = rw (led .numbers e) (slots-renumbered (keyedOf h) rows keys live′ base′ (small (keyedOf h) rows keys fits) (fits .long) (c .numbered))
+
+  -- either way the key store leads to the rows that are left, and no slot past it is written
+  keyed-after : KeysSound (keyedOf h) rows keys → KeysSound (keyedOf (closedHeader h kept)) rows′ keys′
+  keyed-after sound = elim (ℕ-discrete (keyedOf (closedHeader h kept) .room) (keyedOf h .room)) [
+    | yes e ↦ renumber-sound (keyedOf h) rows (keyedOf (closedHeader h kept)) rows′ (closed-numbers h rows sorts live base kept rows′ sorts′ live′ base′ c rows-fit e)
+        keys keys′ (small (keyedOf h) rows keys fits) sound (renumbered-keys e)
+    | no ne ↦ led .anew ne .sound
+  ]
+
+  past-after : SlotsPast (h .capacity) keys keys′
+  past-after = elim (ℕ-discrete (keyedOf (closedHeader h kept) .room) (keyedOf h .room)) [
+    | yes e ↦ past-room (h .capacity) (h .rows) keys keys′ (renumbered-keys e .rest)
+    | no ne ↦ past-room (h .capacity) (kept .rows) keys keys′ (led .anew ne .rest)
+  ]
+
+  module _ (pending : List ℕ) (p : Plain) (r : Represents p (stores h rows keys sorts pending)) (g : h .generation < 4294967295) where
+    -- the live rows are the plain table's
+    kept-rows : closedRows h rows ≡ map (λ row. row .cells) (compacted p .rows)
+    unfolding liveStored compacted
+    kept-rows =
+        live-cells-of (p .rows) (rowsOf (h .columns) (h .rows) rows) (length-rowsOf (h .columns) (h .rows) rows ∙ rows-counted r)
+        (λ i k. rw (getD-rowsOf (h .columns) (h .rows) rows i (omega (arith, rows-counted r))) (row-shown r i k))
+
+    kept-stored : (before : List (List ℕ)) → stored (compacted p .rows) before ≡ closedRows h rows
+    unfolding compacted
+    kept-stored before = stored-live (keep (λ row. row .live) (p .rows)) before (every-keep (λ row. row .live) (p .rows)) ∙ sym kept-rows
+
+    kept-entries : entriesFor (h .sort) (closedRows h rows) ≡ entries (compacted p)
+    unfolding entries entriesFor
+    kept-entries =
+        let e : h .sort ≡ p .opening .sort = ap (λ (n : Header). n .sort) (r .shown .header) in
+        let same : compacted p .opening ≡ p .opening = unfold compacted in refl in
+        rw (kept-rows, e, same) (ap rebuilt (map-map (λ (cells : List ℕ). getD cells (p .opening .sort) 0) (λ (row : Row). row .cells) (compacted p .rows)))
+
+    kept-count : kept .rows ≡ length (compacted p .rows)
+    kept-count = c .rows-counted ∙ ap length kept-rows ∙ length-map (compacted p .rows) (λ row. row .cells)
+
+    header-after : closedHeader h kept ≡ headerOf (compacted p)
+    header-after =
+        rw (kept-count, c .entries-counted, kept-entries, r .shown .header, dead-compacted p) (unfold compacted in refl)
+
+    rows-read : rowsOf (h .columns) (kept .rows) rows′ ≡ closedRows h rows
+    rows-read = closed-read h rows sorts live base kept rows′ sorts′ live′ base′ c rows-fit
+
+    long-after : storesShort (p .opening) (lengths rows′ keys′ sorts′ pending [] []) ≡ false
+    unfolding storesShort
+    long-after = rw (same-rows, same-sorts, same-keys) (r .long-enough)
+
+    proper-after : Proper (compacted p)
+    proper-after = compacted-proper (r .proper) (rw (ap (λ (n : Header). n .generation) (r .shown .header)) at g)
+
+    shown-after : Shows (compacted p) (closedHeader h kept) rows′ sorts′ pending
+    shown-after =
+        record {
+          header = header-after;
+          rows-shown = stored-rows (closedHeader h kept) rows′ proper-after (unfold compacted in stores-long (p .opening) (lengths rows′ keys′ sorts′ pending [] []) long-after .rows-long)
+              header-after (rw rows-read (kept-stored (closedRows h rows)));
+          entries-shown = rw (c .sorts-after) (entriesOf-put (entriesFor (h .sort) (closedRows h rows)) sorts (kept .entries) (c .entries-counted) ∙ kept-entries);
+          pending-held = unfold compacted in r .shown .pending-held;
+        }
+
+    represents-after : Represents (compacted p) (stores (closedHeader h kept) rows′ keys′ sorts′ pending)
+    represents-after =
+        record {
+          proper = proper-after;
+          long-enough = unfold compacted in long-after;
+          shown = shown-after;
+          keyed = keyed-after (r .keyed);
+        }
+
+    closed-up : ClosedUp h rows keys sorts (closedHeader h kept) rows′ keys′ sorts′ pending p
+    unfolding rowStore sortStore
+    closed-up =
+        record {
+          header = header-after;
+          rows-after = c .rows-after ∙ ap (λ (l : List (List ℕ)). putAt rows 0 (flat l)) (sym (kept-stored []));
+          sorts-after = c .sorts-after ∙ ap (λ (es : List Entry). putAt sorts 0 (entryWords es)) kept-entries;
+          represents = represents-after;
+        }
+
+  -- a compaction, once the live rows have closed up and the key store leads to them
+  pub compaction : h .generation < 4294967295 → Compaction h rows keys sorts live base (closedHeader h kept) rows′ keys′ sorts′ live′ base′
+  compaction g =
+      record {
+        past = past-after;
+        words-past = c .words-past;
+        table = λ pending p r. closed-up pending p r g;
+      }

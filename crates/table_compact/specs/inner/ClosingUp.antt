@@ -1,0 +1,113 @@
+-- What the parts of a compaction promise: one live row kept, those of a block, and the stores once all live rows have closed
+-- up. No plain table is spoken of, so that it holds of any stores. Assumes nothing.
+use Prim.Native.Nat.{ℕ, _+_, _*_, _/_, _≤_, _<_}
+use mathlib.Core.Path.{_≡_}
+use mathlib.Core.List.{List, map}
+use lib.ListN.{length, getD}
+use Rattle.lists.specs.Lists.{putAt, keep, rowAt, rowsOf, flat}
+use Rattle.constraints.specs.Constraints.{isLive}
+use Rattle.row_buffer.specs.Ranks.{liveWord}
+use Rattle.sort_entries.specs.Entries.{Entry, entryWords, rebuilt}
+use Rattle.sort_entries.specs.inner.Append.{Room, Append}
+use Rattle.key_index.specs.Slots.{LiveAt}
+use Rattle.key_index.specs.inner.Index.{RowsIn}
+use Rattle.key_renumber.specs.inner.Renumbering.{liveBelow, newRow}
+use Rattle.table.specs.declared.Header.{Header}
+use Rattle.table_compact.specs.declared.Kept.{Kept}
+use Rattle.table.specs.Sound.{keyedOf}
+use Rattle.table.specs.inner.Whole.{wholeOf}
+use Rattle.table.specs.Promises.{PastNeeded}
+
+-- the live ones of a store's first n rows, in order
+unfoldable pub liveStored : ℕ → ℕ → List ℕ → List (List ℕ)
+liveStored w n rows = keep isLive (rowsOf w n rows)
+
+-- the sort entries of rows of cells
+unfoldable pub entriesFor : ℕ → List (List ℕ) → List Entry
+entriesFor sort rows = rebuilt (map (λ row. getD row sort 0) rows)
+
+-- what is left of a table's rows
+abbrev pub closedRows : Header → List ℕ → List (List ℕ)
+closedRows h rows = liveStored (h .columns) (h .rows) rows
+
+-- numbers within their bounds, and rows and sort entries long enough
+pub record Movable (h : Header) (rows sorts : List ℕ) : Type 0 where
+  pub within : RowsIn (wholeOf h) rows
+  pub sort-column : h .sort < h .columns
+  pub sorts-long : 2 * h .capacity ≤ length sorts
+
+-- compaction words too
+pub record Closable (h : Header) (rows sorts live base : List ℕ) : Type 0 where
+  pub movable : Movable h rows sorts
+  pub live-long : (h .capacity + 63) / 64 ≤ length live
+  pub base-long : (h .capacity + 63) / 64 ≤ length base
+
+-- a row can be kept: at or below its place, and with an entry
+pub record Keepable (h : Header) (rows sorts : List ℕ) (row : ℕ) (kept : Kept) : Type 0 where
+  pub within : RowsIn (wholeOf h) rows
+  pub sort-column : h .sort < h .columns
+  pub row-below : row < h .rows
+  pub moves-down : kept .rows ≤ row
+  pub room : Room sorts (kept .entries)
+
+-- it is moved, and recorded in the sort entries, of which there are then r
+pub record RowKept (h : Header) (rows sorts : List ℕ) (row : ℕ) (kept : Kept) (r : ℕ) (rows′ sorts′ : List ℕ) : Type 0 where
+  pub moved : rows′ ≡ putAt rows (kept .rows * h .columns) (rowAt (h .columns) row rows)
+  pub recorded : Append sorts (kept .entries) (getD (rowAt (h .columns) row rows) (h .sort) 0) (kept .rows) r sorts′
+
+-- the live rows before row `row` have closed up, and the others stand as they stood
+pub record Closing (h : Header) (rows₀ sorts₀ rows sorts : List ℕ) (kept : Kept) (row : ℕ) : Type 0 where
+  pub row-in : row ≤ h .rows
+  pub kept-few : kept .rows ≤ row
+  pub entries-few : kept .entries ≤ kept .rows
+  pub rows-same : length rows ≡ length rows₀
+  pub sorts-same : length sorts ≡ length sorts₀
+  pub counted : kept .rows ≡ length (liveStored (h .columns) row rows₀)
+  pub closed : rows ≡ putAt rows₀ 0 (flat (liveStored (h .columns) row rows₀))
+  pub entered : kept .entries ≡ length (entriesFor (h .sort) (liveStored (h .columns) row rows₀))
+  pub recorded : sorts ≡ putAt sorts₀ 0 (entryWords (entriesFor (h .sort) (liveStored (h .columns) row rows₀)))
+
+-- the word that marks the live ones of up to 64 rows
+abbrev pub blockWord : Header → List ℕ → ℕ → ℕ → ℕ
+blockWord h rows first count = liveWord isLive (rowsOf (h .columns) (h .rows) rows) first count
+
+-- the rows before these have closed up, in some stores, and a word marks the live ones of these
+pub record Block (h : Header) (rows sorts : List ℕ) (first word : ℕ) (kept : Kept) : Type 0 where
+  pub rows₀ : List ℕ
+  pub sorts₀ : List ℕ
+  pub count : ℕ
+  pub movable : Movable h rows₀ sorts₀
+  pub few : count ≤ 64
+  pub inside : first + count ≤ h .rows
+  pub marked : word ≡ blockWord h rows₀ first count
+  pub closing : Closing h rows₀ sorts₀ rows sorts kept first
+
+-- and then these have too
+pub record BlockKept (h : Header) (rows sorts : List ℕ) (first word : ℕ) (kept r : Kept) (rows′ sorts′ : List ℕ) : Type 0 where
+  pub on : (b : Block h rows sorts first word kept) → Closing h (b .rows₀) (b .sorts₀) rows′ sorts′ r (first + b .count)
+
+-- the live rows have closed up, and the words tell their new numbers
+pub record Closed (h : Header) (rows sorts live base : List ℕ) (kept : Kept) (rows′ sorts′ live′ base′ : List ℕ) : Type 0 where
+  pub rows-counted : kept .rows ≡ length (closedRows h rows)
+  pub rows-after : rows′ ≡ putAt rows 0 (flat (closedRows h rows))
+  pub entries-counted : kept .entries ≡ length (entriesFor (h .sort) (closedRows h rows))
+  pub sorts-after : sorts′ ≡ putAt sorts 0 (entryWords (entriesFor (h .sort) (closedRows h rows)))
+  pub numbered : (i : ℕ) → LiveAt (keyedOf h) rows i → newRow live′ base′ i ≡ liveBelow (keyedOf h) rows i
+  pub words-past : PastNeeded (h .capacity) live live′ × PastNeeded (h .capacity) base base′
+
+-- the header that goes with them
+abbrev pub closedHeader : Header → Kept → Header
+closedHeader h kept =
+    record {
+      columns = h .columns;
+      keys = h .keys;
+      sort = h .sort;
+      rule = h .rule;
+      capacity = h .capacity;
+      rows = kept .rows;
+      dead = 0;
+      entries = kept .entries;
+      pending = h .pending;
+      generation = h .generation + 1;
+      largest = h .largest;
+    }

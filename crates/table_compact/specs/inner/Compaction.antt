@@ -1,0 +1,42 @@
+-- What a compaction promises of a table that shows a plain table, over what it is lent. Assumes nothing.
+use Prim.Native.Nat.{ℕ, _+_, _*_, _/_, _≤_, _<_}
+use mathlib.Core.Path.{_≡_}
+use mathlib.Core.List.{List, []}
+use lib.ListN.{length}
+use Rattle.lists.specs.inner.Searching.{mapFront}
+use Rattle.key_index.specs.Slots.{slots}
+use Rattle.key_index.specs.inner.Index.{Fits}
+use Rattle.key_rebuild.specs.inner.Growth.{Rebuilt}
+use Rattle.key_renumber.specs.inner.Renumbering.{renumbered}
+use Rattle.plain_table.specs.Plain.{Plain, compacted}
+use Rattle.table.specs.declared.Header.{Header}
+use Rattle.table.specs.Stores.{headerOf, rowStore, sortStore}
+use Rattle.table.specs.Sound.{keyedOf}
+use Rattle.table.specs.inner.Whole.{wholeOf}
+use Rattle.table.specs.Promises.{stores, Represents, SlotsPast, PastNeeded}
+
+-- numbers within their bounds, and stores and compaction words long enough
+pub record Lendable (h : Header) (rows keys sorts live base : List ℕ) : Type 0 where
+  pub fits : Fits (wholeOf h) rows keys
+  pub sort-column : h .sort < h .columns
+  pub sorts-long : 2 * h .capacity ≤ length sorts
+  pub live-long : (h .capacity + 63) / 64 ≤ length live
+  pub base-long : (h .capacity + 63) / 64 ≤ length base
+
+-- The key store under another header: the words have their rows' new numbers, or where the room is another, it leads to the rows
+-- as they are now.
+pub record Leading (h h′ : Header) (rows′ keys live base keys′ : List ℕ) : Type 0 where
+  pub numbers : keyedOf h′ .room ≡ keyedOf h .room → keys′ ≡ mapFront (renumbered (keyedOf h) live base) (slots (keyedOf h)) keys
+  pub anew : (keyedOf h′ .room ≡ keyedOf h .room → ⊥) → Rebuilt (keyedOf h′) rows′ keys keys′
+
+pub record ClosedUp (h : Header) (rows keys sorts : List ℕ) (h′ : Header) (rows′ keys′ sorts′ pending : List ℕ) (p : Plain) : Type 0 where
+  pub header : h′ ≡ headerOf (compacted p)
+  pub rows-after : rows′ ≡ rowStore (compacted p) [] rows
+  pub sorts-after : sorts′ ≡ sortStore (compacted p) sorts
+  pub represents : Represents (compacted p) (stores h′ rows′ keys′ sorts′ pending)
+
+pub record Compaction (h : Header) (rows keys sorts live base : List ℕ) (h′ : Header) (rows′ keys′ sorts′ live′ base′ : List ℕ) : Type 0 where
+  pub past : SlotsPast (h .capacity) keys keys′
+  pub words-past : PastNeeded (h .capacity) live live′ × PastNeeded (h .capacity) base base′
+  pub table : (pending : List ℕ) (p : Plain) → Represents p (stores h rows keys sorts pending)
+      → ClosedUp h rows keys sorts h′ rows′ keys′ sorts′ pending p

@@ -1,0 +1,153 @@
+// Compaction: `rehash_impl` of table/mod.rs. One pass moves the live rows down, marks them in the compaction words and rebuilds
+// the sort entries. Another gives the key store the new row numbers, over the slots and without hashing; where the rows left take
+// less room, the key store is rebuilt.
+ghost use Prim.Native.Nat.{_<_, _≤_};
+ghost use lib.ListN.{length};
+ghost use Rattle.key_index.specs.Slots.{slots};
+ghost use Rattle.key_index.specs.inner.Index.{Fits};
+ghost use Rattle.key_renumber.specs.inner.Renumbering.{Ranked};
+ghost use Rattle.table.specs.Sound.{keyedOf};
+ghost use Rattle.table.specs.Promises.{body, compactionWords, Compacting};
+ghost use Rattle.table_compact.specs.inner.Compaction.{Lendable, Leading, Compaction};
+ghost use Rattle.table_compact.specs.inner.ClosingUp.{Keepable, RowKept, Block, BlockKept, Closable, Closed};
+use table::Header;
+use table::Lent;
+use table::TableAnswer;
+use table::keyed;
+use table::refusing::compact_refusal;
+
+// How many rows and sort entries a compaction has kept so far.
+pub struct Kept {
+    pub rows: u32,
+    pub entries: u32,
+}
+
+// A live row is moved down and recorded in the sort entries. Answers their number.
+fn keep_row(h: Header, rows: &mut [u32], sorts: &mut [u32], row: u32, kept: Kept) -> u32
+    requires { ⌜ Keepable h (now rows) (now sorts) row kept ⌝ }
+    ensures { λ r. ⌜ RowKept h (now (rows .entry)) (now (sorts .entry)) row kept r (now (rows .exit)) (now (sorts .exit)) ⌝ }
+{
+    let to = (kept.rows * h.columns) as usize;
+    let from = (row * h.columns) as usize;
+    let width = h.columns as usize;
+    row_buffer::move_down(rows, to, from, width);
+    let cell = to + h.sort as usize;
+    sort_entries::append_entry(sorts, kept.entries, rows[cell], kept.rows)
+}
+
+// The live rows that a word marks close up in order.
+fn keep_block(
+    h: Header,
+    rows: &mut [u32],
+    sorts: &mut [u32],
+    first: u32,
+    live: u64,
+    before: Kept,
+) -> Kept
+    requires { ⌜ Block h (now rows) (now sorts) first live before ⌝ }
+    ensures { λ r. ⌜ BlockKept h (now (rows .entry)) (now (sorts .entry)) first live before r (now (rows .exit)) (now (sorts .exit)) ⌝ }
+{
+    let mut kept = before;
+    let mut word = live;
+    while word != 0 {
+        let row = first + u64::trailing_zeros(word);
+        word = word & (word - 1);
+        let entries = keep_row(h, rows, sorts, row, kept);
+        kept.entries = entries;
+        kept.rows += 1;
+    }
+    kept
+}
+
+// The live rows close up in order, 64 at a time: their word is made first, with the number of the next live row beside it.
+fn close_up(
+    h: Header,
+    rows: &mut [u32],
+    sorts: &mut [u32],
+    live: &mut [u64],
+    base: &mut [u32],
+) -> Kept
+    requires { ⌜ Closable h (now rows) (now sorts) (now live) (now base) ⌝ }
+    ensures { λ r. ⌜ Closed h (now (rows .entry)) (now (sorts .entry)) (now (live .entry)) (now (base .entry)) r (now (rows .exit)) (now (sorts .exit)) (now (live .exit)) (now (base .exit)) ⌝ }
+{
+    let mut kept = Kept {
+        rows: 0,
+        entries: 0,
+    };
+    let mut next: u32 = 0;
+    while next < h.rows {
+        let first = next;
+        let count = marks::block(h.rows - first);
+        next += count;
+        let from = (first * h.columns) as usize;
+        let word = marks::marks_other(rows, from, h.columns as usize, count, cells::STALE);
+        let at = (first / 64) as usize;
+        live[at] = word;
+        base[at] = kept.rows;
+        kept = keep_block(h, rows, sorts, first, word, kept);
+    }
+    kept
+}
+
+// The key store leads to the rows that are left, under another header: by their new numbers in the same slots, or rebuilt where
+// they take less room.
+fn lead(h: Header, n: Header, rows: &[u32], keys: &mut [u32], live: &[u64], base: &[u32])
+    requires { ⌜ (Ranked (keyedOf h) (now live) (now base)) × (slots (keyedOf h) ≤ length (now keys)) × (Fits (keyedOf n) (now rows) (now keys)) ⌝ }
+    ensures { λ _. ⌜ Leading h n (now (rows .entry)) (now (keys .entry)) (now (live .entry)) (now (base .entry)) (now (keys .exit)) ⌝ }
+{
+    let t = keyed(h);
+    let after = keyed(n);
+    if after.room != t.room {
+        key_rebuild::rebuild(after, rows, keys);
+        return;
+    }
+    key_renumber::renumber(t, keys, live, base);
+}
+
+// Compacts a table whose header and stores were tested.
+pub fn compact_rows(
+    h: Header,
+    rows: &mut [u32],
+    keys: &mut [u32],
+    sorts: &mut [u32],
+    live: &mut [u64],
+    base: &mut [u32],
+) -> Header
+    requires { ⌜ Lendable h (now rows) (now keys) (now sorts) (now live) (now base) × (h .generation < 4294967295) ⌝ }
+    ensures { λ r. ⌜ Compaction h (now (rows .entry)) (now (keys .entry)) (now (sorts .entry)) (now (live .entry)) (now (base .entry)) r (now (rows .exit)) (now (keys .exit)) (now (sorts .exit)) (now (live .exit)) (now (base .exit)) ⌝ }
+{
+    let kept = close_up(h, rows, sorts, live, base);
+    let mut n = h;
+    n.rows = kept.rows;
+    n.dead = 0;
+    n.entries = kept.entries;
+    n.generation = h.generation + 1;
+    lead(h, n, rows, keys, live, base);
+    n
+}
+
+// Compacts, with dead rows or without: `rehash`.
+pub fn compact(
+    h: Header,
+    rows: &mut [u32],
+    keys: &mut [u32],
+    sorts: &mut [u32],
+    live: &mut [u64],
+    base: &mut [u32],
+) -> TableAnswer
+    ensures { λ r. ⌜ Compacting h (body (now (rows .entry)) (now (keys .entry)) (now (sorts .entry))) (compactionWords (now (live .entry)) (now (base .entry))) r (body (now (rows .exit)) (now (keys .exit)) (now (sorts .exit))) (compactionWords (now (live .exit)) (now (base .exit))) ⌝ }
+{
+    let l = Lent {
+        rows: rows.len(),
+        keys: keys.len(),
+        sorts: sorts.len(),
+        pending: 0,
+        live: live.len(),
+        base: base.len(),
+    };
+    let refusal = compact_refusal(h, l);
+    if refusal != 0 {
+        return TableAnswer::Refused(refusal);
+    }
+    TableAnswer::Table(compact_rows(h, rows, keys, sorts, live, base))
+}

@@ -1,0 +1,74 @@
+-- `table_stage::stage_insert` meets its contract. Assumes nothing.
+use Prim.Native.Nat.{ℕ}
+use mathlib.Core.Path.{sym, ap, _∙_}
+use mathlib.Core.List.{_∷_}
+use native.Mathlib.Omega.{arith}
+use lib.ListN.{length}
+use lib.Seq.{length-take-le}
+use Rattle.lists.specs.Lists.{putAt}
+use Rattle.plain_table.specs.Staged.{insert, wordsOf}
+use Rattle.table.specs.Stores.{recordWords}
+use Rattle.table_stage.specs.Laws.Staging.{insert-ladder, Free, ladder-free, staging-refused, staging-written}
+use borrow.Author.Needs.{needs}
+use Rattle.table_stage.proofs.stage_insert.Statement.{statement}
+use Rattle.table_stage.proofs.stage_insert.Tie as tie
+
+-- what holds once nothing is turned away
+free : (c : tie.Else1) → let a = c .before .before .before .before .args in Free (a .h) (length (a .pending .now)) (length (a .cells .now)) (a .h .columns) 2
+free c = ladder-free _ _ _ _ _ _ (sym (c .before .stage-refusal .ensures) ∙ c .if1 .left)
+
+stage-refusal-requires : tie.Need-stage-refusal-requires
+stage-refusal-requires c κs = search needs
+
+returns : tie.Need-returns
+returns c =
+    let a = c .before .before .before .before .args in
+    staging-refused (a .h) (a .pending .now) (insert (a .cells .now)) _ (c .before .stage-refusal .ensures ∙ insert-ladder _ _ _) (c .if1 .taken)
+
+cast-compact-hash : tie.Need-cast-compact-hash
+cast-compact-hash c = search needs
+
+slice-aggregate-compact-hash : tie.Need-slice-aggregate-compact-hash
+slice-aggregate-compact-hash c = sym (length-take-le _ _ (omega (arith, free (c .before .before))))
+
+compact-hash-requires : tie.Need-compact-hash-requires
+compact-hash-requires c κs = search needs
+
+cast-write-record : tie.Need-cast-write-record
+cast-write-record c = search needs
+
+write-record-requires : tie.Need-write-record-requires
+write-record-requires c κs = omega (arith, free (c .before .before .before .before .before))
+
+add-n : tie.Need-add-n
+add-n c = omega (arith, free (c .before .before .before .before .before .before .before .before .before))
+
+add-n-2 : tie.Need-add-n-2
+add-n-2 c = omega (arith, free (c .before .before .before .before .before .before .before .before .before .before))
+
+same-length : tie.Need-same-length
+same-length c = search needs
+
+returns-2 : tie.Need-returns-2
+unfolding recordWords wordsOf
+returns-2 c =
+    let e = c .before .before .before .before .before .before .before .before .before .before in
+    let a = e .before .before .before .before .args in
+    staging-written (a .h) (a .pending .now) (insert (a .cells .now)) _ (sym (insert-ladder _ _ _) ∙ sym (e .before .stage-refusal .ensures) ∙ e .if1 .left)
+    (c .before .before .before .before .write-record .ensures ∙ ap (λ (hash : ℕ). putAt (a .pending .now) (a .h .pending) (0 ∷ hash ∷ a .cells .now)) (c .before .before .before .before .before .before .before .compact-hash .ensures))
+
+pub stage-insert-spec : {M : Type 1} → statement M
+stage-insert-spec =
+    tie.close
+    (tie.spec
+    stage-refusal-requires
+    returns
+    cast-compact-hash
+    slice-aggregate-compact-hash
+    compact-hash-requires
+    cast-write-record
+    write-record-requires
+    add-n
+    add-n-2
+    same-length
+    returns-2)

@@ -1,0 +1,34 @@
+-- `table_stage::write_row_record` meets its contract: the key behind the head. Assumes nothing.
+use Prim.Native.Nat.{ℕ, _+_}
+use mathlib.Core.Path.{ap, _∙_}
+use mathlib.Core.List.{List, [], _∷_}
+use native.Mathlib.Omega.{arith}
+use Rattle.lists.specs.Lists.{putAt}
+use Rattle.lists.specs.Laws.Parts.{putAt-then}
+use borrow.Author.Needs.{needs}
+use Rattle.table_stage.proofs.write_row_record.Statement.{statement}
+use Rattle.table_stage.proofs.write_row_record.Tie as tie
+
+write-row-head-requires : tie.Need-write-row-head-requires
+write-row-head-requires c κs = search needs
+
+add-write-row : tie.Need-add-write-row
+add-write-row c = search needs
+
+write-row-requires : tie.Need-write-row-requires
+write-row-requires c κs = search needs
+
+same-length : tie.Need-same-length
+same-length c = search needs
+
+returns : tie.Need-returns
+returns c =
+    let d = c .before .before .before .before .before .before in
+    let a = d .before .before .before .before .args in
+    c .before .before .write-row .ensures
+    ∙ ap (λ (l : List ℕ). putAt l (a .at + 3) (a .key .now)) (d .write-row-head .ensures)
+    ∙ putAt-then (a .pending .now) (2 ∷ a .hash ∷ a .row ∷ []) (a .key .now) (a .at) (omega arith)
+
+pub write-row-record-spec : {M : Type 1} → statement M
+write-row-record-spec =
+    tie.close (tie.spec write-row-head-requires add-write-row write-row-requires same-length returns)

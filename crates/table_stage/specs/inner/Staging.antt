@@ -1,0 +1,19 @@
+-- The tests of *Stage* over a record's numbers alone: one ladder for its three kinds. Assumes nothing.
+use Prim.Native.Nat.{ℕ, _+_}
+use mathlib.Core.Bool.{Bool, not}
+use mathlib.Core.List.{[], _∷_}
+use lib.Dec.{eqb}
+use Rattle.refusals.specs.Refusals.{rung, first}
+use Rattle.plain_table.specs.Refusing.{overfull}
+use Rattle.table.specs.declared.Header.{Header}
+use Rattle.table.specs.Refusing.{pendingOutside}
+
+-- the ladder, of a record of so many cells where `width` are asked for, with `more` words before them
+unfoldable pub ladder : Header → ℕ → ℕ → ℕ → Bool → ℕ → ℕ
+ladder h pending cells width gone more =
+    first
+    (rung (pendingOutside h pending) 1
+    ∷ rung (not (eqb cells width)) 3
+    ∷ rung gone 5
+    ∷ rung (overfull (h .pending) pending (width + more)) 7
+    ∷ [])

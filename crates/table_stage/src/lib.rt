@@ -1,0 +1,130 @@
+// Records staged for the next merge: an insert, a removal by key, a removal by row. Each is written behind the others in the
+// pending store, with the compact hash of its key, as `Buffer` of table/mod.rs does.
+ghost use mathlib.Core.Path.{_≡_};
+ghost use Prim.Native.Nat.{_+_, _≤_};
+ghost use mathlib.Core.List.{[], _∷_};
+ghost use lib.ListN.{length};
+ghost use Rattle.lists.specs.Lists.{putAt};
+ghost use Rattle.plain_table.specs.Staged.{insert, removeKey, removeRow};
+ghost use Rattle.plain_table.specs.Refusing.{overfull};
+ghost use Rattle.table_stage.specs.inner.Staging.{ladder};
+ghost use Rattle.table.specs.Promises.{Staging};
+use table::Header;
+use table::INSERT;
+use table::REMOVE_KEY;
+use table::REMOVE_ROW;
+use table::TableAnswer;
+use table::refusing::is_pending_outside;
+
+// Test 7: the words of a record are not free, or the number in use would leave a u32. The sum itself does not overflow.
+pub fn is_overfull(used: u32, pending: usize, width: u32, more: u32) -> bool
+    ensures { λ r. ⌜ r ≡ overfull used pending (width + more) ⌝ }
+{
+    let after = used as usize + (width as usize + more as usize);
+    if pending < after {
+        return true;
+    }
+    0xffff_ffff < after
+}
+
+// *Stage*, of a record of so many cells where `width` are asked for, with `more` words before them; `gone` if it names a row
+// that is not there.
+fn stage_refusal(h: Header, pending: usize, cells: usize, width: u32, gone: bool, more: u32) -> u32
+    ensures { λ r. ⌜ r ≡ ladder h pending cells width gone more ⌝ }
+{
+    if is_pending_outside(h, pending) {
+        return 1;
+    }
+    if cells != width as usize {
+        return 3;
+    }
+    if gone {
+        return 5;
+    }
+    if is_overfull(h.pending, pending, width, more) {
+        return 7;
+    }
+    0
+}
+
+// The words of a record before its cells.
+fn write_head(pending: &mut [u32], at: usize, kind: u32, hash: u32)
+    requires { ⌜ at + 2 ≤ length (now pending) ⌝ }
+    ensures { λ _. ⌜ now (pending .exit) ≡ putAt (now (pending .entry)) at (kind ∷ hash ∷ []) ⌝ }
+{
+    pending[at] = kind;
+    pending[at + 1] = hash;
+}
+
+// Those of a removal by row.
+fn write_row_head(pending: &mut [u32], at: usize, hash: u32, row: u32)
+    requires { ⌜ at + 3 ≤ length (now pending) ⌝ }
+    ensures { λ _. ⌜ now (pending .exit) ≡ putAt (now (pending .entry)) at (2 ∷ hash ∷ row ∷ []) ⌝ }
+{
+    pending[at] = REMOVE_ROW;
+    pending[at + 1] = hash;
+    pending[at + 2] = row;
+}
+
+// An insert or a removal by key.
+pub fn write_record(pending: &mut [u32], at: usize, kind: u32, hash: u32, cells: &[u32])
+    requires { ⌜ at + (length (now cells) + 2) ≤ length (now pending) ⌝ }
+    ensures { λ _. ⌜ now (pending .exit) ≡ putAt (now (pending .entry)) at (kind ∷ hash ∷ now (cells .entry)) ⌝ }
+{
+    write_head(pending, at, kind, hash);
+    row_buffer::write_row(pending, at + 2, cells);
+}
+
+// A removal by row.
+pub fn write_row_record(pending: &mut [u32], at: usize, hash: u32, row: u32, key: &[u32])
+    requires { ⌜ at + (length (now key) + 3) ≤ length (now pending) ⌝ }
+    ensures { λ _. ⌜ now (pending .exit) ≡ putAt (now (pending .entry)) at (2 ∷ hash ∷ row ∷ now (key .entry)) ⌝ }
+{
+    write_row_head(pending, at, hash, row);
+    row_buffer::write_row(pending, at + 3, key);
+}
+
+// The row is taken as it is; one with a dead first cell is skipped by the merge.
+pub fn stage_insert(h: Header, pending: &mut [u32], cells: &[u32]) -> TableAnswer
+    ensures { λ r. ⌜ Staging h (now (pending .entry)) (insert (now (cells .entry))) r (now (pending .exit)) ⌝ }
+{
+    let refusal = stage_refusal(h, pending.len(), cells.len(), h.columns, false, 2);
+    if refusal != 0 {
+        return TableAnswer::Refused(refusal);
+    }
+    let hash = cells::compact_hash(&cells[..h.keys as usize]);
+    write_record(pending, h.pending as usize, INSERT, hash, cells);
+    let mut n = h;
+    n.pending = h.pending + (h.columns + 2);
+    TableAnswer::Table(n)
+}
+
+// Of the live row of a key, if the merge finds one.
+pub fn stage_remove(h: Header, pending: &mut [u32], key: &[u32]) -> TableAnswer
+    ensures { λ r. ⌜ Staging h (now (pending .entry)) (removeKey (now (key .entry))) r (now (pending .exit)) ⌝ }
+{
+    let refusal = stage_refusal(h, pending.len(), key.len(), h.keys, false, 2);
+    if refusal != 0 {
+        return TableAnswer::Refused(refusal);
+    }
+    let hash = cells::compact_hash(key);
+    write_record(pending, h.pending as usize, REMOVE_KEY, hash, key);
+    let mut n = h;
+    n.pending = h.pending + (h.keys + 2);
+    TableAnswer::Table(n)
+}
+
+// Of a row, if the merge finds it live and of that key.
+pub fn stage_remove_row(h: Header, pending: &mut [u32], row: u32, key: &[u32]) -> TableAnswer
+    ensures { λ r. ⌜ Staging h (now (pending .entry)) (removeRow row (now (key .entry))) r (now (pending .exit)) ⌝ }
+{
+    let refusal = stage_refusal(h, pending.len(), key.len(), h.keys, h.rows <= row, 3);
+    if refusal != 0 {
+        return TableAnswer::Refused(refusal);
+    }
+    let hash = cells::compact_hash(key);
+    write_row_record(pending, h.pending as usize, hash, row, key);
+    let mut n = h;
+    n.pending = h.pending + (h.keys + 3);
+    TableAnswer::Table(n)
+}
