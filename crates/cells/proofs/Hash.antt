@@ -1,4 +1,4 @@
--- The turns of `key_hash`. Assumes nothing.
+-- The loop iterations of `key_hash`. Assumes nothing.
 use Prim.Native.Nat.{ℕ, _+_, _*_, _^_, _≤_, _<_}
 use mathlib.Core.Path.{_≡_}
 use mathlib.Core.List.{List, foldl}

@@ -17,17 +17,17 @@ compact full = full / 2 ^ 57 * 2 ^ 25 + full % 2 ^ 25
 abbrev pub probed : ℕ → ℕ
 probed hash = hash + hash / 2 ^ 25 * 2 ^ 57
 
--- One cell more. The hash so far, the cell and an odd constant near the golden section of 2 ^ 32 are added; the sum is
--- multiplied by itself with its halves exchanged, and the product's upper part, one bit wider than its lower half, is added
--- to that half. A product with itself tends to spread keys at even distances, which a product with a constant does not; the
--- odd bit tends to keep multiples of a divisor of 2 ^ 32 - 1 apart.
+-- Adds one cell to the hash. The hash so far, the cell and an odd constant near the golden section of 2 ^ 32 are added. The sum is
+-- multiplied by itself with its halves exchanged. The product's upper part, one bit wider than its lower half, is added to the
+-- lower half. A product of a number with itself tends to spread keys at even distances; a product with a constant does not. The
+-- extra bit tends to keep multiples of a divisor of 2 ^ 32 - 1 apart.
 unfoldable pub mixed : ℕ → ℕ → ℕ
 mixed hash cell =
     let sum = (hash + cell + 2654435761) % 2 ^ 32 in
     let product = sum * (sum % 2 ^ 16 * 2 ^ 16 + sum / 2 ^ 16) in
     (product / 2 ^ 31 + product % 2 ^ 32) % 2 ^ 32
 
--- "any hash of the key cells alone will do": ours is a number of 32 bits, in both halves of the 64, so that the compact
--- hash keeps all of it
+-- "any hash of the key cells alone will do": this one has 32 bits, repeated in both halves of the 64, so that the compact hash has
+-- all of them
 unfoldable pub keyHash : List ℕ → ℕ
 keyHash key = foldl mixed 0 key * (2 ^ 32 + 1)

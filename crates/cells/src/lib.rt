@@ -3,7 +3,7 @@
 ghost use mathlib.Core.Path.{_≡_};
 ghost use Rattle.cells.specs.Cells.{isDead, compact, probed, mixed, keyHash};
 
-// The dead mark: a row whose first cell is this is dead. In any other column it is an ordinary number.
+// The dead mark. A row whose first cell is this number is dead. In any other column it is an ordinary number.
 pub const STALE: u32 = 0xffff_ffff;
 
 pub fn is_stale(first: u32) -> bool
@@ -12,7 +12,7 @@ pub fn is_stale(first: u32) -> bool
     first == STALE
 }
 
-// The compact hash has `H2_BITS` of the hash's top bits above its low ones.
+// The compact hash has the top `H2_BITS` bits of the hash above its low bits.
 const H2_BITS: u32 = 7;
 
 const H2_MASK: u64 = 0x7f;
@@ -41,7 +41,7 @@ pub fn probe(hash: u32) -> u64
     low | (h2 << H2_SHIFT)
 }
 
-// The hash so far with one cell more.
+// Adds one cell to the hash.
 fn mix(hash: u32, cell: u32) -> u32
     ensures { λ r. ⌜ r ≡ mixed hash cell ⌝ }
 {

@@ -1,4 +1,4 @@
--- The turns of `read_conditions`. Assumes nothing.
+-- The loop iterations of `read_conditions`. Assumes nothing.
 use Prim.Native.Nat.{ℕ, suc, _+_, _≤_, _<_}
 use mathlib.Core.Path.{_≡_, sym, _∙_, ap}
 use mathlib.Core.List.{List, [], _∷_, _++_}

@@ -1,11 +1,11 @@
-// Conditions in words, three for each, read.
+// Decodes conditions from words, three for each.
 ghost use Prim.Native.Nat.{_+_, _*_, _≤_};
 ghost use mathlib.Core.Path.{_≡_};
 ghost use lib.ListN.{length, take};
 ghost use Rattle.condition_words.specs.Conditions.{conditionIn, conditionsIn};
 use constraints::Constraint;
 
-// The condition of this number.
+// Decodes the condition with number `i`.
 pub fn read_condition(words: &[u32], i: usize) -> Constraint
     requires { ⌜ i * 3 + 3 ≤ length (now words) ⌝ }
     ensures { λ r. ⌜ r ≡ conditionIn (now (words .entry)) i ⌝ }
@@ -18,7 +18,7 @@ pub fn read_condition(words: &[u32], i: usize) -> Constraint
     }
 }
 
-// So many conditions, and behind them what is of no account.
+// Decodes `count` conditions; the remaining entries are unspecified.
 pub fn read_conditions(words: &[u32], count: usize) -> [Constraint; 16]
     requires { ⌜ (count ≤ 16) × (count * 3 ≤ length (now words)) ⌝ }
     ensures { λ r. ⌜ take count r ≡ conditionsIn count (now (words .entry)) ⌝ }

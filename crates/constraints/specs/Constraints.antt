@@ -8,7 +8,7 @@ use Rattle.lists.specs.Lists.{every}
 use Rattle.cells.specs.Cells.{isDead}
 use Rattle.constraints.specs.declared.Constraint.{Constraint}
 
--- not "kind above 5 or a column that does not exist"; kind 0 names two columns
+-- not "kind above 5 or a column that does not exist". Kind 0 names two columns.
 unfoldable pub known : ℕ → Constraint → Bool
 known columns c =
     leb (c .kind) 5 && ltb (c .column) columns && (not (eqb (c .kind) 0) || ltb (c .value) columns)

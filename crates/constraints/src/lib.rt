@@ -1,5 +1,5 @@
-// Conditions: `Constraint` of table_spec.rs. Each contract cites its definition in specs/Constraints.antt; a column that
-// a row does not have reads as 0, there as here.
+// Conditions: `Constraint` of table_spec.rs. Each contract cites its definition in specs/Constraints.antt. A column that a row does
+// not have reads as 0, in the code and in the definitions.
 ghost use mathlib.Core.Path.{_≡_};
 ghost use mathlib.Core.Bool.{cond};
 ghost use mathlib.Core.List.{_∷_, []};
@@ -7,8 +7,8 @@ ghost use lib.Dec.{eqb};
 ghost use lib.ListN.{getD};
 ghost use Rattle.constraints.specs.Constraints as rules;
 
-// Kind 0: two columns are equal, `column` and `value`. Kinds 1 to 5: the cell of `column` is equal to, less than, greater
-// than, at most or at least `value`, unsigned. Lent lists of them come from C too.
+// Kind 0: two columns are equal, `column` and `value`. Kinds 1 to 5: the cell of `column` is equal to, less than, greater than, at
+// most or at least `value`, unsigned. C callers pass arrays of this struct.
 #[repr(C)]
 pub struct Constraint {
     pub kind: u32,
@@ -16,7 +16,7 @@ pub struct Constraint {
     pub value: u32,
 }
 
-// The cell of a column.
+// The cell of a column, 0 if the row does not have the column.
 fn cell(row: &[u32], column: u32) -> u32
     ensures { λ r. ⌜ r ≡ getD (now (row .entry)) column 0 ⌝ }
 {
@@ -34,8 +34,8 @@ pub fn known(c: Constraint, columns: u32) -> bool
     (c.kind <= 5) & (c.column < columns) & ((c.kind != 0) | (c.value < columns))
 }
 
-// A cell against another, by kind 0, or a value, by the kinds 1 to 5. At most is not greater, and at least not less, so that a
-// walk over rows has one comparison to make for these four, its sides exchanged for two of them.
+// Compares a cell with another cell (kind 0) or with a value (kinds 1 to 5). At most is the negation of greater, and at least that
+// of less. So kinds 2 to 5 share one comparison, with its sides exchanged for two of them.
 fn compares(kind: u32, cell: u32, other: u32) -> bool
     ensures { λ r. ⌜ r ≡ cond (eqb kind 0) (eqb cell other) (rules.compares kind cell other) ⌝ }
 {

@@ -82,7 +82,7 @@ module _ (t : Keyed) (rows : List ℕ) (w at run : ℕ) where
 
 -- ---- the round: the line from a free slot
 
--- a word that is held says its row
+-- a word that is held determines its row
 held-row : (t : Keyed) (rows store : List ℕ) → Fits t rows store → (w row : ℕ) → row < t .rows → w ≡ word (keyAt t rows row) row → w % 2 ^ 17 ≡ row + 1
 unfolding word
 held-row t rows store f w row h e = omega (arith, f .count, f .most)
@@ -91,7 +91,7 @@ line-home : (t : Keyed) (rows : List ℕ) (z w : ℕ) → lineHome t rows z w �
 unfolding lineHome homeOf rowNamed
 line-home t rows z w = refl
 
--- what holds at the loop's head: the places before p are right, and marked
+-- the loop invariant: the positions before p are correct, and their rows are seen
 pub record Walk (t : Keyed) (rows store : List ℕ) (z : ℕ) (seen : List ℕ) (p run taken : ℕ) : Type 0 where
   pub end : p ≤ slots t
   pub front : Front (lineHome t rows z) (Stored t rows) (line (slots t) z store) p
@@ -142,7 +142,7 @@ module _ (t : Keyed) (rows store : List ℕ) (z : ℕ) (f : Fits t rows store) (
           }
 
       module _ (c : 0 < l p) where
-        -- in a sound store each word stands so
+        -- in a sound store this holds for each word
         sound-stands : KeysSound t rows store → Stands t rows (l p) (slotFrom (slots t) z p) (run + 1)
         sound-stands k =
             let u = unroll t (small t rows store f) rows z b store k free in
@@ -173,7 +173,7 @@ module _ (t : Keyed) (rows store : List ℕ) (z : ℕ) (f : Fits t rows store) (
               let i : o .0 ≡ named (l p) = omega arith in
               o .2 ∙ ap (λ (r : ℕ). word (keyAt t rows r) r) i ∙ sym (st .word-is)
 
-          -- a row that was seen stands in two slots
+          -- a row that was seen is in two slots
           seen-twice : (getD seen (named (l p)) 0 ≡ 0 → ⊥) → KeysSound t rows store → ⊥
           seen-twice ne k =
               elim (s .marked (named (l p)) (st .live .0)) [
@@ -231,11 +231,11 @@ module _ (t : Keyed) (rows store : List ℕ) (z : ℕ) (f : Fits t rows store) (
       whole : p ≡ slots t
       whole = omega (arith, s .end)
 
-      -- the word at a place is that of a row
+      -- the word at a position is that of a row
       Has : ℕ → ℕ → Type 0
       Has q r = l q ≡ word (keyAt t rows r) r
 
-      -- a live row that was not seen would leave fewer rows than places
+      -- with a live row that was not seen, there would be fewer rows than taken positions
       all : taken ≡ liveCount t rows → (w : ℕ) → Stored t rows w → (q : ℕ) × (q < slots t) × (l q ≡ w)
       unfolding Has
       all e w m =
@@ -285,7 +285,7 @@ none-free t rows store r f s h = refused t rows store (λ k. let x = free-slot t
 compared : (t : Keyed) (rows store : List ℕ) (a b : ℕ) → (a ≡ b → KeysSound t rows store) → (KeysSound t rows store → a ≡ b) → KeysChecked t rows store (eqb a b)
 compared t rows store a b y n = record { yes = λ e. y (eqb-true a b e); no = λ e k. eqb-false a b e (n k) }
 
--- no row is marked yet
+-- no row is seen yet
 pub round-fits : (t : Keyed) (rows store : List ℕ) (z live n : ℕ) → Fits t rows store → FreeIs (slots t) store z → z < slots t → live ≡ liveCount t rows → t .rows ≤ n
     → RoundFits t rows store z live (replicate n 0)
 round-fits t rows store z live n f s h e k =
@@ -298,7 +298,7 @@ round-fits t rows store z live n f s h e k =
       clear = λ i m. getD-replicate n i 0 0 (omega arith);
     }
 
--- ---- the turns of the round, in the code's words
+-- ---- the loop iterations of `round_holds`, in the terms of the code
 
 module _ (t : Keyed) (rows store : List ℕ) (z live : ℕ) (seen₀ : List ℕ) (r : RoundFits t rows store z live seen₀) where
   pub round-begin : Walk t rows store z seen₀ 1 0 0

@@ -1,6 +1,6 @@
-// The part of the table's soundness check that is about the key store: whether it leads to exactly the live rows. Takes
-// time linear in slots and rows: one pass over the rows, one up to a free slot, and one round from there. Is safe on any
-// store: a word is tested before it is a row.
+// The key store's part of the table's soundness check: whether it leads to exactly the live rows. Takes time linear in slots and
+// rows: one pass over the rows, one up to a free slot, and one round over the slots from there. Safe on any store: a word is
+// validated before it is used as a row number.
 ghost use mathlib.Core.Path.{_≡_};
 ghost use Prim.Native.Nat.{_<_, _≤_};
 ghost use lib.ListN.{length};
@@ -54,8 +54,8 @@ fn free_slot(n: u32, store: &[u32]) -> u32
     n
 }
 
-// Whether the word in slot `at`, the last of `run` taken slots in a row, is that of a live row whose home lies in the run:
-// then no slot from the home to here is free, and none of them has to be looked at again.
+// Whether the word in slot `at` is that of a live row whose home is in the run. `run` is the number of consecutive taken slots that
+// end at `at`. Then no slot from the home to `at` is free, and none of them is read again.
 fn stands(t: Keyed, rows: &[u32], word: u32, at: u32, run: u32) -> bool
     requires { ⌜ RowsIn t (now rows) × (at < slots t) ⌝ }
     ensures { λ r. ⌜ StandsIs t (now (rows .entry)) word at run r ⌝ }
@@ -80,8 +80,8 @@ fn stands(t: Keyed, rows: &[u32], word: u32, at: u32, run: u32) -> bool
     (at + (n - home)) % n < run
 }
 
-// Whether the slots from a free one on, once round, hold the live rows, each once. `seen` has a mark for each row, none of
-// them set yet. Each slot has a row of its own, so that no live row is missed where slots and live rows are equally many.
+// Whether the slots, scanned once round from a free one, have each live row exactly once. `seen` has a flag for each row, all of
+// them clear. Each taken slot has a different row, so no live row is missing if taken slots and live rows are equally many.
 fn round_holds(t: Keyed, rows: &[u32], store: &[u32], free: u32, live: u32, seen: &mut [u8]) -> bool
     requires { ⌜ RoundFits t (now rows) (now store) free live (now seen) ⌝ }
     ensures { λ r. ⌜ KeysChecked t (now (rows .entry)) (now (store .entry)) r ⌝ }

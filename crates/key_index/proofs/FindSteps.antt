@@ -1,5 +1,5 @@
--- The answers of `find` and `look_up`, one law for each way to return: at a free slot, after a full round, and at a slot that
--- leads to the row; and how `look_up` comes to a slot. Assumes nothing.
+-- The answers of `find` and `look_up`, one law for each return path: at a free slot, after a full round, and at a slot that leads
+-- to the row; and how `look_up` reaches a slot. Assumes nothing.
 use Prim.Native.Nat.{ℕ, _+_, _/_, _%_, _^_, _≤_, _<_}
 use mathlib.Core.Path.{_≡_, sym, ap, _∙_}
 use mathlib.Core.List.{List}
@@ -21,7 +21,7 @@ use Rattle.key_index.proofs.WalkSteps.{Walked, begin-past}
 pub record Past (t : Keyed) (rows key : List ℕ) (hash w : ℕ) : Type 0 where
   pub other : (i : ℕ) → Leads t rows key hash w i → ⊥
 
--- a word that leads to a row says which
+-- a word that leads to a row determines it
 pub leads-some : (t : Keyed) (rows key : List ℕ) (hash w row : ℕ) → t .rows ≤ 65536 → Leads t rows key hash w row → 0 < w % 2 ^ 17
 leads-some t rows key hash w row few l = omega (arith, ap (λ (x : ℕ). x % 2 ^ 17) (l .tag), tagged-row hash row (omega (arith, l .below)))
 
@@ -38,7 +38,7 @@ module _ (t : Keyed) (rows store key : List ℕ) (hash : ℕ) (few : t .rows ≤
   stands-leads e i d live k s =
       record { tag = rw (home-spread (slots t) hash key e) (s .there) ∙ sym (word-tagged hash i key e); below = live .0; cells = k }
 
-  -- so no walk passed it
+  -- so no scan passed it
   not-passed : (at passed : ℕ) → Passed at passed → hash ≡ compact (keyHash key) → (i d : ℕ) → LiveAt t rows i → keyAt t rows i ≡ key
       → StandsAt (slots t) store key i d → passed ≤ d
   not-passed at passed w e i d live k s = elim (decLt d passed) [ yes h ↦ absurd (w .each d h .other i (stands-leads e i d live k s)) | no h ↦ omega arith ]
@@ -47,7 +47,7 @@ module _ (t : Keyed) (rows store key : List ℕ) (hash : ℕ) (few : t .rows ≤
   stands sound i live k = rw k at (sound .leads i live)
 
   module _ (at passed : ℕ) (w : Passed at passed) where
-    -- no row is found where none with the key can stand past the slots passed
+    -- no row is found if none with the key can be past the scanned slots
     found-none : (hash ≡ compact (keyHash key) → (i d : ℕ) → passed ≤ d → StandsAt (slots t) store key i d → ⊥) → FoundIs t rows store key hash None
     found-none f =
         record {
@@ -58,7 +58,7 @@ module _ (t : Keyed) (rows store key : List ℕ) (hash : ℕ) (few : t .rows ≤
           at = λ _ _ row slot e. absurd (none-at row slot e);
         }
 
-    -- the walk came to a free slot
+    -- the scan reached a free slot
     pub found-free : getD store at 0 ≡ 0 → FoundIs t rows store key hash None
     found-free z = found-none (λ e i d h s.
         let f : getD store (slotFrom (slots t) (home (slots t) key) passed) 0 ≡ 0 = rw (← home-spread (slots t) hash key e, ← w .here) z in
@@ -67,7 +67,7 @@ module _ (t : Keyed) (rows store key : List ℕ) (hash : ℕ) (few : t .rows ≤
           | no q ↦ s .way passed (omega arith) f
         ])
 
-    -- the walk went all the way round
+    -- the scan made a full round
     pub found-round : slots t ≤ passed → FoundIs t rows store key hash None
     found-round m = found-none (λ e i d h s. omega (arith, s .below))
 

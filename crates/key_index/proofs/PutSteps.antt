@@ -1,4 +1,4 @@
--- The answers of `put`, one law for each way to return, and the turns of `empty`, as one more slot is made free. Assumes
+-- The answers of `put`, one law for each return path, and the loop iterations of `empty`, each of which frees one slot. Assumes
 -- nothing.
 use Prim.Native.Nat.{ℕ, _+_, _*_, _≤_, _<_}
 use mathlib.Core.Path.{_≡_, refl, sym, ap, _∙_}

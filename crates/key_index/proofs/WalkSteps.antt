@@ -1,5 +1,4 @@
--- A walk round the slots, as the loops of `find` and `put` make it: how it begins, and how it goes on by one. Assumes
--- nothing.
+-- The scan of the loops of `find` and `put` round the slots: its start, and one step. Assumes nothing.
 use Prim.Native.Nat.{ℕ, _+_, _≤_, _<_}
 use mathlib.Core.Path.{_≡_, sym, ap, _∙_}
 use mathlib.Core.List.{List}
@@ -22,7 +21,7 @@ module _ (n : ℕ) (store : List ℕ) (P : ℕ → Type 0) (start : ℕ) where
       let k : start < n = omega arith in
       record { here = e ∙ sym (slot-zero n start k); inside = h; most = omega arith; each = λ e k. absurd (omega arith) }
 
-  -- or with slots that lie before the end of the ring
+  -- the start after d slots that are before the end of the ring
   pub begin-past : (at d : ℕ) → at ≡ start → at + d < n → ((e : ℕ) → e < d → P (getD store (at + e) 0)) → Walked n store P start (at + d) d
   begin-past at d e h each =
       record {

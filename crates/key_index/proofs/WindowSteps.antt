@@ -1,4 +1,4 @@
--- Looks at several slots at once: the turns of their loops, and what they tell. Assumes nothing.
+-- Tests of several slots at once: their loop iterations, and what their results imply. Assumes nothing.
 use Prim.Native.Nat.{ℕ, zero, suc, _+_, _-_, _/_, _%_, _^_, _≤_, _<_}
 use mathlib.Core.Path.{_≡_, refl, sym, ap, _∙_}
 use mathlib.Core.Logic.{inl, inr}
@@ -41,7 +41,7 @@ module _ (test : ℕ → Bool) (store : List ℕ) (from : ℕ) where
         | no q ↦ some-no n (or-no-left _ (test (getD store (from + n) 0)) e) i (omega arith)
       ]
 
--- the turns of `some_free` and `some_bits`
+-- the loop iterations of `some_free` and `some_bits`
 pub record Looked (test : ℕ → Bool) (store : List ℕ) (from : ℕ) (some : Bool) (i : ℕ) : Type 0 where
   pub few : i ≤ 8
   pub so-far : some ≡ someOf test store from i
@@ -82,7 +82,7 @@ module _ (n : ℕ) (store : List ℕ) (home hash : ℕ) where
           let k : home + 1 + (e - 1) ≡ home + e = omega arith in
           eqb-false _ _ (some-no (hasBits (hash % 2 ^ 15)) store (home + 1) 8 none (e - 1) (omega arith)) (ap (λ (k : ℕ). getD store k 0 / 2 ^ 17) k ∙ b)
 
--- ---- the turns of `taken_run` and `bits_ahead`
+-- ---- the loop iterations of `taken_run` and `bits_ahead`
 
 module _ (P : ℕ → Type 0) (store : List ℕ) (start : ℕ) where
   -- of the slots from the i-th on, those before the run's end are passed for the reason P

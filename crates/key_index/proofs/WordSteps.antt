@@ -1,5 +1,5 @@
--- What is read from a slot's word: whether it names a row, where that row lies, and whether it has a key, one law for each
--- way of `names_row` and `is_hit` to return. Assumes nothing.
+-- Decoding a slot's word: whether it has a row's number, the position of that row, and whether the row has a key. One law for each
+-- return path of `names_row` and `is_hit`. Assumes nothing.
 use Prim.Native.Nat.{ℕ, _+_, _-_, _*_, _/_, _%_, _^_, _≤_, _<_}
 use mathlib.Core.Path.{_≡_, sym, ap, _∙_}
 use mathlib.Core.Bool.{Bool, true, false, false≢true}
@@ -21,7 +21,7 @@ pub names-some : (t : Keyed) (w : ℕ) → (w % 2 ^ 17 ≡ 0 → ⊥) → leb (w
 unfolding namesRow
 names-some t w ne = let p : 0 < w % 2 ^ 17 = omega arith in rw (lt-ltb 0 (w % 2 ^ 17) p)
 
--- a word that names a row has its number, from 1 on, and the row lies in its store
+-- a word that names a row has its number plus 1, and the row is inside its store
 pub record Named (t : Keyed) (rows : List ℕ) (w : ℕ) : Type 0 where
   pub some : 0 < w % 2 ^ 17
   pub row : w % 2 ^ 17 - 1 < t .rows
@@ -43,7 +43,7 @@ module _ (t : Keyed) (rows key : List ℕ) (hash w row : ℕ) (few : t .rows ≤
         no = λ _ i l. ne (ap (λ (x : ℕ). x / 2 ^ 17) (l .tag) ∙ tagged-bits hash i (omega (arith, l .below)));
       }
 
-  -- the word says which row it is
+  -- the word determines its row
   the-row : (i : ℕ) → Leads t rows key hash w i → w % 2 ^ 17 ≡ i + 1
   the-row i l = ap (λ (x : ℕ). x % 2 ^ 17) (l .tag) ∙ tagged-row hash i (omega (arith, l .below))
 

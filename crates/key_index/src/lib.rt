@@ -1,7 +1,6 @@
-// The key index: table/sharded_hash_table.rs. Leads from a key to its one live row. The slots in use are a ring, probed one
-// after the other; specs/Slots.antt says how many they are and what they hold. The table has tested header and stores before
-// it calls; what a store holds is not relied on for safety: a slot's row is tested before its cells are read, and every walk
-// ends after one round.
+// The key index: table/sharded_hash_table.rs. Finds the one live row of a key. The slots in use are a ring with linear probing;
+// specs/Slots.antt defines their number and contents. The table checks header and stores before it calls. Safety does not depend on
+// the contents of a store: a row number is validated before its cells are read, and every scan ends after one round.
 ghost use mathlib.Core.Path.{_≡_};
 ghost use Prim.Native.Nat.{ℕ, _+_, _-_, _%_, _^_, _≤_, _<_};
 ghost use mathlib.Core.Bool.{true};
@@ -12,7 +11,7 @@ ghost use Rattle.key_index.specs.inner.Ring.{spread, tagged, namesRow};
 ghost use Rattle.key_index.specs.inner.Index.{Room, RowsIn, Fits, HitIs, FoundIs, PutIs, EmptyIs};
 ghost use Rattle.key_index.specs.inner.Window.{isFree, hasBits, someOf, Ahead, FreeSoon, TakenRun};
 
-// The numbers of a table that its key index goes by. There are twice as many slots in use as it has room for rows.
+// The parameters of a key index. `room` is the number of rows that the slots in use are sized for; there are twice as many slots.
 pub struct Keyed {
     pub columns: u32,
     pub keys: u32,
@@ -20,7 +19,7 @@ pub struct Keyed {
     pub rows: u32,
 }
 
-// What a lookup finds: no row, or a row and its slot.
+// The result of a lookup: no row, or a row and its slot.
 pub enum Found {
     None,
     At(u32, u32),
@@ -31,7 +30,7 @@ pub const ROW_RANGE: u32 = 0x2_0000;
 
 const HASH_RANGE: u32 = 0x8000;
 
-// The room that so many rows are given, whatever the capacity. A large table takes the shortest way.
+// The size class for this many rows, regardless of the capacity. The largest class is tested first.
 fn room_step(rows: u32) -> u32
     ensures { λ r. ⌜ r ≡ roomStep rows ⌝ }
 {
@@ -47,7 +46,7 @@ fn room_step(rows: u32) -> u32
     128
 }
 
-// How many rows the slots in use have room for.
+// The number of rows that the slots in use are sized for. There are two slots for each.
 pub fn room_for(capacity: u32, rows: u32) -> u32
     ensures { λ r. ⌜ r ≡ roomFor capacity rows ⌝ }
 {
@@ -58,7 +57,8 @@ pub fn room_for(capacity: u32, rows: u32) -> u32
     capacity
 }
 
-// The hash spread over the slots: multiplied and divided, so that any number of slots will do without a remainder.
+// The home slot of a hash: the hash is multiplied by the number of slots and divided by 2^32. So any number of slots works without
+// a remainder operation.
 pub fn home_slot(slots: u32, hash: u32) -> u32
     requires { ⌜ 0 < slots ⌝ }
     ensures { λ r. ⌜ r ≡ spread slots hash ⌝ }
@@ -84,7 +84,7 @@ pub fn row_hash(t: Keyed, rows: &[u32], row: u32) -> u32
     cells::compact_hash(&rows[from..to])
 }
 
-// The slot after, going round.
+// The next slot, cyclically.
 pub fn next_slot(slots: u32, at: u32) -> u32
     requires { ⌜ at < slots ⌝ }
     ensures { λ r. ⌜ r ≡ slotFrom slots at 1 ⌝ }
@@ -97,7 +97,7 @@ pub fn next_slot(slots: u32, at: u32) -> u32
     0
 }
 
-// Whether a word names a row of the table. In a sound store each word but 0 does.
+// Whether a word has the number of a row of the table. In a sound store each word but 0 has one.
 pub fn names_row(t: Keyed, word: u32) -> bool
     ensures { λ r. ⌜ r ≡ namesRow t word ⌝ }
 {
@@ -108,8 +108,8 @@ pub fn names_row(t: Keyed, word: u32) -> bool
     number <= t.rows
 }
 
-// Whether a slot's word leads to a row with this key. The 15 bits come first: most other keys are told apart by them, and
-// their rows are not read.
+// Whether a slot's word leads to a row with this key. The 15 hash bits are tested first: they rule out most other keys, whose rows
+// are then not read.
 fn is_hit(t: Keyed, rows: &[u32], key: &[u32], hash: u32, word: u32) -> bool
     requires { ⌜ (RowsIn t (now rows)) × (length (now key) ≡ t .keys) ⌝ }
     ensures { λ r. ⌜ HitIs t (now (rows .entry)) (now (key .entry)) hash word (word % 2 ^ 17 - 1) r ⌝ }
@@ -148,8 +148,8 @@ pub fn find(t: Keyed, rows: &[u32], store: &[u32], key: &[u32], hash: u32) -> Fo
     Found::None
 }
 
-// How many slots are looked at together after a key's home. All of them are, with no return on the way, so that a look compiles
-// to vector code and takes no branch that a processor cannot foresee.
+// The number of slots after a key's home that are tested together. All of them are read, without an early return, so that the test
+// compiles to vector code and has no unpredictable branch.
 const WINDOW: usize = 8;
 
 // Whether one of a window's slots is free.
@@ -180,8 +180,8 @@ fn some_bits(store: &[u32], from: usize, bits: u32) -> bool
     some
 }
 
-// Whether a walk that finds nothing in the home slot comes to a free slot before any other with the hash's bits, as far as
-// the home and the window after it tell. They do not where the window would pass the end of the ring.
+// Whether a probe that fails at the home slot reaches a free slot before any other slot with the hash's bits. Decided from the home
+// and the window after it. False if they do not decide it, or if the window would pass the end of the ring.
 fn is_missing(slots: u32, store: &[u32], home: u32, hash: u32) -> bool
     requires { ⌜ (home < slots) × (slots ≤ length (now store)) ⌝ }
     ensures { λ r. ⌜ (r ≡ true → (d : ℕ) × FreeSoon slots (now (store .entry)) home hash d) ⌝ }
@@ -199,8 +199,8 @@ fn is_missing(slots: u32, store: &[u32], home: u32, hash: u32) -> bool
     store[at] == 0
 }
 
-// How far after the home the next slot with the hash's bits lies, as far as four slots tell. From the last to the first, so that
-// each is a choice without a branch. 0 where they would pass the end of the ring.
+// The distance from the home to the next slot with the hash's bits, if it is one of the next four; otherwise 5. Scans from the last
+// to the first, so that each step is a branch-free select. 0 if the slots would pass the end of the ring.
 fn bits_ahead(slots: u32, store: &[u32], home: u32, hash: u32) -> u32
     requires { ⌜ (home < slots) × (slots ≤ length (now store)) ⌝ }
     ensures { λ r. ⌜ Ahead slots (now (store .entry)) home hash r ⌝ }
@@ -219,9 +219,9 @@ fn bits_ahead(slots: u32, store: &[u32], home: u32, hash: u32) -> u32
     ahead
 }
 
-// What `find` promises, sooner: most rows stand in their key's home slot, most keys that no row has are told by a window, and
-// most other rows stand in the next slot with their hash's bits.
-// It is for one place of a library: the compiler inlines it at one only, being long, and `find` at each.
+// Same contract as `find`, but faster. Most rows are in their key's home slot. A window detects most keys that have no row. Most
+// other rows are in the next slot with their hash's bits. Otherwise falls back to `find`. Call it from one place of a library only:
+// it is long, and the compiler inlines it at one call site only, but `find` at each.
 pub fn look_up(t: Keyed, rows: &[u32], store: &[u32], key: &[u32], hash: u32) -> Found
     requires { ⌜ (Fits t (now rows) (now store)) × (length (now key) ≡ t .keys) ⌝ }
     ensures { λ r. ⌜ FoundIs t (now (rows .entry)) (now (store .entry)) (now (key .entry)) hash r ⌝ }
@@ -245,8 +245,8 @@ pub fn look_up(t: Keyed, rows: &[u32], store: &[u32], key: &[u32], hash: u32) ->
     find(t, rows, store, key, hash)
 }
 
-// How many slots from a slot on are taken, as far as four slots tell that lie before the end of the ring. From the last to the
-// first, so that each is a choice without a branch.
+// The number of consecutive taken slots from `start` on, at most four. 0 if the four slots would pass the end of the ring. Scans
+// from the last to the first, so that each step is a branch-free select.
 fn taken_run(slots: u32, store: &[u32], start: u32) -> u32
     requires { ⌜ (start < slots) × (slots ≤ length (now store)) ⌝ }
     ensures { λ r. ⌜ TakenRun slots (now (store .entry)) start r ⌝ }
@@ -265,7 +265,7 @@ fn taken_run(slots: u32, store: &[u32], start: u32) -> u32
     run
 }
 
-// A new row's slot: the first free one from its key's home on. False, and nothing is written, if there is none.
+// Writes a new row to the first free slot from its key's home on. Returns false, and writes nothing, if there is none.
 pub fn put(t: Keyed, store: &mut [u32], hash: u32, row: u32) -> bool
     requires { ⌜ (Room (t .room) (now store)) × (row < 65536) ⌝ }
     ensures { λ r. ⌜ PutIs (slots t) (now (store .entry)) hash row r (now (store .exit)) ⌝ }
@@ -285,7 +285,7 @@ pub fn put(t: Keyed, store: &mut [u32], hash: u32, row: u32) -> bool
     false
 }
 
-// A known key's slot takes another row's number.
+// Writes another row's number to the slot of a known key.
 pub fn replace(store: &mut [u32], slot: u32, hash: u32, row: u32)
     requires { ⌜ (slot < length (now store)) × (row < 65536) ⌝ }
     ensures { λ _. ⌜ now (store .exit) ≡ set (now (store .entry)) slot (tagged hash row) ⌝ }
@@ -293,7 +293,7 @@ pub fn replace(store: &mut [u32], slot: u32, hash: u32, row: u32)
     store[slot as usize] = slot_word(hash, row);
 }
 
-// Every slot is made free.
+// Frees every slot.
 pub fn empty(room: u32, store: &mut [u32])
     requires { ⌜ Room room (now store) ⌝ }
     ensures { λ _. ⌜ EmptyIs room (now (store .entry)) (now (store .exit)) ⌝ }

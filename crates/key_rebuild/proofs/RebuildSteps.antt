@@ -1,4 +1,4 @@
--- The steps of `put_row`, one law for each way to return, and the turns of `rebuild`. Assumes nothing.
+-- The steps of `put_row`, one law for each return path, and the loop iterations of `rebuild`. Assumes nothing.
 use Prim.Native.Nat.{ℕ, _+_, _*_, _≤_, _<_}
 use mathlib.Core.Path.{_≡_, refl, ap, sym, _∙_}
 use mathlib.Core.Bool.{Bool, true, false, not, false≢true}

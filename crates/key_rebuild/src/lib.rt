@@ -1,11 +1,11 @@
-// The key store built anew over all live rows, in another number of slots: where rows outgrow the slots in use, and where a
-// compaction leaves so few that fewer slots do. Is safe on any rows and store.
+// Rebuilds the key store over all live rows, for another number of slots: when the rows outgrow the slots in use, and when a
+// compaction leaves so few rows that fewer slots suffice. Safe on any rows and store.
 ghost use Prim.Native.Nat.{_<_};
 ghost use Rattle.key_index.specs.inner.Index.{Fits};
 ghost use Rattle.key_rebuild.specs.inner.Growth.{RowPut, Rebuilt};
 use key_index::Keyed;
 
-// A live row gets a slot.
+// Inserts a row if it is live.
 fn put_row(t: Keyed, rows: &[u32], store: &mut [u32], row: u32)
     requires { ⌜ Fits t (now rows) (now store) × (row < t .rows) ⌝ }
     ensures { λ _. ⌜ RowPut t (now (rows .entry)) (now (store .entry)) row (now (store .exit)) ⌝ }
@@ -18,7 +18,7 @@ fn put_row(t: Keyed, rows: &[u32], store: &mut [u32], row: u32)
     key_index::put(t, store, hash, row);
 }
 
-// The slots in use lead to exactly the live rows, whatever they held.
+// Makes the slots in use lead to exactly the live rows, whatever their previous contents.
 pub fn rebuild(t: Keyed, rows: &[u32], store: &mut [u32])
     requires { ⌜ Fits t (now rows) (now store) ⌝ }
     ensures { λ _. ⌜ Rebuilt t (now (rows .entry)) (now (store .entry)) (now (store .exit)) ⌝ }

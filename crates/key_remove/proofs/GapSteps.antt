@@ -1,5 +1,4 @@
--- The steps of `take_out`: distances round the ring, the home of a word's row, and the
--- walk that closes the gap. Assumes nothing.
+-- The steps of `take_out`: distances on the ring, the home of a word's row, and the scan that closes the hole. Assumes nothing.
 use Prim.Native.Nat.{ℕ, _+_, _-_, _%_, _^_, _≤_, _<_}
 use mathlib.Core.Path.{_≡_, refl, sym, ap, _∙_}
 use mathlib.Core.Bool.{true, false, cond}
@@ -45,7 +44,7 @@ pub home-hash : (t : Keyed) (rows : List ℕ) (w hash : ℕ) → hash ≡ compac
 unfolding homeOf rowNamed
 home-hash t rows w hash e = home-spread (slots t) hash (keyAt t rows (w % 2 ^ 17 - 1)) e
 
--- ---- the walk that closes a gap
+-- ---- the scan that closes a hole
 
 -- what holds at the loop's head: what is to come from here is what was to come from the start
 pub record Walk (t : Keyed) (rows store₀ : List ℕ) (slot : ℕ) (store : List ℕ) (hole held gap at left : ℕ) : Type 0 where
@@ -100,7 +99,7 @@ module _ (t : Keyed) (rows store₀ : List ℕ) (slot : ℕ) (store : List ℕ) 
           moved-holds (yes q) = ap (λ (i : ℕ). getD (set store hole (getD store next 0)) i 0) q ∙ getD-set-same store hole (getD store next 0) 0 (omega (arith, s .hole-in, s .same))
           moved-holds (no q) = getD-set-other store hole next (getD store next 0) 0 q
 
-      -- whichever it is: its home lies `far` slots before it
+      -- in both cases; `far` is the distance from its home to it
       pub turn : (far held′ hole′ gap′ : ℕ) → far ≡ away (slots t) (homeOf t rows (getD store next 0)) next
           → held′ ≡ cond (leb (gap + 1) far) (getD store next 0) held → hole′ ≡ cond (leb (gap + 1) far) next hole → gap′ ≡ cond (leb (gap + 1) far) 0 (gap + 1)
           → Walk t rows store₀ slot (set store hole held′) hole′ held′ gap′ next (left - 1)

@@ -1,6 +1,6 @@
-// Taking a row out of the key store. The gap that its slot would leave is closed: each later word whose way from its home
-// passes the gap moves back into it. So a freed slot is free at once, and no mark of a removed row ever piles up. Safe on any
-// store: a word is tested before it is a row.
+// Removes a row from the key store by backward-shift deletion. Each later word whose path from its home passes the hole moves back
+// into it. So a freed slot is free at once, and there are no tombstones. Safe on any store: a word is validated before it is used
+// as a row number.
 ghost use mathlib.Core.Path.{_≡_};
 ghost use mathlib.Core.Bool.{true, cond};
 ghost use Prim.Native.Nat.{_≤_, _<_};
@@ -14,7 +14,7 @@ use key_index::home_slot;
 use key_index::names_row;
 use key_index::next_slot;
 
-// How many slots `to` lies after `from`, going round.
+// The cyclic distance from slot `from` to slot `to`.
 fn slots_away(n: u32, from: u32, to: u32) -> u32
     requires { ⌜ (from < n) × (to < n) × (n ≤ 131072) ⌝ }
     ensures { λ r. ⌜ r ≡ away n from to ⌝ }
@@ -25,7 +25,7 @@ fn slots_away(n: u32, from: u32, to: u32) -> u32
     to + n - from
 }
 
-// How many slots `at` lies after the home of the row that a word names.
+// The distance from the home of the row in a word to slot `at`.
 fn home_away(t: Keyed, rows: &[u32], word: u32, at: u32) -> u32
     requires { ⌜ (RowsIn t (now rows)) × (namesRow t word ≡ true) × (at < slots t) ⌝ }
     ensures { λ r. ⌜ r ≡ away (slots t) (homeOf t (now (rows .entry)) word) at ⌝ }
@@ -36,7 +36,7 @@ fn home_away(t: Keyed, rows: &[u32], word: u32, at: u32) -> u32
     slots_away(n, home, at)
 }
 
-// One of two numbers, chosen without a branch: which one it is hangs on a hash, and no processor foresees it.
+// Branch-free select. The condition depends on a hash, so a branch would be unpredictable.
 fn either(first: bool, a: u32, b: u32) -> u32
     ensures { λ r. ⌜ r ≡ cond first a b ⌝ }
 {
@@ -46,8 +46,8 @@ fn either(first: bool, a: u32, b: u32) -> u32
     b
 }
 
-// Moves back each word whose way passes the hole, which then lies where that word stood, and gives the last hole. Where a word
-// stays the hole keeps the word that it has.
+// Moves back each word whose path passes the hole; the slot of a moved word is the new hole. Returns the last hole. Where a word
+// does not move, the hole is rewritten with the word that it has.
 fn close_gap(t: Keyed, rows: &[u32], store: &mut [u32], slot: u32) -> u32
     requires { ⌜ (Fits t (now rows) (now store)) × (slot < slots t) ⌝ }
     ensures { λ r. ⌜ Shifted t (now (rows .entry)) (now (store .entry)) slot r (now (store .exit)) ⌝ }
@@ -75,7 +75,7 @@ fn close_gap(t: Keyed, rows: &[u32], store: &mut [u32], slot: u32) -> u32
     hole
 }
 
-// Takes the row in a slot out, which is about to die.
+// Removes the row in a slot. The caller marks the row dead afterwards.
 pub fn take_out(t: Keyed, rows: &[u32], store: &mut [u32], slot: u32)
     requires { ⌜ (Fits t (now rows) (now store)) × (slot < slots t) ⌝ }
     ensures { λ _. ⌜ TakenOut t (now (rows .entry)) (now (store .entry)) slot (now (store .exit)) ⌝ }

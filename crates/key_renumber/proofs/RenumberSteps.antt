@@ -1,4 +1,4 @@
--- The steps of `renumber`: what becomes of a word, and the turns of the loops over the slots. Assumes nothing.
+-- The steps of `renumber`: the new value of a word, and the loop iterations over the slots. Assumes nothing.
 use Prim.Native.Nat.{ℕ, zero, suc, _+_, _-_, _*_, _/_, _%_, _^_, _≤_, _<_, min}
 use mathlib.Core.Path.{_≡_, refl, sym, ap, _∙_}
 use mathlib.Core.Bool.{Bool, true, false}
@@ -40,7 +40,7 @@ module _ (t : Keyed) (w : ℕ) (live base : List ℕ) where
     unfolding renumbered rowNamed newRow
     has-new r h q = rw (e, le-leb (getD base ((w % 2 ^ 17 - 1) / 64) 0) 65536 h, q)
 
-    -- the row has its marks and its first number
+    -- the row's bitmap word and its base are inside their lists
     pub in-words : Ranked t live base → (0 < w % 2 ^ 17) × ((w % 2 ^ 17 - 1) / 64 < length live) × ((w % 2 ^ 17 - 1) / 64 < length base)
     in-words r = let n = names-number t w e in (n .0, omega (arith, n, r .marks, r .count), omega (arith, n, r .firsts, r .count))
 
@@ -68,7 +68,7 @@ module _ (t : Keyed) (live base store₀ : List ℕ) (from count : ℕ) where
   abbrev new : ℕ → ℕ
   new = renumbered t live base
 
-  -- what holds at the loop's head: the slots of the block before `place` are renumbered, and the word has the others
+  -- the loop invariant: the slots of the block before `place` are renumbered, and the bitmap word has the others
   pub record Left (store : List ℕ) (word : ℕ) : Type 0 where
     pub place : ℕ
     pub few : place ≤ count
@@ -86,7 +86,7 @@ module _ (t : Keyed) (live base store₀ : List ℕ) (from count : ℕ) where
         on = λ l q. q ∙ ap (λ (x : ℕ). mapFront new x l) (sym (add-zero from));
       }
 
-  -- a slot that is not marked is free, and stays so
+  -- a slot whose bit is not set is free, and remains so
   free-stays : (l : List ℕ) → store₀ ≡ mapFront new from l → (k : ℕ) → taken k ≡ false → new (getD l (from + k) 0) ≡ getD l (from + k) 0
   unfolding otherAt
   free-stays l q k e =
@@ -96,7 +96,7 @@ module _ (t : Keyed) (live base store₀ : List ℕ) (from count : ℕ) where
       rw p (renumbered-free t live base 0 refl)
 
   module _ (b : Block store₀ from count) (store : List ℕ) (word : ℕ) (s : Left store word) where
-    -- places that are not marked may be passed
+    -- positions whose bit is not set may be skipped
     passed : (z : ℕ) → s .place ≤ z → z ≤ count → ((k : ℕ) → s .place ≤ k → k < z → taken k ≡ false) → (l : List ℕ) → store₀ ≡ mapFront new from l
         → store ≡ mapFront new (from + z) l
     passed z h m none l q =

@@ -1,5 +1,5 @@
-// The rows' new numbers after a compaction, given to the key store in place, slot by slot: from the compaction words and
-// without a look at a key. Safe on any store: a word is tested before it is a row.
+// Writes the rows' new numbers after a compaction to the key store, in place and slot by slot. Takes them from the compaction
+// bitmap and hashes no key. Safe on any store: a word is validated before it is used as a row number.
 ghost use mathlib.Core.Path.{_≡_};
 ghost use Prim.Native.Nat.{_≤_, _<_};
 ghost use lib.ListN.{length};
@@ -10,7 +10,7 @@ use key_index::Keyed;
 use key_index::ROW_RANGE;
 use key_index::names_row;
 
-// A word with its row's new number, below the same 15 bits of its hash.
+// A word with its row's new number and the same 15 hash bits.
 fn renumber_word(t: Keyed, word: u32, live: &[u64], base: &[u32]) -> u32
     requires { ⌜ Ranked t (now live) (now base) ⌝ }
     ensures { λ r. ⌜ r ≡ renumbered t (now (live .entry)) (now (base .entry)) word ⌝ }
@@ -27,7 +27,7 @@ fn renumber_word(t: Keyed, word: u32, live: &[u64], base: &[u32]) -> u32
     word / ROW_RANGE * ROW_RANGE + (row_buffer::rank(live[at], first, row % 64) + 1)
 }
 
-// Renumbers the next slots, up to 64, going from one that is taken to the next.
+// Renumbers up to 64 slots; visits only those that are taken.
 fn renumber_block(t: Keyed, store: &mut [u32], from: u32, count: u32, live: &[u64], base: &[u32])
     requires { ⌜ (Ranked t (now live) (now base)) × (Block (now store) from count) ⌝ }
     ensures { λ _. ⌜ BlockRenumbered t (now (live .entry)) (now (base .entry)) (now (store .entry)) from count (now (store .exit)) ⌝ }
@@ -40,7 +40,7 @@ fn renumber_block(t: Keyed, store: &mut [u32], from: u32, count: u32, live: &[u6
     }
 }
 
-// Gives each row that the store holds its new number, in place and without a look at its key.
+// Gives each row in the store its new number, in place, without reading its key.
 pub fn renumber(t: Keyed, store: &mut [u32], live: &[u64], base: &[u32])
     requires { ⌜ (Ranked t (now live) (now base)) × (slots t ≤ length (now store)) ⌝ }
     ensures { λ _. ⌜ now (store .exit) ≡ mapFront (renumbered t (now (live .entry)) (now (base .entry))) (slots t) (now (store .entry)) ⌝ }

@@ -1,4 +1,4 @@
--- What may be relied on of the definitions of Lists.antt.
+-- Laws of the definitions of Lists.antt.
 pub mod Parts
 pub mod Keep
 pub mod Every

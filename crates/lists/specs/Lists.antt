@@ -1,4 +1,4 @@
--- The definitions on lists that the paper's are written with. Nothing here is about tables. Assumes nothing.
+-- General definitions on lists, from which the paper's definitions are built. Nothing here is about tables. Assumes nothing.
 use Prim.Native.Nat.{ℕ, zero, suc, _+_, _*_}
 use mathlib.Core.Bool.{Bool, true, false, cond, _&&_, _||_}
 use mathlib.Core.List.{List, [], _∷_, _++_}
@@ -7,36 +7,36 @@ use lib.ListN.{length, take, drop}
 use lib.Dec.{leb, ltb, eqb}
 
 module _ {A : Type 0} where
-  -- l with w from place `at` on: what a store in which w has room there holds after w is written
+  -- l with w written from position `at` on: the contents of a store after w is written, if w fits there
   unfoldable pub putAt : List A → ℕ → List A → List A
   putAt l at w = take at l ++ (w ++ drop (at + length w) l)
 
-  -- those that pass a test, in order
+  -- the elements that pass a test, in order
   unfoldable pub keep : (A → Bool) → List A → List A
   keep test [] = []
   keep test (x ∷ xs) = cond (test x) (x ∷ keep test xs) (keep test xs)
 
-  -- how many pass it
+  -- the number of elements that pass a test
   unfoldable pub count : (A → Bool) → List A → ℕ
   count test [] = 0
   count test (x ∷ xs) = cond (test x) (suc (count test xs)) (count test xs)
 
-  -- all pass it
+  -- all elements pass a test
   unfoldable pub every : (A → Bool) → List A → Bool
   every test [] = true
   every test (x ∷ xs) = test x && every test xs
 
-  -- one at least passes it
+  -- at least one element passes a test
   unfoldable pub any : (A → Bool) → List A → Bool
   any test [] = false
   any test (x ∷ xs) = test x || any test xs
 
-  -- the first that passes it, if there is one
+  -- the first element that passes a test, if there is one
   unfoldable pub firstOf : (A → Bool) → List A → Option A
   firstOf test [] = none
   firstOf test (x ∷ xs) = cond (test x) (some x) (firstOf test xs)
 
-  -- the cells from place i times w on, w of them: row i of a store of rows of width w
+  -- row i of a store of rows of width w
   unfoldable pub rowAt : ℕ → ℕ → List A → List A
   rowAt w i store = take w (drop (i * w) store)
 
@@ -45,17 +45,17 @@ module _ {A : Type 0} where
   rowsOf w zero store = []
   rowsOf w (suc n) store = take w store ∷ rowsOf w n (drop w store)
 
-  -- lists one after another
+  -- concatenation
   unfoldable pub flat : List (List A) → List A
   flat [] = []
   flat (row ∷ rows) = row ++ flat rows
 
--- n numbers from s on, one by one
+-- the n consecutive numbers from s on
 unfoldable pub countFrom : ℕ → ℕ → List ℕ
 countFrom s zero = []
 countFrom s (suc n) = s ∷ countFrom (suc s) n
 
--- each number is above the one before, and the first above x
+-- each number is above the one before, and the first is above x
 unfoldable pub above : ℕ → List ℕ → Bool
 above x [] = true
 above x (y ∷ ys) = ltb x y && above y ys
@@ -65,7 +65,7 @@ unfoldable pub rising : List ℕ → Bool
 rising [] = true
 rising (x ∷ xs) = above x xs
 
--- x is one of them
+-- x is a member
 unfoldable pub has : ℕ → List ℕ → Bool
 has x [] = false
 has x (y ∷ ys) = eqb x y || has x ys
@@ -74,7 +74,7 @@ has x (y ∷ ys) = eqb x y || has x ys
 unfoldable pub within : ℕ → ℕ → ℕ → Bool
 within a b x = leb a x && ltb x b
 
--- the same numbers in the same order
+-- equality of lists as a test
 unfoldable pub same : List ℕ → List ℕ → Bool
 same [] [] = true
 same [] (y ∷ ys) = false

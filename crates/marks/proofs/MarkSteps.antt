@@ -1,4 +1,4 @@
--- The turns of `marks_other`. Assumes nothing.
+-- The loop iterations of `marks_other`. Assumes nothing.
 use Prim.Native.Nat.{ℕ, _+_, _*_, _^_, _≤_, _<_}
 use mathlib.Core.Path.{_≡_, refl, sym, ap, _∙_}
 use mathlib.Core.Bool.{true, false, not}
@@ -29,7 +29,7 @@ module _ (cells : List ℕ) (from stride count than : ℕ) where
     word-below = rw (m .made) (marks-lt (otherAt cells from stride than) bit)
 
     module _ (more : bit < count) where
-      -- the place lies in the store, and the next one's cell not past its end
+      -- the position is inside the store, and the next one is at most its end
       pub place-in : (at < length cells) × (at + stride ≤ length cells)
       place-in =
           let r = row-in bit count stride more in

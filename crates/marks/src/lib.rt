@@ -1,11 +1,11 @@
-// Words of marks, one for each of up to 64 places: a pass over them goes from mark to mark by the lowest one set, without a test
-// of each place that no processor can foresee.
+// Bitmap words of up to 64 positions each. A scan goes from one set bit to the next by the lowest set bit, so it has no
+// unpredictable branch for each position.
 ghost use mathlib.Core.Path.{_≡_};
 ghost use Prim.Native.Nat.{min};
 ghost use Rattle.row_buffer.specs.Ranks.{marks};
 ghost use Rattle.marks.specs.inner.Marking.{Spaced, otherAt};
 
-// How many of the places that are left go into the next word.
+// The number of the remaining positions that the next word covers.
 pub fn block(left: u32) -> u32
     ensures { λ r. ⌜ r ≡ min 64 left ⌝ }
 {
@@ -15,7 +15,7 @@ pub fn block(left: u32) -> u32
     64
 }
 
-// Marks the places whose cell is another one than this.
+// A bitmap word: the bits of the positions whose cell is different from `than`.
 pub fn marks_other(cells: &[u32], from: usize, stride: usize, count: u32, than: u32) -> u64
     requires { ⌜ Spaced (now cells) from stride count ⌝ }
     ensures { λ r. ⌜ r ≡ marks (otherAt (now (cells .entry)) from stride than) count ⌝ }

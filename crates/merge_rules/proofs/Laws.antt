@@ -1,4 +1,5 @@
--- The top bit turned over, the ways through a cell's functions, the turns of `changes` and `make`, and the row that is returned. Assumes nothing.
+-- Flipping the top bit, the paths through the functions of a cell, the loop iterations of `changes` and `make`, and the row that is
+-- returned. Assumes nothing.
 use Prim.Native.Nat.{ℕ, suc, _+_, _-_, _*_, _%_, _^_, _≤_, _<_}
 use mathlib.Core.Path.{_≡_, refl, sym, ap, ap₂, _∙_}
 use mathlib.Core.Bool.{Bool, true, false, not, _&&_, _||_}

@@ -1,5 +1,5 @@
--- Merge rules (document 01, "Merge rules", and document 02, change 4): what a rule makes of an old and a new row of the same
--- key. Assumes nothing.
+-- Merge rules (document 01, "Merge rules", and document 02, change 4): the row that a rule makes from an old and a new row of the
+-- same key. Assumes nothing.
 use Prim.Native.Nat.{ℕ, suc, _-_}
 use mathlib.Core.Bool.{Bool, false, cond, not, _&&_, _||_}
 use mathlib.Core.List.{List, [], _∷_}
@@ -12,8 +12,8 @@ use lib.Signed.{ltZ}
 unfoldable pub ruledColumn : ℕ → ℕ → ℕ → Bool
 ruledColumn keys sort column = leb keys column && not (eqb column sort)
 
--- "recorded in two's complement, so that 4294967295 means minus one": the number, from minus 2147483648 to 2147483647, that a
--- cell means. `pos n` is n, and `negsuc n` is minus (n + 1)
+-- "recorded in two's complement, so that 4294967295 means minus one": the number, from minus 2147483648 to 2147483647, that a cell
+-- encodes. `pos n` is n, and `negsuc n` is minus (n + 1)
 unfoldable pub signed : ℕ → ℤ
 signed cell = cond (ltb cell 2147483648) (pos cell) (negsuc (4294967295 - cell))
 
@@ -24,7 +24,7 @@ smaller a b = cond (ltZ (signed b) (signed a)) b a
 unfoldable pub larger : ℕ → ℕ → ℕ
 larger a b = cond (ltZ (signed a) (signed b)) b a
 
--- what the rule takes for such a cell: 0 the old, 1 the new, 2 the smaller, 3 the larger
+-- the cell that the rule takes: 0 the old, 1 the new, 2 the smaller, 3 the larger
 unfoldable pub taken : ℕ → ℕ → ℕ → ℕ
 taken rule old new =
     cond (eqb rule 1) new (cond (eqb rule 2) (smaller old new) (cond (eqb rule 3) (larger old new) old))
@@ -34,7 +34,7 @@ unfoldable pub madeCell : ℕ → ℕ → ℕ → ℕ → ℕ → ℕ → ℕ
 madeCell rule keys sort column old new =
     cond (ruledColumn keys sort column) (taken rule old new) (cond (eqb column sort) new old)
 
--- the row made, from this column on
+-- the resulting row, from this column on
 unfoldable pub madeFrom : ℕ → ℕ → ℕ → ℕ → List ℕ → List ℕ → List ℕ
 madeFrom rule keys sort column [] new = []
 madeFrom rule keys sort column (a ∷ old) [] = []
@@ -48,7 +48,7 @@ changesFrom rule keys sort column (a ∷ old) [] = false
 changesFrom rule keys sort column (a ∷ old) (b ∷ new) =
     (ruledColumn keys sort column && not (eqb (taken rule a b) a)) || changesFrom rule keys sort (suc column) old new
 
--- the row made, or none: "the old row is kept"
+-- the resulting row, or none: "the old row is kept"
 unfoldable pub ruled : ℕ → ℕ → ℕ → List ℕ → List ℕ → Option (List ℕ)
 ruled rule keys sort old new =
     cond (changesFrom rule keys sort 0 old new) (some (madeFrom rule keys sort 0 old new)) none

@@ -1,5 +1,5 @@
-// The four merge rules: what becomes of a known key's row when a new row is inserted. The Rust takes a `MergeFn`; here a rule
-// number chooses. Each contract cites its definition in specs/.
+// The four merge rules: what happens to a known key's row when a new row is inserted. The Rust takes a `MergeFn`; here a rule
+// number selects the rule. Each contract cites its definition in specs/.
 ghost use mathlib.Core.Path.{_≡_};
 ghost use Prim.Native.Nat.{_+_, _%_, _≤_};
 ghost use mathlib.Core.Bool.{not, _&&_};
@@ -9,7 +9,7 @@ ghost use lib.Signed.{ltZ};
 ghost use Rattle.lists.specs.Lists.{putAt};
 ghost use Rattle.merge_rules.specs.Rules as rules;
 
-// A column that is neither a key nor the sort column: only there does a rule choose.
+// Whether the rule decides the cell of this column: it is neither a key column nor the sort column.
 fn ruled_column(keys: u32, sort: u32, column: usize) -> bool
     ensures { λ r. ⌜ r ≡ rules.ruledColumn keys sort column ⌝ }
 {
@@ -19,7 +19,7 @@ fn ruled_column(keys: u32, sort: u32, column: usize) -> bool
     column != sort as usize
 }
 
-// A cell's signed number plus 2147483648: the top bit turned over makes the order of signed numbers that of unsigned ones.
+// A cell's signed number plus 2147483648. Flipping the top bit turns the order of signed numbers into that of unsigned ones.
 fn lifted(cell: u32) -> u32
     ensures { λ r. ⌜ r ≡ (cell + 2147483648) % 4294967296 ⌝ }
 {
@@ -50,7 +50,7 @@ fn larger(a: u32, b: u32) -> u32
     a
 }
 
-// What a rule takes of two cells of such a column.
+// The cell that a rule takes from an old and a new cell of such a column.
 fn taken(rule: u32, old: u32, new: u32) -> u32
     ensures { λ r. ⌜ r ≡ rules.taken rule old new ⌝ }
 {
@@ -66,7 +66,7 @@ fn taken(rule: u32, old: u32, new: u32) -> u32
     old
 }
 
-// The rule takes another cell than the old one.
+// Whether the rule takes a cell that differs from the old one.
 fn cell_changes(rule: u32, keys: u32, sort: u32, column: usize, old: u32, new: u32) -> bool
     ensures { λ r. ⌜ r ≡ (rules.ruledColumn keys sort column && not (eqb (rules.taken rule old new) old)) ⌝ }
 {
@@ -88,8 +88,8 @@ fn made_cell(rule: u32, keys: u32, sort: u32, column: usize, old: u32, new: u32)
     old
 }
 
-// The rule makes a row of the two; if not, the old row is kept. Cells that only one of them has do not count,
-// nor do key cells.
+// Whether the rule makes a row from the two; otherwise the old row is kept. Ignores key cells, and cells that only one of the two
+// rows has.
 pub fn changes(rule: u32, keys: u32, sort: u32, old: &[u32], new: &[u32]) -> bool
     ensures { λ r. ⌜ r ≡ rules.changesFrom rule keys sort 0 (now (old .entry)) (now (new .entry)) ⌝ }
 {
@@ -106,7 +106,7 @@ pub fn changes(rule: u32, keys: u32, sort: u32, old: &[u32], new: &[u32]) -> boo
     false
 }
 
-// Writes the row that the rule makes at the start of `out`.
+// Writes the row that the rule makes to the start of `out`.
 pub fn make(rule: u32, keys: u32, sort: u32, old: &[u32], new: &[u32], out: &mut [u32])
     requires { ⌜ (length (now old) ≡ length (now new)) × (length (now old) ≤ length (now out)) ⌝ }
     ensures { λ _. ⌜ now (out .exit) ≡ putAt (now (out .entry)) 0 (rules.madeFrom rule keys sort 0 (now (old .entry)) (now (new .entry))) ⌝ }
@@ -118,8 +118,7 @@ pub fn make(rule: u32, keys: u32, sort: u32, old: &[u32], new: &[u32], out: &mut
     }
 }
 
-// The row that survives under rule 0 or 1. It is returned as that part of the row store, where the old row is, or of the pending
-// store, where the new one is.
+// The row that survives under rule 0 or 1: the old row, as a part of the row store, or the new row, as a part of the pending store.
 pub fn surviving_row<'a>(
     rule: u32,
     keys: u32,

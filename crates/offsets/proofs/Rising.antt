@@ -15,7 +15,7 @@ use Rattle.lists.specs.Laws.Parts.{part-to-end}
 use Rattle.lists.specs.Laws.Rising.{bool-ext, rising-take, rising-drop, rising-take-one, rising-take-more, rising-past}
 use Rattle.offsets.specs.inner.Rising.{Onward}
 
--- whether a block's ids before place i rise
+-- whether a block's ids before position i rise
 pub record Tested (ids : List ℕ) (rises : Bool) (i : ℕ) : Type 0 where
   pub one : 1 ≤ i
   pub front : rises ≡ rising (take i ids)
@@ -36,7 +36,7 @@ module _ (ids : List ℕ) (rises : Bool) (i : ℕ) (s : Tested ids rises i) wher
 
 -- ---- small steps
 
--- what is left when the later of two ids is taken from the earlier one, modulo 2 ^ 32, says that it is larger, by at most 2 ^ 24
+-- the difference of the earlier and the later id, modulo 2 ^ 32, shows that the later one is larger, by at most 2 ^ 24
 small-step : (a b d : ℕ) → (d + b) % 2 ^ 32 ≡ a → 4278190080 ≤ d → d < 2 ^ 32 → b < 2 ^ 32 → a < 4278190080 → (a < b) × (b ≤ a + 16777216)
 small-step a b d e h k m n = (omega arith, omega arith)
 
@@ -125,7 +125,7 @@ onward-fall ids at n s rises tested e =
       | inr q ↦ sym q
     ]
 
--- the last part, which may begin before the place
+-- the last part, which may begin before the position
 pub onward-last : (ids : List ℕ) (at m : ℕ) → Onward ids at → m ≤ at → rising (take (length ids - m) (drop m ids)) ≡ rising ids
 onward-last ids at m s h =
     let z : m + (at - m) ≡ at = omega arith in

@@ -1,4 +1,4 @@
--- Subsets as they are passed and answered. Assumes nothing.
+-- Subsets as arguments and as answers. Assumes nothing.
 use Prim.Native.Nat.{ℕ, _≤_}
 use mathlib.Core.Path.{_≡_}
 use mathlib.Core.Bool.{cond, not, _||_}
@@ -16,7 +16,7 @@ use Rattle.offsets.specs.Subsets.{Subset, range, list, wellFormed, inter
 unfoldable pub subsetOf : SubsetHead → List ℕ → Subset
 subsetOf head ids = cond (head .dense) (range (head .start) (head .end)) (list ids)
 
--- an answer as its caller reads it: refused, a range, or the first ids of the output
+-- an answer decoded by its caller: refused, a range, or the first ids of the output
 unfoldable pub readOff : SubsetAnswer → List ℕ → Reply Subset
 readOff (Refused n) output = refused n
 readOff (Range start end) output = accepted (range start end)
@@ -28,15 +28,14 @@ written (refused n) = []
 written (accepted (range start end)) = []
 written (accepted (list ids)) = ids
 
--- A reply is answered: it is what the caller reads, the output has all the ids that are told of, and "output beyond the ids
--- written is unchanged".
+-- The answer encodes the reply: the caller decodes the reply from it, the output has all the ids that it counts, and "output beyond
+-- the ids written is unchanged".
 pub record Answered (r : Reply Subset) (output : List ℕ) (answer : SubsetAnswer) (output′ : List ℕ) : Type 0 where
   pub answers : readOff answer output′ ≡ r
   pub inside : (n : ℕ) → answer ≡ Ids n → n ≤ length output′
   pub writes : output′ ≡ putAt output 0 (written r)
 
--- the ids for which `intersect` needs room: "output shorter than the first list, or than the second where the first is a
--- range"
+-- the output length that `intersect` needs: "output shorter than the first list, or than the second where the first is a range"
 unfoldable pub roomNeeded : Subset → Subset → ℕ
 roomNeeded (range a b) (range c d) = 0
 roomNeeded (range a b) (list ids) = length ids

@@ -1,4 +1,4 @@
--- Subsets (document 01, "Subsets"): well-formed ones, their members and ends, `intersect` and `retain` with the Rust's forms.
+-- Subsets (document 01, "Subsets"): well-formed ones, their members and ends, and `intersect` and `retain` with the Rust's forms.
 -- Assumes nothing.
 use Prim.Native.Nat.{ℕ, _+_, _-_, min, max}
 use mathlib.Core.Bool.{Bool, cond, _&&_}
@@ -16,7 +16,7 @@ unfoldable pub wellFormed : Subset → Bool
 wellFormed (range start end) = leb start end
 wellFormed (list ids) = rising ids && leb (length ids) 65536
 
--- the ids; of a well-formed subset they rise
+-- the ids, which rise if the subset is well-formed
 unfoldable pub members : Subset → List ℕ
 members (range start end) = countFrom start (end - start)
 members (list ids) = ids
@@ -24,7 +24,7 @@ members (list ids) = ids
 unfoldable pub size : Subset → ℕ
 size subset = length (members subset)
 
--- the end that test 5 looks at: "range end or last id plus one"; an empty list has 0
+-- the end that test 5 reads: "range end or last id plus one"; 0 for an empty list
 unfoldable pub endOf : Subset → ℕ
 endOf (range start end) = end
 endOf (list []) = 0

@@ -1,6 +1,6 @@
-// Subsets: offsets/mod.rs. A subset is a range or a rising list of ids; here is what a subset must be, how many ids it has
-// and its ends. `offsets_search`, `offsets_intersect` and `offsets_retain` beside this crate are the rest of the subset layer; specs/Laws
-// has the set laws, by which proofs above it go.
+// Subsets: offsets/mod.rs. A subset is a range or a rising list of ids. This crate checks that a subset is well-formed and computes
+// its size and its ends. `offsets_search`, `offsets_intersect` and `offsets_retain` are the rest of the subset layer. Proofs above
+// this layer use the set laws in specs/Laws.
 ghost use mathlib.Core.Path.{_≡_};
 ghost use mathlib.Core.Bool.{true};
 ghost use lib.ListN.{length};
@@ -13,15 +13,15 @@ ghost use Rattle.offsets.specs.inner.Rising.{Onward};
 ghost use Rattle.offsets.specs.inner.Writing as ends;
 ghost use Rattle.offsets.specs.inner.Writing.{boundsSays};
 
-// A borrowed subset's kind and two ends. Its list of ids stands beside it; of a dense one the list counts for nothing, of
-// a sparse one the ends.
+// A borrowed subset's kind and two ends. Its list of ids is passed beside it. A dense subset ignores the list, a sparse one the
+// ends.
 pub struct SubsetHead {
     pub dense: bool,
     pub start: u32,
     pub end: u32,
 }
 
-// A subset as an answer: refused by a number, a range, or the first ids of the lent output.
+// A subset as an answer: refused with a number, a range, or the length of the list at the start of the lent output.
 pub enum SubsetAnswer {
     Refused(u32),
     Range(u32, u32),
@@ -30,24 +30,24 @@ pub enum SubsetAnswer {
 
 const LONGEST_LIST: usize = 65536;
 
-// How many ids the test for rising by small steps goes on by at a time, and half of them: few enough that the compiler unrolls
-// a block's loop.
+// The number of ids that the test for small steps covers at a time, and half of it. Small enough that the compiler unrolls the loop
+// over a block.
 const BLOCK: usize = 128;
 
 const HALF: usize = 64;
 
-// How many ids are tested at a time where the steps may be any.
+// The number of ids tested at a time where steps may have any size.
 const PART: usize = 8;
 
-// The later of two ids taken from the earlier one, modulo 2^32, gives no less than this where the step is at most 2^24.
+// Subtracting the later of two ids from the earlier one, modulo 2^32, gives at least this number if the step is from 1 to 2^24.
 const SMALL_STEP: u32 = 0xff00_0000;
 
 // From an id below this, 64 small steps stay below 2^32.
 const LOW: u32 = 0x8000_0000;
 
-// The ids of a block and the next one rise strictly by small steps. All of them are looked at, with no return on the way, so
-// that the test compiles to vector code; what it costs are reads, so in the second half each id is kept for the next turn.
-// A difference saves what vector code lacks: a comparison of unsigned numbers.
+// Whether the ids of a block and the next id rise strictly by small steps; false is inconclusive. Reads all of them, without an
+// early return, so that the test compiles to vector code. Its cost is reads, so the second half keeps each id for the next
+// iteration. It compares differences, since vector code lacks a comparison of unsigned numbers.
 fn rises_by_small_steps(ids: &[u32]) -> bool
     requires { ⌜ length (now ids) ≡ 129 ⌝ }
     ensures { λ r. ⌜ (r ≡ true → rising (now (ids .entry)) ≡ true) ⌝ }
@@ -72,7 +72,7 @@ fn rises_by_small_steps(ids: &[u32]) -> bool
     rises
 }
 
-// A place up to which the ids rise by small steps, block by block, each from the last id of the one before.
+// A position up to which the ids rise by small steps. Tests block by block, each block from the last id of the one before.
 fn past_small_steps(ids: &[u32]) -> usize
     ensures { λ r. ⌜ Onward (now (ids .entry)) r ⌝ }
 {
@@ -86,7 +86,7 @@ fn past_small_steps(ids: &[u32]) -> usize
     at
 }
 
-// The ids rise strictly, whatever the steps.
+// The ids rise strictly, by steps of any size.
 fn rises_pairwise(ids: &[u32]) -> bool
     ensures { λ r. ⌜ r ≡ rising (now (ids .entry)) ⌝ }
 {
@@ -99,8 +99,8 @@ fn rises_pairwise(ids: &[u32]) -> bool
     rises
 }
 
-// The same by parts of one length, for which the loop is straight vector code. The last part ends where the ids end, whatever of
-// it was tested before.
+// The same, in parts of a fixed length, for which the loop is straight-line vector code. The last part ends at the last id, and may
+// overlap ids that are already tested.
 fn rises_by_parts(ids: &[u32]) -> bool
     ensures { λ r. ⌜ r ≡ rising (now (ids .entry)) ⌝ }
 {
@@ -137,7 +137,7 @@ pub fn is_well_formed(head: SubsetHead, ids: &[u32]) -> bool
     is_rising(ids)
 }
 
-// How many ids a subset has; a malformed range has none.
+// The number of ids of a subset; 0 for a malformed range.
 pub fn size(head: SubsetHead, ids: &[u32]) -> usize
     ensures { λ r. ⌜ r ≡ subsets.size (subsetOf head (now (ids .entry))) ⌝ }
 {
@@ -150,7 +150,7 @@ pub fn size(head: SubsetHead, ids: &[u32]) -> usize
     ids.len()
 }
 
-// The ends of a subset. The last id plus one may be 4,294,967,296, so they are wider than ids.
+// The ends of a subset. The last id plus one may be 4,294,967,296, so they have 64 bits.
 pub enum BoundsAnswer {
     None,
     Ends(u64, u64),

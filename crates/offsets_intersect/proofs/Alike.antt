@@ -1,4 +1,4 @@
--- Lists of like length, half of the test by half. Assumes nothing.
+-- Lists of similar length: the two halves of the test. Assumes nothing.
 use Prim.Native.Nat.{ℕ, _*_, _/_, _≤_, _<_}
 use mathlib.Core.Path.{_≡_, sym, _∙_}
 use mathlib.Core.Logic.{inl, inr}
@@ -37,7 +37,7 @@ module _ (a b : ℕ) where
   unfolding alike
   alike-both h k = rw (le-leb a 16 h, le-leb b 16 k)
 
-  -- lists of unlike length: the longer one is much the longer
+  -- lists of different length: the longer one is much longer
   module _ (e : alike a b ≡ false) where
     not-both : a ≤ 16 → b ≤ 16 → ⊥
     not-both h k = true≢false (sym (alike-both h k) ∙ e)

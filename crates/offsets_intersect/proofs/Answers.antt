@@ -1,4 +1,4 @@
--- What each answer says. Assumes nothing.
+-- The reply that each answer encodes. Assumes nothing.
 use Prim.Native.Nat.{ℕ, zero, suc, _≤_, _<_, min, max}
 use mathlib.Core.Path.{_≡_, refl, sym, _∙_}
 use mathlib.Core.Bool.{Bool, true, false, _&&_}
@@ -33,7 +33,7 @@ unfolding listOrNothing
 answered-some [] output n output′ w e = absurd (e (w .number))
 answered-some (x ∷ xs) output n output′ w e = answered-list (x ∷ xs) output n output′ w
 
--- what is kept of a short list is counted by a u32
+-- the number of kept ids of a short list fits a u32
 pub wrote-few : (test : ℕ → Bool) (ids output : List ℕ) (n : ℕ) (output′ : List ℕ) → Wrote output (keep test ids) n output′ → n ≤ length ids
 wrote-few test ids output n output′ w = let a = length-keep test ids in let b = count-le test ids in let c = w .number in omega arith
 
@@ -85,7 +85,7 @@ module _ (a b c d : ℕ) (output : List ℕ) where
       let e = refusal-none (range a b) (range c d) (length output) (rw (← formed-said a b) (le-leb a b h)) (rw (← formed-said c d) (le-leb c d i)) (no-room a b c d (length output)) in
       rw (replied (range a b) (range c d) (length output) (sym e), intersect-said a b c d) (answered-range _ _ output)
 
--- ---- by kind: the room, what may be kept, and the reply
+-- ---- by kind: the output length needed, the preconditions, and the reply
 
 -- not both are dense
 pub one-list : (f g : Bool) → f && g ≡ false → f ≡ true → g ≡ false

@@ -1,4 +1,4 @@
--- The loops that write ids, a step at a time: a copy, a walk in step and a search by strides. Assumes nothing.
+-- The loops that write ids, one step at a time: a copy, a linear merge and a search by strides. Assumes nothing.
 use Prim.Native.Nat.{ℕ, _+_, _-_, _≤_, _<_}
 use mathlib.Core.Path.{_≡_, refl, sym, ap, _∙_}
 use mathlib.Core.Logic.{inl, inr}
@@ -45,7 +45,7 @@ copied-more ids output₀ output i h s k =
 pub copied-end : (ids output₀ output : List ℕ) (i : ℕ) → Copied ids output₀ output i → length ids ≤ i → output ≡ putAt output₀ 0 ids
 copied-end ids output₀ output i s h = s .cells ∙ ap (putAt output₀ 0) (take-all i ids h)
 
--- ---- what lies within
+-- ---- ids within a range
 
 pub wrote-within : (ids output : List ℕ) (start end low high : ℕ) (output′ : List ℕ) → rising ids ≡ true → start ≤ end → low ≡ firstNotBelow start ids → high ≡ firstNotBelow end ids
     → output′ ≡ putAt output 0 (take (high - low) (drop low ids)) → Wrote output (keep (within start end) ids) (high - low) output′
@@ -70,7 +70,7 @@ common-stop : (ids others : List ℕ) (i : ℕ) → ((k : ℕ) → i ≤ k → k
 unfolding common
 common-stop ids others i f = keep-stop (λ id. has id others) 0 ids i f
 
--- the ids before place i are looked at; the others before place o are below those that are left
+-- the ids before position i are processed; the others before position o are below the remaining ids
 pub record Meets (ids others output₀ output : List ℕ) (i o n : ℕ) : Type 0 where
   pub at : i ≤ length ids
   pub few : n ≤ i
@@ -91,14 +91,14 @@ meets-begin ids others output₀ =
     }
 
 module _ (ids others output₀ output : List ℕ) (i o n : ℕ) (f : Fitting ids output₀) (g : Searchable others) (s : Meets ids others output₀ output i o n) (h : i < length ids) where
-  -- the next id is larger, so its place is no earlier
+  -- the next id is larger, so its position is no earlier
   later : (p : ℕ) → p ≤ firstNotBelow (getD ids i 0) others → i + 1 < length ids → p ≤ firstNotBelow (getD ids (i + 1) 0) others
   later p k m =
       let a : getD ids i 0 < getD ids (i + 1) 0 = rising-at ids (f .up) i (i + 1) (omega arith) m in
       let b = notBelow-mono (getD ids i 0) (getD ids (i + 1) 0) others (g .up) (omega arith) in
       omega arith
 
-  -- and it lies past an other that equals this id
+  -- and it is past an other that equals this id
   past-equal : (p : ℕ) → p < length others → getD others p 0 ≡ getD ids i 0 → i + 1 < length ids → p + 1 ≤ firstNotBelow (getD ids (i + 1) 0) others
   past-equal p k q m =
       let a : getD ids i 0 < getD ids (i + 1) 0 = rising-at ids (f .up) i (i + 1) (omega arith) m in
@@ -184,7 +184,7 @@ meets-end ids others output₀ output i o n s h =
     let e : take i ids ≡ ids = take-all i ids h in
     record { number = s .number ∙ ap (λ (l : List ℕ). length (common l others)) e; cells = s .cells ∙ ap (λ (l : List ℕ). putAt output₀ 0 (common l others)) e }
 
--- ---- the walk in step, with the two ids at hand
+-- ---- the linear merge, with the two current ids
 
 pub record Walking (ids others output₀ output : List ℕ) (i o n id other : ℕ) : Type 0 where
   pub meets : Meets ids others output₀ output i o n

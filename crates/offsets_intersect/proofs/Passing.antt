@@ -1,4 +1,4 @@
--- The walk over long lists, a step at a time: a block, an id, an id that is common. Assumes nothing.
+-- The merge of long lists, one step at a time: a block, an id, an id that is common. Assumes nothing.
 use Prim.Native.Nat.{ℕ, zero, suc, _+_, _-_, _≤_, _<_}
 use mathlib.Core.Path.{_≡_, refl, sym, ap, _∙_}
 use mathlib.Core.Logic.{inl, inr}
@@ -24,7 +24,7 @@ use Rattle.offsets_intersect.proofs.Common.{common-comm}
 -- ---- ids that the others lack
 
 module _ (ids others : List ℕ) (i o k : ℕ) where
-  -- k ids, none of them one of the others from place o on
+  -- k ids, none of them one of the others from position o on
   pass-ids : i + k ≤ length ids → o ≤ length others
       → ((j m : ℕ) → j < k → o ≤ m → m < length others → getD ids (i + j) 0 ≡ getD others m 0 → ⊥) → Passed ids others i o (i + k) o
   unfolding common
@@ -127,7 +127,7 @@ pass-block {ids} {others} {i} {o} {k} e f a h q = pass-ids ids others i o k (a .
               omega arith
         ]
 
--- ---- a walk
+-- ---- merging in step
 
 module _ (ids others output : List ℕ) (i o n : ℕ) where
   pub went-none : i ≤ length ids → o ≤ length others → Went ids others output output i o n i o n
@@ -291,7 +291,7 @@ apart-parts ids others i o h k a = record { room = h; others-room = k; apart = a
         let n : j < length (take (i + 4 - i) (drop i ids)) = simp (length-take, length-drop) (omega arith) in
         a .each j n .none m s (inside ids i j r ∙ q ∙ sym (inside others o m s))
 
--- ---- a walk with the two ids at hand
+-- ---- merging in step, with the two current ids
 
 pub record Pace (ids others output₀ output : List ℕ) (i₀ o₀ n₀ i o n stop id other : ℕ) : Type 0 where
   pub up : rising ids ≡ true

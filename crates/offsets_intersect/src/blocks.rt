@@ -1,5 +1,5 @@
-// Long lists of like length. They are walked in step where they have ids in common; where they have none for a while, they are gone
-// over in blocks of four.
+// Intersects long lists of similar length: a linear merge where they have ids in common, and blocks of four ids where they have had
+// none for a while.
 ghost use mathlib.Core.Path.{_≡_};
 ghost use mathlib.Core.Bool.{true};
 ghost use Prim.Native.Nat.{_+_, _≤_, _<_};
@@ -8,20 +8,20 @@ ghost use Rattle.offsets.specs.inner.Writing.{Wrote};
 ghost use Rattle.offsets_intersect.specs.inner.Common.{Fitting, Searchable, common, alike};
 ghost use Rattle.offsets_intersect.specs.inner.Blocks.{Lacks, Apart, ApartAt, Passed, Went};
 
-// How many ids a block has.
+// The number of ids of a block.
 const BLOCK: usize = 4;
 
-// After so many ids in a row that the other list lacks, a walk leaves the rest to the blocks.
+// After this many consecutive ids that the other list lacks, the merge switches to blocks.
 const GAP: usize = 16;
 
-// How far a walk has come in the ids and in the others, and how many ids it has written.
+// The progress of a merge: positions in both lists, and the number of ids written.
 struct Walk {
     i: usize,
     o: usize,
     n: usize,
 }
 
-// The id is none of a block.
+// Whether the id is not in a block.
 fn is_none_of(id: u32, others: &[u32]) -> bool
     requires { ⌜ length (now others) ≡ 4 ⌝ }
     ensures { λ r. ⌜ (r ≡ true → Lacks (now (others .entry)) id) ⌝ }
@@ -29,7 +29,7 @@ fn is_none_of(id: u32, others: &[u32]) -> bool
     (id != others[0]) & (id != others[1]) & (id != others[2]) & (id != others[3])
 }
 
-// Two blocks have no id in common. All pairs are compared, with no return on the way, so that the test compiles to vector code.
+// Whether two blocks have no id in common. Compares all pairs, without an early return, so that the test compiles to vector code.
 fn are_apart(ids: &[u32], others: &[u32]) -> bool
     requires { ⌜ length (now others) ≡ 4 ⌝ }
     ensures { λ r. ⌜ (r ≡ true → Apart (now (ids .entry)) (now (others .entry)) (length (now (ids .entry)))) ⌝ }
@@ -43,7 +43,7 @@ fn are_apart(ids: &[u32], others: &[u32]) -> bool
     apart
 }
 
-// Both lists have a block from here on, and these are apart.
+// Whether both lists have a full block from here on, and these blocks have no id in common.
 fn are_blocks_apart(ids: &[u32], others: &[u32], i: usize, o: usize) -> bool
     requires { ⌜ (i ≤ length (now ids)) × (o ≤ length (now others)) ⌝ }
     ensures { λ r. ⌜ (r ≡ true → ApartAt (now (ids .entry)) (now (others .entry)) i o 4) ⌝ }
@@ -57,8 +57,8 @@ fn are_blocks_apart(ids: &[u32], others: &[u32], i: usize, o: usize) -> bool
     are_apart(&ids[i..i + BLOCK], &others[o..o + BLOCK])
 }
 
-// Goes over blocks that are apart: of two such blocks the one that ends first is done with. One branch decides over four ids, and
-// where ids are by chance it is such branches that a walk waits for.
+// Skips blocks that have no id in common: of two such blocks, the one that ends first. It has one branch for four ids. With random
+// ids a merge spends its time on mispredicted branches.
 fn skip_apart(ids: &[u32], others: &[u32], from: Walk) -> Walk
     requires { ⌜ Searchable (now ids) × Searchable (now others) × (from .i ≤ length (now ids)) × (from .o ≤ length (now others)) ⌝ }
     ensures { λ r. ⌜ Passed (now (ids .entry)) (now (others .entry)) (from .i) (from .o) (r .i) (r .o) × (r .n ≡ from .n) ⌝ }
@@ -75,7 +75,7 @@ fn skip_apart(ids: &[u32], others: &[u32], from: Walk) -> Walk
     Walk { i, o, n: from.n }
 }
 
-// Where a walk stops that finds nothing from a place on.
+// The position at which the merge stops if it finds no common id from `i` on.
 fn stop_from(i: usize, end: usize) -> usize
     requires { ⌜ (i < end) × (end ≤ 65536) ⌝ }
     ensures { λ r. ⌜ (i < r) × (r ≤ end) ⌝ }
@@ -84,7 +84,8 @@ fn stop_from(i: usize, end: usize) -> usize
     if end < far { end } else { far }
 }
 
-// Walks on in step from where both lists have an id, until one of them ends or many ids in a row are none of the others.
+// Merges in step from two positions inside the lists. Stops at the end of a list, or after many consecutive ids that the other list
+// lacks.
 fn walk_on(ids: &[u32], others: &[u32], output: &mut [u32], from: Walk) -> Walk
     requires { ⌜ Fitting (now ids) (now output) × Searchable (now others) × (from .i < length (now ids)) × (from .o < length (now others)) × (from .n ≤ from .i) ⌝ }
     ensures { λ r. ⌜ Went (now (ids .entry)) (now (others .entry)) (now (output .entry)) (now (output .exit)) (from .i) (from .o) (from .n) (r .i) (r .o) (r .n) × (from .i + from .o < r .i + r .o) ⌝ }
@@ -126,7 +127,7 @@ fn walk_on(ids: &[u32], others: &[u32], output: &mut [u32], from: Walk) -> Walk
     }
 }
 
-// The ids that another list has too: walked in step, and gone over in blocks wherever a walk stops.
+// Writes the ids that the other list has too. Alternates between merging in step and skipping blocks.
 pub fn walk_long(ids: &[u32], others: &[u32], output: &mut [u32]) -> usize
     requires { ⌜ Fitting (now ids) (now output) × Searchable (now others) × (alike (length (now ids)) (length (now others)) ≡ true) ⌝ }
     ensures { λ r. ⌜ Wrote (now (output .entry)) (common (now (ids .entry)) (now (others .entry))) r (now (output .exit)) ⌝ }

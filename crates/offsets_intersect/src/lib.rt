@@ -1,5 +1,5 @@
-// `intersect` of offsets/mod.rs, with the Rust's forms and thresholds. Lists of like length are walked in step; else the
-// longer one is searched for the ids of the shorter.
+// `intersect` of offsets/mod.rs, with the Rust's forms and thresholds. Lists of similar length are merged in step. Otherwise the
+// longer list is searched for the ids of the shorter one.
 ghost use mathlib.Core.Path.{_≡_};
 ghost use mathlib.Core.Bool.{true};
 ghost use Prim.Native.Nat.{ℕ, _≤_, min, max};
@@ -19,9 +19,9 @@ use offsets_search::binary_search_by_id;
 use offsets_search::binary_search_from;
 use offsets_search::scan_for_offset;
 
-mod blocks; // blocks.rt: long lists of like length
+mod blocks; // blocks.rt: long lists of similar length
 
-// Lists of at most so many ids are walked in step from end to end.
+// Lists of at most this many ids are merged in step from start to end.
 const SHORT: usize = 16;
 
 // Writes the ids to the start of the output.
@@ -36,7 +36,7 @@ fn write_ids(output: &mut [u32], ids: &[u32])
     }
 }
 
-// The ids of a list that lie in a range: the part between two places.
+// Writes the ids of a list that are in a range: the part between two positions.
 fn keep_within(ids: &[u32], start: u32, end: u32, output: &mut [u32]) -> usize
     requires { ⌜ Fitting (now ids) (now output) × (start ≤ end) ⌝ }
     ensures { λ r. ⌜ Wrote (now (output .entry)) (keep (within start end) (now (ids .entry))) r (now (output .exit)) ⌝ }
@@ -49,8 +49,8 @@ fn keep_within(ids: &[u32], start: u32, end: u32, output: &mut [u32]) -> usize
     upto - from
 }
 
-// The ids that another list has too, both lists walked in step. The two ids at hand are kept, and each turn reads one: a loop
-// that reads both again takes half as long again wherever it comes to lie badly.
+// Writes the ids that the other list has too, by a linear merge. Keeps the two current ids in variables and reads one id an
+// iteration. A loop that reads both again takes half as long again where its code is badly aligned.
 fn walk_in_step(ids: &[u32], others: &[u32], output: &mut [u32]) -> usize
     requires { ⌜ Fitting (now ids) (now output) × Searchable (now others) × BothShort (length (now ids)) (length (now others)) ⌝ }
     ensures { λ r. ⌜ Wrote (now (output .entry)) (common (now (ids .entry)) (now (others .entry))) r (now (output .exit)) ⌝ }
@@ -87,7 +87,7 @@ fn walk_in_step(ids: &[u32], others: &[u32], output: &mut [u32]) -> usize
     }
 }
 
-// The ids that another, longer list has too: that one is searched by strides, each search from where the last one ended.
+// Writes the ids that another, longer list has too. Searches that list by strides, each search from the end of the one before.
 fn gallop_along(ids: &[u32], others: &[u32], output: &mut [u32]) -> usize
     requires { ⌜ Fitting (now ids) (now output) × Searchable (now others) × MuchLonger (length (now ids)) (length (now others)) ⌝ }
     ensures { λ r. ⌜ Wrote (now (output .entry)) (common (now (ids .entry)) (now (others .entry))) r (now (output .exit)) ⌝ }
@@ -117,7 +117,7 @@ fn gallop_along(ids: &[u32], others: &[u32], output: &mut [u32]) -> usize
     n as usize
 }
 
-// Two lists are of like length.
+// Whether two lists are of similar length.
 fn are_alike(a: usize, b: usize) -> bool
     requires { ⌜ a ≤ 65536 ⌝ }
     ensures { λ r. ⌜ r ≡ alike a b ⌝ }
@@ -125,7 +125,7 @@ fn are_alike(a: usize, b: usize) -> bool
     (a <= 16 && b <= 16) || (a / 4 <= b && b <= a * 4)
 }
 
-// Lists of like length, short or long.
+// Intersects lists of similar length, short or long.
 fn walk_alike(ids: &[u32], others: &[u32], output: &mut [u32]) -> usize
     requires { ⌜ Fitting (now ids) (now output) × Searchable (now others) × (alike (length (now ids)) (length (now others)) ≡ true) ⌝ }
     ensures { λ r. ⌜ Wrote (now (output .entry)) (common (now (ids .entry)) (now (others .entry))) r (now (output .exit)) ⌝ }
@@ -136,7 +136,7 @@ fn walk_alike(ids: &[u32], others: &[u32], output: &mut [u32]) -> usize
     blocks::walk_long(ids, others, output)
 }
 
-// The ids that both lists have: walked in step, or the longer one searched for those of the shorter one.
+// Writes the ids that both lists have: by a linear merge, or by searching the longer list for the ids of the shorter one.
 fn keep_common(ids: &[u32], others: &[u32], output: &mut [u32]) -> usize
     requires { ⌜ Fitting (now ids) (now output) × Searchable (now others) ⌝ }
     ensures { λ r. ⌜ Wrote (now (output .entry)) (common (now (ids .entry)) (now (others .entry))) r (now (output .exit)) ⌝ }
@@ -162,7 +162,7 @@ fn smaller(a: u32, b: u32) -> u32
     if a < b { a } else { b }
 }
 
-// Two ranges give a range. Where they do not meet it starts and ends at the larger start.
+// Two ranges give a range. If they do not meet, it starts and ends at the larger start.
 pub fn intersect_ranges(a: u32, b: u32, c: u32, d: u32) -> SubsetAnswer
     ensures { λ r. ⌜ ((output : List ℕ) → Answered (intersectReply (range a b) (range c d) (length output)) output r output) ⌝ }
 {
@@ -177,7 +177,7 @@ pub fn intersect_ranges(a: u32, b: u32, c: u32, d: u32) -> SubsetAnswer
     SubsetAnswer::Range(start, larger(start, end))
 }
 
-// A range with a list gives a list, or 0..0 where nothing is common.
+// A range with a list gives a list, or 0..0 if they have no id in common.
 fn intersect_range_list(start: u32, end: u32, ids: &[u32], output: &mut [u32]) -> SubsetAnswer
     requires { ⌜ Fitting (now ids) (now output) × (start ≤ end) ⌝ }
     ensures { λ r. ⌜ Answered (accepted (listOrNothing (keep (within start end) (now (ids .entry))))) (now (output .entry)) r (now (output .exit)) ⌝ }
@@ -207,7 +207,7 @@ fn intersect_lists(ids: &[u32], others: &[u32], output: &mut [u32]) -> SubsetAns
     SubsetAnswer::List(n as u32)
 }
 
-// How many ids an intersection needs room for.
+// The output length that an intersection needs.
 fn room_needed(
     first: SubsetHead,
     first_ids: &[u32],
@@ -225,7 +225,7 @@ fn room_needed(
     first_ids.len()
 }
 
-// The number of the first test that turns an intersection away, 0 if none does.
+// The number with which an intersection is refused, 0 if it is accepted.
 fn intersect_refusal(
     first: SubsetHead,
     first_ids: &[u32],
@@ -248,8 +248,8 @@ fn intersect_refusal(
     0
 }
 
-// The ids that two subsets have in common, with the Rust's forms. A list is written to the start of the output. Two ranges are asked
-// for first: they need no test of a list, which goes through memory, being too long to be inlined.
+// The ids that two subsets have in common, with the Rust's forms. Writes a list to the start of the output. Handles two ranges
+// first: they need no check of a list, which is too long to be inlined and passes its arguments in memory.
 pub fn intersect(
     first: SubsetHead,
     first_ids: &[u32],

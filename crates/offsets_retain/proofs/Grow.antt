@@ -54,21 +54,21 @@ module _ (kept : List ℕ) (id : ℕ) (e : rising (kept ++ (id ∷ [])) ≡ true
   long : length (kept ++ (id ∷ [])) ≡ length kept + 1
   long = simp length-append
 
-  -- those kept are below it
+  -- the kept ids are below the new one
   kept-below : (i : ℕ) → i < length kept → getD kept i 0 < id
   kept-below i h =
       let a = rising-at (kept ++ (id ∷ [])) e i (length kept) h (omega (arith, long)) in
       let b = List·getD-append kept (id ∷ []) 0 i h in
       omega (arith, last-is)
 
-  -- so there are no more than it says
+  -- so their number is at most the new id
   pub kept-few : length kept ≤ id
   kept-few =
       let a = rising-gap (kept ++ (id ∷ [])) e 0 (length kept) (omega (arith, long)) in
       let b = rw zero-add at a in
       omega (arith, last-is)
 
-  -- the gap after it, where those kept and one more end before it
+  -- the ids are not consecutive if the kept ids and one more end before the new one
   gap-of : 0 < length kept → getD kept 0 0 + length kept + 1 ≤ id
       → getD (kept ++ (id ∷ [])) 0 0 + length (kept ++ (id ∷ [])) ≤ getD (kept ++ (id ∷ [])) (length (kept ++ (id ∷ [])) - 1) 0
   gap-of h k =
@@ -97,7 +97,7 @@ begun =
           };
     }
 
--- what is kept where it is a range
+-- the kept ids while the answer is a range
 module _ (output₀ output : List ℕ) (g : Growing) (kept : List ℕ) (s : Grows output₀ output g kept) (d : g .written ≡ 0) where
   first-is : 0 < g .count → getD kept 0 0 ≡ g .start
   first-is h = ap (λ (l : List ℕ). getD l 0 0) (s .as-range d .ids) ∙ getD-countFrom (g .start) (g .count) 0 0 h ∙ add-zero (g .start)
@@ -161,7 +161,7 @@ module _ (output : List ℕ) (g : Growing) (id : ℕ) where
             };
       }
 
-  -- an id past a gap: the range is written out, and the id after it
+  -- an id that is not consecutive: the range is written out, and the id after it
   pub adds-gap : (filled : List ℕ) → g .written ≡ 0 → (g .count ≡ 0 → ⊥) → (g .start + g .count ≡ id → ⊥) → filled ≡ putAt output 0 (countFrom (g .start) (g .count))
       → Adds output g id (pushed g) (set filled (g .count) id)
   unfolding pushed

@@ -1,5 +1,5 @@
-// The answer of `retain` over a range as it grows: a range while the kept ids are neighbours, then a list of all of them.
-// `retain` itself stands where its test is.
+// Builds the answer of `retain` over a range: a range while the kept ids are consecutive, then a list of all of them. The loop of
+// `retain` itself is in the crate that has its test.
 ghost use mathlib.Core.Path.{_≡_};
 ghost use Prim.Native.Nat.{_+_, _≤_, _<_};
 ghost use lib.ListN.{length, set};
@@ -7,15 +7,15 @@ ghost use Rattle.lists.specs.Lists.{putAt, countFrom};
 ghost use Rattle.offsets_retain.specs.inner.Growing.{pushed, CanAdd, Adds, GrowthBegins, GrowthEnds};
 use offsets::SubsetAnswer;
 
-// The answer of `retain` over a range as it grows: how many ids are kept, the first of them, and how many are written. None is
-// while they are neighbours; all are once they are not. It is plain numbers, which a loop holds in registers.
+// The answer of `retain` over a range while it is built: the first kept id, the number of kept ids, and the number of ids written.
+// No id is written while they are consecutive; afterwards all of them are. It has only numbers, which a loop holds in registers.
 pub struct Growing {
     pub start: u32,
     pub count: u32,
     pub written: u32,
 }
 
-// Nothing is kept yet.
+// The initial state: nothing is kept.
 pub fn empty() -> Growing
     ensures { λ r. ⌜ GrowthBegins r ⌝ }
 {
@@ -26,7 +26,7 @@ pub fn empty() -> Growing
     }
 }
 
-// Writes neighbouring ids to the start of the output.
+// Writes consecutive ids to the start of the output.
 pub fn fill_from_dense(output: &mut [u32], start: u32, count: u32)
     requires { ⌜ (start + count < 4294967296) × (count ≤ length (now output)) ⌝ }
     ensures { λ _. ⌜ now (output .exit) ≡ putAt (now (output .entry)) 0 (countFrom start count) ⌝ }
@@ -39,7 +39,7 @@ pub fn fill_from_dense(output: &mut [u32], start: u32, count: u32)
     }
 }
 
-// Writes one more id, after the others, which are written.
+// Appends an id to the output. All others are written already.
 fn push_id(g: Growing, output: &mut [u32], id: u32) -> Growing
     requires { ⌜ (g .count < length (now output)) × (g .count < 4294967295) ⌝ }
     ensures { λ r. ⌜ (r ≡ pushed g) × (now (output .exit) ≡ set (now (output .entry)) (g .count) id) ⌝ }
@@ -52,7 +52,7 @@ fn push_id(g: Growing, output: &mut [u32], id: u32) -> Growing
     more
 }
 
-// One more kept id, above the others.
+// Adds a kept id, which is above the others.
 pub fn add_row_sorted(g: Growing, output: &mut [u32], id: u32) -> Growing
     requires { ⌜ CanAdd (now output) g id ⌝ }
     ensures { λ r. ⌜ Adds (now (output .entry)) g id r (now (output .exit)) ⌝ }
@@ -74,7 +74,7 @@ pub fn add_row_sorted(g: Growing, output: &mut [u32], id: u32) -> Growing
     push_id(g, output, id)
 }
 
-// The answer, when no more is kept.
+// The answer, once all kept ids are added.
 pub fn grown(g: Growing) -> SubsetAnswer
     requires { ⌜ (g .written ≡ 0 → g .start + g .count < 4294967296) ⌝ }
     ensures { λ r. ⌜ GrowthEnds g r ⌝ }

@@ -1,4 +1,4 @@
--- The loops of the searches, a step at a time, and what each return of a scan says. Assumes nothing.
+-- The loops of the searches, one step at a time, and the result of each return of a scan. Assumes nothing.
 use Prim.Native.Nat.{ℕ, _+_, _-_, _*_, _≤_, _<_}
 use mathlib.Core.Path.{_≡_, sym, ap}
 use mathlib.Core.Bool.{true, false}
@@ -40,7 +40,7 @@ module _ (cells : List ℕ) (width start end target : ℕ) where
         let z : high ≡ low = omega (arith, s .order) in
         record { from = s .from; order = omega arith; upto = omega (arith, s .upto, z); below = s .below; above = rw z at (s .above) }
 
--- in a rising list the place that is bracketed is the target's
+-- in a rising list the bracketed position is the target's
 pub bracket-place : (ids : List ℕ) (start end target r : ℕ) → end ≤ length ids → Bracketed ids 1 start end target r r → SearchedPart ids start end target r
 bracket-place ids start end target r inside s =
     record {
@@ -72,7 +72,7 @@ bracket-place ids start end target r inside s =
 
 -- ---- the strides
 
--- the id at `low` is below the target; `left` ids stand from there on, and the stride to come fits 32 bits
+-- the id at `low` is below the target; `left` ids are from there on, and the next stride fits 32 bits
 pub record Strides (ids : List ℕ) (target low left step : ℕ) : Type 0 where
   pub few : length ids ≤ 65536
   pub whole : low + left ≡ length ids
@@ -111,7 +111,7 @@ module _ (ids : List ℕ) (target low left step : ℕ) (s : Strides ids target l
         upto = λ e. rw (s .whole) (notBelow-le target ids);
       }
 
--- ---- what a scan says
+-- ---- the result of a scan
 
 scan-hit : (ids : List ℕ) (target p : ℕ) → rising ids ≡ true → p < length ids → getD ids p 0 ≡ target → Hit p ≡ scan target ids
 unfolding scan
@@ -152,7 +152,7 @@ scanned-before ids start target h k =
       finds = λ e q. scan-miss ids target start e (let p = notBelow-upto target ids e start h (omega arith) in omega arith) (λ a b. omega arith);
     }
 
--- after the strides: the binary search gives the place, and the last look what stands there
+-- after the strides: the binary search gives the position, and `scan_at` compares the id there
 pub scanned-part : (ids : List ℕ) (start target low high p : ℕ) (r : Scan) → ReachedBetween ids target low high → SearchedPart ids low high target p → ScannedAt ids p target r
     → Scanned ids start target r
 scanned-part ids start target low high p r g s a = record { within = a .within; finds = λ e q. a .finds e (s .first e (g .after e) (g .upto e)) }

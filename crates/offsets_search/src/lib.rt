@@ -1,5 +1,5 @@
 // Searches in a rising list of ids: offsets/mod.rs. A binary search, and the search by doubling strides that `offsets_intersect`
-// makes in the longer of two lists. A list has at most 65,536 ids, so places and strides are held in 32 bits.
+// makes in the longer of two lists. A list has at most 65,536 ids, so positions and strides have 32 bits.
 ghost use mathlib.Core.Path.{_≡_};
 ghost use Prim.Native.Nat.{_≤_, _<_};
 ghost use mathlib.Core.Bool.{true};
@@ -8,8 +8,8 @@ ghost use Rattle.lists.specs.Lists.{rising};
 ghost use Rattle.lists.specs.inner.Searching.{firstNotBelow};
 ghost use Rattle.offsets_search.specs.inner.Search.{Spaced, Bracketed, Searched, SearchedFrom, SearchedPart, Reached, ScannedAt, Scanned};
 
-// A place between two others such that the number before it is below the target and the one at it is not: a binary search.
-// The numbers stand `width` cells apart. Sort entries, which are pairs, are searched by it too.
+// Binary search: a position such that the number before it is below the target and the number at it is not. The numbers are `width`
+// cells apart. Sort entries, which are pairs, use it too.
 pub fn binary_search_cells(cells: &[u32], width: usize, start: u32, end: u32, target: u32) -> u32
     requires { ⌜ Spaced (now cells) width end × (start ≤ end) ⌝ }
     ensures { λ r. ⌜ Bracketed (now (cells .entry)) width start end target r r ⌝ }
@@ -27,7 +27,7 @@ pub fn binary_search_cells(cells: &[u32], width: usize, start: u32, end: u32, ta
     low
 }
 
-// The binary search of `binary_search_from` in the part of the list between two places.
+// The binary search of `binary_search_from` in the part of the list between two positions.
 fn binary_search_part(ids: &[u32], start: u32, end: u32, target: u32) -> u32
     requires { ⌜ (start ≤ end) × (end ≤ length (now ids)) ⌝ }
     ensures { λ r. ⌜ SearchedPart (now (ids .entry)) start end target r ⌝ }
@@ -35,8 +35,8 @@ fn binary_search_part(ids: &[u32], start: u32, end: u32, target: u32) -> u32
     binary_search_cells(ids, 1, start, end, target)
 }
 
-// The first place from `start` on whose id is not below the target, where the ids rise and those before `start` are below
-// it.
+// The first position from `start` on whose id is not below the target. The ids must rise, and those before `start` must be below
+// the target.
 pub fn binary_search_from(ids: &[u32], start: u32, target: u32) -> u32
     requires { ⌜ (length (now ids) ≤ 65536) × (start ≤ length (now ids)) ⌝ }
     ensures { λ r. ⌜ SearchedFrom (now (ids .entry)) start target r ⌝ }
@@ -45,7 +45,7 @@ pub fn binary_search_from(ids: &[u32], start: u32, target: u32) -> u32
     binary_search_part(ids, start, end, target)
 }
 
-// The first place whose id is not below the target.
+// The first position whose id is not below the target.
 pub fn binary_search_by_id(ids: &[u32], target: u32) -> u32
     requires { ⌜ length (now ids) ≤ 65536 ⌝ }
     ensures { λ r. ⌜ Searched (now (ids .entry)) target r ⌝ }
@@ -53,19 +53,20 @@ pub fn binary_search_by_id(ids: &[u32], target: u32) -> u32
     binary_search_from(ids, 0, target)
 }
 
-// Where a list has the target, or the place at which it would stand.
+// The position of the target, or the position to insert it at.
 pub enum Scan {
     Hit(u32),
     Next(u32),
 }
 
-// Where strides stop: on the target, or with its place between two others.
+// The result of the strides: the position of the target, or two positions between which it is.
 enum Reach {
     At(u32),
     Between(u32, u32),
 }
 
-// Strides from `start`, whose id is below the target, each twice as long as the one before, until one is too long.
+// Strides from `start`, whose id is below the target. Each stride is twice as long as the one before. Stops at the target, past it,
+// or at the end of the list.
 fn gallop(ids: &[u32], start: u32, target: u32) -> Reach
     requires { ⌜ (length (now ids) ≤ 65536) × (start < length (now ids)) × (rising (now ids) ≡ true → start < firstNotBelow target (now ids)) ⌝ }
     ensures { λ r. ⌜ Reached (now (ids .entry)) target r ⌝ }
@@ -89,7 +90,7 @@ fn gallop(ids: &[u32], start: u32, target: u32) -> Reach
     Reach::Between(low + 1, low + left)
 }
 
-// What stands at the target's place.
+// Whether the target is at its position.
 fn scan_at(ids: &[u32], at: u32, target: u32) -> Scan
     requires { ⌜ at ≤ length (now ids) ⌝ }
     ensures { λ r. ⌜ ScannedAt (now (ids .entry)) at target r ⌝ }
@@ -103,8 +104,8 @@ fn scan_at(ids: &[u32], at: u32, target: u32) -> Scan
     Scan::Next(at)
 }
 
-// The target's place from `start` on, by doubling strides and a binary search in the last one, where the ids rise and
-// those before `start` are below the target.
+// The target's position from `start` on, by doubling strides and a binary search in the last stride. The ids must rise, and those
+// before `start` must be below the target.
 pub fn scan_for_offset(ids: &[u32], start: u32, target: u32) -> Scan
     requires { ⌜ length (now ids) ≤ 65536 ⌝ }
     ensures { λ r. ⌜ Scanned (now (ids .entry)) start target r ⌝ }

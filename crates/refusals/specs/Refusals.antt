@@ -1,29 +1,29 @@
--- Refusals: "a refusal gives its number". An operation's tests are a list of rungs, in the paper's order; the first that
--- applies gives the number. Assumes nothing.
+-- Refusals: "a refusal gives its number". An operation has a list of checks, in the paper's order; the first that applies gives the
+-- number. Assumes nothing.
 use Prim.Native.Nat.{ℕ, zero, suc}
 use mathlib.Core.Bool.{Bool, cond}
 use mathlib.Core.List.{List, [], _∷_}
 
--- whether it applies, and its number
+-- a check: whether it applies, and its number
 pub data Rung : Type 0 where
   rung : Bool → ℕ → Rung
 
--- the first number that applies, 0 if none
+-- the number of the first check that applies, 0 if none does
 unfoldable pub first : List Rung → ℕ
 first [] = 0
 first (rung applies number ∷ rungs) = cond applies number (first rungs)
 
--- what an operation answers: its refusal's number, or a value
+-- the reply of an operation: the number of its refusal, or a value
 pub data Reply (A : Type 0) : Type 0 where
   refused : ℕ → Reply A
   accepted : A → Reply A
 
--- refused if a ladder gives a number
+-- refused if the number is not 0
 unfoldable pub reply : {A : Type 0} → ℕ → A → Reply A
 reply zero value = accepted value
 reply (suc n) value = refused (suc n)
 
--- whether it was refused, and by which number; its value forgotten (`Unit {0}` is the type of `tt` alone)
+-- whether a reply is refused, and with which number; forgets its value (`Unit {0}` is the type that has only `tt`)
 unfoldable pub verdict : {A : Type 0} → Reply A → Reply (Unit {0})
 verdict (refused n) = refused n
 verdict (accepted value) = accepted tt

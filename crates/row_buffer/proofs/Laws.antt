@@ -1,4 +1,4 @@
--- The turns of the copier inside a part and of `same_cells`, and the masks of the words of marks. Assumes nothing.
+-- The loop iterations of `move_row` and of `same_cells`, and the masks of bitmap words. Assumes nothing.
 use Prim.Native.Nat.{ℕ, suc, _+_, _-_, _*_, _%_, _^_, _≤_, _<_}
 use mathlib.Core.Path.{_≡_, sym, ap, ap₂, _∙_}
 use mathlib.Core.Bool.{true, false, _&&_}
@@ -25,7 +25,7 @@ use Rattle.row_buffer.specs.Laws.Rows.{ones-below}
 abbrev pub down : List ℕ → ℕ → ℕ → List ℕ
 down l gap i = take i (drop gap l) ++ drop i l
 
--- the cell read is the one at entry: it lies above what is written
+-- the cell read is the one at entry: it is above the cells written so far
 read-down : (l : List ℕ) (gap i : ℕ) → gap + i < length l → getD (down l gap i) (gap + i) 0 ≡ getD (drop gap l) i 0
 read-down l gap i h =
     let n : length (take i (drop gap l)) ≡ i = length-take-le i (drop gap l) (simp length-drop (omega arith)) in
@@ -37,7 +37,7 @@ down-step l gap i h =
     let s : i < length (drop gap l) = simp length-drop (omega arith) in
     ap (set (down l gap i) i) (read-down l gap i h) ∙ copy-step (drop gap l) l i 0 s (omega arith)
 
--- a row moved inside the lent part, said of the whole
+-- a row moved inside the borrowed part, stated for the whole store
 pub moved-part : (l : List ℕ) (to from width : ℕ) → to ≤ from → from + width ≤ length l
     → putMid to (length l - to) l (down (take (length l - to) (drop to l)) (from - to) width) ≡ putAt l to (take width (drop from l))
 moved-part l to from width h k =
@@ -48,7 +48,7 @@ moved-part l to from width h k =
     ap₂ (λ (x : List ℕ) (n : ℕ). putMid to (length l - to) l (x ++ drop n (take (length l - to) (drop to l)))) row (sym w)
     ∙ put-part l (take width (drop from l)) to
 
--- a row moved to where it stands
+-- a row moved to its own position
 pub moved-nowhere : (l : List ℕ) (to from width : ℕ) → to ≡ from → from + width ≤ length l → l ≡ putAt l to (take width (drop from l))
 unfolding putAt
 moved-nowhere l to from width e k =
@@ -73,7 +73,7 @@ pub ended : (a b : List ℕ) (i : ℕ) → length a ≤ i → length b ≤ i →
 unfolding same
 ended a b i ha hb = rw (drop-of-length-le a ha, drop-of-length-le b hb)
 
--- ---- words of marks
+-- ---- bitmap words
 
 one-shl : (k : ℕ) → k < 64 → (1 * 2 ^ k) % 2 ^ 64 ≡ 2 ^ k
 one-shl k h = shl-exact {a = 1} 1 k 64 (omega arith) (omega arith) ∙ one-mul (2 ^ k)

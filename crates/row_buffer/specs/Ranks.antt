@@ -1,23 +1,23 @@
--- The new numbers of rows (document 01, "Compaction"): "One 64-bit word marks the live rows of each 64, with the new number
--- of the first live one beside it; a row's new number is that plus the count of ones below its bit". Over rows of any kind
--- and any test of being live. Assumes nothing.
+-- The new numbers of rows (document 01, "Compaction"): "One 64-bit word marks the live rows of each 64, with the new number of the
+-- first live one beside it; a row's new number is that plus the count of ones below its bit". Generic over the type of rows and the
+-- test for being live. Assumes nothing.
 use Prim.Native.Nat.{ℕ, zero, suc, _+_, _/_, _%_, _^_}
 use mathlib.Core.Bool.{Bool, false, cond}
 use mathlib.Core.List.{List, [], _∷_}
 use lib.ListN.{take}
 use Rattle.lists.specs.Lists.{count}
 
--- "the count of ones below its bit": how many of the digits of word below place `bit` are set
+-- "the count of ones below its bit": the number of set digits of `word` below position `bit`
 unfoldable pub setBelow : ℕ → ℕ → ℕ
 setBelow word zero = 0
 setBelow word (suc bit) = setBelow word bit + word / 2 ^ bit % 2
 
--- the word that marks each place below n at which f says so
+-- the bitmap word of the positions below n that pass f
 unfoldable pub marks : (ℕ → Bool) → ℕ → ℕ
 marks f zero = 0
 marks f (suc n) = marks f n + cond (f n) (2 ^ n) 0
 
--- how many those are
+-- the number of positions below n that pass f
 unfoldable pub countTo : (ℕ → Bool) → ℕ → ℕ
 countTo f zero = 0
 countTo f (suc n) = countTo f n + cond (f n) 1 0
@@ -29,10 +29,10 @@ module _ {A : Type 0} where
   liveAt live (row ∷ rows) zero = live row
   liveAt live (row ∷ rows) (suc i) = liveAt live rows i
 
-  -- the word of the n rows from row `start` on
+  -- the bitmap word of the n rows from row `start` on
   unfoldable pub liveWord : (A → Bool) → List A → ℕ → ℕ → ℕ
   liveWord live rows start n = marks (λ bit. liveAt live rows (start + bit)) n
 
-  -- the number that row i gets, if it is live: how many live rows stand before it
+  -- the new number of row i, if it is live: the number of live rows before it
   unfoldable pub newNumber : (A → Bool) → List A → ℕ → ℕ
   newNumber live rows i = count live (take i rows)

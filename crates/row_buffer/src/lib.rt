@@ -1,6 +1,6 @@
-// Rows of cells, one after another in a lent store: the part of `RowBuffer` of row_buffer/mod.rs that a table uses, and the
-// numbers that rows get in a compaction. `at`, `to` and `from` are the place of a row's first cell in the store. The callers
-// keep rows inside the store; each function asks that.
+// Rows of cells, one after another in a lent store: the part of `RowBuffer` of row_buffer/mod.rs that a table uses, and the new
+// numbers of rows in a compaction. `at`, `to` and `from` are positions of a row's first cell in the store. Each function requires
+// that the row is inside the store.
 ghost use mathlib.Core.Path.{_≡_};
 ghost use Prim.Native.Nat.{_+_, _^_, _≤_, _<_};
 ghost use mathlib.Core.List.{_++_};
@@ -18,7 +18,7 @@ pub fn is_dead(rows: &[u32], at: usize) -> bool
     cells::is_stale(rows[at])
 }
 
-// Marks a row dead, and answers whether it was dead already, so that no row is counted dead twice.
+// Marks a row dead. Returns whether it was dead already, so that no row is counted as dead twice.
 pub fn set_stale(rows: &mut [u32], at: usize) -> bool
     requires { ⌜ at < length (now rows) ⌝ }
     ensures { λ r. ⌜ Staled (now (rows .entry)) at r (now (rows .exit)) ⌝ }
@@ -28,7 +28,7 @@ pub fn set_stale(rows: &mut [u32], at: usize) -> bool
     was
 }
 
-// The row copier: writes a row at the start of the part of a store that it is lent.
+// Copies a row to the start of a borrowed part of a store.
 fn copy_row(part: &mut [u32], row: &[u32])
     requires { ⌜ length (now row) ≤ length (now part) ⌝ }
     ensures { λ _. ⌜ now (part .exit) ≡ now (row .entry) ++ drop (length (now (row .entry))) (now (part .entry)) ⌝ }
@@ -48,8 +48,8 @@ pub fn write_row(rows: &mut [u32], at: usize, row: &[u32])
     copy_row(&mut rows[at..], row);
 }
 
-// The copier of a row that stands in the lent part itself, `gap` cells from its start. Each cell is read before it is
-// written over, since writing goes up and stays below what is still to be read.
+// Moves a row inside the borrowed part, from `gap` cells after its start to its start. Copies upwards, so each cell is read before
+// it is overwritten.
 fn move_row(part: &mut [u32], gap: usize, width: usize)
     requires { ⌜ gap + width ≤ length (now part) ⌝ }
     ensures { λ _. ⌜ now (part .exit) ≡ take width (drop gap (now (part .entry))) ++ drop width (now (part .entry)) ⌝ }
@@ -61,7 +61,7 @@ fn move_row(part: &mut [u32], gap: usize, width: usize)
     }
 }
 
-// Moves a row down to a place at or below its own. Where that is its own nothing is to be done.
+// Moves a row down to a position at or below its own. Does nothing if the two are equal.
 pub fn move_down(rows: &mut [u32], to: usize, from: usize, width: usize)
     requires { ⌜ (to ≤ from) × (from + width ≤ length (now rows)) ⌝ }
     ensures { λ _. ⌜ now (rows .exit) ≡ putAt (now (rows .entry)) to (take width (drop from (now (rows .entry)))) ⌝ }
@@ -90,7 +90,7 @@ pub fn same_cells(a: &[u32], b: &[u32]) -> bool
     true
 }
 
-// The row at `at` has this key as its first cells.
+// Whether the row at `at` begins with this key.
 pub fn same_key(rows: &[u32], at: usize, key: &[u32]) -> bool
     requires { ⌜ at + length (now key) ≤ length (now rows) ⌝ }
     ensures { λ r. ⌜ r ≡ same (take (length (now (key .entry))) (drop at (now (rows .entry)))) (now (key .entry)) ⌝ }
@@ -99,7 +99,7 @@ pub fn same_key(rows: &[u32], at: usize, key: &[u32]) -> bool
     same_cells(&rows[at..end], key)
 }
 
-// The new number of the row at `bit` of a word of live marks, before whose first row `base` live rows stand.
+// The new number of the row at `bit` of a bitmap word of live rows. `base` is the number of live rows before the word's first row.
 pub fn rank(live: u64, base: u32, bit: u32) -> u32
     requires { ⌜ (bit < 64) × (base ≤ 65536) ⌝ }
     ensures { λ r. ⌜ r ≡ base + setBelow live bit ⌝ }
@@ -108,7 +108,7 @@ pub fn rank(live: u64, base: u32, bit: u32) -> u32
     base + u64::count_ones(below)
 }
 
-// The word with one mark more, above those that it has.
+// Sets one more bit, above those that are set.
 pub fn add_mark(word: u64, bit: u32) -> u64
     requires { ⌜ (bit < 64) × (word < 2 ^ bit) ⌝ }
     ensures { λ r. ⌜ r ≡ word + 2 ^ bit ⌝ }

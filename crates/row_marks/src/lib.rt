@@ -1,13 +1,13 @@
-// A bitmap of rows: 64 to a word, so that a pass over it goes from mark to mark in rising order.
+// A bitmap of rows, 64 to a word. A pass over it visits the set rows in rising order.
 ghost use mathlib.Core.Path.{_≡_};
 ghost use Prim.Native.Nat.{_<_};
 ghost use lib.ListN.{length};
 ghost use Rattle.row_marks.specs.inner.Bitmaps.{MarkedOne};
 
-// Words of a bitmap of as many rows as a table may have.
+// The number of words of a bitmap for the maximal number of rows of a table.
 pub const WORDS: usize = 1024;
 
-// Marks a row: 1 if it was not marked before, else 0.
+// Sets a row's bit. Returns 1 if it was not set before, else 0.
 pub fn mark(words: &mut [u64], row: u32) -> u32
     requires { ⌜ (length (now words) ≡ 1024) × (row < 65536) ⌝ }
     ensures { λ r. ⌜ MarkedOne (now (words .entry)) row (now (words .exit)) r ⌝ }

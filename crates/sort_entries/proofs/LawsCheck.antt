@@ -217,7 +217,7 @@ module _ (store : List ℕ) (columns sort rows : ℕ) (sorts : List ℕ) (n : �
   abbrev passes : ℕ → Bool
   passes row = cellSound store columns sort row (valueAt row (entriesOf n sorts))
 
-  -- rows from i on are still to be looked at, with the entries from place `at` on
+  -- the rows from i on are still to be checked, with the entries from position `at` on
   pub record Rest (at i : ℕ) : Type 0 where
     pub few : i ≤ rows
     pub inside : at ≤ n

@@ -1,4 +1,4 @@
--- Where a value stands by the result of the binary search. Assumes nothing.
+-- The position of a value, from the result of the binary search. Assumes nothing.
 use Prim.Native.Nat.{ℕ, _+_, _-_, _*_, _≤_, _<_}
 use mathlib.Core.Path.{_≡_, refl, sym, ap, ap₂, _∙_}
 use mathlib.Core.Logic.{_⊎_, inl, inr}
@@ -21,7 +21,7 @@ use Rattle.sort_entries.specs.declared.Standing.{Standing}
 use Rattle.sort_entries.specs.declared.Range.{Range}
 use Rattle.sort_entries.specs.inner.Search.{Stands, Ranged, standsAt, rangeOf}
 
--- ---- the row of the entry at a place
+-- ---- the row of the entry at a position
 
 pub row-at : (store : List ℕ) (n rows k : ℕ) → k < n → getD store (2 * k + 1) 0 ≡ firstRow (drop k (entriesOf n store)) rows
 row-at store n rows k h =
@@ -33,13 +33,13 @@ row-past store n rows k h =
     let q : length (entriesOf n store) ≤ k = rw (length-entriesOf n store) h in
     sym (firstRow-past (entriesOf n store) k rows q)
 
--- ---- where the value stands
+-- ---- the position of the value
 
 module _ (store : List ℕ) (n rows v at : ℕ) (l : Bracketed store 2 0 n v at at) where
   inside : at ≤ length (entriesOf n store)
   inside = rw (length-entriesOf n store) (l .upto)
 
-  -- the entries before the place are below the value: the last of them is, and values rise
+  -- the entries before the position are below the value: the last of them is, and values rise
   before : entriesSound (entriesOf n store) rows ≡ true → (i : ℕ) → i < at → valueOf (entriesOf n store) i < v
   before s i h =
       let r = sound-facts (entriesOf n store) rows s in
@@ -78,7 +78,7 @@ module _ (store : List ℕ) (n rows v at : ℕ) (l : Bracketed store 2 0 n v at 
           let c = ne h in
           omega arith
 
--- ---- the last arm of the ranges without an entry of the value: kinds 3 and 5 alike
+-- ---- the last match arm of `range_absent`: kinds 3 and 5
 
 either-way : (t : Bool) (s : Subset) → s ≡ cond t s s
 either-way true s = refl

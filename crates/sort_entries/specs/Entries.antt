@@ -24,26 +24,27 @@ unfoldable pub entryWords : List Entry → List ℕ
 entryWords [] = []
 entryWords (e ∷ es) = e .value ∷ e .row ∷ entryWords es
 
--- there is no entry, or the last one's value passes the test
+-- there is no entry, or the last entry's value passes the test
 unfoldable pub last : (ℕ → Bool) → List Entry → Bool
 last test [] = true
 last test (e ∷ []) = test (e .value)
 last test (e ∷ (f ∷ es)) = last test (f ∷ es)
 
--- the entries after a row of this sort value is appended: one more only if the value rises
+-- the entries after a row with this sort value is appended: one more exactly if the value rises
 unfoldable pub push : ℕ → ℕ → List Entry → List Entry
 push value row es = cond (last (λ v. ltb v value) es) (es ++ (entry value row ∷ [])) es
 
--- the entries after rows of these sort values, numbered from `row`, are appended one after another
+-- the entries after rows with these sort values, numbered from `row`, are appended one after another
 unfoldable pub pushAll : ℕ → List ℕ → List Entry → List Entry
 pushAll row [] es = es
 pushAll row (value ∷ values) es = pushAll (suc row) values (push value row es)
 
--- the entries of rows of these sort values, numbered from 0. A compaction's are "rebuilt from live rows": it has no others
+-- the entries of rows with these sort values, numbered from 0. Those of a compaction are "rebuilt from live rows", since there are
+-- no other rows
 unfoldable pub rebuilt : List ℕ → List Entry
 rebuilt values = pushAll 0 values []
 
--- the row of the first of these entries, or the row count
+-- the row of the first entry, or the row count if there is none
 unfoldable pub firstRow : List Entry → ℕ → ℕ
 firstRow [] rows = rows
 firstRow (e ∷ es) rows = e .row
@@ -64,7 +65,8 @@ valueAt row [] = 0
 valueAt row (e ∷ []) = e .value
 valueAt row (e ∷ (f ∷ es)) = cond (leb (f .row) row) (valueAt row (f ∷ es)) (e .value)
 
--- "sort entries rise strictly, lie below the row count and begin at row 0 where there is a row": without an entry there is none
+-- "sort entries rise strictly, lie below the row count and begin at row 0 where there is a row": without an entry the row count is
+-- 0
 unfoldable pub entriesSound : List Entry → ℕ → Bool
 entriesSound es rows =
     rising (map (λ e. e .value) es)

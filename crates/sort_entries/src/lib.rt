@@ -1,4 +1,4 @@
-// Sort entries: `offsets` of table/mod.rs. A lent store holds them, two words each: a value and its first row.
+// Sort entries: `offsets` of table/mod.rs. A lent store has them, two words each: a value and its first row.
 ghost use mathlib.Core.Path.{_≡_};
 ghost use Prim.Native.Nat.{_≤_, _<_};
 ghost use lib.ListN.{drop};
@@ -9,7 +9,7 @@ ghost use Rattle.sort_entries.specs.inner.Search.{Held, Stands, Ranged, 
 ghost use Rattle.sort_entries.specs.inner.Checks.{Decides, Follows, Advanced, headValue, Cells, cellSound, cellsSound};
 use offsets_search::binary_search_cells;
 
-// A row that is appended, or kept by a compaction: its entry, if its value rises. Gives the new number of entries.
+// Appends the entry of a row that is appended, or kept by a compaction, if its value rises. Returns the new number of entries.
 pub fn append_entry(sorts: &mut [u32], entries: u32, value: u32, row: u32) -> u32
     requires { ⌜ Room (now sorts) entries ⌝ }
     ensures { λ r. ⌜ Append (now (sorts .entry)) entries value row r (now (sorts .exit)) ⌝ }
@@ -26,8 +26,8 @@ pub fn append_entry(sorts: &mut [u32], entries: u32, value: u32, row: u32) -> u3
     entries + 1
 }
 
-// Where a value stands: an entry has it, whose row is the first and the next entry's the second, or none has, and the
-// row is that of the first entry above it. The row count stands for the row of a missing entry.
+// The position of a value among the entries. `Found`: an entry has the value; the fields are its row and the next entry's row.
+// `Absent`: no entry has it; the field is the row of the first entry above it. The row of a missing entry is the row count.
 pub enum Standing {
     Found(u32, u32),
     Absent(u32),
@@ -39,7 +39,7 @@ pub struct Range {
     pub end: u32,
 }
 
-// The row of the entry at a place, or the row count.
+// The row of the entry at a position, or the row count if there is none.
 fn row_from(sorts: &[u32], entries: u32, rows: u32, at: u32) -> u32
     requires { ⌜ Held (now sorts) entries ⌝ }
     ensures { λ r. ⌜ r ≡ firstRow (drop at (entriesOf entries (now (sorts .entry)))) rows ⌝ }
@@ -51,7 +51,7 @@ fn row_from(sorts: &[u32], entries: u32, rows: u32, at: u32) -> u32
     sorts[row_word]
 }
 
-// Where a value stands among the entries: `binary_search_sort_val`.
+// The position of a value among the entries: `binary_search_sort_val`.
 fn stand(sorts: &[u32], entries: u32, rows: u32, value: u32) -> Standing
     requires { ⌜ Held (now sorts) entries ⌝ }
     ensures { λ r. ⌜ Stands (now (sorts .entry)) entries rows value r ⌝ }
@@ -68,7 +68,7 @@ fn stand(sorts: &[u32], entries: u32, rows: u32, value: u32) -> Standing
     Standing::Absent(first)
 }
 
-// The range of a kind, where the rows from `first` to `next` have the value.
+// The range of a condition kind, if the rows from `first` to `next` have the value.
 fn range_found(kind: u32, first: u32, next: u32, rows: u32) -> Range
     ensures { λ r. ⌜ rangeOf r ≡ rangeAt kind (standsAt (Standing.Found first next)) rows ⌝ }
 {
@@ -96,7 +96,7 @@ fn range_found(kind: u32, first: u32, next: u32, rows: u32) -> Range
     }
 }
 
-// The range of a kind, where no row has the value and those from `above` on have higher ones.
+// The range of a condition kind, if no row has the value and those from `above` on have higher ones.
 fn range_absent(kind: u32, above: u32, rows: u32) -> Range
     ensures { λ r. ⌜ rangeOf r ≡ rangeAt kind (standsAt (Standing.Absent above)) rows ⌝ }
 {
@@ -125,7 +125,7 @@ pub fn fast_range(sorts: &[u32], entries: u32, rows: u32, kind: u32, value: u32)
     }
 }
 
-// Whether the entry at a place lies below the row count and above the entry before it, by value and by row.
+// Whether the entry at a position is below the row count and above the entry before it, by value and by row.
 fn entry_sound(sorts: &[u32], entries: u32, rows: u32, i: u32) -> bool
     requires { ⌜ Held (now sorts) entries ⌝ }
     requires { ⌜ i < entries ⌝ }
@@ -148,7 +148,7 @@ fn entry_sound(sorts: &[u32], entries: u32, rows: u32, i: u32) -> bool
     row_before < row
 }
 
-// Whether the entries rise, lie below the row count and begin at row 0 where there is a row: one pass.
+// Whether the entries rise, are below the row count and begin at row 0 if there is a row. One pass.
 pub fn entries_sound(sorts: &[u32], entries: u32, rows: u32) -> bool
     requires { ⌜ Held (now sorts) entries ⌝ }
     ensures { λ r. ⌜ r ≡ entriesSound (entriesOf entries (now (sorts .entry))) rows ⌝ }
@@ -166,7 +166,7 @@ pub fn entries_sound(sorts: &[u32], entries: u32, rows: u32) -> bool
     true
 }
 
-// The place of the entry that holds for a row, from that of one that held before.
+// The position of the entry that applies to a row, searched from that of an earlier row.
 fn advance(sorts: &[u32], entries: u32, from: u32, row: u32) -> u32
     requires { ⌜ Held (now sorts) entries ⌝ }
     requires { ⌜ from ≤ entries ⌝ }
@@ -183,7 +183,7 @@ fn advance(sorts: &[u32], entries: u32, from: u32, row: u32) -> u32
     at
 }
 
-// The value of the entry at a place, 0 past the last.
+// The value of the entry at a position, 0 past the last.
 fn value_from(sorts: &[u32], entries: u32, at: u32) -> u32
     requires { ⌜ Held (now sorts) entries ⌝ }
     ensures { λ r. ⌜ r ≡ headValue (drop at (entriesOf entries (now (sorts .entry)))) ⌝ }
@@ -195,7 +195,7 @@ fn value_from(sorts: &[u32], entries: u32, at: u32) -> u32
     sorts[value_word]
 }
 
-// Whether a row is dead or its sort cell is this value. A dead row's sort cell counts for nothing.
+// Whether a row is dead or its sort cell is this value. The sort cell of a dead row is ignored.
 fn cell_sound(store: &[u32], columns: u32, sort: u32, rows: u32, row: u32, value: u32) -> bool
     requires { ⌜ Cells (now store) columns sort rows ⌝ }
     requires { ⌜ row < rows ⌝ }
@@ -210,8 +210,7 @@ fn cell_sound(store: &[u32], columns: u32, sort: u32, rows: u32, row: u32, value
     cell == value
 }
 
-// Whether each live row's sort cell is the value of the last entry at or below the row: one pass, rows and entries
-// together.
+// Whether each live row's sort cell is the value of the last entry at or below the row. One pass over rows and entries together.
 pub fn sort_cells_sound(
     store: &[u32],
     columns: u32,

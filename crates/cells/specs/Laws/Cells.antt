@@ -1,4 +1,4 @@
--- What callers may rely on of compact hashes. Assumes nothing.
+-- Laws of compact hashes. Assumes nothing.
 use Prim.Native.Nat.{ℕ, _^_, _<_}
 use mathlib.Core.Path.{_≡_}
 use mathlib.Core.List.{List, [], _∷_, foldl}
@@ -17,11 +17,11 @@ hash-fits : (hash : ℕ) → hash < 2 ^ 32 → (cells : List ℕ) → foldl mixe
 hash-fits hash h [] = h
 hash-fits hash h (cell ∷ cells) = hash-fits (mixed hash cell) (mixed-fits hash cell) cells
 
--- the compact hash of a key keeps all 32 bits of its hash
+-- the compact hash of a key has all 32 bits of its hash
 pub compact-key-hash : (key : List ℕ) → compact (keyHash key) ≡ foldl mixed 0 key
 unfolding keyHash
 compact-key-hash key = omega (arith, hash-fits 0 (omega arith) key)
 
--- and is a cell
+-- the compact hash of a key is a cell
 pub key-hash-fits : (key : List ℕ) → compact (keyHash key) < 2 ^ 32
 key-hash-fits key = rw (compact-key-hash key) (hash-fits 0 (omega arith) key)

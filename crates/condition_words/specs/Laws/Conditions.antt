@@ -1,4 +1,4 @@
--- Conditions read one by one. Assumes nothing.
+-- Laws of decoding conditions one by one. Assumes nothing.
 use Prim.Native.Nat.{ℕ, _+_}
 use mathlib.Core.Path.{_≡_, refl, _∙_, ap}
 use mathlib.Core.List.{List, [], _∷_, _++_, map-append}

@@ -23,7 +23,7 @@ mul-n c = omega (arith, c .before .before .before .before .pre .fits .most)
 loop-holds : tie.Need-loop-holds Inv-loop μ-loop
 loop-holds c = (round-begin _ _ _ _ _ _ (c .before .before .before .before .pre), refl)
 
--- the slot of a place, and how small the numbers are
+-- the slot of a position, and bounds of the numbers
 at-in : (c : tie.At-loop Inv-loop μ-loop) → let a = c .before .before .before .before .before .args in (a .free + c .loop .place) % slots (a .t) < slots (a .t)
 at-in c = slot-in _ _ _ _ _ _ (c .before .before .before .before .before .pre) (c .loop .place)
 
@@ -75,13 +75,13 @@ returns c =
     turn-wrong _ _ _ _ _ _ (c .before .before .before .before .before .before .before .before .before .before .pre) _ _ _ _ (i .0) (c .before .before .before .before .loop-test .taken)
     (c .before .before .if1 .left) (c .before .stands .ensures .no (not-true _ (c .if2 .taken)))
 
--- the word at a place stands right
+-- the word at a position is in a correct slot
 standing : (c : tie.Else2 Inv-loop μ-loop) → let s = c .before .before .before .before .before in
     let a = s .before .before .before .before .before .args in
     let at = (a .free + s .loop .place) % slots (a .t) in Stands (a .t) (a .rows .now) (getD (a .store .now) at 0) at (s .loop .run + 1)
 standing c = c .before .stands .ensures .yes (not-false _ (c .if2 .left))
 
--- its row has a mark
+-- its row has a flag in `seen`
 marked : (c : tie.Else2 Inv-loop μ-loop) → let s = c .before .before .before .before .before in
     let a = s .before .before .before .before .before .args in
     named (getD (a .store .now) ((a .free + s .loop .place) % slots (a .t)) 0) < length (s .loop .seen)

@@ -1,4 +1,5 @@
--- Counting rows and slots, and the line of slots that a round goes over, place by place. Assumes nothing.
+-- Laws of counting rows and slots, and of the unrolled ring (a line of slots) that the check visits position by position. Assumes
+-- nothing.
 use Prim.Native.Nat.{ℕ, zero, suc, _+_, _-_, _≤_, _<_}
 use mathlib.Core.Path.{_≡_, refl, sym, ap, _∙_}
 use mathlib.Core.Logic.{inl, inr}
@@ -22,7 +23,7 @@ module _ (test : ℕ → Bool) (n : ℕ) where
   unfolding tally
   suc-no e = rw e
 
-  -- one more number, as the code counts
+  -- adding one number to the range, as the code counts
   pub tally-yes : test n ≡ true → tally test (n + 1) ≡ tally test n + 1
   tally-yes e = rw (add-one n, suc-yes e) (sym (add-one (tally test n)))
 
@@ -39,7 +40,7 @@ unfolding tally
 tally-same f g zero e = refl
 tally-same f g (suc n) e = rw (e n (omega arith), tally-same f g n (λ i h. e i (omega arith)))
 
--- a test that one number is not to pass any more
+-- the test, with one number excluded
 unfoldable pub without : (ℕ → Bool) → ℕ → ℕ → Bool
 without test k i = test i && not (eqb i k)
 
@@ -68,7 +69,7 @@ tally-without test k (suc n) h e =
           ]
     ]
 
--- Each of some numbers has one of its own among others, so those are at least as many.
+-- Each number that passes f has a partner of its own that passes g. So at least as many numbers pass g.
 pub matched : (R : ℕ → ℕ → Type 0) (f : ℕ → Bool) (n : ℕ) (g : ℕ → Bool) (m : ℕ) → ((p : ℕ) → p < n → f p ≡ true → (r : ℕ) × (r < m) × (g r ≡ true) × R p r)
     → ((p q r : ℕ) → p < n → q < n → R p r → R q r → p ≡ q) → tally f n ≤ tally g m
 matched R f zero g m has own = unfold tally in omega arith
@@ -87,16 +88,16 @@ matched R f (suc n) g m has own =
       | inr e ↦ rw (suc-no f n e) (matched R f n g m (λ p k. has p (omega arith)) (λ p q s k l. own p q s (omega arith) (omega arith)))
     ]
 
--- ---- the line, a place at a time
+-- ---- the line, one position at a time
 
--- the first p places of a line of which the rest is not looked at yet
+-- the first p positions of a line; the other positions are not scanned yet
 pub record Front (homeOf : ℕ → ℕ) (Held : ℕ → Type 0) (l : ℕ → ℕ) (p : ℕ) : Type 0 where
   pub only : (q : ℕ) → q < p → 0 < l q → Held (l q)
   pub once : (a b : ℕ) → a < p → b < p → 0 < l a → l a ≡ l b → a ≡ b
   pub after : (q : ℕ) → q < p → 0 < l q → homeOf (l q) ≤ q
   pub way : (q : ℕ) → q < p → 0 < l q → (e : ℕ) → homeOf (l q) ≤ e → e ≤ q → 0 < l e
 
--- what a taken place has to be, to come next
+-- the condition for a taken position p to extend the front
 pub record Joins (homeOf : ℕ → ℕ) (Held : ℕ → Type 0) (l : ℕ → ℕ) (p : ℕ) : Type 0 where
   pub held : Held (l p)
   pub fresh : (q : ℕ) → q < p → 0 < l q → l q ≡ l p → ⊥
@@ -131,7 +132,7 @@ module _ (homeOf : ℕ → ℕ) (Held : ℕ → Type 0) (l : ℕ → ℕ) where
   pub front-all : (n : ℕ) → l 0 ≡ 0 → Front homeOf Held l n → ((w : ℕ) → Held w → (p : ℕ) × (p < n) × (l p ≡ w)) → Line n homeOf Held l
   front-all n z f all = record { free = z; only = f .only; once = f .once; all = all; after = f .after; way = f .way }
 
--- the `run` places before p are taken, and the one before them is free
+-- the `run` positions before p are taken, and the one before them is free
 pub record Run (l : ℕ → ℕ) (p run : ℕ) : Type 0 where
   pub below : run < p
   pub taken : (q : ℕ) → p ≤ q + run → q < p → 0 < l q
@@ -149,7 +150,7 @@ module _ (l : ℕ → ℕ) (p : ℕ) where
         before = λ q h. s .before q (omega arith);
       }
 
--- a home that lies no more than p slots before place p, going round, stands on the line before it
+-- a home at most p slots before position p, cyclically, is at or before position p on the line
 module _ (n z h p : ℕ) (zn : z < n) (hn : h < n) (pn : p < n) where
   pub near-line : away n h (slotFrom n z p) ≤ p → away n z h ≤ p
   near-line near =

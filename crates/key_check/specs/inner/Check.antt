@@ -1,6 +1,6 @@
--- The check of a key store: what its parts ask and promise, and why it is enough. The ring is unrolled at a free slot, and
--- each taken place of the line is found to hold a live row that stands right. No two hold the same one, so that where taken
--- places and live rows are equally many no live row is missed. Assumes nothing.
+-- The check of a key store: contracts of its functions, and why it is sufficient. The ring is unrolled at a free slot. The check
+-- tests that each taken position of the line has the word of a live row that can be reached from its home, and that no two
+-- positions have the same row. If taken positions and live rows are then equally many, no live row is missing. Assumes nothing.
 use Prim.Native.Nat.{ℕ, zero, suc, _-_, _%_, _^_, _≤_, _<_}
 use mathlib.Core.Path.{_≡_}
 use mathlib.Core.Bool.{Bool, true, false, cond}
@@ -13,7 +13,7 @@ use Rattle.key_index.specs.Slots.{LiveAt, keyAt, slots, word, home, KeysSound}
 use Rattle.key_index.specs.Laws.Unrolled.{away}
 use Rattle.key_index.specs.inner.Index.{Fits}
 
--- ---- what the parts ask and promise
+-- ---- contracts
 
 unfoldable pub isLiveRow : Keyed → List ℕ → ℕ → Bool
 isLiveRow t rows i = isLive (rowAt (t .columns) i rows)
@@ -26,16 +26,16 @@ tally test (suc n) = cond (test n) (suc (tally test n)) (tally test n)
 abbrev pub liveCount : Keyed → List ℕ → ℕ
 liveCount t rows = tally (isLiveRow t rows) (t .rows)
 
--- a slot is free, or n for none
+-- r is a free slot, or n if there is none
 pub record FreeIs (n : ℕ) (store : List ℕ) (r : ℕ) : Type 0 where
   pub free : r < n → getD store r 0 ≡ 0
   pub none : n ≤ r → (slot : ℕ) → slot < n → getD store slot 0 ≡ 0 → ⊥
 
--- the row whose number a word has
+-- the row number that a word encodes
 abbrev pub named : ℕ → ℕ
 named w = w % 2 ^ 17 - 1
 
--- a word in a slot is that of a live row, whose home lies less than `run` slots before
+-- the word in slot `at` is that of a live row whose home is fewer than `run` slots before `at`
 pub record Stands (t : Keyed) (rows : List ℕ) (w at run : ℕ) : Type 0 where
   pub number : 0 < w % 2 ^ 17
   pub live : LiveAt t rows (named w)
@@ -46,7 +46,7 @@ pub record StandsIs (t : Keyed) (rows : List ℕ) (w at run : ℕ) (r : Bool) : 
   pub yes : r ≡ true → Stands t rows w at run
   pub no : r ≡ false → Stands t rows w at run → ⊥
 
--- the round starts at a free slot, knows how many rows are live, and has seen none of them
+-- the scan starts at a free slot, with the number of live rows, and with no row seen yet
 pub record RoundFits (t : Keyed) (rows store : List ℕ) (z live : ℕ) (seen : List ℕ) : Type 0 where
   pub fits : Fits t rows store
   pub slot : z < slots t
@@ -55,7 +55,7 @@ pub record RoundFits (t : Keyed) (rows store : List ℕ) (z live : ℕ) (seen : 
   pub marks : t .rows ≤ length seen
   pub clear : (i : ℕ) → i < t .rows → getD seen i 0 ≡ 0
 
--- the answer is yes exactly if the store is sound
+-- the answer is true exactly if the store is sound
 pub record KeysChecked (t : Keyed) (rows store : List ℕ) (r : Bool) : Type 0 where
   pub yes : r ≡ true → KeysSound t rows store
   pub no : r ≡ false → KeysSound t rows store → ⊥

@@ -1,5 +1,5 @@
--- What may be relied on of a sound key store: a slot is free, the changes that the functions make keep it sound, and a lookup
--- in it is a scan of the rows. Assumes nothing.
+-- Laws of a sound key store: a slot is free, the functions preserve soundness, and a lookup finds what a scan of the rows finds.
+-- Assumes nothing.
 use Prim.Native.Nat.{ℕ, zero, suc, _+_, _*_, _≤_, _<_}
 use mathlib.Core.Path.{_≡_, refl, sym, ap, _∙_}
 use mathlib.Core.Logic.{_⊎_, inl, inr}
@@ -38,12 +38,12 @@ any-free (suc n) store = elim (ℕ-discrete (getD store n 0) 0) [
   ]
 ]
 
--- the row that a slot's word names
+-- the row number in a slot's word
 abbrev rowIn : List ℕ → ℕ → ℕ
 rowIn store slot = rowNamed (getD store slot 0)
 
 module _ (t : Keyed) (rows store : List ℕ) (fits : Fits t rows store) (sound : KeysSound t rows store) where
-  -- each taken slot has a row of its own, so not all are taken
+  -- each taken slot has a different row, so not all slots are taken
   not-all : ((slot : ℕ) → slot < slots t → 0 < getD store slot 0) → ⊥
   not-all taken = let z : slots t ≤ t .rows = pigeons (slots t) (t .rows) (rowIn store) into once in omega (arith, fits .count, fits .some)
     where
@@ -66,13 +66,13 @@ module _ (t : Keyed) (rows store : List ℕ) (fits : Fits t rows store) (sound :
   pub free-slot : (slot : ℕ) × (slot < slots t) × (getD store slot 0 ≡ 0)
   free-slot = elim (any-free (slots t) store) [ inl f ↦ absurd (not-all f) | inr s ↦ s ]
 
-  -- so a row can always be put
+  -- so inserting a row always succeeds
   pub put-succeeds : (hash new : ℕ) (r : Bool) (store′ : List ℕ) → PutIs (slots t) store hash new r store′ → r ≡ true
   put-succeeds hash new r store′ p = elim (split r) [ inl e ↦ e | inr e ↦ absurd (p .full e (free-slot .0) (free-slot .1) (free-slot .2)) ]
 
--- ---- what keeps it sound
+-- ---- what preserves soundness
 
--- other rows, with the same live ones and keys
+-- other rows, with the same live rows and the same keys
 pub record SameLive (t t′ : Keyed) (rows rows′ : List ℕ) : Type 0 where
   pub room : t′ .room ≡ t .room
   pub keeps : (i : ℕ) → LiveAt t rows i → LiveAt t′ rows′ i
@@ -89,7 +89,7 @@ keys-same t t′ rows rows′ store sound same =
       leads = λ i live. rw (same .room, same .key i (same .only i live)) (sound .leads i (same .only i live));
     }
 
--- no live row, and no slot taken
+-- a store without live rows and without taken slots is sound
 pub empty-sound : (t : Keyed) (rows store : List ℕ) → ((i : ℕ) → LiveAt t rows i → ⊥) → ((slot : ℕ) → slot < slots t → getD store slot 0 ≡ 0)
     → KeysSound t rows store
 empty-sound t rows store none free =
@@ -99,7 +99,7 @@ empty-sound t rows store none free =
       leads = λ i live. absurd (none i live);
     }
 
--- conversely
+-- conversely, without live rows all slots of a sound store are free
 pub empty-free : (t : Keyed) (rows store : List ℕ) → ((i : ℕ) → LiveAt t rows i → ⊥) → KeysSound t rows store
     → (slot : ℕ) → slot < slots t → getD store slot 0 ≡ 0
 empty-free t rows store none sound slot h =
@@ -119,7 +119,7 @@ emptied room store store′ long e slot h =
     ∙ getD-putAt-in store (zeros (2 * room)) 0 (omega arith) slot 0 k
     ∙ getD-replicate (2 * room) slot 0 0 h
 
--- One slot takes the word of a new row. What stood there before is the word of no live row, or that row lives no more.
+-- One slot gets the word of a new row. Its previous word was that of no live row, or of a row that is not live any more.
 record Turned (t t′ : Keyed) (rows rows′ store : List ℕ) (slot : ℕ) : Type 0 where
   room : t′ .room ≡ t .room
   place : t .rows < t .room
@@ -142,14 +142,14 @@ module _ (t t′ : Keyed) (rows rows′ store : List ℕ) (fits : Fits t rows st
     other : (i : ℕ) → (i ≡ slot → ⊥) → getD after i 0 ≡ getD store i 0
     other i ne = getD-set-other store slot i _ 0 ne
 
-    -- no slot is made free
+    -- no slot becomes free
     taken : (i : ℕ) → (getD store i 0 ≡ 0 → ⊥) → getD after i 0 ≡ 0 → ⊥
     taken i f z = elim (ℕ-discrete i slot) [
       | yes e ↦ let g : word new (t .rows) ≡ 0 = sym here ∙ rw e at z in omega (arith, word-some new (t .rows))
       | no e ↦ f (sym (other i e) ∙ z)
     ]
 
-    -- the word of the new row stands nowhere else
+    -- no other slot has the word of the new row
     fresh : (i : ℕ) → i < slots t → (i ≡ slot → ⊥) → getD store i 0 ≡ word new (t .rows) → ⊥
     fresh i h ne e =
         let some : 0 < getD store i 0 = omega (arith, word-some new (t .rows)) in
@@ -157,7 +157,7 @@ module _ (t t′ : Keyed) (rows rows′ store : List ℕ) (fits : Fits t rows st
         let q : o .0 ≡ t .rows = word-same _ _ (o .0) (t .rows) (omega (arith, o .1 .0, fits .count, fits .most)) (omega (arith, turned .place, fits .most)) (sym (o .2) ∙ e) in
         omega (arith, o .1 .0)
 
-    -- what a taken slot holds afterwards
+    -- the word of a taken slot afterwards
     holds : (i : ℕ) → i < slots t → 0 < getD after i 0 → (r : ℕ) × LiveAt t′ rows′ r × (getD after i 0 ≡ word (keyAt t′ rows′ r) r)
     holds i h some = elim (ℕ-discrete i slot) [
       | yes e ↦ (t .rows, turned .adds, rw e here)
@@ -180,7 +180,7 @@ module _ (t t′ : Keyed) (rows rows′ store : List ℕ) (fits : Fits t rows st
       ]
     ]
 
-    -- a row that stood in another slot stands there still
+    -- a row in another slot is still found there
     stays : (i : ℕ) → LiveAt t rows i → (getD store slot 0 ≡ word (keyAt t rows i) i → ⊥) → (d : ℕ) × StandsAt (slots t) after (keyAt t rows i) i d
     stays i live ne =
         let s = sound .leads i live in
@@ -197,7 +197,7 @@ module _ (t t′ : Keyed) (rows rows′ store : List ℕ) (fits : Fits t rows st
           | inr e ↦ rw e (d, record { below = h; there = rw (← at) here; way = λ e k. taken _ (way e k) })
         ]
 
--- a row more is live, after the others, and they are as they were
+-- one more row is live, after the others, which are unchanged
 pub record Grown (t t′ : Keyed) (rows rows′ : List ℕ) : Type 0 where
   pub room : t′ .room ≡ t .room
   pub place : t .rows < t .room
@@ -227,11 +227,11 @@ put-sound t t′ rows rows′ store store′ hash r fits sound grown e put =
     } in
     rw s (turned-sound t t′ rows rows′ store fits sound slot turned (slot-below n _ _ (omega (arith, fits .some))) (p .0) (f .below) refl (f .way))
 
--- a slot of the ring is written, and nothing past it
+-- one slot of the ring is written, and nothing past the ring
 pub replace-tail : (n slot w : ℕ) (store store′ : List ℕ) → slot < n → store′ ≡ set store slot w → drop n store′ ≡ drop n store
 replace-tail n slot w store store′ h e = ap (drop n) e ∙ drop-set-lt n store slot w h
 
--- a row dies, and one more of the same key is live, after the others
+-- one row dies, and a new row with the same key is live, after the others
 pub record Swapped (t t′ : Keyed) (rows rows′ : List ℕ) (old : ℕ) : Type 0 where
   pub room : t′ .room ≡ t .room
   pub place : t .rows < t .room
@@ -272,7 +272,7 @@ tagged-one : (hash i j : ℕ) → tagged hash i ≡ tagged hash j → i ≡ j
 unfolding tagged
 tagged-one hash i j e = omega arith
 
--- they find the same row, on any store
+-- two lookups of one key find the same row, on any store
 pub first-one : (t : Keyed) (rows store key : List ℕ) (hash i j d e : ℕ) → FirstHit t rows store key hash i d → FirstHit t rows store key hash j e → i ≡ j
 first-one t rows store key hash i j d e f g =
     elim (decLt d e) [

@@ -1,4 +1,4 @@
--- A sound key store as a line of slots that begins behind a free one: the ring unrolled, and rolled up again. Assumes nothing.
+-- A sound key store as a line of slots that starts at a free slot: the ring unrolled, and the converse. Assumes nothing.
 use Prim.Native.Nat.{ℕ, _+_, _-_, _^_, _≤_, _<_}
 use mathlib.Core.Path.{_≡_, refl, sym, ap, _∙_}
 use mathlib.Core.List.{List}
@@ -12,15 +12,15 @@ use Rattle.key_index.specs.Laws.Ring.{word-some, word-row, home-below, s
 use Rattle.key_index.specs.inner.Index.{Fits, homeOf}
 use Rattle.key_index.specs.Laws.Unrolled.{line, Line}
 
--- a word that the store is to hold
+-- a word that the store must have
 abbrev pub Stored : Keyed → List ℕ → ℕ → Type 0
 Stored t rows w = (row : ℕ) × LiveAt t rows row × (w ≡ word (keyAt t rows row) row)
 
--- how far a word's home lies after slot z
+-- the distance from slot z to a word's home
 unfoldable pub lineHome : Keyed → List ℕ → ℕ → ℕ → ℕ
 lineHome t rows z w = away (slots t) z (homeOf t rows w)
 
--- a table's numbers are small, and it has slots
+-- the bounds of a table's numbers; it has at least one slot
 pub record Small (t : Keyed) : Type 0 where
   pub some : 1 ≤ t .room
   pub room : t .room ≤ 65536
@@ -30,7 +30,7 @@ pub small : (t : Keyed) (rows store : List ℕ) → Fits t rows store → Small 
 small t rows store f = record { some = f .some; room = f .most; count = f .count }
 
 module _ (t : Keyed) (m : Small t) (rows : List ℕ) (z : ℕ) (b : z < slots t) where
-  -- the home of a live row's word
+  -- the home slot of a live row's word
   home-slot : (row : ℕ) → LiveAt t rows row → slotFrom (slots t) z (lineHome t rows z (word (keyAt t rows row) row)) ≡ home (slots t) (keyAt t rows row)
   unfolding lineHome homeOf
   home-slot row live =
@@ -43,7 +43,7 @@ module _ (t : Keyed) (m : Small t) (rows : List ℕ) (z : ℕ) (b : z < slots t)
   home-in w = away-below (slots t) z (homeOf t rows w) (omega arith)
 
   module _ (store : List ℕ) where
-    -- a row that stands d slots from its home stands d places after its home on the line: the way does not go round past z
+    -- a row d slots from its home is d positions after its home on the line: the path does not wrap past z
     on-line : (row d : ℕ) → LiveAt t rows row → getD store z 0 ≡ 0 → StandsAt (slots t) store (keyAt t rows row) row d
         → lineHome t rows z (word (keyAt t rows row) row) + d < slots t
     on-line row d live free s =
@@ -69,12 +69,12 @@ module _ (t : Keyed) (m : Small t) (rows : List ℕ) (z : ℕ) (b : z < slots t)
             let e : k + (slots t - k) ≡ slots t = omega (arith, home-in w) in
             ap (λ (x : ℕ). slotFrom (slots t) x (slots t - k)) (sym (home-slot row live)) ∙ slot-then (slots t) z k (slots t - k) ∙ ap (slotFrom (slots t) z) e ∙ slot-round (slots t) z b
 
-    -- each slot from the home on, as a place of the line
+    -- each slot from the home on, as a position of the line
     from-home : (row e : ℕ) → LiveAt t rows row
         → slotFrom (slots t) (home (slots t) (keyAt t rows row)) e ≡ slotFrom (slots t) z (lineHome t rows z (word (keyAt t rows row) row) + e)
     from-home row e live = ap (λ (x : ℕ). slotFrom (slots t) x e) (sym (home-slot row live)) ∙ slot-then (slots t) z _ e
 
-    -- a word's place, by its distance from its home
+    -- a word's position, by its distance from its home
     Reached : ℕ → ℕ → Type 0
     Reached p k = (d : ℕ) × (k + d ≡ p) × ((e : ℕ) → e < d → line (slots t) z store (k + e) ≡ 0 → ⊥)
 

@@ -1,5 +1,5 @@
--- The pigeonhole principle on numbers: where each of m numbers has one below n to itself, m is at most n. By it not all slots
--- of a sound store are taken. Assumes nothing.
+-- The pigeonhole principle on numbers: if m numbers are mapped injectively to numbers below n, then m is at most n. It implies that
+-- not all slots of a sound store are taken. Assumes nothing.
 use Prim.Native.Nat.{ℕ, zero, suc, _≤_, _<_}
 use mathlib.Core.Path.{_≡_, sym, _∙_}
 use mathlib.Core.Bool.{cond}
@@ -8,7 +8,7 @@ use native.Mathlib.Omega.{arith}
 use lib.Dec.{eqb}
 use borrow.Author.Tests.{eq-eqb, ne-eqb}
 
--- f on the numbers below m, with its value at m for the value n
+-- f on the numbers below m, with the value n replaced by f m
 moved : (ℕ → ℕ) → ℕ → ℕ → ℕ → ℕ
 moved f m n i = cond (eqb (f i) n) (f m) (f i)
 
@@ -20,7 +20,7 @@ moved-other : (f : ℕ → ℕ) (m n i : ℕ) → (f i ≡ n → ⊥) → moved 
 unfolding moved
 moved-other f m n i e = rw (ne-eqb _ _ e)
 
--- a map of the numbers below m to those below n that takes no two to one
+-- an injective map from the numbers below m to the numbers below n
 pub pigeons : (m n : ℕ) (f : ℕ → ℕ) → ((i : ℕ) → i < m → f i < n) → ((i j : ℕ) → i < m → j < m → f i ≡ f j → i ≡ j) → m ≤ n
 pigeons zero n f into once = omega arith
 pigeons (suc m) zero f into once = absurd (let z = into 0 (omega arith) in omega arith)

@@ -1,4 +1,4 @@
--- Where a row and its key lie in the row store, and that stores of the same length fit a table too. Assumes nothing.
+-- Positions of a row and of its key in the row store; stores of the same length fit a table too. Assumes nothing.
 use Prim.Native.Nat.{ℕ, _+_, _-_, _*_, _≤_, _<_}
 use mathlib.Core.Path.{_≡_, sym, _∙_}
 use mathlib.Core.List.{List}
@@ -12,7 +12,7 @@ use Rattle.key_index.specs.declared.Keyed.{Keyed}
 use Rattle.key_index.specs.Slots.{keyAt}
 use Rattle.key_index.specs.inner.Index.{RowsIn, Fits}
 
--- a row lies in the store, at a place that fits a word
+-- a row is inside the store, and its position fits a word
 pub record Inside (rows : List ℕ) (columns row : ℕ) : Type 0 where
   pub in-store : row * columns + columns ≤ length rows
   pub small : row * columns + columns ≤ 524288
@@ -26,7 +26,7 @@ inside rows columns count row few narrow long h =
 pub row-inside : (t : Keyed) (rows : List ℕ) (row : ℕ) → RowsIn t rows → row < t .rows → Inside rows (t .columns) row
 row-inside t rows row f h = inside rows (t .columns) (t .room) row (f .most) (f .most-columns) (f .cells) (omega (arith, f .count))
 
--- its part that is lent is its key
+-- the borrowed part of a row is its key
 pub key-part : (t : Keyed) (rows : List ℕ) (row : ℕ) → t .keys ≤ t .columns → let from = row * t .columns in
     take (from + t .keys - from) (drop from rows) ≡ keyAt t rows row
 key-part t rows row h = part-width rows (row * t .columns) (t .keys) ∙ sym (key-row (t .columns) row (t .keys) rows h)

@@ -18,12 +18,12 @@ pub word-tagged : (hash row : ℕ) (key : List ℕ) → hash ≡ compact (keyHas
 unfolding word tagged
 word-tagged hash row key e = ap (λ (h : ℕ). tagged h row) e
 
--- a word is never that of a free slot
+-- a row's word is never 0, the word of a free slot
 pub word-some : (key : List ℕ) (row : ℕ) → 0 < word key row
 unfolding word
 word-some key row = omega arith
 
--- a word's row and its 15 bits are read back
+-- a word's row number and its 15 hash bits decode to what was encoded
 pub tagged-row : (hash row : ℕ) → row < 2 ^ 17 - 1 → tagged hash row % 2 ^ 17 ≡ row + 1
 unfolding tagged
 tagged-row hash row h = omega arith
@@ -44,7 +44,7 @@ word-row key row h = omega arith
 pub word-same : (k l : List ℕ) (i j : ℕ) → i < 2 ^ 17 - 1 → j < 2 ^ 17 - 1 → word k i ≡ word l j → i ≡ j
 word-same k l i j p q e = sym (word-row k i p) ∙ ap rowNamed e ∙ word-row l j q
 
--- a word names a row by its number, from 1 on
+-- a word encodes a row's number plus 1
 module _ (t : Keyed) (w : ℕ) where
   pub names-yes : 0 < w % 2 ^ 17 → w % 2 ^ 17 ≤ t .rows → namesRow t w ≡ true
   unfolding namesRow
@@ -76,13 +76,13 @@ spread-below n hash h k = let m : hash * n < 2 ^ 32 * n = mul-lt-mul-of-pos-righ
 pub home-below : (n : ℕ) (key : List ℕ) → 0 < n → home n key < n
 home-below n key h = rw (← home-spread n (compact (keyHash key)) key refl) (spread-below n _ h (key-hash-fits key))
 
--- ---- going round
+-- ---- cyclic order
 
 pub slot-below : (n s d : ℕ) → 0 < n → slotFrom n s d < n
 unfolding slotFrom
 slot-below n s d h = mod-lt (s + d) h
 
--- a slot that is reached before the end of the store
+-- a slot before the end of the store
 pub slot-low : (n s d : ℕ) → s + d < n → slotFrom n s d ≡ s + d
 unfolding slotFrom
 slot-low n s d h = mod-eq-of-lt h
@@ -95,7 +95,7 @@ pub slot-wraps : (n s : ℕ) → s < n → n ≤ s + 1 → slotFrom n s 1 ≡ 0
 unfolding slotFrom
 slot-wraps n s h k = let e : s + 1 ≡ n = omega arith in rw (e, mod-self n)
 
--- going on from a slot that was reached
+-- distances add up
 pub slot-then : (n s d e : ℕ) → slotFrom n (slotFrom n s d) e ≡ slotFrom n s (d + e)
 unfolding slotFrom
 slot-then n s d e = mod-add-mod (s + d) n e ∙ ap (λ (k : ℕ). k % n) (add-assoc s d e)
@@ -111,7 +111,7 @@ pub away-below : (n a b : ℕ) → 0 < n → away n a b < n
 unfolding away
 away-below n a b h = mod-lt (b + (n - a)) h
 
--- the slot that lies that far is the one
+-- `away` is the distance: that many slots after a is b
 pub away-slot : (n a b : ℕ) → a < n → b < n → slotFrom n a (away n a b) ≡ b
 unfolding slotFrom away
 away-slot n a b h k =
@@ -124,18 +124,18 @@ away-of n a d h k =
     let e : a + d + (n - a) ≡ d + n = omega arith in
     mod-add-mod (a + d) n (n - a) ∙ ap (λ (x : ℕ). x % n) e ∙ round n d k
 
--- a full round meets each slot once: two that lie equally far are one
+-- a full round visits each slot once: distances below n give different slots
 pub slot-one : (n s p q : ℕ) → s < n → p < n → q < n → slotFrom n s p ≡ slotFrom n s q → p ≡ q
 slot-one n s p q h k m e = sym (away-of n s p h k) ∙ ap (away n s) e ∙ away-of n s q h m
 
--- and each is met, wherever the round begins
+-- a full round visits every slot, from any start
 pub slot-met : (n : ℕ) → 0 < n → (start slot : ℕ) → slot < n → (d : ℕ) × (d < n) × (slotFrom n start d ≡ slot)
 unfolding slotFrom
 slot-met n some start slot h =
     let d = away n (start % n) slot in
     (d, away-below n (start % n) slot some, sym (mod-add-mod start n d) ∙ away-slot n (start % n) slot (mod-lt start some) h)
 
--- how far one slot lies after another, both met on a round from z
+-- the distance between two slots, both given by their distance from z
 pub away-line : (n z p q : ℕ) → z < n → p ≤ q → q < n → away n (slotFrom n z p) (slotFrom n z q) ≡ q - p
 away-line n z p q h k m =
     let e : p + (q - p) ≡ q = omega arith in

@@ -1,4 +1,4 @@
--- The slots in use have room for the rows that there are, and lie in the key store. Assumes nothing.
+-- The slots in use suffice for the rows, and are inside the key store. Assumes nothing.
 use Prim.Native.Nat.{ℕ, _+_, _-_, _*_, _≤_}
 use mathlib.Core.Path.{_≡_, sym, ap, _∙_}
 use mathlib.Core.Logic.{inl, inr}
@@ -45,7 +45,7 @@ module _ (capacity rows : ℕ) where
   unfolding roomFor
   room-enough k l = omega (arith, step-is rows .enough (omega arith))
 
--- what is not written past the slots in use is not written past all
+-- if nothing is written past the slots in use, nothing is written past all slots
 pub past-room : (capacity rows : ℕ) (store store′ : List ℕ) → drop (2 * roomFor capacity rows) store′ ≡ drop (2 * roomFor capacity rows) store
     → drop (2 * capacity) store′ ≡ drop (2 * capacity) store
 past-room capacity rows store store′ e =
@@ -53,7 +53,7 @@ past-room capacity rows store store′ e =
     let k : n + (2 * capacity - n) ≡ 2 * capacity = omega (arith, room-most capacity rows) in
     rw (← k) (sym (drop-drop (2 * capacity - n) n store′) ∙ ap (drop (2 * capacity - n)) e ∙ drop-drop (2 * capacity - n) n store)
 
--- where rows and slots of a whole capacity fit, so do those of less room
+-- if rows and slots for the whole capacity fit, those for fewer rows fit too
 pub fits-room : (t t′ : Keyed) (rows store : List ℕ) → Fits t rows store → t′ .columns ≡ t .columns → t′ .keys ≡ t .keys → 1 ≤ t′ .room → t′ .rows ≤ t′ .room
     → t′ .room ≤ t .room → Fits t′ rows store
 fits-room t t′ rows store f ec ek some count less =

@@ -1,5 +1,5 @@
--- From what a change did to the rows of the store, said row by row, to what the laws of soundness in Laws.antt ask of it: one
--- more, or one more in place of another. Assumes nothing.
+-- From what a change does to each row of the store to the premises of the soundness laws in Laws/Index.antt: one row more, or one
+-- row more in place of another. Assumes nothing.
 use Prim.Native.Nat.{ℕ, _+_, _<_}
 use mathlib.Core.Path.{_≡_, sym, ap, _∙_}
 use mathlib.Core.Logic.{inl, inr}
@@ -31,7 +31,7 @@ module _ (t t′ : Keyed) (rows rows′ : List ℕ) (n : ℕ) (with-rows : WithR
   key-of : (i : ℕ) → keyAt t′ rows′ i ≡ take (t .keys) (rowAt (t .columns) i rows′)
   key-of i = rw (with-rows .keys, with-rows .columns)
 
-  -- a row that is as it was
+  -- an unchanged row is still live
   still-live : (i : ℕ) → rowAt (t .columns) i rows′ ≡ rowAt (t .columns) i rows → isLive (rowAt (t .columns) i rows) ≡ true
       → isLive (rowAt (t .columns) i rows′) ≡ true
   still-live i e l = ap isLive e ∙ l
@@ -43,7 +43,7 @@ module _ (t t′ : Keyed) (rows rows′ : List ℕ) (n : ℕ) (with-rows : WithR
   still-key : (i : ℕ) → rowAt (t .columns) i rows′ ≡ rowAt (t .columns) i rows → keyAt t′ rows′ i ≡ keyAt t rows i
   still-key i e = key-of i ∙ ap (take (t .keys)) e
 
--- a live row comes after them
+-- a live row is appended
 pub grown-rows : (t t′ : Keyed) (rows rows′ : List ℕ) → WithRows t t′ (t .rows + 1) → t .rows < t .room
     → ((i : ℕ) → i < t .rows → rowAt (t .columns) i rows′ ≡ rowAt (t .columns) i rows) → isLive (rowAt (t .columns) (t .rows) rows′) ≡ true
     → Grown t t′ rows rows′
@@ -62,7 +62,7 @@ grown-rows t t′ rows rows′ w place f new =
       key = λ i live. still-key t t′ rows rows′ (t .rows + 1) w i (f i (live .0));
     }
 
--- and one of them, of the same key, is dead now
+-- a live row is appended, and the old row with the same key is dead
 pub swapped-rows : (t t′ : Keyed) (rows rows′ : List ℕ) (old : ℕ) → WithRows t t′ (t .rows + 1) → t .rows < t .room
     → ((i : ℕ) → i < t .rows → (i ≡ old → ⊥) → rowAt (t .columns) i rows′ ≡ rowAt (t .columns) i rows) → isLive (rowAt (t .columns) old rows′) ≡ false
     → isLive (rowAt (t .columns) (t .rows) rows′) ≡ true → take (t .keys) (rowAt (t .columns) (t .rows) rows′) ≡ keyAt t rows old

@@ -1,6 +1,6 @@
--- The ring of slots, unrolled into a line at a free slot. No way from a home to its row's slot passes a free slot, so each
--- way is a stretch of the line, and a gap is closed by plain arithmetic. The laws of distances on the ring, Ring.antt's, are
--- passed on. Assumes nothing.
+-- The ring of slots, unrolled into a line at a free slot. No path from a home to its row's slot passes a free slot. So each path is
+-- a contiguous part of the line, and closing a hole needs only plain arithmetic. Re-exports the laws of distances on the ring from
+-- Ring.antt. Assumes nothing.
 use Prim.Native.Nat.{ℕ, _+_, _≤_, _<_}
 use mathlib.Core.Path.{_≡_, refl, sym, ap, _∙_}
 use mathlib.Core.Logic.{_⊎_, inl, inr}
@@ -13,7 +13,7 @@ use Rattle.key_index.specs.Slots.{slotFrom}
 unfoldable pub use Rattle.key_index.specs.inner.Ring.{away}
 pub use Rattle.key_index.specs.Laws.Ring.{slot-below, slot-then, slot-zero, slot-round, slot-one, away-below, away-slot, away-of, away-line}
 
--- what stands p slots after slot z
+-- the word p slots after slot z
 unfoldable pub line : ℕ → ℕ → List ℕ → ℕ → ℕ
 line n z store p = getD store (slotFrom n z p) 0
 
@@ -21,7 +21,7 @@ pub line-at : (n z : ℕ) (store : List ℕ) (p slot : ℕ) → slotFrom n z p �
 unfolding line
 line-at n z store p slot e = ap (λ (k : ℕ). getD store k 0) e
 
--- one place of a line of n is changed
+-- one position of a line of n is changed
 pub record Put (n : ℕ) (l : ℕ → ℕ) (g v : ℕ) (m : ℕ → ℕ) : Type 0 where
   pub here : m g ≡ v
   pub elsewhere : (p : ℕ) → p < n → (p ≡ g → ⊥) → m p ≡ l p
@@ -35,8 +35,8 @@ line-put n z store g v h k m =
       elsewhere = λ p q ne. getD-set-other store (slotFrom n z g) (slotFrom n z p) v 0 (λ e. ne (slot-one n z p g h q k e));
     }
 
--- A line of n places whose first is free: each word that is to be held stands at one place, at or after its home, and no
--- place from its home to it is free.
+-- A line of n positions whose first is free. Each word that must be held is at one position, at or after its home, and no position
+-- from its home to it is free.
 pub record Line (n : ℕ) (homeOf : ℕ → ℕ) (Held : ℕ → Type 0) (l : ℕ → ℕ) : Type 0 where
   pub free : l 0 ≡ 0
   pub only : (p : ℕ) → p < n → 0 < l p → Held (l p)
@@ -45,7 +45,8 @@ pub record Line (n : ℕ) (homeOf : ℕ → ℕ) (Held : ℕ → Type 0) (l : �
   pub after : (p : ℕ) → p < n → 0 < l p → homeOf (l p) ≤ p
   pub way : (p : ℕ) → p < n → 0 < l p → (q : ℕ) → homeOf (l p) ≤ q → q ≤ p → 0 < l q
 
--- The same but for a hole at place g, whose word counts for nothing and which a way may pass. Up to place a no way passes it.
+-- The same with a hole at position g. The word in the hole is ignored, and a path may pass the hole. No path to a position up to a
+-- passes it.
 pub record Gap (n : ℕ) (homeOf : ℕ → ℕ) (Held : ℕ → Type 0) (l : ℕ → ℕ) (g a : ℕ) : Type 0 where
   pub free : l 0 ≡ 0
   pub past : 0 < g
@@ -58,12 +59,12 @@ pub record Gap (n : ℕ) (homeOf : ℕ → ℕ) (Held : ℕ → Type 0) (l : ℕ
   pub way : (p : ℕ) → p < n → (p ≡ g → ⊥) → 0 < l p → (q : ℕ) → homeOf (l p) ≤ q → q ≤ p → (q ≡ g → ⊥) → 0 < l q
   pub passed : (p : ℕ) → g < p → p ≤ a → 0 < l p → g < homeOf (l p)
 
--- a fact of a word, said of its equal
+-- transports a fact along an equality of words
 carried : (F : ℕ → Type 0) {w v : ℕ} → w ≡ v → F w → F v
 carried F e m = rw (← e) m
 
 module _ (n : ℕ) (homeOf : ℕ → ℕ) (Held : ℕ → Type 0) where
-  -- a word is let go: its place is the hole
+  -- a word is removed: its position is the hole
   pub gap-open : (Fewer : ℕ → Type 0) (l : ℕ → ℕ) (g : ℕ) → g < n → 0 < l g → ((w : ℕ) → Held w → (w ≡ l g → ⊥) → Fewer w)
       → ((w : ℕ) → Fewer w → Held w) → (Fewer (l g) → ⊥) → Line n homeOf Held l → Gap n homeOf Fewer l g g
   gap-open Fewer l g h k few more out s =
@@ -81,7 +82,7 @@ module _ (n : ℕ) (homeOf : ℕ → ℕ) (Held : ℕ → Type 0) where
       }
 
   module _ (l : ℕ → ℕ) (g a : ℕ) (s : Gap n homeOf Held l g a) where
-    -- the next word's home lies after the hole: it stays
+    -- the next word's home is after the hole: the word remains
     pub gap-stay : a + 1 < n → g < homeOf (l (a + 1)) → Gap n homeOf Held l g (a + 1)
     gap-stay h k =
         record {
@@ -97,7 +98,7 @@ module _ (n : ℕ) (homeOf : ℕ → ℕ) (Held : ℕ → Type 0) where
           passed = λ p i j c. elim (ℕ-discrete p (a + 1)) [ yes e ↦ rw e k | no e ↦ s .passed p i (omega arith) c ];
         }
 
-    -- it does not: the word fills the hole, and leaves one behind
+    -- the next word's home is not after the hole: the word fills the hole, and its position is the new hole
     pub gap-move : (m : ℕ → ℕ) → a + 1 < n → 0 < l (a + 1) → homeOf (l (a + 1)) ≤ g → Put n l g (l (a + 1)) m → Gap n homeOf Held m (a + 1) (a + 1)
     gap-move m h c k t =
         record {
@@ -113,7 +114,7 @@ module _ (n : ℕ) (homeOf : ℕ → ℕ) (Held : ℕ → Type 0) where
           passed = λ p i j d. absurd (omega arith);
         }
       where
-        -- where the word at a place came from
+        -- the previous position of the word at a position
         From : ℕ → Type 0
         From p = (q : ℕ) × (q < n) × (q ≡ g → ⊥) × (m p ≡ l q) × (((p ≡ g) × (q ≡ a + 1)) ⊎ ((p ≡ g → ⊥) × (q ≡ p)))
 
@@ -153,7 +154,7 @@ module _ (n : ℕ) (homeOf : ℕ → ℕ) (Held : ℕ → Type 0) where
             let x = t .elsewhere p b u in
             rw (t .elsewhere q (omega arith) e) (s .way p b u (rw x at d) q (rw x at i) j e)
 
-    -- nothing stands next: no way passes the hole any more
+    -- the next position is free: no path passes the hole any more
     pub gap-close : (m : ℕ → ℕ) → (a + 1 < n → l (a + 1) ≡ 0) → Put n l g 0 m → Line n homeOf Held m
     gap-close m h t =
         record {
@@ -194,7 +195,7 @@ module _ (n : ℕ) (homeOf : ℕ → ℕ) (Held : ℕ → Type 0) where
               | no u ↦ omega (arith, s .passed p (omega arith) (omega arith) c′)
             ])
 
-  -- a line whose homes are told otherwise
+  -- a line with an equal function for the homes
   pub line-homes : (other : ℕ → ℕ) (l : ℕ → ℕ) → ((w : ℕ) → Held w → homeOf w ≡ other w) → Line n homeOf Held l → Line n other Held l
   line-homes other l f s =
       record {

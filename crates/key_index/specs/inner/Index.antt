@@ -1,5 +1,4 @@
--- What the functions of the key index ask and promise: a lookup, a row put, all slots made free (document 01, "Key
--- index"). Assumes nothing.
+-- Contracts of the key index: lookup, insertion of a row, clearing all slots (document 01, "Key index"). Assumes nothing.
 use Prim.Native.Nat.{ℕ, _*_, _≤_, _<_}
 use mathlib.Core.Path.{_≡_}
 use mathlib.Core.Bool.{Bool, true, false}
@@ -13,13 +12,13 @@ use Rattle.key_index.specs.declared.Found.the-variants.{None, At}
 use Rattle.key_index.specs.Slots.{LiveAt, keyAt, slots, word, home, slotFrom, KeysSound}
 use Rattle.key_index.specs.inner.Ring.{spread, tagged, rowNamed}
 
--- a key store is long enough for a room
+-- a key store is long enough for slots for that many rows
 pub record Room (room : ℕ) (store : List ℕ) : Type 0 where
   pub some : 1 ≤ room
   pub most : room ≤ 65536
   pub long : 2 * room ≤ length store
 
--- a table's rows lie in their store
+-- a table's rows are inside their store
 pub record RowsIn (t : Keyed) (rows : List ℕ) : Type 0 where
   pub most-columns : t .columns ≤ 8
   pub most-keys : t .keys ≤ t .columns
@@ -27,7 +26,7 @@ pub record RowsIn (t : Keyed) (rows : List ℕ) : Type 0 where
   pub count : t .rows ≤ t .room
   pub cells : t .room * t .columns ≤ length rows
 
--- a table's numbers are within their bounds, and its stores long enough
+-- a table's numbers are within their bounds, and its stores are long enough
 pub record Fits (t : Keyed) (rows store : List ℕ) : Type 0 where
   pub some-columns : 1 ≤ t .columns
   pub most-columns : t .columns ≤ 8
@@ -45,31 +44,31 @@ KeysDiffer t rows = (i j : ℕ) → LiveAt t rows i → LiveAt t rows j → keyA
 
 -- ---- lookup
 
--- a slot's word leads to a row below the count that has this key, and has the bits of this hash
+-- a slot's word is that of a row below the row count that has this key, with the bits of this hash
 pub record Leads (t : Keyed) (rows key : List ℕ) (hash w row : ℕ) : Type 0 where
   pub tag : w ≡ tagged hash row
   pub below : row < t .rows
   pub cells : keyAt t rows row ≡ key
 
--- the answer whether it does: the word says which row
+-- the answer decides `Leads`; `row` is the row number in the word
 pub record HitIs (t : Keyed) (rows key : List ℕ) (hash w row : ℕ) (r : Bool) : Type 0 where
   pub yes : r ≡ true → Leads t rows key hash w row
   pub no : r ≡ false → (i : ℕ) → Leads t rows key hash w i → ⊥
 
--- the live row that has a key, and its slot
+-- the live row with a key, and its slot
 pub record FoundAt (t : Keyed) (rows store key : List ℕ) (row slot : ℕ) : Type 0 where
   pub live : LiveAt t rows row
   pub key-is : keyAt t rows row ≡ key
   pub slot-in : slot < slots t
   pub word-is : getD store slot 0 ≡ word key row
 
--- the d-th slot from the hash's home is the first that leads to a row with the key: so no other row can be found
+-- the slot d after the hash's home is the first whose word leads to a row with the key. So the row found is unique
 pub record FirstHit (t : Keyed) (rows store key : List ℕ) (hash row d : ℕ) : Type 0 where
   pub leads : Leads t rows key hash (getD store (slotFrom (slots t) (spread (slots t) hash) d) 0) row
   pub way : (e : ℕ) → e < d → (i : ℕ) → Leads t rows key hash (getD store (slotFrom (slots t) (spread (slots t) hash) e) 0) i → ⊥
 
--- What a lookup finds. On any store it answers with a row and a slot that there are, and with the same row again; the rest
--- is promised of a sound store and the key's own hash.
+-- The result of a lookup. On any store the row and the slot exist, and the row is determined. The rest holds for a sound store and
+-- the key's own hash.
 pub record FoundIs (t : Keyed) (rows store key : List ℕ) (hash : ℕ) (r : Found) : Type 0 where
   pub row-in : (row slot : ℕ) → r ≡ At row slot → row < t .rows
   pub slot-in : (row slot : ℕ) → r ≡ At row slot → slot < slots t
@@ -77,15 +76,15 @@ pub record FoundIs (t : Keyed) (rows store key : List ℕ) (hash : ℕ) (r : Fou
   pub none : hash ≡ compact (keyHash key) → KeysSound t rows store → r ≡ None → (i : ℕ) → LiveAt t rows i → keyAt t rows i ≡ key → ⊥
   pub at : hash ≡ compact (keyHash key) → KeysSound t rows store → (row slot : ℕ) → r ≡ At row slot → FoundAt t rows store key row slot
 
--- ---- a row put, and all slots made free
+-- ---- insertion of a row, and clearing all slots
 
--- the d-th slot from a slot is the first free one
+-- the slot d after `start` is the first free one
 pub record FirstFree (n : ℕ) (store : List ℕ) (start d : ℕ) : Type 0 where
   pub below : d < n
   pub free : getD store (slotFrom n start d) 0 ≡ 0
   pub way : (e : ℕ) → e < d → getD store (slotFrom n start e) 0 ≡ 0 → ⊥
 
--- a word is put into the first free slot from the hash's home on, if there is one
+-- the word is written to the first free slot from the hash's home on, if there is one
 pub record PutIs (n : ℕ) (store : List ℕ) (hash row : ℕ) (r : Bool) (store′ : List ℕ) : Type 0 where
   pub yes : r ≡ true → (d : ℕ) × FirstFree n store (spread n hash) d × (store′ ≡ set store (slotFrom n (spread n hash) d) (tagged hash row))
   pub full : r ≡ false → (slot : ℕ) → slot < n → getD store slot 0 ≡ 0 → ⊥
@@ -96,11 +95,11 @@ pub record PutIs (n : ℕ) (store : List ℕ) (hash row : ℕ) (r : Bool) (store
 abbrev pub zeros : ℕ → List ℕ
 zeros n = replicate n 0
 
--- all slots are free, and what stands past them is as it was
+-- all slots are free, and the words past them are unchanged
 pub record EmptyIs (room : ℕ) (store store′ : List ℕ) : Type 0 where
   pub free : store′ ≡ putAt store 0 (zeros (2 * room))
   pub tail : drop (2 * room) store′ ≡ drop (2 * room) store
 
--- the home of the key of the row that a word names
+-- the home slot of the key of the row that a word encodes
 unfoldable pub homeOf : Keyed → List ℕ → ℕ → ℕ
 homeOf t rows w = home (slots t) (keyAt t rows (rowNamed w))

@@ -1,4 +1,4 @@
--- What building the key store anew asks and promises (document 01, "Key index"). Assumes nothing.
+-- Contracts of rebuilding the key store (document 01, "Key index"). Assumes nothing.
 use Prim.Native.Nat.{ℕ, _+_}
 use mathlib.Core.Path.{_≡_}
 use mathlib.Core.List.{List}
@@ -10,12 +10,12 @@ use Rattle.key_index.specs.Slots.{slots, KeysSound}
 abbrev pub firstRows : Keyed → ℕ → Keyed
 firstRows t n = record { columns = t .columns; keys = t .keys; room = t .room; rows = n }
 
--- a slot leads to the row, if it is live, where slots lead to those before it
+-- if the slots lead to exactly the live rows before this row, they lead to this row too, if it is live
 pub record RowPut (t : Keyed) (rows store : List ℕ) (row : ℕ) (store′ : List ℕ) : Type 0 where
   pub sound : KeysSound (firstRows t row) rows store → KeysSound (firstRows t (row + 1)) rows store′
   pub rest : drop (slots t) store′ ≡ drop (slots t) store
 
--- the slots lead to exactly the live rows, whatever they held
+-- the slots lead to exactly the live rows, whatever their previous contents
 pub record Rebuilt (t : Keyed) (rows store store′ : List ℕ) : Type 0 where
   pub sound : KeysSound t rows store′
   pub rest : drop (slots t) store′ ≡ drop (slots t) store

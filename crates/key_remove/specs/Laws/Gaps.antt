@@ -1,5 +1,5 @@
--- A sound key store, unrolled at a free slot, and back; and that the walk that closes a gap, `closed` of Index.antt, keeps it
--- sound once the row is dead. Assumes nothing.
+-- Laws of backward-shift deletion: `closed` preserves the soundness of a key store, once the removed row is dead. The proof unrolls
+-- the ring at a free slot and rolls it up again. Assumes nothing.
 use Prim.Native.Nat.{ℕ, zero, suc, _+_, _-_, _*_, _%_, _^_, _≤_, _<_}
 use mathlib.Core.Path.{_≡_, sym, ap, _∙_}
 use mathlib.Core.Logic.{inl, inr}
@@ -27,10 +27,10 @@ use Rattle.key_index.specs.Laws.Index.{free-slot}
 use Rattle.key_index.specs.Laws.Unrolled.{line, line-at, line-put, Line, Gap, gap-open, gap-stay, gap-move, gap-close, line-homes}
 use Rattle.key_index.specs.Laws.Lines.{Small, small, Stored, lineHome, unroll, roll}
 
--- ---- the walk, a slot at a time
+-- ---- the scan, one slot at a time
 
 module _ (t : Keyed) (rows : List ℕ) where
-  -- the slot after, the word there, and how far its home lies before it
+  -- the next slot, and the distance from its word's home to it
   abbrev pub after : ℕ → ℕ
   after at = slotFrom (slots t) at 1
 
@@ -60,7 +60,7 @@ module _ (t : Keyed) (rows : List ℕ) where
         let f : left ≡ suc (left - 1) = omega arith in
         ap (λ (k : ℕ). closed t rows k hole gap at store) f ∙ rw (e, le-ltb (moved at store) (gap + 1) i)
 
-  -- it keeps what each write keeps, to the hole and to the slots that are met
+  -- the scan preserves what each of its writes preserves; it writes only to the hole and to slots that it visits
   module _ {A : Type 0} (f : List ℕ → A) (In : ℕ → Type 0) (met : (at : ℕ) → In (after at))
       (keeps : (store : List ℕ) (slot w : ℕ) → In slot → f (set store slot w) ≡ f store) where
     closed-keeps : (left hole gap at : ℕ) (store : List ℕ) → In hole → f (closed t rows left hole gap at store) ≡ f store
@@ -76,7 +76,7 @@ module _ (t : Keyed) (rows : List ℕ) where
           | inr e ↦ rw e (keeps store hole 0 h)
         ]
 
-  -- so the length, and what lies past the slots
+  -- so it preserves the length, and the words past the slots
   pub closed-length : (left hole gap at : ℕ) (store : List ℕ) → length (closed t rows left hole gap at store) ≡ length store
   closed-length left hole gap at store = closed-keeps length (λ _. Unit) (λ _. tt) (λ s i w _. length-set s i w) left hole gap at store tt
 
@@ -85,7 +85,7 @@ module _ (t : Keyed) (rows : List ℕ) where
       closed-keeps (drop (slots t)) (λ i. i < slots t) (λ i. slot-below (slots t) i 1 (omega arith)) (λ s i w k. drop-set-lt (slots t) s i w k) left hole gap at store h
 
   module _ (Held : ℕ → Type 0) (names : (w : ℕ) → Held w → namesRow t w ≡ true) (z : ℕ) (b : z < slots t) (m : Small t) where
-    -- how far a word's home lies before a place of the line
+    -- the distance from a word's home to a position of the line
     word-far : (w a : ℕ) → lineHome t rows z w ≤ a → a < slots t → away (slots t) (homeOf t rows w) (slotFrom (slots t) z a) ≡ a - lineHome t rows z w
     unfolding lineHome homeOf
     word-far w a i h =
@@ -93,7 +93,7 @@ module _ (t : Keyed) (rows : List ℕ) where
         let e = away-slot (slots t) z (home (slots t) key) b (home-below (slots t) key (omega arith)) in
         ap (λ (k : ℕ). away (slots t) k (slotFrom (slots t) z a)) (sym e) ∙ away-line (slots t) z (away (slots t) z (home (slots t) key)) a b i h
 
-    -- the walk over a line with a hole at place g, gone through up to place a, leaves a line without one
+    -- after a scan up to position a of a line with a hole at position g, the rest of the scan leaves a line without a hole
     Walked : ℕ → Type 0
     Walked left =
         (g a hole gap at : ℕ) (store : List ℕ) → slots t ≤ length store → hole ≡ slotFrom (slots t) z g → gap + g ≡ a → at ≡ slotFrom (slots t) z a
@@ -113,13 +113,13 @@ module _ (t : Keyed) (rows : List ℕ) where
         less : suc left - 1 ≡ left
         less = omega arith
 
-        -- nothing stands next
+        -- the next slot is free
         stop : getD store (after at) 0 ≡ 0 → Line (slots t) (lineHome t rows z) Held (line (slots t) z (closed t rows (suc left) hole gap at store))
         stop e =
             rw (closed-stop (suc left) hole gap at store (omega arith) (names-none t _ (ap (λ (w : ℕ). w % 2 ^ 17) e)), x)
             (gap-close (slots t) (lineHome t rows z) Held (line (slots t) z store) g a s _ (λ k. sym there ∙ e) (line-put (slots t) z store g 0 b (omega (arith, s .order, s .end)) long))
 
-        -- a word stands next
+        -- the next slot has a word
         step : a + 1 < slots t → (getD store (after at) 0 ≡ 0 → ⊥) → Line (slots t) (lineHome t rows z) Held (line (slots t) z (closed t rows (suc left) hole gap at store))
         step h e =
             let w = getD store (after at) 0 in
@@ -154,10 +154,10 @@ module _ (t : Keyed) (rows : List ℕ) where
     walked zero = unfold Walked in λ g a hole gap at store long x y u enough s. absurd (omega (arith, s .end))
     walked (suc left) = walked-on left (walked left)
 
--- ---- a row that is marked dead
+-- ---- a row is marked dead
 
 module _ (t : Keyed) (rows store : List ℕ) (f : Fits t rows store) (r : ℕ) (live : LiveAt t rows r) where
-  -- the other rows are as they were
+  -- the other rows are unchanged
   other-row : (row : ℕ) → (row ≡ r → ⊥) → rowAt (t .columns) row (set rows (r * t .columns) 4294967295) ≡ rowAt (t .columns) row rows
   other-row row ne =
       rw add-zero at (rowAt-set-other (t .columns) r row 0 rows 4294967295 (λ e. ne (sym e)) (omega (arith, f .some-columns)))
@@ -183,7 +183,7 @@ module _ (t : Keyed) (rows store : List ℕ) (f : Fits t rows store) (r : ℕ) (
   same-key : (row : ℕ) → (row ≡ r → ⊥) → keyAt t (set rows (r * t .columns) 4294967295) row ≡ keyAt t rows row
   same-key row ne = ap (take (t .keys)) (other-row row ne)
 
-  -- the words to be held are those from before, without the row's
+  -- the words that must be held are the previous ones, without the row's
   stored-on : (w : ℕ) → Stored t rows w → (w ≡ word (keyAt t rows r) r → ⊥) → Stored t (set rows (r * t .columns) 4294967295) w
   stored-on w s ne =
       let k : s .0 ≡ r → ⊥ = λ e. ne (s .2 ∙ ap (λ (i : ℕ). word (keyAt t rows i) i) e) in
@@ -210,7 +210,7 @@ module _ (t : Keyed) (rows store : List ℕ) (f : Fits t rows store) (r : ℕ) (
       let e : rowNamed w ≡ s .0 = ap rowNamed (s .2) ∙ word-row _ (s .0) (row-small (s .0) (s .1 .0)) in
       rw (e, same-key (s .0) k)
 
-  -- "Freed slots are used again": once the gap is closed the store leads to exactly the other live rows
+  -- "Freed slots are used again": once the hole is closed the store leads to exactly the other live rows
   pub take-out-sound : KeysSound t rows store → (slot : ℕ) → slot < slots t → getD store slot 0 ≡ word (keyAt t rows r) r
       → KeysSound t (set rows (r * t .columns) 4294967295) (closed t rows (slots t) slot 0 slot store)
   unfolding Walked

@@ -19,7 +19,7 @@ marks-other-requires c κs = let p = c .before .before .before .before .pre .1 i
 loop-holds : tie.Need-loop-holds Inv-loop μ-loop
 loop-holds c = left-begin _ _ _ _ _ _ _ (c .marks-other .ensures)
 
--- the slot of the lowest mark
+-- the slot of the lowest set bit
 inside : (c : tie.In-loop Inv-loop μ-loop) → let a = c .before .before .before .before .before .before .before .args in a .from + trailingZeros 64 (c .before .loop .word) < a .from + a .count
 inside c = left-in _ _ _ _ _ _ (c .before .before .before .before .before .before .before .pre .1) _ _ (c .before .loop .inv) (c .loop-test .taken)
 

@@ -15,7 +15,7 @@ use Rattle.key_renumber.proofs.renumber_word.Tie as tie
 returns : tie.Need-returns
 returns c = stays _ _ _ _ (sym (c .before .names-row .ensures) ∙ not-true _ (c .if1 .taken))
 
--- the word names a row, which has its marks and its first number
+-- the word names a row, whose bitmap word and base are inside their lists
 names : (c : tie.Else1) → let a = c .before .before .before .before .args in namesRow (a .t) (a .word) ≡ true
 names c = sym (c .before .names-row .ensures) ∙ not-false _ (c .if1 .left)
 

@@ -1,5 +1,5 @@
--- Renumbering keeps a key store sound: each key stands where it stood, with its row's new number; and the numbers that a
--- compaction gives are such. Assumes nothing.
+-- Renumbering preserves the soundness of a key store: each key remains in its slot, with its row's new number. The numbers that a
+-- compaction assigns meet the premises. Assumes nothing.
 use Prim.Native.Nat.{ℕ, _+_, _-_, _*_, _/_, _%_, _^_, _≤_, _<_}
 use mathlib.Core.Path.{_≡_, sym, ap, _∙_}
 use mathlib.Core.Bool.{true, false}
@@ -22,7 +22,7 @@ use Rattle.key_index.specs.Laws.Ring.{word-row, word-same, word-some, names-non
 use Rattle.key_index.specs.Laws.Lines.{Small}
 use Rattle.key_renumber.specs.inner.Renumbering.{liveBelow, Renamed, Renumbered, newRow, renumbered}
 
--- a free slot stays free
+-- a free slot remains free
 pub renumbered-free : (t : Keyed) (live base : List ℕ) (w : ℕ) → w ≡ 0 → renumbered t live base w ≡ 0
 unfolding renumbered
 renumbered-free t live base w e = rw (names-none t w (ap (λ (x : ℕ). x % 2 ^ 17) e)) e
@@ -42,7 +42,7 @@ renumbered-word t live base m key row new h e k =
     put : (key : List ℕ) (row new : ℕ) → row < 2 ^ 17 - 1 → word key row / 2 ^ 17 * 2 ^ 17 + (new + 1) ≡ word key new
     put key row new h = unfold word in omega arith
 
--- Rows get new numbers: those of the rows that live, in the table after, with the same keys.
+-- Rows get new numbers: each live row has its new number in the table after, with the same key.
 pub record Renames (t : Keyed) (rows : List ℕ) (t′ : Keyed) (rows′ : List ℕ) (new : ℕ → ℕ) : Type 0 where
   pub room : t′ .room ≡ t .room
   pub forth : (i : ℕ) → LiveAt t rows i → LiveAt t′ rows′ (new i)
@@ -55,12 +55,12 @@ module _ (t : Keyed) (rows : List ℕ) (t′ : Keyed) (rows′ store : List ℕ)
     new-small : (i : ℕ) → LiveAt t rows i → new i ≤ 65536
     new-small i l = omega (arith, r .forth i l .0, few, r .room, m .room)
 
-    -- a slot that held a live row's word holds the word of its new number
+    -- a slot with a live row's word has the word of its new number
     word-after : (slot i : ℕ) → slot < slots t → LiveAt t rows i → getD store slot 0 ≡ word (keyAt t rows i) i
         → getD after slot 0 ≡ word (keyAt t′ rows′ (new i)) (new i)
     word-after slot i h l e = a .taken slot i h l e ∙ ap (λ (k : List ℕ). word k (new i)) (sym (r .key i l))
 
-    -- a slot that is not free was not free
+    -- a slot that is not free afterwards was not free before
     held-before : (slot : ℕ) → slot < slots t → 0 < getD after slot 0 → 0 < getD store slot 0
     held-before slot h c =
         elim (ℕ-discrete (getD store slot 0) 0) [
@@ -97,13 +97,13 @@ module _ (t : Keyed) (rows : List ℕ) (t′ : Keyed) (rows′ store : List ℕ)
               free-before (slotFrom n (home n (keyAt t rows i)) x) (b x) z (p .way x h);
         }
       where
-        -- a slot that is free was free
+        -- a slot that is free afterwards was free before
         free-before : (slot : ℕ) → slot < slots t → getD after slot 0 ≡ 0 → (getD store slot 0 ≡ 0 → ⊥) → ⊥
         free-before slot h z ne =
             let o = s .only-live slot h (omega arith) in
             omega (arith, word-after slot (o .0) h (o .1) (o .2), word-some (keyAt t′ rows′ (new (o .0))) (new (o .0)))
 
-    -- the store with the new numbers leads to exactly the rows after
+    -- the renumbered store leads to exactly the rows after
     pub renames-sound : KeysSound t′ rows′ after
     renames-sound =
         record {
@@ -115,13 +115,13 @@ module _ (t : Keyed) (rows : List ℕ) (t′ : Keyed) (rows′ store : List ℕ)
               rw (← f .2) (d .0, rw (r .room) (stands-after (f .0) (d .0) (f .1) (d .1)));
         }
 
--- ---- the numbers that a compaction gives
+-- ---- the numbers that a compaction assigns
 
 module _ (t : Keyed) (rows : List ℕ) where
   pub live-few : (n : ℕ) → liveBelow t rows n ≤ n
   live-few n = omega (arith, count-le isLive (rowsOf (t .columns) n rows), length-rowsOf (t .columns) n rows)
 
-  -- as a compaction's words number them, among the first n rows
+  -- the numbers of the compaction bitmap, for the first n rows
   module _ (n : ℕ) where
     abbrev firsts : List (List ℕ)
     firsts = rowsOf (t .columns) n rows
@@ -135,7 +135,7 @@ module _ (t : Keyed) (rows : List ℕ) where
         let k : i < length firsts = rw length-rowsOf h in
         liveAt-in isLive firsts i [] k ∙ ap isLive (getD-rowsOf (t .columns) n rows i h)
 
-  -- one row more, live or dead
+  -- one more row, live or dead
   pub live-more : (i : ℕ) → isLive (rowAt (t .columns) i rows) ≡ true → liveBelow t rows (i + 1) ≡ liveBelow t rows i + 1
   live-more i e =
       let k : i < i + 1 = omega arith in
@@ -146,17 +146,17 @@ module _ (t : Keyed) (rows : List ℕ) where
       let k : i < i + 1 = omega arith in
       omega (arith, below-number (i + 1) (i + 1) (omega arith), below-number (i + 1) i (omega arith), number-dead isLive (firsts (i + 1)) i (live-among (i + 1) i k ∙ e))
 
-  -- a live row's number is below that of each later one
+  -- a live row's number is below that of each later row
   pub live-rises : (i j : ℕ) → isLive (rowAt (t .columns) i rows) ≡ true → i < j → liveBelow t rows i < liveBelow t rows j
   live-rises i j e h = omega (arith, below-number j i (omega arith), below-number j j (omega arith), number-rises isLive (firsts j) i j h (live-among j i h ∙ e))
 
-  -- each number below the count of the first n rows that live is one's
+  -- each number below the count of live rows among the first n is the number of one of them
   pub live-back : (n k : ℕ) → k < liveBelow t rows n → (i : ℕ) × (i < n) × (isLive (rowAt (t .columns) i rows) ≡ true) × (liveBelow t rows i ≡ k)
   live-back n k h =
       let b = number-back isLive (firsts n) n k (omega (arith, below-number n n (omega arith))) in
       (b .0, b .1, sym (live-among n (b .0) (b .1)) ∙ b .2, below-number n (b .0) (omega (arith, b .1)) ∙ b .3)
 
--- What a compaction leaves: each live row at its new number, and nothing else counted.
+-- The result of a compaction: each live row is at its new number, and there are no other rows.
 pub record Compacted (t : Keyed) (rows : List ℕ) (t′ : Keyed) (rows′ : List ℕ) : Type 0 where
   pub columns : t′ .columns ≡ t .columns
   pub keys : t′ .keys ≡ t .keys
@@ -184,13 +184,13 @@ module _ (t : Keyed) (rows : List ℕ) (t′ : Keyed) (rows′ : List ℕ) (c : 
       forth : (i : ℕ) → LiveAt t rows i → LiveAt t′ rows′ (liveBelow t rows i)
       forth i l = (omega (arith, live-rises t rows i (t .rows) (l .1) (l .0), c .count), rw (compacted-row i l) (l .1))
 
-  -- "compaction renumbers": the store leads to exactly the rows that were kept
+  -- "compaction renumbers": the store leads to exactly the rows that remain
   pub renumber-sound : (store store′ : List ℕ) → Small t → KeysSound t rows store → Renumbered t rows store store′ → KeysSound t′ rows′ store′
   renumber-sound store store′ m s n =
       let few : t′ .rows ≤ t′ .room = omega (arith, c .count, c .room, live-few t rows (t .rows), m .count) in
       renames-sound t rows t′ rows′ store (liveBelow t rows) renames m few s store′ (n .numbers s)
 
--- words that tell these numbers give them to each slot
+-- a compaction bitmap with these numbers gives them to each slot
 pub slots-renumbered : (t : Keyed) (rows store live base : List ℕ) → Small t → slots t ≤ length store
     → ((i : ℕ) → LiveAt t rows i → newRow live base i ≡ liveBelow t rows i)
     → Renumbered t rows store (mapFront (renumbered t live base) (slots t) store)

@@ -1,4 +1,4 @@
--- What renumbering asks and promises (document 01, "Compaction"): slot by slot, from the compaction words. Assumes nothing.
+-- Contracts of renumbering (document 01, "Compaction"): slot by slot, from the compaction bitmap. Assumes nothing.
 use Prim.Native.Nat.{ℕ, _+_, _*_, _/_, _%_, _^_, _≤_, _<_}
 use mathlib.Core.Path.{_≡_}
 use mathlib.Core.Bool.{cond}
@@ -13,17 +13,17 @@ use Rattle.key_index.specs.declared.Keyed.{Keyed}
 use Rattle.key_index.specs.Slots.{LiveAt, keyAt, slots, word, KeysSound}
 use Rattle.key_index.specs.inner.Ring.{rowNamed, namesRow}
 
--- how many rows below row i live: "the others close up in order"
+-- the number of live rows below row i: "the others close up in order"
 abbrev pub liveBelow : Keyed → List ℕ → ℕ → ℕ
 liveBelow t rows i = count isLive (rowsOf (t .columns) i rows)
 
--- each live row's word has another number, and the slots that were free are
+-- each live row's word has a new number, and free slots remain free
 pub record Renamed (t : Keyed) (rows store : List ℕ) (new : ℕ → ℕ) (store′ : List ℕ) : Type 0 where
   pub free : (slot : ℕ) → slot < slots t → getD store slot 0 ≡ 0 → getD store′ slot 0 ≡ 0
   pub taken : (slot i : ℕ) → slot < slots t → LiveAt t rows i → getD store slot 0 ≡ word (keyAt t rows i) i
       → getD store′ slot 0 ≡ word (keyAt t rows i) (new i)
 
--- a sound store has the numbers that a compaction gives
+-- a sound store gets the numbers that a compaction assigns
 pub record Renumbered (t : Keyed) (rows store store′ : List ℕ) : Type 0 where
   pub numbers : KeysSound t rows store → Renamed t rows store (liveBelow t rows) store′
   pub rest : drop (slots t) store′ ≡ drop (slots t) store
@@ -32,13 +32,13 @@ pub record Renumbered (t : Keyed) (rows store store′ : List ℕ) : Type 0 wher
 unfoldable pub newRow : List ℕ → List ℕ → ℕ → ℕ
 newRow live base row = getD base (row / 64) 0 + setBelow (getD live (row / 64) 0) (row % 64)
 
--- A slot's word with its row's new number. One that names no row stays, and so does one of a row whose first live number
--- is told to be above 65536, as no compaction tells: so a new number never runs into the hash bits.
+-- A slot's word with its row's new number. A word that is not that of a row is unchanged. So is one whose base is above 65536,
+-- which no compaction writes: so a new number never overflows into the hash bits.
 unfoldable pub renumbered : Keyed → List ℕ → List ℕ → ℕ → ℕ
 renumbered t live base w =
     cond (namesRow t w) (cond (leb (getD base (rowNamed w / 64) 0) 65536) (w / 2 ^ 17 * 2 ^ 17 + (newRow live base (rowNamed w) + 1)) w) w
 
--- "capacity over 64 rounded up of u64 and of u32", the room being at most the capacity
+-- "capacity over 64 rounded up of u64 and of u32"; `room` is at most the capacity
 pub record Ranked (t : Keyed) (live base : List ℕ) : Type 0 where
   pub room : t .room ≤ 65536
   pub count : t .rows ≤ t .room
@@ -51,6 +51,6 @@ pub record Block (store : List ℕ) (from count : ℕ) : Type 0 where
   pub inside : from + count ≤ length store
   pub most : from + count ≤ 131072
 
--- where the slots before them are renumbered, they are too
+-- if the slots before the block are renumbered, those of the block are renumbered too
 pub record BlockRenumbered (t : Keyed) (live base store : List ℕ) (from count : ℕ) (store′ : List ℕ) : Type 0 where
   pub on : (l : List ℕ) → store ≡ mapFront (renumbered t live base) from l → store′ ≡ mapFront (renumbered t live base) (from + count) l

@@ -1,4 +1,4 @@
--- Laws of Booleans and of tests that all elements of a list pass, or one. Assumes nothing.
+-- Laws of Booleans, and of tests that all elements of a list pass or that one passes. Assumes nothing.
 use Prim.Native.Nat.{ℕ, zero, suc, _<_, suc-le-suc}
 use mathlib.Core.Path.{_≡_, refl, sym, ap, _∙_}
 use mathlib.Core.Logic.{_⊎_, inl, inr}
@@ -9,26 +9,24 @@ use lib.ListN.{length, getD}
 use Rattle.lists.specs.Lists.{keep, count, every, any}
 use Rattle.lists.specs.Laws.Keep.{split, and-left, and-right, keep-every, every-keep}
 
--- both hold
 pub and-both : (a b : Bool) → a ≡ true → b ≡ true → (a && b) ≡ true
 and-both a b p q = rw (p, q)
 
--- the second holds
 pub or-right : (a b : Bool) → b ≡ true → (a || b) ≡ true
 or-right true b p = refl
 or-right false b p = p
 
--- the second of two holds where the first fails
+-- if the first fails, the second holds
 pub or-second : (a b : Bool) → (a || b) ≡ true → a ≡ false → b ≡ true
 or-second true b p q = absurd (false≢true (sym q))
 or-second false b p q = p
 
--- where neither of two holds, the first does not
+-- if neither holds, the first does not
 pub or-no-left : (a b : Bool) → (a || b) ≡ false → a ≡ false
 or-no-left true b e = e
 or-no-left false b e = refl
 
--- nor does the second
+-- if neither holds, the second does not
 pub or-no-right : (a b : Bool) → (a || b) ≡ false → b ≡ false
 or-no-right true b e = absurd (false≢true (sym e))
 or-no-right false b e = e
@@ -59,30 +57,30 @@ module _ {A : Type 0} where
     pub every-snoc : (xs : List A) (y : A) → every test xs ≡ true → test y ≡ true → every test (xs ++ (y ∷ [])) ≡ true
     every-snoc xs y p q = every-append xs (y ∷ []) p (every-cons y [] q (unfold every in refl))
 
-    -- what passed passes again
+    -- filtering is idempotent
     pub keep-again : (xs : List A) → keep test (keep test xs) ≡ keep test xs
     keep-again xs = keep-every test (keep test xs) (every-keep test xs)
 
-    -- none of those that passed fails
+    -- if all pass, none fails
     pub count-not : (xs : List A) → every test xs ≡ true → count (λ x. not (test x)) xs ≡ 0
     unfolding count
     count-not [] q = refl
     count-not (x ∷ xs) q = rw (every-head x xs q) (count-not xs (every-tail x xs q))
 
-  -- a test that passes wherever another does
+  -- a weaker test
   pub every-weaker : (s t : A → Bool) → ((x : A) → s x ≡ true → t x ≡ true) → (xs : List A) → every s xs ≡ true → every t xs ≡ true
   unfolding every
   every-weaker s t f [] q = refl
   every-weaker s t f (x ∷ xs) q = rw (f x (and-left (s x) _ q), every-weaker s t f xs (and-right (s x) _ q))
 
 module _ {A B : Type 0} where
-  -- the value of the element at a place, whatever stands past the end
+  -- the mapped element at a position, for any two defaults
   pub getD-map-below : (f : A → B) (l : List A) (i : ℕ) (d : A) (e : B) → i < length l → getD (map f l) i e ≡ f (getD l i d)
   getD-map-below f [] i d e h = absurd (omega arith)
   getD-map-below f (x ∷ l) zero d e h = refl
   getD-map-below f (x ∷ l) (suc i) d e h = getD-map-below f l i d e (omega arith)
 
-  -- two lists, of which the same places pass a test
+  -- two lists of one length, of which the same positions pass
   pub count-alike : (s : A → Bool) (t : B → Bool) (d : A) (e : B) (xs : List A) (ys : List B) → length xs ≡ length ys
       → ((i : ℕ) → i < length xs → s (getD xs i d) ≡ t (getD ys i e)) → count s xs ≡ count t ys
   unfolding count
@@ -92,13 +90,13 @@ module _ {A B : Type 0} where
   count-alike s t d e (x ∷ xs) (y ∷ ys) n f = rw (f 0 (omega arith), count-alike s t d e xs ys (omega arith) (λ i h. f (suc i) (suc-le-suc h)))
 
 module _ {A : Type 0} (test : A → Bool) where
-  -- one more at the end, whether all pass or not
+  -- one more at the end, as a Boolean
   pub every-more : (xs : List A) (x : A) → every test (xs ++ (x ∷ [])) ≡ (every test xs && test x)
   unfolding every
   every-more [] x = and-true (test x)
   every-more (y ∷ xs) x = ap (λ (b : Bool). test y && b) (every-more xs x) ∙ sym (and-assoc (test y) (every test xs) (test x))
 
-  -- where one passes
+  -- a position at which one passes
   pub any-at : (d : A) (xs : List A) → any test xs ≡ true → (i : ℕ) × (i < length xs) × (test (getD xs i d) ≡ true)
   unfolding any
   any-at d [] q = absurd (false≢true q)

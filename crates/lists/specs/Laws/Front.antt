@@ -1,4 +1,4 @@
--- Laws of a list whose first elements are mapped, one by one. Assumes nothing.
+-- Laws of a list whose first elements are mapped. Assumes nothing.
 use Prim.Native.Nat.{ℕ, zero, suc, _+_, _≤_, _<_}
 use mathlib.Core.Path.{_≡_, refl, ap}
 use mathlib.Core.List.{List, [], _∷_}
@@ -15,7 +15,7 @@ module _ {A : Type 0} where
     length-mapFront (suc n) [] = refl
     length-mapFront (suc n) (x ∷ xs) = ap suc (length-mapFront n xs)
 
-    -- what is mapped, and what is not
+    -- an element that is mapped, and one that is not
     pub getD-mapFront : (n : ℕ) (l : List A) (i : ℕ) (d : A) → i < n → i < length l → getD (mapFront f n l) i d ≡ f (getD l i d)
     unfolding mapFront
     getD-mapFront zero l i d h k = absurd (omega arith)
@@ -36,7 +36,7 @@ module _ {A : Type 0} where
     drop-mapFront (suc n) [] = refl
     drop-mapFront (suc n) (x ∷ xs) = drop-mapFront n xs
 
-    -- one more
+    -- one more element is mapped
     suc-mapFront : (n : ℕ) (l : List A) (d : A) → n < length l → set (mapFront f n l) n (f (getD l n d)) ≡ mapFront f (suc n) l
     unfolding mapFront
     suc-mapFront n [] d h = absurd (omega arith)

@@ -1,4 +1,4 @@
--- Laws of the elements that pass a test: which they are, how many, and whether all. Assumes nothing.
+-- Laws of the elements that pass a test: which they are, how many, and whether all do. Assumes nothing.
 use Prim.Native.Nat.{ℕ, zero, suc, _+_, _≤_, _<_, suc-le-suc}
 use mathlib.Core.Path.{_≡_, refl, sym, _∙_}
 use mathlib.Core.Logic.{_⊎_, inl, inr}
@@ -11,7 +11,7 @@ use lib.ListN.{length, take, getD}
 use lib.Seq.{take-suc}
 use Rattle.lists.specs.Lists.{keep, count, every}
 
--- a test, with its value
+-- case distinction on a test, with its value
 pub split : (b : Bool) → (b ≡ true) ⊎ (b ≡ false)
 split true = inl refl
 split false = inr refl
@@ -63,7 +63,7 @@ module _ {A : Type 0} where
     count-le [] = omega arith
     count-le (x ∷ xs) = let h = count-le xs in elim (split (test x)) [ inl e ↦ rw e (omega arith) | inr e ↦ rw e (omega arith) ]
 
-  -- two tests that agree, everywhere or on the list
+  -- two tests that agree everywhere
   pub keep-same : (s t : A → Bool) → ((x : A) → s x ≡ t x) → (xs : List A) → keep s xs ≡ keep t xs
   unfolding keep
   keep-same s t f [] = refl
@@ -89,7 +89,7 @@ module _ {A : Type 0} where
           | inr e ↦ absurd (let z : length (keep test xs) ≡ suc (length xs) = rw (keep-no test x xs e) at q in omega (arith, length-keep test xs, count-le test xs))
         ]
 
-    -- one more element is looked at: it passes, or it does not
+    -- one more element is tested
     keep-last : (xs : List A) (i : ℕ) (d : A) → i < length xs → keep test (take (i + 1) xs) ≡ keep test (take i xs) ++ keep test (getD xs i d ∷ [])
     keep-last xs i d h = rw (add-one, take-suc xs i d h) (keep-append test (take i xs) (getD xs i d ∷ []))
 
@@ -117,7 +117,7 @@ module _ {A : Type 0} where
     every-of d [] f = refl
     every-of d (x ∷ xs) f = rw (f 0 (omega arith), every-of d xs (λ i h. f (suc i) (suc-le-suc h)))
 
-  -- what all pass, those kept pass
+  -- what all elements pass, the filtered ones pass
   pub every-keep-of : (s t : A → Bool) (xs : List A) → every s xs ≡ true → every s (keep t xs) ≡ true
   unfolding keep every
   every-keep-of s t [] q = refl

@@ -1,4 +1,4 @@
--- Laws of a part that is overwritten. Assumes nothing.
+-- Laws of overwriting a part of a list. Assumes nothing.
 use Prim.Native.Nat.{ℕ, zero, suc, _+_, _-_, _≤_, _<_}
 use mathlib.Core.Path.{_≡_, refl, sym, ap, ap₂, _∙_}
 use mathlib.Core.List.{List, [], _∷_, _++_, append-assoc, append-nil}
@@ -11,13 +11,13 @@ use borrow.Rule.Slice.PartMut.{putMid}
 use Rattle.lists.specs.Lists.{putAt}
 
 module _ {A : Type 0} where
-  -- a part, cut from the front first
+  -- `take` and `drop` exchanged
   pub take-drop : (n m : ℕ) (l : List A) → take m (drop n l) ≡ drop n (take (n + m) l)
   take-drop zero m l = rw zero-add
   take-drop (suc n) m [] = take-nil m ∙ sym (ap (drop (suc n)) (take-nil (suc n + m)))
   take-drop (suc n) m (x ∷ xs) = rw suc-add (take-drop n m xs)
 
-  -- a part that is lent, by its width
+  -- the width of a borrowed part
   pub part-width : (l : List A) (at width : ℕ) → take (at + width - at) (drop at l) ≡ take width (drop at l)
   part-width l at width = let e : at + width - at ≡ width = omega arith in rw e
 
@@ -25,12 +25,12 @@ module _ {A : Type 0} where
     head-length : length (take at l) ≡ at
     head-length = simp length-take (omega arith)
 
-    -- a store keeps its length
+    -- overwriting preserves the length
     pub length-putAt : length (putAt l at w) ≡ length l
     unfolding putAt
     length-putAt = simp (length-append, length-take, length-drop) (omega arith)
 
-    -- what stands before the part, in it, and after it
+    -- the elements before the part, in it, and after it
     pub take-putAt : (n : ℕ) → n ≤ at → take n (putAt l at w) ≡ take n l
     unfolding putAt
     take-putAt n h =
@@ -67,21 +67,21 @@ module _ {A : Type 0} where
         ∙ ap (λ (x : List A). getD x (i - (at + length w)) d) (drop-putAt (at + length w) k)
         ∙ getD-drop (at + length w) l (i - (at + length w)) d)
 
-    -- the m from place n on, where they end before the part, or begin after it
+    -- m elements from position n on that end before the part, or begin after it
     pub part-before : (n m : ℕ) → n + m ≤ at → take m (drop n (putAt l at w)) ≡ take m (drop n l)
     part-before n m h = take-drop n m (putAt l at w) ∙ ap (drop n) (take-putAt (n + m) h) ∙ sym (take-drop n m l)
 
     pub part-after : (n m : ℕ) → at + length w ≤ n → take m (drop n (putAt l at w)) ≡ take m (drop n l)
     part-after n m h = ap (take m) (drop-putAt n h)
 
-    -- what stands before the part and in it
+    -- the elements before the part and in it
     pub front-putAt : take (at + length w) (putAt l at w) ≡ take at l ++ w
     unfolding putAt
     front-putAt =
         let k : length (take at l ++ w) ≡ at + length w = simp (length-append, length-take) (omega arith) in
         rw (← append-assoc (take at l) w (drop (at + length w) l)) (take-at (take at l ++ w) (drop (at + length w) l) (at + length w) k)
 
-  -- two lists whose first n elements are alike, and whose rest is
+  -- two lists are equal if their first n elements and their rests are
   pub same-parts : (d : A) (n : ℕ) (l m : List A) → n ≤ length l → n ≤ length m → ((i : ℕ) → i < n → getD l i d ≡ getD m i d)
       → drop n l ≡ drop n m → l ≡ m
   same-parts d zero l m h k f e = e
@@ -94,14 +94,14 @@ module _ {A : Type 0} where
   unfolding putAt
   putAt-nil l at = rw add-zero (take-append-drop at l)
 
-  -- written at the start: how another list starts, and more, where both go on alike after that
+  -- writing a prefix of m and then w at the start of l, if l and m agree afterwards
   pub putAt-start : (l m w : List A) (n : ℕ) → n ≤ length m → drop (n + length w) l ≡ drop (n + length w) m → putAt l 0 (take n m ++ w) ≡ putAt m n w
   unfolding putAt
   putAt-start l m w n h e =
       let k : 0 + length (take n m ++ w) ≡ n + length w = simp (length-append, length-take) (omega arith) in
       rw (k, e) (append-assoc (take n m) w (drop (n + length w) m))
 
-  -- and no more
+  -- writing a prefix of m at the start of l, if l and m agree afterwards
   pub putAt-alike : (l m : List A) (n : ℕ) → n ≤ length m → drop n l ≡ drop n m → putAt l 0 (take n m) ≡ m
   putAt-alike l m n h e =
       ap (putAt l 0) (sym (append-nil (take n m))) ∙ putAt-start l m [] n h (rw (add-zero n) e) ∙ putAt-nil m n
@@ -118,7 +118,7 @@ module _ {A : Type 0} where
       ∙ ap (λ (x : List A). take at l ++ x) (sym (append-assoc v w _))
       ∙ ap (λ (k : ℕ). take at l ++ (v ++ w ++ drop k l)) e
 
-  -- a write over another, that is no longer
+  -- a write that covers another
   pub putAt-over : (l v w : List A) (at : ℕ) → at + length v ≤ length l → length v ≤ length w → putAt (putAt l at v) at w ≡ putAt l at w
   unfolding putAt
   putAt-over l v w at h e =
@@ -126,11 +126,11 @@ module _ {A : Type 0} where
       let g : at + length v ≤ at + length w = omega arith in
       ap₂ (λ (x y : List A). x ++ (w ++ y)) (take-putAt l v at h at k) (drop-putAt l v at h _ g)
 
-  -- what stands at the front, written there again
+  -- writing the prefix again changes nothing
   pub putAt-front : (l : List A) (n : ℕ) → n ≤ length l → putAt l 0 (take n l) ≡ l
   putAt-front l n h = putAt-alike l l n h refl
 
-  -- one cell, and two neighbours
+  -- one cell, and two adjacent cells
   pub set-putAt : (l : List A) (i : ℕ) (a : A) → i < length l → set l i a ≡ putAt l i (a ∷ [])
   unfolding putAt
   set-putAt l i a h = rw add-one (set-split l i a h)
@@ -148,7 +148,7 @@ module _ {A : Type 0} where
   pub part-to-end : (l : List A) (at : ℕ) → take (length l - at) (drop at l) ≡ drop at l
   part-to-end l at = take-all (length l - at) (drop at l) (simp length-drop (omega arith))
 
-  -- what is written at the start of a lent part to the end, said of the whole
+  -- writing at the start of a borrowed part that ends with the list
   pub put-part : (l w : List A) (at : ℕ) → putMid at (length l - at) l (w ++ drop (length w) (take (length l - at) (drop at l))) ≡ putAt l at w
   unfolding putAt
   put-part l w at =

@@ -1,4 +1,4 @@
--- Laws of rising lists of numbers: runs of numbers, members, and what a search finds. Assumes nothing.
+-- Laws of rising lists of numbers: consecutive numbers, members, and the result of a search. Assumes nothing.
 use Prim.Native.Nat.{ℕ, zero, suc, _+_, _-_, _≤_, _<_, min, max, suc-le-suc}
 use mathlib.Core.Path.{_≡_, refl, sym, ap, ap₂, _∙_}
 use mathlib.Core.Logic.{_⊎_, inl, inr}
@@ -14,7 +14,7 @@ use borrow.Author.Tests.{ltb-true, leb-true, eqb-true, lt-ltb, le-ltb, le-leb, l
 use Rattle.lists.specs.Lists.{keep, count, countFrom, above, rising, has, within, same}
 use Rattle.lists.specs.Laws.Keep.{split, and-left, and-right, keep-yes, keep-no, count-yes, count-no}
 
--- two tests are equal where each passes if the other does
+-- two Booleans are equal if each implies the other
 pub bool-ext : (a b : Bool) → (a ≡ true → b ≡ true) → (b ≡ true → a ≡ true) → a ≡ b
 bool-ext true true f g = refl
 bool-ext true false f g = sym (f refl)
@@ -41,7 +41,7 @@ pub within-past : (a b x : ℕ) → b ≤ x → within a b x ≡ false
 unfolding within
 within-past a b x h = rw (le-ltb x b h) (and-false (leb a x))
 
--- ---- a run of numbers
+-- ---- consecutive numbers
 
 pub length-countFrom : (s n : ℕ) → length (countFrom s n) ≡ n
 unfolding countFrom
@@ -94,7 +94,7 @@ pub rising-tail : (x : ℕ) (xs : List ℕ) → rising (x ∷ xs) ≡ true → r
 unfolding rising
 rising-tail x xs e = above-rising x xs e
 
--- what follows the first's second is above the first
+-- what is above x remains above x without its first element
 above-rest : (x y : ℕ) (ys : List ℕ) → above x (y ∷ ys) ≡ true → above x ys ≡ true
 above-rest x y ys e = above-weaker x y ys (omega (arith, above-head x y ys e)) (above-tail x y ys e)
 
@@ -128,7 +128,7 @@ above-at x [] e i h = absurd (omega arith)
 above-at x (y ∷ ys) e zero h = above-head x y ys e
 above-at x (y ∷ ys) e (suc i) h = above-at x ys (above-rest x y ys e) i (omega arith)
 
--- a later place holds a larger number
+-- a later position has a larger number
 pub rising-at : (l : List ℕ) → rising l ≡ true → (i j : ℕ) → i < j → j < length l → getD l i 0 < getD l j 0
 rising-at [] e i j h k = absurd (omega arith)
 rising-at (x ∷ xs) e i zero h k = absurd (omega arith)
@@ -141,7 +141,7 @@ rising-of-suc [] f = refl
 rising-of-suc (x ∷ []) f = unfold above in refl
 rising-of-suc (x ∷ y ∷ ys) f = above-cons x y ys (f 0 (omega arith)) (rising-of-suc (y ∷ ys) (λ i h. f (suc i) (suc-le-suc h)))
 
--- neighbours decide
+-- comparing neighbours is sufficient
 pub rising-of : (l : List ℕ) → ((i : ℕ) → i + 1 < length l → getD l i 0 < getD l (i + 1) 0) → rising l ≡ true
 rising-of l f = rising-of-suc l (λ i h. rw add-one at (f i (omega arith)))
 
@@ -169,7 +169,7 @@ rising-take-suc zero (x ∷ y ∷ ys) h = and-true (ltb x y)
 rising-take-suc (suc n) (x ∷ y ∷ ys) h =
     ap (λ (b : Bool). ltb x y && b) (rising-take-suc n (y ∷ ys) (omega arith)) ∙ sym (and-assoc (ltb x y) (rising (take (suc n) (y ∷ ys))) _)
 
--- one number more
+-- one more number
 pub rising-take-more : (i : ℕ) (l : List ℕ) → 1 ≤ i → i < length l → rising (take (i + 1) l) ≡ (rising (take i l) && ltb (getD l (i - 1) 0) (getD l i 0))
 rising-take-more zero l o h = absurd (omega arith)
 rising-take-more (suc n) l o h = rw add-one (let z : suc n - 1 ≡ n = omega arith in rw z (rising-take-suc n l h))
@@ -186,7 +186,7 @@ rising-past-suc (suc n) [] h e = absurd (omega arith)
 rising-past-suc (suc n) (x ∷ []) h e = absurd (omega arith)
 rising-past-suc (suc n) (x ∷ y ∷ ys) h e = above-past x y ys (above-head x y (take n ys) e) ∙ rising-past-suc n (y ∷ ys) (omega arith) (above-tail x y (take n ys) e)
 
--- two parts that meet in the number at place n: where the first rises, the second decides
+-- two parts that share the number at position n: if the first rises, the whole rises exactly if the second does
 pub rising-past : (n : ℕ) (l : List ℕ) → n < length l → rising (take (n + 1) l) ≡ true → rising l ≡ rising (drop n l)
 rising-past n l h e = rising-past-suc n l h (rw add-one at e)
 
@@ -200,7 +200,7 @@ pub has-there : (x y : ℕ) (ys : List ℕ) → (x ≡ y → ⊥) → has x (y �
 unfolding has
 has-there x y ys h = rw (ne-eqb x y h)
 
--- where it is
+-- the position of a member
 pub has-at : (x : ℕ) (l : List ℕ) → has x l ≡ true → (i : ℕ) × (i < length l) × (getD l i 0 ≡ x)
 unfolding has
 has-at x [] e = absurd (false≢true e)
@@ -255,7 +255,7 @@ has-countFrom x s (suc n) = go (has-countFrom x (suc s) n) (ℕ-discrete x s)
         let b = within-high s (s + suc n) x e in
         within-of (suc s) (suc s + n) x (omega arith) (omega arith))
 
--- what is above x has no member up to x
+-- a list above x has no member up to x
 pub above-has : (x : ℕ) (l : List ℕ) (z : ℕ) → above x l ≡ true → z ≤ x → has z l ≡ false
 above-has x [] z e h = unfold has in refl
 above-has x (y ∷ ys) z e h =
@@ -293,7 +293,7 @@ rising-ext (x ∷ xs) (y ∷ ys) p q f =
           | no h ↦ sym (has-there z x xs h) ∙ f z ∙ has-there z y ys (omega arith)
         ]
 
--- the members in common, from either side
+-- intersection is commutative
 pub keep-has-comm : (l m : List ℕ) → rising l ≡ true → rising m ≡ true → keep (λ x. has x m) l ≡ keep (λ x. has x l) m
 keep-has-comm l m p q =
     rising-ext (keep (λ x. has x m) l) (keep (λ x. has x l) m) (rising-keep (λ x. has x m) l p) (rising-keep (λ x. has x l) m q)
@@ -317,7 +317,7 @@ within-both a b c d x =
     let v : within c d x ≡ true = within-of c d x (omega arith) (omega arith) in
     rw (u, v))
 
--- what two runs have in common is a run
+-- the intersection of two ranges is a range
 pub keep-within-countFrom : (a n c d : ℕ) → keep (within c d) (countFrom a n) ≡ countFrom (max a c) (min (a + n) d - max a c)
 keep-within-countFrom a n c d =
     rising-ext (keep (within c d) (countFrom a n)) (countFrom (max a c) (min (a + n) d - max a c))
@@ -337,9 +337,9 @@ rising-gap l e i (suc k) h =
     let b : getD l (i + k) 0 < getD l (i + suc k) 0 = rising-at l e (i + k) (i + suc k) (omega arith) (omega arith) in
     omega arith
 
--- ---- what a search finds
+-- ---- the result of a search
 
--- how many are below t, where the first p are and the others are not
+-- if exactly the first p are below t, their count is p
 pub rising-count-lt : (l : List ℕ) (t p : ℕ) → p ≤ length l → ((i : ℕ) → i < p → getD l i 0 < t) → ((i : ℕ) → p ≤ i → i < length l → t ≤ getD l i 0)
     → count (λ x. ltb x t) l ≡ p
 rising-count-lt [] t p h f g = unfold count in omega arith
@@ -353,7 +353,7 @@ rising-count-lt (x ∷ xs) t (suc p) h f g =
 count-none : (x t : ℕ) (l : List ℕ) → above x l ≡ true → t ≤ x → count (λ y. ltb y t) l ≡ 0
 count-none x t l e h = rising-count-lt l t 0 (omega arith) (λ i k. absurd (omega arith)) (λ i k m. let a = above-at x l e i m in omega arith)
 
--- those within are the part between the two places
+-- the members within a range are those between two positions
 pub keep-within-part : (l : List ℕ) (a b : ℕ) → rising l ≡ true → a ≤ b
     → keep (within a b) l ≡ take (count (λ x. ltb x b) l - count (λ x. ltb x a) l) (drop (count (λ x. ltb x a) l) l)
 keep-within-part [] a b e h = unfold keep count in refl

@@ -1,4 +1,4 @@
--- Laws of the rows of a store, and of lists one after another. Assumes nothing.
+-- Laws of the rows of a store, and of concatenated lists. Assumes nothing.
 use Prim.Native.Nat.{ℕ, zero, suc, _+_, _*_, _≤_, _<_}
 use mathlib.Core.Path.{_≡_, refl, sym, ap, ap₂, _∙_}
 use mathlib.Core.Logic.{_≢_}
@@ -16,7 +16,7 @@ use Rattle.lists.specs.Lists.{putAt, keep, every, rowAt, rowsOf, flat}
 use Rattle.lists.specs.Laws.Parts.{take-drop, take-putAt, part-putAt}
 use Rattle.lists.specs.Laws.Keep.{and-left, and-right, every-keep-of}
 
--- a row below the count lies within the rows
+-- a row below the count is inside the rows
 pub row-in : (i n w : ℕ) → i < n → i * w + w ≤ n * w
 row-in i n w h = rw (← suc-mul i w) (mul-le-mul-right w h)
 
@@ -30,7 +30,7 @@ module _ {A : Type 0} where
   length-rowsOf w zero l = refl
   length-rowsOf w (suc n) l = ap suc (length-rowsOf w n (drop w l))
 
-  -- a row is the next one of the store without its first
+  -- row i + 1 of a store is row i of the store without its first row
   pub rowAt-zero : (w : ℕ) (l : List A) → rowAt w 0 l ≡ take w l
   unfolding rowAt
   rowAt-zero w l = rw zero-mul
@@ -70,7 +70,7 @@ module _ {A : Type 0} where
   pub rowsOf-snoc : (w n : ℕ) (l : List A) → rowsOf w (n + 1) l ≡ rowsOf w n l ++ (rowAt w n l ∷ [])
   rowsOf-snoc w n l = rw add-one (rowsOf-suc w n l)
 
-  -- stores that begin alike have the same rows there
+  -- stores with the same prefix have the same rows there
   pub rowsOf-same : (w n : ℕ) (l m : List A) → take (n * w) l ≡ take (n * w) m → rowsOf w n l ≡ rowsOf w n m
   unfolding rowsOf
   rowsOf-same w zero l m e = refl
@@ -81,11 +81,11 @@ module _ {A : Type 0} where
       (sym (take-take w (w + n * w) l k) ∙ ap (take w) f ∙ take-take w (w + n * w) m k)
       (rowsOf-same w n (drop w l) (drop w m) (take-drop w (n * w) l ∙ ap (drop w) f ∙ sym (take-drop w (n * w) m)))
 
-  -- what is written past the rows
+  -- a write past the rows
   pub rowsOf-before : (w n : ℕ) (l v : List A) (at : ℕ) → n * w ≤ at → at + length v ≤ length l → rowsOf w n (putAt l at v) ≡ rowsOf w n l
   rowsOf-before w n l v at h k = rowsOf-same w n (putAt l at v) l (take-putAt l v at k (n * w) h)
 
-  -- a row written right after them
+  -- a row written right after the rows
   pub rowsOf-appended : (w n : ℕ) (l row : List A) → length row ≡ w → (n + 1) * w ≤ length l
       → rowsOf w (n + 1) (putAt l (n * w) row) ≡ rowsOf w n l ++ (row ∷ [])
   unfolding rowAt
@@ -97,7 +97,7 @@ module _ {A : Type 0} where
       rowsOf-snoc w n (putAt l (n * w) row)
       ∙ ap₂ (λ (rs : List (List A)) (r : List A). rs ++ (r ∷ [])) (rowsOf-before w n l row (n * w) p f) q
 
-  -- a cell is written: its row has it, the others are as they were
+  -- writing a cell changes its row only
   pub rowAt-set-same : (w i j : ℕ) (l : List A) (v : A) → j < w → rowAt w i (set l (i * w + j) v) ≡ set (rowAt w i l) j v
   unfolding rowAt
   rowAt-set-same w i j l v h = ap (take w) (drop-set-add (i * w) l j v) ∙ take-set-lt w (drop (i * w) l) j v h
@@ -151,7 +151,7 @@ module _ {A : Type 0} where
   pub widths-keep : (w : ℕ) (t : List A → Bool) (rs : List (List A)) → widths w rs ≡ true → widths w (keep t rs) ≡ true
   widths-keep w t rs q = every-keep-of (λ r. eqb (length r) w) t rs q
 
-  -- rows one after another are read back as they were
+  -- concatenated rows are read back unchanged
   pub rowsOf-flat : (w : ℕ) (rs : List (List A)) → widths w rs ≡ true → (rest : List A) → rowsOf w (length rs) (flat rs ++ rest) ≡ rs
   unfolding every flat rowsOf
   rowsOf-flat w [] q rest = refl

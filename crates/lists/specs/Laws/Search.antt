@@ -1,5 +1,5 @@
--- Laws of searches in a rising list: how many numbers are below t is the first place whose number is not; and of writing
--- what was found, one after another. Assumes nothing.
+-- Laws of searches in a rising list: the first position whose number is not below t is the count of the numbers below t. Also of
+-- writing results one after another. Assumes nothing.
 use Prim.Native.Nat.{ℕ, zero, suc, _+_, _-_, _≤_, _<_, suc-le-suc}
 use mathlib.Core.Path.{_≡_, refl, sym, ap, _∙_}
 use mathlib.Core.Logic.{inl, inr}
@@ -33,7 +33,7 @@ notBelow-le t (x ∷ xs) =
       | no a ↦ rw (notBelow-no t x xs (omega arith)) (omega arith)
     ]
 
--- a number below t stands before it
+-- a number below t is before that position
 pub notBelow-past : (t : ℕ) (l : List ℕ) → rising l ≡ true → (i : ℕ) → i < length l → getD l i 0 < t → i < firstNotBelow t l
 notBelow-past t [] e i h k = absurd (omega arith)
 notBelow-past t (x ∷ xs) e zero h k = rw (notBelow-yes t x xs k) (omega arith)
@@ -41,7 +41,7 @@ notBelow-past t (x ∷ xs) e (suc i) h k =
     let a : x < getD xs i 0 = rising-at (x ∷ xs) e 0 (suc i) (omega arith) h in
     rw (notBelow-yes t x xs (omega arith)) (suc-le-suc (notBelow-past t xs (rising-tail x xs e) i (omega arith) k))
 
--- any other at it or after it
+-- a number not below t is at that position or after it
 pub notBelow-upto : (t : ℕ) (l : List ℕ) → rising l ≡ true → (i : ℕ) → i < length l → t ≤ getD l i 0 → firstNotBelow t l ≤ i
 notBelow-upto t [] e i h k = absurd (omega arith)
 notBelow-upto t (x ∷ xs) e zero h k = rw (notBelow-no t x xs k) (omega arith)
@@ -51,7 +51,7 @@ notBelow-upto t (x ∷ xs) e (suc i) h k =
       | no a ↦ rw (notBelow-no t x xs (omega arith)) (omega arith)
     ]
 
--- and the other way round
+-- conversely, numbers before that position are below t, and those from it on are not
 pub notBelow-below : (t : ℕ) (l : List ℕ) → rising l ≡ true → (i : ℕ) → i < firstNotBelow t l → getD l i 0 < t
 notBelow-below t l e i h =
     let n = notBelow-le t l in
@@ -67,16 +67,16 @@ notBelow-above t l e i h k =
       | no a ↦ omega arith
     ]
 
--- where the first n are below t, it is not among them
+-- if the first n are below t, the position is at least n
 pub notBelow-from : (t : ℕ) (l : List ℕ) → rising l ≡ true → (n : ℕ) → n ≤ length l → ((i : ℕ) → i < n → getD l i 0 < t) → n ≤ firstNotBelow t l
 notBelow-from t l e zero h f = omega arith
 notBelow-from t l e (suc n) h f = notBelow-past t l e n (omega arith) (f n (omega arith))
 
--- a larger number's place is no earlier
+-- monotone in t
 pub notBelow-mono : (s t : ℕ) (l : List ℕ) → rising l ≡ true → s ≤ t → firstNotBelow s l ≤ firstNotBelow t l
 notBelow-mono s t l e h = notBelow-from t l e (firstNotBelow s l) (notBelow-le s l) (λ i k. let a = notBelow-below s l e i k in omega arith)
 
--- where t itself stands is its place
+-- if t is a member, its position is that one
 pub notBelow-at : (t : ℕ) (l : List ℕ) → rising l ≡ true → (i : ℕ) → i < length l → getD l i 0 ≡ t → firstNotBelow t l ≡ i
 notBelow-at t l e i h q =
     let a = notBelow-upto t l e i h (omega arith) in
@@ -89,7 +89,7 @@ notBelow-at t l e i h q =
       | no b ↦ omega arith
     ]
 
--- t is a member if it stands at its place, and only then
+-- t is a member exactly if it is at that position
 pub has-notBelow : (t : ℕ) (l : List ℕ) (i : ℕ) → i < length l → getD l i 0 ≡ t → has t l ≡ true
 has-notBelow t l i h q = rw (← q) (has-of l i h)
 
@@ -109,22 +109,22 @@ has-in-notBelow t l e q =
     let b : firstNotBelow t l ≡ a .0 = notBelow-at t l e (a .0) (a .1) (a .2) in
     (rw b (a .1), rw b (a .2))
 
--- in a rising list it is how many are below
+-- in a rising list the position is the count of the numbers below t
 notBelow-count : (t : ℕ) (l : List ℕ) → rising l ≡ true → count (λ x. ltb x t) l ≡ firstNotBelow t l
 notBelow-count t l e = rising-count-lt l t (firstNotBelow t l) (notBelow-le t l) (λ i h. notBelow-below t l e i h) (λ i h k. notBelow-above t l e i h k)
 
--- the ids kept are those between two places
+-- the ids within a range are those between two positions
 pub keep-within-places : (l : List ℕ) (a b : ℕ) → rising l ≡ true → a ≤ b → keep (within a b) l ≡ take (firstNotBelow b l - firstNotBelow a l) (drop (firstNotBelow a l) l)
 keep-within-places l a b e h = rw (← notBelow-count a l e, ← notBelow-count b l e) (keep-within-part l a b e h)
 
--- ---- what is kept from a place on
+-- ---- filtering from a position on
 
 module _ {A : Type 0} (test : A → Bool) (d : A) where
   pub keep-nothing : (l : List A) → ((i : ℕ) → i < length l → test (getD l i d) ≡ false) → keep test l ≡ []
   keep-nothing [] f = unfold keep in refl
   keep-nothing (x ∷ xs) f = keep-no test x xs (f 0 (omega arith)) ∙ keep-nothing xs (λ i h. f (suc i) (suc-le-suc h))
 
-  -- nothing is kept from place i on
+  -- no element from position i on passes
   pub keep-stop : (l : List A) (i : ℕ) → ((k : ℕ) → i ≤ k → k < length l → test (getD l k d) ≡ false) → keep test (take i l) ≡ keep test l
   keep-stop l i f =
       let none : keep test (drop i l) ≡ [] = keep-nothing (drop i l) (λ k h. rw (getD-drop i l k d) (f (i + k) (omega arith) (let n = length-drop i l in omega arith))) in
@@ -134,7 +134,7 @@ module _ {A : Type 0} (test : A → Bool) (d : A) where
       ∙ ap (λ (x : List A). keep test (take i l) ++ x) none
       ∙ append-nil (keep test (take i l)))
 
--- ---- one more at the end of what is written
+-- ---- one more at the end of the written part
 
 pub put-more : {A : Type 0} (l w : List A) (n : ℕ) (x : A) → n ≡ length w → n < length l → set (putAt l 0 w) n x ≡ putAt l 0 (w ++ (x ∷ []))
 put-more l w n x e h =
@@ -146,7 +146,7 @@ put-more l w n x e h =
     ∙ ap (λ (i : ℕ). putAt (putAt l 0 w) i (x ∷ [])) m
     ∙ putAt-then l w (x ∷ []) 0 r
 
--- what is written at the start is what stands there
+-- reading back what is written at the start
 pub take-put : {A : Type 0} (l w : List A) → take (length w) (putAt l 0 w) ≡ w
 unfolding putAt
 take-put l w = take-append-seam w (drop (0 + length w) l)

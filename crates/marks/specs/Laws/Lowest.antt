@@ -1,4 +1,4 @@
--- A word of marks read from its lowest mark up: where that stands, and the word without it. Assumes nothing.
+-- Laws of a bitmap word read from its lowest set bit up: its position, and the word without it. Assumes nothing.
 use Prim.Native.Nat.{ℕ, zero, suc, _+_, _-_, _*_, _/_, _%_, _^_, _≤_, _<_, min}
 use mathlib.Core.Path.{_≡_, refl, sym, _∙_}
 use mathlib.Core.Logic.{inl, inr}
@@ -14,13 +14,13 @@ use borrow.Author.Tests.{le-leb, lt-leb}
 use Rattle.lists.specs.Laws.Keep.{split}
 use Rattle.row_buffer.specs.Ranks.{marks}
 
--- the marks of two tests that agree
+-- the bitmap words of two tests that agree
 pub marks-same : (f g : ℕ → Bool) (n : ℕ) → ((k : ℕ) → k < n → f k ≡ g k) → marks f n ≡ marks g n
 unfolding marks
 marks-same f g zero h = refl
 marks-same f g (suc n) h = rw (marks-same f g n (λ k b. h k (omega arith)), h n (omega arith))
 
--- none is set
+-- no bit is set
 pub marks-none : (f : ℕ → Bool) (n : ℕ) → marks f n ≡ 0 → (k : ℕ) → k < n → f k ≡ false
 unfolding marks
 marks-none f zero e k h = absurd (omega arith)
@@ -31,7 +31,7 @@ marks-none f (suc n) e k h = elim (split (f n)) [
       elim (decLt k n) [ yes b ↦ marks-none f n (omega arith) k b | no b ↦ let s : k ≡ n = omega arith in rw s q ]
 ]
 
--- the first mark, and the others by one place lower
+-- the lowest bit, and the word of the remaining positions shifted down by one
 abbrev digit : Bool → ℕ
 digit b = cond b 1 0
 
@@ -54,7 +54,7 @@ zeros-even : (d m : ℕ) → m % 2 ≡ 0 → trailingZeros (suc d) m ≡ suc (tr
 unfolding trailingZeros
 zeros-even d m e = rw e
 
--- the word without its lowest mark, half by half
+-- the word without its lowest set bit: odd and even words
 and-odd : (m h : ℕ) → m ≡ 1 + 2 * h → bitAnd m (m - 1) ≡ h * 2
 and-odd m h e =
     let a : m / 2 ≡ h = omega arith in
@@ -69,7 +69,7 @@ and-even m h e some =
     let c : min (m % 2) ((m - 1) % 2) ≡ 0 = omega arith in
     and-step m (m - 1) ∙ rw (a, b, c) (omega arith)
 
--- place z has the lowest of the marks m, and `m & (m - 1)` has the others
+-- z is the position of the lowest set bit of m, and `m & (m - 1)` has the other bits
 pub record Lowest (f : ℕ → Bool) (n m z : ℕ) : Type 0 where
   pub below : z < n
   pub set : f z ≡ true
@@ -116,7 +116,7 @@ lowest (suc d) f (suc n) h some = elim (split (f 0)) [ inl e ↦ odd e | inr e �
         first e g zero b = e
         first e g (suc k) b = g k (omega arith)
 
--- ---- the marks from a place on
+-- ---- the bits from a position on
 
 unfoldable pub onward : (ℕ → Bool) → ℕ → ℕ → Bool
 onward f j k = leb j k && f k
@@ -130,11 +130,11 @@ module _ (f : ℕ → Bool) where
   unfolding onward
   onward-out j k h = rw (lt-leb j k h)
 
-  -- all
+  -- from position 0 on: all bits
   pub onward-all : (n : ℕ) → marks f n ≡ marks (onward f 0) n
   onward-all n = marks-same f (onward f 0) n (λ k h. sym (onward-in 0 k (omega arith)))
 
-  -- where the next one stands
+  -- the position of the next set bit
   pub record Next (j n m z : ℕ) : Type 0 where
     pub after : j ≤ z
     pub below : z < n
@@ -159,6 +159,6 @@ module _ (f : ℕ → Bool) where
           ]) (onward-out (z + 1) z (omega arith));
         }
 
-    -- there is none
+    -- there is no further set bit
     pub no-more : m ≡ 0 → (k : ℕ) → j ≤ k → k < n → f k ≡ false
     no-more z k h b = sym (onward-in j k h) ∙ marks-none (onward f j) n (sym e ∙ z) k b

@@ -1,4 +1,4 @@
--- What may be relied on of the rules: which cells the row made has, and what rules 0 and 1 come to. Assumes nothing.
+-- Laws of the rules: the cells of the resulting row, and what rules 0 and 1 are equal to. Assumes nothing.
 use Prim.Native.Nat.{ℕ, zero, suc, min, _+_, _≤_, _<_}
 use mathlib.Core.Path.{_≡_, refl, sym, ap, _∙_}
 use mathlib.Core.Logic.{inl, inr}
@@ -50,7 +50,7 @@ module _ (rule keys sort column old new : ℕ) where
   unfolding madeCell
   made-sort-cell e = rw (ruled-sort keys sort column e, eq-eqb _ _ e)
 
-  -- the others are as the rule says
+  -- the other cells are those that the rule takes
   pub made-other-cell : keys ≤ column → (column ≡ sort → ⊥) → madeCell rule keys sort column old new ≡ taken rule old new
   unfolding madeCell
   made-other-cell h ne = rw (ruled-other keys sort column h ne)
@@ -97,7 +97,7 @@ module _ (rule keys sort : ℕ) where
           ∙ made-key-cell rule keys sort i (getD old i 0) (getD new i 0) k same
           ∙ sym (getD-take keys old i 0 k)
 
-  -- "the old row is kept", or a row is made
+  -- "the old row is kept", or there is a resulting row
   pub kept-of : (old new : List ℕ) → changesFrom rule keys sort 0 old new ≡ false → ruled rule keys sort old new ≡ none
   unfolding ruled
   kept-of old new e = rw e
@@ -154,14 +154,14 @@ module _ (keys sort : ℕ) (old new : List ℕ) (n : length old ≡ length new) 
   unfolding ruled
   rule-one = rw made-one
 
-  -- what survives under rules 0 and 1 is what the rule makes or keeps
+  -- under rules 0 and 1 the survivor is the rule's resulting row, or the old row
   pub survives : (rule : ℕ) → rule ≤ 1 → ruled rule keys sort old new ≡ cond (changesFrom rule keys sort 0 old new) (some (survivor rule keys sort old new)) none
   unfolding survivor
   survives zero h = rule-zero keys sort old new ∙ rw (changes-zero keys sort 0 old new)
   survives (suc zero) h = rule-one ∙ elim (split (changesFrom 1 keys sort 0 old new)) [ inl q ↦ rw q | inr q ↦ rw q ]
   survives (suc (suc rule)) h = absurd (omega arith)
 
--- either row may survive, and both are as long and have the key
+-- the survivor is one of the two rows, so it has their length and their key
 pub survivor-length : (rule keys sort : ℕ) (old new : List ℕ) → length old ≡ length new → length (survivor rule keys sort old new) ≡ length old
 unfolding survivor
 survivor-length rule keys sort old new n = elim (split (changesFrom rule keys sort 0 old new)) [ inl e ↦ rw e (sym n) | inr e ↦ rw e ]
@@ -182,7 +182,7 @@ changes-same rule keys sort column [] = refl
 changes-same rule keys sort column (a ∷ row) =
     rw (taken-same rule a, eq-eqb a a refl, and-false (ruledColumn keys sort column), changes-same rule keys sort (suc column) row)
 
--- nor does a key cell: what changes is seen behind the keys
+-- a key cell changes under no rule, so only the cells after the key matter
 changes-none : (rule keys sort column : ℕ) (old : List ℕ) → changesFrom rule keys sort column old [] ≡ false
 unfolding changesFrom
 changes-none rule keys sort column [] = refl
@@ -201,7 +201,7 @@ changes-from rule keys sort column (suc n) (a ∷ old) (b ∷ new) h =
 pub changes-behind : (rule keys sort : ℕ) (old new : List ℕ) → changesFrom rule keys sort 0 old new ≡ changesFrom rule keys sort keys (drop keys old) (drop keys new)
 changes-behind rule keys sort old new = let z : 0 + keys ≡ keys = omega arith in rw z at (changes-from rule keys sort 0 keys old new (omega arith))
 
--- so the survivor shows whether anything is to be appended: behind the key it has the old row's cells exactly if no cell outside keys
+-- so the survivor determines whether a row is appended: after the key it has the old row's cells exactly if no cell outside keys
 -- and sort column changes
 pub survivor-old : (rule keys sort : ℕ) (old new : List ℕ) → same (drop keys (survivor rule keys sort old new)) (drop keys old) ≡ not (changesFrom rule keys sort 0 old new)
 unfolding survivor
@@ -211,7 +211,7 @@ survivor-old rule keys sort old new =
       | inr e ↦ rw e (same-refl (drop keys old))
     ]
 
--- ---- what a row that is made is
+-- ---- the resulting row
 
 module _ (rule keys sort : ℕ) where
   -- the first cell is a key cell
@@ -222,7 +222,7 @@ module _ (rule keys sort : ℕ) where
       ∙ ap (λ (l : List ℕ). getD l 0 0) (made-keys rule keys sort old new n e ∙ e)
       ∙ getD-take keys new 0 0 h
 
-  -- it is the rule's, and a ruled cell changes
+  -- the resulting row is the rule's, and a ruled cell changes
   pub ruled-made : (old new row : List ℕ) → ruled rule keys sort old new ≡ some row
       → (changesFrom rule keys sort 0 old new ≡ true) × (madeFrom rule keys sort 0 old new ≡ row)
   unfolding ruled

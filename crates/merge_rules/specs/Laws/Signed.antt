@@ -1,5 +1,5 @@
--- What cells mean as signed numbers (document 02, change 4): each cell one number from minus 2147483648 to 2147483647, and each
--- such number is meant by one cell; their order is that of the numbers plus 2147483648. Assumes nothing.
+-- Cells as signed numbers (document 02, change 4). Each cell encodes one number from minus 2147483648 to 2147483647, and each such
+-- number has one cell. Their order is that of the numbers plus 2147483648. Assumes nothing.
 use Prim.Native.Nat.{ℕ, suc, _+_, _-_, _%_, _≤_, _<_}
 use mathlib.Core.Path.{_≡_, refl, sym, ap, _∙_, subst}
 use mathlib.Core.Bool.{Bool, true, false}
@@ -14,7 +14,7 @@ use mir.Facts.{ofZ-toZ}
 use borrow.Author.Tests.{lt-ltb, le-ltb}
 use Rattle.merge_rules.specs.Rules.{signed}
 
--- ---- the number that a cell means
+-- ---- the number that a cell encodes
 
 pub not-negative : (cell : ℕ) → cell < 2147483648 → signed cell ≡ pos cell
 unfolding signed
@@ -29,7 +29,7 @@ pub minus-one : signed 4294967295 ≡ negsuc 0
 unfolding signed
 minus-one = refl
 
--- the number that the language itself reads from these bits as an i32
+-- the number that the language reads from these bits as an i32
 pub as-the-machine : (cell : ℕ) → signed cell ≡ toZ w32 cell
 as-the-machine cell =
     let e : 4294967295 - cell ≡ 4294967296 - suc cell = omega arith in
@@ -57,7 +57,7 @@ at-most cell =
       | no h ↦ subst (λ (z : ℤ). z ≤ℤ pos 2147483647) (sym (negative cell (omega arith))) (leZ-yes tt)
     ]
 
--- each of these numbers is meant by a cell,
+-- each of these numbers has a cell
 pub meant : (z : ℤ) → negsuc 2147483647 ≤ℤ z → z ≤ℤ pos 2147483647 → (cell : ℕ) × (cell < 4294967296) × (signed cell ≡ z)
 meant (pos n) l h =
     let k : n ≤ 2147483647 = leb→le n 2147483647 (h .le) in
@@ -67,7 +67,7 @@ meant (negsuc n) l h =
     let e : 4294967295 - (4294967295 - n) ≡ n = omega arith in
     (4294967295 - n, omega arith, negative (4294967295 - n) (omega arith) ∙ ap negsuc e)
 
--- and by one alone
+-- that cell is unique
 pub meant-once : (a b : ℕ) → a < 4294967296 → b < 4294967296 → signed a ≡ signed b → a ≡ b
 meant-once a b p q e = sym (ofZ-toZ {w = w32} (record { fits = p })) ∙ ap (ofZ w32) (sym (as-the-machine a) ∙ e ∙ as-the-machine b) ∙ ofZ-toZ {w = w32} (record { fits = q })
 
@@ -81,7 +81,7 @@ agree a b c d f g =
       | no h ↦ le-ltb a b (omega arith) ∙ sym (le-ltb c d (g (omega arith)))
     ]
 
--- by the signs of two cells
+-- comparison by the signs of two cells
 module _ (a b : ℕ) where
   pub less-not-negative : a < 2147483648 → b < 2147483648 → ltZ (signed a) (signed b) ≡ ltb a b
   less-not-negative h k = rw (not-negative a h, not-negative b k)
@@ -96,7 +96,7 @@ module _ (a b : ℕ) where
   pub not-less-negative : a < 2147483648 → 2147483648 ≤ b → ltZ (signed a) (signed b) ≡ false
   not-less-negative h k = rw (not-negative a h, negative b k)
 
--- the order of signed cells is that of the numbers plus 2147483648, here x and y
+-- the order of signed cells is that of the numbers plus 2147483648; x and y are these sums
 pub less-lifted : (a b x y : ℕ) → a < 4294967296 → b < 4294967296 → x ≡ (a + 2147483648) % 4294967296 → y ≡ (b + 2147483648) % 4294967296
     → ltZ (signed a) (signed b) ≡ ltb x y
 less-lifted a b x y p q e f =

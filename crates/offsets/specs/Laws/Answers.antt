@@ -1,5 +1,6 @@
--- What is read off an answer and what it writes: a refused one nothing, an accepted one at most the ids of its subset, and an
--- intersection no more than it has room for; every reply has an answer; what an accepted intersection has. Assumes nothing.
+-- Laws of decoding an answer, and of what it writes. A refused answer writes nothing, an accepted one at most the ids of its
+-- subset, and an intersection no more than its output has room for. Every reply has an answer. The members of an accepted
+-- intersection. Assumes nothing.
 use Prim.Native.Nat.{ℕ, zero, suc, _≤_, _<_}
 use mathlib.Core.Path.{_≡_, refl, sym, ap, _∙_}
 use mathlib.Core.Logic.{inl, inr}
@@ -19,7 +20,7 @@ use Rattle.offsets.specs.Subsets.{Subset, range, list, wellFormed, membe
 use Rattle.offsets.specs.Answers.{readOff, written, roomNeeded, Answered, intersectRefusal, intersectReply}
 use Rattle.offsets.specs.Laws.Subsets.{members-intersect, answered-range, answered-list}
 
--- ---- what is read off an answer, by its form
+-- ---- decoding an answer, by its form
 
 module _ (output : List ℕ) where
   pub read-refused : (n : ℕ) → readOff (Refused n) output ≡ refused n
@@ -69,7 +70,7 @@ written-intersect (range a b) (list ids) = omega (arith, listed-room (keep (with
 written-intersect (list ids) (range a b) = unfold written in kept-room (within a b) ids
 written-intersect (list ids) (list others) = unfold written in kept-room (λ id. has id others) ids
 
--- an answer that tells of ids has room for them
+-- if an answer has ids, the output has room for them
 pub answered-fits : (n : ℕ) (v : Subset) (output : List ℕ) (answer : SubsetAnswer) (output′ : List ℕ) → Answered (reply n v) output answer output′
     → (n ≡ 0 → length (written (accepted v)) ≤ length output) → (k : ℕ) → answer ≡ Ids k → k ≤ length output
 unfolding reply readOff written
@@ -82,14 +83,14 @@ answered-fits zero (list ids) output answer output′ m fit k e =
 answered-fits (suc n) v output answer output′ m fit k e =
     absurd (let f = rw e at (m .answers) in let z : _≡_ {A = ℕ} 0 1 = cc in omega arith)
 
--- every reply has an answer, whatever the output holds
+-- every reply has an answer, whatever the contents of the output
 pub answer-to : (r : Reply Subset) (output : List ℕ) → (answer : SubsetAnswer) × Answered r output answer (putAt output 0 (written r))
 unfolding written
 answer-to (refused n) output = (Refused n, rw (putAt-nil output 0) (answered-refused n output))
 answer-to (accepted (range start end)) output = (Range start end, rw (putAt-nil output 0) (answered-range start end output))
 answer-to (accepted (list ids)) output = (Ids (length ids), answered-list ids output (length ids) _ (record { number = refl; cells = refl }))
 
--- ---- *Intersect*: its tests one by one
+-- ---- *Intersect*: its checks one by one
 
 module _ (a b : Subset) (n : ℕ) where
   pub refusal-first : wellFormed a ≡ false → 4 ≡ intersectRefusal a b n
@@ -108,7 +109,7 @@ module _ (a b : Subset) (n : ℕ) where
   unfolding intersectRefusal first
   refusal-none p q h = rw (p, q, le-ltb n (roomNeeded a b) h)
 
--- none of them applies
+-- no check applies
 pub record Allowed (a b : Subset) (n : ℕ) : Type 0 where
   pub formed : wellFormed a ≡ true
   pub formed-other : wellFormed b ≡ true
@@ -127,7 +128,7 @@ allowed a b n e =
       | inr p ↦ absurd (let z = refusal-first a b n p in omega arith)
     ]
 
--- ---- *Intersect*: its set law and its room
+-- ---- *Intersect*: its set law and its output
 
 -- an accepted reply: both subsets are well-formed, and it has the ids that they have in common
 pub record InCommon (a b v : Subset) : Type 0 where

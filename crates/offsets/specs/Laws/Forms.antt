@@ -1,5 +1,5 @@
--- Subsets by their two forms, as code tells them apart: size, ends and members of each, and what `retain` and `narrowed` make of
--- each. With the set laws it is what crates above use of a subset. Assumes nothing.
+-- Subsets by their two forms, as code distinguishes them: size, ends and members of each, and the results of `retain` and
+-- `narrowed`. Crates above use only these laws and the set laws of a subset. Assumes nothing.
 use Prim.Native.Nat.{ℕ, _+_, _-_, _≤_, _<_}
 use mathlib.Core.Path.{_≡_, refl, sym, ap, _∙_}
 use mathlib.Core.Bool.{Bool, true, false}
@@ -52,9 +52,9 @@ module _ (ids : List ℕ) where
   unfolding members
   members-list = refl
 
--- ---- its end, by its bounds as they are answered
+-- ---- the end of a subset, by the bounds that are returned
 
--- 0 where there are none
+-- 0 if there are no bounds
 abbrev upper : Option Ends → ℕ
 upper none = 0
 upper (some ends) = ends .end

@@ -1,5 +1,5 @@
--- The set laws of subsets: what crates above this one may use of `intersect`, `retain` and `narrowed`; what an answer says
--- whose ids are written; and that a reply determines it. Assumes nothing.
+-- The set laws of subsets: what crates above this one may use of `intersect`, `retain` and `narrowed`; the reply that an answer
+-- encodes once its ids are written; and that a reply determines the answer. Assumes nothing.
 use Prim.Native.Nat.{ℕ, zero, suc, _+_, _-_, _≤_, _<_, min, max}
 use mathlib.Core.Path.{_≡_, refl, sym, ap, _∙_}
 use mathlib.Core.Logic.{_⊎_, inl, inr}
@@ -69,20 +69,20 @@ pub length-members : (a : Subset) → length (members a) ≡ size a
 unfolding size
 length-members a = refl
 
--- ---- shapes
+-- ---- `shaped`
 
 module _ (x : ℕ) (xs : List ℕ) where
-  -- the ids are neighbours
+  -- the ids are consecutive
   pub shaped-run : (x ∷ xs) ≡ countFrom x (length (x ∷ xs)) → shaped (x ∷ xs) ≡ range x (x + length (x ∷ xs))
   unfolding shaped
   shaped-run e = rw (← e, same-refl (x ∷ xs))
 
-  -- they are not
+  -- the ids are not consecutive
   pub shaped-list : ((x ∷ xs) ≡ countFrom x (length (x ∷ xs)) → ⊥) → shaped (x ∷ xs) ≡ list (x ∷ xs)
   unfolding shaped
   shaped-list e = rw (same-ne _ _ e)
 
-  -- one or the other
+  -- one of the two holds
   shaped-is : ((shaped (x ∷ xs) ≡ range x (x + length (x ∷ xs))) × ((x ∷ xs) ≡ countFrom x (length (x ∷ xs)))) ⊎ (shaped (x ∷ xs) ≡ list (x ∷ xs))
   shaped-is =
       elim (split (same (x ∷ xs) (countFrom x (length (x ∷ xs))))) [
@@ -108,7 +108,7 @@ wellFormed-shaped (x ∷ xs) e h =
       | inr q ↦ rw q (formed-of (x ∷ xs) e h)
     ]
 
--- a run is a range
+-- consecutive ids are a range
 pub shaped-countFrom : (s n : ℕ) → 0 < n → shaped (countFrom s n) ≡ range s (s + n)
 shaped-countFrom s zero h = absurd (omega arith)
 shaped-countFrom s (suc n) h =
@@ -125,7 +125,7 @@ end-list : (x : ℕ) (xs : List ℕ) → endOf (list (x ∷ xs)) ≡ getD (x ∷
 unfolding endOf
 end-list x xs = refl
 
--- each id lies below the end that test 5 looks at
+-- each id is below the end that test 5 reads
 pub members-below : (a : Subset) → wellFormed a ≡ true → (i : ℕ) → i < size a → getD (members a) i 0 < endOf a
 unfolding members size
 members-below (range a b) w i h = unfold endOf in
@@ -166,7 +166,7 @@ members-intersect (list ids) (range a b) p q =
     sym (keep-same (λ id. has id (countFrom a (b - a))) (within a b) (λ x. has-range a b x (formed-order a b q)) ids)
 members-intersect (list ids) (list others) p q = refl
 
--- what is kept of a well-formed list is one
+-- filtering a well-formed list gives a well-formed list
 formed-keep : (test : ℕ → Bool) (ids : List ℕ) → wellFormed (list ids) ≡ true → wellFormed (list (keep test ids)) ≡ true
 formed-keep test ids p =
     formed-of (keep test ids) (rising-keep test ids (formed-rising ids p))
@@ -200,14 +200,14 @@ members-narrowed test a =
       | inr e ↦ rw e (members-list (keep test (members a)))
     ]
 
--- a list stays one
+-- a list remains a list
 pub narrowed-list : (test : ℕ → Bool) (ids : List ℕ) → narrowed test (list ids) ≡ list (keep test ids)
 unfolding narrowed members
 narrowed-list test ids =
     elim (split (every test ids)) [ inl e ↦ rw (e, keep-every test ids e) | inr e ↦ rw e ]
 
--- The kept ids of a range may become a list, and a list has at most 65,536 ids: so the range must have no more. A
--- well-formed list never has.
+-- The kept ids of a range may become a list, and a list has at most 65,536 ids. So the range must have at most as many. A
+-- well-formed list always does.
 short-keep : (test : ℕ → Bool) (a b : ℕ) → size (range a b) ≤ 65536 → length (keep test (countFrom a (b - a))) ≤ 65536
 unfolding members size
 short-keep test a b h =
@@ -255,7 +255,7 @@ answered-list ids output n output′ w =
       writes = w .cells;
     }
 
--- an answer is known by what is read off it, where the output has all its ids
+-- an answer is determined by the reply that it encodes, if the output has all its ids
 read-same : (a b : SubsetAnswer) (output : List ℕ) → readOff a output ≡ readOff b output
     → ((n : ℕ) → a ≡ Ids n → n ≤ length output) → ((n : ℕ) → b ≡ Ids n → n ≤ length output) → a ≡ b
 unfolding readOff
@@ -271,8 +271,8 @@ read-same (Ids n) (Ids m) output e f g =
     let told : take n output ≡ take m output = cc in
     ap (λ (k : ℕ). Ids k) (omega (arith, ap length told, length-take n output, length-take m output, f n refl, g m refl))
 
--- The reply determines the answer and the output: no choice is left. That is all of *Intersect*, whose reply is
--- `intersectReply`, and of a refine.
+-- The reply determines the answer and the output: no choice is left. This covers all of *Intersect*, whose reply is
+-- `intersectReply`, and refine.
 pub answered-determined : {r : Reply Subset} {output output₁ output₂ : List ℕ} {a b : SubsetAnswer}
     → Answered r output a output₁ → Answered r output b output₂ → Same a b output₁ output₂
 answered-determined {output₂ = output₂} {a} {b} x y =

@@ -1,4 +1,4 @@
--- Ids written to an output, and the ends of a subset as they are answered. Assumes nothing.
+-- Ids written to an output, and the ends of a subset as an answer. Assumes nothing.
 use Prim.Native.Nat.{ℕ}
 use mathlib.Core.Path.{_≡_}
 use mathlib.Core.List.{List, [], _∷_}
@@ -9,7 +9,7 @@ use Rattle.offsets.specs.declared.BoundsAnswer.{BoundsAnswer}
 use Rattle.offsets.specs.declared.BoundsAnswer.the-variants.{None as NoEnds, Ends as BothEnds}
 use Rattle.offsets.specs.Subsets.{Subset, range, list, endOf}
 
--- ids written from the start of an output, and how many
+-- ids are written to the start of an output, and n is their number
 pub record Wrote (output ids : List ℕ) (n : ℕ) (output′ : List ℕ) : Type 0 where
   pub number : n ≡ length ids
   pub cells : output′ ≡ putAt output 0 ids
@@ -24,7 +24,7 @@ bounds (range start end) = some (record { start = start; end = end })
 bounds (list []) = none
 bounds (list (x ∷ xs)) = some (record { start = x; end = endOf (list (x ∷ xs)) })
 
--- as they are answered
+-- the ends that an answer encodes
 unfoldable pub boundsSays : BoundsAnswer → Option Ends
 boundsSays NoEnds = none
 boundsSays (BothEnds start end) = some (record { start = start; end = end })

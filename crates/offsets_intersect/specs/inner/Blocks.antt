@@ -1,25 +1,25 @@
--- The contracts of the walk over long lists. Assumes nothing.
+-- Contracts of the linear merge of long lists. Assumes nothing.
 use Prim.Native.Nat.{ℕ, _+_, _≤_, _<_}
 use mathlib.Core.Path.{_≡_}
 use mathlib.Core.List.{List, _++_}
 use lib.ListN.{length, take, drop, getD}
 use Rattle.offsets_intersect.specs.inner.Common.{common}
 
--- an id that a block lacks
+-- the id is not in the block
 pub record Lacks (others : List ℕ) (id : ℕ) : Type 0 where
   pub none : (m : ℕ) → m < 4 → id ≡ getD others m 0 → ⊥
 
--- the first n ids are none of a block
+-- the first n ids are not in the block
 pub record Apart (ids others : List ℕ) (n : ℕ) : Type 0 where
   pub each : (j : ℕ) → j < n → Lacks others (getD ids j 0)
 
--- the k ids from two places on, none in common
+-- the k ids from two positions on have none in common
 pub record ApartAt (ids others : List ℕ) (i o k : ℕ) : Type 0 where
   pub room : i + k ≤ length ids
   pub others-room : o + k ≤ length others
   pub apart : (j m : ℕ) → j < k → m < k → getD ids (i + j) 0 ≡ getD others (o + m) 0 → ⊥
 
--- from places i and o on the lists have in common what they have from i′ and o′ on
+-- the lists from i and o on have the same ids in common as from i′ and o′ on
 pub record Passed (ids others : List ℕ) (i o i′ o′ : ℕ) : Type 0 where
   pub on : i ≤ i′
   pub others-on : o ≤ o′
@@ -27,7 +27,7 @@ pub record Passed (ids others : List ℕ) (i o i′ o′ : ℕ) : Type 0 where
   pub others-within : o′ ≤ length others
   pub rest : common (drop i′ ids) (drop o′ others) ≡ common (drop i ids) (drop o others)
 
--- the same where what is common up to i′ and o′ was written behind the n ids of an output
+-- the same, if the common ids before i′ and o′ are appended to the n ids of an output
 pub record Went (ids others output output′ : List ℕ) (i o n i′ o′ n′ : ℕ) : Type 0 where
   pub on : i ≤ i′
   pub others-on : o ≤ o′

@@ -1,4 +1,4 @@
--- The contracts of what `intersect` is made of. Assumes nothing.
+-- Contracts of the functions that `intersect` calls. Assumes nothing.
 use Prim.Native.Nat.{ℕ, _*_, _/_, _≤_, _<_}
 use mathlib.Core.Path.{_≡_}
 use mathlib.Core.Bool.{Bool, true, _&&_, _||_}
@@ -7,7 +7,7 @@ use lib.ListN.{length}
 use lib.Dec.{leb}
 use Rattle.lists.specs.Lists.{keep, rising, has}
 
--- a list that may be kept in an output
+-- a list that fits an output
 pub record Fitting (ids output : List ℕ) : Type 0 where
   pub up : rising ids ≡ true
   pub short : length ids ≤ 65536
@@ -18,13 +18,13 @@ pub record Searchable (ids : List ℕ) : Type 0 where
   pub up : rising ids ≡ true
   pub short : length ids ≤ 65536
 
--- the ids of the first that the second has
+-- the ids of the first list that the second one has
 unfoldable pub common : List ℕ → List ℕ → List ℕ
 common ids others = keep (λ id. has id others) ids
 
--- ---- which way is taken: by the lengths alone, "on the Rust's thresholds"
+-- ---- the algorithm is chosen by the lengths alone, "on the Rust's thresholds"
 
--- both lists are short: they are walked in step from end to end
+-- both lists are short: one linear merge from start to end
 abbrev pub BothShort : ℕ → ℕ → Type 0
 BothShort a b = (a ≤ 16) × (b ≤ 16)
 
@@ -32,6 +32,6 @@ BothShort a b = (a ≤ 16) × (b ≤ 16)
 unfoldable pub alike : ℕ → ℕ → Bool
 alike a b = (leb a 16 && leb b 16) || (leb (a / 4) b && leb b (a * 4))
 
--- "otherwise": the second list is much the longer, and is searched by doubling strides for the ids of the first
+-- "otherwise": the second list is much longer, and is searched by doubling strides for the ids of the first
 abbrev pub MuchLonger : ℕ → ℕ → Type 0
 MuchLonger a b = (16 < b) × (4 * a < b)

@@ -1,5 +1,5 @@
--- `retain`, by the ids that were handed in: a range whose kept ids were added one by one, and a list whose kept ids were written.
--- Assumes nothing.
+-- Laws of `retain`, by the ids that were passed in: a range whose kept ids are added one by one, and a list whose kept ids are
+-- written. Assumes nothing.
 use Prim.Native.Nat.{ℕ}
 use mathlib.Core.Bool.{Bool}
 use mathlib.Core.List.{List}

@@ -1,5 +1,5 @@
--- The growing answer of `retain` over a range: a range while the kept ids are neighbours, then a list of all of them.
--- Nothing is written while it is a range. Assumes nothing.
+-- Contracts of building the answer of `retain` over a range: a range while the kept ids are consecutive, then a list of all of
+-- them. Nothing is written while it is a range. Assumes nothing.
 use Prim.Native.Nat.{ℕ, _+_, _-_, _≤_, _<_}
 use mathlib.Core.Path.{_≡_}
 use mathlib.Core.Bool.{true}
@@ -17,19 +17,19 @@ use Rattle.offsets.specs.inner.Writing.{Wrote}
 unfoldable pub pushed : Growing → Growing
 pushed g = record { start = g .start; count = g .count + 1; written = g .count + 1 }
 
--- still a range: 0..0 where nothing is kept
+-- still a range: 0..0 if nothing is kept
 pub record AsRange (output₀ output : List ℕ) (g : Growing) (kept : List ℕ) : Type 0 where
   pub ids : kept ≡ countFrom (g .start) (g .count)
   pub none : g .count ≡ 0 → g .start ≡ 0
   pub fits : g .start + g .count < 4294967296
   pub unwritten : output ≡ output₀
 
--- a list, since the kept ids are not all neighbours
+-- a list, since the kept ids are not all consecutive
 pub record AsList (output₀ output : List ℕ) (g : Growing) (kept : List ℕ) : Type 0 where
   pub wrote : Wrote output₀ kept (g .written) output
   pub gap : getD kept 0 0 + length kept ≤ getD kept (length kept - 1) 0
 
--- `kept` are the ids so far, `output₀` is the output before the first
+-- `kept` are the ids so far, and `output₀` is the output before the first
 pub record Grows (output₀ output : List ℕ) (g : Growing) (kept : List ℕ) : Type 0 where
   pub up : rising kept ≡ true
   pub same : length output ≡ length output₀
@@ -37,29 +37,29 @@ pub record Grows (output₀ output : List ℕ) (g : Growing) (kept : List ℕ) :
   pub as-range : g .written ≡ 0 → AsRange output₀ output g kept
   pub as-list : (g .written ≡ 0 → ⊥) → AsList output₀ output g kept
 
--- an id that may come next: above those kept, with room for it if it is not the first, and not the largest u32
+-- an id that may be added next: above those kept, with room for it unless it is the first, and not the largest u32
 pub record NextId (output₀ kept : List ℕ) (id : ℕ) : Type 0 where
   pub up : rising (kept ++ (id ∷ [])) ≡ true
   pub room : 0 < length kept → length kept < length output₀
   pub small : id < 4294967295
 
--- what adding an id asks: that it may come next, whatever was kept
+-- the precondition of adding an id: it may be added next, for some kept ids
 pub record CanAdd (output : List ℕ) (g : Growing) (id : ℕ) : Type 0 where
   pub output₀ : List ℕ
   pub kept : List ℕ
   pub grows : Grows output₀ output g kept
   pub next : NextId output₀ kept id
 
--- and does
+-- the effect of adding an id
 pub record Adds (output : List ℕ) (g : Growing) (id : ℕ) (g′ : Growing) (output′ : List ℕ) : Type 0 where
   pub one-more : g′ .count ≡ g .count + 1
   pub adds : (output₀ kept : List ℕ) → Grows output₀ output g kept → NextId output₀ kept id → Grows output₀ output′ g′ (kept ++ (id ∷ []))
 
--- the first state
+-- the initial state
 pub record GrowthBegins (g : Growing) : Type 0 where
   pub nothing : g .count ≡ 0
   pub begins : (output : List ℕ) → Grows output output g []
 
--- the answer at the end
+-- the answer that the final state gives
 pub record GrowthEnds (g : Growing) (r : SubsetAnswer) : Type 0 where
   pub ends : (output₀ output kept : List ℕ) → Grows output₀ output g kept → Answered (accepted (shaped kept)) output₀ r output

@@ -1,4 +1,4 @@
--- What the searches in a list of ids answer. Assumes nothing.
+-- Contracts of the searches in a list of ids. Assumes nothing.
 use Prim.Native.Nat.{ℕ, _+_, _*_, _≤_, _<_}
 use mathlib.Core.Path.{_≡_}
 use mathlib.Core.Bool.{true, cond}
@@ -11,11 +11,11 @@ use Rattle.offsets_search.specs.declared.Scan.the-variants.{Hit, Next}
 use Rattle.offsets_search.specs.declared.Reach.{Reach}
 use Rattle.offsets_search.specs.declared.Reach.the-variants.{At, Between}
 
--- numbers that stand `width` cells apart, so many of them in a store
+-- n numbers, `width` cells apart, are inside a store
 pub record Spaced (cells : List ℕ) (width n : ℕ) : Type 0 where
   pub inside : (i : ℕ) → i < n → width * i < length cells
 
--- of the numbers between two places the one before `low` is below the target, and the one at `high` is not
+-- the number before `low` is below the target, and the number at `high` is not
 pub record Bracketed (cells : List ℕ) (width start end target low high : ℕ) : Type 0 where
   pub from : start ≤ low
   pub order : low ≤ high
@@ -28,24 +28,24 @@ pub record Searched (ids : List ℕ) (target r : ℕ) : Type 0 where
   pub within : r ≤ length ids
   pub first : rising ids ≡ true → r ≡ firstNotBelow target ids
 
--- the same from a start: the ids before it are below the target, so its place is no earlier
+-- the same from a start on, if all ids before it are below the target
 pub record SearchedFrom (ids : List ℕ) (start target r : ℕ) : Type 0 where
   pub from : start ≤ r
   pub within : r ≤ length ids
   pub first : rising ids ≡ true → start ≤ firstNotBelow target ids → r ≡ firstNotBelow target ids
 
--- the same between two places
+-- the same between two positions
 pub record SearchedPart (ids : List ℕ) (start end target r : ℕ) : Type 0 where
   pub from : start ≤ r
   pub upto : r ≤ end
   pub first : rising ids ≡ true → start ≤ firstNotBelow target ids → firstNotBelow target ids ≤ end → r ≡ firstNotBelow target ids
 
--- where strides stop: at the target
+-- the strides stop at the target
 pub record ReachedAt (ids : List ℕ) (target p : ℕ) : Type 0 where
   pub inside : p < length ids
   pub hit : getD ids p 0 ≡ target
 
--- or with its place between two others
+-- the strides stop with the target's position between two others
 pub record ReachedBetween (ids : List ℕ) (target low high : ℕ) : Type 0 where
   pub order : low ≤ high
   pub within : high ≤ length ids
@@ -56,12 +56,12 @@ unfoldable pub Reached : List ℕ → ℕ → Reach → Type 0
 Reached ids target (At p) = ReachedAt ids target p
 Reached ids target (Between low high) = ReachedBetween ids target low high
 
--- a scan's place
+-- the position in a result
 unfoldable pub scanPlace : Scan → ℕ
 scanPlace (Hit p) = p
 scanPlace (Next p) = p
 
--- what a scan finds: the target at its place, or where it would stand
+-- the result of a scan: the target at its position, or the position to insert it at
 unfoldable pub scan : ℕ → List ℕ → Scan
 scan target ids = cond (has target ids) (Hit (firstNotBelow target ids)) (Next (firstNotBelow target ids))
 

@@ -1,6 +1,6 @@
--- What it means that a promise determines the outcome: two outcomes that both meet it, on the same input, are the same
--- answer and the same lent cells. Such a law shuts out every other program at once: one that answers anything else, or
--- leaves anything else in a lent cell, breaks the promise. Assumes nothing.
+-- A contract determines the outcome if two outcomes that both meet it, on the same input, have the same answer and the same lent
+-- cells. Such a law excludes every other program: one that returns another answer, or leaves another number in a lent cell, does
+-- not meet the contract. Assumes nothing.
 use Prim.Native.Nat.{ℕ, _<_}
 use mathlib.Core.Path.{_≡_, sym, _∙_}
 use mathlib.Core.Logic.{⊎-elim}
@@ -8,19 +8,19 @@ use mathlib.Core.List.{List}
 use Rattle.refusals.specs.Refusals.{Reply, reply, verdict}
 use Rattle.refusals.specs.Laws.Replies.{some-number, ruled-refused}
 
--- two outcomes of a call that is lent one list to write to
+-- two outcomes of a call that writes to one lent list
 pub record Same {A : Type 0} (a b : A) (cells₁ cells₂ : List ℕ) : Type 0 where
   pub answer : a ≡ b
   pub cells : cells₁ ≡ cells₂
 
--- Two answers of a call that reads lent stores, and the number of its ladder. Of any stores they are refused by the same
--- number or both accepted; where enough is known of the stores, no choice is left.
+-- Two answers of a call that reads lent stores, and the number that its checks give. On any stores both are refused with the same
+-- number, or both are accepted. If `Known` holds, the answers are equal.
 pub record SameAnswer {A B : Type 0} (says : A → Reply B) (number : ℕ) (Known : Type 0) (a b : A) : Type 0 where
   pub verdicts : verdict (says a) ≡ verdict (says b)
   pub refused : 0 < number → a ≡ b
   pub known : Known → a ≡ b
 
--- of answers that are known by what they say
+-- for answers that are determined by the reply that they encode
 module _ {A B : Type 0} {says : A → Reply B} (said : (x y : A) → says x ≡ says y → x ≡ y) {number : ℕ} {a b : A}
     (x : verdict (says a) ≡ reply number tt) (y : verdict (says b) ≡ reply number tt) where
   pub refused-same : 0 < number → a ≡ b

@@ -1,11 +1,12 @@
--- The two ways out of an entry point: refused with its ladder's number, or accepted where that is 0. Assumes nothing.
+-- The two results of an entry point: refused with the number that its checks give, or accepted if that number is 0. Assumes
+-- nothing.
 use Prim.Native.Nat.{ℕ, zero, suc, _<_}
 use mathlib.Core.Path.{_≡_, refl, ap, _∙_}
 use mathlib.Core.Logic.{_⊎_, inl, inr}
 use native.Mathlib.Omega.{arith}
 use Rattle.refusals.specs.Refusals.{Reply, refused, accepted, reply, verdict}
 
--- a ladder's number is 0 or not
+-- the number is 0 or not
 pub some-number : (n : ℕ) → (n ≡ 0) ⊎ (0 < n)
 some-number zero = inl refl
 some-number (suc n) = inr (omega arith)
@@ -16,7 +17,7 @@ refused-reply zero value some = absurd (some refl)
 refused-reply (suc n) value some = refl
 
 module _ {A : Type 0} where
-  -- the answer of a ladder that turns away is its number
+  -- a reply with a positive number is refused with that number
   pub ruled-refused : (r : Reply A) (n : ℕ) → verdict r ≡ reply n tt → 0 < n → r ≡ refused n
   unfolding verdict reply
   ruled-refused r zero e h = absurd (omega arith)
@@ -24,7 +25,7 @@ module _ {A : Type 0} where
   ruled-refused (accepted a) (suc n) e h = absurd (let z : _≡_ {A = ℕ} 0 1 = cc in omega arith)
 
   module _ (says : Reply A) (n : ℕ) where
-    -- refused with the ladder's number
+    -- refused with the number of the checks
     pub reply-refused : (m : ℕ) (value : A) → says ≡ refused m → m ≡ n → (m ≡ 0 → ⊥) → says ≡ reply n value
     reply-refused m value e number some = e ∙ refused-reply m value some ∙ ap (λ k. reply k value) number
 
@@ -33,12 +34,12 @@ module _ {A : Type 0} where
     unfolding reply
     reply-accepted value e none = rw (e, none)
 
-    -- refused with the ladder's number, whatever would be answered
+    -- refused with the number of the checks, for any value
     pub verdict-refused : (m : ℕ) → says ≡ refused m → m ≡ n → (m ≡ 0 → ⊥) → verdict says ≡ reply n tt
     unfolding verdict
     verdict-refused m e number some = rw (e, ← number) (refused-reply m tt some)
 
-    -- accepted, with whatever value
+    -- accepted, for any value
     pub verdict-accepted : (value : A) → says ≡ accepted value → n ≡ 0 → verdict says ≡ reply n tt
     unfolding verdict reply
     verdict-accepted value e none = rw (e, none)

@@ -1,5 +1,5 @@
--- `row_buffer::move_row` meets its contract. The loop's invariant: the first i cells are those from the gap on, the others
--- as they were. Assumes nothing.
+-- `row_buffer::move_row` meets its contract. The loop's invariant: the first i cells are those from position `gap` on, the others
+-- are unchanged. Assumes nothing.
 use Prim.Native.Nat.{ℕ, _+_, _-_, _≤_}
 use mathlib.Core.Path.{_≡_, refl, ap, _∙_}
 use mathlib.Core.List.{List}

@@ -1,4 +1,4 @@
--- `row_buffer::write_row` meets its contract: what the copier did in its part, said of the whole store. Assumes nothing.
+-- `row_buffer::write_row` meets its contract: the effect of the copier on its part, stated for the whole store. Assumes nothing.
 use Prim.Native.Nat.{_-_}
 use mathlib.Core.Path.{ap, _∙_}
 use lib.ListN.{length}

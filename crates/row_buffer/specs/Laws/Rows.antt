@@ -1,6 +1,5 @@
--- What may be relied on of the new numbers of rows: how a word of marks grows, that the count of ones below a row's bit is
--- the number of live rows before it in the word, and where a compaction finds each kept row; and how the functions' places
--- in a store are the rows of that store. Assumes nothing.
+-- Laws of the new numbers of rows. How a bitmap word grows. The count of ones below a row's bit is the number of live rows before
+-- it in the word. Where a compaction moves each kept row. How positions in a store correspond to its rows. Assumes nothing.
 use Prim.Native.Nat.{ℕ, zero, suc, _+_, _-_, _*_, _/_, _%_, _^_, _≤_, _<_}
 use mathlib.Core.Path.{_≡_, refl, sym, ap, ap₂, _∙_}
 use mathlib.Core.Logic.{inl, inr}
@@ -19,7 +18,7 @@ use Rattle.lists.specs.Laws.Keep.{split}
 use Rattle.lists.specs.Laws.Rows.{rowsOf-set}
 use Rattle.row_buffer.specs.Ranks.{setBelow, marks, countTo, liveAt, liveWord, newNumber}
 
--- ---- digits
+-- ---- binary digits
 
 one-digit : (b : ℕ) → b < 2 → ones b ≡ b
 unfolding ones
@@ -27,7 +26,7 @@ one-digit zero h = refl
 one-digit (suc zero) h = refl
 one-digit (suc (suc b)) h = absurd (omega arith)
 
--- the digits set below a place are the ones of the word masked there
+-- the number of digits set below a position is the number of ones of the masked word
 pub ones-below : (word bit : ℕ) → ones (word % 2 ^ bit) ≡ setBelow word bit
 unfolding setBelow
 ones-below word zero = let z : word % 1 ≡ 0 = omega arith in ap ones z ∙ one-digit 0 (omega arith)
@@ -41,10 +40,10 @@ ones-below word (suc bit) =
 pub setBelow-le : (word bit : ℕ) → setBelow word bit ≤ bit
 setBelow-le word bit = rw (← ones-below word bit) (ones-le bit (word % 2 ^ bit) (mod-lt word (pow-pos bit)))
 
--- ---- a word of marks
+-- ---- bitmap words
 
 module _ (f : ℕ → Bool) where
-  -- one place more: marked, or not
+  -- one more position: set, or not
   pub marks-yes : (n : ℕ) → f n ≡ true → marks f (n + 1) ≡ marks f n + 2 ^ n
   unfolding marks
   marks-yes n e = rw (add-one, e)
@@ -53,7 +52,7 @@ module _ (f : ℕ → Bool) where
   unfolding marks
   marks-no n e = rw (add-one, e) (add-zero (marks f n))
 
-  -- the marks below n are a number of n digits
+  -- a bitmap word of n positions is below 2 ^ n
   pub marks-lt : (n : ℕ) → marks f n < 2 ^ n
   unfolding marks
   marks-lt zero = omega arith
@@ -62,7 +61,7 @@ module _ (f : ℕ → Bool) where
       let e : 2 ^ suc n ≡ 2 ^ n * 2 = pow-suc 2 n in
       elim (split (f n)) [ inl q ↦ rw q (omega arith) | inr q ↦ rw q (omega arith) ]
 
-  -- the digit that a mark is
+  -- the digit of a position
   digit : ℕ → ℕ
   digit n = cond (f n) 1 0
 
@@ -78,7 +77,7 @@ module _ (f : ℕ → Bool) where
   unfolding countTo digit
   countTo-digit n = refl
 
-  -- the ones of a word of n marks
+  -- the number of ones of a bitmap word of n positions
   ones-marks : (n : ℕ) → ones (marks f n) ≡ countTo f n
   unfolding marks countTo
   ones-marks zero = one-digit 0 (omega arith)
@@ -89,7 +88,7 @@ module _ (f : ℕ → Bool) where
       ∙ add-comm (digit n) (countTo f n)
       ∙ sym (countTo-digit n)
 
-  -- masked below n, a longer word is the word of n marks
+  -- masked below n, a longer word is the word of n positions
   pub marks-mod : (n j : ℕ) → marks f (n + j) % 2 ^ n ≡ marks f n
   marks-mod n zero = rw add-zero (mod-eq-of-lt (marks-lt n))
   marks-mod n (suc j) =
@@ -101,7 +100,7 @@ module _ (f : ℕ → Bool) where
       ∙ add-mul-mod-self-right (marks f (n + j)) (digit (n + j) * 2 ^ j) (2 ^ n)
       ∙ marks-mod n j)
 
-  -- "the count of ones below its bit" is the number of marks below it
+  -- "the count of ones below its bit" is the number of set positions below it
   pub below-marks : (bit n : ℕ) → bit ≤ n → setBelow (marks f n) bit ≡ countTo f bit
   below-marks bit n h =
       let e : n ≡ bit + (n - bit) = omega arith in
@@ -116,7 +115,7 @@ module _ {A : Type 0} (live : A → Bool) where
   liveAt-in (row ∷ rows) zero d h = refl
   liveAt-in (row ∷ rows) (suc i) d h = liveAt-in rows i d (omega arith)
 
-  -- the word of the rows from `start` on: none, one row more, live or not
+  -- the bitmap word of the rows from `start` on: empty, one more row, live or not
   module _ (rows : List A) (start : ℕ) where
     pub word-none : liveWord live rows start 0 ≡ 0
     unfolding liveWord marks
@@ -143,7 +142,7 @@ module _ {A : Type 0} (live : A → Bool) where
       let h = number-digit rows i in
       elim (split (live row)) [ inl e ↦ rw (e, h, suc-add) | inr e ↦ rw (e, h) ]
 
-  -- numbers rise by one over a live row, and stay over a dead one
+  -- the number increases by one over a live row, and not over a dead one
   pub number-live : (rows : List A) (i : ℕ) → liveAt live rows i ≡ true → newNumber live rows (i + 1) ≡ newNumber live rows i + 1
   number-live rows i e = rw (add-one i) (number-digit rows i ∙ rw e)
 
@@ -160,14 +159,14 @@ module _ {A : Type 0} (live : A → Bool) where
       let e : i + suc k ≡ suc (i + k) = omega arith in
       rw e (omega (arith, number-grows rows i k, number-digit rows (i + k)))
 
-  -- different live rows have different numbers, in order
+  -- the numbers of live rows rise strictly
   pub number-rises : (rows : List A) (i j : ℕ) → i < j → liveAt live rows i ≡ true → newNumber live rows i < newNumber live rows j
   number-rises rows i j h e =
       let k : j ≡ i + 1 + (j - (i + 1)) = omega arith in
       let up : newNumber live rows (i + 1) ≤ newNumber live rows j = rw k (number-grows rows (i + 1) (j - (i + 1))) in
       omega (arith, number-live rows i e)
 
-  -- each number below the count of those before row n is one of theirs
+  -- each number below that of row n is the number of an earlier live row
   pub number-back : (rows : List A) (n k : ℕ) → k < newNumber live rows n → (i : ℕ) × (i < n) × (liveAt live rows i ≡ true) × (newNumber live rows i ≡ k)
   number-back rows zero k h = absurd (omega (arith, number-zero rows))
   number-back rows (suc n) k h = elim (decLt k (newNumber live rows n)) [
@@ -190,14 +189,14 @@ module _ {A : Type 0} (live : A → Bool) where
       ∙ sym (number-digit rows (start + k))
       ∙ ap (newNumber live rows) e
 
-  -- a row's new number: how many live rows stand before its word, plus the ones below its bit
+  -- a row's new number: the number of live rows before its word, plus the count of ones below its bit
   pub number-rank : (rows : List A) (start n bit : ℕ) → bit ≤ n
       → newNumber live rows start + setBelow (liveWord live rows start n) bit ≡ newNumber live rows (start + bit)
   unfolding liveWord
   number-rank rows start n bit h =
       ap (λ (x : ℕ). newNumber live rows start + x) (below-marks (λ b. liveAt live rows (start + b)) bit n h) ∙ number-upto rows start bit
 
-  -- a kept row stands at its new number
+  -- a live row is at its new number among the live rows
   pub keep-at : (rows : List A) (i : ℕ) (d : A) → liveAt live rows i ≡ true → getD (keep live rows) (newNumber live rows i) d ≡ getD rows i d
   unfolding keep count newNumber liveAt
   keep-at [] i d e = absurd (false≢true e)
@@ -208,7 +207,7 @@ module _ {A : Type 0} (live : A → Bool) where
 
 -- ---- rows of a store
 
--- a row's key, as `same_key` reads it
+-- a row's key, at the position that `same_key` reads
 pub key-row : (w i k : ℕ) (store : List ℕ) → k ≤ w → take k (rowAt w i store) ≡ take k (drop (i * w) store)
 unfolding rowAt
 key-row w i k store h = take-take k w (drop (i * w) store) h

@@ -1,4 +1,4 @@
--- What becomes of a row store when a row is marked dead. Assumes nothing.
+-- The row store after a row is marked dead. Assumes nothing.
 use Prim.Native.Nat.{ℕ}
 use mathlib.Core.Path.{_≡_}
 use mathlib.Core.Bool.{Bool}

@@ -1,5 +1,5 @@
--- What may be relied on of bitmaps: that all words of 64 bits are one, none marked, one row marked more, and passes that mark rows one
--- after another. Assumes nothing.
+-- Laws of bitmaps: all words of 64 bits are one; the empty bitmap; setting one bit; passes that set one bit after another. Assumes
+-- nothing.
 use Prim.Native.Nat.{ℕ, zero, suc, _+_, _*_, _/_, _%_, _^_, _≤_, _<_}
 use mathlib.Core.Path.{_≡_, refl, sym, ap, _∙_}
 use mathlib.Core.Logic.{inl, inr}
@@ -19,7 +19,7 @@ use Rattle.marks.specs.Laws.Lowest.{marks-same}
 use Rattle.row_buffer.specs.Ranks.{marks, countTo}
 use Rattle.row_marks.specs.inner.Bitmaps.{Bitmap, MarkedOne, Marked}
 
--- ---- one mark more in a sum over the marks, which words and counts are
+-- ---- setting one bit, in a sum over the bits; words and counts are such sums
 
 unfoldable sumTo : (ℕ → ℕ) → (ℕ → Bool) → ℕ → ℕ
 sumTo weight f zero = 0
@@ -51,11 +51,11 @@ module _ (weight : ℕ → ℕ) (f : ℕ → Bool) (k : ℕ) where
         rw (eq-eqb n k e, sum-before n (omega arith), e) (elim (split (f k)) [ inl q ↦ rw q (omega arith) | inr q ↦ rw q (omega arith) ])
   ]
 
--- a word of marks with one more
+-- a bitmap word with one more bit
 pub marks-with : (f : ℕ → Bool) (k n : ℕ) → k < n → marks (λ i. eqb i k || f i) n ≡ marks f n + cond (f k) 0 (2 ^ k)
 marks-with f k n h = marks-sum _ n ∙ sum-with (λ i. 2 ^ i) f k n h ∙ ap (λ (x : ℕ). x + cond (f k) 0 (2 ^ k)) (sym (marks-sum f n))
 
--- how many they are
+-- the number of bits
 pub count-with : (f : ℕ → Bool) (k n : ℕ) → k < n → countTo (λ i. eqb i k || f i) n ≡ countTo f n + cond (f k) 0 1
 count-with f k n h = count-sum _ n ∙ sum-with (λ i. 1) f k n h ∙ ap (λ (x : ℕ). x + cond (f k) 0 1) (sym (count-sum f n))
 
@@ -66,14 +66,14 @@ unfolding sumTo
 sum-none weight zero = refl
 sum-none weight (suc n) = add-zero (sumTo weight (λ i. false) n) ∙ sum-none weight n
 
--- as it begins: no row is marked
+-- the initial bitmap: no row is set
 pub bitmap-none : Bitmap (replicate 1024 0) (λ i. false)
 bitmap-none = record { long = length-replicate {A = ℕ} 1024 0; marked = λ w h. getD-replicate 1024 w 0 0 h ∙ sym (marks-sum _ 64 ∙ sum-none (λ i. 2 ^ i) 64) }
 
 pub count-none : (n : ℕ) → countTo (λ i. false) n ≡ 0
 count-none n = count-sum _ n ∙ sum-none (λ i. 1) n
 
--- all words of 64 bits are a bitmap, of the rows whose bit is set
+-- any words of 64 bits are a bitmap, of the rows whose bit is set
 unfoldable pub bitSet : List ℕ → ℕ → Bool
 bitSet words i = eqb (getD words (i / 64) 0 / 2 ^ (i % 64) % 2) 1
 
@@ -101,7 +101,7 @@ bitmap-of words long bits =
         let rest : (64 * w + bit) % 64 ≡ bit = omega arith in
         rw (place, rest)
 
--- ---- passes that mark rows
+-- ---- passes that set bits
 
 pub marked-one : {allowed : ℕ → Bool} {words words′ : List ℕ} {row more : ℕ}
     → MarkedOne words row words′ more → row < 65536 → allowed row ≡ true
@@ -162,7 +162,7 @@ marked-then {allowed} {needed} {needed′} {a = a} {b} m n =
           );
     }
 
--- more may be allowed, and fewer needed
+-- weakening: more rows allowed, fewer needed
 pub marked-weaker : {allowed needed allowed′ needed′ : ℕ → Bool} {words words′ : List ℕ} {more : ℕ}
     → ((i : ℕ) → allowed i ≡ true → allowed′ i ≡ true) → ((i : ℕ) → needed′ i ≡ true → needed i ≡ true)
     → Marked allowed needed words words′ more → Marked allowed′ needed′ words words′ more
@@ -182,7 +182,7 @@ marked-weaker wider fewer m =
           );
     }
 
--- the rows marked more are no more than all
+-- there are at most n
 pub countTo-le : (f : ℕ → Bool) (n : ℕ) → countTo f n ≤ n
 unfolding countTo
 countTo-le f zero = omega arith

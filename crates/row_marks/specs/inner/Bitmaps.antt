@@ -1,4 +1,4 @@
--- A bitmap of 65,536 rows, 64 to a word: what it marks, and what a pass that marks rows promises. Assumes nothing.
+-- A bitmap of 65,536 rows, 64 to a word, and the contract of a pass that sets bits. Assumes nothing.
 use Prim.Native.Nat.{ℕ, _+_, _*_, _<_}
 use mathlib.Core.Path.{_≡_}
 use mathlib.Core.Bool.{Bool, true, false, cond, _||_}
@@ -7,24 +7,24 @@ use lib.ListN.{length, getD}
 use lib.Dec.{eqb}
 use Rattle.row_buffer.specs.Ranks.{marks, countTo}
 
--- the rows that it marks are those that the test names
+-- exactly the rows that pass the test are set
 pub record Bitmap (words : List ℕ) (test : ℕ → Bool) : Type 0 where
   pub long : length words ≡ 1024
   pub marked : (w : ℕ) → w < 1024 → getD words w 0 ≡ marks (λ bit. test (64 * w + bit)) 64
 
--- one row more is marked: 1 if it was not, else 0
+-- one more row is set: 1 if it was not set before, else 0
 pub record MarkedOne (words : List ℕ) (row : ℕ) (words′ : List ℕ) (more : ℕ) : Type 0 where
   pub long : length words′ ≡ 1024
   pub one-more : (test : ℕ → Bool) → Bitmap words test → Bitmap words′ (λ i. eqb i row || test i)
   pub new : (test : ℕ → Bool) → Bitmap words test → more ≡ cond (test row) 0 1
 
--- from one test to another, all of those needed and none but those allowed are added
+-- from one test to another: all needed rows and only allowed rows are added
 pub record Added (allowed needed test test′ : ℕ → Bool) : Type 0 where
   pub kept : (i : ℕ) → test i ≡ true → test′ i ≡ true
   pub allowed-only : (i : ℕ) → test i ≡ false → test′ i ≡ true → allowed i ≡ true
   pub all-needed : (i : ℕ) → needed i ≡ true → test′ i ≡ true
 
--- what a pass that marks rows promises, with how many are marked more
+-- the contract of a pass that sets bits; `more` is the number of newly set rows
 pub record Marked (allowed needed : ℕ → Bool) (words words′ : List ℕ) (more : ℕ) : Type 0 where
   pub long : length words ≡ 1024 → length words′ ≡ 1024
   pub adds : (test : ℕ → Bool) → Bitmap words test

@@ -1,4 +1,5 @@
--- `sort_entries::advance` meets its contract. Its loop keeps what later rows have to look at; the measure is what is left of the entries. Assumes nothing.
+-- `sort_entries::advance` meets its contract. Loop invariant: the entries that later rows need. Measure: the number of remaining
+-- entries. Assumes nothing.
 use Prim.Native.Nat.{_-_}
 use borrow.Author.Needs.{needs}
 use Rattle.sort_entries.proofs.LawsCheck.{Advancing, begins, stops, steps, ends}

@@ -10,7 +10,7 @@ use Rattle.sort_entries.proofs.LawsCheck.{dead-row, live-row}
 use Rattle.sort_entries.proofs.cell_sound.Tie as tie
 use Rattle.sort_entries.proofs.cell_sound.Statement.{statement}
 
--- the row lies in the store, which is small
+-- the row is inside the store, and its position fits
 inside : (s : tie.Start) → let a = s .args in (a .row * a .columns + a .columns ≤ length (a .store .now)) × (a .row * a .columns + a .columns ≤ 524288) × (a .sort < a .columns)
 inside s =
     let a = s .args in

@@ -1,4 +1,5 @@
--- `sort_entries::entries_sound` meets its contract. Its loop keeps that the entries passed follow one another; the measure is what is left of them. Assumes nothing.
+-- `sort_entries::entries_sound` meets its contract. Loop invariant: each entry so far follows the one before. Measure: the number
+-- of remaining entries. Assumes nothing.
 use Prim.Native.Nat.{ℕ, _-_, _≤_, _<_}
 use native.Mathlib.Omega.{arith}
 use borrow.Author.Needs.{needs}

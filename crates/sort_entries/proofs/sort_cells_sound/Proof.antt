@@ -1,4 +1,5 @@
--- `sort_entries::sort_cells_sound` meets its contract. Its loop keeps what the rows to come have to pass; the measure is their number. Assumes nothing.
+-- `sort_entries::sort_cells_sound` meets its contract. Loop invariant: the check that the remaining rows must pass. Measure: their
+-- number. Assumes nothing.
 use Prim.Native.Nat.{_-_}
 use mathlib.Core.Path.{sym, _∙_}
 use borrow.Author.Needs.{needs}

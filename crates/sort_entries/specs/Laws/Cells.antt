@@ -1,4 +1,4 @@
--- The check of sort cells as a fact of each live row. Assumes nothing.
+-- The check of sort cells, stated for each live row. Assumes nothing.
 use Prim.Native.Nat.{ℕ, _<_}
 use mathlib.Core.Path.{_≡_, _∙_}
 use mathlib.Core.Logic.{inl, inr}

@@ -1,4 +1,4 @@
--- Laws of entries with one more: the value at each row, soundness, and what pushing a value does. Assumes nothing.
+-- Laws of appending one entry: the value at each row, soundness, and the effect of `push`. Assumes nothing.
 use Prim.Native.Nat.{ℕ, _+_, _-_, _≤_, _<_}
 use mathlib.Core.Path.{_≡_, refl, sym, _∙_}
 use mathlib.Core.Logic.{inl, inr}
@@ -16,7 +16,7 @@ use Rattle.sort_entries.specs.Entries.{Entry, entry, last, push, firstRo
 use Rattle.sort_entries.specs.Laws.Push.{push-new, push-same}
 use Rattle.sort_entries.specs.Laws.Sound.{values, entryRows, Climb, sound-climb, sound-first, sound-join}
 
--- ---- the value at a row, with one entry more
+-- ---- the value at a row, with one more entry
 
 pub valueAt-before : (i : ℕ) (es : List Entry) (e : Entry) → 0 < length es → i < e .row → valueAt i (es ++ (e ∷ [])) ≡ valueAt i es
 unfolding valueAt
@@ -24,7 +24,7 @@ valueAt-before i [] e h k = absurd (omega arith)
 valueAt-before i (a ∷ []) e h k = rw (lt-leb (e .row) i k)
 valueAt-before i (a ∷ b ∷ es) e h k = rw (valueAt-before i (b ∷ es) e (omega arith) k)
 
--- the row of each entry lies below n
+-- the row of each entry is below n
 abbrev pub Below : List Entry → ℕ → Type 0
 Below es n = every (λ e. ltb (e .row) n) es ≡ true
 
@@ -45,7 +45,7 @@ valueAt-new i n (a ∷ b ∷ es) e q h k =
     let r′ : b .row ≤ i = omega arith in
     rw (le-leb (b .row) i r′) (valueAt-new i n (b ∷ es) e (below-tail a (b ∷ es) n q) h k)
 
--- from the last entry's row on it is the last entry's
+-- from the last entry's row on, the value is the last entry's
 pub valueAt-last : (test : ℕ → Bool) (i n : ℕ) (es : List Entry) → 0 < length es → Below es n → n ≤ i + 1 → last test es ≡ test (valueAt i es)
 unfolding valueAt last
 valueAt-last test i n [] z q h = absurd (omega arith)
@@ -55,7 +55,7 @@ valueAt-last test i n (a ∷ b ∷ es) z q h =
     let r′ : b .row ≤ i = omega arith in
     rw (le-leb (b .row) i r′) (valueAt-last test i n (b ∷ es) (omega arith) (below-tail a (b ∷ es) n q) h)
 
--- ---- climbing entries, with one more
+-- ---- rising entries, with one more
 
 rise-more : (es : List Entry) (v row : ℕ) → rising (values es) ≡ true → last (λ w. ltb w v) es ≡ true → rising (values (es ++ (entry v row ∷ []))) ≡ true
 unfolding rising above last
@@ -89,9 +89,9 @@ climb-more es v row n m c l h k =
 pub climb-wider : (es : List Entry) (n m : ℕ) → Climb es n → n ≤ m → Climb es m
 climb-wider es n m c h = record { rise = c .rise; later = c .later; below = below-more es n m (c .below) h }
 
--- ---- a value pushed for the next row
+-- ---- `push` of a value for the next row
 
--- it is not below the last entry's
+-- the value is not below the last entry's
 unfoldable pub admits : ℕ → List Entry → Bool
 admits value es = last (λ v. leb v value) es
 
@@ -163,7 +163,7 @@ module _ (es : List Entry) (rows : ℕ) (s : entriesSound es rows ≡ true) wher
           | inr l ↦ rw (push-same v rows es l) (sound-same l)
         ]
 
-    -- and record of each earlier row what they did
+    -- `push` does not change the values of earlier rows
     pub push-earlier : (i : ℕ) → i < rows → valueAt i (push v rows es) ≡ valueAt i es
     push-earlier i h =
         elim (split (last (λ w. ltb w v) es)) [
@@ -171,7 +171,7 @@ module _ (es : List Entry) (rows : ℕ) (s : entriesSound es rows ≡ true) wher
           | inr l ↦ rw (push-same v rows es l)
         ]
 
-    -- and of the new row its value, if that was admitted
+    -- the value of the new row is the pushed one, if it is admitted
     same-value : admits v es ≡ true → last (λ w. ltb w v) es ≡ false → valueAt rows es ≡ v
     unfolding admits
     same-value a l =

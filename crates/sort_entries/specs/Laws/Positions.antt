@@ -1,5 +1,5 @@
--- Where a value stands among sound entries, with an entry of that value or without one, and the fast range by that. Assumes
--- nothing.
+-- The position of a value among sound entries, with an entry of that value or without one, and the fast range as a function of that
+-- position. Assumes nothing.
 use Prim.Native.Nat.{ℕ, _≤_, _<_}
 use mathlib.Core.Path.{_≡_, refl, sym, ap, _∙_}
 use mathlib.Core.Bool.{true, false, cond}
@@ -25,7 +25,7 @@ position v [] rows = absent rows
 position v (e ∷ es) rows =
     cond (ltb (e .value) v) (position v es rows) (cond (eqb (e .value) v) (found (e .row) (firstRow es rows)) (absent (e .row)))
 
--- kinds 1 to 5
+-- the range of a condition of kind 1 to 5
 unfoldable pub rangeAt : ℕ → Position → ℕ → Subset
 rangeAt kind (found f b) rows =
     cond (eqb kind 1) (range f b)
@@ -34,7 +34,7 @@ rangeAt kind (absent g) rows =
     cond (eqb kind 1) (range 0 0)
     (cond (eqb kind 2) (range 0 g) (cond (eqb kind 3) (range g rows) (cond (eqb kind 4) (range 0 g) (range g rows))))
 
--- entries above x, from a value v up to x on: all are above v, and none has it
+-- entries above x, for a value v up to x: all are above v, and none has it
 above-kept : (v x : ℕ) (es : List Entry) → v ≤ x → above x (values es) ≡ true
     → (keep (λ e. ltb v (e .value)) es ≡ es) × (any (λ e. eqb (e .value) v) es ≡ false)
 unfolding keep any
@@ -46,7 +46,7 @@ above-kept v x (e ∷ es) h a =
     let ne : e .value ≡ v → ⊥ = λ z. omega arith in
     (rw (lt-ltb v (e .value) q) (ap (λ (l : List Entry). e ∷ l) (r .0)), rw (ne-eqb _ _ ne) (r .1))
 
--- a first entry below the value, of the value, above it
+-- the first entry is below the value, has the value, or is above it
 module _ (kind v : ℕ) (e : Entry) (es : List Entry) (rows : ℕ) where
   range-past : e .value < v → fastRange kind v (e ∷ es) rows ≡ fastRange kind v es rows
   unfolding fastRange keep any

@@ -1,4 +1,4 @@
--- The fast range has exactly the rows whose recorded value passes the test. Assumes nothing.
+-- The fast range has exactly the rows whose recorded value passes the condition. Assumes nothing.
 use Prim.Native.Nat.{ℕ, zero, suc, _+_, _-_, _≤_, _<_, suc-le-suc}
 use mathlib.Core.Path.{_≡_, refl, sym, ap, _∙_}
 use mathlib.Core.Bool.{true}
@@ -21,7 +21,7 @@ use Rattle.sort_entries.specs.Laws.Positions.{Position, found, absent, p
 
 -- ---- the value at a row
 
--- before the next entry's row it is the first entry's, from there on the others'
+-- before the next entry's row it is the first entry's value, from there on that of the other entries
 pub valueAt-head : (i : ℕ) (e : Entry) (es : List Entry) (rows : ℕ) → i < firstRow es rows → valueAt i (e ∷ es) ≡ e .value
 unfolding valueAt firstRow
 valueAt-head i e [] rows h = refl
@@ -44,9 +44,9 @@ valueAt-above x i (e ∷ es) rows a h k =
           rw (valueAt-tail i e es rows q′ k) (valueAt-above x i es rows (above-weaker x (e .value) (values es) (omega arith) t) q′ k)
     ]
 
--- ---- where a value stands
+-- ---- the position of a value
 
--- the rows before f have lower values, those from f to b this one, those from b on higher ones
+-- the rows before f have lower values, those from f to b have this value, and those from b on have higher ones
 pub record Cuts (v : ℕ) (es : List Entry) (rows f b : ℕ) : Type 0 where
   pub from : firstRow es rows ≤ f
   pub order : f ≤ b
@@ -55,13 +55,13 @@ pub record Cuts (v : ℕ) (es : List Entry) (rows f b : ℕ) : Type 0 where
   pub mid : (i : ℕ) → f ≤ i → i < b → valueAt i es ≡ v
   pub high : (i : ℕ) → b ≤ i → i < rows → v < valueAt i es
 
--- without an entry of the value, f and b are one
+-- without an entry of the value, f and b are equal
 abbrev pub Placed : ℕ → List Entry → ℕ → Position → Type 0
 Placed v es rows (found f b) = Cuts v es rows f b
 Placed v es rows (absent g) = Cuts v es rows g g
 
 module _ (v : ℕ) (e : Entry) (es : List Entry) (rows : ℕ) (c : Climb (e ∷ es) rows) where
-  -- a first entry below the value
+  -- the first entry is below the value
   cuts-past : (f b : ℕ) → e .value < v → Cuts v es rows f b → Cuts v (e ∷ es) rows f b
   unfolding firstRow
   cuts-past f b h s =
@@ -139,11 +139,11 @@ placed v (e ∷ es) rows c =
 
 -- ---- the ranges
 
--- the ids of a range, as a test
+-- membership in a range, as a test
 pub has-range : (a b i : ℕ) → a ≤ b → has i (members (range a b)) ≡ within a b i
 has-range a b i h = let e : a + (b - a) ≡ b = omega arith in has-any-range a b i ∙ ap (λ (n : ℕ). within a n i) e
 
--- a number i and a value x that cross a place and a value v together
+-- i is below a bound exactly if x is less than v, or at most v
 module _ (x v i : ℕ) where
   less-is : (f : ℕ) → (i < f → x < v) → (f ≤ i → v ≤ x) → within 0 f i ≡ ltb x v
   less-is f low up =
@@ -185,7 +185,7 @@ module _ (x v i : ℕ) where
             ]
       ]
 
--- a claim of kinds 1 to 5
+-- case distinction on kinds 1 to 5
 one-of-five : (P : ℕ → Type 0) → P 1 → P 2 → P 3 → P 4 → P 5 → (kind : ℕ) → 1 ≤ kind → kind ≤ 5 → P kind
 one-of-five P a b c d e zero h k = absurd (omega arith)
 one-of-five P a b c d e (suc zero) h k = a
@@ -224,7 +224,7 @@ module _ (v : ℕ) (es : List Entry) (rows : ℕ) (first : firstRow es rows ≡ 
     equal : has i (members (range f b)) ≡ eqb (valueAt i es) v
     equal = has-range f b i (s .order) ∙ equal-is (valueAt i es) v i f b low (s .mid i) from-b
 
-  -- no row is in 0..0, and none has the value
+  -- no row is in 0..0, and no row has the value
   nothing : (g : ℕ) → Cuts v es rows g g → has i (members (range 0 0)) ≡ eqb (valueAt i es) v
   nothing g s =
       has-range 0 0 i (omega arith) ∙ within-past 0 0 i (omega arith)
@@ -240,14 +240,14 @@ module _ (v : ℕ) (es : List Entry) (rows : ℕ) (first : firstRow es rows ≡ 
       one-of-five (λ kind. has i (members (rangeAt kind (absent g) rows)) ≡ compares kind (valueAt i es) v)
       (nothing g s) (less g g s) (greater g g s) (at-most g g s) (at-least g g s)
 
--- the fast range of sound entries has exactly the rows whose recorded value passes the test
+-- the fast range of sound entries has exactly the rows whose recorded value passes the condition
 pub fast-range : (es : List Entry) (rows kind v : ℕ) → entriesSound es rows ≡ true → 1 ≤ kind → kind ≤ 5 → (i : ℕ) → i < rows
     → has i (members (fastRange kind v es rows)) ≡ compares kind (valueAt i es) v
 fast-range es rows kind v s one five i h =
     rw (fast-range-at kind v es rows (sound-climb es rows s))
     (placed-range v es rows (sound-first es rows s) i h (position v es rows) (placed v es rows (sound-climb es rows s)) kind one five)
 
--- ---- where a value stands, from the place that a search finds
+-- ---- the position of a value, from the position that a search finds
 
 place-skip : (v : ℕ) (es : List Entry) (rows r : ℕ) → r ≤ length es → ((i : ℕ) → i < r → valueOf es i < v) → position v es rows ≡ position v (drop r es) rows
 place-skip v es rows zero h f = refl

@@ -14,19 +14,19 @@ use Rattle.sort_entries.specs.Entries.{Entry, push, rebuilt, pushAll, va
 use Rattle.sort_entries.specs.Laws.Push.{push-few, push-grows, rebuilt-snoc}
 use Rattle.sort_entries.specs.Laws.Grow.{admits, admits-valueAt, admits-none, push-sound, push-earlier, push-here}
 
--- a value is at least each one before it
+-- each value is at least every earlier one
 abbrev pub NeverFalls : List ℕ → Type 0
 NeverFalls vs = (i j : ℕ) → i ≤ j → j < length vs → getD vs i 0 ≤ getD vs j 0
 
--- ---- rebuilt entries, a row at a time
+-- ---- rebuilt entries, one row at a time
 
--- what holds of the entries of the first n rows
+-- the invariant for the entries of the first n rows
 record Built (vs : List ℕ) (n : ℕ) (es : List Entry) : Type 0 where
   sound : entriesSound es n ≡ true
   recorded : (i : ℕ) → i < n → valueAt i es ≡ getD vs i 0
 
 module _ (vs : List ℕ) (falls : NeverFalls vs) (n : ℕ) (es : List Entry) (b : Built vs n es) (h : n < length vs) where
-  -- the last row's value is not above this one's
+  -- the next value is not below the last row's
   admitted : admits (getD vs n 0) es ≡ true
   admitted =
       elim (decLt 0 n) [
@@ -48,7 +48,7 @@ module _ (vs : List ℕ) (falls : NeverFalls vs) (n : ℕ) (es : List Entry) (b 
             | no p ↦ let z : i ≡ n = omega arith in rw z (push-here es n (b .sound) (getD vs n 0) admitted)
           ]
 
--- the first n rows
+-- the invariant holds for the first n rows
 built : (vs : List ℕ) → NeverFalls vs → (n : ℕ) → n ≤ length vs → Built vs n (rebuilt (take n vs))
 built vs falls zero h =
     record { sound = unfold rebuilt pushAll entriesSound rising every firstRow in refl; recorded = λ i p. absurd (omega arith) }
@@ -69,7 +69,7 @@ module _ (vs : List ℕ) (falls : NeverFalls vs) where
   pub rebuilt-valueAt : (i : ℕ) → i < length vs → valueAt i (rebuilt vs) ≡ getD vs i 0
   rebuilt-valueAt = all-built .recorded
 
--- never more entries than rows, whatever the values
+-- there are at most as many entries as rows, for any values
 pushAll-few : (row : ℕ) (vs : List ℕ) (es : List Entry) → length (pushAll row vs es) ≤ length es + length vs
 unfolding pushAll
 pushAll-few row [] es = omega arith
@@ -79,7 +79,7 @@ pub rebuilt-few : (vs : List ℕ) → length (rebuilt vs) ≤ length vs
 unfolding rebuilt
 rebuilt-few vs = let a = pushAll-few 0 vs [] in omega arith
 
--- further rows take no entry away
+-- further rows remove no entry
 pushAll-grows : (row : ℕ) (vs : List ℕ) (es : List Entry) → length es ≤ length (pushAll row vs es)
 unfolding pushAll
 pushAll-grows row [] es = omega arith

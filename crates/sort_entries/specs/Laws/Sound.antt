@@ -1,4 +1,4 @@
--- Sound entries taken apart into facts, and put together again. Assumes nothing.
+-- Sound entries decomposed into facts, and the converse. Assumes nothing.
 use Prim.Native.Nat.{ℕ, _+_, _*_, _≤_, _<_}
 use mathlib.Core.Path.{_≡_, ap}
 use mathlib.Core.Bool.{true, _&&_}
@@ -14,7 +14,7 @@ use Rattle.lists.specs.Laws.Rising.{rising-tail, rising-at, rising-of}
 use Rattle.sort_entries.specs.Entries.{Entry, entry, entriesOf, firstRow, entriesSound}
 use Rattle.sort_entries.specs.Laws.Stores.{pairAt, getD-entriesOf}
 
--- the value and the row at place i
+-- the value and the row at position i
 abbrev pub valueOf : List Entry → ℕ → ℕ
 valueOf es i = getD es i (entry 0 0) .value
 
@@ -27,7 +27,7 @@ values es = map (λ e. e .value) es
 abbrev pub entryRows : List Entry → List ℕ
 entryRows es = map (λ e. e .row) es
 
--- entries that rise and lie below the row count, the first at any row: what an end of sound entries is too
+-- entries that rise and are below the row count, the first at any row. A suffix of sound entries is such too
 pub record Climb (es : List Entry) (rows : ℕ) : Type 0 where
   pub rise : rising (values es) ≡ true
   pub later : rising (entryRows es) ≡ true
@@ -84,7 +84,7 @@ module _ (es : List Entry) (rows : ℕ) where
       let c = sound-climb s in
       record { rise = climb-rise c; later = climb-later c; below = climb-below c; first = sound-first s }
 
-  -- it is enough to look at neighbours
+  -- comparing neighbours is sufficient
   pub sound-of : ((i : ℕ) → i + 1 < length es → valueOf es i < valueOf es (i + 1)) → ((i : ℕ) → i + 1 < length es → entryRow es i < entryRow es (i + 1))
       → ((i : ℕ) → i < length es → entryRow es i < rows) → firstRow es rows ≡ 0 → entriesSound es rows ≡ true
   sound-of f g b z = sound-join (record { rise = rising-of (values es) up; later = rising-of (entryRows es) on; below = every-of (λ e. ltb (e .row) rows) (entry 0 0) es (λ i h. lt-ltb _ _ (b i h)) }) z
@@ -105,7 +105,7 @@ module _ (es : List Entry) (rows : ℕ) where
           let q = List·getD-map (λ (e : Entry). e .row) es (i + 1) (entry 0 0) in
           omega arith
 
--- ---- an end of climbing entries
+-- ---- a suffix of rising entries
 
 module _ (e : Entry) (es : List Entry) (rows : ℕ) (c : Climb (e ∷ es) rows) where
   pub climb-tail : Climb es rows
@@ -119,14 +119,14 @@ module _ (e : Entry) (es : List Entry) (rows : ℕ) (c : Climb (e ∷ es) rows) 
   pub climb-in : e .row < rows
   climb-in = climb-below (e ∷ es) rows c 0 (omega arith)
 
-  -- the values after the first lie above it
+  -- the values after the first are above it
   pub climb-above : above (e .value) (values es) ≡ true
   climb-above = unfold rising in c .rise
 
 pub climb-next : (e f : Entry) (es : List Entry) (rows : ℕ) → Climb (e ∷ f ∷ es) rows → e .row < f .row
 climb-next e f es rows c = climb-later (e ∷ f ∷ es) rows c 0 1 (omega arith) (omega arith)
 
--- the first row lies below the row count, and the one after it does not come before it
+-- the first row is at most the row count, and at most the row of the next entry
 pub first-le : (es : List Entry) (rows : ℕ) → Climb es rows → firstRow es rows ≤ rows
 unfolding firstRow
 first-le [] rows c = omega arith
@@ -137,7 +137,7 @@ unfolding firstRow
 first-next e [] rows c = let h = climb-in e [] rows c in omega arith
 first-next e (f ∷ es) rows c = let h = climb-next e f es rows c in omega arith
 
--- the first row from a place on is the row at that place
+-- the first row from a position on is the row at that position
 pub firstRow-drop : (es : List Entry) (k rows : ℕ) → k < length es → firstRow (drop k es) rows ≡ entryRow es k
 unfolding firstRow
 firstRow-drop es k rows h = rw (drop-cons es k (entry 0 0) h)
@@ -146,7 +146,7 @@ pub firstRow-past : (es : List Entry) (k rows : ℕ) → length es ≤ k → fir
 unfolding firstRow
 firstRow-past es k rows h = rw (drop-of-length-le es h)
 
--- the words of a store are its entries' values and rows
+-- the words of a store are the values and rows of its entries
 module _ (store : List ℕ) (n i : ℕ) (h : i < n) where
   pub value-word : valueOf (entriesOf n store) i ≡ getD store (2 * i) 0
   unfolding pairAt

@@ -1,4 +1,4 @@
--- Laws of the pairs that a store holds: their words, one pair more, and a pair written. Assumes nothing.
+-- Laws of the pairs in a store: their words, one more pair, and writing a pair. Assumes nothing.
 use Prim.Native.Nat.{ℕ, zero, suc, _+_, _-_, _*_, _≤_, _<_}
 use mathlib.Core.Path.{_≡_, refl, sym, ap, ap₂, _∙_}
 use mathlib.Core.Bool.{Bool, true}
@@ -11,7 +11,7 @@ use Rattle.lists.specs.Lists.{putAt}
 use Rattle.lists.specs.Laws.Parts.{take-putAt, getD-putAt-in}
 use Rattle.sort_entries.specs.Entries.{Entry, entry, entriesOf, entryWords, last}
 
--- the pair at place i of a store
+-- the pair at position i of a store
 unfoldable pub pairAt : ℕ → List ℕ → Entry
 pairAt i store = entry (getD store (2 * i) 0) (getD store (2 * i + 1) 0)
 
@@ -20,7 +20,7 @@ unfolding entryWords
 length-words [] = refl
 length-words (e ∷ es) = let h = length-words es in omega arith
 
--- one pair more
+-- one more pair
 pub words-snoc : (es : List Entry) (e : Entry) → entryWords (es ++ (e ∷ [])) ≡ entryWords es ++ (e .value ∷ e .row ∷ [])
 unfolding entryWords
 words-snoc [] e = refl
@@ -31,7 +31,7 @@ unfolding entriesOf
 length-entriesOf zero store = refl
 length-entriesOf (suc n) store = ap suc (length-entriesOf n (drop 2 store))
 
--- pairs are read back as they were written
+-- pairs are read back as they are written
 pub entriesOf-words : (es : List Entry) (rest : List ℕ) → entriesOf (length es) (entryWords es ++ rest) ≡ es
 unfolding entriesOf entryWords
 entriesOf-words [] rest = refl
@@ -41,7 +41,7 @@ pub entriesOf-put : (es : List Entry) (store : List ℕ) (n : ℕ) → n ≡ len
 unfolding putAt
 entriesOf-put es store n e = rw e (entriesOf-words es (drop (0 + length (entryWords es)) store))
 
--- two words are taken at a time
+-- taking two more words
 take-two : (n : ℕ) (store : List ℕ) → 2 ≤ length store → getD store 0 0 ∷ getD store 1 0 ∷ take n (drop 2 store) ≡ take (2 + n) store
 take-two n [] h = absurd (omega arith)
 take-two n (x ∷ []) h = absurd (omega arith)
@@ -57,7 +57,7 @@ words-entriesOf (suc n) store h =
     ∙ take-two (2 * n) store (omega arith)
     ∙ ap (λ (k : ℕ). take k store) e
 
--- the pair at a place is the pair one place before in the store without its first
+-- pair i of a store without its first pair is pair i + 1 of the store
 pub pairAt-suc : (i : ℕ) (store : List ℕ) → pairAt i (drop 2 store) ≡ pairAt (suc i) store
 unfolding pairAt
 pairAt-suc i store =
@@ -78,12 +78,12 @@ entriesOf-suc (suc n) store =
     ap (λ (l : List Entry). entry (getD store 0 0) (getD store 1 0) ∷ l)
     (entriesOf-suc n (drop 2 store) ∙ ap (λ (e : Entry). entriesOf n (drop 2 store) ++ (e ∷ [])) (pairAt-suc n store))
 
--- one pair more
+-- one more pair
 pub entriesOf-snoc : (n : ℕ) (store : List ℕ) → entriesOf (n + 1) store ≡ entriesOf n store ++ (entry (getD store (2 * n) 0) (getD store (2 * n + 1) 0) ∷ [])
 unfolding pairAt
 entriesOf-snoc n store = rw (add-one n) (entriesOf-suc n store)
 
--- stores that begin alike hold the same pairs there
+-- stores with the same prefix have the same pairs there
 pub entriesOf-same : (n : ℕ) (l m : List ℕ) → take (2 * n) l ≡ take (2 * n) m → entriesOf n l ≡ entriesOf n m
 entriesOf-same n l m e = ext-getD (entry 0 0) (entriesOf n l) (entriesOf n m) (simp length-entriesOf) each
   where
@@ -96,11 +96,11 @@ entriesOf-same n l m e = ext-getD (entry 0 0) (entriesOf n l) (entriesOf n m) (s
         let p : pairAt i l ≡ pairAt i m = unfold pairAt in ap₂ entry (word (2 * i) (omega arith)) (word (2 * i + 1) (omega arith)) in
         getD-entriesOf n l i (entry 0 0) k ∙ p ∙ sym (getD-entriesOf n m i (entry 0 0) k)
 
--- what is written past the pairs
+-- a write past the pairs
 pub entriesOf-before : (n : ℕ) (l w : List ℕ) (at : ℕ) → 2 * n ≤ at → at + length w ≤ length l → entriesOf n (putAt l at w) ≡ entriesOf n l
 entriesOf-before n l w at h k = entriesOf-same n (putAt l at w) l (take-putAt l w at k (2 * n) h)
 
--- a pair written right after them
+-- a pair written right after the pairs
 pub entriesOf-appended : (n : ℕ) (l : List ℕ) (value row : ℕ) → 2 * n + 2 ≤ length l
     → entriesOf (n + 1) (putAt l (2 * n) (value ∷ row ∷ [])) ≡ entriesOf n l ++ (entry value row ∷ [])
 entriesOf-appended n l value row h =
@@ -119,7 +119,7 @@ last-snoc test [] e = refl
 last-snoc test (a ∷ []) e = refl
 last-snoc test (a ∷ b ∷ es) e = last-snoc test (b ∷ es) e
 
--- it is read at the place before the count
+-- the last pair is at position n - 1
 pub last-entriesOf : (test : ℕ → Bool) (n : ℕ) (store : List ℕ) → 0 < n → last test (entriesOf n store) ≡ test (getD store (2 * (n - 1)) 0)
 last-entriesOf test zero store h = absurd (omega arith)
 last-entriesOf test (suc n) store h =

@@ -1,4 +1,4 @@
--- Laws of a test of values: what passes of rows passes of entries, and back. Assumes nothing.
+-- Laws of a test of values: the values of all rows pass exactly if those of all entries do. Assumes nothing.
 use Prim.Native.Nat.{ℕ, suc, _≤_, _<_}
 use mathlib.Core.Path.{_≡_, refl}
 use mathlib.Core.Logic.{inl, inr}
@@ -35,12 +35,12 @@ module _ (test : ℕ → Bool) where
         pushAll-every (suc row) rows (push (value x) row es) (every-tail (λ y. test (value y)) x rows e)
         (push-every row (value x) es (every-head (λ y. test (value y)) x rows e) p)
 
-    -- of every row's value: of every entry's
+    -- if every row's value passes, every entry's does
     pub rebuilt-every : (rows : List A) → every (λ x. test (value x)) rows ≡ true → passes (rebuilt (map value rows))
     unfolding rebuilt
     rebuilt-every rows e = pushAll-every 0 rows [] e (unfold every in refl)
 
-  -- of every entry's: of every row's, since where there is an entry a row has one's value
+  -- if every entry's value passes, every row's does, since each row has the value of an entry
   pub valueAt-every : (i : ℕ) (es : List Entry) → 0 < length es → passes es → test (valueAt i es) ≡ true
   unfolding valueAt
   valueAt-every i [] h p = absurd (omega arith)
@@ -67,6 +67,6 @@ module _ (test : ℕ → Bool) where
         let h = climb-rises e f es n c in
         every-cons (λ g. test (g .value)) e (f ∷ es) (down (e .value) (f .value) (omega arith) (every-head (λ g. test (g .value)) f es p)) p
 
-    -- where entries rise and smaller values pass too, the last one decides
+    -- if entries rise and smaller values pass too, the last one decides
     pub last-every : (es : List Entry) (n : ℕ) → Climb es n → last test es ≡ every (λ e. test (e .value)) es
     last-every es n c = bool-ext _ _ (last-passes es n c) (every-last es)

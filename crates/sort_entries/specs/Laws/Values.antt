@@ -13,12 +13,12 @@ use Rattle.sort_entries.specs.Entries.{Entry, entry, firstRow, rebuilt, 
 use Rattle.sort_entries.specs.Laws.Sound.{values, Climb, sound-climb, sound-first, climb-tail, climb-in, climb-next, climb-above}
 use Rattle.sort_entries.specs.Laws.Rebuilt.{NeverFalls, rebuilt-sound, rebuilt-valueAt}
 
--- before the next entry's row it is the first entry's value
+-- before the next entry's row the value is the first entry's
 pub valueAt-until : (i : ℕ) (e f : Entry) (es : List Entry) → i < f .row → valueAt i (e ∷ f ∷ es) ≡ e .value
 unfolding valueAt
 valueAt-until i e f es h = rw (lt-leb (f .row) i h)
 
--- from there on it is a later one's
+-- from the next entry's row on it is that of the other entries
 pub valueAt-from : (i : ℕ) (e f : Entry) (es : List Entry) → f .row ≤ i → valueAt i (e ∷ f ∷ es) ≡ valueAt i (f ∷ es)
 unfolding valueAt
 valueAt-from i e f es h = rw (le-leb (f .row) i h)
@@ -26,12 +26,12 @@ valueAt-from i e f es h = rw (le-leb (f .row) i h)
 pub climb-rises : (e f : Entry) (es : List Entry) (n : ℕ) → Climb (e ∷ f ∷ es) n → e .value < f .value
 climb-rises e f es n c = above-head (e .value) (f .value) (values es) (climb-above e (f ∷ es) n c)
 
--- at its own row it is an entry's own value
+-- at an entry's own row it is the entry's value
 pub valueAt-own : (e : Entry) (es : List Entry) (n : ℕ) → Climb (e ∷ es) n → valueAt (e .row) (e ∷ es) ≡ e .value
 valueAt-own e [] n c = unfold valueAt in refl
 valueAt-own e (f ∷ es) n c = valueAt-until (e .row) e f es (climb-next e f es n c)
 
--- it is never below the first
+-- it is never below the first entry's value
 pub valueAt-least : (i : ℕ) (e : Entry) (es : List Entry) (n : ℕ) → Climb (e ∷ es) n → e .value ≤ valueAt i (e ∷ es)
 valueAt-least i e [] n c = unfold valueAt in omega arith
 valueAt-least i e (f ∷ es) n c =
@@ -62,14 +62,14 @@ same-first : (e f : Entry) (es fs : List Entry) (n : ℕ) → Climb (e ∷ es) n
 same-first e f es fs n c d r g =
     sym (valueAt-own e es n c) ∙ g (e .row) (omega arith) (climb-in e es n c) ∙ ap (λ (i : ℕ). valueAt i (f ∷ fs)) r ∙ valueAt-own f fs n d
 
--- one entry does not record what two do
+-- one entry does not record the same values as two
 one-more : (e f b : Entry) (fs : List Entry) (n : ℕ) → Climb (f ∷ b ∷ fs) n → valueAt (b .row) (e ∷ []) ≡ valueAt (b .row) (f ∷ b ∷ fs) → e .value ≡ f .value → ⊥
 unfolding valueAt
 one-more e f b fs n d g v =
     let k : e .value ≡ valueAt (b .row) (f ∷ b ∷ fs) = g in
     omega (arith, climb-rises f b fs n d, valueAt-from (b .row) f b fs (omega arith), valueAt-own b fs n (climb-tail f (b ∷ fs) n d))
 
--- entries that begin at the same row and record the same values are the same
+-- rising entries that begin at the same row and record the same values are equal
 climb-ext : (e f : Entry) (es fs : List Entry) (n : ℕ) → Climb (e ∷ es) n → Climb (f ∷ fs) n → e .row ≡ f .row
     → ((i : ℕ) → e .row ≤ i → i < n → valueAt i (e ∷ es) ≡ valueAt i (f ∷ fs)) → e ∷ es ≡ f ∷ fs
 climb-ext e f [] [] n c d r g = ap (λ (x : Entry). x ∷ []) (ap₂ entry (same-first e f [] [] n c d r g) r)
@@ -91,7 +91,7 @@ climb-ext e f (a ∷ es) (b ∷ fs) n c d r g =
     ap₂ (λ (x : Entry) (l : List Entry). x ∷ l) (ap₂ entry v r)
     (climb-ext a b es fs n ct dt rr (λ i h k. sym (valueAt-from i e a es h) ∙ g i (omega arith) k ∙ valueAt-from i f b fs (omega arith)))
 
--- sound entries that record the same values are the same
+-- sound entries that record the same values are equal
 pub sound-ext : (es fs : List Entry) (n : ℕ) → entriesSound es n ≡ true → entriesSound fs n ≡ true
     → ((i : ℕ) → i < n → valueAt i es ≡ valueAt i fs) → es ≡ fs
 sound-ext es fs n s t g = go es fs (sound-climb es n s) (sound-climb fs n t) (sound-first es n s) (sound-first fs n t) g
@@ -105,7 +105,7 @@ sound-ext es fs n s t g = go es fs (sound-climb es n s) (sound-climb fs n t) (so
         let b : f .row ≡ 0 = unfold firstRow in q in
         climb-ext e f es fs n c d (omega arith) (λ i h k. g i k)
 
--- they are those rebuilt from the values that they record
+-- sound entries are those rebuilt from the values that they record
 pub rebuilt-same : (vs : List ℕ) (es : List Entry) → entriesSound es (length vs) ≡ true → ((i : ℕ) → i < length vs → getD vs i 0 ≡ valueAt i es) → rebuilt vs ≡ es
 rebuilt-same vs es s g = sound-ext (rebuilt vs) es (length vs) (rebuilt-sound vs up) s (λ i h. rebuilt-valueAt vs up i h ∙ g i h)
   where

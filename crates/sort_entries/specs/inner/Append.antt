@@ -1,4 +1,4 @@
--- What appending promises of the store, said with `push` of its entries. Assumes nothing.
+-- The contract of appending an entry, in terms of `push`. Assumes nothing.
 use Prim.Native.Nat.{ℕ, _+_, _-_, _*_, _≤_, _<_}
 use mathlib.Core.Path.{_≡_, refl, sym, ap, _∙_}
 use mathlib.Core.Bool.{Bool, true, cond}
@@ -13,26 +13,26 @@ use Rattle.sort_entries.specs.Entries.{entriesOf, last, push}
 use Rattle.sort_entries.specs.Laws.Stores.{length-entriesOf, entriesOf-appended, last-entriesOf, last-none}
 use Rattle.sort_entries.specs.Laws.Push.{push-new, push-same, push-few}
 
--- there is place for one entry more
+-- the store has room for one more entry
 pub record Room (store : List ℕ) (n : ℕ) : Type 0 where
   pub few : n < 65536
   pub words : 2 * n + 2 ≤ length store
 
--- the entries with this row's, of which there are then r: exactly two words are written, or none
+-- the store after `push`, with r entries: exactly two words are written, or none
 pub record Append (store : List ℕ) (n value row r : ℕ) (after : List ℕ) : Type 0 where
   pub count : r ≡ length (push value row (entriesOf n store))
   pub cells : after ≡ cond (last (λ v. ltb v value) (entriesOf n store)) (putAt store (2 * n) (value ∷ row ∷ [])) store
   pub entries : entriesOf r after ≡ push value row (entriesOf n store)
   pub past : drop (2 * r) after ≡ drop (2 * r) store
 
--- ---- the ways to return
+-- ---- the return paths
 
--- the last entry's value, as the code reads it
+-- the last entry's value, at the position that the code reads
 last-read : (test : ℕ → Bool) (store : List ℕ) (n : ℕ) → 0 < n → last test (entriesOf n store) ≡ test (getD store (2 * n - 2) 0)
 last-read test store n h = let e : 2 * n - 2 ≡ 2 * (n - 1) = omega arith in rw e (last-entriesOf test n store h)
 
 module _ (store : List ℕ) (n value : ℕ) where
-  -- the value rises: there is no entry, or the last one's value is below
+  -- the value rises: there is no entry, or the last entry's value is lower
   pub rises-none : n ≤ 0 → last (λ v. ltb v value) (entriesOf n store) ≡ true
   rises-none h = last-none (λ v. ltb v value) n store (omega arith)
 
@@ -40,7 +40,7 @@ module _ (store : List ℕ) (n value : ℕ) where
   rises h k = last-read (λ v. ltb v value) store n h ∙ lt-ltb _ _ k
 
 module _ (store : List ℕ) (n value row : ℕ) where
-  -- it does not
+  -- the value does not rise
   pub append-same : 0 < n → value ≤ getD store (2 * n - 2) 0 → Append store n value row n store
   append-same h k =
       let b = last-read (λ v. ltb v value) store n h ∙ le-ltb _ _ k in

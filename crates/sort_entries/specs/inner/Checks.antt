@@ -1,4 +1,4 @@
--- What the checks of entries and of sort cells promise. Assumes nothing.
+-- Contracts of the checks of entries and of sort cells. Assumes nothing.
 use Prim.Native.Nat.{ℕ, _+_, _*_, _≤_, _<_}
 use mathlib.Core.Path.{_≡_}
 use mathlib.Core.Bool.{Bool, true, false, not, _||_, true≢false, false≢true}
@@ -9,7 +9,7 @@ use Rattle.lists.specs.Lists.{every, countFrom, rowAt}
 use Rattle.constraints.specs.Constraints.{isLive}
 use Rattle.sort_entries.specs.Entries.{Entry, entriesOf, valueAt}
 
--- an answer tells whether a claim holds
+-- an answer decides a claim
 pub record Decides (claim : Type 0) (r : Bool) : Type 0 where
   pub yes : r ≡ true → claim
   pub no : r ≡ false → claim → ⊥
@@ -20,24 +20,24 @@ decides-yes p = record { yes = λ e. p; no = λ e q. absurd (true≢false e) }
 pub decides-no : {claim : Type 0} → (claim → ⊥) → Decides claim false
 decides-no f = record { yes = λ e. absurd (false≢true e); no = λ e. f }
 
--- the entry at place i lies below the row count, and above the one before it
+-- the entry at position i is below the row count, and above the one before it
 pub record Follows (store : List ℕ) (rows i : ℕ) : Type 0 where
   pub inside : getD store (2 * i + 1) 0 < rows
   pub value : (k : ℕ) → k + 1 ≡ i → getD store (2 * k) 0 < getD store (2 * i) 0
   pub row : (k : ℕ) → k + 1 ≡ i → getD store (2 * k + 1) 0 < getD store (2 * i + 1) 0
 
--- the first entry's value
+-- the first entry's value, 0 if there is none
 unfoldable pub headValue : List Entry → ℕ
 headValue [] = 0
 headValue (e ∷ es) = e .value
 
--- at place r and after it stands what later rows have to look at, and the entry there holds for this row
+-- the entries before position r are not needed for this row and later ones, and the entry at r applies to this row
 pub record Advanced (store : List ℕ) (n from row r : ℕ) : Type 0 where
   pub inside : r ≤ n
   pub later : (j : ℕ) → row ≤ j → valueAt j (drop from (entriesOf n store)) ≡ valueAt j (drop r (entriesOf n store))
   pub here : valueAt row (drop r (entriesOf n store)) ≡ headValue (drop r (entriesOf n store))
 
--- the row store has the cells of its rows, and the sort column is a column
+-- the row store is long enough for its rows, and the sort column is a column
 pub record Cells (store : List ℕ) (columns sort rows : ℕ) : Type 0 where
   pub narrow : columns ≤ 8
   pub column : sort < columns

@@ -1,4 +1,4 @@
--- What the search for a value and the fast range promise. Assumes nothing.
+-- Contracts of the search for a value and of the fast range. Assumes nothing.
 use Prim.Native.Nat.{ℕ, _*_, _≤_}
 use mathlib.Core.Path.{_≡_}
 use mathlib.Core.Bool.{true}
@@ -11,12 +11,12 @@ use Rattle.sort_entries.specs.declared.Range.{Range}
 use Rattle.sort_entries.specs.Entries.{fastRange, entriesOf, entriesSound}
 use Rattle.sort_entries.specs.Laws.Positions.{Position, found, absent, position}
 
--- the store has the words of its entries
+-- the store is long enough for its entries
 pub record Held (store : List ℕ) (n : ℕ) : Type 0 where
   pub few : n ≤ 65536
   pub words : 2 * n ≤ length store
 
--- the place that an answer names
+-- the position that a search result encodes
 abbrev pub standsAt : Standing → Position
 standsAt (Found first next) = found first next
 standsAt (Absent above) = absent above
@@ -24,7 +24,7 @@ standsAt (Absent above) = absent above
 pub record Stands (store : List ℕ) (n rows v : ℕ) (r : Standing) : Type 0 where
   pub is : entriesSound (entriesOf n store) rows ≡ true → standsAt r ≡ position v (entriesOf n store) rows
 
--- the subset that an answer names
+-- the subset that a range encodes
 abbrev pub rangeOf : Range → Subset
 rangeOf r = range (r .start) (r .end)
 
