@@ -1,8 +1,8 @@
--- Cut the batch anywhere (document 02, change 12): "For batches of inserts alone, merging one batch and then another shall
--- leave the same live rows in the same order as merging both as one, from the same sound table with nothing else pending,
--- provided no call is refused and none of the three merges stops. Row numbers and generation may differ, since compaction falls
--- at other moments. An empty batch on either side is included". As in a history, what is known of a call is what its entry
--- point promises, and nothing else. Assumes nothing.
+-- Cut the batch anywhere (document 02, change 12): "For batches of inserts alone, merging one batch and then another shall leave
+-- the same live rows in the same order as merging both as one, from the same sound table with nothing else pending, provided no
+-- call is refused and none of the three merges stops. Row numbers and generation may differ, since compaction falls at other
+-- moments. An empty batch on either side is included". As in a history, nothing is known of a call but the contract of its entry
+-- point. Assumes nothing.
 use Prim.Native.Nat.{ℕ, _≤_}
 use mathlib.Core.Path.{_≡_}
 use mathlib.Core.List.{List, [], _∷_, _++_, map}
@@ -18,7 +18,7 @@ use Rattle.refresh_spec.specs.Refreshes.{refreshSays}
 use Rattle.history.specs.Histories.{Called, stages, merges, compacts, clears, refreshes, refreshes-unsound, Step, called}
 use Rattle.history.specs.Claim.{liveIn}
 
--- whether a call was refused, by its answer
+-- whether a call was refused, from its answer
 unfoldable pub verdictIn : {s t : Stores} {c : LentCall} → Called s c t → Reply (Unit {0})
 verdictIn (stages r answer pending′ promise) = verdict (tableSays answer)
 verdictIn (merges w answer b′ w′ promise) = verdict (mergeSays answer)
@@ -30,7 +30,7 @@ verdictIn (refreshes-unsound r index answer pending′ index′ promise unsound)
 unfoldable pub verdictOf : {s t : Stores} {c : LentCall} → Step s c t → Reply (Unit {0})
 verdictOf (called rest pending call) = verdictIn call
 
--- the number that a merge answered it had stopped with, 0 if it had not
+-- the number with which a merge stopped, from its answer; 0 if it did not stop
 unfoldable pub statusTold : Reply Merge → ℕ
 statusTold (refused n) = 0
 statusTold (accepted m) = m .status
@@ -46,7 +46,7 @@ statusIn (refreshes-unsound r index answer pending′ index′ promise unsound) 
 unfoldable pub statusOf : {s t : Stores} {c : LentCall} → Step s c t → ℕ
 statusOf (called rest pending call) = statusIn call
 
--- a batch of inserts alone: its rows staged in turn, then a merge; "no call is refused and none of the .. merges stops"
+-- a batch of inserts alone: its rows are staged in order, then merged; "no call is refused and none of the .. merges stops"
 pub data Batch : Stores → List (List ℕ) → Stores → Type 0 where
   merge : {s t : Stores} {l : Lengths} (step : Step s (record { call = merging; lengths = l }) t)
       → verdictOf step ≡ accepted tt → statusOf step ≡ 0 → Batch s [] t

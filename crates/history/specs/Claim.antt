@@ -15,18 +15,18 @@ use Rattle.table.specs.Promises.{Stores}
 use Rattle.history.specs.Histories.{History}
 use Rattle.history.specs.Runs.{Question, refineOne, refineList, intersectWith, intersectRange, refines, Run}
 
--- the live rows of a table as its header and row store have them, numbers and cells
+-- the live rows of a table, read from its header and row store: numbers and cells
 unfoldable pub liveIn : Stores → List Numbered
 liveIn s = liveFrom 0 (rowsIn (s .header) (s .rows))
 
--- a row satisfies an accepted question: it lies in its subset, or meets its conditions, "those of ranges too"
+-- a row satisfies an accepted query: it is in its subset, or meets its conditions, "those of ranges too"
 unfoldable pub satisfies : ℕ → List ℕ → Question → Bool
 satisfies id row (refineOne c) = met row c
 satisfies id row (refineList cs) = every (met row) cs
 satisfies id row (intersectWith subset) = has id (members subset)
 satisfies id row (intersectRange c) = met row c
 
--- a live row that lies "in every accepted subset" and meets "every accepted condition"
+-- a live row that is "in every accepted subset" and meets "every accepted condition"
 unfoldable pub wanted : Stores → List Question → ℕ → Bool
 wanted s accepted id =
     let row = rowAt (s .header .columns) id (s .rows) in

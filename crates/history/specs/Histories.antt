@@ -1,7 +1,7 @@
--- Histories (the order, term 3): "every list of stagings, merges, compactions and clears, stopped and refused ones
--- included, from an accepted opening on, each on the header and the .. stores as the last left them", and (change 2) refreshes, each
--- lent any index store beside them (`Refreshes` says which are sound). What is known of a call is what its entry point promises, and
--- nothing else. Assumes nothing.
+-- Histories (the order, term 3): "every list of stagings, merges, compactions and clears, stopped and refused ones included, from
+-- an accepted opening on, each on the header and the .. stores as the last left them", and (change 2) refreshes, each lent any
+-- index store beside them (`Refreshes` defines which are sound). Nothing is known of a call but the contract of its entry point.
+-- Assumes nothing.
 use Prim.Native.Nat.{ℕ}
 use mathlib.Core.List.{List, [], _∷_, _++_}
 use lib.ListN.{length}
@@ -17,8 +17,8 @@ use Rattle.refresh_spec.specs.Index.{IndexSound}
 use Rattle.refresh_spec.specs.Refreshes.{refreshSays, recordsFound, recordsStaged, headerRefreshed, Refreshing}
 use Rattle.table.specs.Promises.{Stores, stores, Body, body, bodyOf, joined, CompactionWords, compactionWords, lengthsLent, headerAfter, headerMerged, Opened, Staging, Merging, Compacting, Clearing}
 
--- one call: from what it is lent to what it leaves there, by the promise of its entry point, with the stores' lengths. A store
--- that it is not lent is as it was
+-- One call, by the contract of its entry point: the lent stores before and after it, and their lengths. A store that it is not lent
+-- is unchanged.
 pub data Called (s : Stores) : LentCall → Stores → Type 0 where
   stages : (r : Staged) (answer : TableAnswer) (pending′ : List ℕ) → Staging (s .header) (s .pending) r answer pending′
       → Called s
@@ -49,22 +49,22 @@ pub data Called (s : Stores) : LentCall → Stores → Type 0 where
       (record { call = feeding (recordsStaged (refreshSays answer) (recordsFound (s .header) (s .rows) r (m .found))); lengths = lengthsLent s (compactionWords [] []) })
       (joined (headerRefreshed (s .header) (refreshSays answer)) (bodyOf s) pending′)
 
--- stores with more cells behind
+-- stores with more cells behind each
 abbrev pub behind : Stores → Body → List ℕ → Stores
 behind s rest pending =
     stores (s .header) (s .rows ++ rest .rows) (s .keys ++ rest .keys) (s .sorts ++ rest .sorts) (s .pending ++ pending)
 
--- A step lends a first part of each store to its call, for each call any part, so that a call may be refused for a store
--- that the next one is lent more of. The cells behind it stay as they are.
+-- A step lends its call a first part of each store. The part may differ from call to call, so a call may be refused for a store of
+-- which the next call is lent more. The cells behind that part are unchanged.
 pub data Step : Stores → LentCall → Stores → Type 0 where
   called : {s t : Stores} {c : LentCall} (rest : Body) (pending : List ℕ) → Called s c t → Step (behind s rest pending) c (behind t rest pending)
 
--- the calls one after another, the first one first
+-- calls in order
 pub data Steps : Stores → List LentCall → Stores → Type 0 where
   end : (s : Stores) → Steps s [] s
   next : {s t u : Stores} {c : LentCall} {cs : List LentCall} → Step s c t → Steps t cs u → Steps s (c ∷ cs) u
 
--- from an accepted opening on, which is lent a first part of each store too
+-- the calls after an accepted opening, which is lent a first part of each store too
 pub record History (o : Opening) (generation : ℕ) (calls : List LentCall) (s : Stores) : Type 0 where
   pub start : Stores
   pub keys-before : List ℕ

@@ -1,5 +1,5 @@
--- Change 9, "Flash wears by rows rewritten": what the calls of a history kept and dropped, beside the rows appended: merges by
--- their answers, the caller's compactions and clears by the header that they found. Assumes nothing.
+-- Change 9, "Flash wears by rows rewritten": the rows that the calls of a history kept and dropped, and the rows appended. Merges
+-- are counted by their answers, the caller's compactions and clears by the header before the call. Assumes nothing.
 use Prim.Native.Nat.{ℕ, _+_, _≤_}
 use mathlib.Core.Path.{_≡_}
 use mathlib.Core.List.{List}
@@ -12,9 +12,9 @@ use Rattle.table.specs.Numbers.{tableSays, mergeSays}
 use Rattle.table.specs.Promises.{Stores}
 use Rattle.history.specs.Histories.{Called, stages, merges, compacts, clears, refreshes, refreshes-unsound, called, Steps, end, next, History}
 
--- what is counted of calls
+-- the row counts of calls
 pub record Wear : Type 0 where
-  -- "how many rows its own compaction kept .. and how many it dropped": the answers of merges
+  -- "how many rows its own compaction kept .. and how many it dropped": from the answers of merges
   pub kept : ℕ
   pub dropped : ℕ
   -- dead rows dropped by "compactions asked for by the caller"
@@ -25,12 +25,12 @@ pub record Wear : Type 0 where
 abbrev pub wear : ℕ → ℕ → ℕ → ℕ → Wear
 wear kept dropped compacted emptied = record { kept = kept; dropped = dropped; compacted = compacted; emptied = emptied }
 
--- of an answer: a refused call counts nothing
+-- the counts of an answer; a refused call counts nothing
 unfoldable pub counted : {A : Type 0} → Reply A → (A → Wear) → Wear
 counted (refused n) f = wear 0 0 0 0
 counted (accepted a) f = f a
 
--- of one call: the caller's compaction drops all dead rows, a clear all rows
+-- the counts of one call: the caller's compaction drops all dead rows, a clear drops all rows
 unfoldable pub ofCall : {s t : Stores} {c : LentCall} → Called s c t → Wear
 ofCall (stages r answer pending′ m) = wear 0 0 0 0
 ofCall (merges w answer b′ w′ m) = counted (mergeSays answer) (λ a. wear (a .kept) (a .dropped) 0 0)
@@ -39,7 +39,7 @@ ofCall {s} (clears answer keys′ m) = counted (tableSays answer) (λ h. wear 0 
 ofCall (refreshes r index answer pending′ index′ m sound) = wear 0 0 0 0
 ofCall (refreshes-unsound r index answer pending′ index′ m unsound) = wear 0 0 0 0
 
--- of all the calls
+-- the counts of all calls
 unfoldable pub ofSteps : {s t : Stores} {cs : List LentCall} → Steps s cs t → Wear
 ofSteps (end s) = wear 0 0 0 0
 ofSteps (next (called rest pending c) steps) =
@@ -47,7 +47,7 @@ ofSteps (next (called rest pending c) steps) =
     let b = ofSteps steps in
     wear (a .kept + b .kept) (a .dropped + b .dropped) (a .compacted + b .compacted) (a .emptied + b .emptied)
 
--- the plain table that the calls begin with, what was counted of them, and the rows in the store after them
+-- `p` is the plain table before the calls, `w` are the counts of the calls, `rows` is the row count after them
 pub record Priced (p : Plain) (calls : List LentCall) (w : Wear) (rows : ℕ) : Type 0 where
   -- "kept and dropped counts in the merge result equal the definition's, summed over a history"
   pub kept-sum : w .kept ≡ overMerges mergeKeeps p calls

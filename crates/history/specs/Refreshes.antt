@@ -1,6 +1,6 @@
--- Index stores in a history (document 02, change 2): "An index store that was not new when this table first took it since its latest
--- opening, or that another has written since, joins the unsound stores". All others are sound whenever they are lent, and a refresh over
--- them does what the plain table does. Assumes nothing.
+-- Index stores in a history (document 02, change 2): "An index store that was not new when this table first took it since its
+-- latest opening, or that another has written since, joins the unsound stores". All others are sound whenever they are lent, and a
+-- refresh over them has the effect of the plain table's refresh. Assumes nothing.
 use Prim.Native.Nat.{ℕ, _<_}
 use mathlib.Core.Path.{_≡_}
 use mathlib.Core.Bool.{true}
@@ -23,8 +23,9 @@ use Rattle.history.specs.Histories.{behind, Step, History}
 abbrev pub ownRefresh : Stores → List ℕ → Refresh → LentCall
 ownRefresh t lent r = record { call = refreshing r (length lent); lengths = lengthsLent t (compactionWords [] []) }
 
--- A history, the stores that it leaves, and an index store that the table took at a moment when that was new: other calls leave it as it
--- is, also refreshes over other index stores; a refresh over it may be lent any first part of it, as of the row and pending stores.
+-- A history, the stores after it, and an index store that was new when the table took it. Other calls leave the index store
+-- unchanged, also refreshes over other index stores. A refresh over it may be lent any first part of it, as of the row and pending
+-- stores.
 pub data Kept (o : Opening) (generation : ℕ) : List LentCall → Stores → List ℕ → Type 0 where
   taken : {calls : List LentCall} {s : Stores} (index : List ℕ) → History o generation calls s → isNew index ≡ true → Kept o generation calls s index
   waits : {calls : List LentCall} {t u : Stores} {index : List ℕ} {c : LentCall} → Kept o generation calls t index → Step t c u
@@ -37,8 +38,8 @@ pub data Kept (o : Opening) (generation : ℕ) : List LentCall → Stores → Li
 abbrev pub holding : Plain → List ℕ → ℕ → List ℕ
 holding p columns value = map (λ row. row .number) (keep (λ row. mentions columns (value ∷ []) (row .cells)) (liveRows p))
 
--- What a refresh over such a store does, on a table that stands for the plain table p: "the plain table stages these records of its own
--- rows", or refuses by the same number
+-- The effect of a refresh over such a store, on a table that represents the plain table p: "the plain table stages these records of
+-- its own rows", or refuses with the same number.
 module _ (p : Plain) (t : Stores) (r : Refresh) (lent : List ℕ) where
   abbrev pub ownRefusal : ℕ
   ownRefusal = refusal p (ownRefresh t lent r .lengths) (ownRefresh t lent r .call)
@@ -47,13 +48,13 @@ module _ (p : Plain) (t : Stores) (r : Refresh) (lent : List ℕ) where
     pub answers : refreshSays answer ≡ reply ownRefusal (answered (t .header) (recordsOf p r))
     pub unchanged : 0 < ownRefusal → (pending′ ≡ t .pending) × (lent′ ≡ lent)
     pub staged : ownRefusal ≡ 0 → pending′ ≡ putAt (t .pending) (t .header .pending) (flat (map (recordWords (t .header .keys)) (recordsOf p r)))
-    -- it leaves "such an index of the version last seen", by which a lookup finds the rows that hold a value
+    -- it leaves "such an index of the version last seen", in which a lookup finds the rows that hold a value
     pub current : ownRefusal ≡ 0 → Current (t .header) (t .rows) (r .columns) lent′
     pub looked-up : ownRefusal ≡ 0 → (value : ℕ) → lookedUp (t .header) (t .rows) lent′ value ≡ holding p (r .columns) value
 
--- what holds of every such store
+-- what holds for every such store
 pub record KeptIndexes : Type 0 where
-  -- it is sound, whatever part of the stores is lent then, and whichever columns are named; so the calls are those of a history
+  -- It is sound, whatever part of the stores is lent and whichever columns are named. So the calls are those of a history.
   pub sound : (o : Opening) (generation : ℕ) (calls : List LentCall) (t : Stores) (rest : Body) (pending lent more columns : List ℕ)
       → Kept o generation calls (behind t rest pending) (lent ++ more) → IndexSound (t .header) (t .rows) columns lent
   pub history : (o : Opening) (generation : ℕ) (calls : List LentCall) (s : Stores) (index : List ℕ)

@@ -1,6 +1,6 @@
--- Runs of questions (the order, term 3): "take any starting subset and any list of steps. A step refines by a condition or
--- by a list of them (an empty one will do), or intersects with a subset of ours or a condition's sort-column range; each works
--- on the ids that the last accepted one left, and a refused one counts for nothing". Assumes nothing.
+-- Runs of queries (the order, term 3): "take any starting subset and any list of steps. A step refines by a condition or by a list
+-- of them (an empty one will do), or intersects with a subset of ours or a condition's sort-column range; each works on the ids
+-- that the last accepted one left, and a refused one counts for nothing". Assumes nothing.
 use Prim.Native.Nat.{ℕ}
 use mathlib.Core.Path.{_≡_}
 use mathlib.Core.Bool.{Bool, true, false}
@@ -24,14 +24,14 @@ pub data Question : Type 0 where
   intersectWith : Subset → Question
   intersectRange : Constraint → Question
 
--- whether it is a step that "refines"
+-- whether the query is a step that "refines"
 unfoldable pub refines : Question → Bool
 refines (refineOne c) = true
 refines (refineList cs) = true
 refines (intersectWith b) = false
 refines (intersectRange c) = false
 
--- a refused question leaves the ids that were there, and counts for nothing
+-- a refused query leaves the ids unchanged and counts for nothing
 unfoldable pub left : Subset → Reply Subset → Subset
 left before (refused n) = before
 left before (accepted subset) = subset
@@ -46,10 +46,9 @@ Intersected a b output answer output′ =
     Answered (intersectReply a b (length output)) output answer output′
     ⊎ Answered (intersectReply b a (length output)) output answer output′
 
--- One question on a table, on the ids that are left: the ids that it leaves, and the question itself if it counts. Each has an
--- output of its own and is lent the first `lent` cells of a store, all of them where it has no more, so that a question may be
--- refused for a store that the next one is lent more of.
--- "where [the fast range] is *none*, the step and its condition count for nothing", as where it is refused
+-- One query on a table, on the current ids: the ids after it, and the query itself if it counts. Each query has its own output and
+-- is lent the first `lent` cells of a store, or all of them if it has no more. So a query may be refused for a store of which the
+-- next one is lent more. "where [the fast range] is *none*, the step and its condition count for nothing", as if it is refused
 pub data Asked (s : Stores) (a : Subset) : Question → Subset → List Question → Type 0 where
   one-refined : (c : Constraint) (lent : ℕ) (output output′ : List ℕ) (answer : SubsetAnswer)
       → RefinedOne (s .header) (take lent (s .rows)) a c output answer output′
@@ -67,8 +66,8 @@ pub data Asked (s : Stores) (a : Subset) : Question → Subset → List Question
       → RangeRead (s .header) (take lent (s .sorts)) c range → ((b : Subset) → rangeSays range ≡ accepted (some b) → ⊥)
       → Asked s a (intersectRange c) a []
 
--- the questions one after another, and those that were accepted; each may be put on any subset that has the ids left, a range or
--- a list: a caller may copy the ids of one form into the other
+-- The queries in order, and those that were accepted. Each query may take any subset with the current ids, a range or a list: a
+-- caller may copy the ids from one form into the other.
 pub data Run (s : Stores) : Subset → List Question → Subset → List Question → Type 0 where
   end : (a : Subset) → Run s a [] a []
   next : {a b b′ c : Subset} {q : Question} {qs counted rest : List Question}

@@ -1,4 +1,4 @@
--- Change 7, "Our archive must not run backwards": what any history leaves of stamps. Assumes nothing.
+-- Change 7, "Our archive must not run backwards": the stamps after any history. Assumes nothing.
 use Prim.Native.Nat.{ℕ, _≤_, _<_}
 use mathlib.Core.Path.{_≡_}
 use mathlib.Core.List.{List, []}

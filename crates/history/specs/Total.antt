@@ -1,5 +1,5 @@
--- Every outcome of a call that meets the contract of its entry point is a call of a history: of any lent stores, any arguments and any
--- answer. So a history leaves out nothing that a program can do. Assumes nothing.
+-- Every outcome of a call that meets the contract of its entry point is a call of a history, for any lent stores, any arguments and
+-- any answer. So histories include everything that a program can do. Assumes nothing.
 use Prim.Native.Nat.{ℕ}
 use mathlib.Core.List.{List}
 use Rattle.plain_table.specs.Staged.{Staged}
@@ -13,7 +13,7 @@ use Rattle.refresh_spec.specs.declared.RefreshAnswer.{RefreshAnswer}
 use Rattle.refresh_spec.specs.Refreshes.{refreshSays, headerRefreshed, Refreshing}
 use Rattle.history.specs.Histories.{Called}
 
--- some call of a history takes the one to the other
+-- some call of a history takes s to t
 abbrev pub CallTo : Stores → Stores → Type 0
 CallTo s t = (c : LentCall) × Called s c t
 

@@ -1,1 +1,1 @@
-// Histories of calls and runs of questions, and what is claimed of them, in specs/. No functions.
+// Histories of calls, runs of queries, and the claims about them, in specs/. No functions.

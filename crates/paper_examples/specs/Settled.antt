@@ -1,5 +1,5 @@
--- The twelve settled examples of document 01, (a) to (l), as data, and the test whether one comes out as the paper says.
--- The definitions that it runs are those that the contracts cite. Assumes nothing.
+-- The twelve examples of document 01, (a) to (l), as data, and the test whether an example has the result that the paper gives. The
+-- definitions that it runs are those that the contracts cite. Assumes nothing.
 use Prim.Native.Nat.{ℕ, suc, _-_}
 use mathlib.Core.Bool.{Bool, true, false, _&&_, Bool·beq}
 use mathlib.Core.Option.{Option, none, some}
@@ -27,13 +27,13 @@ pub data Example : Type 0 where
   compacts : ℕ → ℕ → Example
   -- two subsets and their intersection
   intersects : Subset → Subset → Subset → Example
-  -- a table of one column with these cells, and the rows of a range whose cell is 7: refined by one, and by a list
+  -- the cells of a table of one column, a range, and its rows whose cell is 7: refined by one, and by a list
   refines : List ℕ → Subset → Subset → Subset → Example
-  -- a subset of a table of so many live rows, a start place, n, the ids written and the next place
+  -- the number of live rows of a table, a subset of it, a start place, n, the ids written and the next place
   pages : ℕ → Subset → ℕ → ℕ → List ℕ → Option ℕ → Example
   -- dead rows, row count, and whether a merge of such a table, with nothing staged, compacts
   goes : ℕ → ℕ → Bool → Example
-  -- which rows are live, a row, and its number after a compaction: as the rows close up, and by its word of live marks
+  -- which rows are live, a row, and its number after a compaction: as the rows close up, and by its word of the bitmap of live rows
   renumbers : List Bool → ℕ → ℕ → Example
   -- sort entries, row count, kind, value, and the fast range
   ranges : List Entry → ℕ → ℕ → ℕ → Subset → Example
@@ -97,21 +97,21 @@ abbrev pub isPage : Reply PageReply → ℕ → Option ℕ → Bool
 isPage (refused n) written next = false
 isPage (accepted page) written next = eqb (page .written) written && sameNext (page .next) next
 
--- live rows with these cells, numbered from n
+-- these are live rows with these cells, numbered from n
 unfoldable pub areRows : ℕ → List Numbered → List (List ℕ) → Bool
 areRows n [] [] = true
 areRows n [] (cells ∷ rest) = false
 areRows n (row ∷ rows) [] = false
 areRows n (row ∷ rows) (cells ∷ rest) = eqb (row .number) n && same (row .cells) cells && areRows (suc n) rows rest
 
--- the tables that the examples speak of
+-- the tables that the examples use
 
--- a table of one column and so many rows
+-- the header of a table of one column with this many rows
 abbrev pub oneColumn : ℕ → Header
 oneColumn rows =
     record { columns = 1; keys = 1; sort = 0; rule = 0; capacity = 100; rows = rows; dead = 0; entries = 0; pending = 0; generation = 0; largest = NoLargest }
 
--- a row store that begins with these cells, and has room for 100 more
+-- a row store that begins with these cells, followed by 100 more
 abbrev pub padded : List ℕ → List ℕ
 padded cells = cells ++ countFrom 0 100
 
@@ -138,7 +138,7 @@ unfoldable pub numbered : ℕ → List Bool → List Row
 numbered n [] = []
 numbered n (live ∷ lives) = record { live = live; cells = n ∷ [] } ∷ numbered (suc n) lives
 
--- so many dead rows, and live ones up to a row count
+-- this many dead rows, followed by live ones up to a row count
 abbrev pub lives : ℕ → ℕ → List Bool
 lives dead rows = replicate dead false ++ replicate (rows - dead) true
 
@@ -152,7 +152,7 @@ abbrev pub mergeAfter : List (List ℕ) → List (List ℕ) → Inserted
 mergeAfter before now =
     merged (afterAll (afterAll (afterAll (opened levels 0) (stagings before)) mergeCall) (stagings now))
 
--- an example comes out as the paper says
+-- an example has the result that the paper gives
 unfoldable pub comesOut : Example → Bool
 comesOut (compacts full hash) = eqb (compact full) hash
 comesOut (intersects a b answer) = isSubset (intersectReply a b 100) answer

@@ -1,1 +1,1 @@
-// The paper's twelve settled examples, proved in specs/. No functions.
+// The paper's twelve examples, proved in specs/. No functions.

@@ -1,6 +1,6 @@
--- The rows that calls append, taken from the steps of each merge's inserts on the plain table: how many, with the other numbers of
--- merges summed along calls (change 9), and the sort values appended "since opening or the last clear that emptied rows" (change 7).
--- Assumes nothing.
+-- The rows that calls append, computed from the insert steps of each merge on the plain table: their number, with the other counts
+-- of merges summed over calls (change 9), and the sort values appended "since opening or the last clear that emptied rows" (change
+-- 7). Assumes nothing.
 use Prim.Native.Nat.{ℕ, _+_}
 use mathlib.Core.Bool.{cond}
 use mathlib.Core.List.{List, [], _∷_, _++_, map}
@@ -13,7 +13,7 @@ use Rattle.plain_table.specs.Plain.{Plain, insertion, removed, raised}
 use Rattle.plain_table.specs.Calls.{Call, staging, merging, compacting, clearing, refreshing, feeding, LentCall, refusal, after}
 use Rattle.plain_table.specs.Proper.{rowOf}
 
--- what an insert adds to the rows appended, and what those after it do: the row appended is the one after the rows there were
+-- the rows appended by an insert with this reply and by the inserts after it; an appended row is located right after the rows of p
 abbrev pub appendsOn : Reply (Option Plain) → Plain → (Plain → List (List ℕ)) → List (List ℕ)
 appendsOn (refused number) p rest = []
 appendsOn (accepted none) p rest = rest p
@@ -28,7 +28,7 @@ insertsAppend (cells ∷ rest) p = appendsOn (insertion cells p) p (insertsAppen
 unfoldable pub mergeAppends : Plain → List (List ℕ)
 mergeAppends p = insertsAppend (inserts (p .staged)) (removed p)
 
--- a number of a merge, taken of the plain table before it; 0 of any other call
+-- a number of a merge, computed from the plain table before it; 0 for any other call
 unfoldable pub ofMerge : (Plain → ℕ) → Plain → Call → ℕ
 ofMerge number p (staging r) = 0
 ofMerge number p merging = number p
@@ -37,16 +37,16 @@ ofMerge number p clearing = 0
 ofMerge number p (refreshing r index) = 0
 ofMerge number p (feeding rs) = 0
 
--- 0 too if it is refused
+-- the same with the lengths of the stores; 0 too if the call is refused
 unfoldable pub ofAccepted : (Plain → ℕ) → Plain → LentCall → ℕ
 ofAccepted number p c = cond (eqb (refusal p (c .lengths) (c .call)) 0) (ofMerge number p (c .call)) 0
 
--- (change 9) the sum of such numbers along the calls
+-- (change 9) the sum of such numbers over the calls
 unfoldable pub overMerges : (Plain → ℕ) → Plain → List LentCall → ℕ
 overMerges number p [] = 0
 overMerges number p (c ∷ cs) = ofAccepted number p c + overMerges number (after p (c .lengths) (c .call)) cs
 
--- "The rows appended are taken from the definition of each merge's steps": how many
+-- "The rows appended are taken from the definition of each merge's steps": their number
 abbrev pub mergeAdds : Plain → ℕ
 mergeAdds p = length (mergeAppends p)
 
@@ -54,7 +54,7 @@ mergeAdds p = length (mergeAppends p)
 abbrev pub stampsOf : Plain → List (List ℕ) → List ℕ
 stampsOf p rows = map (λ cells. getD cells (p .opening .sort) 0) rows
 
--- the sort values appended "since opening or the last clear that emptied rows", before a call and after it
+-- the sort values appended "since opening or the last clear that emptied rows": those after an accepted call, from those before it
 unfoldable pub stampsDone : List ℕ → Plain → Call → List ℕ
 stampsDone before p (staging r) = before
 stampsDone before p merging = before ++ stampsOf p (mergeAppends p)
@@ -66,12 +66,12 @@ stampsDone before p (feeding rs) = before
 unfoldable pub stampsAfter : List ℕ → Plain → LentCall → List ℕ
 stampsAfter before p c = cond (eqb (refusal p (c .lengths) (c .call)) 0) (stampsDone before p (c .call)) before
 
--- after all the calls, the first one first
+-- those after all calls, in order
 unfoldable pub stampsSince : List ℕ → Plain → List LentCall → List ℕ
 stampsSince before p [] = before
 stampsSince before p (c ∷ cs) = stampsSince (stampsAfter before p c) (after p (c .lengths) (c .call)) cs
 
--- the largest of these, if there is one
+-- the largest of a list of values; none if the list is empty
 unfoldable pub greatest : List ℕ → Option ℕ
 greatest [] = none
 greatest (v ∷ vs) = some (raised v (greatest vs))

@@ -1,5 +1,5 @@
--- Calls on a plain table: "stagings, merges, compactions and clears, stopped and refused ones included", and (change 2) refreshes. A
--- refusal changes nothing. Assumes nothing.
+-- Calls on a plain table: "stagings, merges, compactions and clears, stopped and refused ones included", and (change 2) refreshes.
+-- A refusal changes nothing. Assumes nothing.
 use Prim.Native.Nat.{ℕ}
 use mathlib.Core.Bool.{false, cond}
 use mathlib.Core.List.{List, [], _∷_, _++_}
@@ -15,14 +15,14 @@ use Rattle.plain_table.specs.Refreshing.{Refresh, mentioning, refreshed,
 pub data Call : Type 0 where
   staging : Staged → Call
   merging compacting clearing : Call
-  -- "A refresh joins demand 3's list: the plain table stages these records of its own rows"; beside it is the length of the index
-  -- store that it is lent
+  -- "A refresh joins demand 3's list: the plain table stages these records of its own rows". The number is the length of the lent
+  -- index store.
   refreshing : Refresh → ℕ → Call
-  -- "Over such an unsound index store, and nowhere else, it is fed the records that the call staged, all of them whole": what is not
-  -- whole would be turned away by 3, but no refresh stages such a record (`history` law `fed-right`)
+  -- "Over such an unsound index store, and nowhere else, it is fed the records that the call staged, all of them whole". A record
+  -- that is not whole is refused with 3, but no refresh stages one (`history` law `fed-right`).
   feeding : List Staged → Call
 
--- its pending words used
+-- the number of pending words in use
 abbrev pub used : Plain → ℕ
 used p = wordsAll (p .opening) (p .staged)
 
@@ -30,12 +30,12 @@ used p = wordsAll (p .opening) (p .staged)
 abbrev pub recordsOf : Plain → Refresh → List Staged
 recordsOf p r = refreshed (p .opening) (r .stamp) (mentioning r p)
 
--- all of these are staged, in order
+-- stages all these records, in order
 unfoldable pub stageAll : Plain → List Staged → Plain
 stageAll p rs = with p (p .generation) (p .rows) (p .staged ++ rs) (p .largest)
 
--- the first number that applies, 0 if none. All that is left of test 1 on a table that was opened is "pending words used above
--- the pending store"
+-- The number of the first refusal that applies, 0 if none. On a table that was opened, test 1 is only "pending words used above the
+-- pending store".
 unfoldable pub refusal : Plain → Lengths → Call → ℕ
 refusal p l (staging r) = stageLadder (ltb (l .pending) (used p)) (p .opening) (length (p .rows)) (used p) (l .pending) r
 refusal p l merging = mergeLadder (ltb (l .pending) (used p)) (p .opening) l
@@ -45,7 +45,7 @@ refusal p l (refreshing r index) =
     refreshLadder (ltb (l .pending) (used p)) (p .opening) (p .largest) r (l .rows) index (used p) (l .pending) (wordsAll (p .opening) (recordsOf p r))
 refusal p l (feeding rs) = first (rung (any (wrongWidth (p .opening)) rs) 3 ∷ [])
 
--- what an accepted call leaves
+-- the table after an accepted call
 unfoldable pub done : Plain → Call → Plain
 done p (staging r) = stage p r
 done p merging = merged p .table
@@ -57,12 +57,12 @@ done p (feeding rs) = stageAll p rs
 unfoldable pub after : Plain → Lengths → Call → Plain
 after p l c = cond (eqb (refusal p l c) 0) (done p c) p
 
--- a call and the lengths of stores: those that it is lent are the ones that its ladder looks at
+-- a call and the lengths of the stores; its checks read only the lengths of the stores that it is lent
 pub record LentCall : Type 0 where
   pub call : Call
   pub lengths : Lengths
 
--- all the calls, the first one first
+-- the table after all calls, in order
 unfoldable pub afterAll : Plain → List LentCall → Plain
 afterAll p [] = p
 afterAll p (c ∷ cs) = afterAll (after p (c .lengths) (c .call)) cs

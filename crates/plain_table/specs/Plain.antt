@@ -1,5 +1,4 @@
--- The plain table (document 01, "Plain table"): what a table is, with no header, no store and no key index. Assumes
--- nothing.
+-- The plain table (document 01, "Plain table"): a table without header, stores and key index. Assumes nothing.
 use Prim.Native.Nat.{ℕ, zero, suc, _+_, max}
 use mathlib.Core.Bool.{Bool, true, false, cond, not, _&&_}
 use mathlib.Core.List.{List, [], _∷_, _++_, map, foldl}
@@ -28,7 +27,7 @@ pub record Plain : Type 0 where
   pub staged : List Staged
   pub largest : Option ℕ
 
--- the same opening, with other parts
+-- the table with the same opening and other parts
 abbrev pub with : Plain → ℕ → List Row → List Staged → Option ℕ → Plain
 with p generation rows staged largest =
     record { opening = p .opening; generation = generation; rows = rows; staged = staged; largest = largest }
@@ -36,7 +35,7 @@ with p generation rows staged largest =
 abbrev pub withRows : Plain → List Row → Plain
 withRows p rows = with p (p .generation) rows (p .staged) (p .largest)
 
--- what is asked of it: the live rows, numbers and cells, rising
+-- the observable content: the live rows in rising order, with number and cells
 pub record Numbered : Type 0 where
   pub number : ℕ
   pub cells : List ℕ
@@ -77,7 +76,7 @@ liveWithKey keys key row = row .live && hasKey keys key (row .cells)
 unfoldable pub killIf : (Row → Bool) → List Row → List Row
 killIf test rows = map (λ row. cond (test row) (deadRow row) row) rows
 
--- what a staged record does where removals by key are taken
+-- applies a removal by key; ignores other records
 unfoldable pub withoutKey : Plain → Staged → Plain
 withoutKey p (insert cells) = p
 withoutKey p (removeKey key) = withRows p (killIf (liveWithKey (p .opening .keys) key) (p .rows))
@@ -89,14 +88,13 @@ dies keys key number [] = []
 dies keys key zero (row ∷ rows) = cond (liveWithKey keys key row) (deadRow row) row ∷ rows
 dies keys key (suc number) (row ∷ rows) = row ∷ dies keys key number rows
 
--- what it does where removals by row are taken
+-- applies a removal by row; ignores other records
 unfoldable pub withoutRow : Plain → Staged → Plain
 withoutRow p (insert cells) = p
 withoutRow p (removeKey key) = p
 withoutRow p (removeRow row key) = withRows p (dies (p .opening .keys) key row (p .rows))
 
--- "takes removals by key, then removals by row, .. each in staging order": `foldl` takes the records one after another, from the
--- first on
+-- "takes removals by key, then removals by row, .. each in staging order": `foldl` applies the records in order
 unfoldable pub removed : Plain → Plain
 removed p = foldl withoutRow (foldl withoutKey p (p .staged)) (p .staged)
 
@@ -113,20 +111,20 @@ stop cells p =
     ∷ rung (below (getD cells (p .opening .sort) 0) (p .largest)) 9
     ∷ [])
 
--- the largest value, once this one is appended too
+-- the largest value after this one is appended
 unfoldable pub raised : ℕ → Option ℕ → ℕ
 raised value none = value
 raised value (some largest) = max value largest
 
--- the table with this row after these
+-- the table with these rows followed by a live row of these cells
 abbrev pub withRow : Plain → List Row → List ℕ → Plain
 withRow p rows cells =
     with p (p .generation) (rows ++ (record { live = true; cells = cells } ∷ [])) (p .staged) (some (raised (getD cells (p .opening .sort) 0) (p .largest)))
 
--- What an insert does: refused, it stops the merge with that number; accepted, it leaves a table with a row more, or none where
--- nothing changes.
+-- The result of an insert: `refused` with the number that stops the merge, or `accepted` with the table that has one more row, or
+-- with none if nothing changes.
 
--- a row that must be appended, and the rows that it is appended to
+-- appends a row to these rows, unless that stops
 unfoldable pub append : List ℕ → Plain → List Row → Reply (Option Plain)
 append cells p rows = reply (stop cells p) (some (withRow p rows cells))
 
@@ -142,8 +140,8 @@ put cells (some old) p =
 unfoldable pub insertion : List ℕ → Plain → Reply (Option Plain)
 insertion cells p = cond (skipped cells) (accepted none) (put cells (lookup p (take (p .opening .keys) cells)) p)
 
--- what the inserts of a merge leave: the table, the stop's number and place ("both 0 if not stopped"), and "*added*: a row
--- was appended"
+-- the result of a merge's inserts: the table, the stop's number and place ("both 0 if not stopped"), and "*added*: a row was
+-- appended"
 pub record Inserted : Type 0 where
   pub table : Plain
   pub status : ℕ
@@ -153,13 +151,13 @@ pub record Inserted : Type 0 where
 abbrev pub inserted : Plain → ℕ → ℕ → Bool → Inserted
 inserted p status place added = record { table = p; status = status; place = place; added = added }
 
--- what comes of an insert at a place: the rest goes on, or the merge stops there
+-- continues with the remaining inserts, or stops the merge at this place
 abbrev pub goOn : Reply (Option Plain) → ℕ → Bool → Plain → (Bool → Plain → Inserted) → Inserted
 goOn (refused number) place added p rest = inserted p number place added
 goOn (accepted none) place added p rest = rest added p
 goOn (accepted (some p′)) place added p rest = rest true p′
 
--- the inserts from this place on, "among all staged inserts from 0", until one must be appended and cannot be
+-- the inserts from this place on, counted "among all staged inserts from 0", until one must be appended and cannot be
 unfoldable pub insertAll : List (List ℕ) → ℕ → Bool → Plain → Inserted
 insertAll [] place added p = inserted p 0 0 added
 insertAll (cells ∷ rest) place added p = goOn (insertion cells p) place added p (insertAll rest (suc place))
@@ -175,25 +173,25 @@ compacted p = with p (p .generation + 1) (keep (λ row. row .live) (p .rows)) (p
 unfoldable pub unstaged : Plain → Plain
 unstaged p = with p (p .generation) (p .rows) [] (p .largest)
 
--- whether a merge whose inserts leave this compacts: if it stopped, "no compaction follows"
+-- whether a merge compacts if its inserts have this status and leave this table: if it stopped, "no compaction follows"
 unfoldable pub compactsAfter : ℕ → Plain → Bool
 compactsAfter status p = eqb status 0 && due (dead p) (length (p .rows)) (p .generation)
 
--- what a merge leaves: stopped or not, "pending is emptied"
+-- the result of a merge: stopped or not, "pending is emptied"
 unfoldable pub merged : Plain → Inserted
 merged p =
     let m = applied p in
     inserted (cond (compactsAfter (m .status) (m .table)) (compacted (unstaged (m .table))) (unstaged (m .table))) (m .status) (m .place) (m .added)
 
--- (change 9) "how many rows its own compaction kept, 0 if there was none, and how many it dropped": those live and those dead
--- at that moment
+-- (change 9) "how many rows its own compaction kept, 0 if there was none, and how many it dropped": the live and the dead rows
+-- before that compaction
 unfoldable pub mergeKeeps : Plain → ℕ
 mergeKeeps p = let m = applied p in cond (compactsAfter (m .status) (m .table)) (live (m .table)) 0
 
 unfoldable pub mergeDrops : Plain → ℕ
 mergeDrops p = let m = applied p in cond (compactsAfter (m .status) (m .table)) (dead (m .table)) 0
 
--- Clear: "Unless refused, empties pending; with rows, the rest too, and the generation rises by one". With rows nothing is
--- left but the opening's numbers and the generation; without, the largest value stays
+-- Clear: "Unless refused, empties pending; with rows, the rest too, and the generation rises by one". With rows, only the opening's
+-- numbers and the generation remain; without rows, the largest value remains too.
 unfoldable pub cleared : Plain → Plain
 cleared p = cond (ltb 0 (length (p .rows))) (opened (p .opening) (p .generation + 1)) (unstaged p)

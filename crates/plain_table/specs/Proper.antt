@@ -1,4 +1,4 @@
--- What is true of every plain table that calls lead to from an opening whose generation is a u32. Assumes nothing.
+-- The invariant of plain tables: it holds after any calls from an opening whose generation is a u32. Assumes nothing.
 use Prim.Native.Nat.{ℕ, _≤_, _<_}
 use mathlib.Core.Path.{_≡_}
 use mathlib.Core.Bool.{Bool, true, false, not, _||_}
@@ -12,7 +12,7 @@ use Rattle.plain_table.specs.Staged.{openable}
 use Rattle.plain_table.specs.Refusing.{wrongWidth}
 use Rattle.plain_table.specs.Plain.{Row, Plain}
 
--- row i, a dead one of no cells past the end
+-- row i; past the end, a dead row without cells
 abbrev pub rowOf : Plain → ℕ → Row
 rowOf p i = getD (p .rows) i (record { live = false; cells = [] })
 

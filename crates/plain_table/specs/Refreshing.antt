@@ -40,8 +40,8 @@ unfoldable pub indexShort : Opening → List ℕ → ℕ → Bool
 indexShort o columns index = ltb index (16 + 3 * (o .capacity * length columns))
 
 -- "After 1 and 2 comes 12, more than eight columns named .., then 6, then 2 for an index store .., then 9, a stamp below the last
--- entry's" (since change 7 the kept value), "then 7, fewer free words than all the records together take": `words` are those. The
--- first 2 is of the row store, since the pending store may be of any length
+-- entry's" (since change 7 the kept value), "then 7, fewer free words than all the records together take": `words` is the number of
+-- words that they take. The first 2 tests only the row store, since the pending store may have any length.
 unfoldable pub refreshLadder : Bool → Opening → Option ℕ → Refresh → ℕ → ℕ → ℕ → ℕ → ℕ → ℕ
 refreshLadder outside o largest r rows index used pending words =
     first

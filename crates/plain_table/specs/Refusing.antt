@@ -1,6 +1,7 @@
--- What each call turns away (document 01, "Operations and what each turns away"), over the numbers that its tests look at: an
--- opening's, the generation, the row count, the pending words used, and the lengths of what is lent. A plain table and a header
--- have the same ladders; test 1 is handed in, since it differs. The first number that applies, 0 if none. Assumes nothing.
+-- The refusals of each call (document 01, "Operations and what each turns away"), as lists of checks over the numbers that they
+-- read: an opening's numbers, the generation, the row count, the pending words used, and the lengths of the lent stores. A plain
+-- table and a header share these checks; the result of test 1 is a parameter, since it differs. Each function returns the first
+-- number that applies, 0 if none. Assumes nothing.
 use Prim.Native.Nat.{ℕ, _+_, _*_, _/_}
 use mathlib.Core.Bool.{Bool, false, not, _&&_, _||_}
 use mathlib.Core.List.{[], _∷_}
@@ -39,7 +40,7 @@ noSuchRow rows (insert cells) = false
 noSuchRow rows (removeKey key) = false
 noSuchRow rows (removeRow row key) = leb rows row
 
--- "fewer free pending words than the record takes"; also where the words used would leave a u32
+-- "fewer free pending words than the record takes"; also if the number of words used would not fit a u32
 unfoldable pub overfull : ℕ → ℕ → ℕ → Bool
 overfull used pending words = ltb pending (used + words) || ltb 4294967295 (used + words)
 

@@ -1,5 +1,5 @@
--- An opening's numbers, staged records and their order in a merge, and when a compaction is due; nothing here knows how rows
--- are kept. Assumes nothing.
+-- An opening's numbers, staged records and their order in a merge, and when a compaction is due. These definitions do not depend on
+-- how rows are stored. Assumes nothing.
 use Prim.Native.Nat.{ℕ, _+_, _/_, max}
 use mathlib.Core.Bool.{Bool, not, _&&_}
 use mathlib.Core.List.{List, [], _∷_}
@@ -51,7 +51,7 @@ inserts (insert cells ∷ rs) = cells ∷ inserts rs
 inserts (removeKey key ∷ rs) = inserts rs
 inserts (removeRow row key ∷ rs) = inserts rs
 
--- the first cells are this key
+-- the first cells are equal to this key
 unfoldable pub hasKey : ℕ → List ℕ → List ℕ → Bool
 hasKey keys key cells = same (take keys cells) key
 

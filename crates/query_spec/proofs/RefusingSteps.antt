@@ -1,4 +1,4 @@
--- The tests of the questions one by one: what each way out of a ladder says of it. Assumes nothing.
+-- The tests of the queries one by one: what each exit of a function proves of its refusal. Assumes nothing.
 use Prim.Native.Nat.{ℕ, _-_, _≤_, _<_, min}
 use mathlib.Core.Path.{_≡_, sym, ap, _∙_}
 use mathlib.Core.Logic.{inl, inr}
@@ -33,7 +33,7 @@ module _ (h : Header) (subset : Subset) (r : BoundsAnswer) (e : boundsSays r ≡
   unfolding pastRows
   past-ends start end q = ap (ltb (h .rows)) (sym (end-some subset r e start end q))
 
--- ---- the tests that all questions share
+-- ---- the tests that all queries share
 
 module _ (h : Header) (rows : ℕ) (subset : Subset) where
   pub refused-outside : outside h ≡ true → 1 ≡ subsetRefusal h rows subset
@@ -72,7 +72,7 @@ module _ (h : Header) (rows : ℕ) (subset : Subset) where
         ]
       ]
 
-  -- where one of them applies, no later test matters; a question may read 5 more widely
+  -- if one of them applies, no later test matters; a query may extend test 5
   refused-early : (beyond : Bool) (rest : List Rung) → (pastRows h subset ≡ true → beyond ≡ true) → (subsetRefusal h rows subset ≡ 0 → ⊥)
       → subsetRefusal h rows subset ≡ first (rung (outside h) 1 ∷ rung (rowsShort h rows) 2 ∷ rung (not (wellFormed subset)) 4 ∷ rung beyond 5 ∷ rest)
   unfolding subsetRefusal first

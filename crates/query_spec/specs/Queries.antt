@@ -1,5 +1,5 @@
--- Questions on rows (document 01, "Operations": refine by one and by a list, any match, page). They go by the header and
--- the row store alone, so each is promised of any table. Assumes nothing.
+-- Queries on rows (document 01, "Operations": refine by one and by a list, any match, page). They use only the header and the row
+-- store, so their contracts hold for any table. Assumes nothing.
 use Prim.Native.Nat.{ℕ, _+_, _-_, _<_, min}
 use mathlib.Core.Path.{_≡_}
 use mathlib.Core.Bool.{Bool, cond, not, _||_}
@@ -35,7 +35,7 @@ deadAmong h rows ids = count (λ id. not (isLive (rowAt (h .columns) id rows))) 
 unfoldable pub pastRows : Header → Subset → Bool
 pastRows h subset = ltb (h .rows) (endOf subset)
 
--- the tests that all questions share, 1, 2, 4, 5 and 6, with each question's own reading of 5
+-- the checks that all queries share, 1, 2, 4, 5 and 6; `beyond` is test 5 of the query
 unfoldable pub tests : Header → ℕ → Subset → Bool → List Constraint → List Rung
 tests h rows subset beyond conditions =
     rung (outside h) 1
@@ -61,7 +61,7 @@ pageRefusal h rows subset start n conditions output =
     (tests h rows subset (pastRows h subset || ltb (size subset) start) conditions
     ++ (rung (ltb output (min n (size subset - start))) 2 ∷ []))
 
--- refine by one is `retain`, by a list `narrowed`
+-- refine by one is `retain`, refine by a list is `narrowed`
 unfoldable pub refineOneReply : Header → List ℕ → Subset → Constraint → ℕ → Reply Subset
 refineOneReply h rows subset c output =
     reply (refineRefusal h (length rows) subset (c ∷ []) output) (retain (matches h rows (c ∷ [])) subset)
@@ -98,7 +98,7 @@ pageReply h rows subset start n conditions output =
       next = nextPlace subset start n;
     })
 
--- what the answers say
+-- the views of the answers
 unfoldable pub matchSays : MatchAnswer → Reply Bool
 matchSays (MatchRefused n) = refused n
 matchSays (Match answer) = accepted answer
@@ -111,7 +111,7 @@ unfoldable pub pageSays : PageAnswer → Reply PageReply
 pageSays (PageRefused n) = refused n
 pageSays (Paged page) = accepted (record { written = page .written; dead = page .dead; next = nextSays (page .next) })
 
--- the promises
+-- the contracts
 
 pub record RefinedOne (h : Header) (rows : List ℕ) (subset : Subset) (c : Constraint) (output : List ℕ) (answer : SubsetAnswer) (output′ : List ℕ) : Type 0 where
   pub answered : Answered (refineOneReply h rows subset c (length output)) output answer output′

@@ -1,9 +1,9 @@
-// Questions on a table's rows: refine, any match and page of table/mod.rs. The types that their definitions speak of, and
-// what each question turns away; the questions themselves stand in crates above. specs/Queries.antt has the definitions.
+// Queries on a table's rows: refine, any match and page of table/mod.rs. This crate has the types that their definitions use, and
+// the refusals of each query; the queries themselves are in crates above. specs/Queries.antt has the definitions.
 
-pub mod refusing; // refusing.rt: what each question turns away
+pub mod refusing; // refusing.rt: the refusals of each query
 
-// A yes or no.
+// Whether a row matches.
 pub enum MatchAnswer {
     Refused(u32),
     Match(bool),

@@ -1,5 +1,5 @@
-// What the questions turn away: the ladders of specs/Queries.antt, over the header, lengths, the subset and whether the
-// conditions are known. 0 if nothing is turned away.
+// The refusals of the queries: the checks of specs/Queries.antt, over the header, lengths, the subset and whether the conditions
+// are known. Each function returns 0 if nothing is refused.
 ghost use mathlib.Core.Path.{_≡_};
 ghost use Rattle.offsets.specs.Answers.{subsetOf};
 ghost use Rattle.query_spec.specs.Queries.{pastRows};
@@ -19,7 +19,7 @@ fn is_past_rows(h: Header, head: SubsetHead, ids: &[u32]) -> bool
     }
 }
 
-// The tests that all questions share.
+// The tests that all queries share.
 fn subset_refusal(h: Header, rows: usize, head: SubsetHead, ids: &[u32]) -> u32
     ensures { λ r. ⌜ r ≡ subsetRefusal h rows (subsetOf head (now (ids .entry))) ⌝ }
 {

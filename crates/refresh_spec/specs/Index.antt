@@ -1,16 +1,17 @@
--- The index store of a refresh (document 02, change 2): "An index from value to rising row numbers stands in a lent u32 store". "Its
--- inside is the program's choice"; ours is this:
+-- The index store of a refresh (document 02, change 2): "An index from value to rising row numbers stands in a lent u32 store".
+-- "Its inside is the program's choice"; ours is this:
 --
 --   word 0          not 0, and 1 as it is written; "its first word is 0, which marks a new store; no written one has 0 there"
 --   words 1 and 2   the version last seen: generation and row count
 --   words 3 to 11   how many columns are named, and these
 --   word 12         how many buckets there are, at most 2 for each row of the capacity and named column
---   words 13 to 15  never looked at, never written
---   words 16 on     for each row of the capacity and each named column, row by row, an entry: the link to the entry before it in its
---                   bucket; then for each bucket the link to its last entry. A link is one more than an entry's number, or 0
+--   words 13 to 15  never read, never written
+--   words 16 on     for each row of the capacity and each named column, row by row, an entry: the link to the entry before it in
+--                   its bucket; then for each bucket the link to its last entry. A link is one more than an entry's number, or 0
 --
--- An entry stands in the bucket of the cell that its row has in its column; entries of other values may stand there too, and of rows
--- that died. A lookup keeps those whose row is live and holds the value, and gives their rows rising (`lookedUp`). Assumes nothing.
+-- An entry is located in the bucket of the cell that its row has in its column. Entries of other values and of rows that died may
+-- be in the same bucket. A lookup filters those whose row is live and holds the value, and returns their rows in rising order
+-- (`lookedUp`). Assumes nothing.
 use Prim.Native.Nat.{ℕ, zero, suc, _+_, _*_, _/_, _%_, _^_, _≤_, _<_}
 use mathlib.Core.Path.{_≡_}
 use mathlib.Core.Bool.{Bool, true, false, cond, not, _&&_, _||_}
@@ -43,11 +44,11 @@ columnNamed index place = getD index (4 + place) 0
 unfoldable pub namedIn : List ℕ → List ℕ
 namedIn index = take (columnsNamed index) (drop 4 index)
 
--- the bucket of a value, of so many
+-- the bucket of a value among this many buckets
 unfoldable pub bucketOf : ℕ → ℕ → ℕ
 bucketOf buckets value = (((value * 2654435769) % 2 ^ 32) * buckets) / 2 ^ 32
 
--- the entries below n that a link leads to, one after another; links go down
+-- the chain of entries below n that a link leads to; links lead to lower entries
 unfoldable pub chain : List ℕ → ℕ → ℕ → List ℕ
 chain index zero link = []
 chain index (suc n) link = cond (eqb link (suc n)) (n ∷ chain index n (getD index (16 + n) 0)) (chain index n link)
@@ -57,22 +58,23 @@ unfoldable pub entriesUnder : ℕ → List ℕ → ℕ → List ℕ
 entriesUnder capacity index value =
     chain index (rowsSeen index * columnsNamed index) (getD index (16 + capacity * columnsNamed index + bucketOf (getD index 12 0) value) 0)
 
--- an entry leads to row i: it is the entry's, live, and holds the value in the entry's column, of these named ones
+-- An entry leads to row i: row i is the entry's row, is live, and holds the value in the entry's column. `columns` are the named
+-- columns.
 unfoldable pub leadsTo : Header → List ℕ → List ℕ → ℕ → ℕ → ℕ → Bool
 leadsTo h rows columns value entry i =
     let cells = rowAt (h .columns) (entry / length columns) rows in
     isLive cells && eqb (getD cells (getD columns (entry % length columns) 0) 0) value && eqb i (entry / length columns)
 
--- one of these entries does
+-- one of these entries leads to row i
 unfoldable pub leads : Header → List ℕ → List ℕ → ℕ → List ℕ → ℕ → Bool
 leads h rows columns value entries i = any (λ entry. leadsTo h rows columns value entry i) entries
 
--- "An index from value to rising row numbers": a lookup gives the rows seen that an entry in the value's bucket leads to
+-- "An index from value to rising row numbers": a lookup returns the rows seen that an entry in the value's bucket leads to
 unfoldable pub lookedUp : Header → List ℕ → List ℕ → ℕ → List ℕ
 lookedUp h rows index value =
     keep (leads h rows (namedIn index) value (entriesUnder (h .capacity) index value)) (countFrom 0 (rowsSeen index))
 
--- "such an index of the version last seen": each live row of those seen stands under the value that it has in each named column
+-- "such an index of the version last seen": each live row of those seen has an entry under its value in each named column
 pub record IndexOf (h : Header) (rows index : List ℕ) : Type 0 where
   pub seen : rowsSeen index ≤ h .rows
   pub buckets-few : getD index 12 0 ≤ 2 * (h .capacity * columnsNamed index)
@@ -84,13 +86,13 @@ unfoldable pub startsAfresh : Header → List ℕ → List ℕ → Bool
 startsAfresh h columns index =
     isNew index || not (eqb (generationSeen index) (h .generation)) || not (same (namedIn index) columns)
 
--- An index store that is sound for a refresh by these columns: where the refresh goes on with it, it is an index of the version last
--- seen. Nothing is asked where it starts afresh, nor where what is lent is too short for it.
+-- An index store that is sound for a refresh by these columns: if the refresh continues with it, it is an index of the version last
+-- seen. Nothing is required if the refresh starts afresh, or if a lent store is too short for it.
 abbrev pub IndexSound : Header → List ℕ → List ℕ → List ℕ → Type 0
 IndexSound h rows columns index =
     h .capacity * h .columns ≤ length rows → indexShort (openingOf h) columns (length index) ≡ false → startsAfresh h columns index ≡ false → IndexOf h rows index
 
--- an index of the version of now, of these columns
+-- an index of the current version, by these columns
 pub record Current (h : Header) (rows columns index : List ℕ) : Type 0 where
   pub written : isNew index ≡ false
   pub generation : generationSeen index ≡ h .generation

@@ -1,4 +1,4 @@
--- What a refresh promises (document 02, change 2): of every input. Assumes nothing.
+-- The contract of a refresh (document 02, change 2), on every input. Assumes nothing.
 use Prim.Native.Nat.{ℕ, _+_, _*_, _<_}
 use mathlib.Core.Path.{_≡_}
 use mathlib.Core.Bool.{Bool, true, false}
@@ -23,12 +23,12 @@ unfoldable pub refreshSays : RefreshAnswer → Reply Refreshed
 refreshSays (RefreshRefused n) = refused n
 refreshSays (RefreshDone a) = accepted a
 
--- the plain table's ladder, with this table's test 1
+-- the checks of the plain table, with this table's test 1
 unfoldable pub refreshRefusal : Header → ℕ → ℕ → ℕ → Refresh → List Staged → ℕ
 refreshRefusal h rows pending index r records =
     refreshLadder (pendingOutside h pending) (openingOf h) (largestSays (h .largest)) r rows index (h .pending) pending (wordsAll (openingOf h) records)
 
--- the records of those rows that are found, of the live rows that mention a value
+-- the records of the rows that are found, among the live rows that mention a value
 unfoldable pub recordsFound : Header → List ℕ → Refresh → (ℕ → Bool) → List Staged
 recordsFound h rows r found = refreshed (openingOf h) (r .stamp) (keep (λ row. found (row .number)) (mentioning r (ofRows h rows)))
 
@@ -36,7 +36,7 @@ recordsFound h rows r found = refreshed (openingOf h) (r .stamp) (keep (λ row. 
 abbrev pub answered : Header → List Staged → Refreshed
 answered h records = record { header = withPending h (h .pending + wordsAll (openingOf h) records); staged = ltb 0 (length records) }
 
--- what of these was staged, and the header after it: refused, nothing and as it was
+-- the records that were staged, and the header afterwards: if refused, no records and the old header
 unfoldable pub recordsStaged : Reply Refreshed → List Staged → List Staged
 recordsStaged (refused n) records = []
 recordsStaged (accepted a) records = records
@@ -45,10 +45,10 @@ unfoldable pub headerRefreshed : Header → Reply Refreshed → Header
 headerRefreshed h (refused n) = h
 headerRefreshed h (accepted a) = a .header
 
--- Lent are rows, shared, pending and the index store. Whatever the index store holds, what is staged are records of live rows that
--- mention a value, whole and in rising row order: of those for which the program's choice `found` says so. Over a sound one it says so
--- of every row, and the index store is one of the version of now; over another its first word is not 0, and no more is promised of the
--- words needed: "Its inside is the program's choice".
+-- Lent are rows (shared), pending and the index store. Whatever the index store holds, the staged records are whole, are in rising
+-- row order, and belong to live rows that mention a value: to those for which `found`, the program's choice, is true. Over a sound
+-- index store `found` is true for every row, and the store is then an index of the current version. Over an unsound one the first
+-- word is not 0 afterwards, and the contract requires no more of the words needed: "Its inside is the program's choice".
 pub record Refreshing (h : Header) (rows pending index : List ℕ) (r : Refresh) (answer : RefreshAnswer) (pending′ index′ : List ℕ) : Type 0 where
   pub found : ℕ → Bool
   pub all-found : IndexSound h rows (r .columns) index → (row : ℕ) → found row ≡ true

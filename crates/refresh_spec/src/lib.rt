@@ -1,7 +1,7 @@
-// What a refresh of rows answers. Its definitions and its promise stand here, below the histories that cite them.
+// The answer of a refresh. Its definitions and its contract are in this crate, below the histories that cite them.
 use table::Header;
 
-// The header after it, and whether a row was staged.
+// The header after the refresh, and whether a row was staged.
 pub struct Refreshed {
     pub header: Header,
     pub staged: bool,

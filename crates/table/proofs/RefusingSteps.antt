@@ -1,4 +1,4 @@
--- The tests of refusing.rt one by one: what each way out of a ladder says of it. Assumes nothing.
+-- The tests of refusing.rt one by one: what each exit of a function proves of its refusal. Assumes nothing.
 use Prim.Native.Nat.{ℕ, _+_, _*_, _/_, _≤_, _<_}
 use mathlib.Core.Path.{_≡_, refl, sym, _∙_}
 use mathlib.Core.Logic.{inl, inr}
@@ -25,7 +25,7 @@ use Rattle.table.specs.Laws.Refusals.{Inside, outside-inside}
 not-leb : (a b : ℕ) → ltb b a ≡ not (leb a b)
 not-leb a b = elim (split (leb a b)) [ inl e ↦ rw (e, le-ltb b a (leb-true a b e)) | inr e ↦ rw (e, lt-ltb b a (leb-false a b e)) ]
 
--- a rung more at the end of a ladder of three: what was turned away still is, with the same number
+-- adds a fourth check to a list of three: what the three refuse is refused with the same number
 module _ (a b c : Bool) (rest : List Rung) where
   three-some : (first (rung a 1 ∷ rung b 2 ∷ rung c 3 ∷ []) ≡ 0 → ⊥) → first (rung a 1 ∷ rung b 2 ∷ rung c 3 ∷ []) ≡ first (rung a 1 ∷ rung b 2 ∷ rung c 3 ∷ rest)
   unfolding first
@@ -42,7 +42,7 @@ module _ (a b c : Bool) (rest : List Rung) where
   unfolding first
   three-past p q r = rw (p, q, r)
 
-  -- what was not comes to the rung added
+  -- otherwise the added check decides
   three-none : first (rung a 1 ∷ rung b 2 ∷ rung c 3 ∷ []) ≡ 0 → first (rung a 1 ∷ rung b 2 ∷ rung c 3 ∷ rest) ≡ first rest
   three-none e =
       let u = first-rest a 0 _ e in
@@ -101,7 +101,7 @@ module _ (h : Header) where
 
   -- ---- test 2
 
-  -- the cells that a capacity asks for are counted by a u32
+  -- the number of cells that a capacity needs is a u32
   pub cells-few : outside h ≡ false → h .capacity * h .columns ≤ 524288
   cells-few e = let i = outside-inside h e in mul-le-mul (i .bounds .capacity-few) (i .bounds .columns-few)
 
@@ -166,7 +166,7 @@ module _ (h : Header) where
     unfolding soundRefusal first
     sound-none e s = rw (e, sym stores-tests ∙ s)
 
-    -- where nothing is turned away
+    -- if nothing is refused
     sound-clear : soundRefusal h (l .rows) (l .keys) (l .sorts) (l .pending) ≡ 0 → (pendingOutside h (l .pending) ≡ false) × (storesShort (openingOf h) l ≡ false)
     unfolding soundRefusal
     sound-clear e = (first-no _ 0 _ e, stores-tests ∙ first-no _ 1 _ (first-rest _ 0 _ e))
@@ -184,7 +184,7 @@ module _ (h : Header) where
     unfolding mergeRefusal first mergeLadder
     merge-stores e s = rw (e, s)
 
-    -- what the soundness check turns away, with the same number
+    -- what the soundness check refuses is refused with the same number
     pub merge-sound : (soundRefusal h (l .rows) (l .keys) (l .sorts) (l .pending) ≡ 0 → ⊥) → soundRefusal h (l .rows) (l .keys) (l .sorts) (l .pending) ≡ mergeRefusal h l
     merge-sound some =
         elim (split (pendingOutside h (l .pending))) [

@@ -1,4 +1,4 @@
--- What may be relied on of a table's definitions.
+-- What follows from the definitions.
 pub mod Stored
 pub mod Shown
 pub mod Pending

@@ -1,4 +1,4 @@
--- A header's numbers, and what each answer says in the paper's terms. Assumes nothing.
+-- A header's numbers, and the view of each answer in the paper's terms. Assumes nothing.
 use Prim.Native.Nat.{ℕ}
 use mathlib.Core.Bool.{Bool}
 use mathlib.Core.Option.{Option, none, some}
@@ -30,7 +30,7 @@ abbrev pub openingOf : Header → Opening
 openingOf h =
     record { columns = h .columns; keys = h .keys; sort = h .sort; rule = h .rule; capacity = h .capacity }
 
--- the largest sort value appended, "and whether there is one", in a header and in a plain table
+-- the largest sort value appended, "and whether there is one": read from a header, and as a header has it
 unfoldable pub largestSays : Largest → Option ℕ
 largestSays NoLargest = none
 largestSays (Value v) = some v

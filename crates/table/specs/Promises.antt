@@ -1,6 +1,6 @@
--- What each entry point promises: of every input, and of a table that shows a plain table. A function's `ensures` is the record
--- that is named after its operation, over what it is lent and what it leaves; a history of calls is made of these. First come the
--- stores as records, and when they are a plain table's (`Represents`). Assumes nothing.
+-- The contracts of the entry points, on every input and on a table that shows a plain table. A function's `ensures` is the record
+-- that is named after its operation, over the lent stores before and after the call; a history of calls consists of these records.
+-- First come the stores as records, and when they represent a plain table (`Represents`). Assumes nothing.
 use Prim.Native.Nat.{ℕ, _+_, _*_, _/_, _<_}
 use mathlib.Core.Path.{_≡_}
 use mathlib.Core.Bool.{true, false, cond, not, _||_}
@@ -55,11 +55,11 @@ body rows keys sorts = record { rows = rows; keys = keys; sorts = sorts }
 abbrev pub bodyOf : Stores → Body
 bodyOf s = body (s .rows) (s .keys) (s .sorts)
 
--- these with a header and the pending store
+-- the stores made of these, a header and a pending store
 abbrev pub joined : Header → Body → List ℕ → Stores
 joined h b pending = stores h (b .rows) (b .keys) (b .sorts) pending
 
--- the words that mark live rows, and the numbers beside them
+-- the bitmap words of live rows, and the numbers that belong to them
 pub record CompactionWords : Type 0 where
   pub live : List ℕ
   pub base : List ℕ
@@ -75,17 +75,16 @@ lengths rows keys sorts pending live base =
 abbrev pub lengthsLent : Stores → CompactionWords → Lengths
 lengthsLent s w = lengths (s .rows) (s .keys) (s .sorts) (s .pending) (w .live) (w .base)
 
--- The header and stores are those of a plain table: they show it cell by cell (`Shows`), it is one that calls lead to
--- (`Proper`), and the key store leads to its live rows (`KeysSound`). `Sound` is the paper's word, of stores alone; the two are
--- one: stores whose generation is a u32, as a header's always is, are sound exactly if they are those of some plain table
--- (Laws/Sound).
+-- The header and stores represent a plain table: they show it cell by cell (`Shows`), calls lead to it (`Proper`), and the key
+-- store leads to its live rows (`KeysSound`). `Sound` is the paper's word and is defined on stores alone. The two agree: stores
+-- whose generation is a u32, as it always is in a header, are sound exactly if they represent some plain table (Laws/Sound).
 pub record Represents (p : Plain) (s : Stores) : Type 0 where
   pub proper : Proper p
   pub long-enough : storesShort (p .opening) (lengths (s .rows) (s .keys) (s .sorts) (s .pending) [] []) ≡ false
   pub shown : Shows p (s .header) (s .rows) (s .sorts) (s .pending)
   pub keyed : KeysSound (keyedOf (s .header)) (s .rows) (s .keys)
 
--- the header after a call: that of the answer, or as it was
+-- the header after a call: that of the answer, or the old one if the call was refused
 unfoldable pub headerAfter : Header → Reply Header → Header
 headerAfter h (refused n) = h
 headerAfter h (accepted h′) = h′
@@ -105,10 +104,10 @@ PastNeeded capacity words words′ = drop ((capacity + 63) / 64) words′ ≡ dr
 abbrev pub WordsPast : ℕ → CompactionWords → CompactionWords → Type 0
 WordsPast capacity w w′ = PastNeeded capacity (w .live) (w′ .live) × PastNeeded capacity (w .base) (w′ .base)
 
--- Where the choice is the program's: of the key store only soundness is promised, and that no slot past it is written; of
--- the compaction words needed, after a compaction, nothing.
+-- Choices of the program: the contracts require only that the key store is sound and that no slot past it is written. They require
+-- nothing of the compaction words needed after a compaction.
 
--- *Open*: lent rows, keys, sort entries and pending; all but keys are lent shared, so that they stay as they are
+-- *Open*: lent rows, keys, sort entries and pending; all but keys are lent shared, so they do not change
 pub record Opened (o : Opening) (generation : ℕ) (b : Body) (pending : List ℕ) (answer : TableAnswer) (keys′ : List ℕ) : Type 0 where
   pub answers : tableSays answer ≡ reply (openRefusal o (lengths (b .rows) (b .keys) (b .sorts) pending [] [])) (headerOf (opened o generation))
   pub unchanged : 0 < openRefusal o (lengths (b .rows) (b .keys) (b .sorts) pending [] []) → keys′ ≡ b .keys
@@ -116,7 +115,7 @@ pub record Opened (o : Opening) (generation : ℕ) (b : Body) (pending : List �
   pub represents : openRefusal o (lengths (b .rows) (b .keys) (b .sorts) pending [] []) ≡ 0
       → Represents (opened o generation) (stores (headerOf (opened o generation)) (b .rows) keys′ (b .sorts) pending)
 
--- *Stage*: lent pending. Of any table, since nothing but the header and the pending store is looked at
+-- *Stage*: lent pending. The contract holds for any table, since the call reads only the header and the pending store.
 abbrev pub withPending : Header → ℕ → Header
 withPending h pending = header (openingOf h) (h .rows) (h .dead) (h .entries) pending (h .generation) (h .largest)
 
@@ -126,8 +125,8 @@ pub record Staging (h : Header) (pending : List ℕ) (r : Staged) (answer : Tabl
   pub written : stageRefusal h (length pending) r ≡ 0 → pending′ ≡ putAt pending (h .pending) (recordWords (h .keys) r)
 
 -- *Merge*: lent all stores and compaction words; pending is lent shared. The paper's refusals 8 and 9 stop a merge that was
--- accepted: `status` has them. What is promised is promised for every plain table that the stores show; these differ in cells
--- of dead rows alone, and nothing promised depends on them.
+-- accepted: `status` has them. The contract holds for every plain table that the stores show; these differ only in cells of dead
+-- rows, and nothing in the contract depends on those cells.
 abbrev pub mergeOf : Plain → Merge
 mergeOf p =
     record {
@@ -139,7 +138,7 @@ mergeOf p =
       dropped = mergeDrops p;
     }
 
--- the row store after a merge, over the rows that were stored before: its removals and inserts are written first, then its
+-- the row store after a merge, given the rows that were stored before: the removals and inserts are written first, then the
 -- compaction, if there is one
 unfoldable pub mergedRows : Plain → List (List ℕ) → List ℕ → List ℕ
 mergedRows p before store =
@@ -190,8 +189,8 @@ module _ (h : Header) (keys : List ℕ) (answer : TableAnswer) (keys′ : List �
     pub table : clearRefusal h (length keys) ≡ 0
         → (rows sorts pending : List ℕ) (p : Plain) → Represents p (stores h rows keys sorts pending) → ClearedTable rows sorts pending p
 
--- *Key lookup, one cell*: lent rows and keys, and looked up in those alone, as a plain table of these rows: the key store must
--- be sound, and live keys differ. "No live row is *none*"
+-- *Key lookup, one cell*: lent rows and keys. The lookup uses only these, as a plain table of these rows. The key store must be
+-- sound, and live keys must differ. "No live row is *none*"
 abbrev pub ofRows : Header → List ℕ → Plain
 ofRows h rows = record { opening = openingOf h; generation = h .generation; rows = rowsIn h rows; staged = []; largest = largestSays (h .largest) }
 
@@ -217,14 +216,14 @@ pub record RangeRead (h : Header) (sorts : List ℕ) (c : Constraint) (answer : 
   pub table : fastRefusal h (length sorts) c ≡ 0 → entriesSound (entriesOf (h .entries) sorts) (h .rows) ≡ true
       → rangeSays answer ≡ accepted (fastSubset h sorts c)
 
--- *Version*, *Rows since*: of any table
+-- *Version*, *Rows since*: for any table
 pub record VersionRead (h : Header) (answer : VersionAnswer) : Type 0 where
   pub answers : versionSays answer ≡ reply (versionRefusal h) (record { generation = h .generation; rows = h .rows })
 
 pub record RowsSince (h : Header) (row : ℕ) (answer : RangeAnswer) : Type 0 where
   pub answers : rangeSays answer ≡ reply (sinceRefusal h row) (some (range row (h .rows)))
 
--- "Given that version, the table answers the rows since then": of any table
+-- "Given that version, the table answers the rows since then": for any table
 pub record RowsSinceVersion (h : Header) (generation count : ℕ) (answer : RangeAnswer) : Type 0 where
   pub answers : rangeSays answer ≡ reply (notedRefusal h generation count) (some (range count (h .rows)))
 

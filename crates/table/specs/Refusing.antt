@@ -1,5 +1,5 @@
--- What each operation turns away, "on any numbers at all": one ladder each, over the header and the lengths of what is
--- lent. The first number that applies; 0 if none. Assumes nothing.
+-- The refusals of each operation, "on any numbers at all": one list of checks each, over the header and the lengths of the lent
+-- stores. Each function returns the first number that applies, 0 if none. Assumes nothing.
 use Prim.Native.Nat.{ℕ, _*_}
 use mathlib.Core.Bool.{Bool, not, _&&_, _||_}
 use mathlib.Core.List.{List, [], _∷_, _++_}
@@ -19,7 +19,7 @@ outside h =
     not
     (openable (openingOf h) && leb (h .rows) (h .capacity) && leb (h .dead) (h .rows) && leb (h .entries) (h .rows))
 
--- ".. pending words used above the pending store", where that is lent
+-- ".. pending words used above the pending store", if that store is lent
 unfoldable pub pendingOutside : Header → ℕ → Bool
 pendingOutside h pending = outside h || ltb pending (h .pending)
 
@@ -30,7 +30,7 @@ rowsShort h rows = ltb rows (h .capacity * h .columns)
 unfoldable pub pairsShort : Header → ℕ → Bool
 pairsShort h store = ltb store (2 * h .capacity)
 
--- The ladders of the calls that change a table are the plain table's, with this test 1.
+-- The calls that change a table use the checks of the plain table, with this test 1.
 
 unfoldable pub stageRefusal : Header → ℕ → Staged → ℕ
 stageRefusal h pending r = stageLadder (pendingOutside h pending) (openingOf h) (h .rows) (h .pending) pending r

@@ -1,5 +1,5 @@
--- Soundness (document 01, "Stores and numbers"): the paper's sentence, part by part, and that the header and stores pass
--- tests 1 and 2. Assumes nothing.
+-- Soundness (document 01, "Stores and numbers"): the paper's sentence part by part, and the requirement that the header and stores
+-- pass tests 1 and 2. Assumes nothing.
 use Prim.Native.Nat.{ℕ}
 use mathlib.Core.Path.{_≡_}
 use mathlib.Core.Bool.{true, not}

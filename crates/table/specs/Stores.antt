@@ -1,5 +1,5 @@
--- What the stores of a table hold: how a plain table is shown by a header and stores, and what an operation that takes one
--- plain table to another leaves in every cell of the row and sort-entry stores. Assumes nothing.
+-- The contents of a table's stores: how a header and stores show a plain table, and the contents of every cell of the row and
+-- sort-entry stores after an operation that takes one plain table to another. Assumes nothing.
 use Prim.Native.Nat.{ℕ, _<_}
 use mathlib.Core.Path.{_≡_}
 use mathlib.Core.Bool.{true, cond, not}
@@ -16,39 +16,39 @@ use Rattle.plain_table.specs.Proper.{rowOf}
 use Rattle.table.specs.declared.Header.{Header}
 use Rattle.table.specs.Numbers.{largestOf, header}
 
--- the sort entries of a plain table: each row's sort cell, dead rows' too, appended in turn
+-- the sort entries of a plain table: each row's sort cell, that of dead rows too, appended in order
 unfoldable pub entries : Plain → List Entry
 entries p = rebuilt (map (λ row. getD (row .cells) (p .opening .sort) 0) (p .rows))
 
--- its header
+-- the header of a plain table
 abbrev pub headerOf : Plain → Header
 headerOf p =
     header (p .opening) (length (p .rows)) (dead p) (length (entries p)) (wordsAll (p .opening) (p .staged)) (p .generation) (largestOf (p .largest))
 
--- a row that dies keeps its other cells
+-- the cells of a row after it dies: the dead mark, and its other cells as before
 abbrev pub marked : List ℕ → List ℕ
 marked cells = set cells 0 4294967295
 
--- The rows as stored, over those that were stored before: a live row has its cells; a dead one the dead mark, and behind it
--- what stood there before, or, if it is new, what was appended. Say the first column is the key and the sort column, 7 1 160 and,
--- dead already, 4294967295 2 148 were stored, and a merge removes key 7 and inserts 8 1 163 and then 8 1 170 under rule 1. Stored
--- are 4294967295 1 160 (dies now: its other cells stay), 4294967295 2 148 (dead before: as it was), 4294967295 1 163 (appended and
--- dead in one merge) and 8 1 170.
+-- The rows as stored, given those that were stored before. A live row has its cells. A dead row has the dead mark, followed by the
+-- cells stored there before or, if it is new, by the cells that were appended. Example: the first column is both the key and the
+-- sort column. 7 1 160 and the dead row 4294967295 2 148 are stored. A merge under rule 1 removes key 7 and inserts 8 1 163 and
+-- then 8 1 170. Afterwards 4294967295 1 160 (dies now: its other cells stay), 4294967295 2 148 (dead before: unchanged), 4294967295
+-- 1 163 (appended and dead in one merge) and 8 1 170 are stored.
 unfoldable pub stored : List Row → List (List ℕ) → List (List ℕ)
 stored [] before = []
 stored (row ∷ rows) [] = cond (row .live) (row .cells) (marked (row .cells)) ∷ stored rows []
 stored (row ∷ rows) (old ∷ before) = cond (row .live) (row .cells) (marked old) ∷ stored rows before
 
--- the row store that shows p, over what it held: cells past the rows of p are as they were
+-- the row store that shows p, given its contents before: cells past the rows of p are unchanged
 unfoldable pub rowStore : Plain → List (List ℕ) → List ℕ → List ℕ
 rowStore p before store = putAt store 0 (flat (stored (p .rows) before))
 
--- the sort-entry store likewise
+-- the same for the sort-entry store
 unfoldable pub sortStore : Plain → List ℕ → List ℕ
 sortStore p store = putAt store 0 (entryWords (entries p))
 
--- a staged record's words in the pending store: a kind, the compact hash of its key, a row where it has one, its cells.
--- The layout is our choice; "columns plus 2, keys plus 2, keys plus 3" is the paper's
+-- The words of a staged record in the pending store: its kind, the compact hash of its key, its row number if it has one, its
+-- cells. The layout is our choice; "columns plus 2, keys plus 2, keys plus 3" is the paper's.
 unfoldable pub recordWords : ℕ → Staged → List ℕ
 recordWords keys (insert cells) = 0 ∷ compact (keyHash (take keys cells)) ∷ cells
 recordWords keys (removeKey key) = 1 ∷ compact (keyHash key) ∷ key
@@ -59,11 +59,11 @@ pub record Holds (o : Opening) (pending : List ℕ) (staged : List Staged) : Typ
   pub whole : every (λ r. not (wrongWidth o r)) staged ≡ true
   pub in-order : take (wordsAll o staged) pending ≡ flat (map (recordWords (o .keys)) staged)
 
--- the rows that a header and a row store have
+-- the rows of a table, read from its header and row store
 unfoldable pub rowsIn : Header → List ℕ → List Row
 rowsIn h store = map (λ cells. record { live = isLive cells; cells = cells }) (rowsOf (h .columns) (h .rows) store)
 
--- a stored row shows a plain one: it is live exactly where that is, and then has its cells
+-- a stored row shows a plain one: it is live exactly if the plain one is, and then has the same cells
 pub record RowShown (row : Row) (cells : List ℕ) : Type 0 where
   pub live : row .live ≡ isLive cells
   pub same : row .live ≡ true → row .cells ≡ cells

@@ -1,18 +1,19 @@
-// The table: `SortedWritesTable` of table/mod.rs, over lent stores. The types that its definitions speak of, and what each
-// operation turns away; the operations themselves stand in crates above.
+// The table: `SortedWritesTable` of table/mod.rs, over lent stores. This crate has the types that its definitions use, and the
+// refusals of each operation; the operations are in crates above.
 ghost use mathlib.Core.Path.{_≡_};
 ghost use Rattle.table.specs.Sound.{keyedOf};
 use key_index::Keyed;
 
-pub mod refusing; // refusing.rt: what each operation turns away
+pub mod refusing; // refusing.rt: the refusals of each operation
 
-// The largest sort value appended since opening or the last clear that emptied rows, if there is one: no older stamp enters.
+// The largest sort value appended since opening or the last clear that emptied rows, if there is one. No row with a smaller sort
+// value is appended.
 pub enum Largest {
     None,
     Value(u32),
 }
 
-// A table's numbers. The stores that go with it are lent at each call.
+// A table's numbers. Its stores are lent at each call.
 pub struct Header {
     pub columns: u32,
     pub keys: u32,
@@ -27,14 +28,14 @@ pub struct Header {
     pub largest: Largest,
 }
 
-// A pending record's first word says its kind.
+// The kind of a pending record, in its first word.
 pub const INSERT: u32 = 0;
 
 pub const REMOVE_KEY: u32 = 1;
 
 pub const REMOVE_ROW: u32 = 2;
 
-// The lengths of the stores that an operation is lent; 0 for one that it is not.
+// The lengths of the stores that an operation is lent; 0 for a store that it is not lent.
 pub struct Lent {
     pub rows: usize,
     pub keys: usize,
@@ -44,14 +45,14 @@ pub struct Lent {
     pub base: usize,
 }
 
-// Opening, the three stagings, compact and clear: the header that the call leaves.
+// Opening, the three stagings, compact and clear: the header after the call.
 pub enum TableAnswer {
     Refused(u32),
     Table(Header),
 }
 
-// What a merge leaves: the header, the stop's number and the place of its insert (both 0 if it did not stop), whether a row
-// was appended, and how many rows its own compaction kept and dropped (both 0 if there was none).
+// The result of a merge: the header, the stop's number and the place of its insert (both 0 if it did not stop), whether a row was
+// appended, and how many rows its own compaction kept and dropped (both 0 if there was none).
 pub struct Merge {
     pub header: Header,
     pub status: u32,
@@ -103,7 +104,7 @@ pub enum SoundAnswer {
     Sound(bool),
 }
 
-// The numbers that the key index goes by.
+// The numbers that the key index uses.
 pub fn keyed(h: Header) -> Keyed
     ensures { λ r. ⌜ r ≡ keyedOf h ⌝ }
 {

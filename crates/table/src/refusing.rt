@@ -1,5 +1,5 @@
-// What each operation turns away, "on any numbers at all": one function for each ladder of specs/Refusing.antt, over the
-// header and the lengths of what is lent. 0 if nothing is turned away.
+// The refusals of each operation, "on any numbers at all": one function for each list of checks of specs/Refusing.antt, over the
+// header and the lengths of the lent stores. Each returns 0 if nothing is refused.
 ghost use mathlib.Core.Path.{_≡_};
 ghost use mathlib.Core.Bool.{false};
 ghost use Rattle.plain_table.specs.Staged.{openable};
@@ -138,7 +138,7 @@ pub fn sound_refusal(h: Header, l: Lent) -> u32
     0
 }
 
-// *Merge*: all that the soundness check asks, and compaction words.
+// *Merge*: the tests of the soundness check, then those of the compaction words.
 pub fn merge_refusal(h: Header, l: Lent) -> u32
     ensures { λ r. ⌜ r ≡ rules.mergeRefusal h (lengthsOf l) ⌝ }
 {

@@ -1,4 +1,4 @@
--- A batch of inserts may be cut anywhere. Assumes nothing but the promises that batches are made of.
+-- A batch of inserts may be cut anywhere. Assumes nothing but the contracts that batches consist of.
 use Prim.Native.Nat.{ℕ, zero, suc}
 use mathlib.Core.Path.{_≡_, refl, sym, ap, _∙_}
 use mathlib.Core.List.{List, map}
@@ -21,7 +21,7 @@ use Rattle.history.specs.Batches.{verdictIn, verdictOf, statusTold, stat
 use Rattle.table.specs.Laws.Live.{live-shown}
 use Rattle.history.specs.Laws.Calls.{step-represents}
 
--- a ladder whose answer is no refusal turned nothing away
+-- an accepted reply has refusal number 0
 replied-accepts : {A : Type 0} (n : ℕ) (a : A) → verdict (reply n a) ≡ accepted tt → n ≡ 0
 unfolding reply verdict
 replied-accepts zero a e = refl
@@ -42,7 +42,7 @@ stage-represents {p} r {row} {l} (called {s} rest more (stages q answer pending�
     let n = replied-accepts _ _ (rw (m .answers) at v) in
     rw (accepted-done p l (staging q) (sym (stage-ladders r l q) ∙ n)) at (step-represents r (called {s = s} rest more (stages q answer pending′ m)))
 
--- an accepted merge, and its stop
+-- an accepted merge, and its status
 merge-represents : {p : Plain} {s t : Stores} → Represents p s → {l : Lengths} (step : Step s (record { call = merging; lengths = l }) t)
     → verdictOf step ≡ accepted tt → Represents (mergedPlain p .table) t × (statusOf step ≡ mergedPlain p .status)
 unfolding verdictOf verdictIn statusOf statusIn statusTold done

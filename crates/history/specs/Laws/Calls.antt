@@ -1,5 +1,5 @@
--- Every call takes stores that show a plain table to stores that show it after the same call, so a history does. Assumes
--- nothing.
+-- Every call takes stores that show a plain table to stores that show the plain table after the same call. So does a history.
+-- Assumes nothing.
 use Prim.Native.Nat.{ℕ, _*_, _≤_, _<_}
 use mathlib.Core.Path.{_≡_, refl, sym, _∙_}
 use mathlib.Core.Logic.{inl, inr}
@@ -34,16 +34,16 @@ use Rattle.history.specs.Histories.{Called, stages, merges, compacts, cl
 
 -- ---- the calls
 
--- one that the plain table does not turn away is done
+-- a call that the plain table accepts takes effect
 goes : (p : Plain) {t : Stores} (l : Lengths) (c : Call) → refusal p l c ≡ 0 → Represents (done p c) t → Represents (after p l c) t
 goes p l c e d = rw (accepted-done p l c e) d
 
--- what is lent, and what stands behind it
+-- the lent part of each store, and the cells behind it
 module _ {p : Plain} (s : Stores) (rest : Body) (more : List ℕ) (r : Represents p (behind s rest more)) where
   unchanged : (t : Stores) → t ≡ s → Represents p (behind t rest more)
   unchanged t e = rw e r
 
-  -- a call that it turns away leaves both as they were
+  -- a call that the plain table refuses leaves both unchanged
   stays : (l : Lengths) (c : Call) (t : Stores) → 0 < refusal p l c → t ≡ s → Represents (after p l c) (behind t rest more)
   stays l c t h e = rw (refused-nothing p l c h) (unchanged t e)
 
@@ -81,7 +81,7 @@ module _ {p : Plain} (s : Stores) (rest : Body) (more : List ℕ) (r : Represent
   unfolding done
   compacted-represents w answer b′ w′ m =
       let l = lengthsLent s w in
-      -- the pending store is not lent, and the ladder does not look at it
+      -- the pending store is not lent, and the checks do not read it
       let k = lengthsLent (joined (s .header) (bodyOf s) []) w in
       let n : ℕ = compactRefusal (s .header) k in
       let same : n ≡ refusal p l compacting = compact-ladders r k ∙ (unfold refusal compactLadder storesShort wordsShort in refl) in
@@ -106,17 +106,17 @@ module _ {p : Plain} (s : Stores) (rest : Body) (more : List ℕ) (r : Represent
       ]
 
   module _ {q : Refresh} {index pending′ index′ : List ℕ} {answer : RefreshAnswer} (m : Refreshing (s .header) (s .rows) (s .pending) index q answer pending′ index′) where
-    -- what a refresh leaves of what it is lent, with what stands behind it
+    -- the lent stores after a refresh, with the cells behind them
     abbrev refreshed-stores : Stores
     refreshed-stores = behind (joined (headerRefreshed (s .header) (refreshSays answer)) (bodyOf s) pending′) rest more
 
-    -- accepted, it has staged the records that it found
+    -- if accepted, it has staged the records that it found
     found-represents : number m ≡ 0 → Represents (stageAll p (found-records m)) refreshed-stores
     found-represents e =
         let k = passed m e in
         pending-more more (rows-more (rest .rows) (refreshing-done m e (rows-part (rest .rows) (pending-part more r (k .pending-fits)) (k .rows-long))))
 
-    -- over a sound index store these are the plain table's own, and both turn away the same
+    -- over a sound index store these are the plain table's own records, and both give the same refusal
     pub own-records : IndexSound (s .header) (s .rows) (q .columns) index → s .header .capacity * s .header .columns ≤ length (s .rows) → found-records m ≡ recordsOf p q
     own-records sound long = records-all (rows-part (rest .rows) r long) q (m .found) (m .all-found sound)
 
@@ -133,7 +133,7 @@ module _ {p : Plain} (s : Stores) (rest : Body) (more : List ℕ) (r : Represent
           | inr h ↦ stays l (refreshing q (length index)) _ (rw (refresh-same sound) at h) (refreshing-refused m h)
         ]
 
-    -- over any other it is fed them, none of a wrong width
+    -- over an unsound one the plain table is fed these records; none has a wrong width
     pub fed-right : (l : Lengths) → refusal p l (feeding (recordsStaged (refreshSays answer) (found-records m))) ≡ 0
     unfolding refusal first any
     fed-right l =
@@ -165,7 +165,7 @@ module _ {p : Plain} (s : Stores) (rest : Body) (more : List ℕ) (r : Represent
 pub step-represents : {p : Plain} {s t : Stores} {c : LentCall} → Represents p s → Step s c t → Represents (after p (c .lengths) (c .call)) t
 step-represents r (called {s} rest more call) = called-represents s rest more r call
 
--- one after another
+-- calls in order
 pub steps-represents : {p : Plain} {s t : Stores} {cs : List LentCall} → Represents p s → Steps s cs t → Represents (afterAll p cs) t
 unfolding afterAll
 steps-represents r (end s) = r

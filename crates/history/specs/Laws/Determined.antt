@@ -1,5 +1,5 @@
--- What calls leave is told by the table and the cells that they found, whatever each chose for the key store: the same calls on two
--- tables that differ there alone leave two that differ there alone. Assumes nothing.
+-- The outcome of calls is determined by the table and the cells before them, whatever each call chose for the key store: the same
+-- calls on two tables that differ only in the key store leave two tables that differ only there. Assumes nothing.
 use Prim.Native.Nat.{ℕ, zero, suc, _<_}
 use mathlib.Core.Path.{_≡_, refl, sym, ap, _∙_}
 use mathlib.Core.Bool.{cond}
@@ -24,7 +24,7 @@ use Rattle.refresh_spec.specs.Laws.Keeps.{found-records, passed, fed-written}
 use Rattle.history.specs.Histories.{Called, stages, merges, compacts, clears, refreshes, refreshes-unsound, behind, Step, called, Steps, end, next}
 use Rattle.history.specs.Laws.Calls.{own-records, refresh-same, fed-right, step-represents}
 
--- all but the key store
+-- equal in everything but the key store
 pub record SameCells (s t : Stores) : Type 0 where
   pub header : s .header ≡ t .header
   pub rows : s .rows ≡ t .rows
@@ -33,7 +33,7 @@ pub record SameCells (s t : Stores) : Type 0 where
 
 -- ---- one call
 
--- what it makes of the stores that it is lent, where it is accepted
+-- the lent stores after an accepted call
 unfoldable rowsDone : Plain → Header → Call → List ℕ → List ℕ
 rowsDone p h (staging r) rows = rows
 rowsDone p h merging rows = mergedRows p (rowsOf (h .columns) (h .rows) rows) rows
@@ -58,7 +58,7 @@ pendingDone p h clearing pending = pending
 pendingDone p h (refreshing r index) pending = putAt pending (h .pending) (flat (map (recordWords (h .keys)) (recordsOf p r)))
 pendingDone p h (feeding rs) pending = putAt pending (h .pending) (flat (map (recordWords (h .keys)) rs))
 
--- a store of which the first n cells are lent
+-- a store of which the first n cells are lent, after a call
 unfoldable changed : ℕ → (List ℕ → List ℕ) → ℕ → List ℕ → List ℕ
 changed number done n store = cond (eqb number 0) (done (take n store)) (take n store) ++ drop n store
 
@@ -105,7 +105,7 @@ module _ {p : Plain} (s : Stores) (rest : Body) (more : List ℕ) (r : Represent
       }
   called-leaves (compacts w answer b′ w′ m) =
       let l = lengthsLent s w in
-      -- the pending store is not lent, and the ladder does not look at it
+      -- the pending store is not lent, and the checks do not read it
       let k = lengthsLent (joined (s .header) (bodyOf s) []) w in
       let same : compactRefusal (s .header) k ≡ refusal p l compacting = compact-ladders r k ∙ (unfold refusal compactLadder storesShort wordsShort in refl) in
       let table : refusal p l compacting ≡ 0 → CompactedTable (s .header) (bodyOf s) w answer b′ w′ (s .pending ++ more) p =

@@ -1,5 +1,4 @@
--- Calls that are lent the stores whole, and histories that go on: calls one behind the other, and calls behind a history.
--- Assumes nothing.
+-- Calls that are lent the whole stores, and histories that continue: calls after calls, and calls after a history. Assumes nothing.
 use Prim.Native.Nat.{ℕ}
 use mathlib.Core.Path.{_≡_}
 use mathlib.Core.List.{List, [], _++_, append-nil}
@@ -9,7 +8,7 @@ use Rattle.table.specs.declared.TableAnswer.the-variants.{Table}
 use Rattle.table.specs.Promises.{Stores, stores, body, Opened}
 use Rattle.history.specs.Histories.{Called, behind, Step, called, Steps, end, next, History}
 
--- nothing stands behind what is lent
+-- no cells are behind the lent part
 pub behind-nothing : (s : Stores) → behind s (body [] [] []) [] ≡ s
 behind-nothing s =
     λ i. stores (s .header) (append-nil (s .rows) i) (append-nil (s .keys) i) (append-nil (s .sorts) i) (append-nil (s .pending) i)
@@ -28,7 +27,7 @@ pub history-then : {o : Opening} {generation : ℕ} {calls more : List LentCall}
 history-then h steps =
     record { start = h .start; keys-before = h .keys-before; opened = h .opened; rest = h .rest; pending = h .pending; steps = steps-then (h .steps) steps }
 
--- an opening that is lent the stores whole, and the calls behind it
+-- an opening that is lent the whole stores, and the calls after it
 pub history-whole : {o : Opening} {generation : ℕ} {calls : List LentCall} {start s : Stores} (keys-before : List ℕ)
     → Opened o generation (body (start .rows) keys-before (start .sorts)) (start .pending) (Table (start .header)) (start .keys)
     → Steps start calls s → History o generation calls s

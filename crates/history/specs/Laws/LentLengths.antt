@@ -1,5 +1,5 @@
--- An example: store lengths differ from call to call. A table of 3 columns and capacity 4 is opened, a compaction is lent 11
--- of its 12 row cells and refused for that, and a merge that is lent all of them goes through. Assumes nothing.
+-- An example: store lengths differ from call to call. A table of 3 columns and capacity 4 is opened, a compaction is lent 11 of its
+-- 12 row cells and therefore refused, and a merge that is lent all of them is accepted. Assumes nothing.
 use Prim.Native.Nat.{ℕ}
 use mathlib.Core.Path.{_≡_, refl, sym, ap}
 use mathlib.Core.List.{List, [], _∷_}
@@ -44,7 +44,7 @@ unfolding largestOf
 none-largest none e = refl
 none-largest (some v) e = absurd (let z : _≡_ {A = ℕ} 0 1 = cc in omega arith)
 
--- shows that plain table and no other
+-- such a table shows that plain table and no other
 only-opened : {p : Plain} {o : Opening} {generation : ℕ} {rows keys sorts pending : List ℕ} → Represents p (stores (emptyHeader o generation) rows keys sorts pending) → p ≡ opened o generation
 unfolding opened
 only-opened {p} r =
@@ -89,7 +89,7 @@ example-compacted =
 abbrev unmoved : Merge
 unmoved = mergeOf (opened example 0)
 
--- accepted: nothing to do
+-- accepted, without effect
 example-stays : MergedTable exampleStores oneWord (Merged unmoved) (body (0 ∷ eleven) eight eight) oneWord (opened example 0)
 unfolding mergeSays mergedRows opened merged applied inserts removed insertAll unstaged compactsAfter due dead count entries rebuilt pushAll stored rowStore sortStore rowsOf flat entryWords putAt wordsAll openable storesShort roomFor roomStep
 example-stays =

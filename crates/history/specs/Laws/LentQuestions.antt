@@ -1,6 +1,6 @@
--- Store lengths differ from question to question: a refine that is lent exactly capacity × columns cells of a longer row store,
--- one that is lent one cell less, which is refused by 2 and counts for nothing, and one that is lent as many as the first. The
--- claim holds of them in every history; and an example. Assumes nothing.
+-- Store lengths differ from query to query: a refine that is lent exactly capacity × columns cells of a longer row store, one that
+-- is lent one cell less, which is refused with 2 and counts for nothing, and one that is lent as many as the first. The claim holds
+-- for them in every history; and an example. Assumes nothing.
 use Prim.Native.Nat.{ℕ, _-_, _*_, _<_}
 use mathlib.Core.Path.{_≡_, refl, sym, ap, _∙_}
 use mathlib.Core.Bool.{true}
@@ -35,11 +35,11 @@ use Rattle.history.specs.Laws.Questions.{by-reply}
 use Rattle.history.specs.Laws.Theorem.{term-three}
 use Rattle.history.specs.Laws.LentLengths.{example}
 
--- the row cells that a question needs
+-- the row cells that a query needs
 abbrev pub needed : Stores → ℕ
 needed s = s .header .capacity * s .header .columns
 
--- what a refine replies that is lent so many cells
+-- the reply of a refine that is lent this many cells
 abbrev pub replied : Stores → ℕ → Subset → Constraint → ℕ → Reply Subset
 replied s lent a c output = refineOneReply (s .header) (take lent (s .rows)) a c output
 
@@ -57,13 +57,13 @@ module _ {p : Plain} {s : Stores} (r : Represents p s) where
 
 -- ---- between two that are accepted
 
--- a refine, by its reply
+-- a refine with a given reply
 asked-by : (s : Stores) (lent : ℕ) (a : Subset) (c : Constraint) (output : List ℕ) (r : Reply Subset) → replied s lent a c (length output) ≡ r
     → Asked s a (refineOne c) (left a r) (counting (refineOne c) r)
 asked-by s lent a c output r e =
     by-reply a (refineOne c) r output (λ output′ answer m. one-refined c lent output output′ answer (record { answered = rw e m }))
 
--- the ids left, b, in any form
+-- b has the ids that are left, in any form
 module _ {p : Plain} {s : Stores} (r : Represents p s) (a v b w : Subset) (c : Constraint) (output : List ℕ) (one : replied s (needed s) a c (length output) ≡ accepted v) (same : members b ≡ members v)
     (three : replied s (needed s) b c (length output) ≡ accepted w) where
   pub short-between : Run s a (refineOne c ∷ refineOne c ∷ refineOne c ∷ []) w (refineOne c ∷ refineOne c ∷ [])
@@ -73,7 +73,7 @@ module _ {p : Plain} {s : Stores} (r : Represents p s) (a v b w : Subset) (c : C
       (next (asked-by s (needed s - 1) b c output (refused 2) (refused-by-2 r b c (length output))) refl
       (next (asked-by s (needed s) b c output (accepted w) three) refl (end w)))
 
--- the claim holds of them
+-- the claim holds for them
 pub short-between-claimed : {o : Opening} {generation : ℕ} {calls : List LentCall} {s : Stores} → History o generation calls s
     → (a v b w : Subset) (c : Constraint) (output : List ℕ) → replied s (needed s) a c (length output) ≡ accepted v → members b ≡ members v → replied s (needed s) b c (length output) ≡ accepted w
     → (members w ≡ keep (wanted s (refineOne c ∷ refineOne c ∷ [])) (members a)) × (rising (members w) ≡ true)

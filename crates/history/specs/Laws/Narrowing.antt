@@ -1,4 +1,5 @@
--- What is left of a list of ids by accepted questions: how it starts, goes on, and ends as the wanted ids. Assumes nothing.
+-- The ids that accepted queries leave: how they start, how each query changes them, and that they end as the wanted ids. Assumes
+-- nothing.
 use Prim.Native.Nat.{ℕ, _<_}
 use mathlib.Core.Path.{_≡_, refl, sym, ap, _∙_}
 use mathlib.Core.Logic.{inl, inr}
@@ -21,7 +22,7 @@ use Rattle.history.specs.Claim.{satisfies, wanted}
 unfoldable pub alive : Stores → ℕ → Bool
 alive s id = ltb id (s .header .rows) && isLive (rowAt (s .header .columns) id (s .rows))
 
--- what all the accepted questions ask for
+-- the row satisfies all accepted queries
 unfoldable pub fits : Stores → List Question → ℕ → Bool
 fits s accepted id = every (satisfies id (rowAt (s .header .columns) id (s .rows))) accepted
 
@@ -69,15 +70,15 @@ any-both test (x ∷ xs) ys = rw (any-both test xs ys) (sym (or-assoc (test x) (
 pub record Narrows (s : Stores) (before after : List ℕ) (accepted : List Question) : Type 0 where
   -- of the live rows, those that fit
   pub live : (id : ℕ) → alive s id ≡ true → has id after ≡ (has id before && fits s accepted id)
-  -- no other id comes in
+  -- no id is added
   pub among : (id : ℕ) → has id after ≡ true → has id before ≡ true
   -- after refining only live rows are left
   pub only-live : any refines accepted ≡ true → (id : ℕ) → has id after ≡ true → alive s id ≡ true
-  -- an accepted question takes rising ids and leaves rising ids, any other leaves them as they are
+  -- an accepted query takes rising ids and leaves rising ids, any other leaves them unchanged
   pub rises : rising after ≡ rising before
   pub rising-before : any refines accepted ≡ true → rising before ≡ true
 
--- nothing was accepted
+-- no query was accepted
 pub narrows-not : (s : Stores) (ids : List ℕ) → Narrows s ids ids []
 unfolding fits every any
 narrows-not s ids =
@@ -89,7 +90,7 @@ narrows-not s ids =
       rising-before = λ e. absurd (false≢true e);
     }
 
--- a question was accepted: of rising ids it left those that pass a test
+-- a query was accepted: of rising ids it left those that pass a test
 pub narrows-keep : {s : Stores} {before after : List ℕ} {q : Question} (test : ℕ → Bool) → rising before ≡ true → after ≡ keep test before
     → ((id : ℕ) → alive s id ≡ true → test id ≡ satisfies id (rowAt (s .header .columns) id (s .rows)) q)
     → (refines q ≡ true → (id : ℕ) → has id before ≡ true → test id ≡ true → alive s id ≡ true)
@@ -107,7 +108,7 @@ narrows-keep {before = before} {after = after} {q} test up left passes only =
     is : (id : ℕ) → has id after ≡ (has id before && test id)
     is id = rw left (has-keep test id before)
 
--- one question after others
+-- one query after others
 fits-both : (s : Stores) (xs ys : List Question) (id : ℕ) (before : Bool) → ((before && fits s xs id) && fits s ys id) ≡ (before && fits s (xs ++ ys) id)
 unfolding fits
 fits-both s xs ys id before = rw (every-both (satisfies id (rowAt (s .header .columns) id (s .rows))) xs ys) (and-assoc before _ _)
@@ -149,7 +150,7 @@ module _ {s : Stores} {before after : List ℕ} {accepted : List Question} (n : 
       none : (has id after ≡ true → ⊥) → has id after ≡ false
       none f = elim (split (has id after)) [ inl q ↦ absurd (f q) | inr q ↦ q ]
 
-  -- once refined, exactly the wanted ones are left
+  -- after refining, exactly the wanted ids are left
   pub narrowed-wanted : after ≡ keep (wanted s accepted) before
   narrowed-wanted =
       rising-ext after (keep (wanted s accepted) before) narrowed-rising (rising-keep (wanted s accepted) before (n .rising-before r))

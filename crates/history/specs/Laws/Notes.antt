@@ -1,4 +1,4 @@
--- An accepted note guarantees what its copy holds. Assumes nothing but the promises that histories are made of, and that of the
+-- An accepted note guarantees what its copy holds. Assumes nothing but the contracts that histories consist of, and that of the
 -- rows since a noted version.
 use Prim.Native.Nat.{ℕ, _+_, _-_, _≤_, _<_}
 use mathlib.Core.Path.{_≡_, sym, ap, _∙_}
@@ -40,11 +40,11 @@ range-yes : (a b i : ℕ) → a ≤ i → i < b → has i (members (range a b)) 
 range-yes a b i h k = has-range a b i ∙ within-of a (a + (b - a)) i h (omega arith)
 
 module _ {p q : Plain} {then now : Stores} (r : Represents p then) (s : Represents q now) (f : Follows (p .rows) (q .rows)) where
-  -- a stored row is live where the plain table's is
+  -- a stored row is live exactly if the plain table's row is
   live-now : (i : ℕ) → i < length (p .rows) → isLive (storedRow now i) ≡ rowOf q i .live
   live-now i h = sym (row-shown s i (omega (arith, follows-length f)) .live)
 
-  -- and has then the cells that it had
+  -- and then it has the cells that it had
   pub same-now : (i : ℕ) → i < then .header .rows → isLive (storedRow now i) ≡ true → storedRow now i ≡ storedRow then i
   same-now i h e =
       let k : i < length (p .rows) = omega (arith, rows-counted r) in
@@ -57,7 +57,7 @@ module _ {p q : Plain} {then now : Stores} (r : Represents p then) (s : Represen
   kept-or-dead : (i : ℕ) → i < then .header .rows → (storedRow now i ≡ storedRow then i) ⊎ (isLive (storedRow now i) ≡ false)
   kept-or-dead i h = elim (split (isLive (storedRow now i))) [ inl e ↦ inl (same-now i h e) | inr e ↦ inr e ]
 
-  -- the live rows of the range since then are those behind the rows that were there
+  -- the live rows of the range since then are those behind the earlier rows
   behind : keep (λ row. has (row .number) (members (range (then .header .rows) (now .header .rows)))) (liveFrom 0 (q .rows))
       ≡ liveFrom (0 + length (p .rows)) (drop (length (p .rows)) (q .rows))
   behind =

@@ -1,4 +1,4 @@
--- The price of compaction, of every history, from the promises alone. Assumes nothing.
+-- The price of compaction for every history, from the contracts alone. Assumes nothing.
 use Prim.Native.Nat.{ℕ, _+_, _≤_, _<_}
 use mathlib.Core.Path.{_≡_, refl, sym, ap, _∙_}
 use mathlib.Core.Logic.{inl, inr}
@@ -32,14 +32,14 @@ use Rattle.history.specs.Laws.Calls.{step-represents, opened-represents,
 
 -- ---- one call
 
--- what is counted of it is what the definition counts, and the rows that it finds and appends are left, dropped, or emptied
+-- its counts are those of the definition, and each row that existed before it or was appended by it is left, dropped or emptied
 record Balanced (p : Plain) (c : LentCall) (w : Wear) : Type 0 where
   kept : w .kept ≡ ofAccepted mergeKeeps p c
   dropped : w .dropped ≡ ofAccepted mergeDrops p c
   fewer : w .kept ≤ w .dropped
   rows : length (p .rows) + ofAccepted mergeAdds p c ≡ length (after p (c .lengths) (c .call) .rows) + (w .dropped + w .compacted) + w .emptied
 
--- a refused one counts nothing
+-- a refused call counts nothing
 refused-balanced : (p : Plain) (c : LentCall) → 0 < refusal p (c .lengths) (c .call) → Balanced p c (wear 0 0 0 0)
 unfolding ofAccepted
 refused-balanced p c h =
@@ -61,7 +61,7 @@ module _ (p : Plain) (c : LentCall) (z : refusal p (c .lengths) (c .call) ≡ 0)
         rows = rw (accepted-done p (c .lengths) (c .call) z, accepted-of mergeAdds) q;
       }
 
--- so does one that is no merge and leaves the rows as they are
+-- a call that is no merge and leaves the row count unchanged counts nothing
 staged-balanced : (p : Plain) (c : LentCall) → ((number : Plain → ℕ) → ofMerge number p (c .call) ≡ 0) → length (done p (c .call) .rows) ≡ length (p .rows)
     → Balanced p c (wear 0 0 0 0)
 staged-balanced p c none e =
@@ -78,7 +78,7 @@ counted-accepted : {A : Type 0} (r : Reply A) (a : A) (f : A → Wear) → r ≡
 unfolding counted
 counted-accepted r a f e = rw e
 
--- what is counted of a merge, of the caller's compaction and of a clear
+-- the counts of a merge, of the caller's compaction and of a clear
 abbrev merging-wears : Merge → Wear
 merging-wears a = wear (a .kept) (a .dropped) 0 0
 
@@ -88,7 +88,7 @@ compacting-wears s h = wear 0 0 (s .header .dead) 0
 abbrev clearing-wears : Stores → Header → Wear
 clearing-wears s h = wear 0 0 0 (s .header .rows)
 
--- what is lent, and what stands behind it
+-- the lent part of each store, and the cells behind it
 module _ {p : Plain} (s : Stores) (rest : Body) (more : List ℕ) (r : Represents p (behind s rest more)) where
   merged-balanced : (w : CompactionWords) (answer : MergeAnswer) (b′ : Body) (w′ : CompactionWords) → Merging s w answer b′ w′
       → Balanced p (record { call = merging; lengths = lengthsLent s w }) (counted (mergeSays answer) merging-wears)
@@ -111,7 +111,7 @@ module _ {p : Plain} (s : Stores) (rest : Body) (more : List ℕ) (r : Represent
   unfolding done ofMerge
   compacted-balanced w answer b′ w′ m =
       let c : LentCall = record { call = compacting; lengths = lengthsLent s w } in
-      -- the pending store is not lent, and the ladder does not look at it
+      -- the pending store is not lent, and the checks do not read it
       let k = lengthsLent (joined (s .header) (bodyOf s) []) w in
       let n : ℕ = compactRefusal (s .header) k in
       let same : n ≡ refusal p (lengthsLent s w) compacting = compact-ladders r k ∙ (unfold refusal compactLadder storesShort wordsShort in refl) in

@@ -1,4 +1,4 @@
--- Each question, accepted or refused, narrows the ids that it is put on by what it asks, if it counts. Assumes nothing.
+-- Each query, accepted or refused, narrows the ids that it is given by its own condition or subset, if it counts. Assumes nothing.
 use Prim.Native.Nat.{ℕ, _+_, _*_, _≤_, _<_}
 use mathlib.Core.Path.{_≡_, refl, sym, ap, _∙_}
 use mathlib.Core.Logic.{inl, inr}
@@ -41,16 +41,16 @@ use Rattle.history.specs.Runs.{Question, refines, left, counting, Inters
 use Rattle.history.specs.Claim.{satisfies}
 use Rattle.history.specs.Laws.Narrowing.{alive, alive-of, alive-below, alive-live, Narrows, narrows-not, narrows-keep}
 
--- ---- an answer, read off its output
+-- ---- an answer, read from its output
 
--- a refused question leaves the ids and counts for nothing, an accepted one does what its value does
+-- a refused query leaves the ids and counts for nothing, an accepted one narrows them to its value
 replied-narrows : {s : Stores} {q : Question} (a : Subset) (r : Reply Subset) → ((v : Subset) → r ≡ accepted v → Narrows s (members a) (members v) (q ∷ []))
     → Narrows s (members a) (members (left a r)) (counting q r)
 unfolding left counting
 replied-narrows {s} a (refused n) f = narrows-not s (members a)
 replied-narrows a (accepted v) f = f v refl
 
--- a question leaves what its reply says, whatever its output holds
+-- the ids that a query leaves are those of its reply, whatever its output holds
 pub by-reply : {s : Stores} (a : Subset) (q : Question) (r : Reply Subset) (output : List ℕ)
     → ((output′ : List ℕ) (answer : SubsetAnswer) → Answered r output answer output′ → Asked s a q (left a (readOff answer output′)) (counting q (readOff answer output′)))
     → Asked s a q (left a r) (counting q r)
@@ -58,7 +58,7 @@ by-reply a q r output f = let t = answer-to r output in rw (t .1 .answers) at (f
 
 -- ---- refining
 
--- the tests of *Refine*, passed
+-- the tests of *Refine* pass
 pub record Refinable (h : Header) (rows : ℕ) (a : Subset) (output : ℕ) : Type 0 where
   pub rows-fit : h .rows ≤ h .capacity
   pub rows-long : h .capacity * h .columns ≤ rows
@@ -81,13 +81,13 @@ refinable h rows a cs output e =
       space = ltb-false _ _ (first-no _ 1 _ (first-rest _ 5 _ f));
     }
 
--- its ids are rows
+-- its ids are numbers of rows
 has-below : (h : Header) (rows : ℕ) (a : Subset) (output : ℕ) → Refinable h rows a output → (id : ℕ) → has id (members a) ≡ true → id < h .rows
 has-below h rows a output m id e =
     let p = has-at id (members a) e in
     omega (arith, members-below a (m .formed) (p .0) (omega (arith, length-members a, p .1)), m .inside, p .2)
 
--- a row that lies in the first cells of a store, read off them
+-- a row within the first cells of a store can be read from them
 row-lent : (w i lent : ℕ) (rows : List ℕ) → (i + 1) * w ≤ lent → rowAt w i (take lent rows) ≡ rowAt w i rows
 row-lent w i lent rows h =
     let k : i < i + 1 = omega arith in
@@ -107,7 +107,7 @@ module _ (s : Stores) (lent : ℕ) (a : Subset) (cs : List Constraint) (output :
       let k : (id + 1) * s .header .columns ≤ lent = omega (arith, mul-le-mul-right (s .header .columns) n, m .rows-long, below) in
       ap (λ (row : List ℕ). meets row cs) (row-lent (s .header .columns) id lent (s .rows) k)
 
-  -- of its ids those are kept that are live and meet the conditions
+  -- a refine keeps the ids whose row is live and meets the conditions
   refined-narrows : {q : Question} (v : Subset) → members v ≡ keep test (members a) → ((id : ℕ) (row : List ℕ) → satisfies id row q ≡ every (met row) cs)
       → Narrows s (members a) (members v) (q ∷ [])
   refined-narrows v is asking =
@@ -117,7 +117,7 @@ module _ (s : Stores) (lent : ℕ) (a : Subset) (cs : List Constraint) (output :
       let h = has-below (s .header) _ a output m id e in
       alive-of s id h (unfold meets in and-left _ _ (sym (test-is id h) ∙ q)))
 
--- its answer has room
+-- its answer fits the output
 pub refined-fit : {h : Header} {rows : ℕ} (a : Subset) (output : ℕ) → Refinable h rows a output → (test : ℕ → Bool) (v : Subset) → members v ≡ keep test (members a)
     → length (written (accepted v)) ≤ output
 refined-fit a output m test v is =
@@ -125,7 +125,7 @@ refined-fit a output m test v is =
 
 -- ---- intersecting
 
--- the ids in common, whichever subset comes first: what is left of a list of ids by one that it is intersected with
+-- intersecting leaves the ids that both subsets have, whichever comes first
 intersected-narrows : {s : Stores} {q : Question} (a b : Subset) (output : List ℕ) (answer : SubsetAnswer) (output′ : List ℕ) → Intersected a b output answer output′
     → ((v : Subset) → rising (members a) ≡ true → members v ≡ keep (λ id. has id (members b)) (members a) → Narrows s (members a) (members v) (q ∷ []))
     → Narrows s (members a) (members (left a (readOff answer output′))) (counting q (readOff answer output′))
@@ -171,7 +171,7 @@ met-compared : (row : List ℕ) (c : Constraint) → (c .kind ≡ 0 → ⊥) →
 unfolding met
 met-compared row c h = rw (ne-eqb (c .kind) 0 h)
 
--- entries that lie in the first cells of a store, read off them
+-- entries within the first cells of a store can be read from them
 entries-lent : (n lent : ℕ) (sorts : List ℕ) → 2 * n ≤ lent → entriesOf n (take lent sorts) ≡ entriesOf n sorts
 entries-lent n lent sorts h = entriesOf-same n (take lent sorts) sorts (take-take (2 * n) lent sorts h)
 
@@ -199,7 +199,7 @@ module _ {p : Plain} {s : Stores} (r : Represents p s) (c : Constraint) (lent : 
       same : {x y : Option Subset} → accepted x ≡ accepted y → x ≡ y
       same f = cc
 
--- ---- the questions
+-- ---- the queries
 
 module _ {p : Plain} {s : Stores} (r : Represents p s) where
   pub asked-narrows : {a b : Subset} {q : Question} {counted : List Question} → Asked s a q b counted → Narrows s (members a) (members b) counted

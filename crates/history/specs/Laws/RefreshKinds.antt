@@ -1,6 +1,6 @@
--- An example: a history with a refresh of each kind. A table of 3 columns and capacity 4 is opened. A refresh by column 2 takes a new
--- index store, which is sound. The next is lent an index store that has seen a row where the table has none, which is unsound. Assumes
--- nothing.
+-- An example: a history with a refresh of each kind. A table of 3 columns and capacity 4 is opened. A refresh by column 2 takes a
+-- new index store, which is sound. The next is lent an index store that has seen a row where the table has none, which is unsound.
+-- Assumes nothing.
 use Prim.Native.Nat.{ℕ}
 use mathlib.Core.Path.{refl, sym}
 use mathlib.Core.Bool.{true, false, false≢true}
@@ -32,8 +32,8 @@ empty = emptyHeader example 0
 abbrev rows : List ℕ
 rows = exampleStores .rows
 
--- an index store of generation 0 by its words 0, 2, 3 and 4: whether it is written, the rows seen, how many columns are named, and the
--- first of these
+-- an index store of generation 0 by its words 0, 2, 3 and 4: whether it is written, the rows seen, how many columns are named, and
+-- the first of these
 abbrev indexStore : ℕ → ℕ → ℕ → ℕ → List ℕ
 indexStore written seen count column =
     written ∷ 0 ∷ seen ∷ count ∷ column
@@ -43,11 +43,11 @@ indexStore written seen count column =
 abbrev pub byColumn : Refresh
 byColumn = record { columns = 2 ∷ []; values = 7 ∷ []; stamp = 0 }
 
--- no row was staged
+-- the answer if no row was staged
 abbrev nothing : Refreshed
 nothing = record { header = empty; staged = false }
 
--- whatever the index store holds, it is accepted and starts the index afresh
+-- whatever the index store holds, the refresh is accepted and starts the index afresh
 example-refreshed : (written seen count column : ℕ)
     → Refreshing empty rows [] (indexStore written seen count column) byColumn (RefreshDone nothing) [] (indexStore 1 0 1 2)
 unfolding refreshSays reply refreshRefusal refreshLadder first pendingOutside outside openable every largestSays below indexShort overfull wordsAll recordsFound refreshed mentioning liveRows liveFrom rowsIn rowsOf keep flat putAt isNew generationSeen rowsSeen columnsNamed namedIn

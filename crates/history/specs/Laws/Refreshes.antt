@@ -1,5 +1,5 @@
--- Index stores stay sound along every history, and refreshes over them do what the plain table does, from the promises alone. Assumes
--- nothing.
+-- Index stores remain sound along every history, and refreshes over them have the effect of the plain table's, from the contracts
+-- alone. Assumes nothing.
 use Prim.Native.Nat.{ℕ, _+_, _*_, _≤_, _<_}
 use mathlib.Core.Path.{_≡_, refl, sym, ap, _∙_}
 use mathlib.Core.Logic.{inl, inr}
@@ -37,11 +37,11 @@ use Rattle.history.specs.Laws.Calls.{own-records, refresh-same, step-rep
 use Rattle.history.specs.Laws.Further.{history-then}
 use Rattle.history.specs.Laws.Notes.{generation-shown, same-now}
 
--- ---- two tables, a row store each, of which the second has no fewer rows
+-- ---- two tables with a row store each; the second has no fewer rows
 
 module _ {h g : Header} {rows rows′ index : List ℕ} (more : h .rows ≤ g .rows) (capacity : g .capacity ≡ h .capacity)
     (same : (i : ℕ) → i < h .rows → isLive (rowAt (g .columns) i rows′) ≡ true → rowAt (g .columns) i rows′ ≡ rowAt (h .columns) i rows) where
-  -- where the live rows are the same, an index of the one is one of the other
+  -- if the live rows are the same, an index of one table is an index of the other
   index-again : IndexOf h rows index → IndexOf g rows′ index
   index-again o =
       record {
@@ -52,21 +52,21 @@ module _ {h g : Header} {rows rows′ index : List ℕ} (more : h .rows ≤ g .r
             rw (e, capacity) (o .listed row place below (rw e at live) there);
       }
 
--- any first part of the row store
+-- any first part of the row store has the same rows
 row-front : (h : Header) (rows more : List ℕ) → h .rows * h .columns ≤ length rows → (i : ℕ) → i < h .rows → rowAt (h .columns) i (rows ++ more) ≡ rowAt (h .columns) i rows
 unfolding rowAt
 row-front h rows more long i k =
     let e = row-in i (h .rows) (h .columns) k in
     rw (drop-append-le (i * h .columns) rows more (omega arith), take-append-le (h .columns) (drop (i * h .columns) rows) more (simp length-drop (omega arith)))
 
--- ---- an index store that nothing but this table's refreshes has written
+-- ---- an index store that only this table's refreshes have written
 
--- of no later generation, and of this one only as an index of the table
+-- its generation is not later than the table's, and if it is the same, the store is an index of the table
 record Followed (h : Header) (rows index : List ℕ) : Type 0 where
   not-later : isNew index ≡ false → generationSeen index ≤ h .generation
   of-now : isNew index ≡ false → generationSeen index ≡ h .generation → IndexOf h rows index
 
--- beside stores that show a plain table
+-- such a store, beside stores that represent a plain table
 record Beside (t : Stores) (index : List ℕ) : Type 0 where
   plain : Plain
   represents : Represents plain t
@@ -78,7 +78,7 @@ rows-fit r = rw (r .shown .header) (r .proper .rows-fit)
 capacity-some : {p : Plain} {s : Stores} → Represents p s → 0 < s .header .capacity
 capacity-some {p} r = rw (r .shown .header) (openable-bounds (p .opening) (r .proper .numbers) .capacity-some)
 
--- another call leaves it so
+-- any other call preserves this
 waits-beside : {t u : Stores} {c : LentCall} {index : List ℕ} → Beside t index → Step t c u → Beside u index
 unfolding afterAll
 waits-beside {c = c} b step =
@@ -150,7 +150,7 @@ module _ (t : Stores) (rest : Body) (pending lent more : List ℕ) (b : Beside (
     refreshes-beside : Beside refreshed-stores (lent′ ++ more)
     refreshes-beside = record { plain = _; represents = step-represents (b .represents) own-step; followed = refreshed-followed }
 
-    -- it does what the plain table does
+    -- it has the effect of the plain table's refresh
     module _ {p : Plain} (r : Represents p (behind t rest pending)) where
       refused-same : number m ≡ ownRefusal p t q lent
       refused-same = refresh-same t rest pending r m (lent-sound (q .columns))

@@ -1,4 +1,4 @@
--- Old stamps stay out of every history, from the promises alone. Assumes nothing.
+-- Old stamps stay out of every history, from the contracts alone. Assumes nothing.
 use mathlib.Core.Path.{ap, _∙_}
 use Rattle.plain_table.specs.Laws.Stamps.{stamped-history}
 use Rattle.table.specs.declared.Header.{Header}

@@ -1,5 +1,5 @@
--- Term 3 of the order: the claim holds of every history and of every run of questions. Assumes nothing but the promises
--- that the claim's histories and runs are made of.
+-- Term 3 of the order: the claim holds for every history and for every run of queries. Assumes nothing but the contracts that the
+-- claim's histories and runs consist of.
 use mathlib.Core.List.{List}
 use Rattle.offsets.specs.Subsets.{Subset, members}
 use Rattle.plain_table.specs.Plain.{Plain}
@@ -11,7 +11,7 @@ use Rattle.history.specs.Laws.Calls.{history-represents}
 use Rattle.history.specs.Laws.Narrowing.{Narrows, narrows-not, narrows-then, narrowed-wanted, narrowed-rising}
 use Rattle.history.specs.Laws.Questions.{asked-narrows}
 
--- a run narrows the ids that it starts on by all that is accepted, whichever form each question gets them in
+-- a run narrows the ids that it starts with by all accepted queries, in whichever form each query gets them
 pub run-narrows : {p : Plain} {s : Stores} {a c : Subset} {qs accepted : List Question} → Represents p s → Run s a qs c accepted → Narrows s (members a) (members c) accepted
 run-narrows {s = s} r (end a) = narrows-not s (members a)
 run-narrows r (next asked same rest) = narrows-then (asked-narrows r asked) (rw same at (run-narrows r rest))

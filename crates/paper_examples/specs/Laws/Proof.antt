@@ -1,4 +1,4 @@
--- All twelve settled examples come out as the paper says: one statement over the whole list. Assumes nothing.
+-- All twelve examples have the results that the paper gives: one statement over the whole list. Assumes nothing.
 use mathlib.Core.Path.{_≡_, refl}
 use mathlib.Core.Bool.{true}
 use Rattle.lists.specs.Lists.{every, any, keep, count, rowAt, countFrom, above, rising, has, within, same, firstOf}

@@ -1,5 +1,5 @@
--- Batches of inserts: what a merge that does not stop leaves of the live rows depends on the live rows alone, one insert after
--- another, so that a batch may be cut anywhere. Why and when an insert stops plays no part. Assumes nothing.
+-- Batches of inserts. The live rows after a merge that does not stop depend only on the live rows before it, one insert after
+-- another, so a batch may be cut anywhere. Why and when an insert stops is irrelevant here. Assumes nothing.
 use Prim.Native.Nat.{ℕ, zero, suc, _<_}
 use mathlib.Core.Path.{_≡_, refl, sym, ap, ap₂, _∙_}
 use mathlib.Core.Logic.{inl, inr}
@@ -23,7 +23,7 @@ use Rattle.plain_table.specs.Laws.Live.{cells-liveFrom, liveRows-compact
 unfoldable pub liveCells : Plain → List (List ℕ)
 liveCells p = map (λ row. row .cells) (liveRows p)
 
--- those of a list of rows
+-- the live cells of a list of rows
 unfoldable cellsOf : List Row → List (List ℕ)
 cellsOf rows = map (λ row. row .cells) (keep (λ row. row .live) rows)
 
@@ -31,14 +31,14 @@ live-cells-of : (p : Plain) → liveCells p ≡ cellsOf (p .rows)
 unfolding liveCells liveRows cellsOf
 live-cells-of p = cells-liveFrom 0 (p .rows)
 
--- a row is appended
+-- after a row is appended
 cells-of-appended : (rows : List Row) (cells : List ℕ) → cellsOf (rows ++ (liveRow cells ∷ [])) ≡ cellsOf rows ++ (cells ∷ [])
 unfolding cellsOf keep
 cells-of-appended rows cells =
     ap (map (λ (row : Row). row .cells)) (keep-append (λ (row : Row). row .live) rows (liveRow cells ∷ []))
     ∙ map-append (λ (row : Row). row .cells) (keep (λ row. row .live) rows) (liveRow cells ∷ [])
 
--- the rows of a key die
+-- after the rows of a key die
 cells-of-killed : (keys : ℕ) (key : List ℕ) (rows : List Row) → cellsOf (killIf (liveWithKey keys key) rows) ≡ keep (λ cells. not (hasKey keys key cells)) (cellsOf rows)
 unfolding cellsOf killIf keep liveWithKey
 cells-of-killed keys key [] = refl
@@ -49,7 +49,7 @@ cells-of-killed keys key (row ∷ rows) =
       | inr e ↦ rw (e, h)
     ]
 
--- the first that passes a test on what is mapped
+-- `firstOf` commutes with `map`
 first-of-map : {A B : Type 0} (f : A → B) (test : B → Bool) (l : List A) → Option·map f (firstOf (λ x. test (f x)) l) ≡ firstOf test (map f l)
 unfolding firstOf
 first-of-map f test [] = refl
@@ -57,7 +57,7 @@ first-of-map f test (x ∷ xs) =
     let h = first-of-map f test xs in
     elim (split (test (f x))) [ inl e ↦ rw e | inr e ↦ rw (e, h) ]
 
--- ---- an insert, as the live rows see it
+-- ---- the effect of an insert on the live rows
 
 -- "A new key is appended. A known key goes through the rule; a row so made is appended and the old row dies"
 unfoldable placed : Opening → List ℕ → Option (List ℕ) → List (List ℕ) → List (List ℕ)
@@ -71,7 +71,7 @@ placed o cells (some old) live =
 unfoldable arrived : Opening → List ℕ → List (List ℕ) → List (List ℕ)
 arrived o cells live = cond (skipped cells) live (placed o cells (firstOf (hasKey (o .keys) (take (o .keys) cells)) live) live)
 
--- all of them, the first one first
+-- all inserts, in order
 unfoldable allArrived : Opening → List (List ℕ) → List (List ℕ) → List (List ℕ)
 allArrived o [] live = live
 allArrived o (cells ∷ rest) live = allArrived o rest (arrived o cells live)
@@ -81,7 +81,7 @@ unfolding allArrived
 all-arrived-then o [] b live = refl
 all-arrived-then o (cells ∷ rest) b live = all-arrived-then o rest b (arrived o cells live)
 
--- what comes of an insert into p: these live rows, or a stop
+-- an insert into p either leaves these live rows or stops
 abbrev Leaves : Plain → List (List ℕ) → Reply (Option Plain) → Type 0
 Leaves p live (refused number) = 0 < number
 Leaves p live (accepted none) = liveCells p ≡ live
@@ -112,7 +112,7 @@ put-leaves cells (some old) p = go (ruled (p .opening .rule) (p .opening .keys) 
         rw (live-cells-of p, ← cells-of-killed (p .opening .keys) key (p .rows))
         (append-leaves row p (killIf (liveWithKey (p .opening .keys) key) (p .rows)))
 
--- what is looked up by key is found among the cells
+-- a lookup by key in the table finds the same cells as a search in its live cells
 lookup-cells : (p : Plain) (key : List ℕ) → Option·map (λ row. row .cells) (lookup p key) ≡ firstOf (hasKey (p .opening .keys) key) (liveCells p)
 unfolding lookup liveCells
 lookup-cells p key = first-of-map (λ (row : Numbered). row .cells) (hasKey (p .opening .keys) key) (liveRows p)
@@ -125,7 +125,7 @@ insertion-leaves cells p =
 
 -- ---- a merge of inserts alone
 
--- inserts none of which stops
+-- the live rows after inserts none of which stops
 insert-all-leaves : (rows : List (List ℕ)) (place : ℕ) (added : Bool) (p : Plain) → insertAll rows place added p .status ≡ 0
     → liveCells (insertAll rows place added p .table) ≡ allArrived (p .opening) rows (liveCells p)
 unfolding insertAll allArrived
@@ -145,7 +145,7 @@ insert-all-leaves (cells ∷ rest) place added p e =
     go (accepted (some p′)) q l ih s = rw (← l, ← insertion-alike cells p p′ q .opening) (ih true p′ s)
     go (refused n) q l ih s = absurd (omega (arith, l, s))
 
--- emptied of its staged records, and compacted or not, a table has the same live rows
+-- The end of a merge: drops the staged records, and compacts or not. The live rows do not change.
 abbrev finished : Bool → Plain → Plain
 finished compacting p = cond compacting (compacted (unstaged p)) (unstaged p)
 
@@ -158,13 +158,13 @@ unfolding liveCells
 live-cells-finished true p = liveRows-compacted (unstaged p) ∙ live-cells-unstaged p
 live-cells-finished false p = live-cells-unstaged p
 
--- and the same opening
+-- The opening does not change, and nothing is staged.
 finished-rest : (compacting : Bool) (p : Plain) → (finished compacting p .opening ≡ p .opening) × (finished compacting p .staged ≡ [])
 unfolding compacted unstaged
 finished-rest true p = (refl, refl)
 finished-rest false p = (refl, refl)
 
--- a batch staged: one insert after another
+-- stages a batch, one insert after another
 unfoldable pub batch : List (List ℕ) → Plain → Plain
 batch [] p = p
 batch (cells ∷ rest) p = batch rest (stage p (insert cells))
@@ -174,26 +174,26 @@ unfolding batch stage
 batch-staged [] p = sym (append-nil (p .staged))
 batch-staged (cells ∷ rest) p = batch-staged rest (stage p (insert cells)) ∙ append-assoc (p .staged) (insert cells ∷ []) (map insert rest)
 
--- only its inserts
+-- the inserts of a batch are all its records
 inserts-map : (rows : List (List ℕ)) → inserts (map insert rows) ≡ rows
 unfolding inserts
 inserts-map [] = refl
 inserts-map (cells ∷ rest) = ap (λ (l : List (List ℕ)). cells ∷ l) (inserts-map rest)
 
--- nothing is removed
+-- a batch removes nothing
 kept-map : (rows : List (List ℕ)) (p : Plain) → (foldl withoutKey p (map insert rows) ≡ p) × (foldl withoutRow p (map insert rows) ≡ p)
 unfolding withoutKey withoutRow
 kept-map [] p = (refl, refl)
 kept-map (cells ∷ rest) p = kept-map rest p
 
--- the rest is as it was
+-- the opening and the live rows do not change
 batch-rest : (rows : List (List ℕ)) (p : Plain) → (batch rows p .opening ≡ p .opening) × (liveCells (batch rows p) ≡ liveCells p)
 unfolding batch stage liveCells liveRows
 batch-rest [] p = (refl, refl)
 batch-rest (cells ∷ rest) p = batch-rest rest (stage p (insert cells))
 
 module _ (rows : List (List ℕ)) (p : Plain) (e : p .staged ≡ []) where
-  -- what is staged is the batch
+  -- a merge of a staged batch applies exactly its inserts
   applied-batch : applied (batch rows p) ≡ insertAll rows 0 false (batch rows p)
   unfolding applied removed
   applied-batch =
@@ -205,7 +205,7 @@ module _ (rows : List (List ℕ)) (p : Plain) (e : p .staged ≡ []) where
       ∙ kept-map rows q .1 in
       ap₂ (λ (cells : List (List ℕ)) (t : Plain). insertAll cells 0 false t) (ap inserts staged ∙ inserts-map rows) kept
 
-  -- merged without a stop, it is the live rows' arrivals
+  -- if the merge does not stop, `allArrived` is its effect on the live rows
   merged-leaves : merged (batch rows p) .status ≡ 0 → liveCells (merged (batch rows p) .table) ≡ allArrived (p .opening) rows (liveCells p)
   unfolding merged
   merged-leaves q =
@@ -217,7 +217,7 @@ module _ (rows : List (List ℕ)) (p : Plain) (e : p .staged ≡ []) where
       ∙ insert-all-leaves rows 0 false (batch rows p) k
       ∙ ap₂ (λ (o : Opening) (live : List (List ℕ)). allArrived o rows live) (rest .0) (rest .1)
 
-  -- with the same opening, and nothing pending
+  -- The opening does not change, and nothing is pending.
   merged-rest : merged (batch rows p) .status ≡ 0 → (merged (batch rows p) .table .opening ≡ p .opening) × (merged (batch rows p) .table .staged ≡ [])
   unfolding merged
   merged-rest q =

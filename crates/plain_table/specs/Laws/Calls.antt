@@ -1,4 +1,4 @@
--- A call that is refused, and one that is not. Assumes nothing.
+-- Laws of refused and of accepted calls. Assumes nothing.
 use Prim.Native.Nat.{ℕ, suc, _<_}
 use mathlib.Core.Path.{_≡_, refl}
 use mathlib.Core.Bool.{Bool, true, false}
@@ -16,12 +16,12 @@ pub refused-nothing : (p : Plain) (l : Lengths) (c : Call) → 0 < refusal p l c
 unfolding after
 refused-nothing p l c h = rw (ne-eqb (refusal p l c) 0 (omega arith))
 
--- a call that is not refused is done
+-- an accepted call has the effect `done`
 pub accepted-done : (p : Plain) (l : Lengths) (c : Call) → refusal p l c ≡ 0 → after p l c ≡ done p c
 unfolding after
 accepted-done p l c e = rw (eq-eqb (refusal p l c) 0 e)
 
--- where each call leads from a table as said, and ways can be joined, so do calls one after another
+-- a reflexive and transitive relation that holds for each accepted call holds for every list of calls
 module _ (Leads : Plain → Plain → Type 0) (same : (p : Plain) → Leads p p) (joined : (p q r : Plain) → Leads p q → Leads q r → Leads p r)
     (each : (p : Plain) (c : Call) → Leads p (done p c)) where
   leads-one : (p : Plain) (l : Lengths) (c : Call) → Leads p (after p l c)
@@ -36,13 +36,13 @@ module _ (Leads : Plain → Plain → Type 0) (same : (p : Plain) → Leads p p)
   leads-all p [] = same p
   leads-all p (c ∷ cs) = joined _ _ _ (leads-one p (c .lengths) (c .call)) (leads-all (after p (c .lengths) (c .call)) cs)
 
--- where no rung applies, the first does not
+-- if no check applies, the first one does not
 pub first-no : (applies : Bool) (n : ℕ) (rest : List Rung) → first (rung applies (suc n) ∷ rest) ≡ 0 → applies ≡ false
 unfolding first
 first-no true n rest e = absurd (omega arith)
 first-no false n rest e = refl
 
--- nor does one of the others
+-- if no check applies, none of the later ones does
 pub first-rest : (applies : Bool) (n : ℕ) (rest : List Rung) → first (rung applies (suc n) ∷ rest) ≡ 0 → first rest ≡ 0
 unfolding first
 first-rest true n rest e = absurd (omega arith)

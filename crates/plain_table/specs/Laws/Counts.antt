@@ -1,5 +1,4 @@
--- What a merge's parts leave as it was: the count of rows, the opening, the generation, the staged records. Assumes
--- nothing.
+-- What the parts of a merge leave unchanged: the row count, the opening, the generation, the staged records. Assumes nothing.
 use Prim.Native.Nat.{ℕ, zero, suc}
 use mathlib.Core.Path.{_≡_, refl, ap, _∙_}
 use mathlib.Core.Bool.{Bool, true, false, cond}
@@ -15,21 +14,21 @@ use Rattle.plain_table.specs.Staged.{Staged, insert, removeKey, removeRo
 use Rattle.plain_table.specs.Plain.{Row, Plain, withRows, withRow, liveWithKey, killIf, withoutKey, dies, withoutRow, removed, stop, append, put, insertion, applied, Numbered, lookup, goOn, insertAll}
 use Rattle.merge_rules.specs.Laws.Rules.{ruled-made}
 
--- ---- removals keep the count of rows
+-- ---- removals do not change the row count
 
--- rows that die stay in their places
+-- a row that dies remains in the list
 pub length-killIf : (test : Row → Bool) (rows : List Row) → length (killIf test rows) ≡ length rows
 unfolding killIf
 length-killIf test rows = length-map rows (λ row. cond (test row) (record { live = false; cells = row .cells }) row)
 
--- so does the row of a removal by row
+-- the same for a removal by row
 pub length-dies : (keys : ℕ) (key : List ℕ) (number : ℕ) (rows : List Row) → length (dies keys key number rows) ≡ length rows
 unfolding dies
 length-dies keys key number [] = refl
 length-dies keys key zero (row ∷ rows) = refl
 length-dies keys key (suc number) (row ∷ rows) = ap suc (length-dies keys key number rows)
 
--- What rows that die leave as it was, a merge's removals leave as it was.
+-- a property that holds after rows die holds after all removals of a merge
 pub removed-keeps : (P : Plain → Type 0)
     → ((q : Plain) (test : Row → Bool) → P q → P (withRows q (killIf test (q .rows))))
     → ((q : Plain) (keys : ℕ) (key : List ℕ) (number : ℕ) → P q → P (withRows q (dies keys key number (q .rows))))
@@ -49,13 +48,13 @@ removed-keeps P kill die p h = by-row (p .staged) _ (by-key (p .staged) p h)
     by-row (removeKey key ∷ rs) q g = by-row rs q g
     by-row (removeRow row key ∷ rs) q g = by-row rs _ (die q _ key row g)
 
--- they keep the count of rows
+-- removals do not change the row count
 pub length-removed : (p : Plain) → length (removed p .rows) ≡ length (p .rows)
 length-removed p =
     removed-keeps (λ q. length (q .rows) ≡ length (p .rows)) (λ q test e. length-killIf test (q .rows) ∙ e)
     (λ q keys key number e. length-dies keys key number (q .rows) ∙ e) p refl
 
--- ---- what is left but the rows and the largest value
+-- ---- everything but the rows and the largest value
 
 -- the same opening, generation and staged records
 pub record Alike (p q : Plain) : Type 0 where
@@ -63,15 +62,15 @@ pub record Alike (p q : Plain) : Type 0 where
   pub generation : q .generation ≡ p .generation
   pub staged : q .staged ≡ p .staged
 
--- other rows only
+-- if only the rows differ
 pub alike-rows : (p : Plain) (rows : List Row) → Alike p (withRows p rows)
 alike-rows p rows = record { opening = refl; generation = refl; staged = refl }
 
--- nothing changes
+-- reflexivity
 pub alike-same : (p : Plain) → Alike p p
 alike-same p = record { opening = refl; generation = refl; staged = refl }
 
--- one change after another
+-- transitivity
 pub alike-then : {p q r : Plain} → Alike p q → Alike q r → Alike p r
 alike-then a b =
     record {
@@ -80,14 +79,14 @@ alike-then a b =
       staged = b .staged ∙ a .staged;
     }
 
--- a merge's removals change rows only
+-- a merge's removals change only the rows
 pub removed-alike : (p : Plain) → Alike p (removed p)
 removed-alike p =
     removed-keeps (λ q. Alike p q) (λ q test a. alike-then a (alike-rows q _)) (λ q keys key number a. alike-then a (alike-rows q _)) p (alike-same p)
 
 -- ---- an insertion
 
--- an insert that appends: it is not skipped, there is no stop, and its key is new or the rule makes a row
+-- an insert that appends a row: it is not skipped, it does not stop, and its key is new or the rule makes a row
 pub data Appended (cells : List ℕ) (p : Plain) : Plain → Type 0 where
   new : skipped cells ≡ false
       → lookup p (take (p .opening .keys) cells) ≡ none
@@ -100,7 +99,7 @@ pub data Appended (cells : List ℕ) (p : Plain) : Plain → Type 0 where
       → stop row p ≡ 0
       → Appended cells p (withRow p (killIf (liveWithKey (p .opening .keys) (take (p .opening .keys) cells)) (p .rows)) row)
 
--- a row is appended only where there is no stop
+-- a row is appended only if nothing stops it
 append-appended : (cells : List ℕ) (p p′ : Plain) (rows : List Row) → append cells p rows ≡ accepted (some p′)
     → (stop cells p ≡ 0) × (withRow p rows cells ≡ p′)
 unfolding append reply
@@ -110,7 +109,7 @@ append-appended cells p p′ rows e = go (stop cells p) e
     go zero f = (refl, cc)
     go (suc n) f = absurd (let z : _≡_ {A = ℕ} 0 1 = cc in omega arith)
 
--- what an insert that appends went through
+-- an accepted insertion that changes the table appends a row
 pub insertion-appended : (cells : List ℕ) (p p′ : Plain) → insertion cells p ≡ accepted (some p′) → Appended cells p p′
 unfolding insertion put
 insertion-appended cells p p′ e = skip (skipped cells) refl e
@@ -144,17 +143,17 @@ appended-alike : {cells : List ℕ} {p p′ : Plain} → Appended cells p p′ �
 appended-alike (new s l q) = record { opening = refl; generation = refl; staged = refl }
 appended-alike (again old row s l c m q) = record { opening = refl; generation = refl; staged = refl }
 
--- an insertion that appends adds one row; the others leave the table as it is
+-- an insertion that appends adds one row; any other leaves the table unchanged
 pub insertion-count : (cells : List ℕ) (p p′ : Plain) → insertion cells p ≡ accepted (some p′) → length (p′ .rows) ≡ suc (length (p .rows))
 insertion-count cells p p′ e = appended-count (insertion-appended cells p p′ e)
 
--- it changes rows and the largest value only
+-- it changes only the rows and the largest value
 pub insertion-alike : (cells : List ℕ) (p p′ : Plain) → insertion cells p ≡ accepted (some p′) → Alike p p′
 insertion-alike cells p p′ e = appended-alike (insertion-appended cells p p′ e)
 
--- ---- all the inserts
+-- ---- all inserts
 
--- what each insert that appends keeps, the inserts keep, where all pass the test that it needs
+-- a property that each appending insert preserves is preserved by all inserts, if each of them passes the required test
 pub insertAll-keeps : (P : Plain → Type 0) (test : List ℕ → Bool)
     → ((cells : List ℕ) (p p′ : Plain) → test cells ≡ true → P p → insertion cells p ≡ accepted (some p′) → P p′)
     → (rows : List (List ℕ)) → every test rows ≡ true → (place : ℕ) (added : Bool) (p : Plain) → P p → P (insertAll rows place added p .table)
@@ -169,18 +168,18 @@ insertAll-keeps P test f (cells ∷ rest) e place added p h =
     go (accepted (some p′)) q ih = ih true p′ (f cells p p′ (every-head test cells rest e) h q)
     go (refused n) q ih = h
 
--- a test that all pass
+-- every row passes the constant test
 pub every-true : (rows : List (List ℕ)) → every (λ row. true) rows ≡ true
 unfolding every
 every-true [] = refl
 every-true (row ∷ rows) = every-true rows
 
--- the inserts change rows and the largest value only
+-- all inserts change only the rows and the largest value
 pub insertAll-alike : (rows : List (List ℕ)) (place : ℕ) (added : Bool) (p : Plain) → Alike p (insertAll rows place added p .table)
 insertAll-alike rows place added p =
     insertAll-keeps (λ t. Alike p t) (λ row. true) (λ cells t t′ u h q. alike-then h (insertion-alike cells t t′ q)) rows (every-true rows) place added p (alike-same p)
 
--- a merge's removals and inserts leave all but the rows and the largest value
+-- a merge's removals and inserts change only the rows and the largest value
 pub applied-alike : (p : Plain) → Alike p (applied p .table)
 unfolding applied
 applied-alike p = alike-then (removed-alike p) (insertAll-alike (inserts (p .staged)) 0 false (removed p))

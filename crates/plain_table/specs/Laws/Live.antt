@@ -10,13 +10,13 @@ use Rattle.lists.specs.Laws.Keep.{split, count-le, every-keep}
 use Rattle.lists.specs.Laws.Every.{keep-again, count-not}
 use Rattle.plain_table.specs.Plain.{Row, Plain, liveFrom, liveRows, dead, compacted}
 
--- the cells of the live rows, whatever they are numbered from
+-- the cells of the live rows do not depend on the first row number
 pub cells-liveFrom : (n : ℕ) (rows : List Row) → map (λ r. r .cells) (liveFrom n rows) ≡ map (λ r. r .cells) (keep (λ row. row .live) rows)
 unfolding liveFrom keep
 cells-liveFrom n [] = refl
 cells-liveFrom n (row ∷ rows) = let h = cells-liveFrom (suc n) rows in elim (split (row .live)) [ inl e ↦ rw (e, h) | inr e ↦ rw (e, h) ]
 
--- dead rows are rows
+-- there are no more dead rows than rows
 pub dead-le : (p : Plain) → dead p ≤ length (p .rows)
 unfolding dead
 dead-le p = count-le (λ row. not (row .live)) (p .rows)

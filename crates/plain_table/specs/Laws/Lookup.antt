@@ -1,4 +1,4 @@
--- The live row of a key: what `lookup` finds is there, and it finds what is there. Assumes nothing.
+-- The live row of a key: `lookup` finds exactly the live row that has the key. Assumes nothing.
 use Prim.Native.Nat.{ℕ, suc, _+_, _<_}
 use mathlib.Core.Path.{_≡_, refl, sym, ap, ap₂, _∙_}
 use mathlib.Core.Logic.{inl, inr}
@@ -60,12 +60,12 @@ module _ (keys : ℕ) (key : List ℕ) where
       ]
 
 module _ (p : Plain) (key : List ℕ) where
-  -- where nothing is found, no live row has the key
+  -- if nothing is found, no live row has the key
   pub lookup-none : lookup p key ≡ none → every (freeRow (p .opening .keys) key) (p .rows) ≡ true
   unfolding lookup liveRows
   lookup-none e = found-none (p .opening .keys) key 0 (p .rows) e
 
-  -- what is found is there
+  -- the row that is found exists, is live and has the key
   pub lookup-at : (r : Numbered) → lookup p key ≡ some r
       → (r .number < length (p .rows)) × (liveWithKey (p .opening .keys) key (rowOf p (r .number)) ≡ true) × (rowOf p (r .number) .cells ≡ r .cells)
   unfolding lookup liveRows
@@ -74,7 +74,7 @@ module _ (p : Plain) (key : List ℕ) where
       let i : r .number ≡ t .0 = omega (arith, t .1) in
       rw i (t .2, t .3, t .4)
 
-  -- no live row has the key: nothing is found
+  -- if no live row has the key, nothing is found
   pub none-lookup : ((i : ℕ) → liveWithKey (p .opening .keys) key (rowOf p i) ≡ true → ⊥) → lookup p key ≡ none
   none-lookup f = go (lookup p key) refl
     where
@@ -82,7 +82,7 @@ module _ (p : Plain) (key : List ℕ) where
       go none q = refl
       go (some r) q = absurd (f (r .number) (lookup-at r q .1))
 
-  -- one row alone is live and has it: it is found
+  -- if exactly one live row has the key, it is found
   pub one-lookup : (i : ℕ) → liveWithKey (p .opening .keys) key (rowOf p i) ≡ true
       → ((j : ℕ) → liveWithKey (p .opening .keys) key (rowOf p j) ≡ true → j ≡ i)
       → lookup p key ≡ some (record { number = i; cells = rowOf p i .cells })

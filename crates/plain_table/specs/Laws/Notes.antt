@@ -1,5 +1,5 @@
--- What comes after a version: the opening's numbers stay, the generation never falls, and while it is the same, rows only die and come
--- behind. Assumes nothing.
+-- Changes after a version: the opening's numbers do not change, and the generation never falls. While the generation is the same,
+-- rows only die or are appended. Assumes nothing.
 use Prim.Native.Nat.{ℕ, zero, suc, _+_, _≤_, _<_, suc-le-suc}
 use mathlib.Core.Path.{_≡_, refl, sym, ap, _∙_}
 use mathlib.Core.Logic.{inl, inr}
@@ -18,7 +18,7 @@ use Rattle.plain_table.specs.Laws.Rows.{noRow}
 use Rattle.plain_table.specs.Laws.Calls.{leads-all}
 use Rattle.plain_table.specs.Laws.Counts.{Appended, new, again, insertion-appended, removed-keeps, every-true, insertAll-keeps, applied-alike}
 
--- the second list is the first, some rows dead and others behind them
+-- the second list is the first with some rows dead, followed by more rows
 pub data Follows : List Row → List Row → Type 0 where
   behind : (rows : List Row) → Follows [] rows
   stays : (row : Row) {a b : List Row} → Follows a b → Follows (row ∷ a) (row ∷ b)
@@ -78,7 +78,7 @@ applied-follows p = follows-then (removed-follows p) (insertAll-follows (inserts
 
 -- ---- the calls
 
--- The opening's numbers are as they were, the generation is no lower, and where it is the same rows have only died and come behind
+-- The opening's numbers are the same, and the generation is no lower. If it is the same, rows have only died or been appended.
 pub record Onward (p q : Plain) : Type 0 where
   pub opening : q .opening ≡ p .opening
   pub generation : p .generation ≤ q .generation
@@ -130,13 +130,13 @@ onward-done p clearing = onward-cleared p
 onward-done p (refreshing r index) = onward-rows refl refl (follows-same (p .rows))
 onward-done p (feeding rs) = onward-rows refl refl (follows-same (p .rows))
 
--- calls one after another, refused and stopped ones and clears of an empty table among them
+-- the same for a list of calls, with refused and stopped ones and clears of an empty table among them
 pub onward-all : (p : Plain) (cs : List LentCall) → Onward p (afterAll p cs)
 onward-all = leads-all Onward onward-same (λ p q r a b. onward-then a b) onward-done
 
--- ---- the rows that were there
+-- ---- the earlier rows
 
--- a row that is still live is as it was
+-- an earlier row that is still live has not changed
 pub follows-at : {a b : List Row} → Follows a b → (i : ℕ) → i < length a → getD b i noRow .live ≡ true → getD b i noRow ≡ getD a i noRow
 follows-at (behind rows) i h e = absurd (omega arith)
 follows-at (stays row f) zero h e = refl
@@ -157,7 +157,7 @@ shifted : (n : ℕ) (still : ℕ → Bool) (a b : List Row)
     → liveFrom (suc n) b ≡ keep (λ row. still (row .number)) (liveFrom (suc n) a) ++ liveFrom (n + suc (length a)) (drop (length a) b)
 shifted n still a b h = rw (shift n (length a)) at h
 
--- the live rows: those that were live and still are, and those behind them
+-- the live rows: the earlier live rows that are still live, followed by the live rows appended since
 pub follows-live : (n : ℕ) (still : ℕ → Bool) {a b : List Row} → Follows a b → ((i : ℕ) → i < length a → still (n + i) ≡ getD b i noRow .live)
     → liveFrom n b ≡ keep (λ row. still (row .number)) (liveFrom n a) ++ liveFrom (n + length a) (drop (length a) b)
 unfolding liveFrom keep
@@ -171,10 +171,10 @@ follows-live n still (falls row {a} {b} g) f =
     let h = shifted n still a b (follows-live (suc n) still g (λ i k. ap still (shift n i) ∙ f (suc i) (suc-le-suc k))) in
     elim (split (row .live)) [ inl e ↦ rw (e, t) h | inr e ↦ rw e h ]
 
--- ---- the rows behind
+-- ---- the appended rows
 
 module _ (new : ℕ → Bool) where
-  -- all that are live, if all are new
+  -- if all rows are new, the new live rows are all live rows
   live-new : (n : ℕ) (rows : List Row) → ((i : ℕ) → i < length rows → new (n + i) ≡ true) → keep (λ row. new (row .number)) (liveFrom n rows) ≡ liveFrom n rows
   unfolding liveFrom keep
   live-new n [] f = refl
@@ -183,7 +183,7 @@ module _ (new : ℕ → Bool) where
       let h = live-new (suc n) rows (λ i k. ap new (shift n i) ∙ f (suc i) (suc-le-suc k)) in
       elim (split (row .live)) [ inl e ↦ rw (e, t, h) | inr e ↦ rw (e, h) ]
 
-  -- those from row k on, if these are the new ones
+  -- if the rows from k on are the new ones, the new live rows are those from k on
   pub live-behind : (n k : ℕ) (rows : List Row) → k ≤ length rows → ((i : ℕ) → i < k → new (n + i) ≡ false)
       → ((i : ℕ) → k ≤ i → i < length rows → new (n + i) ≡ true) → keep (λ row. new (row .number)) (liveFrom n rows) ≡ liveFrom (n + k) (drop k rows)
   unfolding liveFrom keep

@@ -1,4 +1,5 @@
--- What a merge appends, keeps and drops adds up, and its compaction keeps no more rows than it drops. Assumes nothing.
+-- The numbers of rows that a merge appends, keeps and drops add up, and its compaction keeps no more rows than it drops. Assumes
+-- nothing.
 use Prim.Native.Nat.{ℕ, suc, _+_, _/_, _≤_, _<_, max}
 use mathlib.Core.Path.{_≡_, refl, sym}
 use mathlib.Core.Logic.{inl, inr}
@@ -17,17 +18,17 @@ use Rattle.plain_table.specs.Plain.{Plain, insertion, goOn, insertAll, r
 use Rattle.plain_table.specs.Appending.{appendsOn, insertsAppend, mergeAppends}
 use Rattle.plain_table.specs.Laws.Counts.{insertion-count, length-removed}
 
--- a row is live or dead
+-- each row is either live or dead
 pub live-dead : (p : Plain) → live p + dead p ≡ length (p .rows)
 unfolding live dead
 live-dead p = omega (arith, count-split (λ row. row .live) (p .rows))
 
--- a compaction leaves the live ones
+-- a compaction keeps exactly the live rows
 pub compacted-live : (p : Plain) → length (compacted p .rows) ≡ live p
 unfolding compacted live
 compacted-live p = length-keep (λ row. row .live) (p .rows)
 
--- each insert that appends adds a row
+-- each insert that appends adds one row
 inserts-count : (rows : List (List ℕ)) (place : ℕ) (added : Bool) (p : Plain)
     → length (insertAll rows place added p .table .rows) ≡ length (p .rows) + length (insertsAppend rows p)
 unfolding insertAll insertsAppend
@@ -41,12 +42,12 @@ inserts-count (cells ∷ rest) place added p = go (insertion cells p) refl (inse
     go (accepted (some p′)) e ih = omega (arith, ih true p′, insertion-count cells p p′ e)
     go (refused n) e ih = sym (add-zero (length (p .rows)))
 
--- the rows before a merge's compaction
+-- the row count before a merge's compaction
 applied-rows : (p : Plain) → length (applied p .table .rows) ≡ length (p .rows) + length (mergeAppends p)
 unfolding applied mergeAppends
 applied-rows p = omega (arith, inserts-count (inserts (p .staged)) 0 false (removed p), length-removed p)
 
--- what a merge appends is in its rows, or was dropped
+-- each row that existed before a merge or was appended by it is in the table after it or was dropped
 pub merged-rows : (p : Plain) → length (p .rows) + length (mergeAppends p) ≡ length (merged p .table .rows) + mergeDrops p
 unfolding merged mergeDrops unstaged
 merged-rows p =
@@ -59,7 +60,7 @@ merged-rows p =
     unstaged-live : (q : Plain) → live (unstaged q) ≡ live q
     unstaged-live q = unfold live unstaged in refl
 
--- half the rows and more are dead, so fewer are kept
+-- if more than half of the rows are dropped, no more rows are kept than dropped
 more-dead : (kept dropped rows : ℕ) → kept + dropped ≡ rows → max 16 (rows / 2) < dropped → kept ≤ dropped
 more-dead kept dropped rows e h = omega (arith, le-max-right 16 (rows / 2))
 

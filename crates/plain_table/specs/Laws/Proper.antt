@@ -1,4 +1,4 @@
--- Opening makes a proper table, and every call keeps one proper. Assumes nothing.
+-- An opening makes a proper table, and every call leaves a proper table proper. Assumes nothing.
 use Prim.Native.Nat.{ℕ, _+_, _≤_, _<_, max, _/_}
 use mathlib.Core.Path.{_≡_, refl, sym, ap, _∙_}
 use mathlib.Core.Logic.{inl, inr}
@@ -41,7 +41,7 @@ pub record Bounds (o : Opening) : Type 0 where
   pub capacity-some : 1 ≤ o .capacity
   pub capacity-few : o .capacity ≤ 65536
 
--- an accepted opening is within them
+-- an accepted opening is within its bounds
 pub openable-bounds : (o : Opening) → openable o ≡ true → Bounds o
 unfolding openable
 openable-bounds o e =
@@ -62,7 +62,7 @@ openable-bounds o e =
       capacity-few = leb-true _ _ (and-right (leb 1 (o .columns) && leb (o .columns) 8 && leb 1 (o .keys) && leb (o .keys) (o .columns) && ltb (o .sort) (o .columns) && leb (o .rule) 3 && leb 1 (o .capacity)) _ e);
     }
 
--- numbers within their bounds are accepted
+-- an opening within its bounds is accepted
 pub bounds-openable : (o : Opening) → Bounds o → openable o ≡ true
 unfolding openable
 bounds-openable o b =
@@ -77,13 +77,13 @@ bounds-openable o b =
       le-leb _ _ (b .capacity-few),
     )
 
--- ---- proper, and the rows as a list
+-- ---- `Proper` by the row list
 
 -- every staged record has the right number of cells
 abbrev pub Whole : Opening → List Staged → Type 0
 Whole o staged = every (λ r. not (wrongWidth o r)) staged ≡ true
 
--- a proper table's rows are tidy
+-- the rows of a proper table are tidy (`Tidy`)
 pub proper-tidy : {p : Plain} → Proper p → Tidy (p .opening) (p .largest) (p .rows)
 proper-tidy {p} h =
     record {
@@ -95,7 +95,7 @@ proper-tidy {p} h =
       kept = h .largest-kept;
     }
 
--- tidy rows, and the rest, make a proper table
+-- a table is proper if its rows are tidy and its other parts are in order
 pub tidy-proper : (p : Plain) → openable (p .opening) ≡ true → p .generation ≤ 4294967295 → Tidy (p .opening) (p .largest) (p .rows) → Whole (p .opening) (p .staged) → Proper p
 tidy-proper p bounds fits t whole =
     record {
@@ -110,7 +110,7 @@ tidy-proper p bounds fits t whole =
       staged-whole = whole;
     }
 
--- no rows
+-- an empty row list is tidy
 pub tidy-none : (o : Opening) (largest : Option ℕ) → Tidy o largest []
 unfolding every
 tidy-none o largest =
@@ -123,18 +123,18 @@ tidy-none o largest =
       kept = refl;
     }
 
--- a table is opened
+-- a newly opened table is proper
 pub opened-proper : (o : Opening) (generation : ℕ) → openable o ≡ true → generation ≤ 4294967295 → Proper (opened o generation)
 unfolding opened
 opened-proper o generation e h = tidy-proper (opened o generation) e h (tidy-none o none) (unfold every in refl)
 
--- ---- rows die, and rows go
+-- ---- rows die or are dropped
 
--- other rows, all else the same
+-- the table with other tidy rows
 pub withRows-proper : {p : Plain} (rows : List Row) → Proper p → Tidy (p .opening) (p .largest) rows → Proper (withRows p rows)
 withRows-proper {p} rows h t = tidy-proper (withRows p rows) (h .numbers) (h .generation-fits) t (h .staged-whole)
 
--- some rows dead or gone
+-- some rows die or are dropped
 pub thinned-proper : {p : Plain} {rows : List Row} → Proper p → Thinned (p .rows) rows → Proper (withRows p rows)
 thinned-proper {p} {rows} h t = withRows-proper rows h (thinned-tidy (p .opening) t (proper-tidy h))
 
@@ -152,17 +152,17 @@ removed-proper {p} h = removed-keeps Proper (λ q test k. killIf-proper test k) 
 
 -- ---- a row is appended
 
--- where nothing stops an insert there is room
+-- if an insert does not stop, the table is not full
 pub stop-room : (cells : List ℕ) (p : Plain) → stop cells p ≡ 0 → length (p .rows) < p .opening .capacity
 unfolding stop
 stop-room cells p e = leb-false _ _ (first-no _ 7 _ e)
 
--- its sort cell is not below the largest value
+-- and its sort cell is not below the largest value
 pub stop-above : (cells : List ℕ) (p : Plain) → stop cells p ≡ 0 → below (getD cells (p .opening .sort) 0) (p .largest) ≡ false
 unfolding stop
 stop-above cells p e = first-no _ 8 _ (first-rest _ 7 _ e)
 
--- a live row of a key that no live row has, after rows that some of the table's are dead in
+-- Appends a live row whose key no live row has. The rows before it are those of the table, some dead or dropped.
 pub append-proper : {p : Plain} (cells : List ℕ) {rows : List Row} → Proper p → Thinned (p .rows) rows
     → length cells ≡ p .opening .columns
     → isDead (getD cells 0 0) ≡ false
@@ -177,7 +177,7 @@ append-proper {p} cells {rows} h t width head free e =
 
 -- ---- inserts
 
--- no live row of a key is left once those of that key died
+-- after the live rows of a key die, no live row has that key
 pub killIf-free : (keys : ℕ) (key : List ℕ) (rows : List Row) → every (freeRow keys key) (killIf (liveWithKey keys key) rows) ≡ true
 unfolding killIf
 killIf-free keys key [] = unfold every in refl
@@ -202,11 +202,11 @@ appended-proper {cells} {p} h w (again old row s l c m e) =
     (rw row-key (killIf-free keys (take keys cells) (p .rows)))
     e
 
--- a row of the right width is inserted: what is appended leaves a proper table; otherwise it is the table itself
+-- an insert of the right width that appends a row leaves a proper table; any other leaves the table unchanged
 pub insertion-proper : (cells : List ℕ) (p p′ : Plain) → Proper p → length cells ≡ p .opening .columns → insertion cells p ≡ accepted (some p′) → Proper p′
 insertion-proper cells p p′ h w e = appended-proper h w (insertion-appended cells p p′ e)
 
--- all the inserts, each of the right width
+-- all inserts, each of the right width
 pub insertAll-proper : {p : Plain} (rows : List (List ℕ)) (place : ℕ) (added : Bool) → Proper p → every (λ cells. eqb (length cells) (p .opening .columns)) rows ≡ true
     → Proper (insertAll rows place added p .table)
 insertAll-proper {p} rows place added h e =
@@ -236,7 +236,7 @@ applied-proper {p} h =
     insertAll-proper (inserts (p .staged)) 0 false (removed-proper h)
     (rw (removed-alike p .opening) (inserts-wide (p .opening) (p .staged) (h .staged-whole)))
 
--- a compaction, where a generation is left
+-- a compaction below the last generation
 pub compacted-proper : {p : Plain} → Proper p → p .generation < 4294967295 → Proper (compacted p)
 unfolding compacted
 compacted-proper {p} h k =
@@ -247,11 +247,11 @@ pub unstaged-proper : {p : Plain} → Proper p → Proper (unstaged p)
 unfolding unstaged
 unstaged-proper {p} h = tidy-proper (unstaged p) (h .numbers) (h .generation-fits) (proper-tidy h) (unfold every in refl)
 
--- a generation that fits and is not the last is below it
+-- a generation that fits and is not the last is below the last
 below-last : (g : ℕ) → g ≤ 4294967295 → eqb g 4294967295 ≡ false → g < 4294967295
 below-last g h e = omega (arith, eqb-false g 4294967295 e)
 
--- a merge compacts only where a generation is left
+-- a merge compacts only below the last generation
 compacts-below : {p : Plain} (status : ℕ) → Proper p → compactsAfter status p ≡ true → p .generation < 4294967295
 unfolding compactsAfter due
 compacts-below {p} status h e =
@@ -267,7 +267,7 @@ merged-proper {p} h =
 
 -- ---- stage and clear
 
--- a record is staged that is not refused
+-- an accepted record is staged
 pub staged-proper : {p : Plain} (outside : Bool) (pending : ℕ) (r : Staged) → Proper p → stageLadder outside (p .opening) (length (p .rows)) (used p) pending r ≡ 0 → Proper (stage p r)
 unfolding stage stageLadder
 staged-proper {p} outside pending r h e =
@@ -275,14 +275,14 @@ staged-proper {p} outside pending r h e =
     tidy-proper (stage p r) (h .numbers) (h .generation-fits) (proper-tidy h)
     (every-snoc (λ s. not (wrongWidth (p .opening) s)) (p .staged) r (h .staged-whole) (rw w))
 
--- whole records
+-- whole records are staged
 pub stageAll-proper : {p : Plain} (rs : List Staged) → Proper p → Whole (p .opening) rs → Proper (stageAll p rs)
 unfolding stageAll
 stageAll-proper {p} rs h whole =
     tidy-proper (stageAll p rs) (h .numbers) (h .generation-fits) (proper-tidy h)
     (every-append (λ s. not (wrongWidth (p .opening) s)) (p .staged) rs (h .staged-whole) whole)
 
--- those of a refresh
+-- the records of a refresh are whole
 pub records-whole : {p : Plain} (r : Refresh) → Proper p → Whole (p .opening) (recordsOf p r)
 unfolding mentioning liveRows
 records-whole {p} r h =
@@ -290,7 +290,7 @@ records-whole {p} r h =
     refreshed-whole o (r .stamp) (mentioning r p) (openable-bounds o (h .numbers) .keys-few)
     (every-keep-of (λ row. eqb (length (row .cells)) (o .columns)) (λ row. mentions (r .columns) (r .values) (row .cells)) (liveRows p) (live-wide o 0 (p .rows) (h .widths)))
 
--- a clear, where a generation is left if there are rows
+-- a clear; if there are rows, only below the last generation
 pub cleared-proper : {p : Plain} → Proper p → (0 < length (p .rows) → p .generation < 4294967295) → Proper (cleared p)
 unfolding cleared
 cleared-proper {p} h f =
@@ -303,7 +303,7 @@ cleared-proper {p} h f =
 
 -- ---- calls
 
--- a call that is not refused
+-- an accepted call
 pub done-proper : {p : Plain} (l : Lengths) (c : Call) → Proper p → refusal p l c ≡ 0 → Proper (done p c)
 unfolding done refusal
 done-proper {p} l (staging r) h e = staged-proper (ltb (l .pending) (used p)) (l .pending) r h e
@@ -321,7 +321,7 @@ done-proper {p} l clearing h e =
 done-proper {p} l (refreshing r index) h e = stageAll-proper (recordsOf p r) h (records-whole r h)
 done-proper {p} l (feeding rs) h e = stageAll-proper rs h (none-wrong (p .opening) rs (first-no _ 2 _ e))
 
--- every call keeps a table proper, a refused one too
+-- every call, refused ones included
 pub after-proper : {p : Plain} (l : Lengths) (c : Call) → Proper p → Proper (after p l c)
 after-proper {p} l c h =
     elim (ℕ-discrete (refusal p l c) 0) [
@@ -329,7 +329,7 @@ after-proper {p} l c h =
       | no e ↦ rw (refused-nothing p l c (omega arith)) h
     ]
 
--- all the calls
+-- a list of calls
 pub afterAll-proper : {p : Plain} (cs : List LentCall) → Proper p → Proper (afterAll p cs)
 unfolding afterAll
 afterAll-proper [] h = h

@@ -34,7 +34,7 @@ live-wide o n (row ∷ rows) e =
       | inr l ↦ rw l rest
     ]
 
--- the two records of a row
+-- the two records of a row are whole
 restamping-whole : (o : Opening) (stamp : ℕ) (row : Numbered) → o .keys ≤ o .columns → eqb (length (row .cells)) (o .columns) ≡ true
     → every (λ r. not (wrongWidth o r)) (restamping o stamp row) ≡ true
 unfolding restamping wrongWidth every
@@ -50,7 +50,7 @@ refreshed-whole o stamp (row ∷ rows) few wide =
     (restamping-whole o stamp row few (every-head (λ (r : Numbered). eqb (length (r .cells)) (o .columns)) row rows wide))
     (refreshed-whole o stamp rows few (every-tail (λ (r : Numbered). eqb (length (r .cells)) (o .columns)) row rows wide))
 
--- none is of a wrong width
+-- if no record has a wrong width, all records are whole
 pub none-wrong : (o : Opening) (rs : List Staged) → any (wrongWidth o) rs ≡ false → every (λ r. not (wrongWidth o r)) rs ≡ true
 unfolding any every
 none-wrong o [] e = refl

@@ -1,5 +1,5 @@
--- What holds of the rows of a proper plain table, said by walking the list, and what it is kept by: rows die, rows go,
--- a row is appended. Assumes nothing.
+-- Properties of the rows of a proper plain table, defined by recursion over the row list. They are preserved when rows die, when
+-- rows are dropped and when a row is appended. Assumes nothing.
 use Prim.Native.Nat.{ℕ, zero, suc, _≤_, _<_, suc-le-suc}
 use mathlib.Core.Path.{_≡_, refl, sym, ap, _∙_}
 use mathlib.Core.Logic.{inl, inr}
@@ -20,11 +20,11 @@ use Rattle.plain_table.specs.Staged.{Opening, hasKey}
 use Rattle.plain_table.specs.Plain.{Row, deadRow, liveWithKey, killIf, dies, below, raised}
 use Rattle.plain_table.specs.Proper.{atMost}
 
--- past the end: a dead row of no cells
+-- the default past the end of a list: a dead row without cells
 abbrev pub noRow : Row
 noRow = record { live = false; cells = [] }
 
--- a live one of these cells
+-- a live row with these cells
 abbrev pub liveRow : List ℕ → Row
 liveRow cells = record { live = true; cells = cells }
 
@@ -32,19 +32,19 @@ liveRow cells = record { live = true; cells = cells }
 abbrev pub sortOf : ℕ → Row → ℕ
 sortOf sort row = getD (row .cells) sort 0
 
--- as wide as there are columns
+-- the row has as many cells as there are columns
 abbrev pub wideRow : ℕ → Row → Bool
 wideRow columns row = eqb (length (row .cells)) columns
 
--- dead, or the first cell is not the dead mark
+-- the row is dead, or its first cell is not the dead mark
 abbrev pub firstFits : Row → Bool
 firstFits row = not (row .live) || not (isDead (getD (row .cells) 0 0))
 
--- not a live row of this key
+-- the row is not a live row of this key
 abbrev pub freeRow : ℕ → List ℕ → Row → Bool
 freeRow keys key row = not (liveWithKey keys key row)
 
--- no live row has the key of another
+-- no two live rows have the same key
 unfoldable pub apart : ℕ → List Row → Bool
 apart keys [] = true
 apart keys (row ∷ rows) = (not (row .live) || every (freeRow keys (take keys (row .cells))) rows) && apart keys rows
@@ -54,11 +54,11 @@ unfoldable pub upFrom : ℕ → ℕ → List Row → Bool
 upFrom sort x [] = true
 upFrom sort x (row ∷ rows) = leb x (sortOf sort row) && upFrom sort (sortOf sort row) rows
 
--- the sort cell does not exceed the largest value, and there is one
+-- there is a largest value, and the row's sort cell does not exceed it
 abbrev pub keptRow : ℕ → Option ℕ → Row → Bool
 keptRow sort largest row = atMost (sortOf sort row) largest
 
--- all that is asked of the rows of a proper table, and of the largest value
+-- what `Proper` requires of the rows and of the largest value
 pub record Tidy (o : Opening) (largest : Option ℕ) (rows : List Row) : Type 0 where
   pub fit : length rows ≤ o .capacity
   pub wide : every (wideRow (o .columns)) rows ≡ true
@@ -69,12 +69,12 @@ pub record Tidy (o : Opening) (largest : Option ℕ) (rows : List Row) : Type 0 
 
 -- ---- a key and its rows
 
--- a live row with these first cells is one of the key
+-- a live row with these first cells is a live row of the key
 pub liveWithKey-of : (keys : ℕ) (key : List ℕ) (row : Row) → row .live ≡ true → take keys (row .cells) ≡ key → liveWithKey keys key row ≡ true
 unfolding liveWithKey hasKey
 liveWithKey-of keys key row p q = rw (p, q) (same-refl key)
 
--- a row found by key is live
+-- a live row of a key is live
 pub liveWithKey-live : (keys : ℕ) (key : List ℕ) (row : Row) → liveWithKey keys key row ≡ true → row .live ≡ true
 unfolding liveWithKey
 liveWithKey-live keys key row e = and-left _ _ e
@@ -84,14 +84,14 @@ pub liveWithKey-key : (keys : ℕ) (key : List ℕ) (row : Row) → liveWithKey 
 unfolding liveWithKey hasKey
 liveWithKey-key keys key row e = same-eq _ _ (and-right (row .live) _ e)
 
--- a dead row is no live row of any key
+-- a dead row is not a live row of any key
 pub free-dead : (keys : ℕ) (key : List ℕ) (row : Row) → freeRow keys key (deadRow row) ≡ true
 unfolding liveWithKey
 free-dead keys key row = refl
 
--- ---- apart, and the positions
+-- ---- `apart` by positions
 
--- a row in front, whose key no other live row has
+-- adds a row in front whose key no other live row has
 pub apart-cons : (keys : ℕ) (row : Row) (rows : List Row) → (row .live ≡ true → every (freeRow keys (take keys (row .cells))) rows ≡ true) → apart keys rows ≡ true
     → apart keys (row ∷ rows) ≡ true
 unfolding apart
@@ -103,17 +103,17 @@ pub apart-head : (keys : ℕ) (row : Row) (rows : List Row) → apart keys (row 
 unfolding apart
 apart-head keys row rows e q = or-second (not (row .live)) _ (and-left _ _ e) (rw q)
 
--- the other rows
+-- the remaining rows are apart
 pub apart-tail : (keys : ℕ) (row : Row) (rows : List Row) → apart keys (row ∷ rows) ≡ true → apart keys rows ≡ true
 unfolding apart
 apart-tail keys row rows e = and-right (not (row .live) || every (freeRow keys (take keys (row .cells))) rows) _ e
 
--- live rows at different places have different keys
+-- live rows at different positions have different keys
 abbrev pub KeysDiffer : ℕ → List Row → Type 0
 KeysDiffer keys rows = (i j : ℕ) → getD rows i noRow .live ≡ true → getD rows j noRow .live ≡ true
     → take keys (getD rows i noRow .cells) ≡ take keys (getD rows j noRow .cells) → i ≡ j
 
--- rows with different keys at all places are apart
+-- if keys differ at all positions, the rows are apart
 pub apart-of : (keys : ℕ) (rows : List Row) → KeysDiffer keys rows → apart keys rows ≡ true
 apart-of keys [] f = unfold apart in refl
 apart-of keys (row ∷ rows) f =
@@ -130,17 +130,17 @@ apart-of keys (row ∷ rows) f =
           | inr e ↦ rw e
         ]
 
--- a free row has another key, if it is live
+-- a live row that is not one of the key has another key
 free-differs : (keys : ℕ) (key : List ℕ) (row : Row) → freeRow keys key row ≡ true → row .live ≡ true → key ≡ take keys (row .cells) → ⊥
 free-differs keys key row e p q = false≢true (sym (not-true _ e) ∙ liveWithKey-of keys key row p (sym q))
 
--- a live row lies before the end
+-- a live row is located before the end
 pub live-below : (rows : List Row) (i : ℕ) → getD rows i noRow .live ≡ true → i < length rows
 live-below [] i e = absurd (false≢true e)
 live-below (row ∷ rows) zero e = omega arith
 live-below (row ∷ rows) (suc i) e = suc-le-suc (live-below rows i e)
 
--- such rows have different keys at all places
+-- if the rows are apart, keys differ at all positions
 pub apart-at : (keys : ℕ) (rows : List Row) → apart keys rows ≡ true → KeysDiffer keys rows
 apart-at keys [] a i j p q e = absurd (false≢true p)
 apart-at keys (row ∷ rows) a zero zero p q e = refl
@@ -150,30 +150,30 @@ apart-at keys (row ∷ rows) a (suc i) zero p q e =
     absurd (free-differs keys (take keys (row .cells)) (getD rows i noRow) (every-getD _ rows (apart-head keys row rows a q) i (live-below rows i p) noRow) p (sym e))
 apart-at keys (row ∷ rows) a (suc i) (suc j) p q e = ap suc (apart-at keys rows (apart-tail keys row rows a) i j p q e)
 
--- ---- upFrom, and the positions
+-- ---- `upFrom` by positions
 
 module _ (sort : ℕ) where
-  -- a row in front, not above the next
+  -- adds a row in front whose sort cell is not below x and not above the others
   pub up-cons : (x : ℕ) (row : Row) (rows : List Row) → x ≤ sortOf sort row → upFrom sort (sortOf sort row) rows ≡ true → upFrom sort x (row ∷ rows) ≡ true
   unfolding upFrom
   up-cons x row rows h e = rw (le-leb x (sortOf sort row) h, e)
 
-  -- the first row
+  -- the first sort cell is not below x
   pub up-head : (x : ℕ) (row : Row) (rows : List Row) → upFrom sort x (row ∷ rows) ≡ true → x ≤ sortOf sort row
   unfolding upFrom
   up-head x row rows e = leb-true x (sortOf sort row) (and-left _ _ e)
 
-  -- the other rows, from the first on
+  -- the remaining sort cells are not below the first
   pub up-tail : (x : ℕ) (row : Row) (rows : List Row) → upFrom sort x (row ∷ rows) ≡ true → upFrom sort (sortOf sort row) rows ≡ true
   unfolding upFrom
   up-tail x row rows e = and-right (leb x (sortOf sort row)) _ e
 
-  -- from a smaller number on
+  -- a smaller start holds too
   pub up-weaker : (x y : ℕ) (rows : List Row) → x ≤ y → upFrom sort y rows ≡ true → upFrom sort x rows ≡ true
   up-weaker x y [] h e = unfold upFrom in refl
   up-weaker x y (row ∷ rows) h e = up-cons x row rows (omega (arith, up-head y row rows e)) (up-tail y row rows e)
 
-  -- the rows after the first
+  -- the remaining sort cells are not below x
   pub up-rest : (x : ℕ) (row : Row) (rows : List Row) → upFrom sort x (row ∷ rows) ≡ true → upFrom sort x rows ≡ true
   up-rest x row rows e = up-weaker x (sortOf sort row) rows (up-head x row rows e) (up-tail x row rows e)
 
@@ -192,7 +192,7 @@ module _ (sort : ℕ) where
   up-sorted x (row ∷ rows) e (suc i) zero h k = absurd (omega arith)
   up-sorted x (row ∷ rows) e (suc i) (suc j) h k = up-sorted (sortOf sort row) rows (up-tail x row rows e) i j (omega arith) (omega arith)
 
-  -- sort cells that fall at no place, none below the start
+  -- conversely: sort cells that never fall, none below the start
   pub up-of : (x : ℕ) (rows : List Row) → ((j : ℕ) → j < length rows → x ≤ sortOf sort (getD rows j noRow))
       → ((i j : ℕ) → i ≤ j → j < length rows → sortOf sort (getD rows i noRow) ≤ sortOf sort (getD rows j noRow)) → upFrom sort x rows ≡ true
   up-of x [] f g = unfold upFrom in refl
@@ -200,7 +200,7 @@ module _ (sort : ℕ) where
       up-cons x row rows (f 0 (omega arith))
       (up-of (sortOf sort row) rows (λ j h. g 0 (suc j) (omega arith) (suc-le-suc h)) (λ i j h k. g (suc i) (suc j) (suc-le-suc h) (suc-le-suc k)))
 
-  -- a row that is not below any is appended
+  -- appends a row whose sort cell is not below any other
   pub up-snoc : (x : ℕ) (rows : List Row) (row : Row) → upFrom sort x rows ≡ true → x ≤ sortOf sort row
       → every (λ r. leb (sortOf sort r) (sortOf sort row)) rows ≡ true → upFrom sort x (rows ++ (row ∷ [])) ≡ true
   up-snoc x [] row e h f = up-cons x row [] h (unfold upFrom in refl)
@@ -210,40 +210,40 @@ module _ (sort : ℕ) where
 
 -- ---- the largest value
 
--- a value that is not below the largest exceeds none that is at most it
+-- a value that is not below the largest is not below any cell that is at most the largest
 atMost-above : (value cell : ℕ) (largest : Option ℕ) → below value largest ≡ false → atMost cell largest ≡ true → leb cell value ≡ true
 unfolding below atMost
 atMost-above value cell none a e = absurd (false≢true e)
 atMost-above value cell (some n) a e = le-leb cell value (omega (arith, ltb-false value n a, leb-true cell n e))
 
--- once a value is appended, the largest does not fall
+-- a cell that is at most the largest value is at most the raised one
 atMost-raised : (value cell : ℕ) (largest : Option ℕ) → atMost cell largest ≡ true → atMost cell (some (raised value largest)) ≡ true
 unfolding atMost raised
 atMost-raised value cell none e = absurd (false≢true e)
 atMost-raised value cell (some n) e = le-leb cell _ (omega (arith, leb-true cell n e, le-max-right value n))
 
--- it is not below that value
+-- the appended value is at most the raised one
 raised-atMost : (value : ℕ) (largest : Option ℕ) → atMost value (some (raised value largest)) ≡ true
 unfolding atMost raised
 raised-atMost value none = le-leb value value (omega arith)
 raised-atMost value (some n) = le-leb value _ (le-max-left value n)
 
--- it is that value, since one below the largest is turned away
+-- the raised value is the appended one, since a value below the largest is refused
 pub raised-same : (value : ℕ) (largest : Option ℕ) → below value largest ≡ false → raised value largest ≡ value
 unfolding below raised
 raised-same value none a = refl
 raised-same value (some n) a = max-eq-left (ltb-false value n a)
 
--- ---- rows die, and rows go
+-- ---- rows die or are dropped
 
--- the second list is the first, with some rows dead and some gone
+-- the second list is the first with some rows dead and some dropped
 pub data Thinned : List Row → List Row → Type 0 where
   empty : Thinned [] []
   same-row : (row : Row) {a b : List Row} → Thinned a b → Thinned (row ∷ a) (row ∷ b)
   died : (row : Row) {a b : List Row} → Thinned a b → Thinned (row ∷ a) (deadRow row ∷ b)
   gone : (row : Row) {a b : List Row} → Thinned a b → Thinned (row ∷ a) b
 
--- nothing changes
+-- reflexivity
 pub thinned-same : (rows : List Row) → Thinned rows rows
 thinned-same [] = empty
 thinned-same (row ∷ rows) = same-row row (thinned-same rows)
@@ -265,7 +265,7 @@ dies-thinned keys key zero (row ∷ rows) =
     elim (split (liveWithKey keys key row)) [ inl e ↦ rw e (died row h) | inr e ↦ rw e (same-row row h) ]
 dies-thinned keys key (suc number) (row ∷ rows) = same-row row (dies-thinned keys key number rows)
 
--- rows that fail a test go
+-- rows that fail a test are dropped
 pub keep-thinned : (test : Row → Bool) (rows : List Row) → Thinned rows (keep test rows)
 unfolding keep
 keep-thinned test [] = empty
@@ -273,25 +273,25 @@ keep-thinned test (row ∷ rows) =
     let h = keep-thinned test rows in
     elim (split (test row)) [ inl e ↦ rw e (same-row row h) | inr e ↦ rw e (gone row h) ]
 
--- rows do not become more
+-- the row count does not rise
 pub thinned-length : {a b : List Row} → Thinned a b → length b ≤ length a
 thinned-length empty = omega arith
 thinned-length (same-row row t) = let h = thinned-length t in omega arith
 thinned-length (died row t) = let h = thinned-length t in omega arith
 thinned-length (gone row t) = let h = thinned-length t in omega arith
 
--- a test that a row passes dead where it passes it alive
+-- preserves a test that holds of a dead row whenever it holds of the live one
 pub thinned-every : (test : Row → Bool) → ((row : Row) → test row ≡ true → test (deadRow row) ≡ true) → {a b : List Row} → Thinned a b → every test a ≡ true → every test b ≡ true
 thinned-every test f empty e = e
 thinned-every test f (same-row row t) e = every-cons test row _ (every-head test row _ e) (thinned-every test f t (every-tail test row _ e))
 thinned-every test f (died row t) e = every-cons test (deadRow row) _ (f row (every-head test row _ e)) (thinned-every test f t (every-tail test row _ e))
 thinned-every test f (gone row t) e = thinned-every test f t (every-tail test row _ e)
 
--- a key that no live row has is not had by one afterwards
+-- if no live row has the key before, none has it afterwards
 pub thinned-free : (keys : ℕ) (key : List ℕ) {a b : List Row} → Thinned a b → every (freeRow keys key) a ≡ true → every (freeRow keys key) b ≡ true
 thinned-free keys key t e = thinned-every (freeRow keys key) (λ row q. free-dead keys key row) t e
 
--- keys still differ
+-- keys of live rows still differ
 pub thinned-apart : (keys : ℕ) {a b : List Row} → Thinned a b → apart keys a ≡ true → apart keys b ≡ true
 thinned-apart keys empty e = e
 thinned-apart keys (same-row row t) e =
@@ -299,14 +299,14 @@ thinned-apart keys (same-row row t) e =
 thinned-apart keys (died row t) e = apart-cons keys (deadRow row) _ (λ q. absurd (false≢true q)) (thinned-apart keys t (apart-tail keys row _ e))
 thinned-apart keys (gone row t) e = thinned-apart keys t (apart-tail keys row _ e)
 
--- sort cells still do not fall
+-- sort cells still never fall
 pub thinned-up : (sort x : ℕ) {a b : List Row} → Thinned a b → upFrom sort x a ≡ true → upFrom sort x b ≡ true
 thinned-up sort x empty e = e
 thinned-up sort x (same-row row t) e = up-cons sort x row _ (up-head sort x row _ e) (thinned-up sort (sortOf sort row) t (up-tail sort x row _ e))
 thinned-up sort x (died row t) e = up-cons sort x (deadRow row) _ (up-head sort x row _ e) (thinned-up sort (sortOf sort row) t (up-tail sort x row _ e))
 thinned-up sort x (gone row t) e = thinned-up sort x t (up-rest sort x row _ e)
 
--- tidy rows stay tidy
+-- tidy rows remain tidy
 pub thinned-tidy : (o : Opening) {largest : Option ℕ} {a b : List Row} → Thinned a b → Tidy o largest a → Tidy o largest b
 thinned-tidy o {largest} t g =
     record {
@@ -320,7 +320,7 @@ thinned-tidy o {largest} t g =
 
 -- ---- a row is appended
 
--- a row whose key no live row has
+-- appends a row whose key no live row has
 pub apart-snoc : (keys : ℕ) (rows : List Row) (row : Row) → apart keys rows ≡ true → every (freeRow keys (take keys (row .cells))) rows ≡ true
     → apart keys (rows ++ (row ∷ [])) ≡ true
 apart-snoc keys [] row e f = apart-cons keys row [] (λ q. unfold every in refl) e
@@ -336,7 +336,7 @@ apart-snoc keys (r ∷ rows) row e f =
           | inr k ↦ rw k
         ]
 
--- a live row that fits is appended to tidy rows
+-- appends a live row that fits to tidy rows
 pub tidy-snoc : (o : Opening) (largest : Option ℕ) (rows : List Row) (cells : List ℕ) → Tidy o largest rows
     → length rows < o .capacity
     → length cells ≡ o .columns

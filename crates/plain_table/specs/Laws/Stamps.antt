@@ -1,5 +1,5 @@
--- The sort values appended since opening or the last clear that emptied rows never fall, and a plain table keeps the largest of
--- them, along any calls. Assumes nothing.
+-- The sort values appended since opening or the last clear that emptied rows never fall, and `largest` of a plain table is the
+-- largest of them, after any calls. Assumes nothing.
 use Prim.Native.Nat.{ℕ, suc, _+_, _≤_, _<_}
 use mathlib.Core.Path.{_≡_, refl, sym, ap, subst, _∙_}
 use mathlib.Core.Logic.{inl, inr}
@@ -26,7 +26,7 @@ use Rattle.plain_table.specs.Laws.Rows.{noRow, liveRow, raised-same}
 use Rattle.plain_table.specs.Laws.Counts.{Appended, new, again, insertion-appended, insertion-alike, length-killIf, removed-keeps, removed-alike}
 use Rattle.plain_table.specs.Laws.Proper.{stop-above}
 
--- a table keeps the largest of these sort values, and they never fall
+-- `largest` of the table is the largest of these sort values, and they never fall
 pub record Stamped (p : Plain) (stamps : List ℕ) : Type 0 where
   pub largest-kept : p .largest ≡ greatest stamps
   pub never-fall : (i j : ℕ) → i ≤ j → j < length stamps → getD stamps i 0 ≤ getD stamps j 0
@@ -38,7 +38,7 @@ unfolding below raised
 above-both v x none a = (ltb-false v x a, refl)
 above-both v x (some m) a = (omega (arith, ltb-false v _ a, le-max-left x m), le-ltb v m (omega (arith, ltb-false v _ a, le-max-right x m)))
 
--- a value that is not below the largest is not below any
+-- a value that is not below the largest of a list is not below any of its values
 greatest-above : (v : ℕ) (vs : List ℕ) → below v (greatest vs) ≡ false → every (λ x. leb x v) vs ≡ true
 unfolding greatest
 greatest-above v [] e = unfold every in refl
@@ -46,7 +46,7 @@ greatest-above v (x ∷ vs) e =
     let h = above-both v x (greatest vs) e in
     every-cons (λ y. leb y v) x vs (le-leb x v (h .0)) (greatest-above v vs (h .1))
 
--- it is the largest once it stands after them
+-- appended to the list, such a value is the largest
 greatest-snoc : (v : ℕ) (vs : List ℕ) → every (λ x. leb x v) vs ≡ true → greatest (vs ++ (v ∷ [])) ≡ some v
 unfolding greatest raised
 greatest-snoc v [] e = refl
@@ -54,7 +54,7 @@ greatest-snoc v (x ∷ vs) e =
     ap (λ (g : Option ℕ). some (raised x g)) (greatest-snoc v vs (every-tail (λ y. leb y v) x vs e))
     ∙ ap some (max-eq-right (leb-true x v (every-head (λ y. leb y v) x vs e)))
 
--- ---- one value more
+-- ---- one more value
 
 stamped-snoc : {p : Plain} {stamps : List ℕ} (p′ : Plain) (v : ℕ) → Stamped p stamps → below v (p .largest) ≡ false → p′ .largest ≡ some (raised v (p .largest))
     → Stamped p′ (stamps ++ (v ∷ []))
@@ -83,7 +83,7 @@ stamped-snoc {p} {stamps} p′ v s above e =
 
 -- ---- the inserts of a merge
 
--- the row that an insert appends, and the largest value then
+-- the sort value of the row that an insert appends, and the largest value after it
 appended-stamp : {cells : List ℕ} {p p′ : Plain} → Appended cells p p′
     → let v = getD (rowOf p′ (length (p .rows)) .cells) (p .opening .sort) 0 in
     (below v (p .largest) ≡ false) × (p′ .largest ≡ some (raised v (p .largest)))
@@ -102,7 +102,7 @@ stamped-insertion {p} cells p′ e s =
     let a = appended-stamp (insertion-appended cells p p′ e) in
     stamped-snoc p′ _ s (a .0) (a .1)
 
--- the sort column stays
+-- tables with the same opening have the same sort column
 stampsOf-same : (p q : Plain) (rows : List (List ℕ)) → q .opening ≡ p .opening → stampsOf q rows ≡ stampsOf p rows
 stampsOf-same p q rows e = ap (λ (o : Opening). map (λ cells. getD cells (o .sort) 0) rows) e
 
@@ -130,7 +130,7 @@ stamped-inserts (cells ∷ rest) place added p stamps s = go (insertion cells p)
 removed-largest : (p : Plain) → removed p .largest ≡ p .largest
 removed-largest p = removed-keeps (λ q. q .largest ≡ p .largest) (λ q test e. e) (λ q keys key number e. e) p refl
 
--- another table of the same largest value
+-- a table with the same largest value
 stamped-same : {p : Plain} {stamps : List ℕ} (q : Plain) → q .largest ≡ p .largest → Stamped p stamps → Stamped q stamps
 stamped-same q e s = record { largest-kept = e ∙ s .largest-kept; never-fall = s .never-fall }
 
@@ -172,6 +172,6 @@ unfolding afterAll stampsSince
 stamped-all [] s = s
 stamped-all (c ∷ cs) s = stamped-all cs (stamped-after c s)
 
--- from an opening on
+-- after any list of calls from an opening
 pub stamped-history : (o : Opening) (generation : ℕ) (cs : List LentCall) → Stamped (afterAll (opened o generation) cs) (stampsSince [] (opened o generation) cs)
 stamped-history o generation cs = stamped-all cs (stamped-opened o generation)

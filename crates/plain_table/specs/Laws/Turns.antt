@@ -1,5 +1,5 @@
--- The paper's wrong turns, and traps beside them, as merges that come out differently if one is taken: each a list of
--- calls, the last of them a merge, and what that merge leaves. One statement says that all come out. Assumes nothing.
+-- The paper's wrong turns and similar traps as test cases. Each is a list of calls that ends in a merge, with the result of that
+-- merge; a program that takes the wrong turn has another result. One law states that all results are as listed. Assumes nothing.
 use Prim.Native.Nat.{ℕ}
 use mathlib.Core.Path.{_≡_, refl}
 use mathlib.Core.Bool.{Bool, true, false, _&&_, Bool·beq}
@@ -45,7 +45,7 @@ write key value stamp = staging (insert (level key value stamp))
 abbrev remove : ℕ → Call
 remove key = staging (removeKey (key ∷ []))
 
--- keys 1 to 17, all of stamp 12, are merged and staged for removal; then they are merged away, and a compaction is due
+-- Keys 1 to 17, all with stamp 12, are merged and then staged for removal. The next merge removes them, and a compaction is due.
 abbrev removed : List Call
 removed =
     map (λ key. write key 5 12) (countFrom 1 17) ++ (merging ∷ map remove (countFrom 1 17))
@@ -53,7 +53,7 @@ removed =
 abbrev dropped : List Call
 dropped = removed ++ (merging ∷ [])
 
--- a merge that compacts nothing, by its answer, and by how many rows are dead and which are live after it
+-- a merge without a compaction: its answer, and the number of dead rows and the live rows after it
 abbrev merges : ℕ → ℕ → Bool → Opening → List Call → ℕ → List Numbered → Turn
 merges status place added opening before dead-after live-after =
     record {
@@ -68,7 +68,7 @@ merges status place added opening before dead-after live-after =
       live-after = live-after;
     }
 
--- one that does not stop, and appends a row or none
+-- merges that do not stop: `appends` appends a row, `leaves` appends none
 abbrev appends : Opening → List Call → ℕ → List Numbered → Turn
 appends = merges 0 0 true
 
@@ -84,31 +84,31 @@ turns =
     -- "Reading the sort cell of a dead row when the sort column is 0": the last row is dead, its sort cell was 7
     ∷ appends (record { columns = 1; keys = 1; sort = 0; rule = 0; capacity = 9 })
     (staging (insert (7 ∷ [])) ∷ merging ∷ remove 7 ∷ staging (insert (8 ∷ [])) ∷ []) 1 (row 1 (8 ∷ []) ∷ [])
-    -- a known key with another level: the row made is appended and the old row dies
+    -- a known key with another level: the row that the rule makes is appended, and the old row dies
     ∷ appends (levels 9) (write 1 5 12 ∷ merging ∷ write 1 6 12 ∷ []) 1 (row 1 (level 1 6 12) ∷ [])
-    -- a full table and an old stamp: 8 comes before 9; the stopping row is not appended, its old row lives
+    -- a full table and an old stamp: 8 comes before 9; the stopping row is not appended, and its old row remains live
     ∷ merges 8 0 false (levels 1) (write 1 5 12 ∷ merging ∷ write 1 6 11 ∷ []) 0 (row 0 (level 1 5 12) ∷ [])
-    -- a full table takes a row that the rule keeps
+    -- a full table accepts an insert if the rule keeps the old row
     ∷ leaves (levels 1) (write 1 5 12 ∷ merging ∷ write 1 5 11 ∷ []) 0 (row 0 (level 1 5 12) ∷ [])
-    -- a skipped insert counts for the place; what came before the stop stands, the rest is dropped
+    -- a skipped insert counts for the place; inserts before the stop take effect, those after it are dropped
     ∷ merges 9 2 true (levels 9)
     (write 1 5 12 ∷ write 4294967295 5 12 ∷ write 2 5 11 ∷ write 3 5 12 ∷ []) 0 (row 0 (level 1 5 12) ∷ [])
     -- a row dies once, by key and by row; another key's removal by row does nothing
     ∷ leaves (levels 9)
     (write 1 5 12 ∷ write 2 5 12 ∷ merging ∷ staging (removeRow 0 (1 ∷ [])) ∷ remove 1 ∷ staging (removeRow 1 (1 ∷ [])) ∷ []) 1 (row 1 (level 2 5 12) ∷ [])
-    -- a merge that stops compacts nothing, though all its 17 rows are dead
+    -- a merge that stops does not compact, although all its 17 rows are dead
     ∷ merges 9 0 false (levels 20) (removed ++ (write 30 5 11 ∷ [])) 17 []
-    -- "4294967295 means minus one": rule 2 takes it for 5
+    -- "4294967295 means minus one": rule 2 replaces 5 with it
     ∷ appends (levelsUnder 2 9) (write 1 5 12 ∷ merging ∷ write 1 4294967295 12 ∷ []) 1 (row 1 (level 1 4294967295 12) ∷ [])
     -- 2147483648 means the least number: rule 3 keeps minus one
     ∷ leaves (levelsUnder 3 9) (write 1 4294967295 12 ∷ merging ∷ write 1 2147483648 12 ∷ []) 0 (row 0 (level 1 4294967295 12) ∷ [])
-    -- a compaction drops every row of stamp 12, and 11 still stays out
+    -- a compaction drops every row of stamp 12, and stamp 11 still stops
     ∷ merges 9 0 false (levels 20) (dropped ++ (write 30 5 11 ∷ [])) 0 []
-    -- so it does after a clear of that table, which has no rows
+    -- the same after a clear of that table, which has no rows
     ∷ merges 9 0 false (levels 20) (dropped ++ (clearing ∷ write 30 5 11 ∷ [])) 0 []
-    -- a clear that empties rows, here a dead one alone, begins anew
+    -- a clear that empties rows, here only a dead one, resets the largest sort value
     ∷ appends (levels 9) (write 1 5 12 ∷ merging ∷ remove 1 ∷ merging ∷ clearing ∷ write 2 5 11 ∷ []) 0 (row 0 (level 2 5 11) ∷ [])
-    -- a merge answers what its compaction kept and dropped: 17 dead rows of 19
+    -- a merge answers how many rows its compaction kept and dropped: 17 of 19 rows are dead
     ∷ record {
       opening = levels 20;
       before = removed ++ (write 30 5 12 ∷ write 31 5 13 ∷ []);
@@ -120,7 +120,7 @@ turns =
       dead-after = 0;
       live-after = row 0 (level 30 5 12) ∷ row 1 (level 31 5 13) ∷ [];
     }
-    -- a row appended before a stop counts
+    -- the sort value of a row that was appended before a stop counts
     ∷ merges 9 0 false (levels 9) (write 1 5 12 ∷ write 2 5 11 ∷ merging ∷ write 3 5 11 ∷ []) 0 (row 0 (level 1 5 12) ∷ [])
     ∷ []
 
@@ -137,7 +137,7 @@ abbrev lent : Call → LentCall
 lent call =
     record { call = call; lengths = record { rows = 60; keys = 40; sorts = 40; pending = 100; liveWords = 1; baseWords = 1 } }
 
--- the table after a turn's calls, and the merge after them
+-- the table before the last merge, and the result of that merge
 abbrev beforehand : Turn → Plain
 beforehand t = afterAll (opened (t .opening) 0) (map lent (t .before))
 

@@ -1,6 +1,6 @@
--- Each question's promise determines the outcome: two outcomes that both meet it, on the same input, are the same answer and
--- the same output, so that it shuts out every other program at once. A question goes by the header and the row store alone,
--- so no choice is left on any stores. Assumes nothing.
+-- Each query's contract determines the outcome: two outcomes that both meet it, on the same input, have the same answer and the
+-- same output. So it excludes every program with another outcome. A query uses only the header and the row store, so no choice is
+-- left on any stores. Assumes nothing.
 use Prim.Native.Nat.{ℕ}
 use mathlib.Core.Path.{_≡_, sym, ap, _∙_}
 use mathlib.Core.Logic.{⊎-elim}
@@ -20,7 +20,7 @@ use Rattle.query_spec.specs.declared.PageAnswer.{PageAnswer}
 use Rattle.query_spec.specs.declared.PageAnswer.the-variants.{Refused as PageRefused, Page as Paged}
 use Rattle.query_spec.specs.Queries.{nextSays, PageReply, pageSays, matchSays, RefinedOne, RefinedList, Matched, PageRead}
 
--- an answer is known by what it says
+-- answers with the same view are equal
 next-said : (a b : NextPlace) → nextSays a ≡ nextSays b → a ≡ b
 unfolding nextSays
 next-said None None e = cc

@@ -1,5 +1,4 @@
--- What a page steps over: each id that it visits is written, has a dead row, or has a live row that fails a condition.
--- Assumes nothing.
+-- The ids that a page visits: each is written, has a dead row, or has a live row that fails a condition. Assumes nothing.
 use Prim.Native.Nat.{ℕ, _+_}
 use mathlib.Core.Path.{_≡_, refl, sym, ap, _∙_}
 use mathlib.Core.Logic.{inl, inr}
@@ -39,7 +38,7 @@ visited-parts h rows conditions (x ∷ xs) =
       | inr dead ↦ rw dead (omega (arith, rest))
     ]
 
--- so the numbers of a page that is read account for every id that it visits
+-- so the numbers of a page account for every id that it visits
 pub page-parts : (h : Header) (rows : List ℕ) (subset : Subset) (start n : ℕ) (conditions : List Constraint) (output : List ℕ) (page : Page) (output′ : List ℕ)
     → PageRead h rows subset start n conditions output (Paged page) output′
     → page .written + page .dead + failedAmong h rows conditions (visited subset start n) ≡ length (visited subset start n)

@@ -1,4 +1,4 @@
--- The tests of a question, one after another: those that all share, and each question's own. Assumes nothing.
+-- The tests of a query, one after another: those that all queries share, and each query's own. Assumes nothing.
 use Prim.Native.Nat.{ℕ, _-_, _≤_, min}
 use mathlib.Core.Path.{_≡_}
 use mathlib.Core.Bool.{Bool, true, false, not}
@@ -19,7 +19,7 @@ pub record Askable (h : Header) (rows : ℕ) (subset : Subset) : Type 0 where
   pub formed : wellFormed subset ≡ true
   pub below : pastRows h subset ≡ false
 
--- those tests, which all questions share
+-- the refusal of these tests, which all queries share
 unfoldable pub subsetRefusal : Header → ℕ → Subset → ℕ
 subsetRefusal h rows subset =
     first
@@ -29,13 +29,13 @@ subsetRefusal h rows subset =
     ∷ rung (pastRows h subset) 5
     ∷ [])
 
--- the refusal of a refine by the conditions that `knows` says are known or not
+-- the refusal of a refine; `knows` is whether the conditions are known
 pub record RefineRefused (h : Header) (rows : ℕ) (subset : Subset) (knows : Bool) (output number : ℕ) : Type 0 where
   pub number-is : (conditions : List Constraint) → knows ≡ every (known (h .columns)) conditions → number ≡ refineRefusal h rows subset conditions output
   pub askable : number ≡ 0 → Askable h rows subset
   pub room : number ≡ 0 → size subset ≤ output
 
--- the refusal of a search for a match
+-- the refusal of any match
 pub record MatchRefused (h : Header) (rows : ℕ) (subset : Subset) (knows : Bool) (number : ℕ) : Type 0 where
   pub number-is : (conditions : List Constraint) → knows ≡ every (known (h .columns)) conditions → number ≡ matchRefusal h rows subset conditions
   pub askable : number ≡ 0 → Askable h rows subset

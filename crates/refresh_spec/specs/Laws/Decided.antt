@@ -1,5 +1,5 @@
--- Whether an index store is sound is decided: every quantifier of `IndexSound` is bounded. So each refresh is of one of the two kinds
--- that a history has (`history` Laws/Total). Assumes nothing.
+-- Whether an index store is sound is decidable: every quantifier of `IndexSound` is bounded. So each refresh has one of the two
+-- kinds that a history has (`history` Laws/Total). Assumes nothing.
 use Prim.Native.Nat.{ℕ, zero, suc, _+_, _*_, _≤_, _<_}
 use mathlib.Core.Path.{_≡_, sym, _∙_}
 use mathlib.Core.Logic.{_⊎_, inl, inr}
@@ -43,7 +43,7 @@ module _ {A B : Type 0} where
   implies-decided (inl a) (inr n) = inr (λ f. n (f a))
   implies-decided (inr n) d = inl (λ a. absurd (n a))
 
--- of all numbers below n
+-- for all numbers below n
 all-decided : (P : ℕ → Type 0) → ((i : ℕ) → Decided (P i)) → (n : ℕ) → Decided ((i : ℕ) → i < n → P i)
 all-decided P d zero = inl (λ i h. absurd (omega arith))
 all-decided P d (suc n) = same-decided to from (both-decided (all-decided P d n) (d n))
@@ -57,7 +57,7 @@ all-decided P d (suc n) = same-decided to from (both-decided (all-decided P d n)
 -- ---- an index store
 
 module _ (h : Header) (rows index : List ℕ) where
-  -- the entry of a row and a place stands under the value there
+  -- the entry of a row and a place is in the bucket of the value there
   abbrev Entered : ℕ → ℕ → Type 0
   Entered row place =
       has (row * columnsNamed index + place) (entriesUnder (h .capacity) index (getD (rowAt (h .columns) row rows) (columnNamed index place) 0)) ≡ true

@@ -1,5 +1,5 @@
--- The promise determines the outcome over a sound index store, but for the inside of that store, which is the program's choice. Over
--- another one, which of the rows that mention a value are staged is left open too. Assumes nothing.
+-- Over a sound index store the contract determines the outcome, except for the inside of that store, which is the program's choice.
+-- Over an unsound one, the choice of the staged rows among those that mention a value is open too. Assumes nothing.
 use Prim.Native.Nat.{ℕ}
 use mathlib.Core.Path.{_≡_, sym, ap, _∙_}
 use mathlib.Core.Logic.{⊎-elim}

@@ -1,5 +1,5 @@
--- "An empty value or column list, if nothing is refused, answers no": from the contract of a refresh alone, whatever the index store
--- holds. Assumes nothing.
+-- "An empty value or column list, if nothing is refused, answers no": from the contract of a refresh alone, whatever the index
+-- store holds. Assumes nothing.
 use Prim.Native.Nat.{ℕ}
 use mathlib.Core.Path.{_≡_, refl, sym, ap, _∙_}
 use mathlib.Core.Logic.{_⊎_, inl, inr}
@@ -18,7 +18,7 @@ use Rattle.refresh_spec.specs.declared.RefreshAnswer.{RefreshAnswer}
 use Rattle.refresh_spec.specs.Refreshes.{refreshSays, recordsFound, answered, Refreshing}
 use Rattle.refresh_spec.specs.Laws.Keeps.{number, says-accepted, says-refused}
 
--- no value is held, or in no column
+-- nothing is mentioned without values, or without columns
 no-value : (columns cells : List ℕ) → mentions columns [] cells ≡ false
 unfolding mentions any has
 no-value [] cells = refl

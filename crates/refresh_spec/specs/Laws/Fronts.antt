@@ -1,5 +1,5 @@
--- An index store and its first parts: those that are long enough for its entries are such an index where it is one, and the other way
--- round. Assumes nothing.
+-- An index store and its first parts: a first part that is long enough for the entries is an index exactly if the whole store is.
+-- Assumes nothing.
 use Prim.Native.Nat.{ℕ, zero, suc, _+_, _*_, _%_, _^_, _≤_, _<_}
 use mathlib.Core.Path.{_≡_, refl, sym, ap}
 use mathlib.Core.Logic.{inl, inr}
@@ -18,7 +18,7 @@ use Rattle.refusals.specs.Laws.Replies.{some-number}
 use Rattle.table.specs.declared.Header.{Header}
 use Rattle.refresh_spec.specs.Index.{isNew, generationSeen, rowsSeen, columnsNamed, columnNamed, namedIn, bucketOf, chain, entriesUnder, IndexOf, startsAfresh}
 
--- the same links, the same chain
+-- equal links make equal chains
 pub chain-same : (n : ℕ) (index index′ : List ℕ) (link : ℕ) → ((e : ℕ) → e < n → getD index′ (16 + e) 0 ≡ getD index (16 + e) 0)
     → chain index′ n link ≡ chain index n link
 unfolding chain
@@ -44,7 +44,7 @@ bucket-in buckets value room few some =
       | inr h ↦ omega (arith, bucket-below buckets value h)
     ]
 
--- ---- two index stores with the same words wherever an index is looked at
+-- ---- two index stores with the same words wherever an index is read
 
 module _ (h : Header) (index index′ : List ℕ) (fit : h .rows ≤ h .capacity)
     (alike : (i : ℕ) → i < 16 + 3 * (h .capacity * columnsNamed index) → getD index′ i 0 ≡ getD index i 0) where
@@ -91,7 +91,7 @@ module _ (h : Header) (index more : List ℕ) (fit : h .rows ≤ h .capacity) (l
   word-front : (i : ℕ) → i < 16 + 3 * (h .capacity * columnsNamed index) → getD (index ++ more) i 0 ≡ getD index i 0
   word-front i k = List·getD-append index more 0 i (omega arith)
 
-  -- what is written in a first part is in the whole
+  -- an index in a first part is an index in the whole store
   pub index-more : {rows : List ℕ} → IndexOf h rows index → IndexOf h rows (index ++ more)
   index-more = index-alike h index (index ++ more) fit word-front
 
@@ -107,7 +107,7 @@ module _ (index more : List ℕ) (long : 16 ≤ length index) where
   unfolding generationSeen
   generation-front = List·getD-append index more 0 1 (omega arith)
 
--- ---- a store that a refresh goes on with
+-- ---- a store that a refresh continues with
 
 pub record GoesOn (h : Header) (columns index : List ℕ) : Type 0 where
   pub written : isNew index ≡ false
@@ -129,7 +129,7 @@ goes-on h columns index e =
       columns-named = same-eq _ _ (not-false _ (or-no-right a _ e));
     }
 
--- in one that is long enough for so many columns, the count of these is the one that it has
+-- in a store that is long enough for these columns, the stored column count is their number
 pub named-count : (capacity : ℕ) (columns index : List ℕ) → 0 < capacity → 16 + 3 * (capacity * length columns) ≤ length index → namedIn index ≡ columns
     → columnsNamed index ≡ length columns
 unfolding namedIn

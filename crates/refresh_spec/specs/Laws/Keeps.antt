@@ -1,5 +1,5 @@
--- What a refresh leaves, from its promise alone. "The table stays sound whatever it holds", of the index store; over a sound one it
--- stages what the plain table stages. Assumes nothing.
+-- The table after a refresh, from its contract alone. "The table stays sound whatever it holds", of the index store. Over a sound
+-- index store the refresh stages what the plain table stages. Assumes nothing.
 use Prim.Native.Nat.{ℕ, _+_, _*_, _≤_, _<_}
 use mathlib.Core.Path.{_≡_, sym, _∙_}
 use mathlib.Core.Logic.{inl, inr}
@@ -36,9 +36,9 @@ use Rattle.table.specs.Laws.Keeps.{SoundTable, sound-table, shows-plain}
 use Rattle.refresh_spec.specs.declared.RefreshAnswer.{RefreshAnswer}
 use Rattle.refresh_spec.specs.Refreshes.{refreshSays, refreshRefusal, recordsFound, answered, recordsStaged, headerRefreshed, Refreshing}
 
--- ---- what it turns away
+-- ---- its refusals
 
--- the tests of the stores, passed
+-- the tests of the stores pass
 pub record Refreshable (h : Header) (rows pending index : ℕ) (r : Refresh) (records : List Staged) : Type 0 where
   pub pending-fits : h .pending ≤ pending
   pub rows-long : h .capacity * h .columns ≤ rows
@@ -58,8 +58,8 @@ refresh-accepted h rows pending index r records e =
       free = ltb-false _ _ (or-no-left (ltb pending (h .pending + wordsAll (openingOf h) records)) _ (first-no _ 6 _ d));
     }
 
--- the ladder over a header and that of the plain table that it shows turn away the same, if the records are the same
--- where the rows lent are not too few
+-- the checks on a header give the same refusal as those on the plain table that it shows, if the records are the same whenever the
+-- row store lent is long enough
 pub refresh-ladders : {p : Plain} {s : Stores} → Represents p s → (l : Lengths) (index : ℕ) (q : Refresh) (records : List Staged)
     → (s .header .capacity * s .header .columns ≤ l .rows → records ≡ recordsOf p q)
     → refreshRefusal (s .header) (l .rows) (l .pending) index q records ≡ refusal p l (refreshing q index)
@@ -73,18 +73,18 @@ refresh-ladders {p} {s} r l index q records same =
 -- ---- the records
 
 module _ {p : Plain} {s : Stores} (r : Represents p s) (q : Refresh) where
-  -- the rows lent have the plain table's live rows
+  -- the live rows of the lent row store are the plain table's
   mentioning-shown : mentioning q (ofRows (s .header) (s .rows)) ≡ mentioning q p
   unfolding mentioning liveRows
   mentioning-shown = rw (live-shown r)
 
-  -- all found, they are the plain table's own
+  -- if all rows are found, the records are the plain table's own
   pub records-all : (found : ℕ → Bool) → ((row : ℕ) → found row ≡ true) → recordsFound (s .header) (s .rows) q found ≡ recordsOf p q
   unfolding recordsFound
   records-all found all =
       rw (mentioning-shown, keep-every (λ row. found (row .number)) (mentioning q p) (every-of (λ row. found (row .number)) (record { number = 0; cells = [] }) (mentioning q p) (λ i h. all _)), r .shown .header)
 
-  -- whichever are found, they are whole
+  -- whichever rows are found, the records are whole
   pub records-whole : (found : ℕ → Bool) → Whole (p .opening) (recordsFound (s .header) (s .rows) q found)
   unfolding recordsFound
   records-whole found =
@@ -94,10 +94,10 @@ module _ {p : Plain} {s : Stores} (r : Represents p s) (q : Refresh) where
       (every-keep-of (λ row. eqb (length (row .cells)) (o .columns)) (λ row. found (row .number)) (mentioning q p)
       (unfold mentioning liveRows in every-keep-of (λ row. eqb (length (row .cells)) (o .columns)) (λ row. mentions (q .columns) (q .values) (row .cells)) (liveRows p) (live-wide o 0 (p .rows) (r .proper .widths)))))
 
--- ---- what it leaves
+-- ---- its outcome
 
 module _ {h : Header} {rows pending index pending′ index′ : List ℕ} {q : Refresh} {answer : RefreshAnswer} (m : Refreshing h rows pending index q answer pending′ index′) where
-  -- the records, and the number that its ladder gives
+  -- the records that it finds, and its refusal number
   abbrev pub found-records : List Staged
   found-records = recordsFound h rows q (m .found)
 
@@ -113,7 +113,7 @@ module _ {h : Header} {rows pending index pending′ index′ : List ℕ} {q : R
   pub passed : number ≡ 0 → Refreshable h (length rows) (length pending) (length index) q found-records
   passed e = refresh-accepted h (length rows) (length pending) (length index) q found-records e
 
-  -- accepted, it has staged the records that it found
+  -- if accepted, it has staged the records that it found
   pub refreshing-done : {p : Plain} {keys sorts : List ℕ} → number ≡ 0 → Represents p (stores h rows keys sorts pending)
       → Represents (stageAll p found-records) (stores (headerRefreshed h (refreshSays answer)) rows keys sorts pending′)
   unfolding headerRefreshed
@@ -134,7 +134,7 @@ module _ {h : Header} {rows pending index pending′ index′ : List ℕ} {q : R
   unfolding recordsStaged
   fed-refused some = rw (says-refused some)
 
-  -- they are what was written
+  -- these records are what was written
   pub fed-written : pending′ ≡ putAt pending (h .pending) (flat (map (recordWords (h .keys)) (recordsStaged (refreshSays answer) found-records)))
   unfolding flat
   fed-written =

@@ -1,5 +1,5 @@
--- "An index from value to rising row numbers": a lookup in an index of the version of now gives the live rows that hold the value in a
--- named column. Assumes nothing.
+-- "An index from value to rising row numbers": a lookup in an index of the current version returns the live rows that hold the
+-- value in a named column. Assumes nothing.
 use Prim.Native.Nat.{ℕ, suc, _+_, _*_, _/_, _%_, _≤_, _<_}
 use mathlib.Core.Path.{_≡_, refl, sym, ap, _∙_}
 use mathlib.Core.Logic.{inl, inr}
@@ -30,7 +30,7 @@ use Rattle.refresh_spec.specs.Laws.Fronts.{named-count}
 
 -- ---- the named columns
 
--- the columns that an index store names are these
+-- the index store names these columns
 pub record Names (columns index : List ℕ) : Type 0 where
   pub count : columnsNamed index ≡ length columns
   pub names : take (length columns) (drop 4 index) ≡ columns
@@ -58,7 +58,7 @@ module _ (h : Header) (rows columns : List ℕ) where
     pub place-there : place < length columns
     pub value-is : getD (rowAt (h .columns) row rows) (getD columns place 0) 0 ≡ value
 
-  -- an entry leads to its row alone, if that holds the value
+  -- an entry leads only to its own row, if that holds the value
   entry-holds : (value seen entry row : ℕ) → entry < seen * length columns → leadsTo h rows columns value entry row ≡ true → RowHolds value seen row
   unfolding leadsTo
   entry-holds value seen entry row k e =
@@ -81,7 +81,7 @@ module _ (h : Header) (rows columns : List ℕ) where
       rw (i .row-of, i .place-of, r .live, eq-eqb _ _ (r .value-is), eq-eqb row row refl)
 
   module _ (index : List ℕ) (n : Names columns index) (value row : ℕ) where
-    -- a row that they lead to was seen, is live and holds the value
+    -- a row that the entries lead to was seen, is live and holds the value
     pub leads-holds : leads h rows columns value (entriesUnder (h .capacity) index value) row ≡ true → RowHolds value (rowsSeen index) row
     unfolding leads
     leads-holds e =
@@ -90,7 +90,7 @@ module _ (h : Header) (rows columns : List ℕ) where
         let k = rw (n .count) at (under-limit (h .capacity) index value (getD es (a .0) 0) (has-of es (a .0) (a .1))) in
         entry-holds value (rowsSeen index) (getD es (a .0) 0) row k (a .2)
 
-    -- and an index leads to each of those
+    -- an index leads to each such row
     pub holds-leads : IndexOf h rows index → RowHolds value (rowsSeen index) row → leads h rows columns value (entriesUnder (h .capacity) index value) row ≡ true
     unfolding leads
     holds-leads io r =
@@ -102,7 +102,7 @@ module _ (h : Header) (rows columns : List ℕ) where
 
 -- ---- the lookup
 
--- of rows, the numbers of those that pass a test
+-- the numbers of the rows that pass a test
 numbers-kept : (test : ℕ → Bool) (holds : List ℕ → Bool) (s : ℕ) (l : List Row)
     → ((i : ℕ) → i < length l → test (s + i) ≡ (getD l i noRow .live && holds (getD l i noRow .cells)))
     → keep test (countFrom s (length l)) ≡ map (λ row. row .number) (keep (λ row. holds (row .cells)) (liveFrom s l))
@@ -129,7 +129,7 @@ module _ (h : Header) (rows columns : List ℕ) (value : ℕ) where
       let a = any-at (λ column. has (getD (rowAt (h .columns) row rows) column 0) (value ∷ [])) 0 columns e in
       record { below = k; live = live; place = a .0; place-there = a .1; value-is = eqb-true _ _ (sym (or-false _) ∙ a .2) }
 
--- what a lookup in an index of all rows gives, of a table that the stores show
+-- the result of a lookup in an index of all rows, for a table that the stores show
 pub lookup-holding : {p : Plain} {s : Stores} {columns index : List ℕ} → Represents p s → Names columns index → IndexOf (s .header) (s .rows) index
     → rowsSeen index ≡ s .header .rows → namedIn index ≡ columns → (value : ℕ)
     → lookedUp (s .header) (s .rows) index value ≡ map (λ row. row .number) (keep (λ row. mentions columns (value ∷ []) (row .cells)) (liveRows p))

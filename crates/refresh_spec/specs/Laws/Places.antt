@@ -5,7 +5,7 @@ use native.Mathlib.Nat.{add-zero, mul-zero, mul-add-div-right, mul-add-mod-self-
 use native.Mathlib.Omega.{arith}
 use Rattle.lists.specs.Laws.Rows.{row-in}
 
--- the entry of a row and a place, where a row has so many
+-- the entry of a row and a place, if each row has `count` places
 pub record EntryIn (rows count row place : ℕ) : Type 0 where
   pub row-of : (row * count + place) / count ≡ row
   pub place-of : (row * count + place) % count ≡ place
@@ -19,7 +19,7 @@ entry-in rows count row place r p =
       below = omega (arith, row-in row rows count r);
     }
 
--- an entry of so many rows
+-- an entry of one of these rows
 pub record EntryLies (rows count entry : ℕ) : Type 0 where
   pub some : 0 < count
   pub row-there : entry / count < rows

@@ -1,5 +1,5 @@
--- What the parts of a refresh promise: the rows that mention a value, found by the index store and among the rows behind those that it
--- has seen, and the index store brought up to the table. Assumes nothing.
+-- Contracts of the parts of a refresh: finding the rows that mention a value, by the index store and among the rows that it has not
+-- seen, and updating the index store. Assumes nothing.
 use Prim.Native.Nat.{ℕ, _+_, _*_, _≤_, _<_}
 use mathlib.Core.Path.{_≡_}
 use mathlib.Core.Bool.{Bool, true, false, _&&_}
@@ -19,14 +19,14 @@ unfoldable pub mentionsAt : Header → List ℕ → List ℕ → List ℕ → �
 mentionsAt h rows columns values i =
     ltb i (h .rows) && isLive (rowAt (h .columns) i rows) && mentions columns values (rowAt (h .columns) i rows)
 
--- likewise, of the rows below this one, and of those from this one on
+-- the same for the rows below `seen`, and for the rows from `seen` on
 unfoldable pub mentionsBelow : Header → List ℕ → List ℕ → List ℕ → ℕ → ℕ → Bool
 mentionsBelow h rows columns values seen i = ltb i seen && mentionsAt h rows columns values i
 
 unfoldable pub mentionsFrom : Header → List ℕ → List ℕ → List ℕ → ℕ → ℕ → Bool
 mentionsFrom h rows columns values seen i = leb seen i && mentionsAt h rows columns values i
 
--- what is known of a refresh that no test before 7 turns away
+-- what holds if no test before 7 refuses the refresh
 pub record Lendable (h : Header) (rows columns index : List ℕ) : Type 0 where
   pub inside : outside h ≡ false
   pub rows-long : h .capacity * h .columns ≤ length rows
@@ -34,8 +34,8 @@ pub record Lendable (h : Header) (rows columns index : List ℕ) : Type 0 where
   pub columns-there : every (λ column. ltb column (h .columns)) columns ≡ true
   pub index-long : 16 + 3 * (h .capacity * length columns) ≤ length index
 
--- An index store that the next refresh by these columns goes on with: of this generation and these columns, with no more rows than
--- there are, and with buckets enough for all rows, but no more than there is room for
+-- An index store that the next refresh by these columns continues with: it has this generation and these columns, no more rows than
+-- the table, enough buckets for all rows, and no more buckets than there is space for.
 unfoldable pub usable : Header → List ℕ → List ℕ → Bool
 usable h columns index =
     eqb (getD index 0 0) 1
@@ -46,22 +46,22 @@ usable h columns index =
     && leb (h .rows * length columns) (getD index 12 0)
     && leb (getD index 12 0) (2 * (h .capacity * length columns))
 
--- What looking up the values in such an index store promises: it marks none but live rows seen that mention a value, and all of those
--- if it is an index of the rows seen
+-- The contract of looking up the values in such an index store: it marks only live rows seen that mention a value, and all of those
+-- if the store is an index of the rows seen.
 abbrev pub ListedMarked : Header → List ℕ → List ℕ → List ℕ → List ℕ → List ℕ → List ℕ → ℕ → Type 0
 ListedMarked h rows index columns values words words′ more =
     (needed : ℕ → Bool) → ((i : ℕ) → needed i ≡ true → IndexOf h rows index × (mentionsBelow h rows columns values (rowsSeen index) i ≡ true))
     → Marked (mentionsBelow h rows columns values (rowsSeen index)) needed words words′ more
 
--- The index store brought up to the table: whatever it held, it is not new then, and words past those needed are as they were; one that
--- was an index of the rows it had seen, or that is started afresh, is an index of all rows.
+-- The index store after its update: whatever it held, it is not new, and words past those needed are unchanged. If it was an index
+-- of the rows that it had seen, or if it is started afresh, it is an index of all rows.
 pub record CaughtUp (h : Header) (rows columns index index′ : List ℕ) : Type 0 where
   pub length-same : length index′ ≡ length index
   pub written : isNew index′ ≡ false
   pub current : (usable h columns index ≡ true → IndexOf h rows index) → Current h rows columns index′
   pub past : drop (16 + 3 * (h .capacity * length columns)) index′ ≡ drop (16 + 3 * (h .capacity * length columns)) index
-  -- "catches up from the version last seen": in a usable store the entries of the rows seen are as they were, and so is the number of
-  -- buckets. Another is started afresh, with twice as many buckets as there are entries
+  -- "catches up from the version last seen": in a usable store the entries of the rows seen and the number of buckets are
+  -- unchanged. Any other store is started afresh, with twice as many buckets as there are entries.
   pub entries-kept : usable h columns index ≡ true → (entry : ℕ) → entry < rowsSeen index * length columns → getD index′ (16 + entry) 0 ≡ getD index (16 + entry) 0
   pub buckets-kept : usable h columns index ≡ true → getD index′ 12 0 ≡ getD index 12 0
   pub buckets-afresh : usable h columns index ≡ false → getD index′ 12 0 ≡ 2 * (h .rows * length columns)

@@ -1,4 +1,4 @@
--- An answer is known by what it says: two that say the same are the same. Assumes nothing.
+-- Answers are determined by their views: two answers with the same view are equal. Assumes nothing.
 use mathlib.Core.Path.{_≡_}
 use Rattle.table.specs.declared.TableAnswer.{TableAnswer}
 use Rattle.table.specs.declared.TableAnswer.the-variants.{Refused as TableRefused, Table}

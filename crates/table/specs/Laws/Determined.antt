@@ -1,8 +1,8 @@
--- Each promise determines the outcome: two outcomes that both meet it, on the same input, are the same answer and the same
--- lent cells, so that it shuts out every other program at once. Choice is left in four places only: after a merge or a
--- compaction, the key store's slots below 2 × capacity; after an opening or a clear, those of them that are not in use; after
--- a compaction, the compaction words needed; and, where the stores are no table's, all but the refusal and what is never
--- written. Assumes nothing.
+-- Each contract determines the outcome: two outcomes that both meet it, on the same input, have the same answer and the same lent
+-- cells. So it excludes every program with another outcome. Choice is left in four places only: after a merge or a compaction, the
+-- key store's slots below 2 × capacity; after an opening or a clear, those of them that are not in use; after a compaction, the
+-- compaction words needed; and, if the stores represent no table, everything but the refusal and what is never written. Assumes
+-- nothing.
 use Prim.Native.Nat.{ℕ, _*_, _<_}
 use mathlib.Core.Path.{_≡_, refl, sym, ap, ap₂, _∙_}
 use mathlib.Core.Logic.{⊎-elim}
@@ -46,7 +46,7 @@ use Rattle.table.specs.Laws.Answers.{table-said, merge-said, row-said, c
 abbrev pub slotsUsed : ℕ → List ℕ → List ℕ
 slotsUsed capacity keys = take (2 * roomFor capacity 0) keys
 
--- they have no choice: every one is free
+-- they leave no choice: every slot is free
 empty-keys : (p : Plain) (h : Header) (rows keys sorts pending : List ℕ) → length (p .rows) ≡ 0 → Represents p (stores h rows keys sorts pending)
     → slotsUsed (p .opening .capacity) keys ≡ zeros (2 * roomFor (p .opening .capacity) 0)
 empty-keys p h rows keys sorts pending none r =
@@ -62,7 +62,7 @@ module _ (o : Opening) (generation : ℕ) (s : Body) (pending : List ℕ) (a : T
   pub record SameOpening : Type 0 where
     pub refused : 0 < openRefusal o (lengths (s .rows) (s .keys) (s .sorts) pending [] []) → Same a b keys₁ keys₂
     pub slots-past : SlotsPast (o .capacity) keys₁ keys₂
-    -- all but the choice
+    -- equal but for the choice
     pub table : Same a b (slotsUsed (o .capacity) keys₁) (slotsUsed (o .capacity) keys₂)
 
   pub opened-determined : Opened o generation s pending a keys₁ → Opened o generation s pending b keys₂ → SameOpening
@@ -84,7 +84,7 @@ module _ (o : Opening) (generation : ℕ) (s : Body) (pending : List ℕ) (a : T
 
 -- ---- *Stage*
 
--- the paper leaves the layout of the pending store open; the promise does not
+-- the paper leaves the layout of the pending store open; the contract does not
 pub staging-determined : {h : Header} {r : Staged} {pending pending₁ pending₂ : List ℕ} {a b : TableAnswer}
     → Staging h pending r a pending₁ → Staging h pending r b pending₂ → Same a b pending₁ pending₂
 staging-determined {h} {r} {pending} {a = a} {b = b} x y =
@@ -97,24 +97,24 @@ staging-determined {h} {r} {pending} {a = a} {b = b} x y =
 
 -- ---- *Merge*, *Compact*
 
--- what one of them leaves: its answer, and the stores and words that it is lent to write to
+-- the outcome of a merge or compaction: its answer, and the stores and words that it may write
 pub record Left (A : Type 0) : Type 0 where
   pub answer : A
   pub body : Body
   pub words : CompactionWords
 
--- two of them, of a table: the same but for the choices
+-- two outcomes on a table: equal but for the choices
 pub record SameTable {A : Type 0} (x y : Left A) : Type 0 where
   pub answer : x .answer ≡ y .answer
   pub rows : x .body .rows ≡ y .body .rows
   pub sorts : x .body .sorts ≡ y .body .sorts
 
--- what is all the same
+-- equal outcomes are equal but for the choices
 same-table : {A : Type 0} {x y : Left A} → x ≡ y → SameTable x y
 same-table {A} e =
     record { answer = ap (λ (z : Left A). z .answer) e; rows = ap (λ (z : Left A). z .body .rows) e; sorts = ap (λ (z : Left A). z .body .sorts) e }
 
--- both left what was lent as it was
+-- two outcomes that leave the lent stores unchanged are equal
 left-same : {A : Type 0} (b : Body) (w : CompactionWords) (x y : Left A) → x .answer ≡ y .answer
     → (x .body ≡ b) × (x .words ≡ w) → (y .body ≡ b) × (y .words ≡ w) → x ≡ y
 left-same b w x y answers u v =
@@ -122,15 +122,15 @@ left-same b w x y answers u v =
 
 module _ (s : Stores) (w : CompactionWords) (x y : Left MergeAnswer) where
   pub record SameMerge : Type 0 where
-    -- of any stores: refused by the same number, or both accepted
+    -- on any stores: refused with the same number, or both accepted
     pub verdicts : verdict (mergeSays (x .answer)) ≡ verdict (mergeSays (y .answer))
     pub refused : 0 < mergeRefusal (s .header) (lengthsLent s w) → x ≡ y
-    -- and what is never written
+    -- equal in what is never written
     pub slots-past : SlotsPast (s .header .capacity) (x .body .keys) (y .body .keys)
     pub words-past : PastNeeded (s .header .capacity) (x .words .live) (y .words .live) × PastNeeded (s .header .capacity) (x .words .base) (y .words .base)
-    -- of a table: all but the choices
+    -- on a table: equal but for the choices
     pub table : (p : Plain) → Represents p s → SameTable x y
-    -- and the compaction words, where nothing is compacted
+    -- equal compaction words, if nothing is compacted
     pub words : (p : Plain) → Represents p s → merged p .table .generation ≡ p .generation → x .words ≡ y .words
 
   pub merging-determined : Merging s w (x .answer) (x .body) (x .words) → Merging s w (y .answer) (y .body) (y .words) → SameMerge
@@ -159,13 +159,13 @@ module _ (s : Stores) (w : CompactionWords) (x y : Left MergeAnswer) where
 
 module _ (h : Header) (b : Body) (w : CompactionWords) (x y : Left TableAnswer) where
   pub record SameCompaction : Type 0 where
-    -- of any stores: refused by the same number, or both accepted
+    -- on any stores: refused with the same number, or both accepted
     pub verdicts : verdict (tableSays (x .answer)) ≡ verdict (tableSays (y .answer))
     pub refused : 0 < compactRefusal h (lengthsLent (joined h b []) w) → x ≡ y
-    -- and what is never written
+    -- equal in what is never written
     pub slots-past : SlotsPast (h .capacity) (x .body .keys) (y .body .keys)
     pub words-past : PastNeeded (h .capacity) (x .words .live) (y .words .live) × PastNeeded (h .capacity) (x .words .base) (y .words .base)
-    -- of a table: all but the choices
+    -- on a table: equal but for the choices
     pub table : (pending : List ℕ) (p : Plain) → Represents p (joined h b pending) → SameTable x y
 
   pub compacting-determined : Compacting h b w (x .answer) (x .body) (x .words) → Compacting h b w (y .answer) (y .body) (y .words) → SameCompaction
@@ -191,12 +191,12 @@ module _ (h : Header) (b : Body) (w : CompactionWords) (x y : Left TableAnswer) 
 
 module _ (h : Header) (keys : List ℕ) (a : TableAnswer) (keys₁ : List ℕ) (b : TableAnswer) (keys₂ : List ℕ) where
   pub record SameClear : Type 0 where
-    -- of any stores: refused by the same number, or both accepted
+    -- on any stores: refused with the same number, or both accepted
     pub verdicts : verdict (tableSays a) ≡ verdict (tableSays b)
     pub refused : 0 < clearRefusal h (length keys) → Same a b keys₁ keys₂
-    -- and what is never written
+    -- equal in what is never written
     pub slots-past : SlotsPast (h .capacity) keys₁ keys₂
-    -- of a table, all but the choice
+    -- on a table: equal but for the choice
     pub table : (rows sorts pending : List ℕ) (p : Plain) → Represents p (stores h rows keys sorts pending) → Same a b (slotsUsed (h .capacity) keys₁) (slotsUsed (h .capacity) keys₂)
 
   pub clearing-determined : Clearing h keys a keys₁ → Clearing h keys b keys₂ → SameClear
@@ -224,7 +224,7 @@ module _ (h : Header) (keys : List ℕ) (a : TableAnswer) (keys₁ : List ℕ) (
 
 -- ---- *Key lookup*, *one cell*, *Fast range*
 
--- the key store leads to the live rows, whose keys differ
+-- the key store leads to the live rows, and their keys differ
 abbrev pub KnownKeys : Header → List ℕ → List ℕ → Type 0
 KnownKeys h rows keys = KeysSound (keyedOf h) rows keys × KeysDiffer h rows
 

@@ -1,5 +1,5 @@
--- A table shows its plain table by the first cells of its stores alone, so that it does so as well by a first part of each
--- that is long enough, and with more cells behind them. Assumes nothing.
+-- Only the used prefix of each store matters: a table shows the same plain table on a first part of each store that is long enough,
+-- and with more cells behind. Assumes nothing.
 use Prim.Native.Nat.{ℕ, _*_, _≤_, _<_}
 use mathlib.Core.Path.{_≡_, refl, sym, ap, _∙_}
 use mathlib.Core.List.{List, [], _++_}
@@ -28,16 +28,16 @@ use Rattle.table.specs.Laws.Refusals.{Inside, outside-inside}
 
 -- ---- one store
 
--- fewer of the first n
+-- equal prefixes have equal shorter prefixes
 fewer : {A : Type 0} (l m : List A) (n k : ℕ) → k ≤ n → take n l ≡ take n m → take k l ≡ take k m
 fewer l m n k h e = sym (take-take k n l h) ∙ ap (take k) e ∙ take-take k n m h
 
--- one of them
+-- equal prefixes have equal elements
 one-alike : (l m : List ℕ) (n : ℕ) → take n l ≡ take n m → (i : ℕ) → i < n → getD l i 0 ≡ getD m i 0
 one-alike l m n e i h =
     sym (getD-take n l i 0 h) ∙ ap (λ (x : List ℕ). getD x i 0) e ∙ getD-take n m i 0 h
 
--- a key store whose slots hold the same is as sound
+-- a key store with the same slots is sound too
 slots-alike : {t : Keyed} {rows store store′ : List ℕ} → ((slot : ℕ) → slot < slots t → getD store′ slot 0 ≡ getD store slot 0)
     → KeysSound t rows store → KeysSound t rows store′
 slots-alike {t} {rows} {store} {store′} same sound =
@@ -55,7 +55,7 @@ slots-alike {t} {rows} {store} {store′} same sound =
 
 -- ---- the stores
 
--- all cells that a table needs are the same in other stores
+-- all cells that a table needs are equal in the other stores
 pub record Fronts (h : Header) (b : Body) (pending : List ℕ) (b′ : Body) (pending′ : List ℕ) : Type 0 where
   pub long : LongEnough (openingOf h) (length (b′ .rows)) (length (b′ .keys)) (length (b′ .sorts))
   pub rows-same : take (h .capacity * h .columns) (b′ .rows) ≡ take (h .capacity * h .columns) (b .rows)
@@ -108,9 +108,9 @@ module _ {p : Plain} {h : Header} {b : Body} {pending : List ℕ} (b′ : Body) 
             (keys-same (keyedOf h) (keyedOf h) (b .rows) (b′ .rows) (b .keys) (r .keyed) live-same);
       }
 
--- ---- more cells behind those of a store, or no more
+-- ---- stores with more cells behind, and without them
 
--- test 2 is passed, of the header's numbers
+-- stores that represent a plain table pass test 2 for the header's numbers
 long-header : {p : Plain} {h : Header} {rows keys sorts pending : List ℕ} → Represents p (stores h rows keys sorts pending)
     → LongEnough (openingOf h) (length rows) (length keys) (length sorts)
 long-header r = rw (ap openingOf (r .shown .header)) (represents-long r)

@@ -1,5 +1,6 @@
--- Every call keeps a sound table sound: "Opening makes a sound table and every operation keeps one sound". A law for each call,
--- from its promise alone, accepted or refused, stopped or not; before them, which plain table each leaves. Assumes nothing.
+-- Every call keeps a sound table sound: "Opening makes a sound table and every operation keeps one sound". There is a law for each
+-- call, from its contract alone, for accepted, refused and stopped calls. Before them come laws about the plain table after each
+-- call. Assumes nothing.
 use Prim.Native.Nat.{ℕ, _≤_, _<_}
 use mathlib.Core.Path.{_≡_, sym, ap, _∙_}
 use mathlib.Core.Logic.{⊎-elim}
@@ -28,7 +29,7 @@ use Rattle.table.specs.Laws.Replies.{reply-refused, reply-accepted, acce
 use Rattle.table.specs.Laws.Staging.{staging-represents}
 use Rattle.table.specs.Laws.Sound.{represents-sound, sound-represents}
 
--- ---- what each call leaves, of the plain table that the stores show
+-- ---- the plain table that the stores show after each call
 
 -- the header after a refused call, and after an accepted one
 pub after-refused : (h : Header) (r : Reply Header) (n : ℕ) → r ≡ refused n → headerAfter h r ≡ h
@@ -97,13 +98,13 @@ module _ {h : Header} {rows keys keys′ sorts pending : List ℕ} {answer : Tab
 
 -- ---- a sound table stays sound
 
--- sound, with some records staged; the generation is a u32, as every number of a header
+-- sound, with some staged records; the generation is a u32, like every number of a header
 pub record SoundTable (s : Stores) : Type 0 where
   pub staged : List Staged
   pub sound : Sound (s .header) (s .rows) (s .keys) (s .sorts) (s .pending) staged
   pub generation-fits : s .header .generation ≤ 4294967295
 
--- stores are sound exactly if they show a plain table
+-- stores are sound exactly if they represent a plain table
 pub sound-table : {p : Plain} {s : Stores} → Represents p s → SoundTable s
 sound-table {p} r =
     record {
@@ -115,12 +116,12 @@ sound-table {p} r =
 pub shows-plain : {s : Stores} → SoundTable s → (p : Plain) × Represents p s
 shows-plain t = let r = sound-represents (t .sound) (t .generation-fits) in (r .0, r .1)
 
--- a call is refused and all is as it was, or it is accepted
+-- a call is refused and changes nothing, or it is accepted
 kept : {s s′ : Stores} (n : ℕ) → (0 < n → s′ ≡ s) → (n ≡ 0 → (p : Plain) → Represents p s → SoundTable s′) → SoundTable s → SoundTable s′
 kept n same done t =
     ⊎-elim (λ none. let p = shows-plain t in done none (p .0) (p .1)) (λ some. rw (same some) t) (some-number n)
 
--- *Open* makes a sound table, whatever the stores held; one that is refused leaves them as they were
+-- *Open* makes a sound table, whatever the stores held; a refused one leaves them unchanged
 pub opening-makes : {o : Opening} {generation : ℕ} {b : Body} {pending keys′ : List ℕ} {answer : TableAnswer} → Opened o generation b pending answer keys′
     → (h : Header) → tableSays answer ≡ accepted h → SoundTable (stores h (b .rows) keys′ (b .sorts) pending)
 opening-makes m h e = sound-table (opening-done m h e)
@@ -158,10 +159,10 @@ pub clearing-keeps : {s : Stores} {answer : TableAnswer} {keys′ : List ℕ} �
 clearing-keeps {s} m =
     kept (clearRefusal (s .header) (length (s .keys))) (λ some. clearing-refused m some) (λ none p r. sound-table (clearing-done m none r))
 
--- ---- what is asked of a sound table
+-- ---- reads of a sound table
 
 module _ {s : Stores} (t : SoundTable s) where
-  -- *Key lookup, one cell*: of the rows as they are stored
+  -- *Key lookup, one cell*: in the rows as stored
   pub sound-looked-up : {key : List ℕ} {answer : RowAnswer} → LookedUp (s .header) (s .rows) (s .keys) key answer
       → lookupRefusal (s .header) (length (s .rows)) (length (s .keys)) (length key) ≡ 0
       → rowSays answer ≡ accepted (Option·map (λ row. row .number) (lookup (ofRows (s .header) (s .rows)) key))

@@ -1,4 +1,4 @@
--- The ladders over a header and those of the plain table that it shows turn away the same. Assumes nothing.
+-- The checks on a header give the same refusals as the checks on the plain table that it shows. Assumes nothing.
 use mathlib.Core.Path.{_≡_}
 use Rattle.plain_table.specs.Staged.{Staged}
 use Rattle.plain_table.specs.Refusing.{Lengths}

@@ -1,4 +1,4 @@
--- The live rows read off the header and the row store are the plain table's. Assumes nothing.
+-- The live rows read from the header and the row store are the plain table's. Assumes nothing.
 use Prim.Native.Nat.{ℕ, suc, _<_, suc-le-suc}
 use mathlib.Core.Path.{_≡_, refl, _∙_}
 use mathlib.Core.Bool.{Bool, true, false, cond}
@@ -16,7 +16,7 @@ use Rattle.table.specs.Stores.{rowsIn, RowShown}
 use Rattle.table.specs.Promises.{Stores, Represents}
 use Rattle.table.specs.Laws.Shown.{row-shown, rows-counted}
 
--- a row as its cells tell
+-- the plain row with these stored cells: live unless they begin with the dead mark
 abbrev pub told : List ℕ → Row
 told cells = record { live = isLive cells; cells = cells }
 
@@ -30,7 +30,7 @@ getD-rowsIn h rows i k =
     getD-map-below told (rowsOf (h .columns) (h .rows) rows) i [] noRow (omega (arith, length-rowsOf (h .columns) (h .rows) rows))
     ∙ rw (getD-rowsOf (h .columns) (h .rows) rows i k)
 
--- rows that are shown place by place
+-- rows that are shown position by position have the same live rows
 live-from : (n : ℕ) (rows : List Row) (cells : List (List ℕ)) → length cells ≡ length rows
     → ((i : ℕ) → i < length rows → RowShown (getD rows i noRow) (getD cells i [])) → liveFrom n (map told cells) ≡ liveFrom n rows
 unfolding liveFrom

@@ -1,5 +1,5 @@
--- Key lookup: a key leads to row i exactly if row i is live in the stores and has that key, by the header and the row store
--- alone as in the plain table that the stores show. Assumes nothing.
+-- Key lookup: a key leads to row i exactly if row i is live in the stores and has that key. This holds for the header and the row
+-- store alone, and for the plain table that the stores show. Assumes nothing.
 use Prim.Native.Nat.{ℕ, _<_}
 use mathlib.Core.Path.{_≡_, sym, ap, ap₂, _∙_}
 use mathlib.Core.Bool.{true}
@@ -31,7 +31,7 @@ module _ {p : Plain} {s : Stores} (r : Represents p s) (key : List ℕ) where
   keys-same : s .header .keys ≡ p .opening .keys
   keys-same = ap (λ (h : Header). h .keys) (r .shown .header)
 
-  -- a row of the key is live in the stores and has the key
+  -- a live row of the key in the plain table is live in the stores and has the key
   pub passes-live : (i : ℕ) → liveWithKey (p .opening .keys) key (rowOf p i) ≡ true → LiveAt (keyedOf (s .header)) (s .rows) i × (keyAt (keyedOf (s .header)) (s .rows) i ≡ key)
   passes-live i t =
       let e = liveWithKey-live (p .opening .keys) key (rowOf p i) t in
@@ -50,11 +50,11 @@ module _ {p : Plain} {s : Stores} (r : Represents p s) (key : List ℕ) where
       one-lookup p key i (live-passes i l e) (λ j f. let g = passes-live j f in represents-sound r .keys-differ j i (g .0) l (g .1 ∙ sym e))
       ∙ ap (λ (cells : List ℕ). some (record { number = i; cells = cells })) (live-cells r i (in-live r i l))
 
-  -- where no live row has the key, nothing is found
+  -- if no live row has the key, nothing is found
   pub none-found : ((i : ℕ) → LiveAt (keyedOf (s .header)) (s .rows) i → keyAt (keyedOf (s .header)) (s .rows) i ≡ key → ⊥) → lookup p key ≡ none
   none-found f = none-lookup p key (λ i e. let g = passes-live i e in f i (g .0) (g .1))
 
--- ---- in a header and a row store alone
+-- ---- from a header and a row store alone
 
 module _ (h : Header) (rows key : List ℕ) where
   row-told : (i : ℕ) → i < h .rows → rowOf (ofRows h rows) i ≡ told (rowAt (h .columns) i rows)
@@ -63,7 +63,7 @@ module _ (h : Header) (rows key : List ℕ) where
   row-below : (i : ℕ) → rowOf (ofRows h rows) i .live ≡ true → i < h .rows
   row-below i e = omega (arith, live-below (rowsIn h rows) i e, length-rowsIn h rows)
 
-  -- a row of the key is live and has it
+  -- a live row of the key is live in the row store and has the key
   row-passes : (i : ℕ) → liveWithKey (h .keys) key (rowOf (ofRows h rows) i) ≡ true → LiveAt (keyedOf h) rows i × (keyAt (keyedOf h) rows i ≡ key)
   row-passes i t =
       let k = row-below i (liveWithKey-live (h .keys) key (rowOf (ofRows h rows) i) t) in
@@ -74,14 +74,14 @@ module _ (h : Header) (rows key : List ℕ) where
   passes-row : (i : ℕ) → LiveAt (keyedOf h) rows i → keyAt (keyedOf h) rows i ≡ key → liveWithKey (h .keys) key (rowOf (ofRows h rows) i) ≡ true
   passes-row i l e = rw (row-told i (l .0)) (liveWithKey-of (h .keys) key (told (rowAt (h .columns) i rows)) (l .1) e)
 
-  -- a live row that has the key is found, where live keys differ
+  -- a live row that has the key is found, if live keys differ
   pub row-read : KeysDiffer h rows → (i : ℕ) → LiveAt (keyedOf h) rows i → keyAt (keyedOf h) rows i ≡ key
       → lookup (ofRows h rows) key ≡ some (record { number = i; cells = rowAt (h .columns) i rows })
   row-read differ i l e =
       one-lookup (ofRows h rows) key i (passes-row i l e) (λ j f. let g = row-passes j f in differ j i (g .0) l (g .1 ∙ sym e))
       ∙ ap (λ (row : Row). some (record { number = i; cells = row .cells })) (row-told i (l .0))
 
-  -- where no live row has the key, nothing is found
+  -- if no live row has the key, nothing is found
   pub none-read : ((i : ℕ) → LiveAt (keyedOf h) rows i → keyAt (keyedOf h) rows i ≡ key → ⊥) → lookup (ofRows h rows) key ≡ none
   none-read f = none-lookup (ofRows h rows) key (λ i e. let g = row-passes i e in f i (g .0) (g .1))
 

@@ -1,4 +1,5 @@
--- An opening and a clear: the stores show the empty plain table, or the one whose staged records are gone. Assumes nothing.
+-- An opening and a clear: afterwards the stores show the empty plain table, or the same table without staged records. Assumes
+-- nothing.
 use Prim.Native.Nat.{ℕ, zero, suc, _+_, _*_, _≤_, _<_}
 use mathlib.Core.Path.{_≡_, refl, sym, ap, _∙_}
 use mathlib.Core.Logic.{⊎-elim}
@@ -34,7 +35,7 @@ use Rattle.table.specs.Laws.Refusals.{clear-accepted}
 
 -- ---- an empty table
 
--- its header
+-- the header of an empty table
 abbrev pub emptyHeader : Opening → ℕ → Header
 emptyHeader o generation =
     record {
@@ -55,14 +56,14 @@ pub header-opened : (o : Opening) (generation : ℕ) → emptyHeader o generatio
 unfolding opened dead count entries rebuilt pushAll wordsAll largestOf
 header-opened o generation = refl
 
--- freed slots are as many as before
+-- the length of the key store does not change when slots are freed
 pub empty-length : (room : ℕ) (keys keys′ : List ℕ) → 2 * room ≤ length keys → EmptyIs room keys keys′ → length keys′ ≡ length keys
 empty-length room keys keys′ long e =
     let r : length (zeros (2 * room)) ≡ 2 * room = length-replicate (2 * room) 0 in
     ap length (e .free) ∙ length-putAt keys (zeros (2 * room)) 0 (omega arith)
 
 module _ (o : Opening) (generation : ℕ) (rows keys keys′ sorts pending : List ℕ) where
-  -- once its slots are free, the stores show an empty table
+  -- if the slots are free, the stores show an empty table
   pub empty-represents : openable o ≡ true → generation ≤ 4294967295 → storesShort o (lengths rows keys sorts pending [] []) ≡ false
       → EmptyIs (roomFor (o .capacity) 0) keys keys′ → Represents (opened o generation) (stores (headerOf (opened o generation)) rows keys′ sorts pending)
   unfolding opened entries rebuilt pushAll entriesOf stored rowsOf every wordsAll flat
@@ -81,7 +82,7 @@ module _ (o : Opening) (generation : ℕ) (rows keys keys′ sorts pending : Lis
 -- ---- *Open*
 
 module _ (o : Opening) (generation : ℕ) (rows keys sorts pending : List ℕ) where
-  -- one that is turned away
+  -- a refused opening
   pub opened-refused : (n : ℕ) → n ≡ openRefusal o (lengths rows keys sorts pending [] []) → (n ≡ 0 → ⊥)
       → Opened o generation (body rows keys sorts) pending (Refused n) keys
   unfolding tableSays reply
@@ -94,7 +95,7 @@ module _ (o : Opening) (generation : ℕ) (rows keys sorts pending : List ℕ) w
         represents = λ z. absurd (omega arith);
       }
 
-  -- one that is not
+  -- an accepted opening
   pub opened-done : (keys′ : List ℕ) → openRefusal o (lengths rows keys sorts pending [] []) ≡ 0 → generation ≤ 4294967295 → EmptyIs (roomFor (o .capacity) 0) keys keys′
       → Opened o generation (body rows keys sorts) pending (Table (emptyHeader o generation)) keys′
   unfolding tableSays reply openRefusal
@@ -108,7 +109,7 @@ module _ (o : Opening) (generation : ℕ) (rows keys sorts pending : List ℕ) w
 
 -- ---- *Clear*
 
--- with rows, an empty table of the next generation; without, the table with nothing staged
+-- with rows, the result is an empty table of the next generation; without rows, the table with nothing staged
 cleared-some : (p : Plain) → 0 < length (p .rows) → cleared p ≡ opened (p .opening) (p .generation + 1)
 unfolding cleared
 cleared-some p h = rw (lt-ltb 0 (length (p .rows)) h)
@@ -117,7 +118,7 @@ cleared-none : (p : Plain) → length (p .rows) ≡ 0 → cleared p ≡ unstaged
 unfolding cleared
 cleared-none p e = rw (le-ltb 0 (length (p .rows)) (omega arith))
 
--- either way no row is left, and the opening's numbers stay
+-- in both cases no row is left, and the opening's numbers do not change
 pub cleared-rows : (p : Plain) → length (cleared p .rows) ≡ 0
 unfolding opened unstaged
 cleared-rows p = ⊎-elim (λ e. rw (cleared-none p e) e) (λ h. rw (cleared-some p h)) (some-number (length (p .rows)))
@@ -126,7 +127,7 @@ pub cleared-opening : (p : Plain) → cleared p .opening ≡ p .opening
 unfolding opened unstaged
 cleared-opening p = ⊎-elim (λ e. rw (cleared-none p e)) (λ h. rw (cleared-some p h)) (some-number (length (p .rows)))
 
--- a table with nothing staged
+-- the header of a table with nothing staged
 header-unstaged : (p : Plain) → withPending (headerOf p) 0 ≡ headerOf (unstaged p)
 unfolding unstaged dead entries wordsAll
 header-unstaged p = refl
@@ -147,12 +148,12 @@ unstaged-represents {p} {s} t =
       keyed = t .keyed;
     }
 
--- the generation after one that is not the last, or is that of no rows
+-- if only a table without rows may have the last generation, a table with rows has a next one
 pub next-fits : (generation rows : ℕ) → generation ≤ 4294967295 → (generation ≡ 4294967295 → rows ≡ 0) → 0 < rows → generation + 1 ≤ 4294967295
 next-fits generation rows fits last some = elim (ℕ-discrete generation 4294967295) [ yes e ↦ absurd (omega (arith, last e)) | no ne ↦ omega arith ]
 
 module _ (h : Header) (keys : List ℕ) where
-  -- one that is turned away
+  -- a refused clear
   pub clear-refused : (n : ℕ) → n ≡ clearRefusal h (length keys) → (n ≡ 0 → ⊥) → Clearing h keys (Refused n) keys
   unfolding tableSays verdict reply
   clear-refused zero e ne = absurd (ne refl)
@@ -164,7 +165,7 @@ module _ (h : Header) (keys : List ℕ) where
         table = λ z rows sorts pending p t. absurd (omega arith);
       }
 
-  -- one of a table without rows
+  -- a clear of a table without rows
   pub clear-pending : clearRefusal h (length keys) ≡ 0 → h .rows ≡ 0 → Clearing h keys (Table (withPending h 0)) keys
   unfolding tableSays verdict reply
   clear-pending e none =
@@ -178,7 +179,7 @@ module _ (h : Header) (keys : List ℕ) where
             record { answers = rw q (ap accepted (u .shown .header)); represents = rw (q, ← (u .shown .header)) u };
       }
 
-  -- one of a table with rows
+  -- a clear of a table with rows
   pub clear-all : (keys′ : List ℕ) → clearRefusal h (length keys) ≡ 0 → 0 < h .rows → EmptyIs (roomFor (h .capacity) 0) keys keys′
       → Clearing h keys (Table (emptyHeader (openingOf h) (h .generation + 1))) keys′
   unfolding tableSays verdict reply

@@ -1,4 +1,4 @@
--- Laws of the pending store: how many words staged records take, and more records. Assumes nothing.
+-- Laws of the pending store: the number of words that staged records take, and the effect of more records. Assumes nothing.
 use Prim.Native.Nat.{ℕ, _+_, _≤_}
 use mathlib.Core.Path.{_≡_, refl, sym, ap, ap₂, _∙_}
 use mathlib.Core.Bool.{false, not}
@@ -22,7 +22,7 @@ length-recordWords o (insert cells) e = let q : length cells ≡ o .columns = eq
 length-recordWords o (removeKey key) e = let q : length key ≡ o .keys = eqb-true _ _ (not-false _ e) in omega arith
 length-recordWords o (removeRow row key) e = let q : length key ≡ o .keys = eqb-true _ _ (not-false _ e) in omega arith
 
--- all of them
+-- the words of a list of records
 pub length-records : (o : Opening) (staged : List Staged) → Whole o staged → length (flat (map (recordWords (o .keys)) staged)) ≡ wordsAll o staged
 unfolding flat wordsAll
 length-records o [] e = refl
@@ -30,7 +30,7 @@ length-records o (r ∷ rs) e =
     length-append (recordWords (o .keys) r) (flat (map (recordWords (o .keys)) rs))
     ∙ ap₂ _+_ (length-recordWords o r (not-true _ (every-head (λ r. not (wrongWidth o r)) r rs e))) (length-records o rs (every-tail (λ r. not (wrongWidth o r)) r rs e))
 
--- more of them
+-- the words of two lists of records
 pub wordsAll-append : (o : Opening) (a b : List Staged) → wordsAll o (a ++ b) ≡ wordsAll o a + wordsAll o b
 unfolding wordsAll
 wordsAll-append o [] b = omega arith
@@ -39,13 +39,13 @@ wordsAll-append o (r ∷ a) b = let h = wordsAll-append o a b in omega arith
 records-append : (keys : ℕ) (a b : List Staged) → flat (map (recordWords keys) (a ++ b)) ≡ flat (map (recordWords keys) a) ++ flat (map (recordWords keys) b)
 records-append keys a b = ap flat (map-append (recordWords keys) a b) ∙ flat-append (map (recordWords keys) a) (map (recordWords keys) b)
 
--- a pending store is as long as the records that it holds
+-- a pending store is at least as long as the records that it holds
 pub holds-fits : {o : Opening} {pending : List ℕ} {staged : List Staged} → Holds o pending staged → wordsAll o staged ≤ length pending
 holds-fits {o} {pending} {staged} h =
     let e = ap length (h .in-order) ∙ length-records o staged (h .whole) in
     omega (arith, simp length-take at e)
 
--- records written after the others are held too
+-- records that are written after the others are held too
 pub holds-more : {o : Opening} {pending : List ℕ} {staged : List Staged} (rs : List Staged) → Holds o pending staged → Whole o rs
     → wordsAll o staged + wordsAll o rs ≤ length pending
     → Holds o (putAt pending (wordsAll o staged) (flat (map (recordWords (o .keys)) rs))) (staged ++ rs)

@@ -1,5 +1,5 @@
--- What is known of a header and of the lengths of what is lent where an operation's ladder turns nothing away: one record
--- for each ladder of Refusing, and what the key index asks. Assumes nothing.
+-- What holds of a header and of the lengths of the lent stores if an operation is not refused: one record for each list of checks
+-- of Refusing, and what the key index requires. Assumes nothing.
 use Prim.Native.Nat.{ℕ, _+_, _*_, _/_, _≤_, _<_}
 use mathlib.Core.Path.{_≡_, refl}
 use mathlib.Core.Bool.{true, false, not, _&&_, _||_}
@@ -47,7 +47,7 @@ outside-inside h e =
       entries-fit = leb-true _ _ (and-right (openable (openingOf h) && leb (h .rows) (h .capacity) && leb (h .dead) (h .rows)) _ a);
     }
 
--- and so are the pending words in use
+-- the pending words in use are within their bounds too
 pub record PendingInside (h : Header) (pending : ℕ) : Type 0 where
   pub inside : Inside h
   pub pending-fits : h .pending ≤ pending
@@ -59,7 +59,7 @@ pending-inside h pending e =
 
 -- ---- test 2
 
--- the compaction words are enough for a capacity
+-- there are enough compaction words for a capacity
 pub record WordsLong (o : Opening) (live base : ℕ) : Type 0 where
   pub live-long : (o .capacity + 63) / 64 ≤ live
   pub base-long : (o .capacity + 63) / 64 ≤ base
@@ -80,7 +80,7 @@ pairs-long-of : (h : Header) (store : ℕ) → pairsShort h store ≡ false → 
 unfolding pairsShort
 pairs-long-of h store e = ltb-false _ _ e
 
--- what the key index asks, whatever slots are in use
+-- what the key index requires, for any number of slots in use
 pub inside-whole : (h : Header) (rows keys : List ℕ) → Inside h → h .capacity * h .columns ≤ length rows → 2 * h .capacity ≤ length keys → Fits (wholeOf h) rows keys
 inside-whole h rows keys i r k =
     record {
@@ -95,7 +95,7 @@ inside-whole h rows keys i r k =
       long = k;
     }
 
--- and of those that are
+-- and for the slots that are in use
 pub whole-fits : (h : Header) (rows keys : List ℕ) → Fits (wholeOf h) rows keys → Fits (keyedOf h) rows keys
 whole-fits h rows keys f =
     fits-room (wholeOf h) (keyedOf h) rows keys f refl refl (room-some (h .capacity) (h .rows) (f .some)) (room-enough (h .capacity) (h .rows) (f .count) (f .most))

@@ -1,17 +1,17 @@
--- Replies: which ladders were passed, and what their answers are. Assumes nothing.
+-- Laws of replies: their refusal numbers and values. Assumes nothing.
 use Prim.Native.Nat.{ℕ, zero, suc, _<_}
 use mathlib.Core.Path.{_≡_, refl}
 use native.Mathlib.Omega.{arith}
 use Rattle.refusals.specs.Refusals.{Reply, refused, accepted, reply, verdict}
 
--- a ladder whose answer is a value turned nothing away
+-- if a reply is accepted, its refusal number is 0
 pub ruled-accepted : {A : Type 0} (r : Reply A) (a : A) (n : ℕ) → verdict r ≡ reply n tt → r ≡ accepted a → n ≡ 0
 unfolding verdict reply
 ruled-accepted (refused m) a n e q = absurd (let z : _≡_ {A = ℕ} 0 1 = cc in omega arith)
 ruled-accepted (accepted b) a zero e q = refl
 ruled-accepted (accepted b) a (suc n) e q = absurd (let z : _≡_ {A = ℕ} 0 1 = cc in omega arith)
 
--- a reply with a number, and one without
+-- a reply with a refusal number, and one with 0
 pub reply-refused : {A : Type 0} (n : ℕ) (a : A) → 0 < n → reply n a ≡ refused n
 unfolding reply
 reply-refused zero a h = absurd (omega arith)
@@ -22,7 +22,7 @@ unfolding reply
 reply-accepted zero a e = refl
 reply-accepted (suc n) a e = absurd (omega arith)
 
--- an accepted reply was not turned away, and is its value
+-- an accepted reply has refusal number 0 and its own value
 pub accepted-number : {A : Type 0} (n : ℕ) (a b : A) → accepted a ≡ reply n b → n ≡ 0
 unfolding reply
 accepted-number zero a b e = refl

@@ -1,5 +1,4 @@
--- What the stores of a table that shows a plain table say of each row, and what its header and lengths pass. Assumes
--- nothing.
+-- Stores that show a plain table: each of their rows, and the tests that the header and the lengths pass. Assumes nothing.
 use Prim.Native.Nat.{ℕ, _*_, _≤_, _<_}
 use mathlib.Core.Path.{_≡_, sym, ap, _∙_}
 use mathlib.Core.Bool.{true, false, _||_}
@@ -30,13 +29,13 @@ use Rattle.table.specs.Laws.Stored.{stored-shown, shown-stored}
 
 -- ---- the lengths of the stores
 
--- test 2 is passed
+-- the stores pass test 2
 pub record LongEnough (o : Opening) (rows keys sorts : ℕ) : Type 0 where
   pub rows-long : o .capacity * o .columns ≤ rows
   pub keys-long : 2 * o .capacity ≤ keys
   pub sorts-long : 2 * o .capacity ≤ sorts
 
--- stores that are not short
+-- stores that are not short are long enough
 pub stores-long : (o : Opening) (l : Lengths) → storesShort o l ≡ false → LongEnough o (l .rows) (l .keys) (l .sorts)
 unfolding storesShort
 stores-long o l e =
@@ -54,7 +53,7 @@ long-stores o l g = rw (le-ltb _ _ (g .rows-long), le-ltb _ _ (g .keys-long), le
 
 -- ---- the header
 
--- never more entries than rows
+-- there are no more entries than rows
 pub entries-few : (p : Plain) → length (entries p) ≤ length (p .rows)
 unfolding entries
 entries-few p = omega (arith, rebuilt-few (map (λ row. getD (row .cells) (p .opening .sort) 0) (p .rows)), length-map (p .rows) (λ row. getD (row .cells) (p .opening .sort) 0))
@@ -70,7 +69,7 @@ header-inside {p} proper = rw (proper .numbers, le-leb _ _ (proper .rows-fit), l
 pub rows-in : {p : Plain} → Proper p → (rows : ℕ) → p .opening .capacity * p .opening .columns ≤ rows → length (p .rows) * p .opening .columns ≤ rows
 rows-in {p} proper rows h = omega (arith, mul-le-mul-right (p .opening .columns) (proper .rows-fit))
 
--- each row's stored cells are a row's width
+-- each stored row has the width of a row
 pub wide-rows : {p : Plain} → Proper p → (rows : List ℕ) → p .opening .capacity * p .opening .columns ≤ length rows
     → widths (p .opening .columns) (rowsOf (p .opening .columns) (length (p .rows)) rows) ≡ true
 wide-rows {p} proper rows h = rowsOf-widths (p .opening .columns) (length (p .rows)) rows (rows-in proper (length rows) h)
@@ -85,7 +84,7 @@ shown-own {p} rows proper long e i k =
     rw (getD-rowsOf w (length (p .rows)) rows i k) at
     (stored-shown (p .rows) (rowsOf w (length (p .rows)) rows) (length-rowsOf w (length (p .rows)) rows) (proper .live-first) cells-in e i k)
 
--- rows stored over themselves unchanged show the plain ones
+-- the rows stored over themselves do not change, if they show the plain ones
 pub stored-rows : {p : Plain} (h : Header) (rows : List ℕ) → Proper p → p .opening .capacity * p .opening .columns ≤ length rows → h ≡ headerOf p
     → stored (p .rows) (rowsOf (h .columns) (h .rows) rows) ≡ rowsOf (h .columns) (h .rows) rows
     → (i : ℕ) → i < h .rows → RowShown (rowOf p i) (rowAt (h .columns) i rows)
@@ -100,7 +99,7 @@ module _ {p : Plain} {s : Stores} (r : Represents p s) where
   pub represents-inside : outside (s .header) ≡ false
   represents-inside = rw (r .shown .header) (header-inside (r .proper))
 
-  -- row by row
+  -- each row is shown
   pub row-shown : (i : ℕ) → i < length (p .rows) → RowShown (rowOf p i) (rowAt (s .header .columns) i (s .rows))
   row-shown i h = r .shown .rows-shown i (rw (ap (λ (h : Header). h .rows) (r .shown .header)) h)
 
@@ -108,7 +107,7 @@ module _ {p : Plain} {s : Stores} (r : Represents p s) where
   pub rows-counted : s .header .rows ≡ length (p .rows)
   rows-counted = ap (λ (h : Header). h .rows) (r .shown .header)
 
-  -- stored over themselves the rows do not change
+  -- the rows stored over themselves do not change
   pub rows-stored : stored (p .rows) (rowsOf (s .header .columns) (s .header .rows) (s .rows)) ≡ rowsOf (s .header .columns) (s .header .rows) (s .rows)
   rows-stored =
       shown-stored (p .rows) (rowsOf (s .header .columns) (s .header .rows) (s .rows)) (length-rowsOf (s .header .columns) (s .header .rows) (s .rows) ∙ rows-counted)

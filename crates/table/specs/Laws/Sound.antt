@@ -47,11 +47,11 @@ use Rattle.table.specs.Laws.Pending.{holds-fits}
 abbrev pub sortCells : Plain → List ℕ
 sortCells p = map (λ row. getD (row .cells) (p .opening .sort) 0) (p .rows)
 
--- as many as there are rows
+-- there are as many as rows
 pub length-sortCells : (p : Plain) → length (sortCells p) ≡ length (p .rows)
 length-sortCells p = length-map (p .rows) (λ row. getD (row .cells) (p .opening .sort) 0)
 
--- the one of row i
+-- the sort cell of row i
 pub getD-sortCells : (p : Plain) (i : ℕ) → i < length (p .rows) → getD (sortCells p) i 0 ≡ sortCell p (rowOf p i)
 getD-sortCells p i h = getD-map-below (λ (row : Row). getD (row .cells) (p .opening .sort) 0) (p .rows) i noRow 0 h
 
@@ -66,13 +66,13 @@ pub entries-sound : {p : Plain} → Proper p → entriesSound (entries p) (lengt
 unfolding entries
 entries-sound {p} proper = rw (length-sortCells p) at (rebuilt-sound (sortCells p) (sortCells-climb proper))
 
--- they record each row's sort cell
+-- the entries record each row's sort cell
 pub entries-valueAt : {p : Plain} → Proper p → (i : ℕ) → i < length (p .rows) → valueAt i (entries p) ≡ sortCell p (rowOf p i)
 unfolding entries
 entries-valueAt {p} proper i h =
     rebuilt-valueAt (sortCells p) (sortCells-climb proper) i (omega (arith, length-sortCells p)) ∙ getD-sortCells p i h
 
--- none exceeds the largest value
+-- no entry exceeds the largest value
 pub entries-kept : {p : Plain} → Proper p → every (λ e. atMost (e .value) (p .largest)) (entries p) ≡ true
 unfolding entries
 entries-kept {p} proper =
@@ -141,7 +141,7 @@ module _ {p : Plain} {s : Stores} (r : Represents p s) where
 
 -- ---- a sound table shows a plain table
 
--- a row that is live as stored has the stored cells; a dead one has the value that the entries record for its sort cell
+-- a row that is stored as live has the stored cells; in a dead row the sort cell is the value that the entries record
 unfoldable pub plainRow : ℕ → ℕ → List ℕ → Row
 plainRow sort value cells = record { live = isLive cells; cells = cond (isLive cells) cells (set cells sort value) }
 
@@ -174,7 +174,7 @@ getD-plainRows sort es n (cells ∷ rows) (suc i) h =
     let e : suc n + i ≡ n + suc i = omega arith in
     rw (← e) (getD-plainRows sort es (suc n) rows i (omega arith))
 
--- a plain row of stored cells is shown by them
+-- stored cells show the plain row made of them
 plainRow-shown : (sort value : ℕ) (cells : List ℕ) → RowShown (plainRow sort value cells) cells
 unfolding plainRow
 plainRow-shown sort value cells = record { live = refl; same = λ e. rw e }
@@ -203,11 +203,11 @@ module _ {h : Header} {rows keys sorts pending : List ℕ} {staged : List Staged
   sound-facts : Tested h (length rows) (length keys) (length sorts) (length pending)
   sound-facts = sound-tested h (length rows) (length keys) (length sorts) (length pending) (s .tested)
 
-  -- it has as many rows
+  -- it has as many rows as the header counts
   pub plainOf-length : length (plainOf h rows sorts staged .rows) ≡ h .rows
   plainOf-length = length-plainRows (h .sort) (entriesOf (h .entries) sorts) 0 (rowsOf (h .columns) (h .rows) rows) ∙ length-rowsOf (h .columns) (h .rows) rows
 
-  -- row by row
+  -- each row of it
   pub plainOf-row : (i : ℕ) → i < h .rows → rowOf (plainOf h rows sorts staged) i ≡ plainRow (h .sort) (valueAt i (entriesOf (h .entries) sorts)) (rowAt (h .columns) i rows)
   plainOf-row i k =
       getD-plainRows (h .sort) (entriesOf (h .entries) sorts) 0 (rowsOf (h .columns) (h .rows) rows) i (omega (arith, length-rowsOf (h .columns) (h .rows) rows))
@@ -282,7 +282,7 @@ module _ {h : Header} {rows keys sorts pending : List ℕ} {staged : List Staged
             valueAt-climbs i j (entriesOf (h .entries) sorts) (h .rows) (sound-climb (entriesOf (h .entries) sorts) (h .rows) (s .entries-rise)) a,
           )
 
-  -- its entries are those stored
+  -- its entries are the stored ones
   pub plainOf-entries : entriesOf (h .entries) sorts ≡ entries (plainOf h rows sorts staged)
   unfolding entries
   plainOf-entries =
@@ -322,7 +322,7 @@ module _ {h : Header} {rows keys sorts pending : List ℕ} {staged : List Staged
         largest = d i;
       }
 
-  -- sound stores show a plain table, of the same staged records
+  -- sound stores show a plain table with the same staged records
   pub plainOf-represents : h .generation ≤ 4294967295 → Represents (plainOf h rows sorts staged) (stores h rows keys sorts pending)
   plainOf-represents g =
       record {
@@ -338,6 +338,6 @@ module _ {h : Header} {rows keys sorts pending : List ℕ} {staged : List Staged
         keyed = s .keyed;
       }
 
-  -- a sound table of a generation that fits shows a plain table
+  -- a sound table whose generation fits shows a plain table
   pub sound-represents : h .generation ≤ 4294967295 → (p : Plain) × Represents p (stores h rows keys sorts pending) × (p .staged ≡ staged)
   sound-represents g = (plainOf h rows sorts staged, plainOf-represents g, refl)

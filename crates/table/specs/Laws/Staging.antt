@@ -1,4 +1,4 @@
--- Staged records: a plain table that the stores show is shown with the records too. Assumes nothing.
+-- Staged records: stores that show a plain table show it with new records staged, too. Assumes nothing.
 use Prim.Native.Nat.{ℕ, _+_, _≤_}
 use mathlib.Core.Path.{_≡_, sym, ap, _∙_}
 use mathlib.Core.Bool.{false}
@@ -23,14 +23,14 @@ use Rattle.table.specs.Stores.{entries, headerOf, recordWords}
 use Rattle.table.specs.Promises.{Stores, stores, Represents, withPending}
 use Rattle.table.specs.Laws.Pending.{wordsAll-append, holds-more}
 
--- the tests of *Stage*, passed
+-- the tests of *Stage* pass
 pub record Stageable (h : Header) (pending : ℕ) (r : Staged) : Type 0 where
   pub inside : pendingOutside h pending ≡ false
   pub right-width : wrongWidth (openingOf h) r ≡ false
   pub row-there : noSuchRow (h .rows) r ≡ false
   pub free : h .pending + wordsOf (openingOf h) r ≤ pending
 
--- a record that is not turned away passed the tests
+-- an accepted record passes the tests
 pub stage-accepted : (h : Header) (pending : ℕ) (r : Staged) → stageRefusal h pending r ≡ 0 → Stageable h pending r
 unfolding stageRefusal stageLadder overfull
 stage-accepted h pending r e =
@@ -44,12 +44,12 @@ stage-accepted h pending r e =
       free = ltb-false _ _ (or-no-left (ltb pending (h .pending + wordsOf (openingOf h) r)) _ (first-no _ 6 _ d));
     }
 
--- the header with more records
+-- the header after more records are staged
 header-more : (p : Plain) (rs : List Staged) → withPending (headerOf p) (wordsAll (p .opening) (p .staged) + wordsAll (p .opening) rs) ≡ headerOf (stageAll p rs)
 unfolding stageAll dead entries
 header-more p rs = ap (withPending (headerOf p)) (sym (wordsAll-append (p .opening) (p .staged) rs))
 
--- whole records, written after the others: the stores show the plain table that they are staged in
+-- after whole records are written behind the others, the stores show the plain table with these records staged
 pub records-represent : {p : Plain} {s : Stores} (rs : List Staged) (pending′ : List ℕ) → Represents p s → Whole (p .opening) rs
     → s .header .pending + wordsAll (openingOf (s .header)) rs ≤ length (s .pending)
     → pending′ ≡ putAt (s .pending) (s .header .pending) (flat (map (recordWords (s .header .keys)) rs))
@@ -70,7 +70,7 @@ records-represent {p} {s} rs pending′ t whole free w =
       keyed = t .keyed;
     }
 
--- a record that is not turned away
+-- an accepted record
 pub staging-represents : {p : Plain} {s : Stores} (r : Staged) (pending′ : List ℕ) → Represents p s → stageRefusal (s .header) (length (s .pending)) r ≡ 0
     → pending′ ≡ putAt (s .pending) (s .header .pending) (recordWords (s .header .keys) r)
     → Represents (stage p r) (stores (withPending (s .header) (s .header .pending + wordsOf (openingOf (s .header)) r)) (s .rows) (s .keys) (s .sorts) pending′)

@@ -24,7 +24,7 @@ pub marked-dead : (cells : List ℕ) → 1 ≤ length cells → isLive (marked c
 unfolding isLive isDead
 marked-dead cells h = rw (getD-set-same cells 0 4294967295 0 h)
 
--- a dead row is marked already
+-- a dead row already has the mark
 pub dead-marked : (cells : List ℕ) → isLive cells ≡ false → marked cells ≡ cells
 unfolding isLive isDead
 dead-marked cells e =
@@ -33,7 +33,7 @@ dead-marked cells e =
 
 -- ---- one row
 
--- stored over itself nothing changes
+-- a row stored over the cells that show it does not change them
 pub shown-one : (row : Row) (cells : List ℕ) → RowShown row cells → cond (row .live) (row .cells) (marked cells) ≡ cells
 shown-one row cells s = go (row .live) refl
   where
@@ -57,14 +57,14 @@ one-shown row cells f h e = go (row .live) refl e
 
 -- ---- all rows
 
--- as many as there are rows
+-- as many rows are stored as there are
 pub length-stored : (rows : List Row) (before : List (List ℕ)) → length (stored rows before) ≡ length rows
 unfolding stored
 length-stored [] before = refl
 length-stored (row ∷ rows) [] = ap suc (length-stored rows [])
 length-stored (row ∷ rows) (old ∷ before) = ap suc (length-stored rows before)
 
--- stored over what is stored, nothing changes
+-- rows stored over themselves do not change
 pub stored-again : (rows : List Row) (before : List (List ℕ)) → stored rows (stored rows before) ≡ stored rows before
 unfolding stored
 stored-again [] before = refl
@@ -112,7 +112,7 @@ stored-widths w (row ∷ rows) (old ∷ before) e f =
     go true = eq-eqb _ _ wide
     go false = eq-eqb _ _ (length-set old 0 4294967295 ∙ wide-old)
 
--- a live row's cells, at its place
+-- a live row is stored with its cells at its place
 pub stored-at-live : (rows : List Row) (before : List (List ℕ)) (i : ℕ) → getD rows i noRow .live ≡ true → getD (stored rows before) i [] ≡ getD rows i noRow .cells
 unfolding stored
 stored-at-live [] before i e = absurd (false≢true e)
@@ -121,7 +121,7 @@ stored-at-live (row ∷ rows) (old ∷ before) zero e = rw e
 stored-at-live (row ∷ rows) [] (suc i) e = stored-at-live rows [] i e
 stored-at-live (row ∷ rows) (old ∷ before) (suc i) e = stored-at-live rows before i e
 
--- a dead row that stood there before: what stood there, with the mark
+-- a dead row that existed before has the cells stored there before, with the mark
 pub stored-at-dead : (rows : List Row) (before : List (List ℕ)) (i : ℕ) → i < length rows → i < length before → getD rows i noRow .live ≡ false
     → getD (stored rows before) i [] ≡ marked (getD before i [])
 unfolding stored
@@ -130,7 +130,7 @@ stored-at-dead (row ∷ rows) [] i h k e = absurd (omega arith)
 stored-at-dead (row ∷ rows) (old ∷ before) zero h k e = rw e
 stored-at-dead (row ∷ rows) (old ∷ before) (suc i) h k e = stored-at-dead rows before i (omega arith) (omega arith) e
 
--- a dead row that is new: what was appended, with the mark
+-- a new dead row has the cells that were appended, with the mark
 pub stored-at-new : (rows : List Row) (before : List (List ℕ)) (i : ℕ) → i < length rows → length before ≤ i → getD rows i noRow .live ≡ false
     → getD (stored rows before) i [] ≡ marked (getD rows i noRow .cells)
 unfolding stored
@@ -140,7 +140,7 @@ stored-at-new (row ∷ rows) [] (suc i) h k e = stored-at-new rows [] i (omega a
 stored-at-new (row ∷ rows) (old ∷ before) zero h k e = absurd (omega arith)
 stored-at-new (row ∷ rows) (old ∷ before) (suc i) h k e = stored-at-new rows before i (omega arith) (omega arith) e
 
--- stored over itself nothing changes: each row is shown
+-- if the rows stored over themselves do not change, each row is shown
 pub stored-shown : (rows : List Row) (before : List (List ℕ)) → length before ≡ length rows → every firstFits rows ≡ true → every (λ r. leb 1 (length r)) before ≡ true
     → stored rows before ≡ before → (i : ℕ) → i < length rows → RowShown (getD rows i noRow) (getD before i [])
 unfolding stored

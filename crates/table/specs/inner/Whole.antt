@@ -1,5 +1,5 @@
--- The numbers that the key index would go by were all slots of the capacity in use: where rows and slots fit these, they fit those
--- that it goes by, however many rows there are. Assumes nothing.
+-- The numbers of the key index if all slots of the capacity were in use. If rows and slots fit these numbers, they fit those in
+-- use, for any row count. Assumes nothing.
 use Rattle.key_index.specs.declared.Keyed.{Keyed}
 use Rattle.table.specs.declared.Header.{Header}
 
