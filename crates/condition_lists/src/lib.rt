@@ -1,4 +1,4 @@
-// A question with a list of conditions that lie in an array.
+// A query with a list of conditions in an array.
 ghost use Prim.Native.Nat.{_≤_};
 ghost use lib.ListN.{take};
 ghost use Rattle.offsets.specs.Answers.{subsetOf};
@@ -9,7 +9,7 @@ use offsets::SubsetHead;
 use query::refine_ref;
 use table::Header;
 
-// Refines by the first conditions of an array.
+// Refines by the first `count` conditions of an array.
 pub fn refine_first(
     h: Header,
     rows: &[u32],

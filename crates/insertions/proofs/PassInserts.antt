@@ -27,7 +27,7 @@ use Rattle.merge_pending.proofs.PassRecords.{Next, record-long}
 
 -- ---- one insert
 
--- what the inserts come to goes on after one that is kept or appended, and ends at one that stops
+-- the result of the inserts continues after one that is kept or appended, and ends at one that stops
 goes-kept : (cells : List ℕ) (rest : List Staged) (place : ℕ) (added : Bool) (p : Plain) → insertion cells p ≡ accepted none
     → insertAll (inserts (insert cells ∷ rest)) place added p ≡ insertAll (inserts rest) (place + 1) added p
 unfolding insertAll inserts
@@ -68,7 +68,7 @@ module _ {m : Passed} {rows keys sorts pending : List ℕ} {at : ℕ} (a : Inser
     abbrev Goes : Passed → Staged → List Staged → Plain → Type 0
     Goes r s rest p = InsertGoes m r s rest p Before (stores (r .header) rows′ keys′ sorts′ pending)
 
-    -- what the insert that stands here comes to
+    -- the result of the insert at this place
     comes : {cells : List ℕ} {rest : List Staged} → Next (m .header) pending at (insert cells) rest → (p : Plain) → Represents p Before
         → Comes p cells Before rows′ keys′ sorts′ one
     comes {cells} w p t =
@@ -182,7 +182,7 @@ inserts-left {h} {pending} {at} {records} l = inserts-wanted records ∙ ap inse
 
 -- ---- the loop over the inserts
 
--- what the inserts so far have come to, and the records still to come
+-- the result of the inserts so far, and the remaining records
 pub record Inserts (at : ℕ) (m : Passed) (p : Plain) (s s′ : Stores) : Type 0 where
   pub now : Plain
   pub rest : List Staged
@@ -251,7 +251,7 @@ module _ {h : Header} {rows keys sorts pending : List ℕ} (a : Ready h rows key
       pub filling-inside : at + words ≤ h .pending
       filling-inside = v .here .inside (omega arith)
 
-      -- the record at the place stands whole
+      -- the record at the place is complete
       pub filling-requires : InsertNext m rows′ keys′ sorts′ pending at
       filling-requires =
           record {

@@ -1,4 +1,4 @@
-// All inserts of a merge, one after another: `do_insert` of table/mod.rs.
+// All inserts of a merge, in order: `do_insert` of table/mod.rs.
 ghost use Rattle.merge_pending.specs.inner.Becoming.{Ready};
 ghost use Prim.Native.Nat.{_≤_};
 ghost use lib.ListN.{length};
@@ -10,8 +10,9 @@ use merge_pending::record_length;
 use table::Header;
 use table::INSERT;
 
-// What the passes over the pending records have come to: a merge's answer, before the compaction that may follow. `added` is 1 if
-// a row was appended, and no bool: a struct with a bool is copied byte by byte, and this one is in each turn of a loop.
+// The result of the passes over the pending records: the answer of a merge, before the compaction that may follow. `added` is 1 if
+// a row was appended. It is not a bool, because a struct with a bool is copied byte by byte, and this one is copied in each
+// iteration of a loop.
 pub struct Passed {
     pub header: Header,
     pub status: u32,
@@ -19,7 +20,8 @@ pub struct Passed {
     pub added: u32,
 }
 
-// Where a pass over the inserts begins: at the first record or, if that is a removal, behind all of its kind that follow it.
+// The place where a pass over the inserts starts: the first record or, if that is a removal, behind all records of its kind that
+// follow it.
 fn first_place(h: Header, pending: &[u32]) -> u32
     requires { ⌜ (h .columns ≤ 8) × (h .keys ≤ 8) × (h .pending ≤ length (now pending)) ⌝ }
     ensures { λ r. ⌜ FirstInsert h (now (pending .entry)) r ⌝ }
@@ -34,8 +36,8 @@ fn first_place(h: Header, pending: &[u32]) -> u32
     next_record(h, pending, 0, words, INSERT)
 }
 
-// The record at a place, if it is an insert. Takes what the inserts before it have come to, and answers with what it comes
-// to: `place` is that of the next insert, unless this one stops the merge.
+// Applies the record at a place if it is an insert. Takes the result of the inserts before it, and returns the result that includes
+// it: `place` is that of the next insert, unless this insert stops the merge.
 fn insert_next(
     m: Passed,
     rows: &mut [u32],
@@ -75,7 +77,7 @@ fn insert_next(
     }
 }
 
-// All inserts, in staging order, until one must be appended and cannot be. A run of removals before them is passed over.
+// Applies all inserts, in staging order, until one must be appended and cannot be. A run of removals before them is skipped.
 pub fn insert_all(
     h: Header,
     rows: &mut [u32],

@@ -1,5 +1,5 @@
-// One insert of a merge. A new key's row is appended; a known key's goes through the rule, and a row so made is appended while the
-// old one dies.
+// One insert of a merge. The row of a new key is appended. A known key goes through the rule: the row that the rule makes is
+// appended, and the old row dies.
 ghost use Prim.Native.Nat.{_≤_, _+_, _<_};
 ghost use Rattle.key_index.specs.Slots.{slots};
 ghost use Rattle.table.specs.Sound.{keyedOf};
@@ -14,8 +14,9 @@ use merge_append::replace_row;
 use table::Header;
 use table::keyed;
 
-// What the rule makes of an old row and the new cells is written at the start of `out`; false if the old row is kept. For rules 0 and
-// 1 that is the surviving row, a part of one of the two stores. It has the old row's cells behind the key exactly if that row is kept.
+// Writes the row that the rule makes of an old row and the new cells to the start of `out`. Returns false if the old row is kept.
+// For rules 0 and 1 the row made is the surviving row, a part of one of the two stores. Its cells behind the key equal the old
+// row's exactly if the old row is kept.
 fn make_row<'a>(
     h: Header,
     rows: &'a [u32],
@@ -57,7 +58,7 @@ fn make_row<'a>(
     true
 }
 
-// A known key goes through the rule.
+// Inserts a row of a known key, which goes through the rule.
 fn insert_known(
     h: Header,
     rows: &mut [u32],
@@ -80,7 +81,7 @@ fn insert_known(
     replace_row(h, rows, keys, sorts, &row[0..width], hash, old, slot)
 }
 
-// One insert: its cells stand in the pending store from `from` on.
+// Applies one insert, whose cells are in the pending store from `from` on.
 pub fn insert_row(
     h: Header,
     rows: &mut [u32],

@@ -1,4 +1,4 @@
--- The steps of a merge: when a compaction is due, what each call asks, and what the entry point answers. Assumes nothing.
+-- The steps of a merge: when a compaction is due, what each call requires, and what the entry point returns. Assumes nothing.
 use Prim.Native.Nat.{ℕ, _+_, _*_, _/_, _≤_, _<_, max}
 use mathlib.Core.Path.{_≡_, refl, sym, ap, _∙_}
 use mathlib.Core.Logic.{inl, inr}
@@ -115,7 +115,7 @@ module _ (h : Header) (rows keys sorts pending : List ℕ) (ready : Ready h rows
 
 -- ---- what follows them
 
--- with pending emptied, what a compaction asks is the same
+-- with pending emptied, a compaction requires the same
 pub lendable-emptied : {h : Header} {rows keys sorts live base : List ℕ} → Lendable h rows keys sorts live base → Lendable (withPending h 0) rows keys sorts live base
 lendable-emptied l =
     record { fits = l .fits; sort-column = l .sort-column; sorts-long = l .sorts-long; live-long = l .live-long; base-long = l .base-long }
@@ -174,7 +174,7 @@ module _ (m : Passed) (rows keys sorts live base : List ℕ) where
 -- ---- the entry point
 
 module _ (h : Header) (rows keys sorts pending live base : List ℕ) where
-  -- a merge is turned away
+  -- a refused merge
   pub merge-refused : (n : ℕ) → n ≡ mergeRefusal h (lengths rows keys sorts pending live base) → (n ≡ 0 → ⊥)
       → Merging (stores h rows keys sorts pending) (compactionWords live base) (MergeRefused n) (body rows keys sorts) (compactionWords live base)
   unfolding mergeSays
@@ -191,7 +191,7 @@ module _ (h : Header) (rows keys sorts pending live base : List ℕ) where
     mergeable : Mergeable h (lengths rows keys sorts pending live base)
     mergeable = merge-accepted h (lengths rows keys sorts pending live base) (sym number ∙ taken)
 
-    -- what its passes ask
+    -- what its passes require
     pub merge-ready : Ready h rows keys sorts pending × (h .dead ≤ h .rows)
     merge-ready =
         let a = mergeable in (
@@ -208,7 +208,7 @@ module _ (h : Header) (rows keys sorts pending live base : List ℕ) where
         )
 
     module _ (m : Passed) (rows₁ keys₁ sorts₁ : List ℕ) (applying : Applying h rows keys sorts pending m rows₁ keys₁ sorts₁) where
-      -- what follows them asks
+      -- what the step after them requires
       pub merge-lendable : length rows₁ ≡ length rows → length keys₁ ≡ length keys → length sorts₁ ≡ length sorts → Lendable (m .header) rows₁ keys₁ sorts₁ live base
       merge-lendable a b c =
           let k = mergeable in

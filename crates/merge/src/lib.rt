@@ -1,5 +1,5 @@
-// `merge` of table/mod.rs: removals by key, removals by row, inserts; then pending emptied and, unless it stopped, the
-// compaction that may be due.
+// `merge` of table/mod.rs: removals by key, removals by row, inserts. Then pending is emptied and, unless the merge stopped, the
+// table is compacted if that is due.
 ghost use Prim.Native.Nat.{_≤_};
 ghost use Rattle.merge_pending.specs.inner.Becoming.{Ready};
 ghost use mathlib.Core.Path.{_≡_};
@@ -20,7 +20,7 @@ use table::refusing::LAST_GENERATION;
 use table::refusing::merge_refusal;
 use table_compact::compact_rows;
 
-// Dead rows call for a compaction, and the generation has room for it.
+// Whether there are enough dead rows for a compaction, and the generation can still rise.
 fn is_due(h: Header) -> bool
     ensures { λ r. ⌜ r ≡ due (h .dead) (h .rows) (h .generation) ⌝ }
 {
@@ -33,7 +33,7 @@ fn is_due(h: Header) -> bool
     h.rows / 2 < h.dead
 }
 
-// The pending records are applied: removals by key, removals by row, inserts.
+// Applies the pending records: removals by key, removals by row, inserts.
 fn apply_pending(
     h: Header,
     rows: &mut [u32],
@@ -49,8 +49,8 @@ fn apply_pending(
     insert_all(without_rows, rows, keys, sorts, pending)
 }
 
-// Pending is emptied and, unless the merge stopped, dead rows are dropped if that is due. Those that a compaction leaves were
-// live, and it drops the dead ones.
+// Empties pending and, unless the merge stopped, drops dead rows if that is due. The rows that a compaction keeps were live, and
+// those that it drops were dead.
 fn finish(
     m: Passed,
     rows: &mut [u32],

@@ -1,5 +1,5 @@
--- Steps of an append in the code's form: what an admission says once its answer is known, the key store with the row, and the
--- answers of the parts put together. Assumes nothing.
+-- Steps of an append in the code's form: what an admission implies, by its answer, the key store with the row, and the combined
+-- answers of the parts. Assumes nothing.
 use Prim.Native.Nat.{ℕ, _+_, _*_, _≤_, _<_}
 use mathlib.Core.Path.{_≡_, refl, sym, ap, _∙_}
 use mathlib.Core.Bool.{Bool, true, false, false≢true}

@@ -1,5 +1,5 @@
-// One row appended to a table: it enters the sort entries or stops the merge, stands after the other rows, and the key store leads
-// to it. Stops are tested before anything is written.
+// Appends one row to a table: adds its sort entry or stops the merge, writes it after the other rows, and enters it in the key
+// store. Stops are tested before anything is written.
 ghost use mathlib.Core.Path.{_≡_};
 ghost use Prim.Native.Nat.{_≤_, _+_, _<_};
 ghost use Rattle.key_index.specs.Slots.{slots};
@@ -11,14 +11,14 @@ use table::Header;
 use table::Largest;
 use table::keyed;
 
-// What an insert of a merge does: nothing, a row is appended, or the merge stops with a number.
+// The result of an insert of a merge: no change, a row appended, or the merge stopped with a number.
 pub enum Insertion {
     Kept,
     Appended(Header),
     Stopped(u32),
 }
 
-// Whether a row can be appended: a stop's number, or the number of sort entries with it.
+// Whether a row can be appended: the number of a stop, or the number of sort entries including the row's.
 enum Admission {
     Stop(u32),
     Entries(u32),
@@ -35,7 +35,7 @@ pub fn is_old(h: Header, value: u32) -> bool
     }
 }
 
-// A row of this sort value enters the sort entries, unless it stops the merge: 8 is tested before 9.
+// Adds the sort entry of a row with this sort value, unless the row stops the merge. 8 is tested before 9.
 fn admit(h: Header, sorts: &mut [u32], value: u32) -> Admission
     requires { ⌜ Enterable h (now sorts) ⌝ }
     ensures { λ r. ⌜ AdmissionIs h (now (sorts .entry)) value (now (sorts .exit)) r ⌝ }
@@ -49,7 +49,7 @@ fn admit(h: Header, sorts: &mut [u32], value: u32) -> Admission
     Admission::Entries(sort_entries::append_entry(sorts, h.entries, value, h.rows))
 }
 
-// The header with one row more, whose sort value is the largest from now on.
+// The header with one more row, whose sort value is now the largest.
 fn grown(h: Header, died: u32, entries: u32, value: u32) -> Header
     requires { ⌜ (h .rows < 65536) × (h .dead + died ≤ 4294967295) ⌝ }
     ensures { λ r. ⌜ r ≡ grownTo h (h .dead + died) entries value ⌝ }
@@ -64,7 +64,7 @@ fn grown(h: Header, died: u32, entries: u32, value: u32) -> Header
     }
 }
 
-// Whether one row more takes more room in the key store.
+// Whether one more row needs more slots in the key store.
 fn is_outgrown(h: Header) -> bool
     requires { ⌜ h .rows < 65536 ⌝ }
     ensures { λ r. ⌜ r ≡ outgrown h ⌝ }
@@ -72,7 +72,7 @@ fn is_outgrown(h: Header) -> bool
     key_index::room_for(h.capacity, h.rows + 1) != key_index::room_for(h.capacity, h.rows)
 }
 
-// A row that takes more room was written: the key store is rebuilt with it.
+// Rebuilds the key store after a row that needs more slots was written.
 fn rebuild_grown(
     h: Header,
     rows: &[u32],
@@ -89,7 +89,7 @@ fn rebuild_grown(
     Insertion::Appended(n)
 }
 
-// A new key's row is appended. Where the key store is sound a slot is free.
+// Appends the row of a new key. If the key store is sound, a slot is free.
 pub fn insert_new(
     h: Header,
     rows: &mut [u32],
@@ -115,7 +115,7 @@ pub fn insert_new(
     }
 }
 
-// A row of a known key is appended, takes over the key's slot, and the old row dies.
+// Appends a row of a known key. It takes over the key's slot, and the old row dies.
 pub fn replace_row(
     h: Header,
     rows: &mut [u32],

@@ -32,7 +32,7 @@ pub words-removal : (h : Header) (kind words : ℕ) → (kind ≡ 0 → ⊥) →
 words-removal h kind words k e = record { of-insert = λ z. absurd (k z); of-removal = λ z. e }
 
 module _ (h : Header) (pending : List ℕ) (at : ℕ) where
-  -- the record that stands at the place, and those after it
+  -- the record at the place, and those after it
   abbrev pub Next : Staged → List Staged → Type 0
   Next r rest = Waiting (openingOf h) pending (h .pending) at (r ∷ rest)
 
@@ -127,7 +127,7 @@ run-again {h} {pending} {from} {kind} {words} {at} some v e room =
 -- ---- the record at a place is passed
 
 module _ {h : Header} {pending : List ℕ} {at words : ℕ} (a : CanPass h pending at words) where
-  -- what follows it stands behind it
+  -- the other records are behind it
   behind : (first : Staged) (rest : List Staged) → Next h pending at first rest → Waiting (openingOf h) pending (h .pending) (at + words) rest
   behind first rest w = rw (a .here .next first rest w) (waiting-next w)
 

@@ -1,5 +1,5 @@
-// The pending store as a merge reads it, record by record. What it holds is not relied on for safety: a record's kind and
-// length are tested before it is read.
+// The pending store as a merge reads it, record by record. Safety does not depend on its contents: the kind and length of a record
+// are tested before it is read.
 ghost use Prim.Native.Nat.{_≤_, _<_};
 ghost use lib.ListN.{length};
 ghost use Rattle.merge_pending.specs.inner.Becoming.{RecordLength, RunPassed, CanPass, NextRecord};
@@ -7,7 +7,7 @@ use table::Header;
 use table::INSERT;
 use table::REMOVE_ROW;
 
-// The words of the record at a place of the pending store, 0 if none begins there that is whole.
+// The number of words of the record at a place of the pending store; 0 if no complete record starts there.
 pub fn record_length(h: Header, pending: &[u32], at: u32) -> u32
     requires { ⌜ (h .columns ≤ 8) × (h .keys ≤ 8) × (h .pending ≤ length (now pending)) × (at ≤ h .pending) ⌝ }
     ensures { λ r. ⌜ RecordLength h (now (pending .entry)) at r ⌝ }
@@ -29,7 +29,7 @@ pub fn record_length(h: Header, pending: &[u32], at: u32) -> u32
     words
 }
 
-// The place after a run of records of one kind, which have so many words each.
+// The place after a run of records of one kind, each of `words` words.
 fn after_run(h: Header, pending: &[u32], from: u32, kind: u32, words: u32) -> u32
     requires { ⌜ (h .pending ≤ length (now pending)) × (from ≤ h .pending) × (0 < words) ⌝ }
     ensures { λ r. ⌜ RunPassed h (now (pending .entry)) from kind words r ⌝ }
@@ -44,8 +44,8 @@ fn after_run(h: Header, pending: &[u32], from: u32, kind: u32, words: u32) -> u3
     at
 }
 
-// Where a pass that looks for records of one kind goes on after the record at a place: behind it and, if it is of another kind,
-// behind all of its kind that follow it.
+// The place where a pass that looks for records of one kind continues after the record at `at`: behind that record and, if it is of
+// another kind, behind all records of its kind that follow it.
 pub fn next_record(h: Header, pending: &[u32], at: u32, words: u32, wanted: u32) -> u32
     requires { ⌜ CanPass h (now pending) at words ⌝ }
     ensures { λ r. ⌜ NextRecord h (now (pending .entry)) at words wanted r ⌝ }

@@ -32,7 +32,7 @@ unfolding died
 died-few true = omega arith
 died-few false = omega arith
 
--- the removal that the words at a place say
+-- the removal that the words at a place encode
 read-removal : (h : Header) (pending : List ℕ) (at : ℕ) (removal : Staged) (rest : List Staged) → Next h pending at removal rest → (kindOf removal ≡ 0 → ⊥)
     → removalOf (getD pending at 0) (getD pending (at + 2) 0) (take (h .keys) (drop (at + 1 + getD pending at 0) pending)) ≡ removal
 unfolding kindOf removalOf
@@ -103,7 +103,7 @@ removed-left {h} {pending} {kind} {at} {records} l p =
 
 -- ---- the loop over the removals
 
--- what the removals so far have come to, and the records still to come
+-- the result of the removals so far, and the remaining records
 pub record Removes (kind at : ℕ) (p : Plain) (s s′ : Stores) : Type 0 where
   pub now : Plain
   pub rest : List Staged
@@ -145,7 +145,7 @@ module _ {h : Header} {rows keys pending : List ℕ} {kind : ℕ} (a : Removable
       pub removing-inside : at + words ≤ h .pending
       removing-inside = v .here .inside (omega arith)
 
-      -- the record at the place stands whole
+      -- the record at the place is complete
       pub removing-requires : RemovalNext h rows′ keys′ pending at kind
       removing-requires =
           record {

@@ -1,5 +1,5 @@
--- What a removal leaves, from what its calls say: a row that is marked dead, a key that no live row has, and the live row of
--- a key. Assumes nothing.
+-- The result of a removal, from the contracts of its calls: a row that is marked dead, a key that no live row has, and the live row
+-- of a key. Assumes nothing.
 use Prim.Native.Nat.{ℕ, _+_, _*_, _≤_, _<_}
 use mathlib.Core.Path.{_≡_, refl, sym, ap, _∙_}
 use mathlib.Core.Bool.{Bool, true, false, not, false≢true}
@@ -39,7 +39,7 @@ use Rattle.merge_pending.specs.Laws.Dying.{dying, dying-steps, withoutKey-none,
 
 -- ---- a row is taken out and marked
 
--- its first cell lies in the store
+-- its first cell is within the store
 pub first-cell : (t : Keyed) (rows keys : List ℕ) (row : ℕ) → Fits t rows keys → row < t .rows → (row * t .columns < length rows) × (row * t .columns < 524288)
 first-cell t rows keys row f h =
     let i = row-inside t rows row (rows-in t rows keys f) h in (omega (arith, i, f .some-columns), omega (arith, i, f .some-columns))
@@ -65,7 +65,7 @@ pub spared-row : (kind row found : ℕ) → (kind ≡ 1 → ⊥) → not (eqb fo
 unfolding spared
 spared-row kind row found e = rw (ne-eqb kind 1 e)
 
--- what a lookup asks, and a kill of the row that it finds
+-- what a lookup requires, and a kill of the row that it finds
 pub find-fits : {t : Keyed} (h : Header) {rows keys : List ℕ} {n : ℕ} → t ≡ keyedOf h → (Fits (wholeOf h) rows keys) × (n ≡ h .keys) → (Fits t rows keys) × (n ≡ t .keys)
 find-fits h {rows = rows} {keys = keys} e f = rw e (whole-fits h rows keys (f .0), f .1)
 

@@ -1,5 +1,5 @@
-// Removals of a merge: by key, and by row; one of them, and all of a kind in staging order. A row is taken out of the key
-// store and marked dead, once.
+// The removals of a merge, by key and by row: one removal, and all of a kind in staging order. A removed row is deleted from the
+// key store and marked dead, once.
 ghost use mathlib.Core.Path.{_≡_};
 ghost use Prim.Native.Nat.{_<_};
 ghost use lib.ListN.{length};
@@ -15,7 +15,7 @@ use table::Header;
 use table::REMOVE_KEY;
 use table::keyed;
 
-// Takes the row in a slot out of the key store and marks it dead. Answers whether it was live.
+// Deletes the row in a slot from the key store and marks it dead. Returns whether it was live.
 fn kill(t: Keyed, rows: &mut [u32], keys: &mut [u32], row: u32, slot: u32) -> bool
     requires { ⌜ Fits t (now rows) (now keys) × (row < t .rows) × (slot < slots t) ⌝ }
     ensures { λ r. ⌜ Kills t (now (rows .entry)) (now (keys .entry)) row slot r (now (rows .exit)) (now (keys .exit)) ⌝ }
@@ -25,7 +25,7 @@ fn kill(t: Keyed, rows: &mut [u32], keys: &mut [u32], row: u32, slot: u32) -> bo
     !row_buffer::set_stale(rows, at)
 }
 
-// Whether a removal leaves the row that its key leads to: one by row does if it names another.
+// Whether a removal spares the row found by its key: a removal by row does if it names another row.
 fn is_spared(kind: u32, row: u32, found: u32) -> bool
     ensures { λ r. ⌜ r ≡ spared kind row found ⌝ }
 {
@@ -35,7 +35,7 @@ fn is_spared(kind: u32, row: u32, found: u32) -> bool
     found != row
 }
 
-// The live row of a key dies; where the removal names a row, only if it is that one. Answers whether one died.
+// Removes the live row of a key; if the removal names a row, only if it is that row. Returns whether a row died.
 fn remove_one(
     h: Header,
     rows: &mut [u32],
@@ -61,8 +61,8 @@ fn remove_one(
     }
 }
 
-// The removal at a place of the pending store, of kind 1 or 2. Its key stands behind the hash and, by row, the row's number.
-// Answers whether a row died.
+// Applies the removal at a place of the pending store, of kind 1 or 2. Its key follows the hash and, in a removal by row, the row
+// number. Returns whether a row died.
 fn remove_record(h: Header, rows: &mut [u32], keys: &mut [u32], pending: &[u32], at: u32) -> bool
     requires { ⌜ Fits (wholeOf h) (now rows) (now keys) × RemovalAt h (now pending) at ⌝ }
     ensures { λ r. ⌜ Removed h (now (rows .entry)) (now (keys .entry)) (now (pending .entry)) at r (now (rows .exit)) (now (keys .exit)) ⌝ }
@@ -76,7 +76,7 @@ fn remove_record(h: Header, rows: &mut [u32], keys: &mut [u32], pending: &[u32],
     remove_one(h, rows, keys, kind, row, &pending[from..to], hash)
 }
 
-// The record at a place, if it is a removal of this kind. Answers how many rows died.
+// Applies the record at a place if it is a removal of this kind. Returns the number of rows that died.
 fn remove_next(
     h: Header,
     rows: &mut [u32],
@@ -97,7 +97,7 @@ fn remove_next(
     0
 }
 
-// All removals of a kind, in staging order. Runs of other records are passed over.
+// Applies all removals of a kind, in staging order. Runs of other records are skipped.
 pub fn remove_all(
     h: Header,
     rows: &mut [u32],

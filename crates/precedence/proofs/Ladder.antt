@@ -1,4 +1,4 @@
--- The ladder's tests one by one, and what is known where nothing is turned away. Assumes nothing.
+-- The checks one by one, and what is known if nothing is refused. Assumes nothing.
 use Prim.Native.Nat.{ℕ, _/_, _%_, _≤_, _<_}
 use mathlib.Core.Path.{_≡_, refl, sym, ap, _∙_}
 use mathlib.Core.Logic.{inl, inr}
@@ -23,7 +23,7 @@ use Rattle.precedence.specs.Precedence.{pairsOf, precedenceFailure, prec
 use Rattle.precedence.specs.inner.Checking.{Tested, OnTable}
 
 module _ (h : Header) (rows keys column words : ℕ) where
-  -- what a lookup turns away, with the same number
+  -- what a lookup refuses, with the same number
   pub lookup-turned : (lookupRefusal h rows keys (h .keys) ≡ 0 → ⊥) → lookupRefusal h rows keys (h .keys) ≡ precedenceRefusal h rows keys column words
   unfolding lookupRefusal lookupTests precedenceRefusal first
   lookup-turned turned =
@@ -101,7 +101,7 @@ passed-accepted h rows keys column words n number zero-is =
     }
 
 module _ (h : Header) (rows keys : List ℕ) (column : ℕ) (pairs : List ℕ) (n : ℕ) (number : n ≡ precedenceRefusal h (length rows) (length keys) column (length pairs)) where
-  -- turned away
+  -- refused
   pub check-refused : (n ≡ 0 → ⊥) → PrecedenceChecked h rows keys column pairs (Refused n)
   unfolding precedenceSays
   check-refused turned =

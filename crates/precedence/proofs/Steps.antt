@@ -41,7 +41,7 @@ use Rattle.precedence.specs.Laws.Scan.{anyLive, any-live, none-live, any
 
 -- ---- rows in their store
 
--- a row lies in the store, at places that a u32 counts
+-- a row is within the store, at places that fit into a u32
 pub record RowLies (h : Header) (rows : List ℕ) (row : ℕ) : Type 0 where
   pub inside : row * h .columns + h .columns ≤ length rows
   pub few : row * h .columns + h .columns ≤ 524288

@@ -1,5 +1,5 @@
--- Before comes first (document 02, change 8): "A level after the diplexer counts only if the level before it was on file by
--- then." Which live rows of a plain table fail a pair of values, and what the check answers. Assumes nothing.
+-- Before comes first (document 02, change 8): "A level after the diplexer counts only if the level before it was on file by then."
+-- Which live rows of a plain table fail a pair of values, and the answer of the check. Assumes nothing.
 use Prim.Native.Nat.{ℕ, suc, _+_, _/_, _%_}
 use mathlib.Core.Path.{_≡_}
 use mathlib.Core.Bool.{Bool, cond, not, _&&_, _||_}
@@ -34,9 +34,9 @@ pairsOf (a ∷ b ∷ words) = record { first = a; second = b } ∷ pairsOf words
 unfoldable pub otherKeyCells : ℕ → ℕ → List ℕ → List ℕ
 otherKeyCells keys column cells = take column (take keys cells) ++ drop (column + 1) (take keys cells)
 
--- whether the cells `before` are what a row of these cells needs: "with the second value there, the same other key cells and a
--- sort cell no larger". A row's own cells are, where the two values are equal: "A pair of two equal values is met by the row
--- itself" (law `equal-met`)
+-- whether the cells `before` are what a row of these cells needs: "with the second value there, the same other key cells and a sort
+-- cell no larger". If the two values are equal, the row's own cells are: "A pair of two equal values is met by the row itself" (law
+-- `equal-met`)
 unfoldable pub precedes : Opening → ℕ → ℕ → List ℕ → List ℕ → Bool
 precedes o column value cells before =
     eqb (getD before column 0) value
@@ -49,7 +49,7 @@ meetsPair p column cells pair =
     not (eqb (getD cells column 0) (pair .first))
     || any (λ row. precedes (p .opening) column (pair .second) cells (row .cells)) (liveRows p)
 
--- the place, where the list's first is n, of the first that fails a test, if there is one
+-- the place of the first element that fails a test, if there is one; the first element has place n
 unfoldable pub firstFailing : {A : Type 0} → (A → Bool) → ℕ → List A → Option ℕ
 firstFailing test n [] = none
 firstFailing test n (x ∷ xs) = cond (test x) (firstFailing test (suc n) xs) (some n)
@@ -63,7 +63,7 @@ pub record Failure : Type 0 where
   pub row : ℕ
   pub place : ℕ
 
--- this row with the place that it fails, or what the others give where it fails none
+-- this row with the place of the pair that it fails, or the failure of the others if it fails none
 unfoldable pub failureOr : ℕ → Option ℕ → Option Failure → Option Failure
 failureOr row none others = others
 failureOr row (some place) others = some (record { row = row; place = place })
@@ -78,9 +78,8 @@ failureAmong p column pairs (row ∷ rows) =
 unfoldable pub precedenceFailure : Plain → ℕ → List Pair → Option Failure
 precedenceFailure p column pairs = failureAmong p column pairs (liveRows p)
 
--- "After 1 and 2 comes 6, a column that is not a key column, then 14, a number of pairs outside 1 to 16". Test 2 is of the row
--- store and of the key store (`pairsShort`: two words for each row of the capacity); words that are not in twos are no number of
--- pairs
+-- "After 1 and 2 comes 6, a column that is not a key column, then 14, a number of pairs outside 1 to 16". Test 2 concerns the row
+-- store and the key store (`pairsShort`: two words for each row of the capacity). An odd number of words is no number of pairs
 unfoldable pub precedenceRefusal : Header → ℕ → ℕ → ℕ → ℕ → ℕ
 precedenceRefusal h rows keys column words =
     first
@@ -90,14 +89,14 @@ precedenceRefusal h rows keys column words =
     ∷ rung (not (eqb (words % 2) 0) || ltb (words / 2) 1 || ltb 16 (words / 2)) 14
     ∷ [])
 
--- what an answer says
+-- the answer as a reply
 unfoldable pub precedenceSays : PrecedenceAnswer → Reply (Option Failure)
 precedenceSays (Refused n) = refused n
 precedenceSays Met = accepted none
 precedenceSays (Fails row place) = accepted (some (record { row = row; place = place }))
 
--- What the check promises: lent rows and keys, it is made in those alone, as of a plain table of these rows; the key store must
--- be sound, and live keys differ.
+-- Contract of the check. It uses the lent rows and keys only, and its answer is that for a plain table of these rows, provided that
+-- the key store is sound and live keys differ.
 pub record PrecedenceChecked (h : Header) (rows keys : List ℕ) (column : ℕ) (pairs : List ℕ) (answer : PrecedenceAnswer) : Type 0 where
   pub refusal : verdict (precedenceSays answer) ≡ reply (precedenceRefusal h (length rows) (length keys) column (length pairs)) tt
   pub table : precedenceRefusal h (length rows) (length keys) column (length pairs) ≡ 0 → KeysSound (keyedOf h) rows keys → KeysDiffer h rows

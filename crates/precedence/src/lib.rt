@@ -1,5 +1,5 @@
-// Before comes first: whether each live row with a pair's first value in a key column has, by its own sort cell, a live row
-// with the second value there and the same other key cells. Each row and pair that names it takes one lookup in the key index.
+// Before comes first: whether each live row with a pair's first value in a key column has, by its own sort cell, a live row with
+// the second value there and the same other key cells. Each row and each pair that names it takes one lookup in the key index.
 ghost use mathlib.Core.Path.{_≡_};
 ghost use Prim.Native.Nat.{_/_, _<_};
 ghost use lib.ListN.{length};
@@ -10,7 +10,7 @@ use table::Header;
 use table::keyed;
 use table::refusing::lookup_refusal;
 
-// Every row meets its pairs; or the lowest that does not, and the place of the first pair that it fails.
+// Every row meets its pairs; or the lowest row that does not, and the place of the first pair that it fails.
 pub enum PrecedenceAnswer {
     Refused(u32),
     Met,
@@ -19,7 +19,8 @@ pub enum PrecedenceAnswer {
 
 const MOST_PAIRS: usize = 16;
 
-// The number of the first test that turns a check away, 0 if none does. Tests 1 and 2 are a lookup's by a key of the right width.
+// The number of the first test that refuses a check, 0 if none does. Tests 1 and 2 are those of a lookup by a key of the right
+// width.
 fn precedence_refusal(h: Header, rows: usize, keys: usize, column: u32, words: usize) -> u32
     ensures { λ r. ⌜ r ≡ precedenceRefusal h rows keys column words ⌝ }
 {
@@ -42,7 +43,7 @@ fn precedence_refusal(h: Header, rows: usize, keys: usize, column: u32, words: u
     0
 }
 
-// Whether the key's live row has a sort cell no larger than this.
+// Whether the sort cell of the key's live row is at most `latest`.
 fn is_filed_by(h: Header, rows: &[u32], keys: &[u32], key: &[u32], latest: u32) -> bool
     requires { ⌜ Tested h (now rows) (now keys) × (length (now key) ≡ h .keys) ⌝ }
     ensures { λ r. ⌜ OnTable h (now (rows .entry)) (now (keys .entry)) (r ≡ filedBy h (now (rows .entry)) (now (key .entry)) latest) ⌝ }
@@ -71,7 +72,7 @@ fn is_row_filed(h: Header, rows: &[u32], keys: &[u32], column: u32, row: u32, va
     is_filed_by(h, rows, keys, &key[0..width], latest)
 }
 
-// Whether a row meets a pair of values: it is not named by it, or has the row that it needs.
+// Whether a row meets a pair of values: the pair does not name it, or the row that it needs exists.
 fn meets_pair(
     h: Header,
     rows: &[u32],
@@ -91,7 +92,7 @@ fn meets_pair(
     is_row_filed(h, rows, keys, column, row, second)
 }
 
-// The place of the first pair that a row fails, the number of pairs if it fails none. A dead row fails none.
+// The place of the first pair that a row fails; the number of pairs if it fails none. A dead row fails none.
 fn failing_pair(
     h: Header,
     rows: &[u32],

@@ -1,6 +1,6 @@
--- A question asked: the call of `walks::ask` in a walk, with what the caller is lent passed on. Assumes `Given`.
+-- A query run: the call of `walks::ask` in a manual proof, with what the caller is lent passed on. Assumes `Given`.
 --     calls-ask      the output is given up
---     asked          the output is lent for the call, and comes back
+--     asked          the output is lent for the call, and returned
 use Rattle.walks.proofs.Prelude.{_≡_, ℕ, List, [], _∷_, length, URA, fullShare, Body, Place, Operand, call, named, seq, Val, SProp, ent, id⊢, Lft, Share, GName, flft, Memory, Routine, Heap, Calls, Env, Loops, Atoms, Fun, Given, Item, Post}
 use Rattle.walks.proofs.Prelude.{Seq, lands, runs, ‵, raw, ⋆, _$_, _∵_, !, qed, move, drop, group, use1, split, join, fsplit, fjoin, feqL, frame, done, Opds, FmC, u32, Is, RefT, now, sliceVal, Room, finally, nothing, Clauses}
 use Rattle.query_scan.specs.declared.Question.{Question}
@@ -32,7 +32,7 @@ module _ {M : Type 1} (𝓤 : URA M) (H : Heap 𝓤) (A : Atoms 𝓤) (mem : Mem
     abbrev pub ask-args : Lft → Share → RefT (List ℕ) → List Val
     ask-args κ q z = Asked 𝓤 H A ask.ended asking .args (to-ask κ q z)
 
-    -- what is known of the sweep that has ended
+    -- what is known of a scan that has ended
     abbrev pub Swept : List ℕ → Sweep → List ℕ → Type 0
     Swept os s ws = SweepAnswered question (p .header) (now (p .rows)) (subset p) (now (p .conditions)) os s ws
 
@@ -50,7 +50,7 @@ module _ {M : Type 1} (𝓤 : URA M) (H : Heap 𝓤) (A : Atoms 𝓤) (mem : Mem
             move t (1 ∷ []) $ slices-twice p t $ move t (2 ∷ 0 ∷ 3 ∷ 4 ∷ []) $ group t 4 $ use1 W (asks κ q z) (can-ask κ q z) $
             calls ask.ended asking (to-ask κ q z) (λ s ws. Swept (now z) s (ws .1 .1 .1 .1 .1 .1 .0)) (λ s ws. id⊢ 𝓤 _) t fm known os (λ w s ws e.
             move t (2 ∷ []) $ fsplit t $ drop t $ fsplit t $ drop t $ fsplit t $ drop t $ fsplit t $ drop t $ fsplit t $ drop t $ fsplit t $ drop t $ fsplit t $ fsplit t $ move t (2 ∷ []) $ drop t $ move t (1 ∷ []) $ feqL t (λ l.
-            -- [the last list; the tokens; the sweep; what is lent as `&`]
+            -- [the last list; the tokens; the scan; what is lent as `&`]
             move t (2 ∷ []) $ value-lands t sweeps s w (λ is-s. move t (1 ∷ []) $ tokens-off p t $ move t (1 ∷ []) $ split t $ move t (1 ∷ []) $ drop t $ move t (1 ∷ 3 ∷ 0 ∷ []) $ k s (ws .1 .1 .1 .1 .1 .1 .0) e l is-s)))
 
       module _ {K : Type 0} {Γ : List (Item 𝓤)} {E : Env 𝓤 H} {C : Calls 𝓤 H} {Λ : Loops 𝓤 H} {post : Post 𝓤 H} {d : Place} {xs : List Operand} {rest : Body} where

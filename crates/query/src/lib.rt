@@ -15,7 +15,8 @@ use query_spec::PageAnswer;
 use table::Header;
 use walks::ask;
 
-// The rows of a subset that are live and meet a condition: a range while they are neighbours, of a list a list.
+// Returns the rows of a subset that are live and meet a condition. From a range: a range while they are neighbours, else a list.
+// From a list: a list.
 pub fn refine_one(
     h: Header,
     rows: &[u32],
@@ -37,7 +38,7 @@ pub fn refine_one(
     SubsetAnswer::List(count)
 }
 
-// The rows of a subset that are live and meet all conditions: the range if all of it is kept, else a list.
+// Returns the rows of a subset that are live and meet all conditions: the range if all of it is kept, else a list.
 pub fn refine_ref(
     h: Header,
     rows: &[u32],
@@ -67,7 +68,7 @@ pub fn contains_match(
     close_match(done)
 }
 
-// A page: visits n ids of a subset from the start place on, and writes those of the live rows that meet all conditions.
+// Reads a page: visits n ids of a subset from the start place on, and writes those of the live rows that meet all conditions.
 pub fn read_page(
     h: Header,
     rows: &[u32],

@@ -1,5 +1,5 @@
--- The walks of this crate share this: a borrowed subset taken apart, into the head that is made of its first three
--- fields and its list of ids. Assumes nothing.
+-- Shared by the manual proofs of this crate: a borrowed subset taken apart, into the head that is made of its first three fields
+-- and its list of ids. Assumes nothing.
 use mathlib.Core.Path.{_≡_, refl}
 use Prim.Native.Nat.{ℕ}
 use mathlib.Core.List.{List, [], _∷_}
@@ -42,7 +42,7 @@ parted a = (a .0, (a .1 .0, (headOf (a .1 .1 .0), (a .1 .1 .0 .ids, a .1 .1 .1))
 abbrev pub parted-values : {Z : Type 0} → SubsetRef → List Val × (List Val × (List Val × Z)) → List Val × (List Val × (List Val × (List Val × Z)))
 parted-values d vs = (vs .0, (vs .1 .0, (P′.lowered (headOf d) ∷ [], (slice-vals (d .ids), vs .1 .1 .1))))
 
--- and what they own: the callee's tokens, what it asks, and the locals
+-- and what they own: the callee's tokens, what it requires, and the locals
 module _ {M : Type 1} {𝓤 : URA M} {H : Heap 𝓤} {A : Atoms 𝓤} {K : Type 0} {W : Given 𝓤 H A} {Γ : List (Item 𝓤)} {G : Goal 𝓤 H} where
   pub apart : K → (a : NamedLft) (d : SubsetRef) → Is (T.the-row a) d (T′.lowered d ∷ []) → {locals tokens : Item 𝓤} {header rows others : Fml}
       → Step K W (tokens ∷ ‵ (fsep header (fsep rows (fsep (P.the-row .own (headOf d) (P′.lowered (headOf d) ∷ [])) (fsep (ShrSlice (a .mir) (a .lft) u32 .own (d .ids) (slice-vals (d .ids))) others)))) ∷ locals ∷ Γ) G

@@ -1,4 +1,5 @@
--- A walk of straight-line code with all locals of the function as one entry of the context, the first. It says nothing of the crate.
+-- The manual proof of straight-line code with all locals of the function as one entry of the context, the first. It is
+-- independent of this crate.
 --     locals E hs      the locals of E, and for each what it holds, if anything
 --     enters           a function is entered: its parameters hold what is passed
 --     held, cell, fills       what local i holds, and that it is read; local i is filled
@@ -70,7 +71,7 @@ module _ {M : Type 1} (𝓤 : URA M) (H : Heap 𝓤) where
   locals (e ∷ E) [] = emp 𝓤
   locals (e ∷ E) (h ∷ hs) = sep 𝓤 (sep 𝓤 (lies e h) (H .dies (e .0) (e .1))) (locals E hs)
 
-  -- the entry: E and hs stand in it, so that a step finds them there
+  -- the entry: E and hs are arguments of it, so that a step finds them there
   abbrev pub Locals : List (Ty × ℕ) → List (Option Val) → Item 𝓤
   Locals E hs = given (Holding E hs) (raw (locals E hs))
 
@@ -185,7 +186,7 @@ module _ {M : Type 1} {𝓤 : URA M} {H : Heap 𝓤} {A : Atoms 𝓤} {K : Type 
   pub all-read : (xs : List Operand) {vs : List Val} → operands E hs xs ≡ just vs → Opds K W Γ E xs vs
   all-read xs e = subst (Give xs) e (all-give xs)
 
--- ---- a function's locals, where they lie and what its parameters hold
+-- ---- a function's locals, where they are and what its parameters hold
 abbrev pub Places : List Local → Type 0
 Places [] = Unit {0}
 Places (local τ h ∷ ls) = ℕ × Places ls

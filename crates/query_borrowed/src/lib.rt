@@ -1,4 +1,4 @@
-// Questions over a borrowed subset: each takes it apart, and asks the function with plain parameters.
+// Queries over a borrowed subset. Each takes the subset apart and calls the function with plain parameters.
 ghost use Rattle.offsets.specs.Answers.{subsetOf};
 ghost use Rattle.query_spec.specs.Queries.{RefinedOne, RefinedList, Matched, PageRead};
 ghost use Rattle.query_borrowed.specs.Borrowed.{headOf};
@@ -9,8 +9,7 @@ use query_spec::MatchAnswer;
 use query_spec::PageAnswer;
 use table::Header;
 
-// Its kind, its two ends and the caller's list of ids. Of a dense one the list counts for nothing, of a sparse one the
-// ends.
+// The kind of a subset, its two ends and the caller's list of ids. A dense subset ignores the list, a sparse one the ends.
 pub struct SubsetRef<'a> {
     pub dense: bool,
     pub start: u32,

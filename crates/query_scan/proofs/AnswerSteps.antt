@@ -1,4 +1,4 @@
--- What the questions answer: refused, or by the ids that a sweep has kept. Assumes nothing.
+-- The answers of the queries: refused, or by the ids that a scan has kept. Assumes nothing.
 use Prim.Native.Nat.{ℕ, _+_, _-_, _≤_, _<_, min}
 use mathlib.Core.Path.{_≡_, refl, sym, ap, _∙_}
 use mathlib.Core.Bool.{Bool, true, false, and-true, false≢true}
@@ -53,7 +53,7 @@ module _ (number : ℕ) (value : Subset) (output : List ℕ) where
 
 module _ (question : Question) (h : Header) (rows : ℕ) (subset : Subset) (knows : Bool) (output number : ℕ)
     (numbered : (conditions : List Constraint) → knows ≡ every (known (h .columns)) conditions → number ≡ refusalOf question h rows subset conditions output) (s : Sweep) where
-  -- a refused question has no places
+  -- a refused query has no places
   opened-refused : (number ≡ 0 → ⊥) → BeginsAt subset number 0 0 0 s → SweepBegins question h rows subset knows output s
   opened-refused n p =
       record {
@@ -149,7 +149,7 @@ nothing-kept test ids output output′ g e w =
       | no n ↦ absurd (n (w .as-list n .wrote .number ∙ ap (λ (l : List ℕ). length (keep test l)) e))
     ]
 
--- a question over its places, or refused
+-- a query over its places, or refused
 module _ (question : Question) (h : Header) (rows : List ℕ) (subset : Subset) (conditions : List Constraint) (knows : Bool) (output : List ℕ) (s : Sweep) (k : knows ≡ every (known (h .columns)) conditions)
     (o : SweepBegins question h (length rows) subset knows (length output) s) (s′ : Sweep) (output′ : List ℕ) (f : Finished h rows subset (matches h rows conditions) s output s′ output′) where
   abbrev wanted : ℕ → Bool
@@ -317,7 +317,7 @@ module _ (head : SubsetHead) (s : Sweep) (output : List ℕ) where
 
 module _ (h : Header) (rows : List ℕ) (head : SubsetHead) (ids : List ℕ) (conditions : List Constraint) (output : List ℕ) (s : Sweep) (output′ : List ℕ)
     (a : SweepAnswered Refine h rows (subsetOf head ids) conditions output s output′) where
-  -- what the end of a refine by a list asks
+  -- what the end of a refine by a list requires
   pub can-close : s .refused ≡ 0 → CanClose head s output′
   can-close z =
       record {

@@ -1,4 +1,4 @@
--- A page: what it asks at its end, and what it answers. Assumes nothing.
+-- A page: what its end requires, and its answer. Assumes nothing.
 use Prim.Native.Nat.{ℕ, _+_, _-_, _≤_, _<_, min}
 use mathlib.Core.Path.{_≡_, refl, sym, ap, ap₂, _∙_}
 use mathlib.Core.Bool.{Bool, false, cond}
@@ -78,7 +78,7 @@ module _ (h : Header) (rows : List ℕ) (subset : Subset) (start n : ℕ) (condi
   unfolding idsVisited
   page-kept z = a .grows z
 
-  -- what the end of a page asks
+  -- what the end of a page requires
   pub can-page : s .refused ≡ 0 → CanWrite output′ (s .found)
   unfolding roomAsked
   can-page z =

@@ -1,4 +1,4 @@
--- A sweep, place by place: ids and rows by the subset's kind, and what each step keeps. Assumes nothing.
+-- A scan, place by place: ids and rows by the subset's kind, and what each step keeps. Assumes nothing.
 use Prim.Native.Nat.{ℕ, _+_, _-_, _*_, _≤_, _<_}
 use mathlib.Core.Path.{_≡_, refl, sym, ap, ap₂, subst, _∙_}
 use mathlib.Core.Logic.{inl, inr}
@@ -69,7 +69,7 @@ below-of : (h : Header) (subset : Subset) → pastRows h subset ≡ false → en
 unfolding pastRows
 below-of h subset e = ltb-false _ _ e
 
--- the id at a place is that of a row, which lies in the store
+-- the id at a place is that of a row, which is within the store
 module _ (h : Header) (rows : ℕ) (subset : Subset) (a : Askable h rows subset) where
   module _ (place : ℕ) (l : place < size subset) where
     abbrev id-of : ℕ
@@ -164,7 +164,7 @@ keeps-moves subset s output s′ output′ m k =
     here : s′ .id ≡ getD (members subset) (s′ .next) 0
     here = k .id-is ∙ m .id-is ∙ ap (λ (i : ℕ). getD (members subset) i 0) (sym (k .next-is))
 
--- ---- the sweep
+-- ---- the scan
 
 kept-rising : (subset : Subset) (test : ℕ → Bool) (start k : ℕ) → rising (members subset) ≡ true → rising (keep test (visited subset start k)) ≡ true
 unfolding visited
@@ -228,7 +228,7 @@ module _ (h : Header) (rows : List ℕ) (subset : Subset) (test : ℕ → Bool) 
     unfolding places
     next-first = rw (v .id-is m) (visited-first subset (s .next) (s .end) m (omega (arith, v .within, w .within)))
 
-    -- its row lies in the store
+    -- its row is within the store
     pub next-lies : RowLies h (length rows) (s .id)
     next-lies = subst (RowLies h (length rows)) (sym (v .id-is m)) (id-lies h (length rows) subset asked (s .next) place-in)
 

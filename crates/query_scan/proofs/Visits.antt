@@ -1,4 +1,4 @@
--- The ids that a sweep visits. Assumes nothing.
+-- The ids that a scan visits. Assumes nothing.
 use Prim.Native.Nat.{ℕ, zero, suc, _+_, _-_, _≤_, _<_, min}
 use mathlib.Core.Path.{_≡_, refl, sym, ap, _∙_}
 use mathlib.Core.Logic.{inl, inr}
@@ -37,7 +37,7 @@ module _ (test : ℕ → Bool) where
   upTo-miss zero x xs l e = absurd (omega arith)
   upTo-miss (suc n) x xs l e = rw e
 
-  -- all, where no more are asked for than there are
+  -- all, if no more are wanted than there are
   pub upTo-all : (n : ℕ) (ids : List ℕ) → length ids ≤ n → upTo n test ids ≡ ids
   upTo-all n [] l = upTo-nil n
   upTo-all n (x ∷ xs) l =

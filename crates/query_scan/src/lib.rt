@@ -1,6 +1,6 @@
-// A sweep over places of a subset, one row after another: what refine, any match and page share. They differ in the places,
-// and in how many matches end the sweep. The ids of the rows that match are kept in a growing answer, so nothing is written
-// while they are neighbours.
+// A scan over places of a subset, row by row, which refine, any match and page share. They differ in the places, and in the number
+// of matches that ends the scan. The ids of matching rows are collected in a `Growing`, so nothing is written while they are
+// neighbours.
 ghost use mathlib.Core.Path.{_≡_};
 ghost use mathlib.Core.Bool.{true};
 ghost use mathlib.Core.List.{_∷_, []};
@@ -28,8 +28,9 @@ use query_spec::refusing::refine_refusal;
 use query_spec::refusing::smaller;
 use table::Header;
 
-// From place `next` on, whose id is `id`, up to `end`, or to where `most` ids are kept. `dead` of the ids visited have a dead
-// row. A refused question has its number, and no places. It is plain numbers, which a loop holds in registers.
+// The state of a scan. It continues at place `next`, whose id is `id`, up to `end` or until `most` ids are kept. `dead` is the
+// number of visited ids whose rows are dead. A refused query has its number, and no places. All fields are plain numbers, which a
+// loop holds in registers.
 pub struct Sweep {
     pub refused: u32,
     pub next: u32,
@@ -40,13 +41,13 @@ pub struct Sweep {
     pub found: Growing,
 }
 
-// What is asked of conditions: that they are known, or that a row is live and meets them.
+// What conditions are tested for: that they are known, or that a row is live and meets them.
 pub enum Test {
     Known,
     Row(u32),
 }
 
-// What is asked of a subset. A page has its start place and how many ids it visits.
+// A query over a subset. A page has its start place and the number of ids that it visits.
 pub enum Question {
     Refine,
     Match,
@@ -55,7 +56,7 @@ pub enum Question {
 
 // ---- a row
 
-// The row is live: its first cell says so.
+// Whether the row is live, by its first cell.
 fn is_live_at(h: Header, rows: &[u32], id: u32) -> bool
     requires { ⌜ RowLies h (length (now rows)) id ⌝ }
     ensures { λ r. ⌜ r ≡ rules.isLive (rowAt (h .columns) id (now (rows .entry))) ⌝ }
@@ -64,7 +65,7 @@ fn is_live_at(h: Header, rows: &[u32], id: u32) -> bool
     !cells::is_stale(rows[from])
 }
 
-// The cells of the row meet the condition.
+// Whether the cells of the row meet the condition.
 fn is_met_at(h: Header, rows: &[u32], id: u32, c: Constraint) -> bool
     requires { ⌜ RowLies h (length (now rows)) id ⌝ }
     ensures { λ r. ⌜ r ≡ rules.met (rowAt (h .columns) id (now (rows .entry))) c ⌝ }
@@ -74,7 +75,8 @@ fn is_met_at(h: Header, rows: &[u32], id: u32, c: Constraint) -> bool
     constraints::met(c, &rows[from..to])
 }
 
-// The row meets the condition and is live. The condition comes first: it fails oftener, and is foreseen better.
+// Whether the row meets the condition and is live. The condition is tested first: it fails more often, and the branch is predicted
+// better.
 fn is_match(h: Header, rows: &[u32], id: u32, c: Constraint) -> bool
     requires { ⌜ RowLies h (length (now rows)) id ⌝ }
     ensures { λ r. ⌜ r ≡ matches h (now (rows .entry)) (c ∷ []) id ⌝ }
@@ -98,7 +100,7 @@ fn dead_at(h: Header, rows: &[u32], id: u32) -> u32
 
 // ---- conditions
 
-// Before any condition: a row must be live.
+// The test before any condition: a row must be live.
 pub fn can_pass(test: Test, h: Header, rows: &[u32]) -> bool
     requires { ⌜ RowNeeded test h (length (now rows)) ⌝ }
     ensures { λ r. ⌜ r ≡ starts test h (now (rows .entry)) ⌝ }
@@ -109,7 +111,7 @@ pub fn can_pass(test: Test, h: Header, rows: &[u32]) -> bool
     }
 }
 
-// One condition: it is known, or the row's cells meet it.
+// Tests one condition: it is known, or the row's cells meet it.
 pub fn passes_test(test: Test, h: Header, rows: &[u32], c: Constraint) -> bool
     requires { ⌜ RowNeeded test h (length (now rows)) ⌝ }
     ensures { λ r. ⌜ r ≡ passes test h (now (rows .entry)) c ⌝ }
@@ -134,7 +136,7 @@ fn id_at(head: SubsetHead, ids: &[u32], place: u32) -> u32
     ids[at]
 }
 
-// A sweep that begins. Without places it has no id.
+// The state at the start of a scan. Without places it has no id.
 fn at_place(head: SubsetHead, ids: &[u32], refused: u32, next: u32, end: u32, most: u32) -> Sweep
     requires { ⌜ end ≤ subsets.size (subsetOf head (now ids)) ⌝ }
     ensures { λ r. ⌜ BeginsAt (subsetOf head (now (ids .entry))) refused next end most r ⌝ }
@@ -154,7 +156,7 @@ fn at_place(head: SubsetHead, ids: &[u32], refused: u32, next: u32, end: u32, mo
     s
 }
 
-// The id at the next place is kept. With as many as are wanted the sweep ends.
+// Keeps the id at the next place. The scan ends when the wanted number of ids is kept.
 fn keep_id(s: Sweep, out: &mut [u32]) -> Sweep
     requires { ⌜ (s .next < s .end) × CanAdd (now out) (s .found) (s .id) ⌝ }
     ensures { λ r. ⌜ Keeps s (now (out .entry)) r (now (out .exit)) ⌝ }
@@ -168,7 +170,7 @@ fn keep_id(s: Sweep, out: &mut [u32]) -> Sweep
     n
 }
 
-// One place further. In a range the id is one more, whether or not there is such a place.
+// Moves to the next place. In a range the id increases by one, whether or not that place exists.
 fn move_on(head: SubsetHead, ids: &[u32], s: Sweep) -> Sweep
     requires { ⌜ CanMove (subsetOf head (now ids)) s ⌝ }
     ensures { λ r. ⌜ Moves (subsetOf head (now (ids .entry))) s r ⌝ }
@@ -185,7 +187,7 @@ fn move_on(head: SubsetHead, ids: &[u32], s: Sweep) -> Sweep
     n
 }
 
-// The row at the next place is visited: a hit is one that matches.
+// Visits the row at the next place. `hit` is whether it matches.
 pub fn step(
     h: Header,
     rows: &[u32],
@@ -207,7 +209,7 @@ pub fn step(
     move_on(head, ids, kept)
 }
 
-// All places, by one condition.
+// Scans all places by one condition.
 fn retain(
     h: Header,
     rows: &[u32],
@@ -228,9 +230,9 @@ fn retain(
     at
 }
 
-// ---- the beginning
+// ---- the start
 
-// A refine: refused, or over all places.
+// Starts a refine: refused, or over all places.
 fn open_refine(
     h: Header,
     rows: usize,
@@ -249,7 +251,7 @@ fn open_refine(
     at_place(head, ids, 0, 0, size, size)
 }
 
-// A search for a match: refused, or over all places up to the first match.
+// Starts a search for a match: refused, or over all places up to the first match.
 fn open_match(h: Header, rows: usize, head: SubsetHead, ids: &[u32], known: bool) -> Sweep
     ensures { λ r. ⌜ ((output : ℕ) → SweepBegins Question.Match h rows (subsetOf head (now (ids .entry))) known output r) ⌝ }
 {
@@ -261,7 +263,7 @@ fn open_match(h: Header, rows: usize, head: SubsetHead, ids: &[u32], known: bool
     at_place(head, ids, 0, 0, size, 1)
 }
 
-// A page: refused, or over n places from the start place on, as far as there are.
+// Starts a page: refused, or over n places from the start place on, as far as they exist.
 fn open_page(
     h: Header,
     rows: usize,
@@ -283,7 +285,7 @@ fn open_page(
     at_place(head, ids, 0, start, start + places, places)
 }
 
-// A question begins: refused, or over its places.
+// Starts a query: refused, or over its places.
 pub fn opening(
     question: Question,
     h: Header,
@@ -302,7 +304,7 @@ pub fn opening(
     }
 }
 
-// Refine by one: refused, or all places swept by the condition.
+// Refine by one: refused, or all places scanned by the condition.
 pub fn ask_one(
     h: Header,
     rows: &[u32],
@@ -320,7 +322,7 @@ pub fn ask_one(
 
 // ---- the end
 
-// Writes the ids kept to the start of the output, if they are not there yet, and answers how many they are.
+// Writes the ids kept to the start of the output, unless they are there already. Returns their number.
 pub fn write_found(g: Growing, out: &mut [u32]) -> u32
     requires { ⌜ CanWrite (now out) g ⌝ }
     ensures { λ r. ⌜ Writes (now (out .entry)) g r (now (out .exit)) ⌝ }
@@ -331,7 +333,7 @@ pub fn write_found(g: Growing, out: &mut [u32]) -> u32
     g.count
 }
 
-// Whether the ids kept are all of a range.
+// Whether the ids kept are all ids of a range.
 fn is_whole(head: SubsetHead, g: Growing) -> bool
     requires { ⌜ (head .dense ≡ true → head .start ≤ head .end) ⌝ }
     ensures { λ r. ⌜ r ≡ whole head g ⌝ }
@@ -342,7 +344,7 @@ fn is_whole(head: SubsetHead, g: Growing) -> bool
     g.count == head.end - head.start
 }
 
-// A refine by a list ends: refused, the range as it was, or a list.
+// Ends a refine by a list: refused, the unchanged range, or a list.
 pub fn close_refine(head: SubsetHead, s: Sweep, out: &mut [u32]) -> SubsetAnswer
     requires { ⌜ (s .refused ≡ 0 → CanClose head s (now out)) ⌝ }
     ensures { λ r. ⌜ RefineClosed head s (now (out .entry)) r (now (out .exit)) ⌝ }
@@ -356,7 +358,7 @@ pub fn close_refine(head: SubsetHead, s: Sweep, out: &mut [u32]) -> SubsetAnswer
     SubsetAnswer::List(write_found(s.found, out))
 }
 
-// The place to go on from.
+// The place to continue from.
 fn next_place(head: SubsetHead, ids: &[u32], next: u32) -> NextPlace
     ensures { λ r. ⌜ r ≡ nextOf (nextAt (subsetOf head (now (ids .entry))) next) ⌝ }
 {
@@ -366,7 +368,7 @@ fn next_place(head: SubsetHead, ids: &[u32], next: u32) -> NextPlace
     NextPlace::None
 }
 
-// A page ends: its ids are written.
+// Ends a page: writes its ids.
 pub fn close_page(head: SubsetHead, ids: &[u32], s: Sweep, out: &mut [u32]) -> PageAnswer
     requires { ⌜ (s .refused ≡ 0 → CanWrite (now out) (s .found)) ⌝ }
     ensures { λ r. ⌜ PageClosed (subsetOf head (now (ids .entry))) s (now (out .entry)) r (now (out .exit)) ⌝ }
@@ -383,7 +385,7 @@ pub fn close_page(head: SubsetHead, ids: &[u32], s: Sweep, out: &mut [u32]) -> P
     })
 }
 
-// A search for a match ends: refused, or whether there was one.
+// Ends a search for a match: refused, or whether there is one.
 pub fn close_match(s: Sweep) -> MatchAnswer
     ensures { λ r. ⌜ MatchClosed s r ⌝ }
 {

@@ -1,5 +1,5 @@
--- The rows that mention a value: how the two passes that mark them make one, and that the marked rows' records are those of the rows
--- found. Assumes nothing.
+-- The rows that mention a value: how the two passes that set their bits make one, and that the records of the rows in the bitmap
+-- are those of the rows found. Assumes nothing.
 use Prim.Native.Nat.{ℕ, suc, _+_, _*_, _/_, _%_, _≤_, _<_}
 use mathlib.Core.Path.{_≡_, refl, sym, ap, _∙_}
 use mathlib.Core.Logic.{inl, inr}
@@ -76,7 +76,7 @@ module _ (h : Header) (rows index columns values : List ℕ) where
   pub listed-long : {words words′ : List ℕ} {listed : ℕ} → ListedMarked h rows index columns values words words′ listed → length words ≡ 1024 → length words′ ≡ 1024
   listed-long l = l (λ i. false) (λ i e. absurd (false≢true e)) .long
 
-  -- neither marks more rows than there can be
+  -- neither sets more bits than there can be rows
   pub both-few : {words words′ words″ : List ℕ} {listed more : ℕ} {other : ℕ → Bool} → Bitmap words (λ i. false) → ListedMarked h rows index columns values words words′ listed
       → Marked other other words′ words″ more → (listed ≤ 65536) × (more ≤ 65536)
   both-few b l m =
@@ -94,7 +94,7 @@ module _ (h : Header) (rows index columns values : List ℕ) where
         words-long = long;
       }
 
--- ---- what the bitmap marks then
+-- ---- the bitmap after that
 
 marks-alike : (f g : ℕ → Bool) (n : ℕ) → marks f n ≡ marks g n → (k : ℕ) → k < n → f k ≡ g k
 unfolding countTo

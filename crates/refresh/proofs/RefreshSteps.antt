@@ -1,4 +1,5 @@
--- The ways out of a refresh: turned away before its rows are looked for, for want of room, or done. Assumes nothing.
+-- The results of a refresh: refused before the search for its rows, refused because the records do not fit, or done.
+-- Assumes nothing.
 use Prim.Native.Nat.{ℕ, zero, suc, _+_, _*_, _≤_, _<_}
 use mathlib.Core.Path.{_≡_, refl, sym, ap, _∙_}
 use mathlib.Core.Logic.{inl, inr}
@@ -133,13 +134,13 @@ module _ (h : Header) (rows pending index : List ℕ) (r : Refresh) where
     seven : number records ≡ first (rung (overfull (h .pending) (length pending) (count * (h .keys + 3) + count * (h .columns + 2))) 7 ∷ [])
     seven = only-seven h (length rows) (length pending) (length index) r p records ∙ rw records-words
 
-    -- for want of room
+    -- the records do not fit
     pub refused-full : overfull (h .pending) (length pending) (count * (h .keys + 3) + count * (h .columns + 2)) ≡ true
         → Refreshing h rows pending index r (Refused 7) pending index
     refused-full full =
         refused-as 7 (found h rows r (f .test) (f .mention)) all-found (sym (seven ∙ unfold first in rw full)) (λ z. omega arith)
 
-    -- there is room
+    -- the records fit
     module _ (free : overfull (h .pending) (length pending) (count * (h .keys + 3) + count * (h .columns + 2)) ≡ false) where
       total : countTo (f .test) (h .rows) * rowWords h ≡ count * (h .keys + 3) + count * (h .columns + 2)
       total = rw count-rows (omega arith)

@@ -176,7 +176,7 @@ module _ {h : Header} {rows pending : List ℕ} {test : ℕ → Bool} (room : Ro
       more : countTo test (suc n) * rowWords h ≡ countTo test n * rowWords h + rowWords h
       more = rw (count-yes h rows test n e) (omega arith)
 
-      -- there is room for one more
+      -- one more row fits
       pub one-fits : (used + rowWords h ≤ length pending′) × (used + rowWords h ≤ 4294967295)
       one-fits =
           (omega (arith, more, words-fit (suc n) .0, w .words-used, written-length), omega (arith, more, words-fit (suc n) .1, w .words-used))
@@ -199,7 +199,7 @@ module _ {h : Header} {rows pending : List ℕ} {test : ℕ → Bool} (room : Ro
                 ∙ ap (putAt pending (h .pending)) (sym both);
           })
 
--- ---- the rows that a word marks
+-- ---- the rows of a bitmap word
 
 module _ {h : Header} {rows pending : List ℕ} {before first marked stamp : ℕ} (b : Block h rows pending before first marked stamp) where
   abbrev lives : ℕ → Bool

@@ -1,4 +1,4 @@
--- The tests before 7: what each way out of them says of the ladder, and what is known where all are passed. Assumes nothing.
+-- The tests before 7: what each of their results implies for the check list, and what is known if all pass. Assumes nothing.
 use Prim.Native.Nat.{ℕ, _+_, _*_, _≤_, _<_}
 use mathlib.Core.Path.{_≡_, refl, sym, ap}
 use mathlib.Core.Logic.{inl, inr}
@@ -32,7 +32,7 @@ use Rattle.refresh.specs.inner.Testing.{ladder}
 pub index-fits : (h : Header) (columns : ℕ) → outside h ≡ false → columns ≤ 8 → h .capacity * columns ≤ 524288
 index-fits h columns inside few = omega (arith, mul-le-mul (outside-inside h inside .bounds .capacity-few) few)
 
--- rungs that turn away do so before any others
+-- checks that refuse do so before any others
 first-some : (rungs more : List Rung) → (first rungs ≡ 0 → ⊥) → first rungs ≡ first (rungs ++ more)
 unfolding first
 first-some [] more some = absurd (some refl)
@@ -40,7 +40,7 @@ first-some (rung true n ∷ rungs) more some = refl
 first-some (rung false n ∷ rungs) more some = first-some rungs more some
 
 module _ (h : Header) (rows pending index : ℕ) (r : Refresh) where
-  -- turned away before 7, whatever would be staged
+  -- refused before 7, whatever would be staged
   pub turned-away : (records : List Staged) → (ladder h rows pending index (r .columns) (r .stamp) ≡ 0 → ⊥)
       → ladder h rows pending index (r .columns) (r .stamp) ≡ refreshRefusal h rows pending index r records
   unfolding ladder refreshRefusal refreshLadder rowsShort

@@ -22,7 +22,7 @@ use Rattle.table.specs.Laws.Refusals.{outside-inside}
 use Rattle.refresh.specs.inner.Staging.{Lying, numbered, rowsWords, rowWords}
 
 module _ {h : Header} {rows : List ℕ} {row : ℕ} (l : Lying h rows row) where
-  -- where a row lies, and its numbers
+  -- where a row is, and its numbers
   pub record Within : Type 0 where
     pub place : Inside rows (h .columns) row
     pub columns-few : h .columns ≤ 8

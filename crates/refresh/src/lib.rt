@@ -1,6 +1,6 @@
-// Rows that mention a value get a new stamp: `refresh_rows_for_values` of table/rebuild.rs. They are marked and counted before
-// anything lent is written; then the index store is brought up to the table, and each marked row is staged for removal and, with
-// the stamp as its sort cell, for insertion.
+// Gives rows that mention a value a new stamp: `refresh_rows_for_values` of table/rebuild.rs. The rows are found and counted in a
+// bitmap before anything lent is written. Then the index store catches up with the table, and each row found is staged for removal
+// and, with the stamp as its sort cell, for insertion.
 ghost use mathlib.Core.Path.{_≡_};
 ghost use mathlib.Core.Bool.{false};
 ghost use mathlib.Core.List.{[], _∷_};
@@ -35,7 +35,7 @@ use table_stage::is_overfull;
 
 const MOST_COLUMNS: usize = 8;
 
-// Every column named is one of the table's.
+// Whether every column named is one of the table's.
 fn are_columns_there(h: Header, columns: &[u32]) -> bool
     ensures { λ r. ⌜ r ≡ every (λ column. ltb column (h .columns)) (now (columns .entry)) ⌝ }
 {
@@ -58,7 +58,7 @@ fn is_index_short(h: Header, index: usize, columns: &[u32]) -> bool
     index < needed
 }
 
-// The tests before 7.
+// The tests before test 7.
 fn refresh_refusal(
     h: Header,
     rows: usize,
@@ -90,8 +90,8 @@ fn refresh_refusal(
     0
 }
 
-// Marks the live rows that mention a value, and answers how many they are. Those that the index store has seen are looked up in it
-// where it is of use; the others are found by their cells.
+// Sets the bits of the live rows that mention a value, and returns their number. Rows that the index store has seen are looked up
+// in it if it is usable; the others are found by their cells.
 fn mark_mentioning(
     h: Header,
     rows: &[u32],
@@ -112,7 +112,7 @@ fn mark_mentioning(
     listed + mark_unlisted(h, rows, seen, columns, values, words)
 }
 
-// A row's removal.
+// Writes the removal of a row.
 fn write_removal(h: Header, rows: &[u32], pending: &mut [u32], at: usize, row: u32)
     requires { ⌜ Lying h (now rows) row × (at + (h .keys + 3) ≤ length (now pending)) ⌝ }
     ensures { λ _. ⌜ now (pending .exit) ≡ putAt (now (pending .entry)) at (recordWords (h .keys) (removeRow row (take (h .keys) (rowAt (h .columns) row (now (rows .entry)))))) ⌝ }
@@ -124,7 +124,7 @@ fn write_removal(h: Header, rows: &[u32], pending: &mut [u32], at: usize, row: u
     table_stage::write_row_record(pending, at, hash, row, key);
 }
 
-// The row anew, with the stamp as its sort cell: its key is another one if that is a key column.
+// Writes the insert of a row with the stamp as its sort cell. If the sort column is a key column, the key changes.
 fn write_restamped(h: Header, rows: &[u32], pending: &mut [u32], at: usize, row: u32, stamp: u32)
     requires { ⌜ Lying h (now rows) row × (at + (h .columns + 2) ≤ length (now pending)) ⌝ }
     ensures { λ _. ⌜ now (pending .exit) ≡ putAt (now (pending .entry)) at (recordWords (h .keys) (insert (set (rowAt (h .columns) row (now (rows .entry))) (h .sort) stamp))) ⌝ }
@@ -138,7 +138,7 @@ fn write_restamped(h: Header, rows: &[u32], pending: &mut [u32], at: usize, row:
     table_stage::write_record(pending, at, INSERT, hash, &restamped[0..width]);
 }
 
-// Both records of a row.
+// Writes both records of a row.
 fn write_row(h: Header, rows: &[u32], pending: &mut [u32], at: usize, row: u32, stamp: u32)
     requires { ⌜ Lying h (now rows) row × (at + rowWords h ≤ length (now pending)) ⌝ }
     ensures { λ _. ⌜ now (pending .exit) ≡ putAt (now (pending .entry)) at (rowsWords h stamp (numbered h (now (rows .entry)) row ∷ [])) ⌝ }
@@ -147,7 +147,7 @@ fn write_row(h: Header, rows: &[u32], pending: &mut [u32], at: usize, row: u32, 
     write_restamped(h, rows, pending, at + (h.keys + 3) as usize, row, stamp);
 }
 
-// Those of the rows that a word marks, from its lowest mark up. Answers the words in use.
+// Writes the records of the rows whose bits are set in a word, from its lowest bit up. Returns the number of words in use.
 fn write_block(
     h: Header,
     rows: &[u32],
@@ -171,7 +171,7 @@ fn write_block(
     used
 }
 
-// Those of all marked rows, in rising order.
+// Writes the records of all rows in the bitmap, in rising order.
 fn write_marked(h: Header, rows: &[u32], pending: &mut [u32], words: &[u64], stamp: u32) -> u32
     requires { ⌜ Stageable h (now rows) (now pending) (now words) ⌝ }
     ensures { λ r. ⌜ AllWritten h (now (rows .entry)) (now (pending .entry)) (now (words .entry)) stamp r (now (pending .exit)) ⌝ }
@@ -186,8 +186,8 @@ fn write_marked(h: Header, rows: &[u32], pending: &mut [u32], words: &[u64], sta
     used
 }
 
-// Stages each live row with one of the values in one of the columns for removal and, with the stamp as its sort cell, for insertion.
-// The index store is brought up to the table.
+// Stages each live row with one of the values in one of the columns for removal and, with the stamp as its sort cell, for
+// insertion. The index store catches up with the table.
 pub fn refresh_rows_for_values(
     h: Header,
     rows: &[u32],

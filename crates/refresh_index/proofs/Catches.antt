@@ -1,4 +1,4 @@
--- The two ways of `catch_up`: going on after the rows seen, and starting afresh. Assumes nothing.
+-- The two cases of `catch_up`: continuing after the rows seen, and starting again. Assumes nothing.
 use Prim.Native.Nat.{ℕ, _+_, _*_, _/_, _%_, _≤_, _<_}
 use mathlib.Core.Path.{_≡_, sym, _∙_}
 use mathlib.Core.Bool.{true, false, false≢true}
@@ -46,7 +46,7 @@ module _ (h : Header) (rows columns index : List ℕ) where
           buckets-afresh = λ stale. absurd (false≢true (sym stale ∙ u));
         }
 
-  -- it starts afresh
+  -- it starts again
 
   module _ (l : Lendable h rows columns index) where
     pub fresh-room : Fillable h rows columns (2 * (h .rows * length columns)) index

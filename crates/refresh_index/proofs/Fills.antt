@@ -43,7 +43,7 @@ push-then p q =
     }
 
 module _ (h : Header) (rows columns : List ℕ) (buckets : ℕ) where
-  -- one more entry stands under its value
+  -- one more entry is listed under its value
   listed-one : (n : ℕ) (index : List ℕ) → 16 + n < headsAt h columns → headsAt h columns + bucketOf buckets (entryValue h rows columns n) < length index
       → Listed h rows columns buckets n index
       → Listed h rows columns buckets (n + 1) (pushed index (headsAt h columns + bucketOf buckets (entryValue h rows columns n)) n)
@@ -60,7 +60,7 @@ module _ (h : Header) (rows columns : List ℕ) (buckets : ℕ) where
           has e (chain index′ (suc n) (getD index′ (headsAt h columns + bucketOf buckets (entryValue h rows columns e)) 0)) ≡ true
       own e p = rw (p, pushed-own index (headsAt h columns + bucketOf buckets (entryValue h rows columns n)) n (omega arith) inside) (has-here n n _ refl)
 
-  -- the entry of a row and a place has room
+  -- the entry of a row and a place fits
   pub record Pushable (row place : ℕ) (index : List ℕ) : Type 0 where
     pub some : 0 < buckets
     pub few : row * length columns + place < 524288

@@ -1,4 +1,4 @@
--- A walk that marks the rows of one test after another: what is marked so far, of all that is to be. Assumes nothing.
+-- A loop that sets the bits of the rows of one test after another: the bits set so far, of all that are to be set. Assumes nothing.
 use Prim.Native.Nat.{ℕ, _+_, _^_, _≤_, _<_}
 use mathlib.Core.Path.{_≡_, _∙_}
 use mathlib.Core.Logic.{inl, inr}

@@ -1,4 +1,4 @@
--- How large a table's numbers are, and where its cells lie. Assumes nothing.
+-- How large a table's numbers are, and where its cells are. Assumes nothing.
 use Prim.Native.Nat.{ℕ, _*_, _≤_, _<_}
 use mathlib.Core.Path.{_≡_}
 use mathlib.Core.Bool.{false}

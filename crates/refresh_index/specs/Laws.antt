@@ -1,4 +1,4 @@
--- What may be relied on of an index store.
+-- What callers may rely on of an index store.
 pub mod Chains
 pub mod Using
 pub mod Found

@@ -1,6 +1,6 @@
-// An index from value to rows in a lent store: whether a refresh can go on with it, the rows that it leads to, and bringing it up to
-// the table. Index.antt of `refresh_spec` says what the store's words are. What it holds is not relied on for safety: each walk goes down
-// from entry to entry, and a row is tested before it is marked.
+// An index from value to rows in a lent store: whether a refresh can continue with it, the rows that it refers to, and catching up
+// with the table. Index.antt of `refresh_spec` defines the words of the store. Safety does not depend on its contents: each chain
+// is followed to lower and lower entries, and a row is tested before its bit is set.
 ghost use mathlib.Core.Path.{_≡_};
 ghost use mathlib.Core.Bool.{true, false};
 ghost use Prim.Native.Nat.{_+_, _*_, _≤_, _<_};
@@ -12,19 +12,19 @@ ghost use Rattle.refresh_index.specs.inner.Entries.{Readable, cellNamed,
 ghost use Rattle.refresh_index.specs.inner.Marking.{MarkedAll};
 use table::Header;
 
-// Words before those of the entries.
+// The number of words before the entries.
 const FRONT: usize = 16;
 
-// The words of how many rows were seen, and of how many buckets there are.
+// The places of the words with the number of rows seen and with the number of buckets.
 pub const ROWS_SEEN: usize = 2;
 
 const BUCKETS: usize = 12;
 
-// An odd number near the golden section of 2^32: values at even distances fall into buckets far apart.
+// An odd number near the golden section of 2^32: values at equal distances fall into buckets far apart.
 const SPREAD: u64 = 0x9e37_79b9;
 
-// Whether a refresh by these columns can go on with the store: of this generation and these columns, with no more rows than there are,
-// and with buckets enough for all of them.
+// Whether a refresh by these columns can continue with the store: it is of this generation and these columns, has seen no more rows
+// than there are, and has enough buckets for all of them.
 pub fn is_usable(h: Header, index: &[u32], columns: &[u32]) -> bool
     requires { ⌜ (outside h ≡ false) × (length (now columns) ≤ 8) × (16 + 3 * (h .capacity * length (now columns)) ≤ length (now index)) ⌝ }
     ensures { λ r. ⌜ r ≡ usable h (now (columns .entry)) (now (index .entry)) ⌝ }
@@ -51,7 +51,7 @@ pub fn is_usable(h: Header, index: &[u32], columns: &[u32]) -> bool
     buckets <= 2 * (h.capacity as usize * columns.len())
 }
 
-// The bucket of a value, of so many.
+// The bucket of a value, among `buckets`.
 fn bucket_of(buckets: u32, value: u32) -> usize
     requires { ⌜ 0 < buckets ⌝ }
     ensures { λ r. ⌜ (r ≡ bucketOf buckets value) × (r < buckets) ⌝ }
@@ -60,7 +60,7 @@ fn bucket_of(buckets: u32, value: u32) -> usize
     key_index::home_slot(buckets, hash as u32) as usize
 }
 
-// Where the links of the buckets begin.
+// The place where the links of the buckets start.
 fn heads_at(h: Header, count: usize) -> usize
     requires { ⌜ (outside h ≡ false) × (count ≤ 8) ⌝ }
     ensures { λ r. ⌜ r ≡ 16 + h .capacity * count ⌝ }
@@ -68,7 +68,7 @@ fn heads_at(h: Header, count: usize) -> usize
     FRONT + h.capacity as usize * count
 }
 
-// The cell of a row in the column named at a place.
+// The cell of a row in the column that is named at a place.
 fn cell_named(h: Header, rows: &[u32], columns: &[u32], row: u32, place: usize) -> u32
     requires { ⌜ Readable h (now rows) (now columns) × (row < h .rows) × (place < length (now columns)) ⌝ }
     ensures { λ r. ⌜ r ≡ cellNamed h (now (rows .entry)) (now (columns .entry)) row place ⌝ }
@@ -77,7 +77,7 @@ fn cell_named(h: Header, rows: &[u32], columns: &[u32], row: u32, place: usize) 
     rows[at]
 }
 
-// An entry becomes the last of its value's bucket and links to the one that was.
+// Makes an entry the last of its value's bucket, with a link to the previous last one.
 fn push_entry(index: &mut [u32], heads: usize, buckets: u32, entry: u32, value: u32)
     requires { ⌜ (0 < buckets) × (16 + entry < heads) × (heads + buckets ≤ length (now index)) × (entry < 524288) ⌝ }
     ensures { λ _. ⌜ now (index .exit) ≡ pushed (now (index .entry)) (heads + bucketOf buckets value) entry ⌝ }
@@ -87,7 +87,7 @@ fn push_entry(index: &mut [u32], heads: usize, buckets: u32, entry: u32, value: 
     index[head] = entry + 1;
 }
 
-// The entries of a row, one for each named column.
+// Pushes the entries of a row, one for each named column.
 fn push_row(h: Header, rows: &[u32], index: &mut [u32], columns: &[u32], buckets: u32, row: u32)
     requires { ⌜ Fillable h (now rows) (now columns) buckets (now index) × (row < h .rows) ⌝ }
     ensures { λ _. ⌜ Pushed h (now (rows .entry)) (now (columns .entry)) buckets (row * length (now (columns .entry))) (now (index .entry)) (row * length (now (columns .entry)) + length (now (columns .entry))) (now (index .exit)) ⌝ }
@@ -102,7 +102,7 @@ fn push_row(h: Header, rows: &[u32], index: &mut [u32], columns: &[u32], buckets
     }
 }
 
-// The words before the entries: what the index is of.
+// Writes the words before the entries, which describe the index.
 fn write_front(h: Header, index: &mut [u32], columns: &[u32], buckets: u32)
     requires { ⌜ (16 ≤ length (now index)) × (length (now columns) ≤ 8) ⌝ }
     ensures { λ _. ⌜ now (index .exit) ≡ fronted h (now (columns .entry)) buckets (now (index .entry)) ⌝ }
@@ -113,7 +113,7 @@ fn write_front(h: Header, index: &mut [u32], columns: &[u32], buckets: u32)
     index[BUCKETS] = buckets;
 }
 
-// The entries of the rows from one on, over an index of those before it.
+// Pushes the entries of the rows from `from` on, on top of an index of the rows before it.
 fn fill(h: Header, rows: &[u32], index: &mut [u32], columns: &[u32], buckets: u32, from: u32)
     requires { ⌜ Fillable h (now rows) (now columns) buckets (now index) × (from ≤ h .rows) ⌝ }
     ensures { λ _. ⌜ Filled h (now (rows .entry)) (now (columns .entry)) buckets from (now (index .entry)) (now (index .exit)) ⌝ }
@@ -126,7 +126,7 @@ fn fill(h: Header, rows: &[u32], index: &mut [u32], columns: &[u32], buckets: u3
     write_front(h, index, columns, buckets);
 }
 
-// Empties the buckets, so that no chain runs on into entries of another.
+// Empties the buckets, so that no chain continues in entries of an earlier index.
 fn empty_buckets(index: &mut [u32], heads: usize, buckets: u32)
     requires { ⌜ heads + buckets ≤ length (now index) ⌝ }
     ensures { λ _. ⌜ Emptied (now (index .entry)) heads buckets (now (index .exit)) ⌝ }
@@ -138,8 +138,8 @@ fn empty_buckets(index: &mut [u32], heads: usize, buckets: u32)
     }
 }
 
-// Brings the store up to the table: it goes on after the rows seen, or starts afresh with twice as many buckets as there are entries,
-// which leaves room to go on and takes time by the rows and not by the capacity.
+// Makes the store an index of the whole table. It continues after the rows seen, or starts again with twice as many buckets as
+// there are entries, which leaves room to continue and takes time by the rows and not by the capacity.
 pub fn catch_up(h: Header, rows: &[u32], index: &mut [u32], columns: &[u32], goes_on: bool)
     requires { ⌜ Lendable h (now rows) (now columns) (now index) × («goes_on» ≡ usable h (now columns) (now index)) ⌝ }
     ensures { λ _. ⌜ CaughtUp h (now (rows .entry)) (now (columns .entry)) (now (index .entry)) (now (index .exit)) ⌝ }
@@ -155,7 +155,7 @@ pub fn catch_up(h: Header, rows: &[u32], index: &mut [u32], columns: &[u32], goe
     fill(h, rows, index, columns, buckets, 0);
 }
 
-// Marks an entry's row if it is live and has the value in the entry's column.
+// Sets the bit of an entry's row if the row is live and has the value in the entry's column.
 fn mark_entry(
     h: Header,
     rows: &[u32],
@@ -179,7 +179,8 @@ fn mark_entry(
     row_marks::mark(words, row)
 }
 
-// Marks the rows that the entries under a value lead to. A link goes to an entry below the last one, so that the walk ends.
+// Sets the bits of the rows that the entries under a value refer to. Each link refers to an entry below the last one, so the loop
+// ends.
 fn mark_chain(
     h: Header,
     rows: &[u32],
@@ -206,7 +207,7 @@ fn mark_chain(
     marked
 }
 
-// Marks the live rows seen that the store leads to from the values, and answers how many were not marked before.
+// Sets the bits of the live rows seen that the store lists under the values. Returns how many were not set before.
 pub fn mark_listed(
     h: Header,
     rows: &[u32],

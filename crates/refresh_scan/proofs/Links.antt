@@ -1,4 +1,4 @@
--- The links of a part's values: how they are made, and what a walk along them decides. Assumes nothing.
+-- The links of a part's values: how they are made, and what a loop along them decides. Assumes nothing.
 use Prim.Native.Nat.{ℕ, zero, suc, _+_, _-_, _≤_, _<_}
 use mathlib.Core.Path.{_≡_, refl, sym, ap, _∙_}
 use mathlib.Core.Logic.{inl, inr}
@@ -48,7 +48,7 @@ module _ (values : List ℕ) where
       none true = refl
       none false = unfold has in refl
 
-  -- no value of a bucket stands behind the link
+  -- no value of a bucket is behind the link
   has-linked : (value n : ℕ) → n ≤ length values → has value (take n values) ≡ has value (take (linkTo values (bucketOf 4096 value) n) values)
   unfolding linkTo
   has-linked value zero h = refl

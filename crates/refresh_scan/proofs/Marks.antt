@@ -28,7 +28,7 @@ use Rattle.row_marks.specs.Laws.Bitmaps.{marked-one, marked-none, marked-then, 
 use Rattle.refresh_spec.specs.inner.Finding.{mentionsAt, mentionsFrom}
 use Rattle.refresh_scan.specs.inner.Scanning.{Scannable, mentionsOnly}
 
--- what is asked of the scan is so from each row on, as words are marked
+-- what the scan requires holds from each row on, while bits are set
 pub scan-on : {h : Header} {rows columns words words′ : List ℕ} {from row : ℕ} → Scannable h rows from columns words → row ≤ h .rows → length words′ ≡ 1024
     → Scannable h rows row columns words′
 scan-on s k l =

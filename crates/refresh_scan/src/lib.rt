@@ -1,5 +1,6 @@
-// The rows that mention one of a list of values, found by testing their cells. The values are taken in parts that go into local links,
-// each value's to the one before it in its bucket, so that a cell is looked up and not compared with all of them.
+// Finds the rows that mention one of a list of values by testing their cells. The values are processed in parts. Each part has a
+// local hash table of links, in which a value links to the previous value of its bucket, so that a cell is looked up and not
+// compared with all values.
 ghost use mathlib.Core.Path.{_≡_};
 ghost use mathlib.Core.Bool.{true};
 ghost use Prim.Native.Nat.{_+_, _≤_, _<_, min};
@@ -13,7 +14,7 @@ ghost use Rattle.refresh_spec.specs.inner.Finding.{mentionsFrom};
 ghost use Rattle.refresh_scan.specs.inner.Scanning.{Scannable, mentionsOnly, Linked};
 use table::Header;
 
-// The values of a part; their links, behind which stand the links of the buckets, four times as many so that most are empty.
+// The number of values in a part. Their links are followed by the links of the buckets, four times as many so that most are empty.
 const PART: usize = 1024;
 
 const BUCKETS: u64 = 4096;
@@ -28,7 +29,7 @@ fn bucket_place(value: u32) -> usize
     PART + bucket as usize
 }
 
-// Links the values of a part. A link is one more than a place, 0 for none; a value's goes to a place below its own.
+// Links the values of a part. A link is a place plus 1, or 0 for none; the link of a value refers to a lower place.
 fn link_values(values: &[u32], links: &mut [u32])
     requires { ⌜ Linked (now values) 0 (now links) ⌝ }
     ensures { λ _. ⌜ Linked (now (values .entry)) (length (now (values .entry))) (now (links .exit)) ⌝ }
@@ -42,7 +43,7 @@ fn link_values(values: &[u32], links: &mut [u32])
     }
 }
 
-// Whether a value is one of a part.
+// Whether a value is in a part.
 fn is_among(values: &[u32], links: &[u32], value: u32) -> bool
     requires { ⌜ Linked (now values) (length (now values)) (now links) ⌝ }
     ensures { λ r. ⌜ r ≡ has value (now (values .entry)) ⌝ }
@@ -58,7 +59,7 @@ fn is_among(values: &[u32], links: &[u32], value: u32) -> bool
     false
 }
 
-// Whether a row has one of a part's values in one of the columns.
+// Whether a row has a value of a part in one of the columns.
 fn mentions_one(row: &[u32], columns: &[u32], values: &[u32], links: &[u32]) -> bool
     requires { ⌜ (every (λ column. ltb column (length (now row))) (now columns) ≡ true) × Linked (now values) (length (now values)) (now links) ⌝ }
     ensures { λ r. ⌜ r ≡ mentions (now (columns .entry)) (now (values .entry)) (now (row .entry)) ⌝ }
@@ -74,7 +75,7 @@ fn mentions_one(row: &[u32], columns: &[u32], values: &[u32], links: &[u32]) -> 
     false
 }
 
-// Marks a row if it is live and has one of a part's values.
+// Sets the bit of a row if it is live and has a value of a part.
 fn mark_row(
     h: Header,
     rows: &[u32],
@@ -99,7 +100,7 @@ fn mark_row(
     row_marks::mark(words, row)
 }
 
-// Marks the rows from this one on that have one of a part's values.
+// Sets the bits of the rows from this one on that have a value of a part.
 fn mark_rows(
     h: Header,
     rows: &[u32],
@@ -121,7 +122,7 @@ fn mark_rows(
     marked
 }
 
-// Likewise, of a part that is yet to be linked.
+// The same for a part that is not linked yet.
 fn mark_part(
     h: Header,
     rows: &[u32],
@@ -138,7 +139,7 @@ fn mark_part(
     mark_rows(h, rows, from, columns, values, &links, words)
 }
 
-// Where the part that begins at a place ends.
+// The end of the part that starts at a place.
 fn part_end(at: usize, count: usize) -> usize
     requires { ⌜ at ≤ count ⌝ }
     ensures { λ r. ⌜ r ≡ min (at + 1024) count ⌝ }
@@ -149,7 +150,8 @@ fn part_end(at: usize, count: usize) -> usize
     at + PART
 }
 
-// Marks the live rows from this one on that have one of the values in one of the columns, and answers how many were not marked before.
+// Sets the bits of the live rows from this one on that have one of the values in one of the columns. Returns how many were not set
+// before.
 pub fn mark_unlisted(
     h: Header,
     rows: &[u32],

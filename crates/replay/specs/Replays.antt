@@ -1,5 +1,5 @@
--- What `replay` promises: an opening and, where that is accepted, a list of requests one after another, each lent the stores whole.
--- They are a history, so that the claim of the order's term 3 holds of them (law `replay-claimed`). Assumes nothing.
+-- Contract of `replay`: an opening and, if that is accepted, a list of requests one after another, each lent the whole stores. They
+-- are a history, so the claim of the order's term 3 holds for them (law `replay-claimed`). Assumes nothing.
 use Prim.Native.Nat.{ℕ, _<_}
 use mathlib.Core.Path.{_≡_}
 use mathlib.Core.Bool.{false}
@@ -17,12 +17,12 @@ use Rattle.table.specs.Promises.{Stores, Body, stores, joined, CompactionWords,
 use Rattle.replay_calls.specs.Lending.{lentAll}
 use Rattle.replay_calls.specs.Requests.{Request, isRefresh, IndexPast, ServedAll}
 
--- calls that are lent the stores whole
+-- calls that are lent the whole stores
 abbrev pub callsLent : List Call → Body → List ℕ → CompactionWords → List LentCall
 callsLent calls b pending w = lentAll (lengths (b .rows) (b .keys) (b .sorts) pending (w .live) (w .base)) calls
 
 module _ (o : Opening) (generation : ℕ) (requests : List Request) (b : Body) (pending : List ℕ) (w : CompactionWords) (index : List ℕ) where
-  -- an accepted opening on these very stores, and from there on the requests, with the calls of a history that they are
+  -- an accepted opening on these stores and then the requests, with the calls of a history that they correspond to
   pub record MadeFrom (s : Stores) (index′ : List ℕ) : Type 0 where
     pub header : Header
     pub keys : List ℕ
@@ -31,16 +31,16 @@ module _ (o : Opening) (generation : ℕ) (requests : List Request) (b : Body) (
     pub served : ServedAll (lengths (b .rows) (b .keys) (b .sorts) pending (w .live) (w .base)) (stores header (b .rows) keys (b .sorts) pending) index requests calls s index′
 
   pub record Replayed (answer : TableAnswer) (b′ : Body) (pending′ : List ℕ) (w′ : CompactionWords) (index′ : List ℕ) : Type 0 where
-    -- where the opening is refused, no request is made and nothing changes; else they are all made
+    -- if the opening is refused, no request is executed and nothing changes; otherwise all are executed
     pub refusal : verdict (tableSays answer) ≡ reply (openRefusal o (lengths (b .rows) (b .keys) (b .sorts) pending [] [])) tt
     pub unchanged : 0 < openRefusal o (lengths (b .rows) (b .keys) (b .sorts) pending [] []) → (b′ ≡ b) × (pending′ ≡ pending) × (w′ ≡ w) × (index′ ≡ index)
     pub calls-made : (h : Header) → tableSays answer ≡ accepted h → MadeFrom (joined h b′ pending′) index′
-    -- slots and compaction words past those needed are never written; while the generation is the opening's nothing was
-    -- compacted, and no compaction word is written either. After a compaction or a clear that emptied rows, nothing is promised of
-    -- the compaction words needed
+    -- Slots and compaction words past those needed are never written. While the generation is the opening's, nothing was compacted,
+    -- and no compaction word is written either. After a compaction or a clear that emptied rows, the compaction words needed are
+    -- unspecified.
     pub slots-past : SlotsPast (o .capacity) (b .keys) (b′ .keys)
     pub words-past : WordsPast (o .capacity) w w′
     pub words-kept : (h : Header) → tableSays answer ≡ accepted h → h .generation ≡ generation → w′ ≡ w
-    -- of the index store: words past those that a refresh may need are never written, and without a refresh none is
+    -- the index store: words past those that a refresh may need are never written, and without a refresh none is
     pub index-past : IndexPast (o .capacity) index index′
     pub index-kept : any isRefresh requests ≡ false → index′ ≡ index

@@ -1,5 +1,5 @@
-// Lists of requests, read from words and made one after another on lent stores, from the opening on: what is claimed of histories
-// holds of running code.
+// Lists of requests, decoded from words and executed one after another on lent stores, starting with the opening: the claim about
+// histories holds for running code.
 ghost use Rattle.table.specs.Promises.{stores, body, compactionWords, lengths};
 ghost use Rattle.replay_calls.specs.Encoding.{decoded};
 ghost use Rattle.replay_calls.specs.inner.Making.{Made};
@@ -10,7 +10,7 @@ use table::Header;
 use table::TableAnswer;
 use table_open::open_table;
 
-// All requests, in order; a refused one leaves all as it is.
+// Executes all requests, in order. A refused request changes nothing.
 fn make_calls(
     h: Header,
     calls: &[u32],
@@ -46,7 +46,7 @@ fn make_calls(
     n
 }
 
-// Opens a table and makes all requests on it. Each refresh among them is lent the index store.
+// Opens a table and executes all requests on it. Each refresh among them is lent the index store.
 pub fn replay(
     columns: u32,
     key_columns: u32,

@@ -1,5 +1,5 @@
--- An encoding of lists of requests as words: each request a kind, a count and so many words (`replay_frames`). Every list of words is one;
--- what is no request is passed over. Assumes nothing.
+-- An encoding of lists of requests as words: each request is a kind, a count and that number of words (`replay_frames`). Every list
+-- of words is one; an item that is no request is skipped. Assumes nothing.
 use Prim.Native.Nat.{ℕ, suc}
 use mathlib.Core.Bool.{cond}
 use mathlib.Core.List.{List, [], _∷_}
@@ -23,8 +23,8 @@ refreshIn (columns ∷ words) =
     (refresh (record { columns = take columns words; values = drop (suc columns) words; stamp = getD words columns 0 }) ∷ [])
     []
 
--- the request of a kind and its words: kind 0 an insert of these cells, 1 a removal by this key, 2 a removal by row, 3 a merge,
--- 4 a compaction, 5 a clear, whose words count for nothing, 6 a refresh; any other kind is no request
+-- the request of a kind and its words: kind 0 an insert of these cells, 1 a removal by this key, 2 a removal by row, 3 a merge, 4 a
+-- compaction, 5 a clear (3 to 5 ignore their words), 6 a refresh; any other kind is no request
 unfoldable pub requestOf : ℕ → List ℕ → List Request
 requestOf kind words =
     cond (eqb kind 0)

@@ -1,9 +1,9 @@
--- Calls that are lent the stores whole. Assumes nothing.
+-- Calls that are lent the whole stores. Assumes nothing.
 use mathlib.Core.List.{List, map}
 use Rattle.plain_table.specs.Refusing.{Lengths}
 use Rattle.plain_table.specs.Calls.{Call, staging, merging, compacting, clearing, refreshing, feeding, LentCall}
 
--- the compaction words go to a merge and a compaction alone
+-- only a merge and a compaction are lent the compaction words
 abbrev pub withoutWords : Lengths → Lengths
 withoutWords l =
     record { rows = l .rows; keys = l .keys; sorts = l .sorts; pending = l .pending; liveWords = 0; baseWords = 0 }

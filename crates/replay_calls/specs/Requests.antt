@@ -1,5 +1,5 @@
--- Requests, and the calls of a history that they are. Each is lent the stores whole; refreshes are lent one index store too, whole, as
--- the refresh before left it. Assumes nothing.
+-- Requests, and the calls of a history that they correspond to. Each is lent the whole stores. Refreshes are also lent one whole
+-- index store, as the previous refresh left it. Assumes nothing.
 use Prim.Native.Nat.{ℕ, _+_, _*_}
 use mathlib.Core.Path.{_≡_}
 use mathlib.Core.Bool.{Bool, true, false}
@@ -15,7 +15,7 @@ use Rattle.refresh_spec.specs.Refreshes.{refreshSays, recordsFound, recordsStag
 use Rattle.history.specs.Histories.{Called}
 use Rattle.replay_calls.specs.Lending.{lentTo}
 
--- A refresh is a request of its own: which call of the plain table it is depends on the index store.
+-- A refresh is a request of its own: which call of the plain table it corresponds to depends on the index store.
 pub data Request : Type 0 where
   make : Call → Request
   refresh : Refresh → Request
@@ -24,7 +24,7 @@ unfoldable pub isRefresh : Request → Bool
 isRefresh (make c) = false
 isRefresh (refresh r) = true
 
--- the call that a request is over a sound index store of this length
+-- the call that a request corresponds to with a sound index store of this length
 unfoldable pub requested : ℕ → Request → Call
 requested index (make c) = c
 requested index (refresh r) = refreshing r index
@@ -37,7 +37,7 @@ refreshedStores s answer pending′ = joined (headerRefreshed (s .header) (refre
 abbrev pub IndexPast : ℕ → List ℕ → List ℕ → Type 0
 IndexPast capacity index index′ = drop (16 + 24 * capacity) index′ ≡ drop (16 + 24 * capacity) index
 
--- one request, the call of the history that it is, and what it leaves: of stores of these lengths, and of the index store
+-- one request, its call of the history, and its result: stores of these lengths, and the index store
 pub data Served (l : Lengths) (s : Stores) (index : List ℕ) : Request → Call → Stores → List ℕ → Type 0 where
   made : {c : Call} {t : Stores} → Called s (lentTo l c) t → Served l s index (make c) c t index
   -- "the plain table stages these records of its own rows"
@@ -51,7 +51,7 @@ pub data Served (l : Lengths) (s : Stores) (index : List ℕ) : Request → Call
       → Called s (lentTo l (feeding (recordsStaged (refreshSays answer) (recordsFound (s .header) (s .rows) r (m .found))))) (refreshedStores s answer pending′)
       → Served l s index (refresh r) (feeding (recordsStaged (refreshSays answer) (recordsFound (s .header) (s .rows) r (m .found)))) (refreshedStores s answer pending′) index′
 
--- the requests one after another, the first one first
+-- the requests one after another, in order
 pub data ServedAll (l : Lengths) : Stores → List ℕ → List Request → List Call → Stores → List ℕ → Type 0 where
   end : (s : Stores) (index : List ℕ) → ServedAll l s index [] [] s index
   next : {s t u : Stores} {index index′ index″ : List ℕ} {q : Request} {qs : List Request} {c : Call} {cs : List Call}

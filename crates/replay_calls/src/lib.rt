@@ -1,4 +1,4 @@
-// One request in words, made by its entry point on lent stores.
+// Executes one request, encoded in words, by its entry point on lent stores.
 ghost use mathlib.Core.Path.{_≡_};
 ghost use Prim.Native.Nat.{_≤_};
 ghost use Rattle.table.specs.Numbers.{tableSays, mergeSays};
@@ -18,7 +18,7 @@ use table_stage::stage_insert;
 use table_stage::stage_remove;
 use table_stage::stage_remove_row;
 
-// A refused call leaves the header as it was.
+// The header after a call. A refused call leaves it unchanged.
 fn header_after(h: Header, answer: TableAnswer) -> Header
     ensures { λ r. ⌜ r ≡ headerAfter h (tableSays answer) ⌝ }
 {
@@ -46,7 +46,7 @@ fn header_refreshed(h: Header, answer: RefreshAnswer) -> Header
     }
 }
 
-// Kinds 0 to 2, which need the pending store alone.
+// Executes kinds 0 to 2, which need the pending store only.
 fn stage(h: Header, kind: u32, cells: &[u32], pending: &mut [u32]) -> Header
     requires { ⌜ kind ≤ 2 ⌝ }
     ensures { λ r. ⌜ MadeOnPending (requestOf kind (now (cells .entry))) h (now (pending .entry)) r (now (pending .exit)) ⌝ }
@@ -63,7 +63,7 @@ fn stage(h: Header, kind: u32, cells: &[u32], pending: &mut [u32]) -> Header
     header_after(h, stage_remove_row(h, pending, cells[0], &cells[1..]))
 }
 
-// Kind 6: the number of columns, the columns, the stamp, then the values.
+// Executes kind 6: the number of columns, the columns, the stamp, then the values.
 fn refresh(h: Header, words: &[u32], rows: &[u32], pending: &mut [u32], index: &mut [u32]) -> Header
     ensures { λ r. ⌜ MadeOnIndex (refreshIn (now (words .entry))) h (now (rows .entry)) (now (pending .entry)) (now (index .entry)) r (now (pending .exit)) (now (index .exit)) ⌝ }
 {
@@ -81,7 +81,7 @@ fn refresh(h: Header, words: &[u32], rows: &[u32], pending: &mut [u32], index: &
     header_refreshed(h, answer)
 }
 
-// One request.
+// Executes one request.
 pub fn make_call(
     h: Header,
     kind: u32,

@@ -1,4 +1,4 @@
--- Lists in words: each item a kind, a count and so many words. Every list of words is one; an item that is cut off ends it.
+-- Lists in words: each item is a kind, a count and that number of words. Every list of words is one; an incomplete item ends it.
 -- Assumes nothing.
 use Prim.Native.Nat.{ℕ, zero, suc}
 use mathlib.Core.Bool.{cond}
@@ -6,9 +6,9 @@ use mathlib.Core.List.{List, [], _∷_, _++_}
 use lib.ListN.{length, take}
 use lib.Dec.{leb}
 
--- what the words of each kind stand for
+-- the meaning of the words of each kind
 module _ {A : Type 0} (of : ℕ → List ℕ → List A) where
-  -- the items of the words after the first n, which belong to the item before
+  -- the items of the words after the first n, which belong to the previous item
   unfoldable pub framedAfter : ℕ → List ℕ → List A
   framedAfter n [] = []
   framedAfter (suc n) (word ∷ words) = framedAfter n words

@@ -1,9 +1,9 @@
-// Lists in words: each item a kind, a count and so many words.
+// Lists in words: each item is a kind, a count and that number of words.
 ghost use Prim.Native.Nat.{_≤_};
 ghost use lib.ListN.{length};
 ghost use Rattle.replay_frames.specs.inner.Lengths.{FrameLength};
 
-// The words of the item at a place, its kind and count among them; 0 if none stands there whole.
+// The number of words of the item at a place, including its kind and count; 0 if there is no complete item.
 pub fn frame_length(words: &[u32], at: usize) -> usize
     requires { ⌜ at ≤ length (now words) ⌝ }
     ensures { λ r. ⌜ FrameLength (now (words .entry)) at r ⌝ }

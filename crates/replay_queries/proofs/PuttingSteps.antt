@@ -84,7 +84,7 @@ module _ {h : Header} {rows : List ℕ} {a : Subset} (cells : List ℕ) {l : Run
 
 -- ---- `put`
 
--- what is no question
+-- words that are no query
 no-three : (kind : ℕ) (cells : List ℕ) → (kind ≡ 1 → ⊥) → (kind ≡ 2 → ⊥) → (kind ≡ 3 → ⊥) → (length cells ≡ 3 → ⊥) → questionOf kind cells ≡ []
 no-three kind cells one two three n =
     elim (ℕ-discrete kind 0) [

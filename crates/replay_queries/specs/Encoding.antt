@@ -1,5 +1,5 @@
--- An encoding of lists of questions as words: each question a kind, a count and so many words (`replay_frames`). Every list of words
--- is one; what is no question is passed over. Assumes nothing.
+-- An encoding of lists of queries as words: each query is a kind, a count and that number of words (`replay_frames`). Every list of
+-- words is one; an item that is no query is skipped. Assumes nothing.
 use Prim.Native.Nat.{ℕ, _*_, _/_}
 use mathlib.Core.Bool.{cond, _&&_}
 use mathlib.Core.List.{List, [], _∷_}
@@ -10,11 +10,11 @@ use Rattle.offsets.specs.Subsets.{range, list}
 use Rattle.condition_words.specs.Conditions.{conditionIn, conditionsIn}
 use Rattle.history.specs.Runs.{Question, refineOne, refineList, intersectWith, intersectRange}
 
--- a question of so many words, or none
+-- a query if there are this many words, or none
 unfoldable pub ofWords : ℕ → List ℕ → Question → List Question
 ofWords n words question = cond (eqb (length words) n) (question ∷ []) []
 
--- refining by a list of conditions, of three words each, at most 16 of them
+-- refining by a list of conditions, three words each, at most 16 of them
 unfoldable pub listOf : List ℕ → List Question
 listOf words =
     cond
@@ -22,8 +22,8 @@ listOf words =
     (refineList (conditionsIn (length words / 3) words) ∷ [])
     []
 
--- the question of a kind and its words: kind 0 refines by a condition, of three words, kind 1 by a list of them; kind 2 intersects
--- with these ids, kind 3 with the range of two words, kind 4 with the sort-column range of a condition, of three words
+-- the query of a kind and its words: kind 0 refines by a condition of three words, kind 1 by a list of them; kind 2 intersects with
+-- these ids, kind 3 with the range of two words, kind 4 with the sort-column range of a condition of three words
 unfoldable pub questionOf : ℕ → List ℕ → List Question
 questionOf kind words =
     cond (eqb kind 0)
@@ -36,6 +36,6 @@ questionOf kind words =
     (ofWords 2 words (intersectWith (range (getD words 0 0) (getD words 1 0))))
     (cond (eqb kind 4) (ofWords 3 words (intersectRange (conditionIn words 0))) []))))
 
--- the questions of a list of words
+-- the queries of a list of words
 abbrev pub questionsIn : List ℕ → List Question
 questionsIn words = framed questionOf words

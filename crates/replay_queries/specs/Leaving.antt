@@ -1,5 +1,5 @@
--- What an answer tells of the ids left; and what a list of questions leaves, each put on the very subset that the last accepted
--- one answered, with an output of so many ids. Assumes nothing.
+-- The ids left, as an answer encodes them; and the result of a list of queries, each run on the subset that the last accepted query
+-- returned, with an output of this many ids. Assumes nothing.
 use Prim.Native.Nat.{ℕ}
 use mathlib.Core.Path.{_≡_}
 use mathlib.Core.Bool.{cond}
@@ -19,7 +19,7 @@ use Rattle.query_spec.specs.Queries.{refineOneReply, refineListReply}
 use Rattle.history.specs.Runs.{Question, refineOne, refineList, intersectWith, intersectRange, left, counting}
 use Rattle.replay_queries.specs.declared.RunAnswer.{RunAnswer}
 
--- the first ids of the list of a place: 1 and 2 the two lent ones; else the starting one, which is meant whole
+-- the first ids of the list of a place: 1 and 2 are the two lent lists; any other place is the whole starting list
 unfoldable pub idsAt : ℕ → ℕ → List ℕ → List ℕ → List ℕ → List ℕ
 idsAt place count ids first second = cond (eqb place 1) (take count first) (cond (eqb place 2) (take count second) ids)
 
@@ -28,7 +28,7 @@ unfoldable pub subsetLeft : RunAnswer → List ℕ → List ℕ → List ℕ →
 subsetLeft l ids first second =
     subsetOf (record { dense = l .dense; start = l .start; end = l .end }) (idsAt (l .place) (l .count) ids first second)
 
--- the ids left, and the questions that were accepted
+-- the ids left, and the queries that were accepted
 pub record Outcome : Type 0 where
   pub ids : Subset
   pub accepted : List Question
@@ -36,21 +36,21 @@ pub record Outcome : Type 0 where
 abbrev pub outcome : Subset → List Question → Outcome
 outcome ids counted = record { ids = ids; accepted = counted }
 
--- what questions leave behind others that were accepted
+-- the result of queries after others that were accepted
 abbrev pub behind : List Question → Outcome → Outcome
 behind before o = outcome (o .ids) (before ++ o .accepted)
 
--- by the reply to a question
+-- the result of a query, by its reply
 abbrev pub byReply : Subset → Question → Reply Subset → Outcome
 byReply a q r = outcome (left a r) (counting q r)
 
--- a range step, by the fast range: where there is none, it counts for nothing
+-- a range step, by the fast range: without one, it has no effect
 unfoldable pub rangeStep : Subset → Constraint → ℕ → Reply (Option Subset) → Outcome
 rangeStep a c output (refused n) = outcome a []
 rangeStep a c output (accepted none) = outcome a []
 rangeStep a c output (accepted (some b)) = byReply a (intersectRange c) (intersectReply a b output)
 
--- one question, with a fast range that a range step alone uses; the ids left come first in `intersect`
+-- one query, with a fast range that only a range step uses; the ids left are the first argument of `intersect`
 module _ (h : Header) (rows : List ℕ) (output : ℕ) where
   unfoldable pub asked : Subset → Question → Reply (Option Subset) → Outcome
   asked a (refineOne c) found = byReply a (refineOne c) (refineOneReply h rows a c output)
@@ -58,7 +58,7 @@ module _ (h : Header) (rows : List ℕ) (output : ℕ) where
   asked a (intersectWith b) found = byReply a (intersectWith b) (intersectReply a b output)
   asked a (intersectRange c) found = rangeStep a c output found
 
--- the questions, the first one first; each range step has what `fast_subset` returned for its condition
+-- the queries, in order; each range step has the result of `fast_subset` for its condition
 pub data AskedAll (h : Header) (rows sorts : List ℕ) (output : ℕ) : Subset → List Question → Outcome → Type 0 where
   end : (a : Subset) → AskedAll h rows sorts output a [] (outcome a [])
   next : {a : Subset} {q : Question} {qs : List Question} {rest : Outcome} (range : RangeAnswer)

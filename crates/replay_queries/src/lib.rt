@@ -1,4 +1,4 @@
-// One question in words, put on the ids left.
+// Runs one query, encoded in words, on the ids left.
 ghost use mathlib.Core.Path.{_≡_};
 ghost use mathlib.Core.Bool.{_||_};
 ghost use Prim.Native.Nat.{_<_};
@@ -17,8 +17,8 @@ use table::Header;
 use table::RangeAnswer;
 use table_read::fast_subset;
 
-// The ids left: a range, or the starting list (place 0), or the first ids of the first or second lent list. Whether some
-// accepted question refined, and how many questions were taken from the list, refused ones too.
+// The ids left: a range, or the starting list (place 0), or the first ids of the first or second lent list. Also whether an
+// accepted query refined, and how many queries were taken from the list, including refused ones.
 pub struct RunAnswer {
     pub dense: bool,
     pub start: u32,
@@ -29,7 +29,7 @@ pub struct RunAnswer {
     pub taken: usize,
 }
 
-// A question that counts for nothing.
+// Counts a query that has no effect.
 fn count_one(l: RunAnswer) -> RunAnswer
     requires { ⌜ l .taken < 18446744073709551615 ⌝ }
     ensures { λ r. ⌜ r ≡ counted l ⌝ }
@@ -48,7 +48,7 @@ fn either(a: bool, b: bool) -> bool
     b
 }
 
-// The ids left after the answer to a question that refines or intersects, which went into the list of this place.
+// The ids left after the answer to a query that refines or intersects. `place` is the list that its output went to.
 fn left_by(l: RunAnswer, place: u32, refines: bool, answer: SubsetAnswer) -> RunAnswer
     requires { ⌜ l .taken < 18446744073709551615 ⌝ }
     ensures { λ r. ⌜ r ≡ leftBy l place refines answer ⌝ }
@@ -77,8 +77,7 @@ fn left_by(l: RunAnswer, place: u32, refines: bool, answer: SubsetAnswer) -> Run
     }
 }
 
-// The ids left, intersected with a condition's sort-column range. Where there is none, the step counts for nothing, as one that is
-// refused.
+// Intersects the ids left with the sort-column range of a condition. Without a range the step has no effect, like a refused one.
 fn put_range(
     h: Header,
     sorts: &[u32],
@@ -107,7 +106,7 @@ fn put_range(
     }
 }
 
-// The ids left, refined by a list of at most 16 conditions; what is none is passed over.
+// Refines the ids left by a list of at most 16 conditions. Words that are no such list are skipped.
 fn put_list(
     h: Header,
     rows: &[u32],
@@ -137,7 +136,7 @@ fn put_list(
     )
 }
 
-// One question, put on the ids left, its answer written to the list of this place; what is no question is passed over.
+// Runs one query on the ids left and writes its output to the list of this place. Words that are no query are skipped.
 pub fn put(
     h: Header,
     rows: &[u32],

@@ -1,4 +1,4 @@
--- A run, question after question. Assumes nothing.
+-- A run, query by query. Assumes nothing.
 use Prim.Native.Nat.{ℕ, zero, suc, _+_, _-_, _≤_, min}
 use mathlib.Core.Path.{_≡_, refl, sym, ap, _∙_}
 use mathlib.Core.Bool.{Bool, false, _||_}
@@ -35,7 +35,7 @@ drop-behind zero (x ∷ a) b h = absurd (omega arith)
 drop-behind (suc n) [] b h = absurd (omega arith)
 drop-behind (suc n) (x ∷ a) b h = drop-behind n a b (omega arith)
 
--- before the question at a place: what is to come from here is what was to come from the start, with what was accepted
+-- before the query at a place: the result of the remaining queries, with those accepted so far, is the result of all queries
 module _ (h : Header) (rows sorts ids words first₀ second₀ : List ℕ) (l₀ : RunAnswer) (first second : List ℕ) (l : RunAnswer) (at count : ℕ) where
   pub record Going : Type 0 where
     pub here : FrameLength words at count
@@ -68,7 +68,7 @@ module _ {h : Header} {rows sorts ids words first₀ second₀ : List ℕ} {l₀
       }
 
   module _ {first second : List ℕ} {l : RunAnswer} {at count : ℕ} (v : Going h rows sorts ids words first₀ second₀ l₀ first second l at count) where
-    -- one question is put
+    -- one query is run
     pub going-again : {first′ second′ : List ℕ} {l′ : RunAnswer} {more : ℕ} → (count ≡ 0 → ⊥)
         → QuestionPut h rows sorts ids (questionOf (getD words at 0) (take (at + count - (at + 2)) (drop (at + 2) words))) l first second l′ first′ second′
         → length first′ ≡ length first → length second′ ≡ length second → FrameLength words (at + count) more
@@ -99,7 +99,7 @@ module _ {h : Header} {rows sorts ids words first₀ second₀ : List ℕ} {l₀
               (v .rest (behind asked o) (rw frame (asked-then (rw (v .first-long) at (t .put .asked)) more)));
         }
 
-    -- no question is left
+    -- no query is left
     pub going-end : count ≡ 0 → QuestionsPut h rows sorts ids (questionsIn words) l₀ first₀ second₀ l first second
     going-end none =
         let frame : questionsIn (drop at words) ≡ [] = framed-end questionOf (v .here) none in
@@ -123,7 +123,7 @@ module _ (n : ℕ) (first second : List ℕ) (e : n ≡ min (length first) (leng
   pub room-alike : length (take n second) ≡ length (take n first)
   room-alike = sym room-second ∙ room-first
 
--- ids that lie in a first part are those of the whole
+-- ids within a first part are those of the whole list
 idsAt-part : (place count : ℕ) (ids first second more more′ : List ℕ) → count ≤ length first → count ≤ length second
     → idsAt place count ids (first ++ more) (second ++ more′) ≡ idsAt place count ids first second
 unfolding idsAt

@@ -1,4 +1,4 @@
--- What `ask` promises: a list of questions, put one after another on the ids that the last accepted one left. That it is a run, of
+-- Contract of `ask`: a list of queries, run one after another on the ids that the last accepted one left. That it is a run, for
 -- which the claim of the order's term 3 holds, is a law (Laws/Claimed). Assumes nothing.
 use Prim.Native.Nat.{ℕ, _≤_, min}
 use mathlib.Core.Path.{_≡_}
@@ -11,22 +11,22 @@ use Rattle.history.specs.Runs.{Question, refines}
 use Rattle.replay_queries.specs.declared.RunAnswer.{RunAnswer}
 use Rattle.replay_queries.specs.Leaving.{subsetLeft, outcome, AskedAll}
 
--- both lent lists are used up to the length of the shorter: the ids that each question has room for
+-- both lent lists are used up to the length of the shorter: the number of ids that each query has room for
 abbrev pub shorter : List ℕ → List ℕ → ℕ
 shorter first second = min (length first) (length second)
 
--- on a header, its row store and sort entries, from a starting subset, which is a range or these ids
+-- on a header with its row store and sort entries, from a starting subset, which is a range or these ids
 module _ (h : Header) (rows sorts : List ℕ) (start : Subset) (ids : List ℕ) (questions : List Question) (first second : List ℕ) (answer : RunAnswer) (first′ second′ : List ℕ) where
   pub record RunMade : Type 0 where
-    -- a caller who knows how many questions the list was to have sees whether it was taken whole
+    -- a caller who knows the number of queries in the list can check that the whole list was decoded
     pub taken : answer .taken ≡ length questions
-    -- the questions that were accepted, and whether some of them refined
+    -- the queries that were accepted, and whether some of them refined
     pub accepted : List Question
     pub told : answer .refined ≡ any refines accepted
-    -- ids left in a lent list are as many as are told
+    -- ids left in a lent list are within the length used
     pub inside : answer .count ≤ shorter first second
-    -- these and the ids left are what the questions leave, whatever the stores hold
+    -- these and the ids left are the result of the queries, whatever the stores contain
     pub asked : AskedAll h rows sorts (shorter first second) start questions (outcome (subsetLeft answer ids first′ second′) accepted)
-    -- past that length nothing is written; which list the ids left lie in, and what else stands in both, is the program's choice
+    -- past that length nothing is written; which list has the ids left, and what else is in both, is the program's choice
     pub past : (drop (shorter first second) first′ ≡ drop (shorter first second) first)
         × (drop (shorter first second) second′ ≡ drop (shorter first second) second)

@@ -1,4 +1,4 @@
-// Lists of questions, read from words and put one after another on the ids left: what is claimed of runs holds of running code.
+// Lists of queries, decoded from words and run one after another on the ids left: the claim about runs holds for running code.
 ghost use mathlib.Core.Path.{_≡_};
 ghost use Prim.Native.Nat.{_≤_, _<_, min};
 ghost use lib.ListN.{length};
@@ -12,7 +12,7 @@ use replay_queries::RunAnswer;
 use replay_queries::put;
 use table::Header;
 
-// One question, put on the ids left; its answer goes into the lent list that they do not lie in.
+// Runs one query on the ids left. Its output goes to the lent list that does not have them.
 fn put_question(
     h: Header,
     rows: &[u32],
@@ -64,7 +64,7 @@ fn put_question(
     put(h, rows, sorts, kind, cells, l, head, ids, 1, first)
 }
 
-// All questions, in order, each on the ids that the last accepted one left, in two lists of one length.
+// Runs all queries, in order, each on the ids that the last accepted one left, in two lists of one length.
 fn ask_within(
     h: Header,
     rows: &[u32],
@@ -108,7 +108,7 @@ fn smaller(a: usize, b: usize) -> usize
     b
 }
 
-// Puts all questions; both lists are used up to the length of the shorter, so that it does not matter which one is lent first.
+// Runs all queries. Both lists are used up to the length of the shorter, so it does not matter which one is lent first.
 pub fn ask(
     h: Header,
     rows: &[u32],

@@ -23,7 +23,7 @@ module _ (s : List ℕ) where
   unfolding known
   too-long h = rw (lt-leb (length s) 6 h)
 
-  -- whether it is known hangs on the steps from a place on
+  -- whether it is known depends on the steps from a place on
   pub known-start : length s ≤ 6 → known s ≡ every (λ step. ltb step 7) (drop 0 s)
   unfolding known
   known-start h = rw (le-leb (length s) 6 h)

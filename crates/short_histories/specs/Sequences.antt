@@ -1,4 +1,4 @@
--- Every short history (document 02, change 10): the seven steps, all sequences of at most six of them in one list, and the ways
+-- Every short history (document 02, change 10): the seven steps, all sequences of at most six of them in one list, and the maps
 -- between a sequence and its place in that list. Assumes nothing.
 use Prim.Native.Nat.{ℕ, zero, suc, _-_, _<_}
 use mathlib.Core.Path.{_≡_}
@@ -21,7 +21,7 @@ use Rattle.short_histories.specs.declared.SequenceAnswer.the-variants.{R
 -- ---- the steps
 
 -- "three columns, one key, sort column 1, capacity 6"; "all four rules": the tables that the steps are for. The comparison opens
--- them so; no promise below speaks of a table
+-- them in this way; no contract below mentions a table
 unfoldable pub shortOpening : ℕ → Opening
 shortOpening rule = record { columns = 3; keys = 1; sort = 1; rule = rule; capacity = 6 }
 
@@ -60,7 +60,7 @@ sequencesTo (suc n) = sequencesTo n ++ sequences (suc n)
 unfoldable pub shortHistories : List (List ℕ)
 shortHistories = sequencesTo 6
 
--- the place of a sequence in a list of them, "from 0"
+-- the place of a sequence in a list of sequences, "from 0"
 unfoldable pub placeIn : List (List ℕ) → List ℕ → ℕ
 placeIn [] sequence = 0
 placeIn (s ∷ ss) sequence = cond (same s sequence) 0 (suc (placeIn ss sequence))
@@ -72,8 +72,8 @@ positionOf sequence = placeIn shortHistories sequence
 unfoldable pub sequenceAt : ℕ → List ℕ
 sequenceAt position = getD shortHistories position []
 
--- the generator: the sequence after this one, none after the last. It is started with the first, the empty one, and gives all
--- others; that each stands in the list "exactly once" is a law (Laws/Positions)
+-- the generator: the sequence after this one, none after the last. It starts with the first sequence, the empty one, and generates
+-- all others; that each is in the list "exactly once" is a law (Laws/Positions)
 unfoldable pub nextAfter : List ℕ → Option (List ℕ)
 nextAfter sequence =
     cond (ltb (suc (positionOf sequence)) (length shortHistories)) (some (sequenceAt (suc (positionOf sequence)))) none
@@ -96,7 +96,7 @@ unfoldable pub sequenceRefusal : ℕ → ℕ → ℕ
 sequenceRefusal position output =
     first (rung (leb (length shortHistories) position) 16 ∷ rung (ltb output (length (sequenceAt position))) 2 ∷ [])
 
--- the steps of what is found, none where nothing is
+-- the steps of the sequence found, none if there is no sequence
 unfoldable pub stepsOf : Option (List ℕ) → List ℕ
 stepsOf none = []
 stepsOf (some sequence) = sequence
@@ -117,7 +117,7 @@ unfoldable pub positionSays : PositionAnswer → Reply ℕ
 positionSays (PositionRefused n) = refused n
 positionSays (Position position) = accepted position
 
--- how many steps were written, if a sequence was
+-- the number of steps written, if a sequence was written
 unfoldable pub sequenceSays : SequenceAnswer → Reply (Option ℕ)
 sequenceSays (SequenceRefused n) = refused n
 sequenceSays NoSequence = accepted none
@@ -127,7 +127,7 @@ unfoldable pub lengthOf : Option (List ℕ) → Option ℕ
 lengthOf none = none
 lengthOf (some sequence) = some (length sequence)
 
--- ---- promises
+-- ---- contracts
 
 abbrev pub StepTold : ℕ → StepAnswer → Type 0
 StepTold step answer = stepSays answer ≡ reply (stepRefusal step) (stepCall step)
@@ -135,7 +135,7 @@ StepTold step answer = stepSays answer ≡ reply (stepRefusal step) (stepCall st
 abbrev pub PositionTold : List ℕ → PositionAnswer → Type 0
 PositionTold sequence answer = positionSays answer ≡ reply (positionRefusal sequence) (positionOf sequence)
 
--- What is found stands at the start of the output, and nothing is changed past it; on refusal nothing is changed at all.
+-- The sequence found is at the start of the output, and nothing is changed past it; on refusal nothing is changed at all.
 pub record SequenceTold (refusal : ℕ) (found : Option (List ℕ)) (output : List ℕ) (answer : SequenceAnswer) (output′ : List ℕ) : Type 0 where
   pub answers : sequenceSays answer ≡ reply refusal (lengthOf found)
   pub written : refusal ≡ 0 → output′ ≡ putAt output 0 (stepsOf found)

@@ -1,6 +1,6 @@
-// Every sequence of at most six steps, shorter before longer, equal lengths in the order of their first differing step. A
-// position is its sequence read as a number in base 7 with the digits 1 to 7, a step's digit being its number plus 1: so 0 is
-// the empty sequence, and each number has one sequence.
+// Every sequence of at most six steps, shorter before longer, equal lengths in the order of their first differing step. A position
+// is its sequence read as a number in base 7 with the digits 1 to 7, where the digit of a step is its number plus 1. So 0 is the
+// empty sequence, and each number has one sequence.
 ghost use mathlib.Core.Path.{_≡_};
 ghost use mathlib.Core.Bool.{true};
 ghost use Prim.Native.Nat.{_≤_, _<_};
@@ -8,7 +8,7 @@ ghost use lib.ListN.{length};
 ghost use Rattle.lists.specs.Lists.{putAt};
 ghost use Rattle.short_histories.specs.Sequences.{sequenceAt, positionOf, known, StepTold, PositionTold, SequenceFound, NextFound};
 
-// How many sequences there are: 1 + 7 + 49 + ... + 117649.
+// The number of sequences: 1 + 7 + 49 + ... + 117649.
 const SEQUENCES: u32 = 137257;
 
 const STEPS: u32 = 7;
@@ -31,11 +31,11 @@ pub enum PositionAnswer {
 pub enum SequenceAnswer {
     Refused(u32),
     None,
-    // how many steps
+    // number of steps
     Written(u32),
 }
 
-// What a step is.
+// The call of a step.
 pub fn step_at(step: u32) -> StepAnswer
     ensures { λ r. ⌜ StepTold step r ⌝ }
 {
@@ -51,7 +51,7 @@ pub fn step_at(step: u32) -> StepAnswer
     }
 }
 
-// Whether a sequence has at most six steps, each a known one.
+// Whether a sequence has at most six steps, all of them known.
 fn is_known(sequence: &[u32]) -> bool
     ensures { λ r. ⌜ r ≡ known (now (sequence .entry)) ⌝ }
 {
@@ -82,7 +82,7 @@ fn known_position(sequence: &[u32]) -> u32
     position
 }
 
-// How many steps the sequence at a position has.
+// The number of steps of the sequence at a position.
 fn length_at(position: u32) -> usize
     requires { ⌜ position < 137257 ⌝ }
     ensures { λ r. ⌜ (r ≡ length (sequenceAt position)) × (r ≤ 6) ⌝ }
@@ -110,7 +110,7 @@ fn write_sequence(position: u32, steps: usize, output: &mut [u32])
     }
 }
 
-// The position of a sequence, or its refusal.
+// Returns the position of a sequence, or its refusal.
 pub fn position_of(sequence: &[u32]) -> PositionAnswer
     ensures { λ r. ⌜ PositionTold (now (sequence .entry)) r ⌝ }
 {
@@ -120,7 +120,7 @@ pub fn position_of(sequence: &[u32]) -> PositionAnswer
     PositionAnswer::Position(known_position(sequence))
 }
 
-// Writes the sequence at a position to the start of the output, and tells how many steps it has.
+// Writes the sequence at a position to the start of the output, and returns its number of steps.
 pub fn sequence_at(position: u32, output: &mut [u32]) -> SequenceAnswer
     ensures { λ r. ⌜ SequenceFound position (now (output .entry)) r (now (output .exit)) ⌝ }
 {
@@ -135,8 +135,8 @@ pub fn sequence_at(position: u32, output: &mut [u32]) -> SequenceAnswer
     SequenceAnswer::Written(steps as u32)
 }
 
-// Writes the sequence after this one to the start of the output, and tells how many steps it has; none after the last. From the
-// empty sequence on it gives all others.
+// Writes the sequence after this one to the start of the output, and returns its number of steps; none after the last. From the
+// empty sequence on it generates all others.
 pub fn next_sequence(sequence: &[u32], output: &mut [u32]) -> SequenceAnswer
     ensures { λ r. ⌜ NextFound (now (sequence .entry)) (now (output .entry)) r (now (output .exit)) ⌝ }
 {

@@ -1,6 +1,6 @@
-// The soundness check: yes exactly for sound stores. Time linear in slots, rows and pending words, where keys spread over
-// the slots as they should. Is safe on any stores: a
-// word is tested before it is a row or a length.
+// The soundness check: returns true exactly for sound stores. It takes time linear in slots, rows and pending words if the keys are
+// spread over the slots as they should be. It is safe on any stores: a word is tested before it is used as a row number or a
+// length.
 ghost use mathlib.Core.Path.{_≡_};
 ghost use Prim.Native.Nat.{_<_, _≤_};
 ghost use lib.ListN.{length};
@@ -23,7 +23,7 @@ use table::REMOVE_ROW;
 use table::SoundAnswer;
 use table::refusing;
 
-// How many rows are dead.
+// The number of dead rows.
 fn dead_rows(h: Header, rows: &[u32]) -> u32
     requires { ⌜ Cells (now rows) (h .columns) (h .sort) (h .rows) ⌝ }
     ensures { λ r. ⌜ r ≡ deadRows h (now (rows .entry)) ⌝ }
@@ -41,7 +41,7 @@ fn dead_rows(h: Header, rows: &[u32]) -> u32
     dead
 }
 
-// Whether the last sort entry's value does not exceed the largest value appended: where entries rise, then no entry's does.
+// Whether the value of the last sort entry is at most the largest value appended. If the entries rise, this holds for all entries.
 fn largest_sound(h: Header, sorts: &[u32]) -> bool
     requires { ⌜ Held (now sorts) (h .entries) ⌝ }
     ensures { λ r. ⌜ r ≡ lastKept h (now (sorts .entry)) ⌝ }
@@ -59,7 +59,7 @@ fn largest_sound(h: Header, sorts: &[u32]) -> bool
     }
 }
 
-// Whether the dead count is right, and the sort entries, the largest value and the live sort cells are.
+// Whether the dead count, the sort entries, the largest value and the live sort cells are sound.
 fn rows_sound(h: Header, rows: &[u32], sorts: &[u32]) -> bool
     requires { ⌜ Cells (now rows) (h .columns) (h .sort) (h .rows) ⌝ }
     requires { ⌜ Held (now sorts) (h .entries) ⌝ }
@@ -77,7 +77,7 @@ fn rows_sound(h: Header, rows: &[u32], sorts: &[u32]) -> bool
     sort_entries::sort_cells_sound(rows, h.columns, h.sort, h.rows, sorts, h.entries)
 }
 
-// Whether a row is dead or found by its key. Of two live rows of one key the first in the key store is found for both.
+// Whether a row is dead or found by its key. If two live rows have the same key, a lookup finds the first of them in the key store.
 fn finds_itself(t: Keyed, rows: &[u32], keys: &[u32], row: u32) -> bool
     requires { ⌜ (Fits t (now rows) (now keys)) × (KeysSound t (now rows) (now keys)) × (row < t .rows) ⌝ }
     ensures { λ r. ⌜ OwnIs t (now (rows .entry)) (now (keys .entry)) row r ⌝ }
@@ -95,7 +95,7 @@ fn finds_itself(t: Keyed, rows: &[u32], keys: &[u32], row: u32) -> bool
     }
 }
 
-// Whether the keys of live rows differ, where the key store is sound.
+// Whether the keys of live rows differ, given a sound key store.
 fn keys_differ(t: Keyed, rows: &[u32], keys: &[u32]) -> bool
     requires { ⌜ (Fits t (now rows) (now keys)) × (KeysSound t (now rows) (now keys)) ⌝ }
     ensures { λ r. ⌜ Decides (KeysDiffer t (now (rows .entry))) r ⌝ }
@@ -110,7 +110,7 @@ fn keys_differ(t: Keyed, rows: &[u32], keys: &[u32]) -> bool
     true
 }
 
-// Whether the key store leads to exactly the live rows, and their keys differ.
+// Whether the key store refers to exactly the live rows, and their keys differ.
 fn index_sound(t: Keyed, rows: &[u32], keys: &[u32]) -> bool
     requires { ⌜ Fits t (now rows) (now keys) ⌝ }
     ensures { λ r. ⌜ Decides (IndexSound t (now (rows .entry)) (now (keys .entry))) r ⌝ }
@@ -121,7 +121,7 @@ fn index_sound(t: Keyed, rows: &[u32], keys: &[u32]) -> bool
     keys_differ(t, rows, keys)
 }
 
-// How many words a record of a kind takes; 0 for no kind.
+// The number of words of a record of this kind; 0 for an unknown kind.
 fn kind_words(h: Header, kind: u32) -> u32
     requires { ⌜ (h .columns ≤ 8) × (h .keys ≤ h .columns) ⌝ }
     ensures { λ r. ⌜ r ≡ kindWords (openingOf h) kind ⌝ }
@@ -138,7 +138,7 @@ fn kind_words(h: Header, kind: u32) -> u32
     0
 }
 
-// Where in a record its key begins.
+// The offset of the key in a record.
 fn key_place(kind: u32) -> u32
     ensures { λ r. ⌜ r ≡ keyPlace kind ⌝ }
 {
@@ -148,7 +148,7 @@ fn key_place(kind: u32) -> u32
     2
 }
 
-// How many words the record at a place takes; 0 if there is no whole one there.
+// The number of words of the record at a place; 0 if there is no complete record.
 fn record_words(h: Header, pending: &[u32], at: u32) -> u32
     requires { ⌜ (PendingIn h (now pending)) × (at < h .pending) ⌝ }
     ensures { λ r. ⌜ RecordRead (openingOf h) (now (pending .entry)) (h .pending) at r ⌝ }
@@ -170,7 +170,7 @@ fn record_words(h: Header, pending: &[u32], at: u32) -> u32
     words
 }
 
-// Whether the pending words in use are whole records.
+// Whether the pending words in use are complete records.
 fn pending_whole(h: Header, pending: &[u32]) -> bool
     requires { ⌜ PendingIn h (now pending) ⌝ }
     ensures { λ r. ⌜ Decides (PendingWhole h (now (pending .entry))) r ⌝ }

@@ -110,7 +110,7 @@ module _ {h : Header} {rows₀ sorts₀ : List ℕ} where
         }
 
     module _ (m : Movable h rows₀ sorts₀) where
-      -- a later row stands as it stood
+      -- a later row is unchanged
       pub later-same : (i : ℕ) → row ≤ i → i < h .rows → rowAt (h .columns) i rows ≡ rowAt (h .columns) i rows₀
       later-same i low more = rw (s .closed) (later-row (h .columns) row i rows₀ low (row-inside (wholeOf h) rows₀ i (m .within) more .in-store))
 
@@ -179,7 +179,7 @@ module _ {h : Header} {rows₀ sorts₀ : List ℕ} where
                 recorded = entries-after .1 ∙ ap (λ (l : List Entry). putAt sorts₀ 0 (entryWords l)) entries-grown;
               }
 
--- ---- the rows that a word marks
+-- ---- the rows of a bitmap word
 
 module _ {h : Header} {rows sorts : List ℕ} {first live : ℕ} {before : Kept} (b : Block h rows sorts first live before) where
   abbrev lives : ℕ → Bool
@@ -271,7 +271,7 @@ module _ (h : Header) (rows₀ sorts₀ live₀ base₀ : List ℕ) where
       }
 
 module _ {h : Header} {rows₀ sorts₀ live₀ base₀ : List ℕ} (c : Closable h rows₀ sorts₀ live₀ base₀) where
-  -- the number of the next live row, as the words tell it
+  -- the number of the next live row, as the words encode it
   number-next : (row : ℕ) → row ≤ h .rows → length (liveStored (h .columns) row rows₀) ≡ newNumber isLive (rowsOf (h .columns) (h .rows) rows₀) row
   unfolding liveStored
   number-next row k = length-keep isLive (rowsOf (h .columns) row rows₀) ∙ below-number (keyedOf h) rows₀ (h .rows) row k
@@ -297,7 +297,7 @@ module _ {h : Header} {rows₀ sorts₀ live₀ base₀ : List ℕ} (c : Closabl
           inside = omega (arith, c .movable .within .cells, s .closing .rows-same);
         }
 
-    -- the word marks the live ones of these rows
+    -- the word is the bitmap of the live ones of these rows
     word-marks : (word : ℕ) → word ≡ marks (otherAt rows (first * h .columns) (h .columns) 4294967295) count → word ≡ blockWord h rows₀ first count
     unfolding liveWord otherAt isDead
     word-marks word q = q ∙ marks-same _ _ count (λ k b.
@@ -395,7 +395,7 @@ module _ {t : Keyed} (u : Keyed) (e : t ≡ u) where
   lead-ranked r long = rw e (r, long)
 
 module _ (h n : Header) {rows keys live base keys′ : List ℕ} (t : Keyed) (e : t ≡ keyedOf h) (u : Keyed) (f : u ≡ keyedOf n) where
-  -- in another room
+  -- with another number of slots
   pub led-anew : (u .room ≡ t .room → ⊥) → Rebuilt u rows keys keys′ → Leading h n rows keys live base keys′
   led-anew ne r = record { numbers = λ q. absurd ((rw (e, f) at ne) q); anew = λ _. rw f at r }
 
@@ -406,7 +406,7 @@ module _ (h n : Header) {rows keys live base keys′ : List ℕ} (t : Keyed) (e 
 -- ---- the entry point
 
 module _ (h : Header) (rows keys sorts live base : List ℕ) where
-  -- a compaction is turned away
+  -- a refused compaction
   pub compact-refused : (n : ℕ) → n ≡ compactRefusal h (lengths rows keys sorts [] live base) → (n ≡ 0 → ⊥)
       → Compacting h (body rows keys sorts) (compactionWords live base) (TableRefused n) (body rows keys sorts) (compactionWords live base)
   unfolding tableSays
@@ -420,7 +420,7 @@ module _ (h : Header) (rows keys sorts live base : List ℕ) where
       }
 
   module _ (n : ℕ) (number : n ≡ compactRefusal h (lengths rows keys sorts [] live base)) (taken : n ≡ 0) where
-    -- what it asks
+    -- what it requires
     pub compact-lendable : h .generation ≤ 4294967295 → Lendable h rows keys sorts live base × (h .generation < 4294967295)
     compact-lendable g =
         let k = compact-accepted h (lengths rows keys sorts [] live base) (sym number ∙ taken) in (

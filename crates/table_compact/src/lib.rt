@@ -1,6 +1,6 @@
-// Compaction: `rehash_impl` of table/mod.rs. One pass moves the live rows down, marks them in the compaction words and rebuilds
-// the sort entries. Another gives the key store the new row numbers, over the slots and without hashing; where the rows left take
-// less room, the key store is rebuilt.
+// Compaction: `rehash_impl` of table/mod.rs. One pass moves the live rows down, sets their bits in the compaction words and
+// rebuilds the sort entries. A second pass writes the new row numbers to the key store, slot by slot and without hashing. If the
+// remaining rows need fewer slots, the key store is rebuilt instead.
 ghost use Prim.Native.Nat.{_<_, _≤_};
 ghost use lib.ListN.{length};
 ghost use Rattle.key_index.specs.Slots.{slots};
@@ -16,13 +16,13 @@ use table::TableAnswer;
 use table::keyed;
 use table::refusing::compact_refusal;
 
-// How many rows and sort entries a compaction has kept so far.
+// The numbers of rows and of sort entries that a compaction has kept so far.
 pub struct Kept {
     pub rows: u32,
     pub entries: u32,
 }
 
-// A live row is moved down and recorded in the sort entries. Answers their number.
+// Moves a live row down and records it in the sort entries. Returns the number of sort entries.
 fn keep_row(h: Header, rows: &mut [u32], sorts: &mut [u32], row: u32, kept: Kept) -> u32
     requires { ⌜ Keepable h (now rows) (now sorts) row kept ⌝ }
     ensures { λ r. ⌜ RowKept h (now (rows .entry)) (now (sorts .entry)) row kept r (now (rows .exit)) (now (sorts .exit)) ⌝ }
@@ -35,7 +35,7 @@ fn keep_row(h: Header, rows: &mut [u32], sorts: &mut [u32], row: u32, kept: Kept
     sort_entries::append_entry(sorts, kept.entries, rows[cell], kept.rows)
 }
 
-// The live rows that a word marks close up in order.
+// Moves the live rows of a block down, in order. Their bits are set in `live`.
 fn keep_block(
     h: Header,
     rows: &mut [u32],
@@ -59,7 +59,8 @@ fn keep_block(
     kept
 }
 
-// The live rows close up in order, 64 at a time: their word is made first, with the number of the next live row beside it.
+// Moves all live rows down, in order, 64 at a time. For each 64 rows it first stores their bitmap word and the number of the next
+// live row.
 fn close_up(
     h: Header,
     rows: &mut [u32],
@@ -89,8 +90,8 @@ fn close_up(
     kept
 }
 
-// The key store leads to the rows that are left, under another header: by their new numbers in the same slots, or rebuilt where
-// they take less room.
+// Updates the key store for the remaining rows and header `n`: new row numbers in the same slots, or a rebuilt store if the rows
+// need fewer slots.
 fn lead(h: Header, n: Header, rows: &[u32], keys: &mut [u32], live: &[u64], base: &[u32])
     requires { ⌜ (Ranked (keyedOf h) (now live) (now base)) × (slots (keyedOf h) ≤ length (now keys)) × (Fits (keyedOf n) (now rows) (now keys)) ⌝ }
     ensures { λ _. ⌜ Leading h n (now (rows .entry)) (now (keys .entry)) (now (live .entry)) (now (base .entry)) (now (keys .exit)) ⌝ }
@@ -104,7 +105,7 @@ fn lead(h: Header, n: Header, rows: &[u32], keys: &mut [u32], live: &[u64], base
     key_renumber::renumber(t, keys, live, base);
 }
 
-// Compacts a table whose header and stores were tested.
+// Compacts a table whose header and stores have passed the tests.
 pub fn compact_rows(
     h: Header,
     rows: &mut [u32],
@@ -126,7 +127,7 @@ pub fn compact_rows(
     n
 }
 
-// Compacts, with dead rows or without: `rehash`.
+// Compacts, whether or not there are dead rows: `rehash`.
 pub fn compact(
     h: Header,
     rows: &mut [u32],

@@ -7,8 +7,7 @@ use table::TableAnswer;
 use table::refusing::clear_refusal;
 use table::refusing::open_refusal;
 
-// An empty table in the lent stores. Rows and sort entries are lent for their lengths alone; pending
-// may have any length.
+// Opens an empty table in the lent stores. Of rows and sort entries only the lengths are used; pending may have any length.
 pub fn open_table(
     columns: u32,
     key_columns: u32,
@@ -52,7 +51,7 @@ pub fn open_table(
     TableAnswer::Table(h)
 }
 
-// Empties pending and, where there are rows, the table.
+// Empties pending and, if there are rows, the table.
 pub fn clear(h: Header, keys: &mut [u32]) -> TableAnswer
     ensures { λ r. ⌜ Clearing h (now (keys .entry)) r (now (keys .exit)) ⌝ }
 {

@@ -1,4 +1,4 @@
--- The ways out of each function of reading.rt, and what its calls ask. Assumes nothing.
+-- The results of each function of this crate, and what its calls require. Assumes nothing.
 use Prim.Native.Nat.{ℕ, _+_, _*_, _≤_, _<_}
 use mathlib.Core.Path.{_≡_, refl, sym, _∙_}
 use mathlib.Core.Option.{none, some as one}
@@ -35,7 +35,7 @@ use Rattle.table.specs.Laws.Refusals.{Lookable, lookup-accepted, Readable, cell
 
 -- ---- *Key lookup*, *one cell*
 
--- a row's cell lies in the row store, at a place that is counted by a u32
+-- a row's cell is within the row store, at a place that fits into a u32
 pub record CellIn (h : Header) (rows : List ℕ) (row column : ℕ) : Type 0 where
   pub row-few : row * h .columns ≤ 524288
   pub few : row * h .columns + column ≤ 524288
@@ -45,7 +45,7 @@ module _ (h : Header) (rows keys key : List ℕ) where
   asks : (t : Keyed) → t ≡ keyedOf h → Lookable h (length rows) (length keys) (length key) → Fits t rows keys × (length key ≡ t .keys)
   asks t e a = rw e (inside-fits h rows keys (a .inside) (a .rows-long) (a .keys-long), a .key-width)
 
-  -- what the lookup by hash asks
+  -- what the lookup by hash requires
   pub lookup-asks : (t : Keyed) (n : ℕ) → t ≡ keyedOf h → n ≡ lookupRefusal h (length rows) (length keys) (length key) → n ≡ 0 → Fits t rows keys × (length key ≡ t .keys)
   lookup-asks t n e number zero-is = asks t e (lookup-accepted h _ _ _ (sym number ∙ zero-is))
 
@@ -133,7 +133,7 @@ module _ (h : Header) (sorts : List ℕ) (c : Constraint) (n : ℕ) (number : n 
       record { refusal = verdict-refused _ _ n refl number some; table = λ accepts. absurd (some (number ∙ accepts)) }
 
   module _ (zero-is : n ≡ 0) where
-    -- what the search asks
+    -- what the search requires
     pub range-asks : Held sorts (h .entries)
     range-asks =
         let a = fast-accepted h (length sorts) c (sym number ∙ zero-is) in

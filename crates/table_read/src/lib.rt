@@ -1,5 +1,5 @@
-// What may be asked of a table by its header and key store or sort entries: `get_row`, `get_row_column`, `fast_subset`,
-// `version` and `updates_since` of table/mod.rs, and the rows since a noted version.
+// Reads of a table by its header and its key store or sort entries: `get_row`, `get_row_column`, `fast_subset`, `version` and
+// `updates_since` of table/mod.rs, and the rows since a noted version.
 ghost use Rattle.table.specs.Promises.{LookedUp, CellRead, RangeRead, VersionRead, RowsSince, RowsSinceVersion};
 use constraints::Constraint;
 use key_index::Found;
@@ -17,7 +17,7 @@ use table::refusing::noted_refusal;
 use table::refusing::since_refusal;
 use table::refusing::version_refusal;
 
-// The number of the key's live row.
+// Returns the number of the key's live row.
 pub fn get_row(h: Header, rows: &[u32], keys: &[u32], key: &[u32]) -> RowAnswer
     ensures { λ r. ⌜ LookedUp h (now (rows .entry)) (now (keys .entry)) (now (key .entry)) r ⌝ }
 {
@@ -32,7 +32,7 @@ pub fn get_row(h: Header, rows: &[u32], keys: &[u32], key: &[u32]) -> RowAnswer
     }
 }
 
-// One cell of the key's live row.
+// Returns one cell of the key's live row.
 pub fn get_row_column(h: Header, rows: &[u32], keys: &[u32], key: &[u32], column: u32) -> CellAnswer
     ensures { λ r. ⌜ CellRead h (now (rows .entry)) (now (keys .entry)) (now (key .entry)) column r ⌝ }
 {
@@ -50,7 +50,7 @@ pub fn get_row_column(h: Header, rows: &[u32], keys: &[u32], key: &[u32], column
     }
 }
 
-// The rows of a condition on the sort column; none for any other.
+// Returns the range of rows that meet a condition on the sort column; none for any other condition.
 pub fn fast_subset(h: Header, sorts: &[u32], c: Constraint) -> RangeAnswer
     ensures { λ r. ⌜ RangeRead h (now (sorts .entry)) c r ⌝ }
 {
@@ -68,7 +68,7 @@ pub fn fast_subset(h: Header, sorts: &[u32], c: Constraint) -> RangeAnswer
     RangeAnswer::Range(range.start, range.end)
 }
 
-// Generation and row count.
+// Returns the generation and the row count.
 pub fn version(h: Header) -> VersionAnswer
     ensures { λ r. ⌜ VersionRead h r ⌝ }
 {
@@ -82,7 +82,7 @@ pub fn version(h: Header) -> VersionAnswer
     })
 }
 
-// The rows from one on.
+// Returns the range of rows from `row` on.
 pub fn updates_since(h: Header, row: u32) -> RangeAnswer
     ensures { λ r. ⌜ RowsSince h row r ⌝ }
 {
@@ -93,7 +93,7 @@ pub fn updates_since(h: Header, row: u32) -> RangeAnswer
     RangeAnswer::Range(row, h.rows)
 }
 
-// The rows since a version that was noted: its generation and row count.
+// Returns the range of rows since a noted version, given by its generation and row count.
 pub fn rows_since_version(h: Header, generation: u32, count: u32) -> RangeAnswer
     ensures { λ r. ⌜ RowsSinceVersion h generation count r ⌝ }
 {

@@ -1,5 +1,5 @@
-// Records staged for the next merge: an insert, a removal by key, a removal by row. Each is written behind the others in the
-// pending store, with the compact hash of its key, as `Buffer` of table/mod.rs does.
+// Stages records for the next merge: an insert, a removal by key, a removal by row. Each is appended to the pending store with the
+// compact hash of its key, as `Buffer` of table/mod.rs does.
 ghost use mathlib.Core.Path.{_≡_};
 ghost use Prim.Native.Nat.{_+_, _≤_};
 ghost use mathlib.Core.List.{[], _∷_};
@@ -16,7 +16,8 @@ use table::REMOVE_ROW;
 use table::TableAnswer;
 use table::refusing::is_pending_outside;
 
-// Test 7: the words of a record are not free, or the number in use would leave a u32. The sum itself does not overflow.
+// Test 7: the free pending words do not suffice for a record, or the number of words in use would exceed a u32. The sum itself does
+// not overflow.
 pub fn is_overfull(used: u32, pending: usize, width: u32, more: u32) -> bool
     ensures { λ r. ⌜ r ≡ overfull used pending (width + more) ⌝ }
 {
@@ -27,8 +28,8 @@ pub fn is_overfull(used: u32, pending: usize, width: u32, more: u32) -> bool
     0xffff_ffff < after
 }
 
-// *Stage*, of a record of so many cells where `width` are asked for, with `more` words before them; `gone` if it names a row
-// that is not there.
+// *Stage*: returns the first refusal of a record with `cells` cells where `width` are required, and with `more` words before them.
+// `gone` is whether the record names a row that does not exist.
 fn stage_refusal(h: Header, pending: usize, cells: usize, width: u32, gone: bool, more: u32) -> u32
     ensures { λ r. ⌜ r ≡ ladder h pending cells width gone more ⌝ }
 {
@@ -47,7 +48,7 @@ fn stage_refusal(h: Header, pending: usize, cells: usize, width: u32, gone: bool
     0
 }
 
-// The words of a record before its cells.
+// Writes the words of a record that precede its cells.
 fn write_head(pending: &mut [u32], at: usize, kind: u32, hash: u32)
     requires { ⌜ at + 2 ≤ length (now pending) ⌝ }
     ensures { λ _. ⌜ now (pending .exit) ≡ putAt (now (pending .entry)) at (kind ∷ hash ∷ []) ⌝ }
@@ -56,7 +57,7 @@ fn write_head(pending: &mut [u32], at: usize, kind: u32, hash: u32)
     pending[at + 1] = hash;
 }
 
-// Those of a removal by row.
+// Writes the words of a removal by row that precede its key.
 fn write_row_head(pending: &mut [u32], at: usize, hash: u32, row: u32)
     requires { ⌜ at + 3 ≤ length (now pending) ⌝ }
     ensures { λ _. ⌜ now (pending .exit) ≡ putAt (now (pending .entry)) at (2 ∷ hash ∷ row ∷ []) ⌝ }
@@ -66,7 +67,7 @@ fn write_row_head(pending: &mut [u32], at: usize, hash: u32, row: u32)
     pending[at + 2] = row;
 }
 
-// An insert or a removal by key.
+// Writes an insert or a removal by key.
 pub fn write_record(pending: &mut [u32], at: usize, kind: u32, hash: u32, cells: &[u32])
     requires { ⌜ at + (length (now cells) + 2) ≤ length (now pending) ⌝ }
     ensures { λ _. ⌜ now (pending .exit) ≡ putAt (now (pending .entry)) at (kind ∷ hash ∷ now (cells .entry)) ⌝ }
@@ -75,7 +76,7 @@ pub fn write_record(pending: &mut [u32], at: usize, kind: u32, hash: u32, cells:
     row_buffer::write_row(pending, at + 2, cells);
 }
 
-// A removal by row.
+// Writes a removal by row.
 pub fn write_row_record(pending: &mut [u32], at: usize, hash: u32, row: u32, key: &[u32])
     requires { ⌜ at + (length (now key) + 3) ≤ length (now pending) ⌝ }
     ensures { λ _. ⌜ now (pending .exit) ≡ putAt (now (pending .entry)) at (2 ∷ hash ∷ row ∷ now (key .entry)) ⌝ }
@@ -84,7 +85,7 @@ pub fn write_row_record(pending: &mut [u32], at: usize, hash: u32, row: u32, key
     row_buffer::write_row(pending, at + 3, key);
 }
 
-// The row is taken as it is; one with a dead first cell is skipped by the merge.
+// Stages an insert. The row is stored unchanged; the merge skips a row with a dead first cell.
 pub fn stage_insert(h: Header, pending: &mut [u32], cells: &[u32]) -> TableAnswer
     ensures { λ r. ⌜ Staging h (now (pending .entry)) (insert (now (cells .entry))) r (now (pending .exit)) ⌝ }
 {
@@ -99,7 +100,7 @@ pub fn stage_insert(h: Header, pending: &mut [u32], cells: &[u32]) -> TableAnswe
     TableAnswer::Table(n)
 }
 
-// Of the live row of a key, if the merge finds one.
+// Stages removal of the key's live row; no effect if there is none at merge time.
 pub fn stage_remove(h: Header, pending: &mut [u32], key: &[u32]) -> TableAnswer
     ensures { λ r. ⌜ Staging h (now (pending .entry)) (removeKey (now (key .entry))) r (now (pending .exit)) ⌝ }
 {
@@ -114,7 +115,7 @@ pub fn stage_remove(h: Header, pending: &mut [u32], key: &[u32]) -> TableAnswer
     TableAnswer::Table(n)
 }
 
-// Of a row, if the merge finds it live and of that key.
+// Stages removal of a row; no effect unless the row is live and has this key at merge time.
 pub fn stage_remove_row(h: Header, pending: &mut [u32], row: u32, key: &[u32]) -> TableAnswer
     ensures { λ r. ⌜ Staging h (now (pending .entry)) (removeRow row (now (key .entry))) r (now (pending .exit)) ⌝ }
 {

@@ -145,7 +145,7 @@ unfolding cellAbove
 above-summed width rows column zero cells output h s = refl
 above-summed width rows column (suc row) cells output h s = s row column (omega arith) h
 
--- ---- where cells stand
+-- ---- where cells are
 
 module _ {width rows start end : ℕ} {cells output : List ℕ} (s : Shaped width rows cells output) (w : Within start end rows) {row column : ℕ} (h : row < end) (k : column < width) where
   pub to-inside : column * rows + row < length cells
@@ -236,7 +236,7 @@ module _ {width rows start end column : ℕ} {cells output : List ℕ} (s : Shap
         filled = filled-down r v (omega (arith, from-inside s w h k)) (omega (arith, s .room)) (x .filled);
       }
 
--- ---- the direction asked for
+-- ---- the direction
 
 module _ (back way : Bool) (e : back ≡ way) (width rows : ℕ) (cells output : List ℕ) where
   pub asked-begun : (start : ℕ) → Begun back width rows start cells output → Begun way width rows start cells output

@@ -1,6 +1,5 @@
--- Column order for the vault (document 02, change 5): a list of rows, column after column, each cell but a column's first
--- replaced by its difference from the cell above; and the way back. Over lists of cells, for every width at once. Assumes
--- nothing.
+-- Column order for the vault (document 02, change 5): a list of rows, column after column, each cell but a column's first replaced
+-- by its difference from the cell above; and the inverse. Over lists of cells, for every width at once. Assumes nothing.
 use Prim.Native.Nat.{ℕ, _+_, _-_, _/_, _%_, _^_, _≤_, _<_}
 use mathlib.Core.Path.{_≡_}
 use mathlib.Core.Bool.{not, _||_}
@@ -26,7 +25,7 @@ unfoldable pub differences : List ℕ → List ℕ
 differences [] = []
 differences (cell ∷ cells) = cell ∷ differencesBelow cell cells
 
--- the way back: each difference replaced by its sum with the cell above, modulo 2^32
+-- the inverse: each difference replaced by its sum with the cell above, modulo 2^32
 unfoldable pub plus : ℕ → ℕ → ℕ
 plus difference above = (difference + above) % 2 ^ 32
 
@@ -42,7 +41,7 @@ sums (cell ∷ ds) = cell ∷ sumsBelow cell ds
 unfoldable pub column : ℕ → List (List ℕ) → List ℕ
 column j rows = map (λ row. getD row j 0) rows
 
--- the first n columns of rows; of columns, the rows
+-- the first n columns of rows; applied to columns, the rows
 unfoldable pub transposed : ℕ → List (List ℕ) → List (List ℕ)
 transposed n rows = map (λ j. column j rows) (countFrom 0 n)
 
@@ -60,13 +59,13 @@ unfoldable pub columnsRefusal : ℕ → ℕ → ℕ → ℕ
 columnsRefusal width cells output =
     first (rung (ltb width 1 || ltb 8 width) 1 ∷ rung (not (eqb (cells % width) 0)) 13 ∷ rung (ltb output cells) 2 ∷ [])
 
--- what an answer says
+-- the answer as a reply
 unfoldable pub columnsSays : ColumnsAnswer → Reply (Unit {0})
 columnsSays (Refused n) = refused n
 columnsSays Written = accepted tt
 
--- What either direction promises: the cells in the other order at the start of the output, and nothing changed past them; on
--- refusal nothing changed at all.
+-- Contract of either direction: the cells in the other order at the start of the output, and nothing changed past them; on refusal
+-- nothing changed at all.
 pub record Rearranged (order : ℕ → List ℕ → List ℕ) (width : ℕ) (cells output : List ℕ) (answer : ColumnsAnswer) (output′ : List ℕ) : Type 0 where
   pub answers : columnsSays answer ≡ reply (columnsRefusal width (length cells) (length output)) tt
   pub written : columnsRefusal width (length cells) (length output) ≡ 0 → output′ ≡ putAt output 0 (order width cells)
@@ -78,8 +77,8 @@ abbrev pub Restores : Type 0
 Restores = (width : ℕ) (cells : List ℕ) → 0 < width → length cells % width ≡ 0 → ((i : ℕ) → getD cells i 0 < 2 ^ 32)
     → (fromColumns width (toColumns width cells) ≡ cells) × (toColumns width (fromColumns width cells) ≡ cells)
 
--- the same of two calls: what the second one, on the cells that the first wrote, gives. It is refused by no number but 2, and by 2
--- exactly if its output is shorter than the cells
+-- The same for two calls: the result of the second call, on the cells that the first wrote. It is refused with no number but 2, and
+-- with 2 exactly if its output is shorter than the cells
 pub record Restored (cells output : List ℕ) (answer : ColumnsAnswer) (output′ : List ℕ) : Type 0 where
   pub answers : columnsSays answer ≡ reply (first (rung (ltb (length output) (length cells)) 2 ∷ [])) tt
   pub written : length cells ≤ length output → output′ ≡ putAt output 0 cells

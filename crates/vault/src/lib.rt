@@ -1,6 +1,6 @@
-// Column order for the vault: a list of rows, column after column, as differences down each column; and the way back. Both
-// go through the rows in blocks, and in a block column by column, so that a cell's neighbours in its row are still at hand
-// when their columns come.
+// Column order for the vault: a list of rows, column after column, as differences down each column; and the inverse. Both process
+// the rows in blocks, and each block column by column, so that a cell's neighbours in its row are still in the cache when their
+// columns are processed.
 ghost use mathlib.Core.Path.{_≡_};
 ghost use mathlib.Core.Bool.{true, false};
 ghost use Prim.Native.Nat.{_+_, _*_, _≤_, _<_};
@@ -8,7 +8,7 @@ ghost use lib.ListN.{length};
 ghost use Rattle.vault.specs.Columns.{toColumns, fromColumns, columnsRefusal, Rearranged};
 ghost use Rattle.vault.specs.inner.Filling.{cellAbove, Shaped, Within, ordered, placed, Begun, Filled};
 
-// The rows of a block.
+// The number of rows in a block.
 const BLOCK: usize = 256;
 
 pub enum ColumnsAnswer {
@@ -16,7 +16,7 @@ pub enum ColumnsAnswer {
     Written,
 }
 
-// The number of the first test that turns a rearrangement away, 0 if none does.
+// The number of the first test that refuses a rearrangement, 0 if none does.
 fn columns_refusal(width: u32, cells: usize, output: usize) -> u32
     ensures { λ r. ⌜ r ≡ columnsRefusal width cells output ⌝ }
 {
@@ -36,7 +36,7 @@ fn columns_refusal(width: u32, cells: usize, output: usize) -> u32
     0
 }
 
-// Where the block ends that starts at this row.
+// The end of the block that starts at this row.
 fn block_end(start: usize, rows: usize) -> usize
     requires { ⌜ start < rows ⌝ }
     ensures { λ r. ⌜ (start < r) × (r ≤ rows) ⌝ }
@@ -47,7 +47,7 @@ fn block_end(start: usize, rows: usize) -> usize
     start + BLOCK
 }
 
-// The cell above that of a row and column, 0 above the first row.
+// The cell above the cell of a row and column; 0 above the first row.
 fn cell_above(width: usize, column: usize, cells: &[u32], row: usize) -> u32
     requires { ⌜ (column < width) × (row * width ≤ length (now cells)) ⌝ }
     ensures { λ r. ⌜ r ≡ cellAbove width column (now (cells .entry)) row ⌝ }
@@ -59,7 +59,7 @@ fn cell_above(width: usize, column: usize, cells: &[u32], row: usize) -> u32
     cells[at - width]
 }
 
-// A column of a block, to column order.
+// Rearranges a column of a block to column order.
 fn difference_column(
     width: usize,
     rows: usize,
@@ -83,7 +83,7 @@ fn difference_column(
     }
 }
 
-// A column of a block, back to row order.
+// Rearranges a column of a block back to row order.
 fn sum_column(
     width: usize,
     rows: usize,
@@ -106,7 +106,7 @@ fn sum_column(
     }
 }
 
-// A column of a block, in the direction asked for.
+// Rearranges a column of a block, in either direction.
 fn rearrange_column(
     back: bool,
     width: usize,
@@ -127,7 +127,7 @@ fn rearrange_column(
     }
 }
 
-// A block, column by column.
+// Rearranges a block, column by column.
 fn rearrange_block(
     back: bool,
     width: usize,
@@ -147,7 +147,7 @@ fn rearrange_block(
     }
 }
 
-// All rows, block by block.
+// Rearranges all rows, block by block.
 fn rearrange_rows(back: bool, width: usize, rows: usize, cells: &[u32], output: &mut [u32])
     requires { ⌜ Shaped width rows (now cells) (now output) ⌝ }
     ensures { λ _. ⌜ Filled (ordered back width (now (cells .entry))) (placed back width rows) 0 rows 0 width (now (output .entry)) (now (output .exit)) ⌝ }
@@ -160,7 +160,7 @@ fn rearrange_rows(back: bool, width: usize, rows: usize, cells: &[u32], output: 
     }
 }
 
-// Both directions.
+// Rearranges in either direction, after the tests.
 fn rearrange(back: bool, width: u32, cells: &[u32], output: &mut [u32]) -> ColumnsAnswer
     ensures { λ r. ⌜ Rearranged (ordered back) width (now (cells .entry)) (now (output .entry)) r (now (output .exit)) ⌝ }
 {
@@ -181,7 +181,7 @@ pub fn to_columns(width: u32, cells: &[u32], output: &mut [u32]) -> ColumnsAnswe
     rearrange(false, width, cells, output)
 }
 
-// The way back from what `to_columns` wrote.
+// The inverse: writes the rows of this width that `to_columns` rearranged.
 pub fn from_columns(width: u32, cells: &[u32], output: &mut [u32]) -> ColumnsAnswer
     ensures { λ r. ⌜ Rearranged fromColumns width (now (cells .entry)) (now (output .entry)) r (now (output .exit)) ⌝ }
 {

@@ -1,11 +1,11 @@
--- A `&κ mut [T]` that is lent again for a lifetime κ′ of a call, and comes back: `Denote/Lend.antt`'s `lends-again` and
--- `comes-back`, of a slice. It says nothing of the crate.
+-- A `&κ mut [T]` that is lent again for a lifetime κ′ of a call, and returned: `Denote/Lend.antt`'s `lends-again` and
+-- `comes-back`, of a slice. It is independent of this crate.
 --     LentAgain      what the holder keeps while the slice is lent again under the name γ₁: the lender's part at κ′, and its
 --                    own borrow at κ, open, with both halves of its ghost variable
 --     lends-again    own (`&κ mut [T]` ((b, o), γ, ys)) ∗ [κ]_q  ⊢ ⇛ ∃ γ₁. own (`&κ′ mut [T]` ((b, o), γ₁, ys)) ∗ LentAgain γ₁
 --     comes-back     given `Room` and that zs is as long as ys:
 --                    [†κ′] ∗ LentAgain γ₁ ∗ finally γ₁ zs  ⊢ ⇛ (own (`&κ mut [T]` ((b, o), γ, zs)) ∗ [κ]_q)
---     lends, gets-back    both as steps of a walk, for a lifetime ν that begins with the one and ends with the other
+--     lends, gets-back    both as steps of a manual proof, for a lifetime ν that begins with the one and ends with the other
 -- Assumes `Given`.
 use mathlib.Core.Path.{_≡_, sym, ap, subst}
 use Prim.Native.Nat.{ℕ}

@@ -1,5 +1,6 @@
--- What a question is lent and passes on: a table's header and rows, a subset's head and ids, and conditions; and the output, that comes and goes. Their
--- machine values, what owning them is, and the steps by which a walk makes what a call is asked of them. Assumes `Given`.
+-- What a query is lent and passes on: a table's header and rows, a subset's head and ids, and conditions; and the output, which is
+-- lent and returned. Their machine values, what owning them is, and the steps by which a manual proof makes what a call requires of
+-- them. Assumes `Given`.
 use Rattle.walks.proofs.Prelude.{refl, ℕ, _<_, _^_, List, [], _∷_, length, URA, named, w64, Val, vint, Lft, Share, GName, Fml, fsep, flft, Heap, Atoms, Given, Goal}
 use Rattle.walks.proofs.Prelude.{Item, Step, step, ‵, _⊛_, _$_, move, drop, split, join, fsplit, fjoin, u32, Is, uint-makes, RefT, now, sliceVal, ShrSlice, MutSlice, Room}
 use package.mir.Syntax.{Width}

@@ -1,5 +1,5 @@
--- A local array whose first elements are lent as a shared slice for a lifetime, and which is room again when that is over. It
--- says nothing of the crate. Assumes `Given`.
+-- A local array whose first elements are lent as a shared slice for a lifetime, and whose memory is free again when that is over.
+-- It is independent of this crate. Assumes `Given`.
 use mathlib.Core.Path.{_≡_, refl, sym}
 use Prim.Native.Nat.{ℕ}
 use mathlib.Core.List.{List, [], _∷_, _++_}

@@ -1,4 +1,4 @@
--- The names that a walk by hand takes from the logic, passed on. It says nothing of its own.
+-- The names that a manual proof takes from the logic, re-exported. It defines nothing of its own.
 pub use mathlib.Core.Path.{_≡_, refl, sym, ap, subst, _∙_}
 pub use Prim.Native.Nat.{ℕ, _<_, _≤_, _^_}
 pub use mathlib.Core.Bool.{Bool, true, false}

@@ -1,5 +1,4 @@
--- Conditions met one after another from the front, and the orders by which the loops that are walked by hand end. Assumes
--- nothing.
+-- Conditions met one after another from the front, and the orders by which the loops with manual proofs end. Assumes nothing.
 use Prim.Native.Nat.{ℕ, zero, suc, _+_, _-_, _<_}
 use mathlib.Core.Path.{_≡_, refl, sym, ap, _∙_}
 use mathlib.Core.Logic.{inl, inr}
@@ -73,14 +72,14 @@ Up n i′ i = n - i′ < n - i
 pub up-wf : (n : ℕ) → WellFounded (Up n)
 up-wf n = InvImage·wf (λ (i : ℕ). n - i) (Nat·lt-wfRel .wf)
 
--- fewer places are left to a sweep, which is a part of a loop's state
+-- fewer places are left to a scan, which is a part of a loop's state
 abbrev pub Fewer : (S : Type 0) → (S → Sweep) → S → S → Type 0
 Fewer S at t′ t = at t′ .end - at t′ .next < at t .end - at t .next
 
 pub fewer-wf : (S : Type 0) (at : S → Sweep) → WellFounded (Fewer S at)
 fewer-wf S at = InvImage·wf (λ (t : S). at t .end - at t .next) (Nat·lt-wfRel .wf)
 
--- what all conditions passing says: they are known, or the row matches
+-- what it means that all conditions pass: they are known, or the row matches
 pub all-known : (h : Header) (rows : List ℕ) (cs : List Constraint) → allPass Known h rows cs ≡ every (known (h .columns)) cs
 unfolding allPass starts passes
 all-known h rows cs = refl

@@ -1,17 +1,17 @@
--- What every walk by hand does, said once, of any function:
+-- The steps that all manual proofs over MIR share, for any function:
 --     Tokens                 the tokens of a call's lifetimes as an entry of the context
 --     env-of, Cells          a function's locals at their blocks, and what is in them as entries of the context, the last first
 --     Asked, Cites           a callee's contract; that a table of calls meets it
---     arg                    a call's next operand is a local, which stands at entry n of the context
+--     arg                    a call's next operand is a local, which is entry n of the context
 --     twice                  what is lent as `&` is had twice
 --     bool-lands             a call's result that is known to be a truth value lands
---     calls, calls-last      a call: what it is asked stands at the head of the context; then come its tokens, its result and the last values of what it was
---                            lent, and what its contract says is learned
+--     calls, calls-last      a call: what it requires is at the head of the context; then come its tokens, its result and the
+--                            last values of what it was lent, and what its contract ensures is known
 --     Value, typed, own      types of plain values: their machine values are of their types, and owned for nothing. By kind: struct-value, enum-value
---     value-lands, value-settles    one that a call answers lands: its machine value is known, and it is in range
---     Passed s k             all that a walk is to know of a parameter: what is had of it at exit, and its machine values.
+--     value-lands, value-settles    one that a call returns lands: its machine value is known, and it is in range
+--     Passed s k             all that a manual proof needs of a parameter: what is had of it at exit, and its machine values.
 --                            By kind: by-value, lent-slice, kept-slice, given-slice
---     walk-runs              from the walk of a function's MIR to its theorem
+--     walk-runs              from the manual proof over a function's MIR to its theorem
 -- Assumes `Given`.
 use Rattle.walks.proofs.Prelude.{_≡_, refl, ap, subst, _∙_, ℕ, Bool, List, [], _∷_, URA, fullShare, Body, Place, Ty, Operand, call, seq, Val, vbool, SProp, ent, id⊢, Lft, Share, ftrue, flft, fat, froom, fdies, Heap, Calls, Env, Loops, WpFn, Atoms, Fun, givenOf, tables, tablesOf, Given, Goal}
 use Rattle.walks.proofs.Prelude.{Item, Post, Seq, Step, lands, regoal, runs, settles, step, ‵, raw, _⊛_, some, later, _$_, move, use1, split, pick, await, Opds, look, stop, from, load, and-then, FmC, bool, yes, Is, shows, RattleType, RefT, plain, ShrSlice, facts, owned, only, Clauses, onEntry}
@@ -83,7 +83,7 @@ module _ {M : Type 1} (𝓤 : URA M) (H : Heap 𝓤) (A : Atoms 𝓤) where
     abbrev pub Cites : Calls 𝓤 H → Name → Type 1
     Cites C f = Triple 𝓤 (C f) Asked
 
-    -- what the contract says of a result and of last values
+    -- what the contract ensures for a result and for last values
     abbrev pub Ensures : (y : Asked .Ghost) → Res (T .signature) (y .0 .0) → Lasts T (y .0 .0) (y .0 .3) → SProp 𝓤
     Ensures y r ws = c (y .0 .0) (y .0 .3) .ensures (y .1) r (atExit T (y .0 .0) (y .0 .3) ws)
 
@@ -203,7 +203,7 @@ module _ (T : Ended) (ps : AllPassed (T .signature .params) (T .kept)) where
   passed-vals κs a = valss (typesAt (T .signature .params) κs) (spells (T .signature .params) (T .kept) ps κs) a
 
   module _ {M : Type 1} (𝓤 : URA M) (H : Heap 𝓤) (A : Atoms 𝓤) (c : Clauses 𝓤 T) where
-    -- where a walk ends
+    -- where a symbolic execution ends
     abbrev pub Walked : Contract 𝓤
     Walked = walkOf 𝓤 H A T (stays (T .signature .params) (T .kept) ps) c
 

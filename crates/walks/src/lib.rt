@@ -1,5 +1,5 @@
-// The walk behind every question: conditions one after another for each row, rows one after another for each question. Each
-// condition and each row is handed on by value to a step of `query_scan`.
+// The loops of every query: over the rows and, for each row, over the conditions. Each condition and each row is passed by value to
+// a step of `query_scan`.
 ghost use mathlib.Core.Path.{_≡_};
 ghost use lib.ListN.{length};
 ghost use Rattle.offsets.specs.Answers.{subsetOf};
@@ -15,7 +15,7 @@ use query_scan::passes_test;
 use query_scan::step;
 use table::Header;
 
-// All conditions pass: up to the first that does not, and none for a dead row.
+// Whether all conditions pass. Stops at the first that does not; for a dead row tests none.
 pub fn all_pass(test: Test, h: Header, rows: &[u32], conditions: &[Constraint]) -> bool
     requires { ⌜ RowNeeded test h (length (now rows)) ⌝ }
     ensures { λ r. ⌜ r ≡ allPass test h (now (rows .entry)) (now (conditions .entry)) ⌝ }
@@ -29,7 +29,7 @@ pub fn all_pass(test: Test, h: Header, rows: &[u32], conditions: &[Constraint]) 
     ok
 }
 
-// A question: refused, or its places swept, each by all conditions.
+// Runs a query: refused, or its places scanned, each by all conditions.
 pub fn ask(
     question: Question,
     h: Header,

@@ -1,5 +1,5 @@
--- `condition_lists::refine_first` meets its contract: a walk of its MIR, by hand. The array is copied to a local, whose first
--- conditions are lent for a lifetime that the walk makes; out is given up to the question. Assumes nothing.
+-- `condition_lists::refine_first` meets its contract: a manual proof over its MIR. The array is copied to a local, whose first
+-- conditions are lent for a lifetime that the proof makes; out is given up to the query. Assumes nothing.
 use Rattle.walks.proofs.Prelude.{_≡_, refl, sym, ℕ, _≤_, List, [], _∷_, lit<, length, URA, fullShare, Ty, erased, imm, named, tyRef, w64, Val, vint, SProp, ent, id⊢, Lft, Share, GName, flft, fat, froom, Memory, Routine, Heap, Tables, WpFn, Atoms, Fun, givenOf, tables, tablesOf}
 use Rattle.walks.proofs.Prelude.{Given, ‵, raw, _⊛_, ⋆, some, later, _$_, _∵_, !, qed, move, keep, drop, group, use1, use2, split, join, pick, rewrite, fsplit, fjoin, feqL, suffices, frame, await, done, agg, whole, sub, look-in, look, init, forget, stop, hop, fld, from}
 use Rattle.walks.proofs.Prelude.{load, addr, of-opd, and-then, no-more, assigns, land, returns, enter, alloc1, alloc0, params1, pass1, pass0, free1, free0, lft-new, lft-end, fmOf, u32, usize, Is, shows, pointee, RattleType, RefT, now, sliceTy, sliceVal, Room, peeks, nothing, only, Clauses, onEntry, cited, says, needs, ends-at}
@@ -105,15 +105,15 @@ module _ {M : Type 1} (𝓤 : URA M) (H : Heap 𝓤) (A : Atoms 𝓤) (W : Given
         -- [what is lent as `&`, twice; what out owns; true; what is kept; ν's token; _12; …; the tokens]
         move ! (31 ∷ []) $ split ! $ move ! (1 ∷ []) $ split ! $ move ! (1 ∷ []) $ split ! $ move ! (3 ∷ 2 ∷ 9 ∷ []) $ together (p ν l₈ γ) ! $
         move ! (0 ∷ 3 ∷ 1 ∷ 5 ∷ []) $ group ! 4 $ use1 W (raw (Asked 𝓤 H A ask.ended asking .pre (to (p ν l₈ γ)))) (asks (p ν l₈ γ) is) $
-        -- [what `refine_ref` asks; true; what is lent as `&`; true; what is kept; _12; …]
+        -- [what `refine_ref` requires; true; what is lent as `&`; true; what is kept; _12; …]
         calls ask.ended asking (to (p ν l₈ γ)) (λ r zs. RefinedList h (now rows) (subsetOf head (now ids)) (take k cs) (now z) r (zs .1 .1 .1 .1 .1 .0)) (λ r zs. id⊢ 𝓤 _) ! (fmOf 𝓤 H (W .laws) 𝓣) known (arg ! 26 refl (arg ! 24 refl (arg ! 22 refl (arg ! 20 refl (arg ! 9 refl (arg ! 5 refl (no-more !))))))) (λ w r zs e.
         move ! (2 ∷ []) $ fsplit ! $ drop ! $ fsplit ! $ drop ! $ fsplit ! $ drop ! $ fsplit ! $ drop ! $ fsplit ! $ drop ! $ fsplit ! $ fsplit ! $ move ! (1 ∷ []) $ feqL ! (λ l. move ! (3 ∷ []) $ peeks ! AT.the-row (Is AT.the-row) (shows 𝓤 H A AT.the-row) r (w ∷ []) (λ is-r.
         -- [the result; the last list; true; the tokens; true; what is lent as `&`; true; what is kept; _12; …]
         land ! (from ! (stop !)) (init ! 31 refl (EL.lawful AT.the-type AT′.the-laws 𝓤 H A W tt .typed r _ is-r .0)) $
-        -- the lifetime is ended, and the array's local is room again
+        -- the lifetime is ended, and the memory of the array's local is free again
         move ! (3 ∷ []) $ tokens-off (p ν l₈ γ) ! $ split ! $ move ! (1 ∷ []) $ split ! $ move ! (1 ∷ []) $ lft-end ! tt $
         move ! (0 ∷ 10 ∷ []) $ use2 W (later (‵ (froom (tyArray (lone (CT.the-row .mir)) 16) l₈ 0))) (front-back CT.the-row k l₈ cs 𝓤 H A W 16 (ν ∷ []) long) $ await ! tt $
-        -- [room for _8; κ₁'s token, κ₀'s, κ's; the result; the last list; true; true; what is lent as `&`; true; _12; …]
+        -- [the memory of _8; κ₁'s token, κ₀'s, κ's; the result; the last list; true; true; what is lent as `&`; true; _12; …]
         returns ! (look ! 33 refl) $ forget ! 10 refl $ forget ! 12 refl $ forget ! 14 refl $ forget ! 16 refl $ forget ! 19 refl $ forget ! 21 refl $ forget ! 23 refl $ forget ! 25 refl $ forget ! 27 refl $ forget ! 29 refl $ forget ! 31 refl $ forget ! 33 refl $
         move ! (33 ∷ 34 ∷ []) $ free1 ! $ move ! (31 ∷ 32 ∷ []) $ free1 ! $ move ! (29 ∷ 30 ∷ []) $ free1 ! $ move ! (27 ∷ 28 ∷ []) $ free1 ! $ move ! (25 ∷ 26 ∷ []) $ free1 ! $ move ! (23 ∷ 24 ∷ []) $ free1 ! $ move ! (21 ∷ 22 ∷ []) $ free1 ! $ move ! (19 ∷ 20 ∷ []) $ free1 ! $ move ! (0 ∷ 18 ∷ []) $ free1 ! $ move ! (15 ∷ 16 ∷ []) $ free1 ! $ move ! (13 ∷ 14 ∷ []) $ free1 ! $ move ! (11 ∷ 12 ∷ []) $ free1 ! $ move ! (9 ∷ 10 ∷ []) $ free1 ! $ free0 ! $
         suffices ! _ (ends-at 𝓤 H A f.ended (stays (f.ended .signature .params) (f.ended .kept) params) clauses W y w r (tt, (tt, (tt, (tt, (tt, (tt, (zs .1 .1 .1 .1 .1 .0, tt))))))) (tt, (tt, (tt, (tt, (tt, (tt, (l, tt)))))))) $ says ! e $

@@ -1,5 +1,5 @@
--- `insertions::insert_all` meets its contract. The loop's invariant: what all inserts come to is what those of the records
--- still to come do from here. Assumes nothing.
+-- `insertions::insert_all` meets its contract. The loop's invariant: the result of all inserts is that of the remaining records
+-- from here. Assumes nothing.
 use Prim.Native.Nat.{_-_}
 use native.Mathlib.Omega.{arith}
 use Rattle.insertions.proofs.PassInserts.{Filling, filling-begin, filling-long, filling-inside, filling-requires, filling-again, filling-stop, filling-end}

@@ -1,4 +1,4 @@
--- What all inserts of a merge promise. Assumes nothing.
+-- Contract of all inserts of a merge. Assumes nothing.
 use Prim.Native.Nat.{ℕ, _+_, _≤_, _<_}
 use mathlib.Core.Path.{_≡_}
 use mathlib.Core.Bool.{Bool, false}
@@ -13,7 +13,7 @@ use Rattle.table.specs.Numbers.{openingOf}
 use Rattle.table.specs.Promises.{Stores, stores, Represents, SlotsPast}
 use Rattle.merge_pending.specs.inner.Becoming.{Becomes, Recounted, Ready, Waiting, Left}
 
--- a row was appended
+-- whether a row was appended
 abbrev pub hasAdded : Passed → Bool
 hasAdded m = eqb (m .added) 1
 
@@ -30,19 +30,19 @@ pub record Insertions (h : Header) (rows keys sorts pending : List ℕ) (m : Pas
   pub table : (p : Plain) → Represents p (stores h rows keys sorts pending)
       → InsertedTable p (stores h rows keys sorts pending) (stores (m .header) rows′ keys′ sorts′ pending) m
 
--- of the records that wait, those from a place on have all the inserts
+-- of the pending records, those from a place on include all inserts
 pub record FirstInsert (h : Header) (pending : List ℕ) (at : ℕ) : Type 0 where
   pub inside : at ≤ h .pending
   pub left : (records : List Staged) → Waiting (openingOf h) pending (h .pending) 0 records → Left h pending 0 at records
 
--- numbers within their bounds, and the record at a place whole if it is an insert
+-- numbers within their bounds, and the record at a place is complete if it is an insert
 pub record InsertNext (m : Passed) (rows keys sorts pending : List ℕ) (at : ℕ) : Type 0 where
   pub ready : Ready (m .header) rows keys sorts pending
   pub inside : at < m .header .pending
   pub whole : getD pending at 0 ≡ 0 → at + (m .header .columns + 2) ≤ m .header .pending
   pub place-fits : m .place ≤ at
 
--- what the inserts from a place on come to is what those after it come to, if it does not stop the merge
+-- the result of the inserts from a place on is that of the inserts after it, if the first one does not stop the merge
 pub record InsertGoes (m : Passed) (r : Passed) (one : Staged) (rest : List Staged) (p : Plain) (s s′ : Stores) : Type 0 where
   pub next : Plain
   pub steps : Becomes p next s s′

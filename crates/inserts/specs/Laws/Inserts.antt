@@ -1,5 +1,5 @@
--- One insert of a merge: what its parts did to the stores is what the plain table's insertion does. Its ways are told apart
--- first, then the row made and the key store afterwards, and last the insert's contract for each way. Assumes nothing.
+-- One insert of a merge: the effect of its parts on the stores is that of the plain table's insertion. First come the cases of an
+-- insertion, then the row made and the key store afterwards, then the contract of the insert for each case. Assumes nothing.
 use Prim.Native.Nat.{ℕ, zero, suc, _+_, _*_, _≤_, _<_}
 use mathlib.Core.Path.{_≡_, refl, sym, ap, ap₂, _∙_}
 use mathlib.Core.Logic.{inl, inr}
@@ -55,7 +55,7 @@ use Rattle.merge_append.specs.Laws.Growth.{prepared-same, prepared-dead, grown-
 keys-same : {p : Plain} {s : Stores} → Represents p s → s .header .keys ≡ p .opening .keys
 keys-same r = ap (λ (h : Header). h .keys) (r .shown .header)
 
--- ---- the plain table's insertion, way by way
+-- ---- the plain table's insertion, case by case
 
 module _ (cells : List ℕ) (p : Plain) where
   -- "An insert with a dead first cell is skipped"
@@ -102,7 +102,7 @@ module _ (cells : List ℕ) (p : Plain) (rows : List Row) where
 
 -- ---- the row made
 
--- for rules 0 and 1 too it is what the rule makes
+-- for rules 0 and 1 too, it is the row that the rule makes
 pub row-made : (h : Header) (old new : List ℕ) → length old ≡ length new → take (h .keys) old ≡ take (h .keys) new → Changes h old new ≡ true
     → rowMade h old new ≡ madeFrom (h .rule) (h .keys) (h .sort) 0 old new
 unfolding rowMade
@@ -116,7 +116,7 @@ row-made h old new n k c =
       | inr e ↦ rw e
     ]
 
--- as wide as the two, on any stores
+-- it is as wide as the two rows, on any stores
 pub length-made : (h : Header) (old new : List ℕ) → length old ≡ length new → length (rowMade h old new) ≡ length old
 unfolding rowMade
 length-made h old new n =
@@ -128,7 +128,7 @@ length-made h old new n =
 -- ---- the key store
 
 module _ (w n : ℕ) (base cells : List ℕ) (width : length cells ≡ w) (fits : n * w + length cells ≤ length base) where
-  -- the rows before an appended one, and that one
+  -- the rows before an appended row, and that row
   rowAt-before : (i : ℕ) → i < n → rowAt w i (putAt base (n * w) cells) ≡ rowAt w i base
   unfolding rowAt
   rowAt-before i h = part-before base cells (n * w) fits (i * w) w (row-in i n w h)
@@ -138,7 +138,7 @@ module _ (w n : ℕ) (base cells : List ℕ) (width : length cells ≡ w) (fits 
   rowAt-new = ap (λ (k : ℕ). take k (drop (n * w) (putAt base (n * w) cells))) (sym width) ∙ part-putAt base cells (n * w) fits
 
 module _ (w old : ℕ) (rows : List ℕ) (some : 0 < w) where
-  -- the row that is marked, and the others
+  -- the row that is marked dead, and the others
   rowAt-marked : rowAt w old (set rows (old * w) 4294967295) ≡ set (rowAt w old rows) 0 4294967295
   rowAt-marked = ap (λ (k : ℕ). rowAt w old (set rows k 4294967295)) (sym (add-zero (old * w))) ∙ rowAt-set-same w old 0 rows 4294967295 some
 
@@ -147,7 +147,7 @@ module _ (w old : ℕ) (rows : List ℕ) (some : 0 < w) where
       ap (λ (k : ℕ). rowAt w i (set rows k 4294967295)) (sym (add-zero (old * w)))
       ∙ rowAt-set-other w old i 0 rows 4294967295 (λ q. ne (sym q)) some
 
--- in the same room
+-- with the same number of slots
 room-same : (h : Header) → outgrown h ≡ false → roomFor (h .capacity) (h .rows + 1) ≡ roomFor (h .capacity) (h .rows)
 unfolding outgrown
 room-same h o = eqb-true _ _ (not-false _ o)
@@ -165,15 +165,15 @@ module _ (h : Header) (rows keys cells : List ℕ) (hash : ℕ) (fits : Fits (wh
   cells-in : h .rows * h .columns + length cells ≤ length rows
   cells-in = omega (arith, row-in (h .rows) (h .capacity) (h .columns) room, fits .cells, width)
 
-  -- what the slots in use fit
+  -- the slots in use fit
   used-fits : Fits (keyedOf h) rows keys
   used-fits = whole-fits h rows keys fits
 
-  -- they have room for the row, unless it takes more
+  -- there is a slot for the row, unless it needs more slots
   has-room : outgrown h ≡ false → h .rows < roomFor (h .capacity) (h .rows)
   has-room o = omega (arith, room-same h o, room-enough (h .capacity) (h .rows + 1) (omega (arith, room)) (fits .most))
 
-  -- a new key's row
+  -- the row of a new key
   new-keys : hash ≡ compact (keyHash (take (h .keys) cells)) → outgrown h ≡ false → (r : Bool) (keys′ : List ℕ) → PutIs (slots (keyedOf h)) keys hash (h .rows) r keys′
       → KeysSound (keyedOf (grownTo h d e v)) (putAt rows (h .rows * h .columns) cells) keys′
   new-keys hash-is o r keys′ put-is =
@@ -186,7 +186,7 @@ module _ (h : Header) (rows keys cells : List ℕ) (hash : ℕ) (fits : Fits (wh
       (hash-is ∙ ap (λ (l : List ℕ). compact (keyHash (take (h .keys) l))) (sym new))
       put-is
 
-  -- a known key's
+  -- the row of a known key
   known-keys : (key : List ℕ) → hash ≡ compact (keyHash key) → outgrown h ≡ false → take (h .keys) cells ≡ key → (old slot : ℕ) → FoundAt (keyedOf h) rows keys key old slot
       → (keys′ : List ℕ) → keys′ ≡ set keys slot (tagged hash (h .rows))
       → KeysSound (keyedOf (grownTo h d e v)) (putAt (set rows (old * h .columns) 4294967295) (h .rows * h .columns) cells) keys′
@@ -207,12 +207,12 @@ module _ (h : Header) (rows keys cells : List ℕ) (hash : ℕ) (fits : Fits (wh
       (ap (take (h .keys)) new ∙ key-is ∙ sym (found .key-is)))
       found hash-is keys-is
 
--- the key store leads to the rows with the new one, once that has stepped in or all are put anew
+-- the key store refers to all rows including the new one, after its entry is added or the store is rebuilt
 led : {h h′ : Header} {rows′ keys : List ℕ} {Entry : Type 0} {keys′ : List ℕ} → Leading h h′ rows′ keys Entry keys′
     → (outgrown h ≡ false → Entry → KeysSound (keyedOf h′) rows′ keys′) → KeysSound (keyedOf h′) rows′ keys′
 led {h} l steps = elim (split (outgrown h)) [ inl o ↦ l .more o | inr o ↦ steps o (l .stepped o) ]
 
--- ---- what an insert promises
+-- ---- the contract of an insert
 
 headerIn : Header → Insertion → Header
 headerIn d Kept = d
@@ -229,7 +229,7 @@ kept-no h e = let z : _≡_ {A = ℕ} 0 1 = cc in omega arith
 stopped-no : (n : ℕ) (h : Header) → _≡_ {A = Insertion} (Stopped n) (Appended h) → ⊥
 stopped-no n h e = let z : _≡_ {A = ℕ} 0 1 = cc in omega arith
 
--- the counts with a row more still fit
+-- the counts with one more row still fit
 recounted : (h : Header) (d e v : ℕ) → h .rows < h .capacity → h .entries ≤ h .rows → e ≤ h .entries + 1 → d ≤ h .dead + 1
     → Recounted h (grownTo h d e v)
 recounted h d e v room few k l =
@@ -320,7 +320,7 @@ module _ (h : Header) (rows keys sorts cells : List ℕ) (hash : ℕ) where
           made-key : take (h .keys) (rowMade h (rowAt (h .columns) old rows) cells) ≡ take (h .keys) cells
           made-key = rw row-is (made-keys (h .rule) (h .keys) (h .sort) (rowAt (h .columns) old rows) cells old-wide (there .key-is) ∙ there .key-is)
 
-          -- the stores once it is appended and the old row is dead
+          -- the stores after the row made is appended and the old row is dead
           replaced-steps : (h′ : Header) (rows′ keys′ sorts′ : List ℕ) → Replaced h rows keys sorts (rowMade h (rowAt (h .columns) old rows) cells) hash old slot h′ rows′ keys′ sorts′
               → Comes p cells (stores h rows keys sorts pending) rows′ keys′ sorts′ (Appended h′)
           replaced-steps h′ rows′ keys′ sorts′ g =
@@ -338,7 +338,7 @@ module _ (h : Header) (rows keys sorts cells : List ℕ) (hash : ℕ) where
                     (known-keys h rows keys row hash fits (g .entered .room) made-wide (r .keyed) made-live (h .dead + 1) (h′ .entries) (getD row (h .sort) 0) (take (h .keys) cells) hash-is o made-key old slot there keys′ keys-is))))),
               )
 
-      -- the stores once a new key's row is appended
+      -- the stores after the row of a new key is appended
       grew-steps : f ≡ None → (h′ : Header) (rows′ keys′ sorts′ : List ℕ) → Grew h rows keys sorts cells hash h′ rows′ keys′ sorts′
           → Comes p cells (stores h rows keys sorts pending) rows′ keys′ sorts′ (Appended h′)
       grew-steps e h′ rows′ keys′ sorts′ g =

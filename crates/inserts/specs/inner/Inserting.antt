@@ -1,4 +1,4 @@
--- What one insert of a merge promises. Assumes nothing.
+-- Contract of one insert of a merge. Assumes nothing.
 use Prim.Native.Nat.{ℕ, _<_}
 use mathlib.Core.Path.{_≡_}
 use mathlib.Core.List.{List}
@@ -12,14 +12,14 @@ use Rattle.merge_append.specs.declared.Insertion.the-variants.{Kept, Appended, 
 use Rattle.table.specs.Promises.{Stores, stores, Represents, SlotsPast}
 use Rattle.merge_pending.specs.inner.Becoming.{Becomes, Recounted, hashOf}
 
--- what an insert's answer says of the plain table's insert
+-- the answer of an insert, in terms of the plain table's insertion
 abbrev pub Comes : Plain → List ℕ → Stores → List ℕ → List ℕ → List ℕ → Insertion → Type 0
 Comes p cells s rows′ keys′ sorts′ Kept = insertion cells p ≡ accepted none
 Comes p cells s rows′ keys′ sorts′ (Appended h′) =
     (p′ : Plain) × (insertion cells p ≡ accepted (some p′)) × Becomes p p′ s (stores h′ rows′ keys′ sorts′ (s .pending))
 Comes p cells s rows′ keys′ sorts′ (Stopped n) = (insertion cells p ≡ refused n) × (0 < n)
 
--- one insert, with its key's hash
+-- one insert, with the hash of its key
 pub record Inserting (h : Header) (rows keys sorts cells : List ℕ) (hash : ℕ) (r : Insertion) (rows′ keys′ sorts′ : List ℕ) : Type 0 where
   pub past : SlotsPast (h .capacity) keys keys′
   pub header : (h′ : Header) → r ≡ Appended h′ → Recounted h h′

@@ -1,4 +1,4 @@
--- What the rule makes of an old and a new row in a merge. Of any stores, sound or not. Assumes nothing.
+-- The row that the rule makes of an old and a new row in a merge. Holds for any stores, sound or not. Assumes nothing.
 use Prim.Native.Nat.{ℕ, _+_, _*_, _≤_}
 use mathlib.Core.Path.{_≡_}
 use mathlib.Core.Bool.{Bool, true, false, cond}
@@ -16,12 +16,12 @@ use Rattle.merge_append.specs.inner.Appending.{Stayed, Replaced}
 abbrev pub Changes : Header → List ℕ → List ℕ → Bool
 Changes h old new = changesFrom (h .rule) (h .keys) (h .sort) 0 old new
 
--- the row to be appended: "For rules 0 and 1 the surviving row"
+-- the row to append: "For rules 0 and 1 the surviving row"
 unfoldable pub rowMade : Header → List ℕ → List ℕ → List ℕ
 rowMade h old new =
     cond (leb (h .rule) 1) (survivor (h .rule) (h .keys) (h .sort) old new) (madeFrom (h .rule) (h .keys) (h .sort) 0 old new)
 
--- both rows lie in their stores, and the row made has a place
+-- both rows are within their stores, and there is room for the row made
 pub record Makeable (h : Header) (rows pending out : List ℕ) (old from : ℕ) : Type 0 where
   pub few-columns : h .columns ≤ 8
   pub few-keys : h .keys ≤ h .columns
@@ -30,12 +30,12 @@ pub record Makeable (h : Header) (rows pending out : List ℕ) (old from : ℕ) 
   pub new-in : from + h .columns ≤ length pending
   pub out-long : length out ≡ 8
 
--- the answer whether a row is made, and the row
+-- the answer, which is whether a row is made, and the row
 pub record MadeIs (h : Header) (rows pending out : List ℕ) (old from : ℕ) (r : Bool) (out′ : List ℕ) : Type 0 where
   pub answer : r ≡ Changes h (rowAt (h .columns) old rows) (take (h .columns) (drop from pending))
   pub row : r ≡ true → out′ ≡ putAt out 0 (rowMade h (rowAt (h .columns) old rows) (take (h .columns) (drop from pending)))
 
--- no row is made, and the stores are as they were
+-- no row is made, and the stores are unchanged
 pub record KeptOld (h : Header) (rows keys sorts cells : List ℕ) (old : ℕ) (rows′ keys′ sorts′ : List ℕ) : Type 0 where
   pub unchanged : Changes h (rowAt (h .columns) old rows) cells ≡ false
   pub same-rows : rows′ ≡ rows

@@ -1,5 +1,5 @@
--- A merge is what its passes leave, with pending emptied and, if it did not stop and that is due, dead rows dropped. Assumes
--- nothing.
+-- A merge is the result of its passes, with pending emptied and, if it did not stop and that is due, dead rows dropped.
+-- Assumes nothing.
 use Prim.Native.Nat.{ℕ}
 use mathlib.Core.Path.{_≡_, sym, ap, ap₂, _∙_}
 use mathlib.Core.Bool.{true, false, cond}
@@ -40,7 +40,7 @@ passes-applied p p₁ p₂ a b c d =
     ∙ removedAll-rows (p₁ .staged) p₁
     ∙ ap₂ (λ (staged : List Staged) (q : Plain). foldl withoutRow q staged) b (a ∙ removedAll-keys (p .staged) p))
 
--- what the three leave
+-- the result of the three passes
 pub passes-table : {p p₁ p₂ : Plain} {s s₁ s₂ s₃ : Stores} {m : Passed} → Represents p s
     → p₁ ≡ removedAll 1 (p .staged) p → Becomes p p₁ s s₁ → p₂ ≡ removedAll 2 (p₁ .staged) p₁ → Becomes p₁ p₂ s₁ s₂ → InsertedTable p₂ s₂ s₃ m
     → AppliedTable p s s₃ m
@@ -54,36 +54,36 @@ passes-table {p} {p₁} {p₂} {s} {s₁} {s₂} {s₃} {m} r a f b g i =
       added = i .added ∙ ap (λ (x : Inserted). x .added) e;
     }
 
--- ---- what follows the passes
+-- ---- after the passes
 
 -- a merge that stopped does not compact
 pub stopped-not : (status : ℕ) (p : Plain) → (status ≡ 0 → ⊥) → compactsAfter status p ≡ false
 unfolding compactsAfter
 stopped-not status p e = rw (ne-eqb status 0 e)
 
--- nor does one that did not, with too few dead rows or no generation left
+-- a merge that did not stop does not compact either, with too few dead rows or no generation left
 pub due-not : (status : ℕ) (p : Plain) → status ≡ 0 → due (dead p) (length (p .rows)) (p .generation) ≡ false → compactsAfter status p ≡ false
 unfolding compactsAfter
 due-not status p e d = rw (eq-eqb status 0 e, d)
 
--- with more it does
+-- with enough dead rows and a generation left it compacts
 pub due-compacts : (status : ℕ) (p : Plain) → status ≡ 0 → due (dead p) (length (p .rows)) (p .generation) ≡ true → compactsAfter status p ≡ true
 unfolding compactsAfter
 due-compacts status p e d = rw (eq-eqb status 0 e, d)
 
--- as many rows as were live are left
+-- the number of remaining rows is the number of live rows
 pub compacted-rows : (p : Plain) → length (compacted (unstaged p) .rows) ≡ liveCount p
 unfolding liveCount unstaged
 compacted-rows p = compacted-live (unstaged p)
 
--- rows that were kept are live: what stood there before makes no difference
+-- rows that were kept are live, so it does not matter what was stored before
 pub compacted-store : (p : Plain) (before : List (List ℕ)) (store : List ℕ) → rowStore (compacted p) [] store ≡ rowStore (compacted p) before store
 unfolding rowStore compacted
 compacted-store p before store =
     let e = every-keep (λ row. row .live) (p .rows) in
     ap (λ (rows : List (List ℕ)). putAt store 0 (flat rows)) (stored-live (compacted p .rows) [] e ∙ sym (stored-live (compacted p .rows) before e))
 
--- a compaction is another generation
+-- a compaction changes the generation
 pub compacted-generation : (p : Plain) → compacted (unstaged p) .generation ≡ p .generation → ⊥
 unfolding compacted unstaged
 compacted-generation p e = omega arith
@@ -94,7 +94,7 @@ module _ {h : Header} {rows keys sorts pending live base : List ℕ} {m : Passed
     (shown : Represents p (stores h rows keys sorts pending))
     (a : AppliedTable p (stores h rows keys sorts pending) (stores (m .header) rows₁ keys₁ sorts₁ pending) m)
     (f : FinishedTable m rows₁ keys₁ sorts₁ live base r rows′ keys′ sorts′ live′ base′ pending (applied p .table)) where
-  -- it leaves the merged table
+  -- the result is the merged table
   merged-finished : finished (m .status) (applied p .table) ≡ merged p .table
   unfolding merged
   merged-finished = ap (λ (status : ℕ). finished status (applied p .table)) (a .status)

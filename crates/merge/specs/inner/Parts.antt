@@ -1,5 +1,5 @@
--- What the two halves of a merge promise: the pending records applied, then pending emptied and the compaction that may
--- follow. Assumes nothing.
+-- Contracts of the two halves of a merge: the pending records are applied; then pending is emptied, and a compaction may follow.
+-- Assumes nothing.
 use Prim.Native.Nat.{ℕ, _≤_}
 use mathlib.Core.Path.{_≡_}
 use mathlib.Core.Bool.{cond}
@@ -16,7 +16,7 @@ use Rattle.merge_pending.specs.inner.Becoming.{Becomes, withCounts}
 
 -- ---- the passes over the pending records
 
--- the table they leave, and what they answer
+-- the table after the passes, and their answer
 pub record AppliedTable (p : Plain) (s s′ : Stores) (m : Passed) : Type 0 where
   pub steps : Becomes p (applied p .table) s s′
   pub status : m .status ≡ applied p .status
@@ -30,18 +30,18 @@ pub record Applying (h : Header) (rows keys sorts pending : List ℕ) (m : Passe
   pub table : (p : Plain) → Represents p (stores h rows keys sorts pending)
       → AppliedTable p (stores h rows keys sorts pending) (stores (m .header) rows′ keys′ sorts′ pending) m
 
--- ---- what follows them
+-- ---- after the passes
 
--- pending is emptied; if the merge did not stop, rows are dropped if that is due
+-- pending is emptied; if the merge did not stop, dead rows are dropped if that is due
 abbrev pub finished : ℕ → Plain → Plain
 finished status p = cond (compactsAfter status p) (compacted (unstaged p)) (unstaged p)
 
--- what the passes came to, with the header that is left, and what was kept and dropped
+-- the result of the passes, with the final header and the numbers of rows kept and dropped
 abbrev pub finishedAs : Passed → Header → ℕ → ℕ → Merge
 finishedAs m h kept dropped =
     record { header = h; status = m .status; place = m .place; added = hasAdded m; kept = kept; dropped = dropped }
 
--- the same of a plain table
+-- the same for a plain table
 abbrev pub answerOf : Passed → Plain → Merge
 answerOf m p =
     finishedAs m (headerOf (finished (m .status) p)) (cond (compactsAfter (m .status) p) (live p) 0) (cond (compactsAfter (m .status) p) (dead p) 0)

@@ -1,5 +1,5 @@
--- A row enters the sort entries, or stops the merge: what the tests and appending an entry leave, said by the stop's number, and
--- that a table that shows a plain table stops where the plain one does. Assumes nothing.
+-- The sort entry of a row, or the stop of the merge: the result of the tests and of appending an entry, by the number of the stop;
+-- and that a table stops exactly where the plain table that it represents does. Assumes nothing.
 use Prim.Native.Nat.{ℕ, _+_, _*_, _≤_, _<_}
 use mathlib.Core.Path.{_≡_, sym, ap, _∙_}
 use mathlib.Core.Logic.{inl, inr}
@@ -25,12 +25,12 @@ use Rattle.merge_append.specs.inner.Appending.{stopAt, Enterable, Stops,
 use Rattle.table.specs.Laws.Sound.{says-of}
 
 module _ (h : Header) (value : ℕ) where
-  -- 8
+  -- stop 8
   pub stops-full : h .capacity ≤ h .rows → Stops h value 8
   unfolding stopAt first
   stops-full k = record { number = rw (le-leb _ _ k); some = omega arith }
 
-  -- 9
+  -- stop 9
   pub stops-old : h .rows < h .capacity → below value (largestSays (h .largest)) ≡ true → Stops h value 9
   unfolding stopAt first
   stops-old k e = record { number = rw (lt-leb _ _ k, e); some = omega arith }
@@ -39,13 +39,13 @@ module _ (h : Header) (value : ℕ) where
   unfolding stopAt first
   stops-not k e = rw (lt-leb _ _ k, e)
 
-  -- where there is no stop, the value is not below the largest
+  -- without a stop, the value is not below the largest
   pub free-above : stopAt h value ≡ 0 → below value (largestSays (h .largest)) ≡ false
   unfolding stopAt
   free-above e = first-no _ 8 _ (first-rest _ 7 _ e)
 
 module _ (h : Header) (sorts : List ℕ) (value : ℕ) where
-  -- there is place for an entry
+  -- there is room for an entry
   pub room-of : Enterable h sorts → h .rows < h .capacity → Room sorts (h .entries)
   room-of f k = record { few = omega (arith, f); words = omega (arith, f) }
 
@@ -58,7 +58,7 @@ module _ (h : Header) (sorts : List ℕ) (value : ℕ) where
           | inr e ↦ rw e
         ]
 
-    -- the entries with the next row's
+    -- the entries including the next row's
     pub admit-entered : below value (largestSays (h .largest)) ≡ false → Entered h sorts value n sorts′
     admit-entered e =
         let few : n ≤ h .entries + 1 = append-few sorts (h .entries) value (h .rows) n sorts′ a in
@@ -74,7 +74,7 @@ module _ (h : Header) (sorts : List ℕ) (value : ℕ) where
           same = length-after;
         }
 
--- a table that shows a plain table stops where that does
+-- a table stops exactly where the plain table that it represents does
 pub stop-same : {p : Plain} {s : Stores} → Represents p s → (cells : List ℕ) → stop cells p ≡ stopAt (s .header) (getD cells (s .header .sort) 0)
 unfolding stop stopAt
 stop-same {p} {s} r cells = rw (r .shown .header, says-of (p .largest))

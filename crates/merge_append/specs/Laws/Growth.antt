@@ -1,5 +1,5 @@
--- A row is appended to the rows of a plain table, of which one may have died: what its stores hold then, and that they show
--- the table with the row. Assumes nothing.
+-- A row is appended to the rows of a plain table, of which one may have died: the stores after that, and that they represent the
+-- table with the row. Assumes nothing.
 use Prim.Native.Nat.{ℕ, _+_, _*_, _≤_, _<_}
 use mathlib.Core.Path.{_≡_, refl, sym, ap, ap₂, _∙_}
 use mathlib.Core.Bool.{true, cond, not}
@@ -36,7 +36,7 @@ use Rattle.table.specs.Laws.Stored.{stored-again}
 use Rattle.table.specs.Laws.Shown.{long-stores, stored-rows, represents-long, rows-stored, rows-counted}
 use Rattle.merge_pending.specs.Laws.Dying.{killAt, length-killAt, killAt-cells, killAt-live, entries-killAt, stored-killAt}
 
--- ---- one row more
+-- ---- one more row
 
 -- as stored
 pub stored-snoc : (rows : List Row) (cells : List ℕ) (before : List (List ℕ)) → length before ≡ length rows
@@ -58,16 +58,16 @@ entries-snoc p rows cells =
     ∙ rebuilt-snoc (map sorts rows) (getD cells (p .opening .sort) 0)
     ∙ ap (λ (n : ℕ). push (getD cells (p .opening .sort) 0) n (rebuilt (map sorts rows))) (length-map rows sorts)
 
--- no dead row more
+-- the number of dead rows is unchanged
 pub dead-snoc : (p : Plain) (rows : List Row) (cells : List ℕ) → dead (withRow p rows cells) ≡ dead (withRows p rows)
 unfolding dead
 dead-snoc p rows cells =
     count-append (λ (row : Row). not (row .live)) rows (liveRow cells ∷ [])
     ∙ unfold count in add-zero (count (λ (row : Row). not (row .live)) rows)
 
--- ---- the rows that it comes after
+-- ---- the rows before it
 
--- the rows, some dead now, and the row store in which those are marked
+-- the rows, some of which may have died, and the row store with the dead ones marked
 pub record Prepared (p : Plain) (s : Stores) (kept : List Row) (base : List ℕ) : Type 0 where
   pub count-same : length kept ≡ length (p .rows)
   pub cells-same : (i : ℕ) → getD kept i noRow .cells ≡ getD (p .rows) i noRow .cells
@@ -87,7 +87,7 @@ module _ {p : Plain} {s : Stores} (r : Represents p s) where
   some-columns : 0 < s .header .columns
   some-columns = omega (arith, columns-same, openable-bounds (p .opening) (r .proper .numbers) .columns-some)
 
-  -- all rows as they were
+  -- all rows are unchanged
   pub prepared-same : Prepared p s (p .rows) (s .rows)
   unfolding entries
   prepared-same =
@@ -101,7 +101,7 @@ module _ {p : Plain} {s : Stores} (r : Represents p s) where
         long = refl;
       }
 
-  -- one has died
+  -- one row has died
   pub prepared-dead : (i : ℕ) → rowOf p i .live ≡ true → Prepared p s (killAt i (p .rows)) (set (s .rows) (i * s .header .columns) 4294967295)
   prepared-dead i live =
       let w : ℕ = s .header .columns in
@@ -121,12 +121,12 @@ module _ {p : Plain} {s : Stores} (r : Represents p s) where
         long = length-set (s .rows) (i * w) 4294967295;
       }
 
-  -- the row and those before it lie in the store
+  -- the row and those before it are within the store
   pub row-fits : s .header .rows < s .header .capacity → s .header .rows * s .header .columns + s .header .columns ≤ length (s .rows)
   row-fits room =
       omega (arith, row-in (s .header .rows) (s .header .capacity) (s .header .columns) room, rw (← capacity-same, ← columns-same) at (represents-long r .rows-long))
 
--- ---- the stores with it
+-- ---- the stores with the row
 
 module _ {p : Plain} {s : Stores} (r : Represents p s) {kept : List Row} {base : List ℕ} (q : Prepared p s kept base) (cells : List ℕ)
     (width : length cells ≡ s .header .columns) (room : s .header .rows < s .header .capacity) where
@@ -147,7 +147,7 @@ module _ {p : Plain} {s : Stores} (r : Represents p s) {kept : List Row} {base :
       ∙ ap (drop (length cells)) (sym (q .past))
       ∙ drop-drop (length cells) (s .header .rows * s .header .columns) base
 
-  -- of the row store the row's cells change
+  -- in the row store only the row's cells change
   pub grown-store : rowStore (withRow p kept cells) (rowsOf (s .header .columns) (s .header .rows) (s .rows)) (s .rows)
       ≡ putAt base (s .header .rows * s .header .columns) cells
   unfolding rowStore
@@ -162,12 +162,12 @@ module _ {p : Plain} {s : Stores} (r : Represents p s) {kept : List Row} {base :
       let k : (s .header .rows + 1) * s .header .columns ≤ length base = rw (add-one, suc-mul) (omega (arith, row-fits r room, q .long)) in
       rowsOf-appended (s .header .columns) (s .header .rows) base cells width k ∙ sym stored-grown
 
-  -- the rows are shown
+  -- the row store represents the rows
   grown-shown : stored (kept ++ (liveRow cells ∷ [])) (rowsOf (s .header .columns) (s .header .rows + 1) (putAt base (s .header .rows * s .header .columns) cells))
       ≡ rowsOf (s .header .columns) (s .header .rows + 1) (putAt base (s .header .rows * s .header .columns) cells)
   grown-shown = rw rows-grown (stored-again (kept ++ (liveRow cells ∷ [])) (rowsOf (s .header .columns) (s .header .rows) (s .rows)))
 
-  -- the sort entries have the row's
+  -- the sort entries include the row's
   grown-entries : entries (withRow p kept cells) ≡ push (getD cells (s .header .sort) 0) (s .header .rows) (entriesOf (s .header .entries) (s .sorts))
   grown-entries =
       let sort-same : p .opening .sort ≡ s .header .sort = sym (ap (λ (h : Header). h .sort) (r .shown .header)) in

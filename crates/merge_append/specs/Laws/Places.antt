@@ -9,7 +9,7 @@ use Rattle.key_index.specs.inner.Index.{Fits}
 use Rattle.table.specs.declared.Header.{Header}
 use Rattle.table.specs.inner.Whole.{wholeOf}
 
--- a row's place is a number that fits, and its cells lie in the store
+-- a row's place is a number that fits, and its cells are within the store
 pub record Placed (h : Header) (rows : List ℕ) (i : ℕ) : Type 0 where
   pub few : i ≤ 65536
   pub small : i * h .columns ≤ 524288

@@ -1,5 +1,5 @@
--- What the parts of an append promise: a row enters the sort entries or stops the merge, is appended for a new key, or replaces
--- the old one of a known key. Of any stores, sound or not. Assumes nothing.
+-- Contracts of the parts of an append: a row adds its sort entry or stops the merge, is appended for a new key, or replaces the old
+-- row of a known key. They hold for any stores, sound or not. Assumes nothing.
 use Prim.Native.Nat.{ℕ, _+_, _*_, _≤_, _<_}
 use mathlib.Core.Path.{_≡_}
 use mathlib.Core.Bool.{Bool, true, false, not}
@@ -26,14 +26,14 @@ use Rattle.table.specs.inner.Whole.{wholeOf}
 use Rattle.table.specs.Promises.{SlotsPast}
 use Rattle.merge_pending.specs.inner.Becoming.{withCounts}
 
--- ---- a row enters the sort entries
+-- ---- the sort entry of a row
 
 -- "8, row count equals capacity, tested before 9", "a sort value below that kept value"; 0 if neither
 unfoldable pub stopAt : Header → ℕ → ℕ
 stopAt h value =
     first (rung (leb (h .capacity) (h .rows)) 8 ∷ rung (below value (largestSays (h .largest))) 9 ∷ [])
 
--- there is place for an entry where there is place for a row
+-- if there is room for a row, there is room for an entry
 pub record Enterable (h : Header) (sorts : List ℕ) : Type 0 where
   pub most : h .capacity ≤ 65536
   pub entries-fit : h .entries ≤ h .rows
@@ -44,7 +44,7 @@ pub record Stops (h : Header) (value n : ℕ) : Type 0 where
   pub number : stopAt h value ≡ n
   pub some : 0 < n
 
--- the store holds the entries with the next row's, as many as said
+-- the store has the entries including the next row's, and their number is n
 pub record Entered (h : Header) (sorts : List ℕ) (value n : ℕ) (sorts′ : List ℕ) : Type 0 where
   pub free : stopAt h value ≡ 0
   pub room : h .rows < h .capacity
@@ -60,22 +60,22 @@ AdmissionIs h sorts value sorts′ (Entries n) = Entered h sorts value n sorts�
 
 -- ---- a row is appended
 
--- the header with a row more: so many rows are dead, there are so many sort entries, and its sort value is the largest
+-- the header with one more row, this number of dead rows, this number of sort entries, and this sort value as the largest
 abbrev pub grownTo : Header → ℕ → ℕ → ℕ → Header
 grownTo h dead entries value = withCounts h (h .rows + 1) dead entries (Value value)
 
--- one row more takes more room in the key store
+-- one more row needs more slots in the key store
 unfoldable pub outgrown : Header → Bool
 outgrown h = not (eqb (roomFor (h .capacity) (h .rows + 1)) (roomFor (h .capacity) (h .rows)))
 
--- What becomes of the key store: where the row takes more room it leads to all rows, else the row has stepped in.
+-- The key store after an append: rebuilt over all rows if the row needs more slots, otherwise as `Entry` states.
 pub record Leading (h h′ : Header) (rows′ keys : List ℕ) (Entry : Type 0) (keys′ : List ℕ) : Type 0 where
   pub more : outgrown h ≡ true → KeysSound (keyedOf h′) rows′ keys′
   pub stepped : outgrown h ≡ false → Entry
   pub past : SlotsPast (h .capacity) keys keys′
   pub same : length keys′ ≡ length keys
 
--- there is place for a row more, which is written
+-- there is room for one more row, which is written
 pub record Rebuildable (h : Header) (rows keys : List ℕ) (died : ℕ) : Type 0 where
   pub fits : Fits (wholeOf h) rows keys
   pub place : h .rows < h .capacity
@@ -85,7 +85,7 @@ pub record RebuiltGrown (h : Header) (rows keys : List ℕ) (died entries value 
   pub answer : r ≡ Appended (grownTo h (h .dead + died) entries value)
   pub rebuilt : Rebuilt (keyedOf (grownTo h (h .dead + died) entries value)) rows keys keys′
 
--- stores long enough for a row more, and the row's cells
+-- stores long enough for one more row, and the cells of the row
 pub record Growable (h : Header) (rows keys sorts cells : List ℕ) : Type 0 where
   pub fits : Fits (wholeOf h) rows keys
   pub sort-column : h .sort < h .columns
@@ -94,14 +94,14 @@ pub record Growable (h : Header) (rows keys sorts cells : List ℕ) : Type 0 whe
   pub sorts-long : 2 * h .capacity ≤ length sorts
   pub width : length cells ≡ h .columns
 
--- a stop leaves the stores as they were
+-- a stop leaves the stores unchanged
 pub record Stayed (h : Header) (rows keys sorts cells : List ℕ) (n : ℕ) (rows′ keys′ sorts′ : List ℕ) : Type 0 where
   pub stops : Stops h (getD cells (h .sort) 0) n
   pub same-rows : rows′ ≡ rows
   pub same-keys : keys′ ≡ keys
   pub same-sorts : sorts′ ≡ sorts
 
--- the row stands after the others, its number in the key store
+-- the row is after the others, and its number is in the key store
 pub record Grew (h : Header) (rows keys sorts cells : List ℕ) (hash : ℕ) (h′ : Header) (rows′ keys′ sorts′ : List ℕ) : Type 0 where
   pub entered : Entered h sorts (getD cells (h .sort) 0) (h′ .entries) sorts′
   pub header : h′ ≡ grownTo h (h .dead) (h′ .entries) (getD cells (h .sort) 0)
@@ -114,7 +114,7 @@ NewIs h rows keys sorts cells hash rows′ keys′ sorts′ Kept = ⊥
 NewIs h rows keys sorts cells hash rows′ keys′ sorts′ (Appended h′) = Grew h rows keys sorts cells hash h′ rows′ keys′ sorts′
 NewIs h rows keys sorts cells hash rows′ keys′ sorts′ (Stopped n) = Stayed h rows keys sorts cells n rows′ keys′ sorts′
 
--- the row stands after the others, its number in the old row's slot, and the old row has the dead mark
+-- the row is after the others, its number is in the old row's slot, and the old row has the dead mark
 pub record Replaced (h : Header) (rows keys sorts cells : List ℕ) (hash old slot : ℕ) (h′ : Header) (rows′ keys′ sorts′ : List ℕ) : Type 0 where
   pub entered : Entered h sorts (getD cells (h .sort) 0) (h′ .entries) sorts′
   pub header : h′ ≡ grownTo h (h .dead + 1) (h′ .entries) (getD cells (h .sort) 0)

@@ -1,5 +1,5 @@
--- One row of a plain table dies: which one a removal takes, and what the stores hold then. Shared by the removals and by
--- the insert of a known key. Assumes nothing.
+-- One row of a plain table dies: which row a removal removes, and the stores after that. Shared by the removals and by the insert
+-- of a known key. Assumes nothing.
 use Prim.Native.Nat.{ℕ, zero, suc, _+_, _*_, _≤_, _<_}
 use mathlib.Core.Path.{_≡_, refl, sym, ap, ap₂, _∙_}
 use mathlib.Core.Logic.{_⊎_, inl, inr}
@@ -39,7 +39,7 @@ killAt i rows = set rows i (deadRow (getD rows i noRow))
 
 -- ---- which row dies
 
--- where no live row has the key, none does
+-- if no live row has the key, no row dies
 pub killIf-none : (keys : ℕ) (key : List ℕ) (rows : List Row) → every (freeRow keys key) rows ≡ true → killIf (liveWithKey keys key) rows ≡ rows
 unfolding killIf
 killIf-none keys key [] e = refl
@@ -48,7 +48,7 @@ killIf-none keys key (row ∷ rows) e =
     ap₂ (λ (r : Row) (rs : List Row). r ∷ rs) (rw free)
     (killIf-none keys key rows (every-tail (freeRow keys key) row rows e))
 
--- where live keys differ, it is the one live row of the key
+-- if live keys differ, it is the one live row with the key
 pub killIf-one : (keys : ℕ) (key : List ℕ) (rows : List Row) (i : ℕ) → apart keys rows ≡ true → liveWithKey keys key (getD rows i noRow) ≡ true
     → killIf (liveWithKey keys key) rows ≡ killAt i rows
 unfolding killIf killAt
@@ -67,28 +67,28 @@ killIf-one keys key (row ∷ rows) (suc i) a e =
         absurd (false≢true (sym (not-true _ (every-getD (freeRow keys key) rows f i below noRow)) ∙ e))
     first (inr q) = rw q
 
--- a removal by row takes the row if it is a live row of the key
+-- a removal by row removes the row if it is a live row with the key
 pub dies-one : (keys : ℕ) (key : List ℕ) (i : ℕ) (rows : List Row) → liveWithKey keys key (getD rows i noRow) ≡ true → dies keys key i rows ≡ killAt i rows
 unfolding dies killAt
 dies-one keys key i [] e = refl
 dies-one keys key zero (row ∷ rows) e = rw e
 dies-one keys key (suc i) (row ∷ rows) e = ap (λ (rs : List Row). row ∷ rs) (dies-one keys key i rows e)
 
--- and nothing if it is none
+-- otherwise it removes nothing
 pub dies-none : (keys : ℕ) (key : List ℕ) (i : ℕ) (rows : List Row) → liveWithKey keys key (getD rows i noRow) ≡ false → dies keys key i rows ≡ rows
 unfolding dies
 dies-none keys key i [] e = refl
 dies-none keys key zero (row ∷ rows) e = rw e
 dies-none keys key (suc i) (row ∷ rows) e = ap (λ (rs : List Row). row ∷ rs) (dies-none keys key i rows e)
 
--- ---- the rows once it is dead
+-- ---- the rows after the death
 
--- as many as before
+-- their number is unchanged
 pub length-killAt : (i : ℕ) (rows : List Row) → length (killAt i rows) ≡ length rows
 unfolding killAt
 length-killAt i rows = length-set rows i (deadRow (getD rows i noRow))
 
--- all keep their cells
+-- their cells are unchanged
 pub killAt-cells : (i : ℕ) (rows : List Row) (j : ℕ) → getD (killAt i rows) j noRow .cells ≡ getD rows j noRow .cells
 unfolding killAt
 killAt-cells i [] j = refl
@@ -97,7 +97,7 @@ killAt-cells zero (row ∷ rows) (suc j) = refl
 killAt-cells (suc i) (row ∷ rows) zero = refl
 killAt-cells (suc i) (row ∷ rows) (suc j) = killAt-cells i rows j
 
--- a row that is live was live
+-- a row that is live was live before
 pub killAt-live : (i : ℕ) (rows : List Row) (j : ℕ) → getD (killAt i rows) j noRow .live ≡ true → getD rows j noRow .live ≡ true
 unfolding killAt
 killAt-live i [] j e = e
@@ -112,12 +112,12 @@ count-killAt i [] e = absurd (false≢true e)
 count-killAt zero (row ∷ rows) e = rw e
 count-killAt (suc i) (row ∷ rows) e = elim (split (row .live)) [ inl q ↦ rw q (count-killAt i rows e) | inr q ↦ rw q (ap suc (count-killAt i rows e)) ]
 
--- a live row that dies is one dead row more
+-- if a live row dies, there is one more dead row
 pub dead-killAt : (p : Plain) (i : ℕ) → getD (p .rows) i noRow .live ≡ true → dead (withRows p (killAt i (p .rows))) ≡ dead p + 1
 unfolding dead
 dead-killAt p i e = rw add-one (count-killAt i (p .rows) e)
 
--- the sort entries stay
+-- the sort entries are unchanged
 pub entries-killAt : (p : Plain) (i : ℕ) → entries (withRows p (killAt i (p .rows))) ≡ entries p
 unfolding entries killAt
 entries-killAt p i =
@@ -125,7 +125,7 @@ entries-killAt p i =
 
 -- ---- the row store
 
--- the rows as stored: that row has the mark, the others are as they were
+-- the rows as stored: that row has the dead mark, the others are unchanged
 pub stored-killAt : (i : ℕ) (rows : List Row) (before : List (List ℕ)) → i < length rows → i < length before
     → stored (killAt i rows) before ≡ set (stored rows before) i (marked (getD before i []))
 unfolding stored killAt
@@ -135,7 +135,7 @@ stored-killAt zero (row ∷ rows) (old ∷ before) h k = refl
 stored-killAt (suc i) (row ∷ rows) (old ∷ before) h k =
     ap (λ (rs : List (List ℕ)). cond (row .live) (row .cells) (marked old) ∷ rs) (stored-killAt i rows before (omega arith) (omega arith))
 
--- the cell that the mark is written to is all that changes
+-- only the cell with the dead mark changes
 pub marked-store : (w n i : ℕ) (store : List ℕ) → 0 < w → i < n → n * w ≤ length store
     → putAt store 0 (flat (set (rowsOf w n store) i (marked (rowAt w i store)))) ≡ set store (i * w) 4294967295
 unfolding putAt
@@ -148,7 +148,7 @@ marked-store w n i store some h k =
     ∙ ap (λ (rest : List ℕ). take (n * w) m ++ rest) (sym (drop-set-lt (0 + length (take (n * w) m)) store (i * w) 4294967295 c))
     ∙ putAt-front m (n * w) j
 
--- ---- the stores show it
+-- ---- the stores represent the table
 
 -- the table in which row i is dead
 abbrev pub dying : Plain → ℕ → Plain
@@ -174,7 +174,7 @@ dying-later p i =
       dies = λ j h e. killAt-live i (p .rows) j e;
     }
 
--- one dead row more
+-- there is one more dead row
 pub dying-header : (p : Plain) (i : ℕ) → rowOf p i .live ≡ true → headerOf (dying p i) ≡ withDead (headerOf p) (dead p + 1)
 dying-header p i e =
     let a = length-killAt i (p .rows) in
@@ -195,7 +195,7 @@ module _ {p : Plain} {s : Stores} (r : Represents p s) (i : ℕ) (live : rowOf p
   rows-long : s .header .rows * s .header .columns ≤ length (s .rows)
   rows-long = rw (rows-counted r, columns-same) (rows-in (r .proper) (length (s .rows)) (represents-long r .rows-long))
 
-  -- the rows as stored, the dead one with the mark
+  -- the rows as stored, with the dead mark in the dead row
   stored-dying : stored (killAt i (p .rows)) (rowsOf (s .header .columns) (s .header .rows) (s .rows))
       ≡ set (rowsOf (s .header .columns) (s .header .rows) (s .rows)) i (marked (rowAt (s .header .columns) i (s .rows)))
   stored-dying =
@@ -203,26 +203,26 @@ module _ {p : Plain} {s : Stores} (r : Represents p s) (i : ℕ) (live : rowOf p
       stored-killAt i (p .rows) before (live-below (p .rows) i live) (omega (arith, below, length-rowsOf (s .header .columns) (s .header .rows) (s .rows)))
       ∙ ap₂ (λ (rows : List (List ℕ)) (row : List ℕ). set rows i (marked row)) (rows-stored r) (getD-rowsOf (s .header .columns) (s .header .rows) (s .rows) i below)
 
-  -- of the row store one cell changes
+  -- one cell of the row store changes
   pub dying-rows : rowStore (dying p i) (rowsOf (s .header .columns) (s .header .rows) (s .rows)) (s .rows) ≡ set (s .rows) (i * s .header .columns) 4294967295
   unfolding rowStore
   dying-rows =
       ap (λ (rows : List (List ℕ)). putAt (s .rows) 0 (flat rows)) stored-dying
       ∙ marked-store (s .header .columns) (s .header .rows) i (s .rows) some-columns below rows-long
 
-  -- of the sort-entry store none
+  -- no cell of the sort-entry store changes
   pub dying-sorts : sortStore (dying p i) (s .sorts) ≡ s .sorts
   unfolding sortStore
   dying-sorts = ap (λ (es : List Entry). putAt (s .sorts) 0 (entryWords es)) (entries-killAt p i) ∙ sym (steps-refl r .sorts-after)
 
-  -- the rows are shown
+  -- the row store represents the rows
   pub dying-shown : stored (killAt i (p .rows)) (rowsOf (s .header .columns) (s .header .rows) (set (s .rows) (i * s .header .columns) 4294967295))
       ≡ rowsOf (s .header .columns) (s .header .rows) (set (s .rows) (i * s .header .columns) 4294967295)
   dying-shown =
       let e = stale-rows (s .header .columns) (s .header .rows) i (s .rows) some-columns below ∙ sym stored-dying in
       rw e (stored-again (killAt i (p .rows)) (rowsOf (s .header .columns) (s .header .rows) (s .rows)))
 
-  -- the row is marked, and a key store that leads to the others goes with it
+  -- with the row marked dead and a key store that refers to the other rows, the stores represent the table
   pub dying-represents : (keys : List ℕ) → 2 * s .header .capacity ≤ length keys
       → KeysSound (keyedOf (s .header)) (set (s .rows) (i * s .header .columns) 4294967295) keys
       → Represents (dying p i) (stores (withDead (s .header) (s .header .dead + 1)) (set (s .rows) (i * s .header .columns) 4294967295) keys (s .sorts) (s .pending))
@@ -258,20 +258,20 @@ module _ {p : Plain} {s : Stores} (r : Represents p s) (i : ℕ) (live : rowOf p
         represents = dying-represents keys long sound;
       }
 
--- ---- which row a removal takes, told by the stores
+-- ---- which row a removal removes, in terms of the stores
 
 module _ {p : Plain} {s : Stores} (r : Represents p s) (key : List ℕ) where
-  -- a removal by key takes it
+  -- a removal by key removes it
   pub withoutKey-one : (i : ℕ) → LiveAt (keyedOf (s .header)) (s .rows) i → keyAt (keyedOf (s .header)) (s .rows) i ≡ key → withoutKey p (removeKey key) ≡ dying p i
   unfolding withoutKey
   withoutKey-one i l e = ap (withRows p) (killIf-one (p .opening .keys) key (p .rows) i (apart-of (p .opening .keys) (p .rows) (r .proper .keys-differ)) (live-passes r key i l e))
 
-  -- and so does a removal by its row
+  -- so does a removal by its row number
   pub withoutRow-one : (i : ℕ) → LiveAt (keyedOf (s .header)) (s .rows) i → keyAt (keyedOf (s .header)) (s .rows) i ≡ key → withoutRow p (removeRow i key) ≡ dying p i
   unfolding withoutRow
   withoutRow-one i l e = ap (withRows p) (dies-one (p .opening .keys) key i (p .rows) (live-passes r key i l e))
 
-  -- one by another row takes nothing
+  -- a removal by another row number removes nothing
   pub withoutRow-other : (i j : ℕ) → LiveAt (keyedOf (s .header)) (s .rows) i → keyAt (keyedOf (s .header)) (s .rows) i ≡ key → (i ≡ j → ⊥)
       → withoutRow p (removeRow j key) ≡ p
   unfolding withoutRow
@@ -288,7 +288,7 @@ module _ {p : Plain} {s : Stores} (r : Represents p s) (key : List ℕ) where
       ]
 
   module _ (none : (i : ℕ) → LiveAt (keyedOf (s .header)) (s .rows) i → keyAt (keyedOf (s .header)) (s .rows) i ≡ key → ⊥) where
-    -- where the stores have no live row of the key, the plain table has none
+    -- if the stores have no live row with the key, the plain table has none
     pub key-free : (i : ℕ) → liveWithKey (p .opening .keys) key (rowOf p i) ≡ false
     key-free i =
         let k : ℕ = p .opening .keys in
@@ -297,7 +297,7 @@ module _ {p : Plain} {s : Stores} (r : Represents p s) (key : List ℕ) where
           | inr e ↦ e
         ]
 
-    -- and a removal takes nothing, by key or by row
+    -- then a removal by key or by row removes nothing
     pub withoutKey-none : withoutKey p (removeKey key) ≡ p
     unfolding withoutKey
     withoutKey-none = ap (withRows p) (killIf-none (p .opening .keys) key (p .rows) (every-of (freeRow (p .opening .keys) key) noRow (p .rows) (λ i h. rw (key-free i))))

@@ -1,5 +1,5 @@
--- Laws of a merge's steps: what they leave adds up, where the pending records stand and what their words are, and which
--- removals of the plain table the passes make. Assumes nothing.
+-- Laws of the steps of a merge: steps compose, where the pending records are and what their words are, and which removals of the
+-- plain table the passes make. Assumes nothing.
 use Prim.Native.Nat.{ℕ, _+_, _*_, _≤_, _<_}
 use mathlib.Core.Path.{_≡_, refl, sym, ap, ap₂, _∙_}
 use mathlib.Core.Logic.{inl, inr}
@@ -58,7 +58,7 @@ later-then {p} {q} {r} a b =
 
 module _ {p p₁ p₂ : Plain} (a : Later p p₁) (b : Later p₁ p₂) (before : List (List ℕ)) (n : length before ≡ length (p .rows))
     (shown : (i : ℕ) → rowOf p i .live ≡ true → rowOf p i .cells ≡ getD before i []) where
-  -- a row that was stored before, marked after the first step, is marked as it stood before
+  -- marking a row that was stored before the first step gives the same cells before and after that step
   marked-old : (i : ℕ) → i < length (p .rows) → marked (getD (stored (p₁ .rows) before) i []) ≡ marked (getD before i [])
   marked-old i h =
       elim (split (rowOf p₁ i .live)) [
@@ -68,7 +68,7 @@ module _ {p p₁ p₂ : Plain} (a : Later p p₁) (b : Later p₁ p₂) (before 
             ∙ set-set (getD before i []) 0 4294967295 4294967295
       ]
 
-  -- one that the first step appended is marked as appended
+  -- marking a row that the first step appended gives its appended cells with the mark
   marked-new : (i : ℕ) → length (p .rows) ≤ i → i < length (p₁ .rows) → marked (getD (stored (p₁ .rows) before) i []) ≡ marked (rowOf p₂ i .cells)
   marked-new i h k =
       elim (split (rowOf p₁ i .live)) [
@@ -79,7 +79,7 @@ module _ {p p₁ p₂ : Plain} (a : Later p p₁) (b : Later p₁ p₂) (before 
             ∙ ap marked (sym (b .cells i k))
       ]
 
-  -- so what the first step stored makes no difference to the second
+  -- so the second step does not depend on what the first step stored
   pub stored-then : stored (p₂ .rows) (stored (p₁ .rows) before) ≡ stored (p₂ .rows) before
   stored-then =
       ext-getD [] (stored (p₂ .rows) (stored (p₁ .rows) before)) (stored (p₂ .rows) before)
@@ -128,7 +128,7 @@ sortCells-front {p} {p′} l =
         ∙ sym (getD-sortCells p′ i (omega (arith, l .grows)))
         ∙ sym (getD-take (length (p .rows)) (sortCells p′) i 0 k)
 
--- no entry goes
+-- no entry is removed
 pub entries-grow : {p p′ : Plain} → Later p p′ → length (entries p) ≤ length (entries p′)
 unfolding entries
 entries-grow {p} {p′} l = rw (sortCells-front l) (rebuilt-front (length (p .rows)) (sortCells p′))
@@ -146,7 +146,7 @@ module _ {p : Plain} {s : Stores} (r : Represents p s) where
   pub words-fit : length (entryWords (entries p)) ≤ length (s .sorts)
   words-fit = omega (arith, length-words (entries p), entries-few p, r .proper .rows-fit, represents-long r .sorts-long)
 
-  -- nothing is done
+  -- no change is a step
   pub steps-refl : Becomes p p s s
   unfolding rowStore sortStore
   steps-refl =
@@ -161,7 +161,7 @@ module _ {p : Plain} {s : Stores} (r : Represents p s) where
         represents = r;
       }
 
--- the rows that stores hold
+-- the rows in the stores
 abbrev rowsBefore : Stores → List (List ℕ)
 rowsBefore s = rowsOf (s .header .columns) (s .header .rows) (s .rows)
 
@@ -169,11 +169,11 @@ module _ {p p₁ p₂ : Plain} {s s₁ s₂ : Stores} (r : Represents p s) (a : 
   before-wide : widths (p .opening .columns) (rowsBefore s) ≡ true
   before-wide = rw (columns-shown r, rows-counted r) (wide-rows (r .proper) (s .rows) (represents-long r .rows-long))
 
-  -- the rows after the first step are a row's width
+  -- the rows after the first step have the width of a row
   first-wide : widths (p .opening .columns) (stored (p₁ .rows) (rowsBefore s)) ≡ true
   first-wide = stored-widths (p .opening .columns) (p₁ .rows) (rowsBefore s) (rw (a .later .opening) at (a .represents .proper .widths)) before-wide
 
-  -- they are what the second step finds stored
+  -- they are the rows that the second step finds stored
   pub first-stored : rowsOf (s₁ .header .columns) (s₁ .header .rows) (s₁ .rows) ≡ stored (p₁ .rows) (rowsBefore s)
   unfolding rowStore
   first-stored =
@@ -191,7 +191,7 @@ module _ {p p₁ p₂ : Plain} {s s₁ s₂ : Stores} (r : Represents p s) (a : 
       stored-then (a .later) (b .later) (rowsBefore s)
       (length-rowsOf (s .header .columns) (s .header .rows) (s .rows) ∙ rows-counted r) old-cells
 
-  -- one step after another
+  -- two steps compose
   pub steps-then : Becomes p p₂ s s₂
   unfolding rowStore sortStore
   steps-then =
@@ -221,7 +221,7 @@ module _ {p p₁ p₂ : Plain} {s s₁ s₂ : Stores} (r : Represents p s) (a : 
 
 -- ---- the pending records
 
--- at the start all of them are to come
+-- at the start all records remain
 pub waiting-start : {p : Plain} {s : Stores} → Represents p s → Waiting (openingOf (s .header)) (s .pending) (s .header .pending) 0 (p .staged)
 waiting-start {p} {s} r =
     record {
@@ -229,7 +229,7 @@ waiting-start {p} {s} r =
       counted = rw (r .shown .header) (zero-add (wordsAll (p .opening) (p .staged)));
     }
 
--- a record has two words at least
+-- a record has at least two words
 pub words-some : (o : Opening) (r : Staged) → 2 ≤ wordsOf o r
 unfolding wordsOf
 words-some o (insert cells) = omega arith
@@ -243,15 +243,15 @@ module _ {o : Opening} {pending : List ℕ} {used at : ℕ} {r : Staged} {rest :
   here-length : length (recordWords (o .keys) r) ≡ wordsOf o r
   here-length = length-recordWords o r right-width
 
-  -- the words from here on
+  -- the words from this place on
   from-here : take (wordsOf o r + wordsAll o rest) (drop at pending) ≡ recordWords (o .keys) r ++ flat (map (recordWords (o .keys)) rest)
   from-here = unfold wordsAll flat in w .held .in-order
 
-  -- the record at the place lies within the words in use
+  -- the record at the place is within the words in use
   pub waiting-inside : at + wordsOf o r + wordsAll o rest ≡ used
   waiting-inside = let e : at + (wordsOf o r + wordsAll o rest) ≡ used = unfold wordsAll in w .counted in omega arith
 
-  -- its words
+  -- the words of the record
   pub waiting-here : take (wordsOf o r) (drop at pending) ≡ recordWords (o .keys) r
   waiting-here =
       let k : wordsOf o r ≤ wordsOf o r + wordsAll o rest = omega arith in
@@ -259,14 +259,14 @@ module _ {o : Opening} {pending : List ℕ} {used at : ℕ} {r : Staged} {rest :
       ∙ ap (take (wordsOf o r)) from-here
       ∙ take-at (recordWords (o .keys) r) (flat (map (recordWords (o .keys)) rest)) (wordsOf o r) here-length
 
-  -- one of them
+  -- one of its words
   pub waiting-word : (i : ℕ) → i < wordsOf o r → getD pending (at + i) 0 ≡ getD (recordWords (o .keys) r) i 0
   waiting-word i h =
       sym (getD-drop at pending i 0)
       ∙ sym (getD-take (wordsOf o r) (drop at pending) i 0 h)
       ∙ ap (λ (l : List ℕ). getD l i 0) waiting-here
 
-  -- those from one on
+  -- its words from one on
   pub waiting-part : (i n : ℕ) → i + n ≡ wordsOf o r → take n (drop (at + i) pending) ≡ drop i (recordWords (o .keys) r)
   waiting-part i n e =
       ap (take n) (sym (drop-drop i at pending))
@@ -274,7 +274,7 @@ module _ {o : Opening} {pending : List ℕ} {used at : ℕ} {r : Staged} {rest :
       ∙ ap (λ (k : ℕ). drop i (take k (drop at pending))) e
       ∙ ap (drop i) waiting-here
 
-  -- after it the others are to come
+  -- after it the other records remain
   pub waiting-next : Waiting o pending used (at + wordsOf o r) rest
   waiting-next =
       record {
@@ -290,7 +290,7 @@ module _ {o : Opening} {pending : List ℕ} {used at : ℕ} {r : Staged} {rest :
         counted = waiting-inside;
       }
 
--- what stands at a record's place: its kind
+-- the words at the place of a record: its kind
 pub waiting-kind : {o : Opening} {pending : List ℕ} {used at : ℕ} {r : Staged} {rest : List Staged} → Waiting o pending used at (r ∷ rest) → getD pending at 0 ≡ kindOf r
 waiting-kind {o} {pending} {used} {at} {r} w =
     ap (λ (k : ℕ). getD pending k 0) (sym (add-zero at)) ∙ waiting-word w 0 (omega (arith, words-some o r)) ∙ first r
@@ -351,7 +351,7 @@ recounted-then {h} {n} {m} a b =
       dead-fit = omega (arith, a .dead-fit, b .dead-fit);
     }
 
--- the pending records are those of the header before
+-- the pending records are those of the previous header
 pub recounted-waiting : {h n : Header} {pending : List ℕ} {at : ℕ} {rest : List Staged} → Recounted h n → Waiting (openingOf h) pending (h .pending) at rest
     → Waiting (openingOf n) pending (n .pending) at rest
 recounted-waiting r w = rw (r .counts) w

@@ -1,5 +1,5 @@
--- What the parts of a merge promise: how the stores of one plain table become those of another, with every row cell and sort
--- cell given, and where the records that are still to come stand in the pending store. Assumes nothing.
+-- Contracts of the parts of a merge: how the stores of one plain table become those of another, with every row cell and sort cell
+-- given, and where the remaining records are in the pending store. Assumes nothing.
 use Prim.Native.Nat.{ℕ, _+_, _*_, _≤_, _<_}
 use mathlib.Core.Path.{_≡_}
 use mathlib.Core.Bool.{Bool, true}
@@ -21,7 +21,7 @@ use Rattle.table.specs.Promises.{Stores, Represents}
 
 -- ---- from one plain table to another
 
--- rows have died and rows were appended, and nothing else has changed
+-- some rows have died, some rows were appended, and nothing else has changed
 pub record Later (p p′ : Plain) : Type 0 where
   pub opening : p′ .opening ≡ p .opening
   pub generation : p′ .generation ≡ p .generation
@@ -37,7 +37,7 @@ pub record Becomes (p p′ : Plain) (s s′ : Stores) : Type 0 where
   pub sorts-after : s′ .sorts ≡ sortStore p′ (s .sorts)
   pub represents : Represents p′ s′
 
--- ---- headers and what is lent
+-- ---- headers and lent stores
 
 abbrev pub withCounts : Header → ℕ → ℕ → ℕ → Largest → Header
 withCounts h rows dead entries largest = header (openingOf h) rows dead entries (h .pending) (h .generation) largest
@@ -53,7 +53,7 @@ pub record Recounted (h h′ : Header) : Type 0 where
   pub entries-fit : h′ .entries ≤ h′ .rows
   pub dead-fit : h′ .dead + h .rows ≤ h .dead + h′ .rows
 
--- numbers within their bounds and stores long enough for the inserts of a merge
+-- numbers within their bounds, and stores long enough for the inserts of a merge
 pub record Ready (h : Header) (rows keys sorts pending : List ℕ) : Type 0 where
   pub fits : Fits (wholeOf h) rows keys
   pub sort-column : h .sort < h .columns
@@ -63,7 +63,7 @@ pub record Ready (h : Header) (rows keys sorts pending : List ℕ) : Type 0 wher
   pub sorts-long : 2 * h .capacity ≤ length sorts
   pub pending-fits : h .pending ≤ length pending
 
--- ---- the pending records still to come
+-- ---- the remaining pending records
 
 -- a record's first word
 unfoldable pub kindOf : Staged → ℕ
@@ -71,12 +71,12 @@ kindOf (insert cells) = 0
 kindOf (removeKey key) = 1
 kindOf (removeRow row key) = 2
 
--- from a place on, the words in use hold these records
+-- the words in use from a place on are these records
 pub record Waiting (o : Opening) (pending : List ℕ) (used at : ℕ) (rest : List Staged) : Type 0 where
   pub held : Holds o (drop at pending) rest
   pub counted : at + wordsAll o rest ≡ used
 
--- the words of the record at a place, 0 if none begins there that is whole: on any store a number to go on by
+-- the number of words of the record at a place, 0 if no complete record starts there: a safe number to advance by, on any store
 pub record RecordLength (h : Header) (pending : List ℕ) (at n : ℕ) : Type 0 where
   pub inside : 0 < n → at + n ≤ h .pending
   pub fits : at + n ≤ 4294967295
@@ -87,32 +87,32 @@ pub record RecordLength (h : Header) (pending : List ℕ) (at n : ℕ) : Type 0 
   pub none : Waiting (openingOf h) pending (h .pending) at [] → n ≡ 0
   pub next : (r : Staged) (rest : List Staged) → Waiting (openingOf h) pending (h .pending) at (r ∷ rest) → n ≡ wordsOf (openingOf h) r
 
--- ---- records that a pass has no use for
+-- ---- records that a pass skips
 
--- a record is of a kind
+-- whether a record is of a kind
 abbrev pub ofKind : ℕ → Staged → Bool
 ofKind kind r = eqb (kindOf r) kind
 
--- of these records, those from a place on are left, and none that is wanted was passed over
+-- of these records, those from a place on remain, and no wanted record was skipped
 pub record Left (h : Header) (pending : List ℕ) (wanted at : ℕ) (records : List Staged) : Type 0 where
   pub left : List Staged
   pub same : keep (ofKind wanted) records ≡ keep (ofKind wanted) left
   pub waiting : Waiting (openingOf h) pending (h .pending) at left
 
--- from one place to another only records of a kind are passed over, which have so many words each
+-- from one place to another only records of one kind were skipped, each of `words` words
 pub record RunPassed (h : Header) (pending : List ℕ) (from kind words at : ℕ) : Type 0 where
   pub on : from ≤ at
   pub inside : at ≤ h .pending
   pub rest : ((r : Staged) → kindOf r ≡ kind → wordsOf (openingOf h) r ≡ words) → (wanted : ℕ) → (kind ≡ wanted → ⊥)
       → (records : List Staged) → Waiting (openingOf h) pending (h .pending) from records → Left h pending wanted at records
 
--- a record stands whole at a place
+-- a complete record is at a place
 pub record CanPass (h : Header) (pending : List ℕ) (at words : ℕ) : Type 0 where
   pub here : RecordLength h pending at words
   pub some : 0 < words
   pub fits : h .pending ≤ length pending
 
--- it is passed, with any that follow it and are not wanted
+-- the record is skipped, together with any unwanted records that follow it
 pub record NextRecord (h : Header) (pending : List ℕ) (at words wanted next : ℕ) : Type 0 where
   pub on : at + words ≤ next
   pub inside : next ≤ h .pending

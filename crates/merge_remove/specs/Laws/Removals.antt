@@ -1,4 +1,4 @@
--- The removals of a kind, as the plain table makes them. Assumes nothing.
+-- The removals of a kind, as the plain table applies them. Assumes nothing.
 use mathlib.Core.Path.{_≡_, refl}
 use mathlib.Core.List.{List, [], _∷_, foldl}
 use Rattle.plain_table.specs.Staged.{Staged, insert, removeKey, removeRow}

@@ -1,5 +1,5 @@
--- What the removals of a merge ask and promise: one of them, that at a place of the pending store, all of a kind. Assumes
--- nothing.
+-- Contracts of the removals of a merge: one removal, the removal at a place of the pending store, all removals of a kind.
+-- Assumes nothing.
 use Prim.Native.Nat.{ℕ, _+_, _*_, _≤_, _<_}
 use mathlib.Core.Path.{_≡_}
 use mathlib.Core.Bool.{Bool, false, cond, not}
@@ -19,44 +19,44 @@ use Rattle.table.specs.inner.Whole.{wholeOf}
 use Rattle.table.specs.Promises.{stores, Represents, SlotsPast}
 use Rattle.merge_pending.specs.inner.Becoming.{Becomes, withDead, kindOf, Waiting, hashOf}
 
--- what a removal makes of a table
+-- the table after a removal
 unfoldable pub removed : Staged → Plain → Plain
 removed (insert cells) p = p
 removed (removeKey key) p = withoutKey p (removeKey key)
 removed (removeRow row key) p = withoutRow p (removeRow row key)
 
--- the removals of one kind, in staging order
+-- the table after the removals of one kind, in staging order
 unfoldable pub removedAll : ℕ → List Staged → Plain → Plain
 removedAll kind [] p = p
 removedAll kind (r ∷ rs) p = removedAll kind rs (cond (eqb (kindOf r) kind) (removed r p) p)
 
--- how many rows an answer says have died
+-- the number of rows that died, by the answer
 unfoldable pub died : Bool → ℕ
 died r = cond r 1 0
 
--- a row is taken out of the key store and marked dead; the answer is whether it was live
+-- a row is deleted from the key store and marked dead; the answer is whether it was live
 pub record Kills (t : Keyed) (rows keys : List ℕ) (row slot : ℕ) (r : Bool) (rows′ keys′ : List ℕ) : Type 0 where
   pub marks : rows′ ≡ set rows (row * t .columns) 4294967295
   pub was-live : r ≡ isLive (rowAt (t .columns) row rows)
   pub past : drop (slots t) keys′ ≡ drop (slots t) keys
   pub keyed : KeysSound t rows keys → LiveAt t rows row → getD keys slot 0 ≡ word (keyAt t rows row) row → KeysSound t rows′ keys′
 
--- the removal with a kind, a row's number and a key; one by key leaves the number aside
+-- the removal of a kind with a row number and a key; a removal by key ignores the number
 unfoldable pub removalOf : ℕ → ℕ → List ℕ → Staged
 removalOf kind row key = cond (eqb kind 1) (removeKey key) (removeRow row key)
 
--- it leaves the live row of its key, which is another than it names
+-- the removal spares the live row of its key, because it names another row
 unfoldable pub spared : ℕ → ℕ → ℕ → Bool
 spared kind row found = cond (eqb kind 1) false (not (eqb found row))
 
--- one removal, with its key's hash, of a table with any number of dead rows
+-- one removal, with the hash of its key, from a table with any number of dead rows
 pub record Removal (h : Header) (rows keys : List ℕ) (removal : Staged) (hash : ℕ) (r : Bool) (rows′ keys′ : List ℕ) : Type 0 where
   pub past : SlotsPast (h .capacity) keys keys′
   pub table : hash ≡ hashOf (h .keys) removal → (dead : ℕ) (sorts pending : List ℕ) (p : Plain)
       → Represents p (stores (withDead h dead) rows keys sorts pending)
       → Becomes p (removed removal p) (stores (withDead h dead) rows keys sorts pending) (stores (withDead h (dead + died r)) rows′ keys′ sorts pending)
 
--- a removal stands whole at a place of the pending store, as its first word says
+-- a complete removal, of the kind in its first word, is at a place of the pending store
 pub record RemovalAt (h : Header) (pending : List ℕ) (at : ℕ) : Type 0 where
   pub some-kind : 1 ≤ getD pending at 0
   pub most-kind : getD pending at 0 ≤ 2
@@ -69,7 +69,7 @@ pub record Removed (h : Header) (rows keys pending : List ℕ) (at : ℕ) (r : B
       → (dead : ℕ) (sorts : List ℕ) (p : Plain) → Represents p (stores (withDead h dead) rows keys sorts pending)
       → Becomes p (removed removal p) (stores (withDead h dead) rows keys sorts pending) (stores (withDead h (dead + died r)) rows′ keys′ sorts pending)
 
--- numbers within their bounds and stores long enough for the removals of a kind
+-- numbers within their bounds, and stores long enough for the removals of a kind
 pub record Removable (h : Header) (rows keys pending : List ℕ) (kind : ℕ) : Type 0 where
   pub fits : Fits (wholeOf h) rows keys
   pub pending-fits : h .pending ≤ length pending
@@ -85,14 +85,14 @@ pub record Removals (h : Header) (rows keys pending : List ℕ) (kind : ℕ) (h�
   pub table : (sorts : List ℕ) (p : Plain) → Represents p (stores h rows keys sorts pending)
       → Becomes p (removedAll kind (p .staged) p) (stores h rows keys sorts pending) (stores h′ rows′ keys′ sorts pending)
 
--- the record at a place stands whole if it is a removal of this kind
+-- the record at a place is complete if it is a removal of this kind
 pub record RemovalNext (h : Header) (rows keys pending : List ℕ) (at kind : ℕ) : Type 0 where
   pub fits : Fits (wholeOf h) rows keys
   pub inside : at < length pending
   pub whole : getD pending at 0 ≡ kind → RemovalAt h pending at
   pub some-kind : 1 ≤ kind
 
--- it is made; r rows died
+-- the removal is applied, and r rows died
 pub record RemovedNext (h : Header) (rows keys pending : List ℕ) (at kind r : ℕ) (rows′ keys′ : List ℕ) : Type 0 where
   pub past : SlotsPast (h .capacity) keys keys′
   pub few : r ≤ 1

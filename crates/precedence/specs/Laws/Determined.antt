@@ -1,4 +1,4 @@
--- The promise determines the outcome. Assumes nothing.
+-- The contract determines the outcome. Assumes nothing.
 use Prim.Native.Nat.{ℕ}
 use mathlib.Core.Path.{_≡_, sym, ap, ap₂, _∙_}
 use mathlib.Core.List.{List}

@@ -1,5 +1,5 @@
--- What the answer says of each live row and pair; that equal values are met; and that the check of the lent rows is the check
--- of the plain table that the stores show. Assumes nothing.
+-- What the answer implies for each live row and pair; that equal values are met; and that the check of the lent rows is the check
+-- of the plain table that the stores represent. Assumes nothing.
 use Prim.Native.Nat.{ℕ, zero, suc, _+_, _≤_, _<_}
 use mathlib.Core.Path.{_≡_, refl, sym, ap, ap₂, _∙_}
 use mathlib.Core.Logic.{_⊎_, inl, inr}
@@ -71,7 +71,7 @@ module _ (p : Plain) (column : ℕ) where
         | inr e ↦ unfold meetsPair in rw e
       ]
 
--- ---- what the answer says
+-- ---- what the answer implies
 
 module _ {A : Type 0} (test : A → Bool) (d : A) where
   none-failing : (n : ℕ) (xs : List A) → firstFailing test n xs ≡ none → (k : ℕ) → k < length xs → test (getD xs k d) ≡ true
@@ -112,7 +112,7 @@ module _ (p : Plain) (column : ℕ) (pairs : List Pair) where
   none-among n (row ∷ rows) e zero l = none-first n row rows e l
   none-among n (row ∷ rows) e (suc i) l = none-among (suc n) rows (none-rest n row rows e) i l
 
-  -- where none fails, each live row with a pair's first value is preceded by the second
+  -- if no row fails, each live row with a pair's first value is preceded by the second
   pub none-preceded : precedenceFailure p column pairs ≡ none → (i : ℕ) → rowOf p i .live ≡ true → (k : ℕ) → k < length pairs
       → getD (rowOf p i .cells) column 0 ≡ getD pairs k noPair .first → Preceded p column (getD pairs k noPair .second) i
   unfolding precedenceFailure liveRows failingPair
@@ -194,7 +194,7 @@ module _ (p : Plain) (column : ℕ) (pairs : List Pair) where
       let place-is : f .place ≡ k .0 = omega (arith, k .1) in
       (lowest, rw place-is (k .2))
 
--- ---- on every sound table, as in the plain table that it shows
+-- ---- on every sound table, as in the plain table that it represents
 
 module _ (p q : Plain) (column : ℕ) (pairs : List Pair) (o : p .opening ≡ q .opening) (l : liveRows p ≡ liveRows q) where
   meets-same : (cells : List ℕ) (pair : Pair) → meetsPair p column cells pair ≡ meetsPair q column cells pair

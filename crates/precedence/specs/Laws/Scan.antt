@@ -1,4 +1,4 @@
--- The scans of the check, one row or pair at a time; and the row that is needed, by its key. Assumes nothing.
+-- The scans of the check, one row or pair at a time; and the row that is needed, found by its key. Assumes nothing.
 use Prim.Native.Nat.{ℕ, zero, suc, _+_, _*_, _/_, _≤_, _<_}
 use mathlib.Core.Path.{_≡_, refl, sym, ap₂, _∙_}
 use mathlib.Core.Logic.{inl, inr}
@@ -121,14 +121,14 @@ getD-pairsOf (a ∷ b ∷ words) (suc i) d h =
     getD-pairsOf words i d (omega arith)
     ∙ ap₂ (λ (x y : ℕ). record { first = getD (a ∷ b ∷ words) x 0; second = getD (a ∷ b ∷ words) y 0 }) (sym e) (sym f)
 
--- ---- the row that is needed, by its key
+-- ---- the row that is needed, found by its key
 
 and-swap : (a b c : Bool) → (a && (b && c)) ≡ (b && (a && c))
 and-swap true b c = refl
 and-swap false true c = refl
 and-swap false false c = refl
 
--- a list is another with one place replaced: it has the value there, and elsewhere the same
+-- a list equals another with one place replaced: it has the value there, and the same values elsewhere
 replaced : (a b : List ℕ) (i value : ℕ) → i < length a → i < length b
     → same a (set b i value) ≡ (eqb (getD a i 0) value && same (take i a ++ drop (i + 1) a) (take i b ++ drop (i + 1) b))
 unfolding same

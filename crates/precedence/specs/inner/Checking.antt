@@ -1,5 +1,5 @@
--- What the parts of the check ask and promise. Of any stores they end and answer; what they answer is promised where the key
--- store is sound and live keys differ. Assumes nothing.
+-- Contracts of the parts of the check. On any stores they end and return; the value returned is specified if the key store is sound
+-- and live keys differ. Assumes nothing.
 use Prim.Native.Nat.{ℕ, _≤_, _<_}
 use mathlib.Core.Path.{_≡_}
 use mathlib.Core.Bool.{Bool, cond, _&&_}
@@ -24,17 +24,17 @@ pub record Tested (h : Header) (rows keys : List ℕ) : Type 0 where
   pub fits : Fits (keyedOf h) rows keys
   pub sort-there : h .sort < h .columns
 
--- one live row has this key, and its sort cell is no larger than this
+-- a live row has this key, and its sort cell is at most `latest`
 unfoldable pub filedBy : Header → List ℕ → List ℕ → ℕ → Bool
 filedBy h rows key latest =
     any (λ row. hasKey (h .keys) key (row .cells) && leb (getD (row .cells) (h .sort) 0) latest) (liveRows (ofRows h rows))
 
--- a row has a row with this value in the column that it may need
+-- a live row exists that this row may need: with this value in the column, the same other key cells and a sort cell no larger
 unfoldable pub rowFiled : Header → List ℕ → ℕ → ℕ → ℕ → Bool
 rowFiled h rows column row value =
     any (λ other. precedes (openingOf h) column value (rowAt (h .columns) row rows) (other .cells)) (liveRows (ofRows h rows))
 
--- what is so where the key store is sound and live keys differ
+-- a statement that holds if the key store is sound and live keys differ
 abbrev pub OnTable : Header → List ℕ → List ℕ → Type 0 → Type 0
 OnTable h rows keys So = KeysSound (keyedOf h) rows keys → KeysDiffer h rows → So
 
@@ -42,7 +42,7 @@ OnTable h rows keys So = KeysSound (keyedOf h) rows keys → KeysDiffer h rows �
 unfoldable pub rowMeets : Header → List ℕ → ℕ → ℕ → Pair → Bool
 rowMeets h rows column row pair = meetsPair (ofRows h rows) column (rowAt (h .columns) row rows) pair
 
--- the place of the first pair that a row fails; a dead one fails none
+-- the place of the first pair that a row fails; a dead row fails none
 unfoldable pub rowFailing : Header → List ℕ → ℕ → List ℕ → ℕ → Option ℕ
 rowFailing h rows column pairs row =
     cond (isLive (rowAt (h .columns) row rows)) (failingPair (ofRows h rows) column (pairsOf pairs) (rowAt (h .columns) row rows)) none

@@ -1,4 +1,4 @@
--- `query::contains_match` meets its contract: a walk of its MIR, by hand. The list of conditions is passed on whole; the output
+-- `query::contains_match` meets its contract: a manual proof over its MIR. The list of conditions is passed on whole; the output
 -- lent to `ask` is an empty array. Assumes nothing.
 use Rattle.walks.proofs.Prelude.{refl, [], _∷_, lit<, URA, fullShare, named, SProp, ent, emp, id⊢, via, fst∗, GName, ftrue, fsep, Memory, Routine, Heap, Tables, WpFn, Atoms, Fun, givenOf, tables, tablesOf, Given, ‵, raw, _⊛_, some, later, _$_, _∵_, !, qed, move, keep, drop, use1, split, join}
 use Rattle.walks.proofs.Prelude.{pick, fjoin, suffices, frame, await, done, agg, look, init, forget, stop, from, addr, lit, and-then, no-more, assigns, land, returns, enter, alloc1, alloc0, params1, pass1, pass0, free1, free0, lft-new, fmOf, u32, Is, shows, now, sliceVal, peeks, nothing, Clauses, onEntry, cited, says, ends-at}

@@ -1,5 +1,5 @@
--- `query::read_page` meets its contract: a walk of its MIR, by hand. The list of conditions is passed on whole; out is lent to
--- `ask` and comes back, and is given up to `close_page`. Assumes nothing.
+-- `query::read_page` meets its contract: a manual proof over its MIR. The list of conditions is passed on whole; out is lent to
+-- `ask` and returned, and is given up to `close_page`. Assumes nothing.
 use Rattle.walks.proofs.Prelude.{refl, _∙_, ℕ, _<_, _^_, List, [], _∷_, length, URA, named, w32, w64, Val, vint, SProp, ent, emp, id⊢, via, fst∗, Lft, Share, GName, ftrue, fsep, flft, Memory, Routine, Heap, Tables, WpFn, Atoms, Fun}
 use Rattle.walks.proofs.Prelude.{givenOf, tables, tablesOf, Given, ‵, raw, ⋆, _$_, _∵_, !, qed, move, keep, drop, group, use1, split, join, fsplit, fjoin, feqL, suffices, frame, done, agg, whole, sub, look-in, look, init, forget, stop, hop, fld}
 use Rattle.walks.proofs.Prelude.{from, load, addr, lit, and-then, no-more, assigns, land, returns, enter, alloc1, alloc0, params1, pass1, pass0, free1, free0, fmOf, u32, usize, Is, shows, now, sliceVal, Room, peeks, nothing, Clauses, onEntry, cited, says, ends-at}

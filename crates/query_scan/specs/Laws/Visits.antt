@@ -1,6 +1,6 @@
 -- "Whatever visits ids under the page, the refinements and the match test .. promises this too" (document 02, change 1): the loops
--- under the four queries visit just these ids, and the dead count that each returns is of exactly these. `query_scan::ask_one` is the loop
--- of refine by one, `walks::ask` that of the other three. Assumes nothing.
+-- under the four queries visit exactly these ids, and the dead count that each returns is of exactly these. `query_scan::ask_one`
+-- is the loop of refine by one, `walks::ask` that of the other three. Assumes nothing.
 use Prim.Native.Nat.{ℕ}
 use mathlib.Core.Path.{_≡_}
 use mathlib.Core.List.{List, [], _∷_}
@@ -14,7 +14,7 @@ use Rattle.query_scan.specs.declared.Question.the-variants.{Refine, Matc
 use Rattle.query_scan.specs.Visits.{upToFirst, idsVisited, Counted}
 use Rattle.query_scan.specs.inner.Sweeping.{firstPlace, SweepAnswered}
 
--- of any stores and any subset, where the query is not refused
+-- for any stores and any subset, if the query is not refused
 pub record LoopsCount (h : Header) (rows : List ℕ) (subset : Subset) (output : List ℕ) (s : Sweep) (output′ : List ℕ) (accepted : s .refused ≡ 0) : Type 0 where
   pub refine-one : (c : Constraint) → SweepAnswered Refine h rows subset (c ∷ []) output s output′ → Counted h rows 0 (members subset) s
   pub refine-list : (conditions : List Constraint) → SweepAnswered Refine h rows subset conditions output s output′ → Counted h rows 0 (members subset) s

@@ -1,5 +1,4 @@
--- A sweep over places of a subset, one row after another: what it tests, visits, keeps and counts, and what the questions
--- make of it. Assumes nothing.
+-- A scan over places of a subset, row by row: what it tests, visits, keeps and counts, and how the queries use it. Assumes nothing.
 use Prim.Native.Nat.{ℕ, zero, suc, _+_, _-_, _*_, _≤_, _<_, min}
 use mathlib.Core.Path.{_≡_}
 use mathlib.Core.Bool.{Bool, true, false, cond, not, _&&_}
@@ -37,7 +36,7 @@ use Rattle.query_scan.specs.Visits.{idsVisited, Counted}
 
 -- ---- tests of a list of conditions
 
--- a row lies in the store, and has a first cell
+-- a row is within the store, and has a first cell
 abbrev pub RowLies : Header → ℕ → ℕ → Type 0
 RowLies h rows id = (0 < h .columns) × (id * h .columns + h .columns ≤ rows)
 
@@ -45,7 +44,7 @@ abbrev pub RowNeeded : Test → Header → ℕ → Type 0
 RowNeeded Known h rows = Unit {0}
 RowNeeded (Row id) h rows = RowLies h rows id
 
--- before any condition: a row must be live
+-- the test before any condition: a row must be live
 unfoldable pub starts : Test → Header → List ℕ → Bool
 starts Known h rows = true
 starts (Row id) h rows = isLive (rowAt (h .columns) id rows)
@@ -61,7 +60,7 @@ allPass test h rows conditions = starts test h rows && every (passes test h rows
 
 -- ---- what is visited
 
--- the ids up to and including the nth that passes a test, all if there are fewer
+-- the ids up to and including the nth that passes a test; all if there are fewer
 unfoldable pub upTo : ℕ → (ℕ → Bool) → List ℕ → List ℕ
 upTo zero test ids = []
 upTo (suc n) test [] = []
@@ -72,7 +71,7 @@ firstPlace Refine = 0
 firstPlace Match = 0
 firstPlace (Page start n) = start
 
--- for how many ids the output must have room
+-- the number of ids that the output must have room for
 unfoldable pub roomAsked : Question → Subset → ℕ
 roomAsked Refine subset = size subset
 roomAsked Match subset = 0
@@ -83,17 +82,17 @@ refusalOf Refine h rows subset conditions output = refineRefusal h rows subset c
 refusalOf Match h rows subset conditions output = matchRefusal h rows subset conditions
 refusalOf (Page start n) h rows subset conditions output = pageRefusal h rows subset start n conditions output
 
--- ---- a sweep
+-- ---- a scan
 
--- the ids that it has before it
+-- the ids that are still to be visited
 unfoldable pub places : Subset → Sweep → List ℕ
 places subset s = visited subset (s .next) (s .end - s .next)
 
--- the ids that a sweep which began as s₀ has visited
+-- the ids that a scan which started as s₀ has visited
 unfoldable pub sweptIds : Subset → Sweep → Sweep → List ℕ
 sweptIds subset s₀ s = visited subset (s₀ .next) (s .next - s₀ .next)
 
--- a sweep that begins at a place
+-- a scan that starts at a place
 pub record BeginsAt (subset : Subset) (refused next end most : ℕ) (s : Sweep) : Type 0 where
   pub refused-is : s .refused ≡ refused
   pub next-is : s .next ≡ next
@@ -103,8 +102,8 @@ pub record BeginsAt (subset : Subset) (refused next end most : ℕ) (s : Sweep) 
   pub none-found : GrowthBegins (s .found)
   pub id-is : s .next < s .end → s .id ≡ getD (members subset) (s .next) 0
 
--- a sweep that may begin: it wants an id, and has room for each that it may keep, but for the first, which it may keep
--- without writing it
+-- A scan can start: it wants an id, and the output has room for all ids that it may keep. A scan that keeps one id at most needs no
+-- room, because the first id can be kept without being written.
 pub record Sweepable (h : Header) (rows : ℕ) (subset : Subset) (s : Sweep) (output : List ℕ) : Type 0 where
   pub askable : s .next < s .end → Askable h rows subset
   pub order : s .next ≤ s .end
@@ -115,8 +114,8 @@ pub record Sweepable (h : Header) (rows : ℕ) (subset : Subset) (s : Sweep) (ou
   pub none-dead : s .dead ≡ 0
   pub none-found : GrowthBegins (s .found)
 
--- a sweep that began as s₀ on output₀: of the ids visited so far it has kept those that pass a test, and counted those
--- whose rows are dead
+-- a scan that started as s₀ on output₀: of the ids visited so far it has kept those that pass the test, and counted those whose
+-- rows are dead
 pub record Swept (h : Header) (rows : List ℕ) (subset : Subset) (test : ℕ → Bool) (s₀ : Sweep) (output₀ : List ℕ) (s : Sweep) (output : List ℕ) : Type 0 where
   pub refused-is : s .refused ≡ s₀ .refused
   pub most-is : s .most ≡ s₀ .most
@@ -129,7 +128,7 @@ pub record Swept (h : Header) (rows : List ℕ) (subset : Subset) (test : ℕ �
   pub grows : Grows output₀ output (s .found) (keep test (sweptIds subset s₀ s))
   pub dead-is : s .dead ≡ deadAmong h rows (sweptIds subset s₀ s)
 
--- an id is kept; with as many as are wanted the sweep ends
+-- an id is kept; the scan ends when the wanted number of ids is kept
 pub record Keeps (s : Sweep) (output : List ℕ) (s′ : Sweep) (output′ : List ℕ) : Type 0 where
   pub refused-is : s′ .refused ≡ s .refused
   pub next-is : s′ .next ≡ s .next
@@ -140,7 +139,7 @@ pub record Keeps (s : Sweep) (output : List ℕ) (s′ : Sweep) (output′ : Lis
   pub stops : s′ .found .count ≡ s .most → s′ .end ≡ s .next + 1
   pub goes-on : (s′ .found .count ≡ s .most → ⊥) → s′ .end ≡ s .end
 
--- one place further
+-- the scan moves to the next place
 pub record CanMove (subset : Subset) (s : Sweep) : Type 0 where
   pub id-is : s .id ≡ getD (members subset) (s .next) 0
   pub more : s .next < s .end
@@ -173,16 +172,16 @@ pub record SweepSteps (h : Header) (rows : List ℕ) (subset : Subset) (s : Swee
   pub goes-on : hit ≡ true → (s′ .found .count ≡ s .most → ⊥) → s′ .end ≡ s .end
   pub skips : hit ≡ false → (s′ .found ≡ s .found) × (output′ ≡ output) × (s′ .end ≡ s .end)
 
--- a sweep that has come to its end
+-- a scan that has ended
 pub record Finished (h : Header) (rows : List ℕ) (subset : Subset) (test : ℕ → Bool) (s₀ : Sweep) (output₀ : List ℕ) (s : Sweep) (output : List ℕ) : Type 0 where
   pub refused-is : s .refused ≡ s₀ .refused
   pub next-is : s .next ≡ s₀ .next + length (upTo (s₀ .most) test (places subset s₀))
   pub grows : Grows output₀ output (s .found) (keep test (upTo (s₀ .most) test (places subset s₀)))
   pub dead-is : s .dead ≡ deadAmong h rows (upTo (s₀ .most) test (places subset s₀))
 
--- ---- a question
+-- ---- a query
 
--- a question that begins, refused or over its places
+-- the start of a query: refused, or over its places
 pub record SweepBegins (question : Question) (h : Header) (rows : ℕ) (subset : Subset) (knows : Bool) (output : ℕ) (s : Sweep) : Type 0 where
   pub number-is : (conditions : List Constraint) → knows ≡ every (known (h .columns)) conditions → s .refused ≡ refusalOf question h rows subset conditions output
   pub askable : s .refused ≡ 0 → Askable h rows subset
@@ -192,8 +191,7 @@ pub record SweepBegins (question : Question) (h : Header) (rows : ℕ) (subset :
   pub in-room : s .refused ≡ 0 → roomAsked question subset ≤ output
   pub no-places : (s .refused ≡ 0 → ⊥) → s .next ≡ s .end
 
--- a question that has been asked: refused with nothing written, or its ids visited, those that match kept and the dead ones
--- counted
+-- the end of a query: refused with nothing written, or its ids visited, those that match kept and the dead ones counted
 pub record SweepAnswered (question : Question) (h : Header) (rows : List ℕ) (subset : Subset) (conditions : List Constraint) (output : List ℕ) (s : Sweep) (output′ : List ℕ) : Type 0 where
   pub number-is : s .refused ≡ refusalOf question h (length rows) subset conditions (length output)
   pub askable : s .refused ≡ 0 → Askable h (length rows) subset
@@ -203,7 +201,7 @@ pub record SweepAnswered (question : Question) (h : Header) (rows : List ℕ) (s
   pub grows : s .refused ≡ 0 → Grows output output′ (s .found) (keep (matches h rows conditions) (idsVisited question (matches h rows conditions) subset))
   pub unwritten : (s .refused ≡ 0 → ⊥) → output′ ≡ output
 
--- what writing the ids kept asks, and does
+-- writing the ids kept: what it requires, and what it does
 pub record CanWrite (output : List ℕ) (g : Growing) : Type 0 where
   pub output₀ : List ℕ
   pub kept : List ℕ
@@ -213,11 +211,11 @@ pub record CanWrite (output : List ℕ) (g : Growing) : Type 0 where
 pub record Writes (output : List ℕ) (g : Growing) (count : ℕ) (output′ : List ℕ) : Type 0 where
   pub writes : (output₀ kept : List ℕ) → Grows output₀ output g kept → Wrote output₀ kept count output′
 
--- the ids kept are all of a range
+-- the ids kept are all ids of a range
 unfoldable pub whole : SubsetHead → Growing → Bool
 whole head g = head .dense && eqb (g .count) (head .end - head .start)
 
--- what the end of a refine asks, if it was not refused
+-- what the end of a refine requires, if it was not refused
 pub record CanClose (head : SubsetHead) (s : Sweep) (output : List ℕ) : Type 0 where
   pub order : head .dense ≡ true → head .start ≤ head .end
   pub can-write : CanWrite output (s .found)
@@ -229,12 +227,12 @@ pub record RefineClosed (head : SubsetHead) (s : Sweep) (output : List ℕ) (ans
       → Grows output₀ output (s .found) (keep test (members (subsetOf head ids)))
       → Answered (accepted (narrowed test (subsetOf head ids))) output₀ answer output′
 
--- a next place as it is answered
+-- a next place in the form of the answer
 unfoldable pub nextOf : Option ℕ → NextPlace
 nextOf none = NoPlace
 nextOf (some place) = At place
 
--- the place to go on from, where a page has ended
+-- the place to continue from after a page
 unfoldable pub nextAt : Subset → ℕ → Option ℕ
 nextAt subset next = cond (ltb next (size subset)) (some next) none
 

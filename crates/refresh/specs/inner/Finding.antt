@@ -1,4 +1,4 @@
--- What looking for the rows of a refresh promises. Assumes nothing.
+-- Contract of the search for the rows of a refresh. Assumes nothing.
 use Prim.Native.Nat.{ℕ}
 use mathlib.Core.Path.{_≡_}
 use mathlib.Core.Bool.{Bool, true}
@@ -8,7 +8,7 @@ use Rattle.table.specs.declared.Header.{Header}
 use Rattle.refresh_spec.specs.Index.{IndexSound}
 use Rattle.refresh_spec.specs.inner.Finding.{mentionsAt}
 
--- it marks none but live rows that mention a value, and all of those over a sound index store
+-- it sets the bits of live rows that mention a value only and, with a sound index store, of all of those
 abbrev pub Found : Header → List ℕ → List ℕ → List ℕ → List ℕ → List ℕ → List ℕ → ℕ → Type 0
 Found h rows index columns values words words′ count =
     (needed : ℕ → Bool) → ((i : ℕ) → needed i ≡ true → IndexSound h rows columns index × (mentionsAt h rows columns values i ≡ true))

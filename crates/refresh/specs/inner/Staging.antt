@@ -1,4 +1,4 @@
--- How the records of marked rows are written: those of one row, of the rows that a word marks, of all. Assumes nothing.
+-- How the records of rows in a bitmap are written: those of one row, of the rows of a word, of all rows. Assumes nothing.
 use Prim.Native.Nat.{ℕ, _+_, _*_, _≤_, _<_}
 use mathlib.Core.Path.{_≡_}
 use mathlib.Core.Bool.{Bool, true, false}
@@ -17,7 +17,7 @@ use Rattle.table.specs.Stores.{recordWords}
 abbrev pub numbered : Header → List ℕ → ℕ → Numbered
 numbered h rows i = record { number = i; cells = rowAt (h .columns) i rows }
 
--- the marked ones of the first n rows
+-- the rows in the bitmap among the first n rows
 unfoldable pub markedRows : Header → List ℕ → (ℕ → Bool) → ℕ → List Numbered
 markedRows h rows test n = map (numbered h rows) (keep test (countFrom 0 n))
 
@@ -25,17 +25,17 @@ markedRows h rows test n = map (numbered h rows) (keep test (countFrom 0 n))
 unfoldable pub rowsWords : Header → ℕ → List Numbered → List ℕ
 rowsWords h stamp rows = flat (map (recordWords (h .keys)) (refreshed (openingOf h) stamp rows))
 
--- as many as one row's are
+-- the number of words for one row
 abbrev pub rowWords : Header → ℕ
 rowWords h = h .keys + 3 + (h .columns + 2)
 
--- a row lies in the store
+-- a row is within the store
 pub record Lying (h : Header) (rows : List ℕ) (row : ℕ) : Type 0 where
   pub inside : outside h ≡ false
   pub rows-long : h .capacity * h .columns ≤ length rows
   pub row-below : row < h .rows
 
--- there is room for the records of all marked rows
+-- there is room for the records of all rows in the bitmap
 pub record Room (h : Header) (rows pending : List ℕ) (test : ℕ → Bool) : Type 0 where
   pub inside : outside h ≡ false
   pub rows-long : h .capacity * h .columns ≤ length rows
@@ -43,12 +43,12 @@ pub record Room (h : Header) (rows pending : List ℕ) (test : ℕ → Bool) : T
   pub free : h .pending + countTo test (h .rows) * rowWords h ≤ length pending
   pub counted : h .pending + countTo test (h .rows) * rowWords h ≤ 4294967295
 
--- the records of the first n rows' marked ones are written
+-- the records of the rows in the bitmap among the first n rows are written
 pub record Written (h : Header) (rows pending : List ℕ) (test : ℕ → Bool) (stamp : ℕ) (pending′ : List ℕ) (used n : ℕ) : Type 0 where
   pub words-used : used ≡ h .pending + countTo test n * rowWords h
   pub words : pending′ ≡ putAt pending (h .pending) (rowsWords h stamp (markedRows h rows test n))
 
--- up to a row, and a word marks some of the 64 from there on
+-- the same up to a row, and a word is the bitmap of the 64 rows from there on
 pub record Block (h : Header) (rows pending : List ℕ) (used first word stamp : ℕ) : Type 0 where
   pub pending₀ : List ℕ
   pub test : ℕ → Bool
@@ -56,7 +56,7 @@ pub record Block (h : Header) (rows pending : List ℕ) (used first word stamp :
   pub marked : word ≡ marks (λ bit. test (first + bit)) 64
   pub written : Written h rows pending₀ test stamp pending used first
 
--- and then those of these 64
+-- the records of these 64 rows are written too
 pub record BlockWritten (h : Header) (rows pending : List ℕ) (used first word stamp : ℕ) (r : ℕ) (pending′ : List ℕ) : Type 0 where
   pub on : (b : Block h rows pending used first word stamp) → Written h rows (b .pending₀) (b .test) stamp pending′ r (first + 64)
 
@@ -66,6 +66,6 @@ pub record Stageable (h : Header) (rows pending words : List ℕ) : Type 0 where
   pub bitmap : Bitmap words test
   pub room : Room h rows pending test
 
--- and then all are written
+-- the records of all rows are written
 pub record AllWritten (h : Header) (rows pending words : List ℕ) (stamp r : ℕ) (pending′ : List ℕ) : Type 0 where
   pub on : (s : Stageable h rows pending words) → Written h rows pending (s .test) stamp pending′ r (h .rows)

@@ -1,4 +1,4 @@
--- The tests of a refresh that are made before its rows are looked for. Assumes nothing.
+-- The tests of a refresh that precede the search for its rows. Assumes nothing.
 use Prim.Native.Nat.{ℕ}
 use mathlib.Core.Bool.{not}
 use mathlib.Core.List.{List, [], _∷_}
@@ -12,7 +12,7 @@ use Rattle.table.specs.declared.Header.{Header}
 use Rattle.table.specs.Numbers.{openingOf, largestSays}
 use Rattle.table.specs.Refusing.{pendingOutside, rowsShort}
 
--- the ladder without its last rung, 7, over the lengths of what is lent
+-- the checks without the last one, 7, over the lengths of the lent stores
 unfoldable pub ladder : Header → ℕ → ℕ → ℕ → List ℕ → ℕ → ℕ
 ladder h rows pending index columns stamp =
     first

@@ -31,7 +31,7 @@ loop-holds c = (omega arith, refl, rw add-zero push-none)
 cell-named-requires : tie.Need-cell-named-requires Inv-loop μ-loop
 cell-named-requires c κs = let s = c .before .before .before .before .before .before in (readable (s .pre .0 .lendable), s .pre .1, c .loop-test .taken)
 
--- the entry has room
+-- the entry fits
 fits : (c : tie.After-push-entry-arg Inv-loop μ-loop) → let a = c .before .before .before .before .before .before .before .before .args in
     Pushable (a .h) (a .rows .now) (a .columns .now) (a .buckets) (a .row) (c .before .before .before .loop .place) (c .before .before .before .loop .index)
 fits c = let s = c .before .before .before .before .before .before .before .before in pushable _ _ _ _ _ (s .pre .0) _ _ (s .pre .1) (c .before .before .loop-test .taken) _ (c .before .before .before .loop .inv .1)

@@ -1,4 +1,4 @@
--- Laws of the entries that a link leads to, and of an entry pushed. Assumes nothing.
+-- Laws of the entries that a link refers to, and of an entry pushed. Assumes nothing.
 use Prim.Native.Nat.{ℕ, zero, suc, _+_, _-_, _≤_, _<_}
 use mathlib.Core.Path.{_≡_, refl, ap, _∙_}
 use mathlib.Core.Logic.{_≢_}
@@ -55,13 +55,13 @@ module _ (index : List ℕ) (head n : ℕ) (below : 16 + n < head) (inside : hea
   own-head =
       getD-set-same (set index (16 + n) (getD index head 0)) head (n + 1) 0 (lt-length-set index (16 + n) (getD index head 0) inside) ∙ add-one n
 
-  -- its own bucket: the entry, and those that stood there
+  -- the entry's own bucket: the entry, and the previous entries of the bucket
   pub pushed-own : chain (pushed index head n) (suc n) (getD (pushed index head n) head 0) ≡ n ∷ chain index n (getD index head 0)
   pushed-own =
       chain-here (pushed index head n) n (getD (pushed index head n) head 0) own-head
       ∙ rw own-link (ap (λ (es : List ℕ). n ∷ es) (chain-same n index (pushed index head n) (getD index head 0) links))
 
-  -- no bucket loses one: where another's link leads to this entry, it led to none before
+  -- no bucket loses an entry: if the link of another bucket refers to this entry, it referred to none before
   pub pushed-keeps : (at e : ℕ) → 16 + n < at → has e (chain index n (getD index at 0)) ≡ true
       → has e (chain (pushed index head n) (suc n) (getD (pushed index head n) at 0)) ≡ true
   pushed-keeps at e h q =

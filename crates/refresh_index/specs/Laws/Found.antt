@@ -1,4 +1,4 @@
--- The rows that a store leads to are live, were seen and mention a value; and an index leads to all of those. Assumes nothing.
+-- The rows that a store refers to are live, were seen and mention a value; and an index refers to all of those. Assumes nothing.
 use Prim.Native.Nat.{ℕ, _≤_}
 use mathlib.Core.Path.{_≡_, refl}
 use mathlib.Core.Bool.{true, _&&_}
@@ -29,7 +29,7 @@ module _ (h : Header) (rows columns : List ℕ) where
       rw (lt-ltb row seen b, lt-ltb row (h .rows) (omega arith), m .live)
       (any-of (λ column. has (getD (rowAt (h .columns) row rows) column 0) values) 0 columns (m .place) (m .place-there) (rw (m .value-is) v))
 
-  -- and the other way round, one that it has in a named column
+  -- conversely, it has the value that it mentions in a named column
   holds-of : (values : List ℕ) (seen row : ℕ) → mentionsBelow h rows columns values seen row ≡ true → (value : ℕ) × (has value values ≡ true) × RowHolds h rows columns value seen row
   unfolding mentionsBelow mentionsAt mentions
   holds-of values seen row e =

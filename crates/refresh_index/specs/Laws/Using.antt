@@ -1,4 +1,4 @@
--- What is known of an index store that a refresh goes on with. Assumes nothing.
+-- What is known of an index store that a refresh continues with. Assumes nothing.
 use Prim.Native.Nat.{ℕ, _*_, _≤_}
 use mathlib.Core.Path.{_≡_}
 use mathlib.Core.Bool.{true, _&&_}
@@ -46,7 +46,7 @@ usable-is h columns index u =
       room = leb-true _ _ (and-right e₆ _ u);
     }
 
--- a sound one is an index of the rows that it has seen
+-- a sound store is an index of the rows that it has seen
 pub usable-index : {h : Header} {rows columns index : List ℕ} → Lendable h rows columns index → usable h columns index ≡ true → IndexSound h rows columns index → IndexOf h rows index
 unfolding indexShort startsAfresh isNew namedIn
 usable-index {h} {rows} {columns} {index} l u sound =

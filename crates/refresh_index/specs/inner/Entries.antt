@@ -1,5 +1,5 @@
--- What the functions below an index store's users promise each other: the value of an entry, an entry pushed, and a store filled row by
--- row. Assumes nothing.
+-- Contracts of the private functions of the index store: the value of an entry, an entry pushed, and a store filled row by row.
+-- Assumes nothing.
 use Prim.Native.Nat.{ℕ, _+_, _*_, _/_, _%_, _≤_, _<_}
 use mathlib.Core.Path.{_≡_}
 use mathlib.Core.Bool.{Bool, true, false}
@@ -20,7 +20,7 @@ pub record Readable (h : Header) (rows columns : List ℕ) : Type 0 where
   pub columns-few : length columns ≤ 8
   pub columns-there : every (λ column. ltb column (h .columns)) columns ≡ true
 
--- the cell of a row in the column named at a place
+-- the cell of a row in the column that is named at a place
 unfoldable pub cellNamed : Header → List ℕ → List ℕ → ℕ → ℕ → ℕ
 cellNamed h rows columns row place = getD (rowAt (h .columns) row rows) (getD columns place 0) 0
 
@@ -34,26 +34,27 @@ entryLive h rows columns entry = isLive (rowAt (h .columns) (entryRow columns en
 unfoldable pub entryValue : Header → List ℕ → List ℕ → ℕ → ℕ
 entryValue h rows columns entry = cellNamed h rows columns (entryRow columns entry) (entry % length columns)
 
--- where the links of the buckets begin
+-- the place where the links of the buckets start
 abbrev pub headsAt : Header → List ℕ → ℕ
 headsAt h columns = 16 + h .capacity * length columns
 
--- an entry becomes the last of the bucket whose link stands at this place
+-- an entry becomes the last of the bucket whose link is at this place
 unfoldable pub pushed : List ℕ → ℕ → ℕ → List ℕ
 pushed index head entry = set (set index (16 + entry) (getD index head 0)) head (entry + 1)
 
--- each entry below n whose row is live stands under its value
+-- each entry below n whose row is live is listed under its value
 pub record Listed (h : Header) (rows columns : List ℕ) (buckets n : ℕ) (index : List ℕ) : Type 0 where
   pub each : (entry : ℕ) → entry < n → entryLive h rows columns entry ≡ true
       → has entry (chain index n (getD index (headsAt h columns + bucketOf buckets (entryValue h rows columns entry)) 0)) ≡ true
 
--- a store with room for so many buckets, which are enough
+-- a store with room for this number of buckets, which are enough
 pub record Fillable (h : Header) (rows columns : List ℕ) (buckets : ℕ) (index : List ℕ) : Type 0 where
   pub lendable : Lendable h rows columns index
   pub enough : h .rows * length columns ≤ buckets
   pub room : buckets ≤ 2 * (h .capacity * length columns)
 
--- entries n to n′ are pushed: a store that listed those below n lists those below n′, and their words are as they were
+-- entries n to n′ are pushed: a store that listed those below n lists those below n′, and the words of entries below n are
+-- unchanged
 pub record Pushed (h : Header) (rows columns : List ℕ) (buckets n : ℕ) (index : List ℕ) (n′ : ℕ) (index′ : List ℕ) : Type 0 where
   pub up : n ≤ n′
   pub lists : Listed h rows columns buckets n index → Listed h rows columns buckets n′ index′
@@ -65,7 +66,7 @@ unfoldable pub fronted : Header → List ℕ → ℕ → List ℕ → List ℕ
 fronted h columns buckets index =
     set (putAt (putAt index 0 (1 ∷ h .generation ∷ h .rows ∷ length columns ∷ [])) 4 columns) 12 buckets
 
--- the rows from one on are pushed, and the words before the entries written
+-- the rows from one on are pushed, and the words before the entries are written
 pub record Filled (h : Header) (rows columns : List ℕ) (buckets from : ℕ) (index index′ : List ℕ) : Type 0 where
   pub written : isNew index′ ≡ false
   pub current : Listed h rows columns buckets (from * length columns) index → Current h rows columns index′
@@ -73,7 +74,7 @@ pub record Filled (h : Header) (rows columns : List ℕ) (buckets from : ℕ) (i
   pub buckets-are : getD index′ 12 0 ≡ buckets
   pub past : drop (16 + 3 * (h .capacity * length columns)) index′ ≡ drop (16 + 3 * (h .capacity * length columns)) index
 
--- so many buckets are empty
+-- this number of buckets is empty
 pub record Emptied (index : List ℕ) (heads buckets : ℕ) (index′ : List ℕ) : Type 0 where
   pub empty : (bucket : ℕ) → bucket < buckets → getD index′ (heads + bucket) 0 ≡ 0
   pub past : (n : ℕ) → heads + buckets ≤ n → drop n index′ ≡ drop n index

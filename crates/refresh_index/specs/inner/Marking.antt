@@ -1,4 +1,4 @@
--- The rows that entries lead to from values. Assumes nothing.
+-- The rows that entries under values refer to. Assumes nothing.
 use Prim.Native.Nat.{ℕ}
 use mathlib.Core.Bool.{Bool}
 use mathlib.Core.List.{List}
@@ -7,10 +7,10 @@ use Rattle.table.specs.declared.Header.{Header}
 use Rattle.row_marks.specs.inner.Bitmaps.{Marked}
 use Rattle.refresh_spec.specs.Index.{entriesUnder, leads}
 
--- all rows that the test names are marked, and no others
+-- the bits of all rows that pass the test are set, and no others
 abbrev pub MarkedAll : (ℕ → Bool) → List ℕ → List ℕ → ℕ → Type 0
 MarkedAll test words words′ more = Marked test test words words′ more
 
--- an entry under one of the values leads to row i
+-- an entry under one of the values refers to row i
 unfoldable pub found : Header → List ℕ → List ℕ → List ℕ → List ℕ → ℕ → Bool
 found h rows index columns values i = any (λ value. leads h rows columns value (entriesUnder (h .capacity) index value) i) values

@@ -1,7 +1,7 @@
--- The promise of `replay` determines the outcome over a new index store, and over any where no refresh is requested, but for the
--- program's choices: of a table, the key store's slots below 2 × capacity, after a compaction the compaction words needed, and after a
--- refresh the index words needed. Over another index store, which of the rows that mention a value are staged is left open too. Assumes
--- nothing.
+-- The contract of `replay` determines the outcome with a new index store, and with any index store if no refresh is requested,
+-- except for the program's choices: in a table the key store's slots below 2 × capacity, after a compaction the compaction words
+-- needed, and after a refresh the index words needed. With another index store, it is also open which of the rows that mention a
+-- value are staged. Assumes nothing.
 use Prim.Native.Nat.{ℕ, _<_}
 use mathlib.Core.Path.{_≡_, refl, sym, ap, _∙_}
 use mathlib.Core.Logic.{_⊎_, inl, inr}
@@ -33,7 +33,7 @@ use Rattle.replay_calls.specs.Laws.Requests.{served-steps}
 use Rattle.replay.specs.Replays.{callsLent, MadeFrom, Replayed}
 use Rattle.replay.specs.Laws.Theorem.{replay-requested, replay-index}
 
--- what a replay leaves
+-- the result of a replay
 pub record ReplayLeft : Type 0 where
   pub answer : TableAnswer
   pub body : Body
@@ -57,18 +57,19 @@ module _ (o : Opening) (generation : ℕ) (requests : List Request) (b : Body) (
     pub rows : x .body .rows ≡ y .body .rows
     pub sorts : x .body .sorts ≡ y .body .sorts
     pub pending-same : x .pending ≡ y .pending
-    -- of the key store: all, where the opening is refused; else slots that are never written, and each leads to the live rows of
-    -- the one plain table
+    -- the key store: all of it, if the opening is refused; otherwise the slots that are never written, and each key store refers to
+    -- the live rows of the one plain table
     pub keys-refused : 0 < openRefusal o (lengths (b .rows) (b .keys) (b .sorts) pending [] []) → x .body .keys ≡ y .body .keys
     pub slots-past : SlotsPast (o .capacity) (x .body .keys) (y .body .keys)
     pub represent : (h : Header) → tableSays (x .answer) ≡ accepted h
         → Represents (afterAll (opened o generation) requestedCalls) (joined h (x .body) (x .pending))
         × Represents (afterAll (opened o generation) requestedCalls) (joined h (y .body) (y .pending))
-    -- of the compaction words: all, where nothing was compacted; else those that are never written
+    -- the compaction words: all of them, if nothing was compacted; otherwise those that are never written
     pub words-past : WordsPast (o .capacity) (x .words) (y .words)
     pub words-refused : 0 < openRefusal o (lengths (b .rows) (b .keys) (b .sorts) pending [] []) → x .words ≡ y .words
     pub words-kept : (h : Header) → tableSays (x .answer) ≡ accepted h → h .generation ≡ generation → x .words ≡ y .words
-    -- of the index store: all, where no refresh is requested; else words that are never written, and one that was new is sound
+    -- the index store: all of it, if no refresh is requested; otherwise the words that are never written, and an index store that
+    -- was new is sound
     pub index-past : IndexPast (o .capacity) (x .index) (y .index)
     pub index-refused : 0 < openRefusal o (lengths (b .rows) (b .keys) (b .sorts) pending [] []) → x .index ≡ y .index
     pub index-kept : any isRefresh requests ≡ false → x .index ≡ y .index
@@ -81,7 +82,7 @@ module _ (o : Opening) (generation : ℕ) (requests : List Request) (b : Body) (
   said-accepted (Refused n) e = absurd (let z : _≡_ {A = ℕ} 0 1 = cc in omega arith)
   said-accepted (Table h) e = (h, refl)
 
-  -- the table that the requests start on, and the one that they leave
+  -- the table that the requests start with, and the one that they result in
   module _ {s : Stores} {index′ : List ℕ} (m : MadeFrom o generation requests b pending w index s index′) where
     starts : Represents (opened o generation) (stores (m .header) (b .rows) (m .keys) (b .sorts) pending)
     unfolding tableSays

@@ -1,5 +1,4 @@
--- An opening and the requests behind it are a history, so that term 3 of the order holds of the stores that they leave. Assumes
--- nothing.
+-- An opening and the requests after it are a history, so term 3 of the order holds for the resulting stores. Assumes nothing.
 use Prim.Native.Nat.{ℕ, zero, suc, _<_}
 use mathlib.Core.Path.{_≡_, refl, sym, ap, _∙_}
 use mathlib.Core.Logic.{_⊎_, inl, inr}
@@ -37,19 +36,19 @@ use Rattle.replay.specs.Replays.{callsLent, MadeFrom, Replayed}
 
 module _ {o : Opening} {generation : ℕ} {requests : List Request} {b : Body} {pending : List ℕ} {w : CompactionWords} {index : List ℕ} {s : Stores} {index′ : List ℕ}
     (m : MadeFrom o generation requests b pending w index s index′) where
-  -- what was opened, and what was made of it
+  -- the opening, and the requests after it
   opened-history : History o generation [] (stores (m .header) (b .rows) (m .keys) (b .sorts) pending)
   opened-history = history-whole (b .keys) (m .opened) (end _)
 
   pub made-history : History o generation (callsLent (m .calls) b pending w) s
   made-history = history-whole (b .keys) (m .opened) (served-steps (m .served))
 
-  -- "the live rows, numbers and cells, are those of document 01's plain table after the same calls", and the ids left by questions
+  -- "the live rows, numbers and cells, are those of document 01's plain table after the same calls", and the ids left by queries
   pub replay-claimed : Claimed o generation (callsLent (m .calls) b pending w) s
   replay-claimed = term-three _ _ _ _ made-history
 
-  -- over an index store that is new, and where no refresh is requested, the calls are those requested: each refresh stages the plain
-  -- table's own records
+  -- with a new index store, or if no refresh is requested, the calls are those requested: each refresh stages the plain table's own
+  -- records
   pub replay-requested : (isNew index ≡ true) ⊎ (any isRefresh requests ≡ false) → m .calls ≡ map (requested (length index)) requests
   replay-requested (inl new) = calls-requested opened-history new (m .served)
   replay-requested (inr none) = calls-plain (length index) (m .served) none
@@ -57,13 +56,13 @@ module _ {o : Opening} {generation : ℕ} {requests : List Request} {b : Body} {
   pub requested-claimed : (isNew index ≡ true) ⊎ (any isRefresh requests ≡ false) → Claimed o generation (callsLent (map (requested (length index)) requests) b pending w) s
   requested-claimed sound = rw (replay-requested sound) at replay-claimed
 
-  -- one that was new is sound afterwards, for a refresh by any columns
+  -- an index store that was new is sound afterwards, for a refresh by any columns
   pub replay-index : isNew index ≡ true → (columns : List ℕ) → IndexSound (s .header) (s .rows) columns index′
   replay-index new = index-sound opened-history new (m .served)
 
--- ---- what an opening and the requests leave
+-- ---- the result of an opening and the requests
 
--- a refused reply was turned away, by its number
+-- a refused reply has the number of its refusal
 refused-number : {A : Type 0} (n m : ℕ) (a : A) → refused m ≡ reply n a → (0 < n) × (_≡_ {A = Reply (Unit {0})} (refused m) (reply n tt))
 unfolding reply
 refused-number zero m a e = absurd (let z : _≡_ {A = ℕ} 0 1 = cc in omega arith)
@@ -88,12 +87,12 @@ module _ {o : Opening} {generation : ℕ} {b : Body} {pending keys′ : List ℕ
         index-kept = λ none. refl;
       }
 
-  -- the table that an accepted one leaves
+  -- the table after an accepted opening
   opened-shows : (h : Header) → answer ≡ Table h → Represents (opened o generation) (stores h (b .rows) keys′ (b .sorts) pending)
   unfolding tableSays
   opened-shows h e = opening-done (rw e at m) h refl
 
-  -- an accepted one, and the requests
+  -- an accepted opening, and the requests
   pub replay-made : (h h′ : Header) (b′ : Body) (pending′ : List ℕ) (w′ : CompactionWords) (index′ : List ℕ) → answer ≡ Table h → length keys′ ≡ length (b .keys)
       → Made requests (lengths (b .rows) keys′ (b .sorts) pending (w .live) (w .base)) (stores h (b .rows) keys′ (b .sorts) pending) w index (joined h′ b′ pending′) w′ index′
       → Replayed o generation requests b pending w index (Table h′) b′ pending′ w′ index′

@@ -1,4 +1,4 @@
--- Requests made one behind the other, and the step of each. Assumes nothing.
+-- Requests executed one after another, and the step of each. Assumes nothing.
 use Prim.Native.Nat.{ℕ}
 use mathlib.Core.Path.{_≡_, refl, sym, ap, _∙_}
 use mathlib.Core.Logic.{inl, inr}
@@ -41,7 +41,7 @@ none-made l s w index e =
       words-kept = λ p r same. refl;
     })
 
--- one behind the other
+-- one after another
 after-then : (p : Plain) (cs ds : List LentCall) → afterAll p (cs ++ ds) ≡ afterAll (afterAll p cs) ds
 unfolding afterAll
 after-then p [] ds = refl
@@ -71,9 +71,9 @@ made-then {l = l} {s} {t} {u} {w} {w₁} {w₂} a b =
           b .words-kept m (steps-represents r steps) (whole ∙ sym half) ∙ a .words-kept p r half;
     }
 
--- ---- the step of each request, by what its entry point promises
+-- ---- the step of each request, by the contract of its entry point
 
--- one that is lent no compaction words, and leaves the slots past those needed
+-- a request that is lent no compaction words, and does not write the slots past those needed
 words-unlent : {s t : Stores} {index index′ : List ℕ} {q : Request} {c : Call} (l : Lengths) (w : CompactionWords) → Served l s index q c t index′
     → ((p : Plain) → Represents p s → SlotsPast (p .opening .capacity) (s .keys) (t .keys)) → Made (q ∷ []) l s w index t w index′
 words-unlent {c = c} l w one slots =
@@ -112,7 +112,7 @@ module _ {h : Header} {rows pending index : List ℕ} {requests : List Request} 
             ];
       }
 
-  -- beside any other stores
+  -- with any other stores
   pub index-made : {h′ : Header} {pending′ index′ : List ℕ} {same : List Request} → requests ≡ same → MadeOnIndex same h rows pending index h′ pending′ index′ → (keys sorts live base : List ℕ)
       → Made requests (lengths rows keys sorts pending live base) (stores h rows keys sorts pending) (compactionWords live base) index (stores h′ rows keys sorts pending′) (compactionWords live base) index′
   index-made e m keys sorts live base = rw e (m .made keys sorts live base)
@@ -121,7 +121,7 @@ module _ {h : Header} {rows pending index : List ℕ} {requests : List Request} 
 table-capacity : {p : Plain} {s : Stores} → Represents p s → s .header .capacity ≡ p .opening .capacity
 table-capacity r = ap (λ (h : Header). h .capacity) (r .shown .header)
 
--- the generation after one call that is accepted
+-- the table after one accepted call
 one-done : (p : Plain) (l : Lengths) (c : Call) → refusal p (lengthsFor l c) c ≡ 0 → afterAll p (lentTo l c ∷ []) ≡ done p c
 unfolding afterAll
 one-done p l c e = accepted-done p (lengthsFor l c) c e
@@ -155,7 +155,7 @@ module _ {h h′ : Header} {rows keys sorts pending rows′ keys′ sorts′ : L
   unfolding lengthsFor done
   compacting-made {live′} {base′} {answer} e m same =
       let l : Lengths = lengths rows keys sorts pending live base in
-      -- the pending store is not lent, and the ladder does not look at it
+      -- the pending store is not lent, and the checks do not read it
       let k : Lengths = lengths rows keys sorts [] live base in
       rw (e, same)
       (record {

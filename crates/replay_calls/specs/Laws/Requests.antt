@@ -1,5 +1,5 @@
--- Requests made one after another: they are steps of a history; what they leave of the index store; and from a new index store on, the
--- calls are those requested. Assumes nothing.
+-- Requests executed one after another: they are steps of a history; their effect on the index store; and that with a new index
+-- store the calls are those requested. Assumes nothing.
 use Prim.Native.Nat.{ℕ, _+_, _*_, _-_, _≤_}
 use mathlib.Core.Path.{_≡_, refl, sym, ap, _∙_}
 use mathlib.Core.Logic.{inl, inr}
@@ -52,7 +52,7 @@ served-then (next one more) rest = next one (served-then more rest)
 
 -- ---- the index store
 
--- without a refresh it stays as it is
+-- without a refresh it is unchanged
 served-unused : {l : Lengths} {s t : Stores} {index index′ : List ℕ} {q : Request} {c : Call} → Served l s index q c t index′ → isRefresh q ≡ false → index′ ≡ index
 unfolding isRefresh
 served-unused (made call) none = refl
@@ -64,7 +64,7 @@ unfolding any
 index-unused (end s index) none = refl
 index-unused (next {q = q} one more) none = index-unused more (or-no-right (isRefresh q) _ none) ∙ served-unused one (or-no-left (isRefresh q) _ none)
 
--- words past those that a refresh may need stay as they are
+-- words past those that a refresh may need are unchanged
 drop-further : (a b : List ℕ) (m n : ℕ) → m ≤ n → drop m a ≡ drop m b → drop n a ≡ drop n b
 drop-further a b m n h e =
     let k : m + (n - m) ≡ n = omega arith in
@@ -97,17 +97,17 @@ index-past {l} {p} r (next {c = c} one more) =
     let opening = onward-all p (lentTo l c ∷ []) .opening in
     (rw opening at (index-past (step-represents r (whole-step (served-called one))) more)) ∙ served-past r one
 
--- ---- from a new index store on
+-- ---- with a new index store
 
 both : {c d : Call} {cs ds : List Call} → c ≡ d → cs ≡ ds → c ∷ cs ≡ d ∷ ds
 both e f = λ i. e i ∷ f i
 
--- kept by some history
+-- an index store that some history maintained
 abbrev KeptSome : Opening → ℕ → Stores → List ℕ → Type 0
 KeptSome o generation s index = (calls : List LentCall) × Kept o generation calls s index
 
 module _ {o : Opening} {generation : ℕ} where
-  -- a refresh that is lent the whole of it
+  -- a refresh that is lent the whole index store
   refreshed-kept : {calls : List LentCall} {index pending′ index′ : List ℕ} (s : Stores) {r : Refresh} {answer : RefreshAnswer} → Kept o generation calls s index
       → Refreshing (s .header) (s .rows) (s .pending) index r answer pending′ index′ → Kept o generation (calls ++ (ownRefresh s index r ∷ [])) (refreshedStores s answer pending′) index′
   refreshed-kept {calls} {index} {pending′} {index′} s {r} {answer} kept m =
@@ -155,7 +155,7 @@ module _ {o : Opening} {generation : ℕ} where
     pub index-sound : (columns : List ℕ) → IndexSound (t .header) (t .rows) columns index′
     index-sound = kept-sound (all-kept (before, taken index history new) all .1)
 
--- without a refresh they are those requested, whatever it holds
+-- without a refresh the calls are those requested, whatever the index store contains
 served-plain : {l : Lengths} {s t : Stores} {index index′ : List ℕ} {q : Request} {c : Call} (n : ℕ) → Served l s index q c t index′ → isRefresh q ≡ false → c ≡ requested n q
 unfolding isRefresh requested
 served-plain n (made call) none = refl

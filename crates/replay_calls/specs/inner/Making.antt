@@ -1,4 +1,4 @@
--- Requests made one after another on lent stores: each is a step of a history. Assumes nothing.
+-- Requests executed one after another on lent stores: each is a step of a history. Assumes nothing.
 use Prim.Native.Nat.{ℕ}
 use mathlib.Core.Path.{_≡_}
 use mathlib.Core.List.{List}
@@ -14,7 +14,7 @@ use Rattle.replay_calls.specs.Requests.{Request, ServedAll}
 pub record Made (requests : List Request) (l : Lengths) (s : Stores) (w : CompactionWords) (index : List ℕ) (s′ : Stores) (w′ : CompactionWords) (index′ : List ℕ) : Type 0 where
   pub calls : List Call
   pub served : ServedAll l s index requests calls s′ index′
-  -- of a table: what is never written, and the compaction words where nothing is compacted
+  -- on a table: what is never written, and the compaction words if nothing is compacted
   pub slots-past : (p : Plain) → Represents p s → SlotsPast (p .opening .capacity) (s .keys) (s′ .keys)
   pub words-past : (p : Plain) → Represents p s → WordsPast (p .opening .capacity) w w′
   pub words-kept : (p : Plain) → Represents p s → afterAll p (lentAll l calls) .generation ≡ p .generation → w′ ≡ w
@@ -24,7 +24,7 @@ pub record MadeOnPending (requests : List Request) (h : Header) (pending : List 
   pub made : (rows keys sorts live base index : List ℕ)
       → Made requests (lengths rows keys sorts pending live base) (stores h rows keys sorts pending) (compactionWords live base) index (stores h′ rows keys sorts pending′) (compactionWords live base) index
 
--- requests on the pending store and the index store, beside these rows
+-- requests on the pending store and the index store, with these rows
 pub record MadeOnIndex (requests : List Request) (h : Header) (rows pending index : List ℕ) (h′ : Header) (pending′ index′ : List ℕ) : Type 0 where
   pub made : (keys sorts live base : List ℕ)
       → Made requests (lengths rows keys sorts pending live base) (stores h rows keys sorts pending) (compactionWords live base) index (stores h′ rows keys sorts pending′) (compactionWords live base) index′

@@ -1,4 +1,4 @@
--- Items one by one: where no whole one stands, and where one does. Assumes nothing.
+-- Items one by one: a place without a complete item, and a place with one. Assumes nothing.
 use Prim.Native.Nat.{ℕ, zero, suc, _+_, _-_, _≤_, _<_}
 use mathlib.Core.Path.{_≡_, refl, _∙_}
 use mathlib.Core.List.{List, [], _∷_, _++_}
@@ -16,11 +16,11 @@ module _ (words : List ℕ) (at : ℕ) (inside : at ≤ length words) where
   pub length-end : length words - at < 2 → FrameLength words at 0
   length-end h = record { inside = omega arith; cut = λ e. omega arith; whole = λ f. absurd (f refl) }
 
-  -- fewer than the count
+  -- fewer than the count are left
   pub length-cut : length words - at < getD words (at + 1) 0 + 2 → FrameLength words at 0
   length-cut h = record { inside = omega arith; cut = λ e. omega arith; whole = λ f. absurd (f refl) }
 
-  -- all of them
+  -- all words of the item are left
   pub length-whole : getD words (at + 1) 0 + 2 ≤ length words - at → FrameLength words at (getD words (at + 1) 0 + 2)
   length-whole h = record { inside = omega arith; cut = λ e. absurd (omega arith); whole = λ f. refl }
 
@@ -54,7 +54,7 @@ module _ {A : Type 0} (of : ℕ → List ℕ → List A) where
     pub framed-end : r ≡ 0 → framed of (drop at words) ≡ []
     framed-end e = framed-cut (drop at words) (omega (arith, length-drop at words, second, l .cut e, l .inside))
 
-    -- one, and those behind it
+    -- an item, and those behind it
     pub framed-next : (r ≡ 0 → ⊥)
         → framed of (drop at words) ≡ of (getD words at 0) (take (r - 2) (drop (at + 2) words)) ++ framed of (drop (at + r) words)
     framed-next some =

@@ -1,4 +1,4 @@
--- The question of each kind. Assumes nothing.
+-- The query of each kind. Assumes nothing.
 use Prim.Native.Nat.{ℕ, _*_, _/_, _≤_, _<_}
 use mathlib.Core.Path.{_≡_}
 use mathlib.Core.List.{List, [], _∷_}
@@ -10,7 +10,7 @@ use Rattle.condition_words.specs.Conditions.{conditionIn, conditionsIn}
 use Rattle.history.specs.Runs.{refineOne, refineList, intersectWith, intersectRange}
 use Rattle.replay_queries.specs.Encoding.{ofWords, listOf, questionOf}
 
--- a list of conditions that is whole and not too long
+-- a list of conditions that is complete and not too long
 module _ (words : List ℕ) where
   pub list-whole : length words / 3 * 3 ≡ length words → length words / 3 ≤ 16 → listOf words ≡ refineList (conditionsIn (length words / 3) words) ∷ []
   unfolding listOf
@@ -45,7 +45,7 @@ module _ (kind : ℕ) (words : List ℕ) where
   unfolding questionOf ofWords
   ask-range e n = rw (e, n)
 
-  -- of another number of words, or of another kind, none
+  -- with another number of words, or of another kind, there is no query
   pub no-one : kind ≡ 0 → (length words ≡ 3 → ⊥) → questionOf kind words ≡ []
   unfolding questionOf ofWords
   no-one e n = rw (e, ne-eqb (length words) 3 n)

@@ -1,4 +1,4 @@
--- One question, put on the ids left. Assumes nothing.
+-- One query, run on the ids left. Assumes nothing.
 use Prim.Native.Nat.{ℕ, _+_, _≤_}
 use mathlib.Core.Path.{_≡_, refl, sym, ap, _∙_}
 use mathlib.Core.Bool.{Bool, true, false, _||_}
@@ -36,7 +36,7 @@ swapped true false = refl
 swapped false true = refl
 swapped false false = refl
 
--- an accepted answer refines if its question does, a refused one does not
+-- an accepted answer refines if its query does; a refused one does not
 left-told : (l : RunAnswer) (place : ℕ) (answer : SubsetAnswer) (output : List ℕ) (q : Question)
     → leftBy l place (refines q) answer .refined ≡ (l .refined || any refines (counting q (readOff answer output) ++ []))
 unfolding leftBy counting any
@@ -65,9 +65,9 @@ left-there l a place refines (Refused n) output given first second there e = rw 
 left-there l a place refines (Range from to) output given first second there e = rw (read-range output from to) (dense-is _ _ refl)
 left-there l a place refines (Ids n) output given first second there e = rw (read-list output n) (sparse-is _ _ refl ∙ ap list (there n))
 
--- ---- a question that is answered
+-- ---- a query that is answered
 
--- what is read off the answer is the reply
+-- the decoded answer is the reply
 pub record Replied (r : Reply Subset) (output : List ℕ) (answer : SubsetAnswer) (output′ : List ℕ) : Type 0 where
   pub is : readOff answer output′ ≡ r
   pub fits : (n : ℕ) → answer ≡ Ids n → n ≤ length output
@@ -95,16 +95,16 @@ intersection-replied : (a b : Subset) {output : List ℕ} {answer : SubsetAnswer
     → Replied (intersectReply a b (length output)) output answer output′
 intersection-replied a b {output} {answer} {output′} m = record { is = m .answers; fits = intersect-fits a b output answer output′ m }
 
--- ---- put
+-- ---- running a query
 
--- one question alone
+-- a single query
 asked-one : {h : Header} {rows sorts : List ℕ} {questions : List Question} (room : ℕ) (a : Subset) (q : Question) (range : RangeAnswer) (o : Outcome) → questions ≡ q ∷ []
     → ((c : Constraint) → q ≡ intersectRange c → RangeRead h sorts c range) → asked h rows room a q (rangeSays range) ≡ o
     → AskedAll h rows sorts room a questions (behind (o .accepted) (outcome (o .ids) []))
 asked-one room a q range o e read same = rw (e, ← same) (next range read (end _))
 
 module _ {h : Header} {rows sorts : List ℕ} {a : Subset} {questions : List Question} {l l′ : RunAnswer} {place : ℕ} {output : List ℕ} where
-  -- nothing is asked
+  -- no query
   pub put-nothing : questions ≡ [] → l′ ≡ l → Put h rows sorts a questions l place output l′ output
   unfolding any
   put-nothing e same =
@@ -119,7 +119,7 @@ module _ {h : Header} {rows sorts : List ℕ} {a : Subset} {questions : List Que
         there = λ given first second here is. rw same is;
       }
 
-  -- a question and its reply
+  -- a query and its reply
   module _ {answer : SubsetAnswer} {output′ : List ℕ} where
     put-replied : (q : Question) (r : Reply Subset) (range : RangeAnswer) → questions ≡ q ∷ [] → Replied r output answer output′ → l′ ≡ leftBy l place (refines q) answer
         → ((c : Constraint) → q ≡ intersectRange c → RangeRead h sorts c range) → asked h rows (length output) a q (rangeSays range) ≡ byReply a q r
@@ -161,7 +161,7 @@ module _ {h : Header} {rows sorts : List ℕ} {a : Subset} {questions : List Que
     put-ranged b {c} {found} e read is m same =
         put-replied (intersectRange c) _ found e (intersection-replied a b m) same (λ d z. let k : c ≡ d = cc in rw (← k) read) (rw is)
 
-  -- there is no range, and the step counts for nothing
+  -- there is no range, and the step has no effect
   pub put-no-range : {c : Constraint} {found : RangeAnswer} → questions ≡ intersectRange c ∷ [] → RangeRead h sorts c found
       → rangeStep a c (length output) (rangeSays found) ≡ outcome a [] → l′ ≡ counted l → Put h rows sorts a questions l place output l′ output
   unfolding asked subsetLeft any

@@ -1,4 +1,4 @@
--- One question at a time. Assumes nothing.
+-- One query at a time. Assumes nothing.
 use Prim.Native.Nat.{ℕ, _+_, _≤_}
 use mathlib.Core.Path.{_≡_}
 use mathlib.Core.Bool.{Bool, true, false, _||_}
@@ -15,12 +15,12 @@ use Rattle.replay_queries.specs.declared.RunAnswer.{RunAnswer}
 use Rattle.replay_queries.specs.Encoding.{listOf}
 use Rattle.replay_queries.specs.Leaving.{outcome, AskedAll, idsAt, subsetLeft}
 
--- one question more, which counts for nothing
+-- one more query, which has no effect
 abbrev pub counted : RunAnswer → RunAnswer
 counted l =
     record { dense = l .dense; start = l .start; end = l .end; count = l .count; place = l .place; refined = l .refined; taken = l .taken + 1 }
 
--- the ids left after an answer that went into the list of this place
+-- the ids left after an answer whose output went to the list of this place
 unfoldable pub leftBy : RunAnswer → ℕ → Bool → SubsetAnswer → RunAnswer
 leftBy l place refines (Refused n) = counted l
 leftBy l place refines (Range start end) =
@@ -28,7 +28,7 @@ leftBy l place refines (Range start end) =
 leftBy l place refines (Ids n) =
     record { dense = false; start = 0; end = 0; count = n; place = place; refined = refines || l .refined; taken = l .taken + 1 }
 
--- no question or one, put on a subset, its answer in an output, which is the list of a place
+-- no query or one, run on a subset, with its output in the list of a place
 module _ (h : Header) (rows sorts : List ℕ) (a : Subset) (questions : List Question) (l : RunAnswer) (place : ℕ) (output : List ℕ) (l′ : RunAnswer) (output′ : List ℕ) where
   pub record Put : Type 0 where
     pub ids : Subset
@@ -37,16 +37,16 @@ module _ (h : Header) (rows sorts : List ℕ) (a : Subset) (questions : List Que
     pub told : l′ .refined ≡ (l .refined || any refines accepted)
     pub taken : l′ .taken ≡ l .taken + length questions
     pub few : l′ .taken ≤ l .taken + 1
-    -- the ids written lie in the output
+    -- the ids written are within the output
     pub fits : l .count ≤ length output → l′ .count ≤ length output
-    -- and are told to lie there
+    -- and the answer refers to that output
     pub there : (given first second : List ℕ) → ((n : ℕ) → idsAt place n given first second ≡ take n output′)
         → subsetLeft l given first second ≡ a → subsetLeft l′ given first second ≡ ids
 
--- refining by a list, which looks at no sort entry
+-- refining by a list, which reads no sort entry
 pub record ListPut (h : Header) (rows : List ℕ) (a : Subset) (words : List ℕ) (l : RunAnswer) (place : ℕ) (output : List ℕ) (l′ : RunAnswer) (output′ : List ℕ) : Type 0 where
   pub put : (sorts : List ℕ) → Put h rows sorts a (listOf words) l place output l′ output′
 
--- a range step, which looks at no row
+-- a range step, which reads no row
 pub record RangePut (h : Header) (sorts : List ℕ) (a : Subset) (c : Constraint) (l : RunAnswer) (place : ℕ) (output : List ℕ) (l′ : RunAnswer) (output′ : List ℕ) : Type 0 where
   pub put : (rows : List ℕ) → Put h rows sorts a (intersectRange c ∷ []) l place output l′ output′

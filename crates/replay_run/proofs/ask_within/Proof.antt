@@ -1,4 +1,5 @@
--- `replay_run::ask_within` meets its contract. The loop's invariant: the questions still to come end where all of them do. Assumes nothing.
+-- `replay_run::ask_within` meets its contract. The loop's invariant: the remaining queries lead to the result of all of them.
+-- Assumes nothing.
 use Prim.Native.Nat.{_-_}
 use mathlib.Core.Path.{sym, _∙_}
 use native.Mathlib.Omega.{arith}

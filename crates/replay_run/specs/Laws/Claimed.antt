@@ -1,5 +1,5 @@
--- What `ask` leaves is what a run leaves, so that the claim of the order's term 3 holds of it; and where the sort entries are sound,
--- it is known from the stores and the questions alone. Assumes nothing.
+-- The result of `ask` is that of a run, so the claim of the order's term 3 holds for it; and if the sort entries are sound, it is
+-- determined by the stores and the queries alone. Assumes nothing.
 use Prim.Native.Nat.{ℕ}
 use mathlib.Core.Path.{_≡_, refl, sym, ap, _∙_}
 use mathlib.Core.Logic.{inl, inr}
@@ -38,7 +38,7 @@ module _ (h : Header) (rows keys sorts pending : List ℕ) (room : ℕ) where
   abbrev table : Stores
   table = stores h rows keys sorts pending
 
-  -- each question has an output of this length
+  -- each query has an output of this length
   abbrev output : List ℕ
   output = replicate room 0
 
@@ -55,7 +55,7 @@ module _ (h : Header) (rows keys sorts pending : List ℕ) (room : ℕ) where
   range-asked a c range (accepted (some b)) read e =
       by-reply a (intersectRange c) _ output (λ output′ answer m. range-intersected b c (length sorts) range output output′ answer (rw (take-length sorts) read) e (inl (rw long m)))
 
-  -- each question is lent both stores whole
+  -- each query is lent both whole stores
   one-asked : (a : Subset) (q : Question) (range : RangeAnswer) → ((c : Constraint) → q ≡ intersectRange c → RangeRead h sorts c range)
       → Asked table a q (asked h rows room a q (rangeSays range) .ids) (asked h rows room a q (rangeSays range) .accepted)
   unfolding asked
@@ -74,14 +74,14 @@ module _ (h : Header) (rows keys sorts pending : List ℕ) (room : ℕ) where
 -- ---- sound sort entries
 
 module _ (h : Header) (rows sorts : List ℕ) (room : ℕ) where
-  -- the fast range of a range step, which only its case uses
+  -- the fast range of a range step; only the case of a range step uses it
   unfoldable pub fastRangeFor : Question → Reply (Option Subset)
   fastRangeFor (refineOne c) = accepted none
   fastRangeFor (refineList cs) = accepted none
   fastRangeFor (intersectWith b) = accepted none
   fastRangeFor (intersectRange c) = reply (fastRefusal h (length sorts) c) (fastSubset h sorts c)
 
-  -- what the questions leave, each range step by its fast range
+  -- the result of the queries, each range step by its fast range
   unfoldable pub askedAll : Subset → List Question → Outcome
   askedAll a [] = outcome a []
   askedAll a (q ∷ qs) =
@@ -111,10 +111,10 @@ module _ (h : Header) (rows sorts : List ℕ) (room : ℕ) where
     asked-known (end a) = refl
     asked-known {a} (next {q = q} range read rest) = rw (asked-known rest, one-known a q range read)
 
--- ---- what `ask` leaves
+-- ---- the result of `ask`
 
 module _ {h : Header} {rows sorts : List ℕ} {start : Subset} {ids : List ℕ} {questions : List Question} {first second : List ℕ} {answer : RunAnswer} {first′ second′ : List ℕ} (m : RunMade h rows sorts start ids questions first second answer first′ second′) where
-  -- it is a run, whatever the key store and the pending store hold
+  -- it is a run, whatever the key store and the pending store contain
   pub made-run : (keys pending : List ℕ) → Run (stores h rows keys sorts pending) start questions (subsetLeft answer ids first′ second′) (m .accepted)
   made-run keys pending = asked-run h rows keys sorts pending (shorter first second) (m .asked)
 
@@ -126,7 +126,7 @@ module _ {h : Header} {rows sorts : List ℕ} {start : Subset} {ids : List ℕ} 
   made-ids-left o generation calls keys pending history refined =
       term-three o generation calls _ history .ids-left start questions _ (m .accepted) (made-run keys pending) (sym (m .told) ∙ refined)
 
-  -- where the sort entries are sound, the ids left and the accepted questions are these
+  -- if the sort entries are sound, the ids left and the accepted queries are these
   pub made-leaves : entriesSound (entriesOf (h .entries) sorts) (h .rows) ≡ true
       → outcome (subsetLeft answer ids first′ second′) (m .accepted) ≡ askedAll h rows sorts (shorter first second) start questions
   made-leaves sound = asked-known h rows sorts (shorter first second) sound (m .asked)

@@ -1,5 +1,6 @@
--- The promise of `ask` determines the outcome: on a table, the ids left in their form and order, whether some accepted question
--- refined, how many were taken, and all that is never written. Which lent list the ids lie in is the program's choice. Assumes nothing.
+-- The contract of `ask` determines the outcome: on a table, the ids left in their form and order, whether an accepted query
+-- refined, how many were taken, and everything that is never written. Which lent list has the ids is the program's choice.
+-- Assumes nothing.
 use Prim.Native.Nat.{ℕ}
 use mathlib.Core.Path.{_≡_, sym, ap, _∙_}
 use mathlib.Core.Bool.{true}
@@ -15,7 +16,7 @@ use Rattle.replay_queries.specs.Leaving.{subsetLeft, Outcome}
 use Rattle.replay_run.specs.Asking.{shorter, RunMade}
 use Rattle.replay_run.specs.Laws.Claimed.{made-leaves}
 
--- what a run leaves
+-- the result of a run
 pub record RunLeft : Type 0 where
   pub answer : RunAnswer
   pub first : List ℕ
@@ -23,11 +24,11 @@ pub record RunLeft : Type 0 where
 
 module _ (h : Header) (rows sorts : List ℕ) (start : Subset) (ids : List ℕ) (questions : List Question) (first second : List ℕ) where
   pub record SameRun (x y : RunLeft) : Type 0 where
-    -- of any stores
+    -- for any stores
     pub taken : x .answer .taken ≡ y .answer .taken
     pub past : (drop (shorter first second) (x .first) ≡ drop (shorter first second) (y .first))
         × (drop (shorter first second) (x .second) ≡ drop (shorter first second) (y .second))
-    -- where the sort entries are sound
+    -- if the sort entries are sound
     pub ids-same : entriesSound (entriesOf (h .entries) sorts) (h .rows) ≡ true
         → subsetLeft (x .answer) ids (x .first) (x .second) ≡ subsetLeft (y .answer) ids (y .first) (y .second)
     pub refined : entriesSound (entriesOf (h .entries) sorts) (h .rows) ≡ true → x .answer .refined ≡ y .answer .refined

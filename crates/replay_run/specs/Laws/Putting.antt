@@ -1,4 +1,4 @@
--- A question put on the ids left, and one after another. Assumes nothing.
+-- One query run on the ids left, and one after another. Assumes nothing.
 use Prim.Native.Nat.{ℕ, _≤_}
 use mathlib.Core.Path.{_≡_, refl}
 use mathlib.Core.List.{List, _++_, append-assoc}
@@ -14,10 +14,10 @@ use Rattle.replay_queries.specs.Leaving.{idsAt, subsetLeft, Outcome, behind, As
 use Rattle.replay_queries.specs.inner.Putting.{Put}
 use Rattle.replay_run.specs.inner.Putting.{QuestionPut}
 
--- ---- one question
+-- ---- one query
 
 module _ {h : Header} {rows sorts ids : List ℕ} {questions : List Question} {l l′ : RunAnswer} {first second first′ second′ : List ℕ} (place : ℕ) {a : Subset} {output output′ : List ℕ} where
-  -- the list of this place was its output; the ids that it was put on are as they were
+  -- its output was the list of this place; the ids that it ran on are unchanged
   put-in : Put h rows sorts a questions l place output l′ output′ → length output ≡ length first → l .count ≤ length first
       → subsetLeft l ids first second ≡ a → subsetLeft l ids first′ second′ ≡ a → ((n : ℕ) → idsAt place n ids first′ second′ ≡ take n output′)
       → QuestionPut h rows sorts ids questions l first second l′ first′ second′
@@ -34,7 +34,7 @@ module _ {h : Header} {rows sorts ids : List ℕ} {questions : List Question} {l
         few = p .few;
       }
 
--- the ids left as they are lent to a question
+-- the ids left as they are lent to a query
 module _ (l : RunAnswer) (ids first second : List ℕ) where
   abbrev pub headOf : SubsetHead
   headOf = record { dense = l .dense; start = l .start; end = l .end }
@@ -59,7 +59,7 @@ into-second : (n : ℕ) (ids first second : List ℕ) → idsAt 2 n ids first se
 unfolding idsAt
 into-second n ids first second = refl
 
--- the three ways: the ids left lie in the first list, in the second, or in neither
+-- the three cases: the ids left are in the first list, in the second, or in neither
 module _ {h : Header} {rows sorts : List ℕ} (ids : List ℕ) {questions : List Question} {l l′ : RunAnswer} {first second : List ℕ} (held : l .count ≤ length first) (long : length second ≡ length first) where
   pub put-first : {second′ : List ℕ} → l .place ≡ 1 → Put h rows sorts (subsetOf (headOf l ids first second) (take (l .count) first)) questions l 2 second l′ second′
       → QuestionPut h rows sorts ids questions l first second l′ first second′

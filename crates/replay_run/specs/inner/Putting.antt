@@ -1,4 +1,4 @@
--- Questions put on the ids left, in two lists of one length. Assumes nothing.
+-- Queries run on the ids left, in two lists of one length. Assumes nothing.
 use Prim.Native.Nat.{ℕ, _+_, _≤_}
 use mathlib.Core.Path.{_≡_}
 use mathlib.Core.Bool.{_||_}
@@ -16,10 +16,10 @@ module _ (h : Header) (rows sorts ids : List ℕ) (questions : List Question) (l
     pub asked : AskedAll h rows sorts (length first) (subsetLeft l ids first second) questions (outcome (subsetLeft l′ ids first′ second′) accepted)
     pub told : l′ .refined ≡ (l .refined || any refines accepted)
     pub taken : l′ .taken ≡ l .taken + length questions
-    -- the ids left lie in their list
+    -- the ids left are within their list
     pub fits : l′ .count ≤ length first
 
-  -- no question or one
+  -- no query or one
   pub record QuestionPut : Type 0 where
     pub put : QuestionsPut
     pub few : l′ .taken ≤ l .taken + 1

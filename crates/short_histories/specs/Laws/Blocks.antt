@@ -1,4 +1,4 @@
--- The sequences of each length, and of all lengths up to one, place by place. Assumes nothing.
+-- The sequences of each length, and of all lengths up to a given one, place by place. Assumes nothing.
 use Prim.Native.Nat.{ℕ, zero, suc, _+_, _-_, _*_, _/_, _%_, _≤_, _<_}
 use mathlib.Core.Path.{_≡_, refl, sym, ap, _∙_}
 use mathlib.Core.List.{List, [], _∷_, _++_, map}
@@ -54,7 +54,7 @@ unfolding sequences many
 length-sequences zero = refl
 length-sequences (suc n) = length-blocks (beginning n) (many n) (λ x. length-map (sequences n) _ ∙ length-sequences n) 0 7
 
--- that begin with step x, at place k of them
+-- the sequence of n + 1 steps at place k of those that begin with step x
 at-beginning : (n x k : ℕ) → x < 7 → k < many n → getD (sequences (suc n)) (x * many n + k) [] ≡ x ∷ getD (sequences n) k []
 unfolding sequences
 at-beginning n x k h g =
@@ -71,7 +71,7 @@ value-found (x ∷ xs) e =
     let t = every-tail (λ step. ltb step 7) x xs e in
     at-beginning (length xs) x (value xs) h (value-below xs t) ∙ ap (λ (r : List ℕ). x ∷ r) (value-found xs t)
 
--- what stands at place k among the sequences of n steps
+-- the sequence at place k among the sequences of n steps
 record Valued (n k : ℕ) (s : List ℕ) : Type 0 where
   long : length s ≡ n
   steps : Steps s
@@ -116,7 +116,7 @@ number-below n s e h =
     let b = value-below s e in
     omega arith
 
--- a sequence stands at its number: among the longest, or among those of fewer steps
+-- a sequence is at its number: among the longest, or among those of fewer steps
 found-last : (n : ℕ) (s : List ℕ) → Steps s → length s ≡ suc n → getD (sequencesTo (suc n)) (number s) [] ≡ s
 unfolding sequencesTo number
 found-last n s e h =
@@ -139,7 +139,7 @@ number-found (suc n) s e h =
       | no k ↦ let l : length s ≤ n = omega arith in found-before n (number s) (number-below n s e l) ∙ number-found n s e l
     ]
 
--- what stands at place p among the sequences of at most n steps
+-- the sequence at place p among the sequences of at most n steps
 pub record Numbered (n p : ℕ) (s : List ℕ) : Type 0 where
   pub long : length s ≤ n
   pub steps : Steps s

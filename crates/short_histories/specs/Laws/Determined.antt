@@ -1,4 +1,4 @@
--- Each promise determines the outcome. Assumes nothing.
+-- Each contract determines the outcome. Assumes nothing.
 use Prim.Native.Nat.{ℕ}
 use mathlib.Core.Path.{_≡_, refl, sym, ap, _∙_}
 use mathlib.Core.Logic.{⊎-elim}
@@ -18,7 +18,7 @@ use Rattle.short_histories.specs.declared.SequenceAnswer.{SequenceAnswer
 use Rattle.short_histories.specs.declared.SequenceAnswer.the-variants.{Refused as SequenceRefused, None as NoSequence, Written}
 use Rattle.short_histories.specs.Sequences.{stepSays, positionSays, sequenceSays, StepTold, PositionTold, SequenceTold}
 
--- ---- an answer is known by what it says
+-- ---- an answer is determined by its reply
 
 stepOf : Reply Call → StepAnswer
 stepOf (refused n) = StepRefused n
@@ -58,7 +58,7 @@ sequence-said (SequenceRefused n) = refl
 sequence-said NoSequence = refl
 sequence-said (Written n) = refl
 
--- ---- the promises
+-- ---- the contracts
 
 pub step-determined : (step : ℕ) {a b : StepAnswer} → StepTold step a → StepTold step b → a ≡ b
 step-determined step {a} {b} x y = sym (step-said a) ∙ ap stepOf (x ∙ sym y) ∙ step-said b

@@ -1,4 +1,4 @@
--- The generator, started at the empty sequence, gives the sequences of positions 0, 1, 2 and so on to the last, and then none.
+-- The generator, started at the empty sequence, generates the sequences of positions 0, 1, 2 and so on to the last, and then none.
 -- Assumes nothing.
 use Prim.Native.Nat.{ℕ, zero, suc, _≤_, _<_}
 use mathlib.Core.Path.{_≡_, refl, sym, ap, _∙_}
@@ -17,7 +17,7 @@ use Rattle.short_histories.specs.Laws.Positions.{known-short, sequenceAt
 use Rattle.short_histories.specs.Laws.Refusals.{sequence-no-room, sequence-written, next-none, next-written}
 use Rattle.short_histories.specs.Laws.Determined.{sequence-determined}
 
--- the sequences that n calls lead to, each lent the one before and any output
+-- the sequences after n calls, each on the previous sequence and on any output
 pub data Generated : ℕ → List ℕ → Type 0 where
   start : Generated 0 []
   next : (n : ℕ) (sequence output output′ : List ℕ) (steps : ℕ) → Generated n sequence → NextFound sequence output (Written steps) output′
@@ -53,7 +53,7 @@ written-refused e = let z : _≡_ {A = ℕ} 0 1 = cc in omega arith
 written-same : {m n : ℕ} → Written m ≡ Written n → m ≡ n
 written-same e = cc
 
--- a sequence that is given is that of the next position
+-- a sequence that is generated is that of the next position
 given-next : (n : ℕ) → n < 137257 → (output output′ : List ℕ) (steps : ℕ) → NextFound (sequenceAt n) output (Written steps) output′
     → (suc n < 137257) × (take steps output′ ≡ sequenceAt (suc n))
 given-next n h output output′ steps f =
@@ -75,7 +75,7 @@ generated-at n s start = (omega arith, sym sequenceAt-none)
 generated-at n s (next m sequence output output′ steps g f) =
     let i = generated-at m sequence g in given-next m (i .0) output output′ steps (rw (← i .1) f)
 
--- every position is come to
+-- every position is reached
 pub generated-all : (n : ℕ) → n < 137257 → Generated n (sequenceAt n)
 generated-all zero h = rw sequenceAt-none start
 generated-all (suc n) h =
@@ -83,7 +83,7 @@ generated-all (suc n) h =
     rw (← take-put s s)
     (next n (sequenceAt n) s (putAt s 0 s) (length s) (generated-all n (omega arith)) (with-room n (omega arith) s h (omega arith)))
 
--- with room for six steps a call gives a sequence before the last, and none after it
+-- with room for six steps, a call on a sequence before the last generates a sequence, and a call on the last none
 pub generated-further : (n : ℕ) (s output output′ : List ℕ) (answer : SequenceAnswer) → Generated n s → suc n < 137257 → 6 ≤ length output
     → NextFound s output answer output′ → Same answer (Written (length (sequenceAt (suc n)))) output′ (putAt output 0 (sequenceAt (suc n)))
 generated-further n s output output′ answer g m r f =

@@ -17,7 +17,7 @@ use Rattle.lists.specs.Laws.Every.{every-head, every-tail}
 abbrev pub Steps : List ℕ → Type 0
 Steps s = every (λ step. ltb step 7) s ≡ true
 
--- how many sequences of n steps there are, and how many of fewer
+-- the number of sequences of n steps, and of fewer than n steps
 unfoldable pub many : ℕ → ℕ
 many zero = 1
 many (suc n) = 7 * many n
@@ -26,7 +26,7 @@ unfoldable pub shorter : ℕ → ℕ
 shorter zero = 0
 shorter (suc n) = shorter n + many n
 
--- a sequence's place among those of its length, and among all
+-- the place of a sequence among those of its length, and among all
 unfoldable pub value : List ℕ → ℕ
 value [] = 0
 value (x ∷ xs) = x * many (length xs) + value xs
@@ -65,7 +65,7 @@ value-below (x ∷ xs) e =
     let m : x * many (length xs) ≤ 6 * many (length xs) = mul-le-mul-right (many (length xs)) (omega arith) in
     omega arith
 
--- ---- one step more at the end
+-- ---- one more step at the end
 
 length-more : (s : List ℕ) (x : ℕ) → length (s ++ (x ∷ [])) ≡ suc (length s)
 length-more s x = length-append s (x ∷ []) ∙ omega arith
@@ -95,7 +95,7 @@ number-more s x =
     let c = value-more s x in
     omega arith
 
--- a number as small as those of at most six steps is one of them
+-- a number below 137257 is that of a sequence of at most six steps
 pub number-short : (s : List ℕ) → number s < 137257 → length s ≤ 6
 unfolding number
 number-short s h =

@@ -14,7 +14,7 @@ use Rattle.short_histories.specs.Sequences.{positionOf, known}
 use Rattle.short_histories.specs.Laws.Numbers.{Steps, many, shorter, value, number, value-below, shorter-rises}
 use Rattle.short_histories.specs.Laws.Positions.{known-steps, position-number}
 
--- the first differing step of two sequences of one length is smaller in the first
+-- the first differing step of two sequences of one length is smaller in the first sequence
 unfoldable pub firstLess : List ℕ → List ℕ → Bool
 firstLess [] t = false
 firstLess (x ∷ xs) [] = false

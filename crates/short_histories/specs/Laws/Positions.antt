@@ -1,4 +1,4 @@
--- Positions: how many there are, each way undoes the other, and a sequence's last step. Assumes nothing.
+-- Positions: how many there are, that the two maps are inverse to each other, and the last step of a sequence. Assumes nothing.
 use Prim.Native.Nat.{ℕ, zero, suc, _+_, _-_, _*_, _/_, _%_, _≤_, _<_, suc-le-suc}
 use mathlib.Core.Path.{_≡_, refl, sym, ap, _∙_}
 use mathlib.Core.Logic.{⊎-elim}
@@ -16,7 +16,7 @@ use Rattle.short_histories.specs.Sequences.{shortHistories, placeIn, pos
 use Rattle.short_histories.specs.Laws.Numbers.{Steps, number, shorter-than-seven, number-more, number-short}
 use Rattle.short_histories.specs.Laws.Blocks.{length-sequencesTo, number-below, number-found, number-none, Numbered, number-at}
 
--- how many sequences there are
+-- the number of sequences
 pub short-histories-counted : length shortHistories ≡ 137257
 unfolding shortHistories
 short-histories-counted = length-sequencesTo 6 ∙ shorter-than-seven
@@ -54,7 +54,7 @@ at-position p h = number-at 6 p (let q = shorter-than-seven in omega arith)
 pub sequenceAt-known : (p : ℕ) → p < 137257 → known (sequenceAt p) ≡ true
 sequenceAt-known p h = let v = at-position p h in known-of (sequenceAt p) (v .long) (v .steps)
 
--- the first place of a list where a sequence stands that stands at some place
+-- the first place of a sequence in a list, if it is in the list
 abbrev Placed : List (List ℕ) → List ℕ → Type 0
 Placed l s = (placeIn l s < length l) × (getD l (placeIn l s) [] ≡ s)
 
@@ -90,7 +90,7 @@ module _ (s : List ℕ) (e : known s ≡ true) where
   pub position-number : positionOf s ≡ number s
   position-number = sym (at-position (positionOf s) position-below .numbered) ∙ ap number sequenceAt-positionOf
 
--- the other way round, so that no sequence stands at two positions
+-- conversely, so that no sequence is at two positions
 pub positionOf-sequenceAt : (p : ℕ) → p < 137257 → positionOf (sequenceAt p) ≡ p
 positionOf-sequenceAt p h = position-number (sequenceAt p) (sequenceAt-known p h) ∙ at-position p h .numbered
 

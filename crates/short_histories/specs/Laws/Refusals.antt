@@ -1,4 +1,4 @@
--- The ladders' tests one by one, and the ways out of the entry points. Assumes nothing.
+-- The tests one by one, and the results of the entry points. Assumes nothing.
 use Prim.Native.Nat.{ℕ, suc, _+_, _≤_, _<_}
 use mathlib.Core.Path.{_≡_, refl, sym}
 use mathlib.Core.Bool.{true, false}
@@ -82,7 +82,7 @@ module _ (sequence output : List ℕ) where
   unfolding nextAfter
   further h = rw (lt-ltb (suc (positionOf sequence)) (length shortHistories) (let q = short-histories-counted in omega arith))
 
-  -- past the first test it is the sequence at the next position
+  -- if the first test passes, it is the sequence at the next position
   next-is : known sequence ≡ true → suc (positionOf sequence) < 137257
       → nextRefusal sequence (length output) ≡ sequenceRefusal (suc (positionOf sequence)) (length output)
   unfolding nextRefusal sequenceRefusal first stepsOf

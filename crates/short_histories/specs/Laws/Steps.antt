@@ -1,4 +1,4 @@
--- The seven steps spelled out, and that their table takes them. Assumes nothing.
+-- The seven steps in full, and that their table accepts them. Assumes nothing.
 use Prim.Native.Nat.{ℕ, suc, _≤_}
 use mathlib.Core.Path.{_≡_, refl}
 use mathlib.Core.Logic.{_≢_}
@@ -15,12 +15,12 @@ use Rattle.short_histories.specs.declared.StepAnswer.{StepAnswer}
 use Rattle.short_histories.specs.declared.StepAnswer.the-variants.{Refused, Insert, Remove, Merge}
 use Rattle.short_histories.specs.Sequences.{shortOpening, thirdCell, inserting, removing, steps, stepCall, stepRefusal, stepSays, StepTold}
 
--- the table is one that can be opened, under each of the four rules
+-- the table can be opened, under each of the four rules
 pub short-openable : (rule : ℕ) → rule ≤ 3 → openable (shortOpening rule) ≡ true
 unfolding openable shortOpening
 short-openable rule h = rw (le-leb rule 3 h)
 
--- a staging is not turned away where five words are free, as many as an insert takes
+-- a staging is not refused if five words are free, which is what an insert takes
 unfoldable pub fits : ℕ → Call → Bool
 fits rule (staging r) = eqb (stageLadder false (shortOpening rule) 0 0 5 r) 0
 fits rule merging = true

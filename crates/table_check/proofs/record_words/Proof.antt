@@ -13,7 +13,7 @@ returns c = read-no-kind _ _ _ _ _ (c .before .kind-words .ensures) (c .if1 .tak
 returns-2 : tie.Need-returns-2
 returns-2 c = read-short _ _ _ _ _ (c .before .before .before .kind-words .ensures) (c .if2 .taken)
 
--- the hash and the key lie in the record
+-- the hash and the key are within the record
 key-in : (c : tie.After-shared-slice-known3) → KeyInside (openingOf (c .before .before .before .before .before .before .before .before .before .args .h)) (getD (c .before .before .before .before .before .before .before .before .before .args .pending .now) (c .before .before .before .before .before .before .before .before .before .args .at) 0) (c .before .before .before .before .before .before .kind-words .result)
 key-in c = key-inside _ _ (c .before .before .before .before .before .before .kind-words .ensures) (c .before .before .before .before .before .if1 .left) (c .before .before .before .before .before .before .before .before .before .pre .0 .most-keys)
 

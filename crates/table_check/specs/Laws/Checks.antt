@@ -1,5 +1,5 @@
--- Laws of the soundness check: its parts make soundness, rows found by their keys have keys that differ, and the words of the
--- pending store determine the records that they hold. Assumes nothing.
+-- Laws of the soundness check: its parts imply soundness, rows found by their keys have different keys, and the words of the
+-- pending store determine its records. Assumes nothing.
 use Prim.Native.Nat.{ℕ, suc, _+_, _≤_, _<_}
 use mathlib.Core.Path.{_≡_, refl, sym, ap, ap₂, subst, _∙_}
 use mathlib.Core.Bool.{true, false, not, false≢true, true≢false}
@@ -34,7 +34,7 @@ use Rattle.table_check.specs.inner.Checks.{RowsSound, IndexSound, Own, O
 use Rattle.table.specs.Laws.Refusals.{Tested, sound-tested, inside-fits}
 use Rattle.table.specs.Laws.Pending.{length-recordWords}
 
--- ---- what tests 1 and 2 give the parts
+-- ---- what tests 1 and 2 provide for the parts
 
 module _ (h : Header) (rows keys sorts pending : List ℕ) (tested : soundRefusal h (length rows) (length keys) (length sorts) (length pending) ≡ 0) where
   facts : Tested h (length rows) (length keys) (length sorts) (length pending)
@@ -68,7 +68,7 @@ module _ (h : Header) (rows keys sorts pending : List ℕ) (tested : soundRefusa
       let t = facts in
       record { most-columns = t .inside .bounds .columns-few; most-keys = t .inside .bounds .keys-few; fits = t .pending-fits }
 
--- ---- the parts make soundness
+-- ---- the parts imply soundness
 
 module _ (h : Header) (rows keys sorts pending : List ℕ) (staged : List Staged) where
   pub parts-sound : soundRefusal h (length rows) (length keys) (length sorts) (length pending) ≡ 0 → RowsSound h rows sorts
@@ -98,7 +98,7 @@ module _ (h : Header) (rows keys sorts pending : List ℕ) (staged : List Staged
 -- ---- keys
 
 module _ (t : Keyed) (rows keys : List ℕ) where
-  -- rows that are found by their keys have keys that differ
+  -- rows that are found by their keys have different keys
   pub own-differ : ((i : ℕ) → i < t .rows → LiveAt t rows i → Own t rows keys i) → KeysDiffer t rows
   own-differ own i j a b e =
       let f = own i (a .0) a in
@@ -111,11 +111,11 @@ module _ (t : Keyed) (rows keys : List ℕ) where
     own-dead e = record { yes = λ _ l. absurd (false≢true (sym e ∙ l .1)); no = λ q. absurd (true≢false q) }
 
     module _ (live : LiveAt t rows row) (sound : KeysSound t rows keys) where
-      -- a live row that is not found, which a sound store rules out
+      -- a live row that is not found; a sound store excludes this case
       pub own-none : FoundIs t rows keys (keyAt t rows row) (compact (keyHash (keyAt t rows row))) None → OwnIs t rows keys row false
       own-none f = record { yes = λ q. absurd (false≢true q); no = λ _ _. f .none refl sound refl row live refl }
 
-      -- a row is found, itself or another of the same key
+      -- a row is found: itself, or another with the same key
       pub own-at : (i slot : ℕ) → FoundIs t rows keys (keyAt t rows row) (compact (keyHash (keyAt t rows row))) (At i slot) → OwnIs t rows keys row (eqb i row)
       own-at i slot f =
           record {
@@ -128,7 +128,7 @@ module _ (t : Keyed) (rows keys : List ℕ) where
 -- ---- one pending record
 
 module _ (o : Opening) (words : List ℕ) where
-  -- a record's words, read one by one
+  -- the words of a record, one by one
   begins-word : (r : Staged) → Begins o words r → (i : ℕ) → i < wordsOf o r → getD words i 0 ≡ getD (recordWords (o .keys) r) i 0
   begins-word r b i h = sym (getD-take (wordsOf o r) words i 0 h) ∙ ap (λ (l : List ℕ). getD l i 0) (b .there)
 
@@ -136,7 +136,7 @@ module _ (o : Opening) (words : List ℕ) where
   begins-part : (r : Staged) → Begins o words r → (n m : ℕ) → n + m ≡ wordsOf o r → take m (drop n words) ≡ drop n (recordWords (o .keys) r)
   begins-part r b n m e = take-drop n m words ∙ ap (drop n) (ap (λ (k : ℕ). take k words) e ∙ b .there)
 
-  -- the first word says how many there are
+  -- the first word determines the number of words
   pub begins-words : (r : Staged) → Begins o words r → wordsOf o r ≡ kindWords o (getD words 0 0)
   unfolding wordsOf recordWords kindWords
   begins-words (insert cells) b = rw (begins-word (insert cells) b 0 (omega arith))
@@ -194,7 +194,7 @@ module _ (o : Opening) (words : List ℕ) (hash : getD words 1 0 ≡ compact (ke
       let f : getD words 1 0 ≡ compact (keyHash (take (o .keys) (drop 3 words))) = rw e at hash in
       record { right-width = right-length (o .keys) 3 words h; there = three-words (o .keys) words h ∙ rw (e, f) }
 
-  -- words whose first is a kind, whose second is the hash of the key, and which are enough begin with a record
+  -- words are the start of a record if the first is a kind, the second is the hash of the key, and there are enough of them
   pub words-begin : o .keys ≤ o .columns → 0 < kindWords o (getD words 0 0) → kindWords o (getD words 0 0) ≤ length words → (r : Staged) × Begins o words r
   unfolding kindWords
   words-begin narrow some long =
@@ -212,7 +212,7 @@ module _ (o : Opening) (words : List ℕ) (hash : getD words 1 0 ≡ compact (ke
 -- ---- all pending records
 
 module _ (o : Opening) (pending : List ℕ) (end at : ℕ) where
-  -- one more in front
+  -- one more record in front
   pub holds-cons : (r : Staged) (staged : List Staged) → Begins o (drop at pending) r → HoldsFrom o pending end (at + wordsOf o r) staged → HoldsFrom o pending end at (r ∷ staged)
   unfolding wordsAll flat
   holds-cons r staged b s =
@@ -224,7 +224,7 @@ module _ (o : Opening) (pending : List ℕ) (end at : ℕ) where
             ∙ ap₂ (λ (x y : List ℕ). x ++ y) (b .there) (ap (take (wordsAll o staged)) (drop-drop (wordsOf o r) at pending) ∙ s .in-order);
       }
 
-  -- the first of them
+  -- the first record
   pub holds-head : (r : Staged) (staged : List Staged) → HoldsFrom o pending end at (r ∷ staged) → Begins o (drop at pending) r
   unfolding wordsAll flat
   holds-head r staged s =
@@ -238,7 +238,7 @@ module _ (o : Opening) (pending : List ℕ) (end at : ℕ) where
             ∙ take-at (recordWords (o .keys) r) _ (wordsOf o r) (length-recordWords o r w);
       }
 
-  -- the others
+  -- the other records
   pub holds-tail : (r : Staged) (staged : List Staged) → HoldsFrom o pending end at (r ∷ staged) → HoldsFrom o pending end (at + wordsOf o r) staged
   unfolding wordsAll flat
   holds-tail r staged s =
@@ -253,7 +253,7 @@ module _ (o : Opening) (pending : List ℕ) (end at : ℕ) where
             ∙ drop-at (recordWords (o .keys) r) _ (wordsOf o r) (length-recordWords o r w);
       }
 
-  -- none fill no words
+  -- no records fill no words
   pub holds-none : at ≡ end → HoldsFrom o pending end at []
   unfolding every wordsAll flat
   holds-none e = record { whole = refl; counted = omega arith; in-order = refl }
@@ -262,7 +262,7 @@ module _ (o : Opening) (pending : List ℕ) (end at : ℕ) where
   unfolding wordsAll
   holds-some s = omega (arith, s .counted)
 
--- from the first word on they are what the pending store of a sound table holds
+-- from the first word on, they are the records in the pending store of a sound table
 module _ (h : Header) (pending : List ℕ) (staged : List Staged) where
   pub holds-pending : HoldsFrom (openingOf h) pending (h .pending) 0 staged → Pending h pending staged
   holds-pending s =

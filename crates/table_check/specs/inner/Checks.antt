@@ -1,5 +1,4 @@
--- What the parts of the soundness check ask and promise, and how the words of the pending store are read as records. Assumes
--- nothing.
+-- Contracts of the parts of the soundness check, and how the words of the pending store are decoded as records. Assumes nothing.
 use Prim.Native.Nat.{ℕ, _+_, _≤_, _<_}
 use mathlib.Core.Path.{_≡_}
 use mathlib.Core.Bool.{Bool, true, false, cond, not}
@@ -26,11 +25,11 @@ use Rattle.table.specs.Sound.{keyedOf, Sound}
 abbrev pub deadRows : Header → List ℕ → ℕ
 deadRows h rows = count (λ row. not (isLive row)) (rowsOf (h .columns) (h .rows) rows)
 
--- there is no entry, or the last one's value does not exceed the largest
+-- there is no entry, or the value of the last entry is at most the largest value
 abbrev pub lastKept : Header → List ℕ → Bool
 lastKept h sorts = last (λ v. atMost v (largestSays (h .largest))) (entriesOf (h .entries) sorts)
 
--- the part of soundness that is about the rows and the sort entries
+-- the part of soundness that concerns the rows and the sort entries
 pub record RowsSound (h : Header) (rows sorts : List ℕ) : Type 0 where
   pub dead-counted : h .dead ≡ deadRows h rows
   pub entries-rise : entriesSound (entriesOf (h .entries) sorts) (h .rows) ≡ true
@@ -40,12 +39,12 @@ pub record RowsSound (h : Header) (rows sorts : List ℕ) : Type 0 where
 
 -- ---- keys
 
--- the part of soundness that is about the key store
+-- the part of soundness that concerns the key store
 pub record IndexSound (t : Keyed) (rows keys : List ℕ) : Type 0 where
   pub keyed : KeysSound t rows keys
   pub keys-differ : KeysDiffer t rows
 
--- the first slot that a row's key leads to is the row's own
+-- the first slot found for a row's key is the row's own
 abbrev pub Own : Keyed → List ℕ → List ℕ → ℕ → Type 0
 Own t rows keys row = (d : ℕ) × FirstHit t rows keys (keyAt t rows row) (compact (keyHash (keyAt t rows row))) row d
 
@@ -56,41 +55,41 @@ pub record OwnIs (t : Keyed) (rows keys : List ℕ) (row : ℕ) (r : Bool) : Typ
 
 -- ---- pending records
 
--- the pending words in use lie in their store
+-- the pending words in use are within their store
 pub record PendingIn (h : Header) (pending : List ℕ) : Type 0 where
   pub most-columns : h .columns ≤ 8
   pub most-keys : h .keys ≤ h .columns
   pub fits : h .pending ≤ length pending
 
--- how many words a record of a kind takes; 0 for no kind
+-- the number of words of a record of this kind; 0 for an unknown kind
 unfoldable pub kindWords : Opening → ℕ → ℕ
 kindWords o kind = cond (eqb kind 0) (o .columns + 2) (cond (eqb kind 1) (o .keys + 2) (cond (eqb kind 2) (o .keys + 3) 0))
 
--- where in a record its key begins
+-- the offset of the key in a record
 unfoldable pub keyPlace : ℕ → ℕ
 keyPlace kind = cond (eqb kind 2) 3 2
 
--- the key of the record that words begin with
+-- the key of the record at the start of the words
 unfoldable pub keyWords : Opening → List ℕ → List ℕ
 keyWords o words = take (o .keys) (drop (keyPlace (getD words 0 0)) words)
 
--- words begin with a record
+-- the words start with a record
 pub record Begins (o : Opening) (words : List ℕ) (r : Staged) : Type 0 where
   pub right-width : wrongWidth o r ≡ false
   pub there : take (wordsOf o r) words ≡ recordWords (o .keys) r
 
--- how many words the record at a place takes; 0 if there is none that ends in time
+-- the number of words of the record at a place; 0 if there is no record that ends by `end`
 pub record RecordRead (o : Opening) (pending : List ℕ) (end at r : ℕ) : Type 0 where
   pub yes : 0 < r → (q : Staged) × Begins o (drop at pending) q × (wordsOf o q ≡ r) × (at + r ≤ end)
   pub no : r ≡ 0 → (q : Staged) → Begins o (drop at pending) q → at + wordsOf o q ≤ end → ⊥
 
--- records fill the words from one place to another
+-- the records fill the words from `at` to `end`
 pub record HoldsFrom (o : Opening) (pending : List ℕ) (end at : ℕ) (staged : List Staged) : Type 0 where
   pub whole : every (λ r. not (wrongWidth o r)) staged ≡ true
   pub counted : at + wordsAll o staged ≡ end
   pub in-order : take (wordsAll o staged) (drop at pending) ≡ flat (map (recordWords (o .keys)) staged)
 
--- the part of soundness that is about the pending store
+-- the part of soundness that concerns the pending store
 pub record Pending (h : Header) (pending : List ℕ) (staged : List Staged) : Type 0 where
   pub pending-counted : h .pending ≡ wordsAll (openingOf h) staged
   pub pending-whole : Holds (openingOf h) pending staged
@@ -98,7 +97,7 @@ pub record Pending (h : Header) (pending : List ℕ) (staged : List Staged) : Ty
 abbrev pub PendingWhole : Header → List ℕ → Type 0
 PendingWhole h pending = (staged : List Staged) × Pending h pending staged
 
--- ---- all of it
+-- ---- all parts
 
 abbrev pub SoundStores : Header → List ℕ → List ℕ → List ℕ → List ℕ → Type 0
 SoundStores h rows keys sorts pending = (staged : List Staged) × Sound h rows keys sorts pending staged

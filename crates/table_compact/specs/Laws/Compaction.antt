@@ -1,5 +1,5 @@
--- Laws of a compaction: how the live rows of a store close up row by row, their sort entries and the words that number
--- them; and that stores so left show the compacted plain table. Assumes nothing.
+-- Laws of a compaction: how the live rows of a store move down row by row, their sort entries and the words that number them; and
+-- that the resulting stores represent the compacted plain table. Assumes nothing.
 use Prim.Native.Nat.{ℕ, zero, suc, _+_, _-_, _*_, _/_, _%_, _≤_, _<_, min, suc-le-suc}
 use mathlib.Core.Path.{_≡_, refl, sym, ap, ap₂, _∙_}
 use mathlib.Core.Logic.{inl, inr}
@@ -47,10 +47,10 @@ use Rattle.table.specs.Laws.Stored.{stored-live}
 use Rattle.plain_table.specs.Proper.{Proper}
 use Rattle.table.specs.Laws.Shown.{stores-long, stored-rows, rows-counted, row-shown}
 
--- ---- the live rows close up
+-- ---- the live rows move down
 
 module _ (w n : ℕ) (rows : List ℕ) where
-  -- they are not more than the rows
+  -- there are at most as many live rows as rows
   pub length-live : length (liveStored w n rows) ≤ n
   unfolding liveStored
   length-live = omega (arith, length-keep isLive (rowsOf w n rows), count-le isLive (rowsOf w n rows), length-rowsOf w n rows)
@@ -59,7 +59,7 @@ module _ (w n : ℕ) (rows : List ℕ) where
   unfolding liveStored
   live-more = ap (keep isLive) (rowsOf-snoc w n rows) ∙ keep-append isLive (rowsOf w n rows) (rowAt w n rows ∷ [])
 
-  -- one row more: live, or dead
+  -- one more row: live, or dead
   pub live-one : isLive (rowAt w n rows) ≡ true → liveStored w (n + 1) rows ≡ liveStored w n rows ++ (rowAt w n rows ∷ [])
   unfolding keep
   live-one e = live-more ∙ rw e
@@ -68,7 +68,7 @@ module _ (w n : ℕ) (rows : List ℕ) where
   unfolding keep
   live-none e = live-more ∙ rw e (append-nil (liveStored w n rows))
 
--- some more, all dead
+-- several more rows, all dead
 pub live-skip : (w n k : ℕ) (rows : List ℕ) → ((i : ℕ) → n ≤ i → i < n + k → isLive (rowAt w i rows) ≡ false) → liveStored w (n + k) rows ≡ liveStored w n rows
 live-skip w n zero rows dead = rw add-zero
 live-skip w n (suc k) rows dead =
@@ -77,7 +77,7 @@ live-skip w n (suc k) rows dead =
     rw e (live-none w (n + k) rows (dead (n + k) low (omega arith)) ∙ live-skip w n k rows (λ i p q. dead i p (omega arith)))
 
 module _ (w n : ℕ) (rows : List ℕ) (fits : n * w ≤ length rows) where
-  -- they are a row's width
+  -- each has the width of a row
   pub widths-live : widths w (liveStored w n rows) ≡ true
   unfolding liveStored
   widths-live = widths-keep w isLive (rowsOf w n rows) (rowsOf-widths w n rows fits)
@@ -85,11 +85,11 @@ module _ (w n : ℕ) (rows : List ℕ) (fits : n * w ≤ length rows) where
   flat-live : length (flat (liveStored w n rows)) ≡ length (liveStored w n rows) * w
   flat-live = length-flat w (liveStored w n rows) widths-live
 
-  -- their cells end at or below the rows' end
+  -- their cells end at or below the end of the rows
   pub flat-below : length (flat (liveStored w n rows)) ≤ n * w
   flat-below = omega (arith, flat-live, mul-le-mul-right w (length-live w n rows))
 
--- a later row stands as it stood, after those before row n have closed up
+-- a later row is unchanged after the live rows before row n have moved down
 pub later-row : (w n i : ℕ) (rows : List ℕ) → n ≤ i → i * w + w ≤ length rows → rowAt w i (putAt rows 0 (flat (liveStored w n rows))) ≡ rowAt w i rows
 unfolding rowAt
 later-row w n i rows h fits =
@@ -101,7 +101,7 @@ module _ (w n : ℕ) (rows : List ℕ) (fits : n * w + w ≤ length rows) where
   below : length (flat (liveStored w n rows)) ≤ n * w
   below = flat-below w n rows (omega arith)
 
-  -- it is moved to their end
+  -- a live row is moved to their end
   pub close-one : isLive (rowAt w n rows) ≡ true
       → putAt (putAt rows 0 (flat (liveStored w n rows))) (length (liveStored w n rows) * w) (rowAt w n rows) ≡ putAt rows 0 (flat (liveStored w (n + 1) rows))
   unfolding flat
@@ -115,7 +115,7 @@ module _ (w n : ℕ) (rows : List ℕ) (fits : n * w + w ≤ length rows) where
 
 -- ---- their sort entries
 
--- those of one row more
+-- the entries with one more row
 pub entries-one : (sort : ℕ) (rows : List (List ℕ)) (row : List ℕ) → entriesFor sort (rows ++ (row ∷ [])) ≡ push (getD row sort 0) (length rows) (entriesFor sort rows)
 unfolding entriesFor
 entries-one sort rows row =
@@ -123,12 +123,12 @@ entries-one sort rows row =
     ∙ rebuilt-snoc (map (λ (r : List ℕ). getD r sort 0) rows) (getD row sort 0)
     ∙ ap (λ (k : ℕ). push (getD row sort 0) k (rebuilt (map (λ (r : List ℕ). getD r sort 0) rows))) (length-map rows (λ (r : List ℕ). getD r sort 0))
 
--- they are not more than the rows
+-- there are at most as many entries as rows
 pub entries-at-most : (sort : ℕ) (rows : List (List ℕ)) → length (entriesFor sort rows) ≤ length rows
 unfolding entriesFor
 entries-at-most sort rows = omega (arith, rebuilt-few (map (λ (r : List ℕ). getD r sort 0) rows), length-map rows (λ (r : List ℕ). getD r sort 0))
 
--- a store of rebuilt entries, one row later
+-- a store of rebuilt entries with one more row
 module _ (sorts : List ℕ) (es : List Entry) (fits : 2 * length es + 2 ≤ length sorts) (value row : ℕ) where
   rebuilt-words : (b : Bool) → last (λ v. ltb v value) es ≡ b
       → cond b (putAt (putAt sorts 0 (entryWords es)) (2 * length es) (value ∷ row ∷ [])) (putAt sorts 0 (entryWords es)) ≡ putAt sorts 0 (entryWords (push value row es))
@@ -146,7 +146,7 @@ module _ (sorts : List ℕ) (es : List Entry) (fits : 2 * length es + 2 ≤ leng
 
 -- ---- the words that number the rows
 
--- the words whose first row is below m mark the live ones of n rows
+-- the words whose first row is below m are the bitmap of the live rows among n rows
 pub record Words (rows : List (List ℕ)) (n m : ℕ) (live base : List ℕ) : Type 0 where
   pub marks : (k : ℕ) → k * 64 < m → getD live k 0 ≡ liveWord isLive rows (k * 64) (min 64 (n - k * 64))
   pub firsts : (k : ℕ) → k * 64 < m → getD base k 0 ≡ newNumber isLive rows (k * 64)
@@ -170,7 +170,7 @@ words-next rows n m live base word kept s start live-in base-in e f =
       ];
     }
 
--- the numbers that the words tell
+-- the row numbers that the words give
 pub words-number : (rows : List (List ℕ)) (n : ℕ) (live base : List ℕ) → Words rows n n live base → (i : ℕ) → i < n → newRow live base i ≡ newNumber isLive rows i
 unfolding newRow
 words-number rows n live base s i h =
@@ -201,7 +201,7 @@ module _ (h : Header) (rows sorts live base : List ℕ) (kept : Kept) (rows′ s
   closed-fits : 0 + length (flat (closedRows h rows)) ≤ length rows
   closed-fits = omega (arith, flat-below (h .columns) (h .rows) rows fits)
 
-  -- the rows after are the live ones
+  -- the rows after the compaction are the live ones
   closed-read : rowsOf (h .columns) (kept .rows) rows′ ≡ closedRows h rows
   closed-read =
       rw (c .rows-counted, c .rows-after)
@@ -211,7 +211,7 @@ module _ (h : Header) (rows sorts live base : List ℕ) (kept : Kept) (rows′ s
   unfolding liveStored
   closed-count = c .rows-counted ∙ length-keep isLive (rowsOf (h .columns) (h .rows) rows)
 
-  -- each stands at its new number
+  -- each row is at its new number
   closed-moved : (i : ℕ) → LiveAt (keyedOf h) rows i → rowAt (h .columns) (liveBelow (keyedOf h) rows i) rows′ ≡ rowAt (h .columns) i rows
   unfolding liveStored
   closed-moved i l =
@@ -223,7 +223,7 @@ module _ (h : Header) (rows sorts live base : List ℕ) (kept : Kept) (rows′ s
       ∙ keep-at isLive (rowsOf (h .columns) (h .rows) rows) i [] (live-among t rows (h .rows) i (l .0) ∙ l .1)
       ∙ getD-rowsOf (h .columns) (h .rows) rows i (l .0)
 
-  -- so that the key store leads to them by their new numbers
+  -- so the key store refers to the rows by their new numbers
   closed-numbers : keyedOf (closedHeader h kept) .room ≡ keyedOf h .room → Compacted (keyedOf h) rows (keyedOf (closedHeader h kept)) rows′
   closed-numbers room-same =
       record {
@@ -253,11 +253,11 @@ module _ (h : Header) (rows keys sorts live base : List ℕ) (lent : Lendable h 
   fits : Fits (keyedOf h) rows keys
   fits = whole-fits h rows keys (lent .fits)
 
-  -- in the same room the slots have the new numbers
+  -- with the same number of slots, the slots have the new numbers
   renumbered-keys : keyedOf (closedHeader h kept) .room ≡ keyedOf h .room → Renumbered (keyedOf h) rows keys keys′
   renumbered-keys e = rw (led .numbers e) (slots-renumbered (keyedOf h) rows keys live′ base′ (small (keyedOf h) rows keys fits) (fits .long) (c .numbered))
 
-  -- either way the key store leads to the rows that are left, and no slot past it is written
+  -- in both cases the key store refers to the remaining rows, and no slot past it is written
   keyed-after : KeysSound (keyedOf h) rows keys → KeysSound (keyedOf (closedHeader h kept)) rows′ keys′
   keyed-after sound = elim (ℕ-discrete (keyedOf (closedHeader h kept) .room) (keyedOf h .room)) [
     | yes e ↦ renumber-sound (keyedOf h) rows (keyedOf (closedHeader h kept)) rows′ (closed-numbers h rows sorts live base kept rows′ sorts′ live′ base′ c rows-fit e)
@@ -272,7 +272,7 @@ module _ (h : Header) (rows keys sorts live base : List ℕ) (lent : Lendable h 
   ]
 
   module _ (pending : List ℕ) (p : Plain) (r : Represents p (stores h rows keys sorts pending)) (g : h .generation < 4294967295) where
-    -- the live rows are the plain table's
+    -- the live rows are those of the plain table
     kept-rows : closedRows h rows ≡ map (λ row. row .cells) (compacted p .rows)
     unfolding liveStored compacted
     kept-rows =
@@ -336,7 +336,7 @@ module _ (h : Header) (rows keys sorts live base : List ℕ) (lent : Lendable h 
           represents = represents-after;
         }
 
-  -- a compaction, once the live rows have closed up and the key store leads to them
+  -- the contract of a compaction, after the live rows have moved down and the key store refers to them
   pub compaction : h .generation < 4294967295 → Compaction h rows keys sorts live base (closedHeader h kept) rows′ keys′ sorts′ live′ base′
   compaction g =
       record {

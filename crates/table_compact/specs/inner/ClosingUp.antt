@@ -1,5 +1,5 @@
--- What the parts of a compaction promise: one live row kept, those of a block, and the stores once all live rows have closed
--- up. No plain table is spoken of, so that it holds of any stores. Assumes nothing.
+-- Contracts of the parts of a compaction: one live row kept, the live rows of a block kept, and the stores after all live rows have
+-- moved down. They mention no plain table, so they hold for any stores. Assumes nothing.
 use Prim.Native.Nat.{ℕ, _+_, _*_, _/_, _≤_, _<_}
 use mathlib.Core.Path.{_≡_}
 use mathlib.Core.List.{List, map}
@@ -18,7 +18,7 @@ use Rattle.table.specs.Sound.{keyedOf}
 use Rattle.table.specs.inner.Whole.{wholeOf}
 use Rattle.table.specs.Promises.{PastNeeded}
 
--- the live ones of a store's first n rows, in order
+-- the live rows among the first n rows of a store, in order
 unfoldable pub liveStored : ℕ → ℕ → List ℕ → List (List ℕ)
 liveStored w n rows = keep isLive (rowsOf w n rows)
 
@@ -26,23 +26,23 @@ liveStored w n rows = keep isLive (rowsOf w n rows)
 unfoldable pub entriesFor : ℕ → List (List ℕ) → List Entry
 entriesFor sort rows = rebuilt (map (λ row. getD row sort 0) rows)
 
--- what is left of a table's rows
+-- the rows of a table that remain
 abbrev pub closedRows : Header → List ℕ → List (List ℕ)
 closedRows h rows = liveStored (h .columns) (h .rows) rows
 
--- numbers within their bounds, and rows and sort entries long enough
+-- numbers within their bounds, and row and sort stores that are long enough
 pub record Movable (h : Header) (rows sorts : List ℕ) : Type 0 where
   pub within : RowsIn (wholeOf h) rows
   pub sort-column : h .sort < h .columns
   pub sorts-long : 2 * h .capacity ≤ length sorts
 
--- compaction words too
+-- the same, with compaction words that are long enough
 pub record Closable (h : Header) (rows sorts live base : List ℕ) : Type 0 where
   pub movable : Movable h rows sorts
   pub live-long : (h .capacity + 63) / 64 ≤ length live
   pub base-long : (h .capacity + 63) / 64 ≤ length base
 
--- a row can be kept: at or below its place, and with an entry
+-- a row can be kept: its new place is at or below its old one, and its sort entry fits
 pub record Keepable (h : Header) (rows sorts : List ℕ) (row : ℕ) (kept : Kept) : Type 0 where
   pub within : RowsIn (wholeOf h) rows
   pub sort-column : h .sort < h .columns
@@ -50,12 +50,12 @@ pub record Keepable (h : Header) (rows sorts : List ℕ) (row : ℕ) (kept : Kep
   pub moves-down : kept .rows ≤ row
   pub room : Room sorts (kept .entries)
 
--- it is moved, and recorded in the sort entries, of which there are then r
+-- the row is moved and recorded in the sort entries, whose number is then r
 pub record RowKept (h : Header) (rows sorts : List ℕ) (row : ℕ) (kept : Kept) (r : ℕ) (rows′ sorts′ : List ℕ) : Type 0 where
   pub moved : rows′ ≡ putAt rows (kept .rows * h .columns) (rowAt (h .columns) row rows)
   pub recorded : Append sorts (kept .entries) (getD (rowAt (h .columns) row rows) (h .sort) 0) (kept .rows) r sorts′
 
--- the live rows before row `row` have closed up, and the others stand as they stood
+-- the live rows before row `row` have moved down, and all other cells are unchanged
 pub record Closing (h : Header) (rows₀ sorts₀ rows sorts : List ℕ) (kept : Kept) (row : ℕ) : Type 0 where
   pub row-in : row ≤ h .rows
   pub kept-few : kept .rows ≤ row
@@ -67,11 +67,11 @@ pub record Closing (h : Header) (rows₀ sorts₀ rows sorts : List ℕ) (kept :
   pub entered : kept .entries ≡ length (entriesFor (h .sort) (liveStored (h .columns) row rows₀))
   pub recorded : sorts ≡ putAt sorts₀ 0 (entryWords (entriesFor (h .sort) (liveStored (h .columns) row rows₀)))
 
--- the word that marks the live ones of up to 64 rows
+-- the bitmap word of the live rows among up to 64 rows
 abbrev pub blockWord : Header → List ℕ → ℕ → ℕ → ℕ
 blockWord h rows first count = liveWord isLive (rowsOf (h .columns) (h .rows) rows) first count
 
--- the rows before these have closed up, in some stores, and a word marks the live ones of these
+-- the rows before the block have moved down, from some initial stores, and `word` is the bitmap of the block's live rows
 pub record Block (h : Header) (rows sorts : List ℕ) (first word : ℕ) (kept : Kept) : Type 0 where
   pub rows₀ : List ℕ
   pub sorts₀ : List ℕ
@@ -82,11 +82,11 @@ pub record Block (h : Header) (rows sorts : List ℕ) (first word : ℕ) (kept :
   pub marked : word ≡ blockWord h rows₀ first count
   pub closing : Closing h rows₀ sorts₀ rows sorts kept first
 
--- and then these have too
+-- the rows of the block have moved down too
 pub record BlockKept (h : Header) (rows sorts : List ℕ) (first word : ℕ) (kept r : Kept) (rows′ sorts′ : List ℕ) : Type 0 where
   pub on : (b : Block h rows sorts first word kept) → Closing h (b .rows₀) (b .sorts₀) rows′ sorts′ r (first + b .count)
 
--- the live rows have closed up, and the words tell their new numbers
+-- all live rows have moved down, and the compaction words give their new numbers
 pub record Closed (h : Header) (rows sorts live base : List ℕ) (kept : Kept) (rows′ sorts′ live′ base′ : List ℕ) : Type 0 where
   pub rows-counted : kept .rows ≡ length (closedRows h rows)
   pub rows-after : rows′ ≡ putAt rows 0 (flat (closedRows h rows))
@@ -95,7 +95,7 @@ pub record Closed (h : Header) (rows sorts live base : List ℕ) (kept : Kept) (
   pub numbered : (i : ℕ) → LiveAt (keyedOf h) rows i → newRow live′ base′ i ≡ liveBelow (keyedOf h) rows i
   pub words-past : PastNeeded (h .capacity) live live′ × PastNeeded (h .capacity) base base′
 
--- the header that goes with them
+-- the header after the compaction
 abbrev pub closedHeader : Header → Kept → Header
 closedHeader h kept =
     record {

@@ -1,4 +1,5 @@
--- What a compaction promises of a table that shows a plain table, over what it is lent. Assumes nothing.
+-- Contract of a compaction: what it requires of the lent stores, and its effect on stores that represent a plain table.
+-- Assumes nothing.
 use Prim.Native.Nat.{ℕ, _+_, _*_, _/_, _≤_, _<_}
 use mathlib.Core.Path.{_≡_}
 use mathlib.Core.List.{List, []}
@@ -15,7 +16,7 @@ use Rattle.table.specs.Sound.{keyedOf}
 use Rattle.table.specs.inner.Whole.{wholeOf}
 use Rattle.table.specs.Promises.{stores, Represents, SlotsPast, PastNeeded}
 
--- numbers within their bounds, and stores and compaction words long enough
+-- numbers within their bounds, and stores and compaction words that are long enough
 pub record Lendable (h : Header) (rows keys sorts live base : List ℕ) : Type 0 where
   pub fits : Fits (wholeOf h) rows keys
   pub sort-column : h .sort < h .columns
@@ -23,8 +24,8 @@ pub record Lendable (h : Header) (rows keys sorts live base : List ℕ) : Type 0
   pub live-long : (h .capacity + 63) / 64 ≤ length live
   pub base-long : (h .capacity + 63) / 64 ≤ length base
 
--- The key store under another header: the words have their rows' new numbers, or where the room is another, it leads to the rows
--- as they are now.
+-- The key store under another header. With the same number of slots, its words have the new row numbers; otherwise it is rebuilt
+-- over the rows as they are now.
 pub record Leading (h h′ : Header) (rows′ keys live base keys′ : List ℕ) : Type 0 where
   pub numbers : keyedOf h′ .room ≡ keyedOf h .room → keys′ ≡ mapFront (renumbered (keyedOf h) live base) (slots (keyedOf h)) keys
   pub anew : (keyedOf h′ .room ≡ keyedOf h .room → ⊥) → Rebuilt (keyedOf h′) rows′ keys keys′

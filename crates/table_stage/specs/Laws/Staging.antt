@@ -1,4 +1,4 @@
--- Staged records: the ladder of each kind, how one is written, and what a staging that ends so promises. Assumes nothing.
+-- Staged records: the checks of each kind, how a record is written, and that each outcome meets the contract. Assumes nothing.
 use Prim.Native.Nat.{ℕ, zero, suc, _+_, _≤_}
 use mathlib.Core.Path.{_≡_, refl, ap, _∙_}
 use mathlib.Core.Bool.{Bool, false}
@@ -24,9 +24,9 @@ use Rattle.table_stage.specs.inner.Staging.{ladder}
 use Rattle.table.specs.Laws.Refusals.{Inside, PendingInside, pending-inside}
 use Rattle.table.specs.Laws.Staging.{stage-accepted}
 
--- ---- the ladder
+-- ---- checks
 
--- that of each kind
+-- the check list of each kind
 pub insert-ladder : (h : Header) (pending : ℕ) (cells : List ℕ) → ladder h pending (length cells) (h .columns) false 2 ≡ stageRefusal h pending (insert cells)
 unfolding ladder overfull stageRefusal wrongWidth noSuchRow wordsOf stageLadder
 insert-ladder h pending cells = refl
@@ -39,7 +39,7 @@ pub row-ladder : (h : Header) (pending row : ℕ) (key : List ℕ) → ladder h 
 unfolding ladder overfull stageRefusal wrongWidth noSuchRow wordsOf stageLadder
 row-ladder h pending row key = refl
 
--- its tests, passed
+-- what holds if all tests pass
 pub record Free (h : Header) (pending cells width more : ℕ) : Type 0 where
   pub inside : PendingInside h pending
   pub as-wide : cells ≡ width
@@ -59,7 +59,7 @@ ladder-free h pending cells width gone more e =
       counted = ltb-false _ _ (or-no-right (ltb pending (h .pending + (width + more))) _ f);
     }
 
--- ---- a record's words
+-- ---- the words of a record
 
 -- the three words before a key, written one by one
 pub row-head : (l : List ℕ) (at a b c : ℕ) → at + 3 ≤ length l → set (set (set l at a) (at + 1) b) (at + 2) c ≡ putAt l at (a ∷ b ∷ c ∷ [])
@@ -69,22 +69,22 @@ row-head l at a b c h =
     ∙ ap (λ (x : List ℕ). putAt x (at + 2) (c ∷ [])) (set-set-putAt l at a b (omega arith))
     ∙ putAt-then l (a ∷ b ∷ []) (c ∷ []) at (omega arith)
 
--- ---- what a staging promises
+-- ---- the contract of staging
 
 module _ (h : Header) (pending : List ℕ) (r : Staged) where
-  -- of a record that is turned away
+  -- a refused record
   pub staging-refused : (n : ℕ) → n ≡ stageRefusal h (length pending) r → (n ≡ 0 → ⊥) → Staging h pending r (Refused n) pending
   unfolding tableSays reply
   staging-refused zero e ne = absurd (ne refl)
   staging-refused (suc n) e ne = record { answers = rw (← e); unchanged = λ k. refl; written = λ z. absurd (omega arith) }
 
-  -- of one that is written
+  -- a record that is written
   pub staging-written : (pending′ : List ℕ) → stageRefusal h (length pending) r ≡ 0 → pending′ ≡ putAt pending (h .pending) (recordWords (h .keys) r)
       → Staging h pending r (Table (withPending h (h .pending + wordsOf (openingOf h) r))) pending′
   unfolding tableSays reply
   staging-written pending′ e w = record { answers = rw e; unchanged = λ k. absurd (omega arith); written = λ z. w }
 
-  -- of one that is taken: the header has passed test 1, and is changed in its pending words alone
+  -- an accepted record: the header has passed test 1, and only its pending count changes
   pub staging-taken : {pending′ : List ℕ} {h′ : Header} → Staging h pending r (Table h′) pending′ → (h′ ≡ withPending h (h′ .pending)) × Inside h
   unfolding tableSays reply
   staging-taken {pending′} {h′} m = go (stageRefusal h (length pending) r) refl (m .answers)

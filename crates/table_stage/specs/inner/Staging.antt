@@ -1,4 +1,4 @@
--- The tests of *Stage* over a record's numbers alone: one ladder for its three kinds. Assumes nothing.
+-- The tests of *Stage* over the numbers of a record: one check list for its three kinds. Assumes nothing.
 use Prim.Native.Nat.{ℕ, _+_}
 use mathlib.Core.Bool.{Bool, not}
 use mathlib.Core.List.{[], _∷_}
@@ -8,7 +8,7 @@ use Rattle.plain_table.specs.Refusing.{overfull}
 use Rattle.table.specs.declared.Header.{Header}
 use Rattle.table.specs.Refusing.{pendingOutside}
 
--- the ladder, of a record of so many cells where `width` are asked for, with `more` words before them
+-- the checks of a record with `cells` cells where `width` are required, and with `more` words before them
 unfoldable pub ladder : Header → ℕ → ℕ → ℕ → Bool → ℕ → ℕ
 ladder h pending cells width gone more =
     first

@@ -1,4 +1,4 @@
--- The promise determines the outcome. Assumes nothing.
+-- The contract determines the outcome. Assumes nothing.
 use Prim.Native.Nat.{ℕ}
 use mathlib.Core.Path.{_≡_, refl, sym, _∙_}
 use mathlib.Core.Logic.{⊎-elim}
@@ -11,7 +11,7 @@ use Rattle.vault.specs.declared.ColumnsAnswer.{ColumnsAnswer}
 use Rattle.vault.specs.declared.ColumnsAnswer.the-variants.{Refused, Written}
 use Rattle.vault.specs.Columns.{columnsSays, columnsRefusal, Rearranged}
 
--- an answer is known by what it says
+-- an answer is determined by its reply
 columns-said : (a b : ColumnsAnswer) → columnsSays a ≡ columnsSays b → a ≡ b
 unfolding columnsSays
 columns-said (Refused m) (Refused n) e = cc

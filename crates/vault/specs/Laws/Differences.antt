@@ -1,4 +1,4 @@
--- One column: differences and sums undo each other; what stands at each place. Assumes nothing.
+-- One column: differences and sums are inverse to each other; the value at each place. Assumes nothing.
 use Prim.Native.Nat.{ℕ, zero, suc, _^_, _<_}
 use mathlib.Core.Path.{_≡_, refl, ap, ap₂}
 use mathlib.Core.List.{List, [], _∷_}
@@ -70,7 +70,7 @@ length-sums (d ∷ ds) = ap suc (length-sumsBelow d ds)
 
 -- ---- place by place
 
--- the cell above one; nothing stands above the first, and its difference from 0 is itself
+-- the cell above a cell; 0 above the first, whose difference from 0 is itself
 unfoldable pub above : List ℕ → ℕ → ℕ
 above cells zero = 0
 above cells (suc i) = getD cells i 0

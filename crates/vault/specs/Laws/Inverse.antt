@@ -15,7 +15,7 @@ use Rattle.vault.specs.Laws.Transposed.{length-transposed, transposed-wi
 
 -- n rows of this width
 module _ (width n : ℕ) (some : 0 < width) where
-  -- as many rows as the length says
+  -- the number of rows, by the length
   pub rows-of : (cells : List ℕ) → length cells ≡ n * width → length cells / width ≡ n
   rows-of cells e = rw e (mul-div-cancel n some)
 
@@ -87,7 +87,7 @@ module _ (width n : ℕ) (some : 0 < width) where
         ∙ flat-rowsOf n width cells
         ∙ take-all (width * n) cells (omega arith)
 
--- a length that is a multiple of the width is that of so many rows
+-- a length that is a multiple of the width is that of whole rows
 pub multiple : (width length : ℕ) → length % width ≡ 0 → length ≡ length / width * width
 multiple width length e = omega (arith, div-add-mod' length width)
 
@@ -98,7 +98,7 @@ module _ (width : ℕ) (cells : List ℕ) (some : 0 < width) (whole : length cel
   pub fromColumns-length : length (fromColumns width cells) ≡ length cells
   fromColumns-length = length-from width (length cells / width) some cells (multiple width (length cells) whole)
 
-  -- back after there, and there after back
+  -- `fromColumns` after `toColumns`, and `toColumns` after `fromColumns`
   pub fromColumns-toColumns : Cells cells → fromColumns width (toColumns width cells) ≡ cells
   fromColumns-toColumns f = from-to width (length cells / width) some cells (multiple width (length cells) whole) f
 

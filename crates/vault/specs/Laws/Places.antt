@@ -1,4 +1,4 @@
--- Both orders place by place: each cell by itself and the one above it. Assumes nothing.
+-- Both orders place by place: each cell, by the one above it. Assumes nothing.
 use Prim.Native.Nat.{ℕ, zero, suc, _+_, _*_, _<_}
 use mathlib.Core.Path.{_≡_, refl, sym, ap, ap₂, _∙_}
 use mathlib.Core.List.{List, [], _∷_, map}
@@ -14,7 +14,7 @@ use Rattle.vault.specs.Laws.Differences.{Cells, above, differences-at, s
 use Rattle.vault.specs.Laws.Transposed.{length-column, length-transposed, column-at, transposed-at, width-at, flat-at, rowsOf-cells, column-cells}
 use Rattle.vault.specs.Laws.Inverse.{to-columns, from-columns, columns-widths, rows-widths, columnsIn, rowsBack}
 
--- a cell above in a column stands a row before in the rows
+-- the cell above in a column is one row earlier in the rows
 above-alike : (width j : ℕ) (cells l : List ℕ) (n : ℕ) → ((i : ℕ) → i < n → getD l i 0 ≡ getD cells (i * width + j) 0)
     → (i : ℕ) → i < n → above l i ≡ cellAbove width j cells i
 unfolding above cellAbove
@@ -39,7 +39,7 @@ module _ (width n : ℕ) (some : 0 < width) (cells : List ℕ) (e : length cells
       ∙ differences-at (column j rows) (column-cells j rows (rowsOf-cells width n cells f)) i (rw (length-column j rows, length-rowsOf width n cells) h)
       ∙ ap₂ minus (cell-of i j h k) (above-alike width j cells (column j rows) n (λ r g. cell-of r j g k) i h)
 
-  -- column j of the way back
+  -- column j after the inverse
   abbrev back : ℕ → List ℕ
   back j = sums (getD (rowsOf n width cells) j [])
 

@@ -1,4 +1,4 @@
--- The ladder's tests one by one, and what is known past them. Assumes nothing.
+-- The tests one by one, and what is known if they pass. Assumes nothing.
 use Prim.Native.Nat.{ℕ, _%_, _≤_, _<_}
 use mathlib.Core.Path.{_≡_}
 use native.Mathlib.Decide.{decLt, ℕ-discrete}
@@ -28,7 +28,7 @@ module _ (width cells output : ℕ) where
   unfolding columnsRefusal first
   none h k e s = rw (le-ltb _ _ h, le-ltb _ _ k, eq-eqb _ _ e, le-ltb _ _ s)
 
-  -- accepted
+  -- what holds if all tests pass
   pub record Accepted : Type 0 where
     pub narrow : 1 ≤ width
     pub wide : width ≤ 8

@@ -1,4 +1,4 @@
--- "Applying either after the other restores the cells", said of two calls: one accepted, then the other on what it wrote.
+-- "Applying either after the other restores the cells", for two calls: one accepted, then the other on what it wrote.
 -- Assumes nothing.
 use Prim.Native.Nat.{ℕ, zero, suc, _+_, _%_, _≤_, _<_}
 use mathlib.Core.Path.{_≡_, refl, ap, _∙_}
@@ -17,7 +17,7 @@ use Rattle.vault.specs.Laws.Differences.{Cells}
 use Rattle.vault.specs.Laws.Inverse.{toColumns-length, fromColumns-length, fromColumns-toColumns, toColumns-fromColumns}
 use Rattle.vault.specs.Laws.Refusals.{Accepted, accepted}
 
--- an answer that nothing was refused
+-- an accepted answer has refusal 0
 none-refused : (n : ℕ) → columnsSays Written ≡ reply n tt → n ≡ 0
 unfolding columnsSays reply
 none-refused zero e = refl
@@ -37,7 +37,7 @@ module _ {order : ℕ → List ℕ → List ℕ} {width : ℕ} {cells output out
       rw (← e, x .written past-ladder) (part-putAt output (order width cells) 0 fits)
 
 module _ (cells : List ℕ) (room : ℕ) where
-  -- the number of the second call: 2 if the output is shorter than the cells, 0 otherwise
+  -- the refusal of the second call: 2 if the output is shorter than the cells, 0 otherwise
   abbrev short : ℕ
   short = first (rung (ltb room (length cells)) 2 ∷ [])
 
@@ -49,12 +49,12 @@ module _ (cells : List ℕ) (room : ℕ) where
   unfolding first
   short-some less = rw (lt-ltb room (length cells) less) (omega arith)
 
-  -- where the first was accepted, nothing else is left to refuse
+  -- if the first call was accepted, no other test can refuse the second
   short-only : {width output : ℕ} → Accepted width (length cells) output → columnsRefusal width (length cells) room ≡ short
   unfolding columnsRefusal first
   short-only {width} k = rw (le-ltb width 1 (k .narrow), le-ltb 8 width (k .wide), eq-eqb (length cells % width) 0 (k .multiple))
 
--- one order after the other, where the second undoes the first
+-- one order after the other, if the second is the inverse of the first
 undone : {there back : ℕ → List ℕ → List ℕ} {width : ℕ} {cells output output′ second second′ : List ℕ} {answer : ColumnsAnswer}
     → length (there width cells) ≡ length cells → back width (there width cells) ≡ cells
     → Rearranged there width cells output Written output′ → Rearranged back width (take (length cells) output′) second answer second′

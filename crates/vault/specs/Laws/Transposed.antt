@@ -71,7 +71,7 @@ transposed-twice w rows q = ext-getD [] _ _ (length-transposed (length rows) (tr
         let n : j < w = rw (length-transposed w rows) at m in
         column-at i (transposed w rows) j m ∙ ap (λ (r : List ℕ). getD r i 0) (transposed-at w rows j n) ∙ column-at j rows i k)
 
--- cell b of list a, where lists of one width lie one after another
+-- cell b of list a, where lists of one width follow one another
 pub flat-at : (w : ℕ) (ls : List (List ℕ)) → widths w ls ≡ true → (a b : ℕ) → a < length ls → b < w → getD (flat ls) (a * w + b) 0 ≡ getD (getD ls a []) b 0
 flat-at w ls q a b h k =
     sym (getD-rowAt w a (flat ls) b 0 k)
@@ -109,7 +109,7 @@ transposed-cells n rows f j =
       | no h ↦ λ i. rw (List·getD-eq-default (transposed n rows) [] {n = j} (rw (length-transposed n rows) (omega arith))) (omega arith)
     ]
 
--- a change of each list that another undoes
+-- a function on lists, mapped after its inverse
 pub map-undone : (f g : List ℕ → List ℕ) → ((l : List ℕ) → Cells l → f (g l) ≡ l) → (ls : List (List ℕ)) → AllCells ls → map f (map g ls) ≡ ls
 map-undone f g e [] k = refl
 map-undone f g e (l ∷ ls) k = ap₂ (λ (r : List ℕ) (rs : List (List ℕ)). r ∷ rs) (e l (k 0)) (map-undone f g e ls (λ i. k (suc i)))

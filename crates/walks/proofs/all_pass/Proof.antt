@@ -1,6 +1,6 @@
--- `walks::all_pass` meets its contract: a walk of its MIR, by hand. The loop's state at i: `ok` is whether the first i
--- conditions pass. Each turn copies one record out of the slice and passes it to `passes_test`, of which the proof knows
--- only its contract. Assumes nothing.
+-- `walks::all_pass` meets its contract: a manual proof over its MIR. The loop's state at i: `ok` is whether the first i conditions
+-- pass. Each iteration copies one record out of the slice and passes it to `passes_test`, of which the proof knows only its
+-- contract. Assumes nothing.
 use Rattle.walks.proofs.Prelude.{_≡_, refl, sym, _∙_, ℕ, _<_, _^_, Bool, true, false, List, [], _∷_, ltb, lit<, length, URA, fullShare, named, tyBool, w64, Val, vbool, vint, SProp, ent, id⊢, Lft, Share, GName, Fml, ftrue, fsep, flft, fat, Memory, Routine, Heap, Env, Tables, Wp, WpFn, afterBlock, afterSeq}
 use Rattle.walks.proofs.Prelude.{atReturn, afterTurn, Atoms, Fun, givenOf, tables, tablesOf, Given, Item, Sq, anyQ, atRet, runs, ‵, raw, ⋆, _$_, _∵_, !, qed, move, drop, group, use1, split, join, rewrite, fsplit, fjoin, suffices, frame, done, whole, sub, look-in, Below, look, store, init, forget, stop, hop, fld, from}
 use Rattle.walks.proofs.Prelude.{load, lit, of-opd, bin, no-more, assigns, land, again, blocks, exec, first, leaves-loop, loops, goes-on, returns, enter, alloc1, alloc0, params1, pass1, pass0, free1, free0, fmOf, u32, bool, Is, shows, bool-makes, RefT, now, sliceVal, ShrSlice, Room, owned, nothing, Clauses, onEntry, cited, says, needs, ends-at}
@@ -166,7 +166,7 @@ module _ {M : Type 1} (𝓤 : URA M) (H : Heap 𝓤) (A : Atoms 𝓤) (W : Given
       turn i true e = more i e (ltb-true i n (and-right (ok i) (ltb i n) e))
       turn i false e = ends i e
 
-      -- what is asked before any condition is answered: the loop
+      -- the test before any condition has returned: the loop
       loop : Sq W (Around (holds (vbool start)) empty) (runs (𝓣 .C) (𝓣 .Λ) E mir.t-2 (atRet E Post))
       loop =
           assigns ! (of-opd ! (lit ! tt)) (from ! (stop !)) (init ! 14 refl (tt, record { fits = lit< tt })) $ rewrite ! 16 (λ (t : Bool). ‵ (fat fullShare tyBool l₅ 0 (vbool t))) (passed-none start pass cs) refl $

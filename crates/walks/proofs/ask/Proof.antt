@@ -1,5 +1,5 @@
--- `walks::ask` meets its contract: a walk of its MIR, by hand, cut at each call. The list of conditions is passed on whole. The loop's
--- state is the sweep and the output, which each turn lends again to `step`. Assumes nothing.
+-- `walks::ask` meets its contract: a manual proof over its MIR, cut at each call. The list of conditions is passed on whole. The
+-- loop's state is the scan and the output, which each iteration lends again to `step`. Assumes nothing.
 use Rattle.walks.proofs.Prelude.{_≡_, refl, sym, subst, _∙_, ℕ, _<_, _≤_, Bool, true, false, List, [], _∷_, ltb, length, URA, fullShare, Body, Place, Ty, Operand, call, erased, mut, named, seq, tyBool, tyInt, tyRef, w32, w64, Val, vbool, vint, SProp, ent, emp}
 use Rattle.walks.proofs.Prelude.{id⊢, via, fst∗, Lft, Share, GName, ftrue, fsep, flft, fat, Memory, Routine, Heap, Env, Loops, Tables, Wp, WpFn, afterBlock, afterSeq, atReturn, afterTurn, Atoms, Fun, givenOf, tables, tablesOf, Given, Item, Seq, Sq, anyQ, atRet, lands, runs, ‵, raw, ⋆}
 use Rattle.walks.proofs.Prelude.{_$_, _∵_, !, qed, move, keep, drop, group, use1, split, join, rewrite, fsplit, fjoin, feqL, suffices, frame, done, agg, whole, sub, look-in, Below, Opds, look, store, init, forget, stop, hop, fld, from, load, addr, lit, of-opd, bin, and-then}
@@ -151,12 +151,12 @@ module _ {M : Type 1} (𝓤 : URA M) (H : Heap 𝓤) (A : Atoms 𝓤) (W : Given
         abbrev knows : Cell
         knows = holds (vbool (all-pass Known))
 
-        -- from where the sweep begins
+        -- from the start of the scan on
         module _ (s₀ : Sweep) (begun : Begun s₀) where
           can : Sweepable (p .header) (length rows) (subset p) s₀ os
           can = begun .sweepable os refl
 
-          -- the loop's state: the sweep, the output, and what is known of them
+          -- the loop's state: the scan, the output, and what is known of them
           abbrev Held : Sweep → List ℕ → Type 0
           Held s zs = Swept (p .header) rows (subset p) test s₀ os s zs × ((length zs ≡ length os) × Is ST.the-row s (sweep-val s ∷ []))
 
@@ -233,13 +233,13 @@ module _ {M : Type 1} (𝓤 : URA M) (H : Heap 𝓤) (A : Atoms 𝓤) (W : Given
           loop : (is-s : Is ST.the-row s₀ (sweep-val s₀ ∷ [])) → Sq W (I (s₀, (os, (swept-begin (p .header) rows (subset p) test s₀ os can, (refl, is-s))))) (runs (𝓣 .C) (𝓣 .Λ) E mir.t-6 (atRet E Post))
           loop is-s = first ! $ blocks ! $ loops ! 𝓣 Nearer (fewer-wf State at) I (λ t. turn (t .0) (t .1 .0) (t .1 .1) (ltb (t .0 .next) (t .0 .end)) refl) (s₀, (os, (swept-begin (p .header) rows (subset p) test s₀ os can, (refl, is-s))))
 
-        -- whether the conditions are known is told: `opening`
+        -- the test of the conditions has returned: `opening`
         opens : Sq W (Around os knows empty) (runs (𝓣 .C) (𝓣 .Λ) E mir.t-3 (atRet E Post))
         opens =
             assigns ! (of-opd ! (load ! (from ! (fld ! refl (stop !))) (look-in ! 32 (sub ! 1 refl (whole !))))) (from ! (stop !)) (init ! 14 refl (tt, record { fits = rooms .0 .0 })) $
             assigns ! (of-opd ! (load ! (from ! (fld ! refl (stop !))) (look-in ! 24 (sub ! 1 refl (whole !))))) (from ! (stop !)) (init ! 12 refl (tt, record { fits = room .0 })) $
             apart p ! $ move ! (3 ∷ 5 ∷ []) $ drop ! $ drop ! $ move ! (1 ∷ 3 ∷ []) $ group ! 2 $ use1 W (raw (Asked 𝓤 H A opn.ended opening .pre to-open)) asks-open $
-            -- [what `opening` asks; κ₀'s token, κ₂'s; what is lent as `&`; κ's token; what out owns; _17; …]
+            -- [what `opening` requires; κ₀'s token, κ₂'s; what is lent as `&`; κ's token; what out owns; _17; …]
             calls opn.ended opening to-open (λ s ws. Begun s) (λ s ws. id⊢ 𝓤 _) ! (fmOf 𝓤 H (W .laws) 𝓣) known-open (arg ! 38 refl (arg ! 36 refl (arg ! 16 refl (arg ! 32 refl (arg ! 30 refl (arg ! 24 refl (arg ! 14 refl (no-more !)))))))) (λ w s ws begun.
             move ! (2 ∷ []) $ drop ! $ move ! (1 ∷ []) $ value-lands ! sweeps s w (λ is-s. split ! $ move ! (1 ∷ []) $ drop ! $ move ! (1 ∷ 0 ∷ []) $ together p ! $
             land ! (from ! (stop !)) (init ! 20 refl (typed W sweeps s is-s .0)) $ forget ! 12 refl $ forget ! 14 refl $ loop s begun is-s))
