@@ -1,5 +1,5 @@
 -- The encoding of headers, arguments and answers as fixed numbers of words, and the contract of a C function: the library's own
--- promise, of an answer whose refusal number is returned and whose encoding is stored. Assumes nothing.
+-- contract, for an answer whose refusal number is returned and whose encoding is stored. Assumes nothing.
 use Prim.Native.Nat.{ℕ}
 use mathlib.Core.Path.{_≡_}
 use mathlib.Core.Bool.{Bool, true, false, cond, not}
@@ -23,11 +23,11 @@ use Rattle.query_spec.specs.Queries.{PageReply}
 
 -- ---- arguments
 
--- The largest sort value is two words: whether there is one, 0 or 1, and the value, which is not read beside a 0.
+-- The largest sort value is two words: a flag, 0 or 1, and the value, which is not read if the flag is 0.
 unfoldable pub decodeLargest : ℕ → ℕ → Largest
 decodeLargest flag value = cond (eqb flag 1) (Value value) NoLargest
 
--- "header numbers outside their bounds": a flag that is neither 0 nor 1 makes a header without columns, which is refused by 1
+-- "header numbers outside their bounds": a flag that is neither 0 nor 1 makes a header without columns, which is refused with 1
 unfoldable pub decodeColumns : ℕ → ℕ → ℕ
 decodeColumns columns flag = cond (leb flag 1) columns 0
 
@@ -60,13 +60,13 @@ openingGeneration words = getD words 5 0
 abbrev pub decodeCondition : List ℕ → Constraint
 decodeCondition words = record { kind = getD words 0 0; column = getD words 1 0; value = getD words 2 0 }
 
--- A subset is three words: whether it is a range, its start and its end. Of a list the ids are beside them.
+-- A subset is three words: whether it is a range, its start and its end. The ids of a list are passed separately.
 abbrev pub decodeSubset : List ℕ → SubsetHead
 decodeSubset words = record { dense = not (eqb (getD words 0 0) 0); start = getD words 1 0; end = getD words 2 0 }
 
 -- ---- answers
 
--- 1 for yes
+-- 1 for true, 0 for false
 abbrev pub bit : Bool → ℕ
 bit b = cond b 1 0
 
@@ -106,7 +106,7 @@ unfoldable pub encodeOption : Option ℕ → List ℕ
 encodeOption none = 0 ∷ 0 ∷ []
 encodeOption (some n) = 1 ∷ n ∷ []
 
--- 1 and a range's start and end, or all 0 if there is none. The answers that are encoded so are never lists.
+-- 1 and a range's start and end, or all 0 if there is none. Answers with this encoding are never lists.
 unfoldable pub encodeRange : Option Subset → List ℕ
 encodeRange none = 0 ∷ 0 ∷ 0 ∷ []
 encodeRange (some (range start end)) = 1 ∷ start ∷ end ∷ []
@@ -115,8 +115,8 @@ encodeRange (some (list ids)) = 0 ∷ 0 ∷ 0 ∷ []
 unfoldable pub encodeVersion : Version → List ℕ
 encodeVersion v = v .generation ∷ v .rows ∷ []
 
--- A subset as an answer has the layout of one as an argument: a range, or the list of the first ids of the output, whose end is
--- their number.
+-- A subset as an answer has the same layout as an argument: a range, or the list of the first ids of the output, whose end is their
+-- number.
 unfoldable pub subsetSays : SubsetAnswer → Reply SubsetHead
 subsetSays (SubsetRefused n) = refused n
 subsetSays (SubsetRange start end) = accepted (record { dense = true; start = start; end = end })
@@ -125,18 +125,18 @@ subsetSays (SubsetList count) = accepted (record { dense = false; start = 0; end
 unfoldable pub encodeSubset : SubsetHead → List ℕ
 encodeSubset s = bit (s .dense) ∷ s .start ∷ s .end ∷ []
 
--- how many ids were written, how many of those visited have a dead row, and the next place
+-- how many ids were written, how many of the visited ids have a dead row, and the next place
 unfoldable pub encodePage : PageReply → List ℕ
 encodePage p = p .written ∷ p .dead ∷ encodeOption (p .next)
 
--- ---- contracts
+-- ---- contracts of C functions
 
 -- the number that is returned: the refusal's, 0 if accepted
 unfoldable pub returned : {A : Type 0} → Reply A → ℕ
 returned (refused n) = n
 returned (accepted a) = 0
 
--- the words that are stored: the encoding, or the words as they were if refused
+-- the words that are stored: the encoding, or the previous words if refused
 unfoldable pub stored : {A : Type 0} → (A → List ℕ) → List ℕ → Reply A → List ℕ
 stored encode words (refused n) = words
 stored encode words (accepted a) = encode a
@@ -146,19 +146,19 @@ pub record Stored {R A : Type 0} (says : R → Reply A) (encode : A → List ℕ
   pub returns : r ≡ returned (says answer)
   pub stores : words′ ≡ stored encode words (says answer)
 
--- The contract of a C function: some answer meets the library's promise, its number is returned and its encoding stored.
+-- The contract of a C function: some answer meets the library's contract, its number is returned and its encoding stored.
 pub record Answers {R A : Type 0} (promise : R → Type 0) (says : R → Reply A) (encode : A → List ℕ) (words : List ℕ) (r : ℕ) (words′ : List ℕ) : Type 0 where
   pub answer : R
   pub promised : promise answer
   pub stores : Stored says encode answer words r words′
 
--- The same of one whose answer is its number alone.
+-- The same for a function whose answer is its number alone.
 pub record AnswersNumber {R A : Type 0} (promise : R → Type 0) (says : R → Reply A) (r : ℕ) : Type 0 where
   pub answer : R
   pub promised : promise answer
   pub returns : r ≡ returned (says answer)
 
--- The same of one that stores a header beside its answer.
+-- The same for a function that stores a header and its answer.
 pub record AnswersWithHeader {R A : Type 0} (promise : R → Type 0) (says : R → Reply A) (headerOf : A → Header) (encode : A → List ℕ) (header words : List ℕ) (r : ℕ) (header′ words′ : List ℕ) : Type 0 where
   pub answer : R
   pub promised : promise answer

@@ -20,7 +20,7 @@ use table::SoundAnswer;
 use table::TableAnswer;
 use table::VersionAnswer;
 
-// What a call that is not refused returns.
+// The return value of a call that is not refused.
 pub const ACCEPTED: u32 = 0;
 
 // ---- arguments

@@ -1,4 +1,4 @@
-// Listings as text, and the test of answers against them, as C functions.
+// Listings as text, and the check of a laboratory's answers against them, as C functions.
 ghost use mathlib.Core.Path.{_≡_};
 ghost use mathlib.Core.Bool.{true, false, not};
 ghost use lib.Dec.{eqb};
@@ -159,9 +159,9 @@ pub extern "C" fn mouldgrey_from_numbered(
     store_length(answer, length)
 }
 
-// Tests a laboratory's answers. The answer is two words: the kind of the verdict, 0 right, 1 misplaced, 2 wrong, and the place or the
-// number, 0 where the numbers are right. A condition is a struct of three words, so a list of them is lent as it is, and this
-// function is proved by hand: it checks and stores.
+// Checks a laboratory's answers. The answer is two words: the kind of the verdict, 0 right, 1 misplaced, 2 wrong, and the place or
+// the number, 0 if the numbers are right. A condition is a struct of three words, so a list of them is lent without a conversion.
+// The proof of this function is manual: it checks and stores.
 #[no_mangle]
 pub extern "C" fn mouldgrey_check_answers(
     text: &[u8],

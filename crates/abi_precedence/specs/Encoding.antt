@@ -1,4 +1,4 @@
--- The encoding of the answer of the check of precedence. Assumes nothing.
+-- The encoding of the answer of the precedence check. Assumes nothing.
 use Prim.Native.Nat.{ℕ}
 use mathlib.Core.Option.{Option, none, some}
 use mathlib.Core.List.{List, [], _∷_}

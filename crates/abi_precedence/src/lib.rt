@@ -1,4 +1,4 @@
-// The check of precedence as a C function.
+// The precedence check as a C function.
 ghost use Rattle.precedence.specs.Precedence.{precedenceSays, PrecedenceChecked};
 ghost use Rattle.abi.specs.Encoding.{decodeHeader, Stored, Answers};
 ghost use Rattle.abi_precedence.specs.Encoding.{encodeFailure};

@@ -1,5 +1,5 @@
--- The walks of this crate share this: a header and a subset are decoded, and what is stored of the answer is the contract. Assumes
--- nothing.
+-- Steps that the manual proofs of this crate share: a header and a subset are decoded, and the stored answer meets the contract.
+-- Assumes nothing.
 use Prim.Native.Nat.{ℕ, zero}
 use mathlib.Core.Path.{_≡_, refl, sym, ap, subst}
 use mathlib.Core.Option.{Option, some as just}
@@ -68,7 +68,7 @@ module _ {M : Type 1} {𝓤 : URA M} {H : Heap 𝓤} {A : Atoms 𝓤} {K : Type 
   decodes-header known κ s e reads-them fits z k =
       move t (1 ∷ []) $ owns-in t (_ ∷ []) $ move t (1 ∷ []) $ tokens-in t 1 (κ, tt) (s, tt) $
       calls t fm hdr.ended (hdr.clauses 𝓤 H A mem run) known (((κ, tt), (s, tt), tt, (e, tt), (ptr-vals e, tt)), tt) (id⊢ 𝓤 _) reads-them (LL.lawful HT.the-type HT′.the-laws 𝓤 H A W) fits z (λ v h ws is.
-      -- [the locals; the token; the last values, of which there are none; the header; what is said of it]
+      -- [the locals; the token; the last values, of which there are none; the header; the facts about it]
       move t (4 ∷ []) $ heard t (h ≡ decodeHeader (now e)) (λ said. move t (2 ∷ []) $ drop t $ move t (1 ∷ []) $ tokens-out t 1 (κ, tt) (s, tt) $ move t (1 ∷ 2 ∷ []) $ k v h said))
 
   -- a condition, likewise

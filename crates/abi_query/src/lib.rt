@@ -1,6 +1,7 @@
 // The queries over a subset as C functions: refine by one and by a list, any match, page. A subset is three words, dense, start and
-// end, with the list of ids beside it; they make the struct that `query_borrowed` takes. A condition of a list is a struct of three
-// words, so a list of them is lent as it is. So each function is proved by hand: it decodes, queries and stores.
+// end, with the list of ids passed separately; they make the struct that `query_borrowed` takes. A condition of a list is a struct
+// of three words, so a list of them is lent without a conversion. The proof of each function is
+// manual: the function decodes, queries and stores.
 ghost use Rattle.offsets.specs.Answers.{subsetOf};
 ghost use Rattle.query_spec.specs.Queries.{matchSays, pageSays, RefinedOne, RefinedList, Matched, PageRead};
 ghost use Rattle.abi.specs.Encoding.{decodeHeader, decodeCondition, decodeSubset, encodeBool, subsetSays, encodeSubset, encodePage, Answers};

@@ -111,7 +111,7 @@ pub extern "C" fn mouldgrey_intersect(
     store_subset(answer, subset)
 }
 
-// The common ids of two ranges, as `mouldgrey_intersect` gives them whatever the output. Its arguments fit in registers.
+// The common ids of two ranges, as `mouldgrey_intersect` returns them for any output. The arguments fit in registers.
 #[no_mangle]
 pub extern "C" fn mouldgrey_intersect_ranges(
     start: u32,

@@ -1,4 +1,4 @@
-// The refresh of rows that mention a value as a C function.
+// The refresh of the rows that contain a given value, as a C function.
 ghost use Rattle.refresh_spec.specs.Refreshes.{refreshSays, Refreshing};
 ghost use Rattle.abi.specs.Encoding.{decodeHeader, encodeHeader, encodeBool, Stored, AnswersWithHeader};
 use abi::ACCEPTED;

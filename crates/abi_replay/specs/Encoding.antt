@@ -1,4 +1,4 @@
--- The encoding of what a run of queries leaves. Assumes nothing.
+-- The encoding of the result of a run of queries. Assumes nothing.
 use Prim.Native.Nat.{ℕ, min}
 use mathlib.Core.List.{List, [], _∷_}
 use Rattle.refusals.specs.Refusals.{Reply, accepted}
@@ -9,7 +9,8 @@ use Rattle.abi.specs.Encoding.{bit}
 abbrev pub runSays : RunAnswer → Reply RunAnswer
 runSays a = accepted a
 
--- Whether the ids left are a range; its start and end; how many ids the list has; which list it is, 0 the starting one, whole, 1 the
--- first lent, 2 the second; whether an accepted query refined; how many queries were taken from the list, at most 4294967295.
+-- Whether the ids left are a range; its start and end; how many ids the list has; which list it is: 0 the whole starting list, 1
+-- the first lent list, 2 the second; whether an accepted query refined; how many queries were taken from the list, at most
+-- 4294967295.
 unfoldable pub encodeRun : RunAnswer → List ℕ
 encodeRun l = bit (l .dense) ∷ l .start ∷ l .end ∷ l .count ∷ l .place ∷ bit (l .refined) ∷ min (l .taken) 4294967295 ∷ []

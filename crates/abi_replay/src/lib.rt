@@ -20,7 +20,7 @@ use replay_queries::RunAnswer;
 // The largest count of queries that fits a word; a larger count is stored as this one.
 const MOST_TAKEN: usize = 4294967295;
 
-// Opens a table and makes the calls, in order, refreshes over the index store among them. The opening is six words: columns, keys,
+// Opens a table and makes the calls in order, including refreshes over the index store. The opening is six words: columns, keys,
 // sort, rule, capacity, generation.
 #[no_mangle]
 pub extern "C" fn mouldgrey_replay(
@@ -81,7 +81,7 @@ fn store_run(l: RunAnswer, words: &mut [u32; 7]) -> u32
     ACCEPTED
 }
 
-// Runs the queries, in order, each on the ids that the last accepted one left. The answer is seven words: dense, start, end, count,
+// Runs the queries in order, each on the ids that the last accepted one left. The answer is seven words: dense, start, end, count,
 // place, refined, taken.
 #[no_mangle]
 pub extern "C" fn mouldgrey_run_queries(

@@ -1,4 +1,4 @@
-// Every short history as C functions.
+// All short histories as C functions.
 ghost use Rattle.short_histories.specs.Sequences.{stepSays, positionSays, sequenceSays, StepTold, PositionTold, SequenceFound, NextFound};
 ghost use Rattle.abi.specs.Encoding.{encodeOption, Stored, Answers};
 ghost use Rattle.abi_short_histories.specs.Encoding.{encodeCall, encodeNumber};
@@ -62,7 +62,7 @@ fn store_sequence(answer: SequenceAnswer, words: &mut [u32; 2]) -> u32
     }
 }
 
-// The call that a step is, in four words: 0, key, stamp, third cell; 1, key, 0, 0; 2, 0, 0, 0.
+// The call of a step, in four words: 0, key, stamp, third cell; 1, key, 0, 0; 2, 0, 0, 0.
 #[no_mangle]
 pub extern "C" fn mouldgrey_step_at(step: u32, answer: &mut [u32; 4]) -> u32
     ensures { λ r. ⌜ Answers (StepTold step) stepSays encodeCall (now (answer .entry)) r (now (answer .exit)) ⌝ }

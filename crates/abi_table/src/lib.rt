@@ -1,5 +1,5 @@
-// The calls that change a table, and the soundness check, as C functions. A slice goes as a pointer and a length, a fixed array as a
-// pointer alone.
+// The calls that change a table, and the soundness check, as C functions. A slice is passed as a pointer and a length, a fixed
+// array as a pointer alone.
 ghost use mathlib.Core.Path.{_≡_};
 ghost use Rattle.plain_table.specs.Staged.{insert, removeKey, removeRow};
 ghost use Rattle.table.specs.Numbers.{tableSays, mergeSays, soundSays};

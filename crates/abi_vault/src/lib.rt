@@ -1,4 +1,4 @@
-// Column order for the vault as C functions. What is returned is the refusal's number, 0 if the output was written.
+// Column order for the vault as C functions. They return the refusal's number, or 0 if the output was written.
 ghost use mathlib.Core.Path.{_≡_};
 ghost use Rattle.vault.specs.Columns.{toColumns, fromColumns, columnsSays, Rearranged};
 ghost use Rattle.abi.specs.Encoding.{returned, AnswersNumber};

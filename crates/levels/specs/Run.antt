@@ -1,6 +1,6 @@
--- The program `levels` as it runs: turns one after another, each with the bytes that it hands to write and those that its read brings.
--- Which bytes a read brings is what the read returned and the chunk as it left it; which bytes are handed over is what the write
--- function returned. Assumes nothing.
+-- The program `levels` as it runs: a sequence of steps, each with the bytes that it passes to `write` and the bytes that it reads.
+-- The bytes read are defined by the return value of `read` and by the chunk after it; the bytes written, by the return value of the
+-- write function. Assumes nothing.
 use Prim.Native.Nat.{ℕ, suc, _+_, _≤_, _<_}
 use mathlib.Core.Path.{_≡_}
 use mathlib.Core.Bool.{Bool, true, false, cond}
@@ -19,8 +19,8 @@ use Rattle.levels_input.specs.Input.{bytesRead, unread, InputIn, AtEnd, Begun}
 use Rattle.levels_output.specs.declared.Handed.{Handed}
 use Rattle.levels.specs.declared.State.{State}
 
--- What the program has between two turns: its table; the bytes of a line whose newline is not found yet; bytes behind them that were
--- read and are not taken yet; and answers that are not handed to write yet.
+-- The state of the program between two steps: its table; the bytes of a line whose newline is not found yet; the bytes after them
+-- that were read and are not taken yet; and the answers that are not passed to `write` yet.
 pub record Program : Type 0 where
   pub table : Option Plain
   pub begun : List ℕ
@@ -30,25 +30,25 @@ pub record Program : Type 0 where
 abbrev pub program : Option Plain → List ℕ → List ℕ → List ℕ → Program
 program table begun unread buffered = record { table = table; begun = begun; unread = unread; buffered = buffered }
 
--- a program after a line is answered: what stays unread, and the answer behind what stays buffered
+-- The program after a line is answered: `unread` bytes remain, and the answer follows the bytes that remain buffered.
 abbrev pub answered : Program → List ℕ → List ℕ → List ℕ → Program
 answered p line unread buffered =
     program (lineTurn programLengths (p .table) line .table) [] unread (buffered ++ lineTurn programLengths (p .table) line .text)
 
--- A turn: the bytes that it hands to write, what each of its reads brings (there is one or none), and whether the input is over.
+-- One step: the bytes that it passes to `write`, the bytes of each of its reads (one or none), and whether the input is over.
 pub data Turn : Program → List ℕ → List (List ℕ) → Program → Bool → Type 0 where
-  -- the line ends (10) among the unread bytes, and is answered; where there is no room, buffered bytes are handed over before
+  -- The line ends (10) among the unread bytes, and is answered. Buffered bytes are written first if the answer has no room.
   line-turn : {p : Program} (bytes rest handed buffered : List ℕ) → p .unread ≡ bytes ++ (10 ∷ rest) → has 10 (p .begun ++ bytes) ≡ false
       → p .buffered ≡ handed ++ buffered → Turn p handed [] (answered p (p .begun ++ bytes) rest buffered) false
-  -- it does not: all buffered bytes are handed over, and then one read is made
+  -- The line does not end: all buffered bytes are written, then one read is made.
   read-turn : {p : Program} (brought : List ℕ) → has 10 (p .begun ++ p .unread) ≡ false
       → Turn p (p .buffered) (brought ∷ []) (program (p .table) (p .begun ++ p .unread) brought []) false
-  -- it does not, and the input is over: the bytes so far are the last line, if there are any
+  -- The line does not end, and the input is over: the bytes so far are the last line, if there are any.
   last-turn : {p : Program} (handed buffered : List ℕ) → has 10 (p .begun ++ p .unread) ≡ false → 0 < length (p .begun ++ p .unread)
       → p .buffered ≡ handed ++ buffered → Turn p handed [] (answered p (p .begun ++ p .unread) [] buffered) true
   over-turn : {p : Program} → p .begun ≡ [] → p .unread ≡ [] → Turn p [] [] p true
 
--- turns one after another, none of which ends the input
+-- a sequence of steps, none of which ends the input
 pub data Turns (p : Program) : List ℕ → List (List ℕ) → Program → Type 0 where
   begin : Turns p [] [] p
   then : {handed bytes : List ℕ} {reads read : List (List ℕ)} {q r : Program} → Turns p handed reads q → Turn q bytes read r false
@@ -73,7 +73,7 @@ pub record Holds (p : Program) (m : Machine) : Type 0 where
   pub bytes-unread : p .unread ≡ unread (m .chunk) (m .input)
   pub bytes-buffered : p .buffered ≡ take (m .used) (m .text)
 
--- the state between two turns, with the stores
+-- the state between two steps, with the stores
 abbrev pub machine : State → List ℕ → List ℕ → List ℕ → List ℕ → List ℕ → List ℕ → List ℕ → Machine
 machine state line chunk rows keys sorts pending text =
     record {
@@ -86,13 +86,13 @@ machine state line chunk rows keys sorts pending text =
       used = state .used;
     }
 
--- the lengths and places are within the stores
+-- the lengths and offsets are within the stores
 pub record Within (m : Machine) : Type 0 where
   pub input-in : InputIn (m .chunk) (m .input)
   pub line-in : m .length ≤ length (m .line)
   pub text-in : m .used ≤ length (m .text)
 
--- the bytes that were handed to write, and those that a read brought, if one was made
+-- the bytes that were passed to `write`, and those that were read, if a read was made
 abbrev pub bytesHanded : Handed → Machine → List ℕ
 bytesHanded handed m = take (handed .count) (m .text)
 
@@ -100,7 +100,7 @@ abbrev pub brought : Input → Machine → List (List ℕ)
 brought before m =
     cond (eqb (m .input .reads) (before .reads)) [] (take (bytesRead (m .input .got)) (m .chunk) ∷ [])
 
--- A turn of the code, on whatever program it holds.
+-- One step of the code, for every program that the machine represents.
 pub record TurnMade (p : Program) (m : Machine) (handed : Handed) (m′ : Machine) (over : Bool) : Type 0 where
   pub after : Program
   pub turn : Turn p (bytesHanded handed m) (brought (m .input) m′) after over
@@ -109,21 +109,21 @@ pub record TurnMade (p : Program) (m : Machine) (handed : Handed) (m′ : Machin
 pub record Turned (m : Machine) (handed : Handed) (m′ : Machine) (over : Bool) : Type 0 where
   pub within : Within m′
   pub reads-left : length (brought (m .input) m′) + m′ .input .reads ≡ m .input .reads
-  -- after the end of the input no read is made
+  -- no read is made after the end of the input
   pub none-past-end : AtEnd (m .input) → m′ .input .reads ≡ m .input .reads
   pub made : handed .«is_written» ≡ true → (p : Program) → Holds p m → TurnMade p m handed m′ over
   pub at-end : handed .«is_written» ≡ true → over ≡ true → AtEnd (m′ .input)
-  -- a write of all buffered bytes failed: it is the last turn, and makes no read
+  -- A write of all buffered bytes failed: this is the last step, and it makes no read.
   pub failed : handed .«is_written» ≡ false → (over ≡ true) × (handed .count ≡ m .used) × (m′ .input .reads ≡ m .input .reads) × (m′ .text ≡ m .text)
 
--- How a run ends, and not otherwise, with the bytes that are handed over last: the input is over, and all that is buffered is handed
--- over; or a write of it failed.
+-- The only two ways a run ends, with the bytes that are written last: the input is over, and all buffered bytes are written; or a
+-- write of them failed.
 pub data Ending (m : Machine) (handed : Handed) : Program → List ℕ → Type 0 where
   input-over : {p q : Program} {bytes : List ℕ} → Turn p bytes [] q true → Holds q m → AtEnd (m .input) → handed .count ≡ m .used
       → Ending m handed p (bytes ++ bytesHanded handed m)
   write-failed : {p : Program} → handed .«is_written» ≡ false → bytesHanded handed m ≡ p .buffered → Ending m handed p (bytesHanded handed m)
 
--- A run from no table on: what the first read brought and what each other one did, and the bytes handed over before the last ones.
+-- A run that starts without a table: the bytes of the first read and of each later one, and all bytes written before the last ones.
 pub record Ran (m : Machine) (handed : Handed) : Type 0 where
   pub first : List ℕ
   pub reads : List (List ℕ)
@@ -134,14 +134,14 @@ pub record Ran (m : Machine) (handed : Handed) : Type 0 where
   pub ending : Ending m handed end last
   pub reads-made : suc (length reads) + m .input .reads ≡ 18446744073709551615
 
--- all bytes that reads brought, and all that were handed to write
+-- all bytes that were read, and all bytes that were passed to `write`
 abbrev pub input : {m : Machine} {handed : Handed} → Ran m handed → List ℕ
 input r = r .first ++ flat (r .reads)
 
 abbrev pub output : {m : Machine} {handed : Handed} → Ran m handed → List ℕ
 output r = r .bytes ++ r .last
 
--- a list begins another
+-- a list is a prefix of another
 pub record Begins (bytes all : List ℕ) : Type 0 where
   pub rest : List ℕ
   pub whole : bytes ++ rest ≡ all

@@ -1,5 +1,5 @@
 // The program `levels` (document 01): reads lines of table operations from standard input and answers each on standard output.
-// Answers are buffered, and written before each read. It makes the stores and lends them to the library.
+// Answers are buffered, and written before each read. The program owns the stores and lends them to the library.
 ghost use mathlib.Core.Path.{_≡_};
 ghost use mathlib.Core.Bool.{true};
 ghost use Prim.Native.Nat.{_≤_, _<_};
@@ -26,16 +26,16 @@ use levels_output::report_failure;
 use table::Header;
 use table::Largest;
 
-// The bytes of a line that are kept: one more than a line may have, so that a longer one is seen to be.
+// Bytes of a line that are stored: one more than a line may have, so that a longer line is detected.
 const KEPT: usize = 121;
 
-// The most bytes that a line prints: a listing's head of six numbers, then 1,024 rows of nine.
+// Upper bound of the bytes that one line prints: a listing's head of six numbers, then 1,024 rows of nine.
 const MOST_TEXT: usize = 103492;
 
-// Room for such a line behind 64 KiB of others.
+// Size of the text buffer: space for such a line after 64 KiB of other answers.
 const BUFFER: usize = 169028;
 
-// The header before the first opening, which every operation refuses.
+// The header before the first opening. Every operation refuses it.
 fn no_table() -> Header
     ensures { λ r. ⌜ outside r ≡ true ⌝ }
 {
@@ -54,8 +54,8 @@ fn no_table() -> Header
     }
 }
 
-// What a turn found: how many bytes of the line are kept, and whether it is to be answered; what was handed to write; and whether
-// this turn is the last.
+// Result of `advance`: how many bytes of the line are stored, whether the line is complete and must be answered, what was passed to
+// `write`, and whether this is the last step of the loop.
 struct Step {
     input: Input,
     length: usize,
@@ -64,7 +64,7 @@ struct Step {
     is_over: bool,
 }
 
-// Hands over all buffered bytes, and then reads. After a write that failed nothing is read.
+// Writes all buffered bytes, then reads. Reads nothing if the write fails.
 fn read_on(chunk: &mut [u8], text: &[u8], rest: Input, length: usize, used: usize) -> Step
     requires { ⌜ used ≤ len (now text) ⌝ }
     requires { ⌜ rest .end ≤ rest .next ⌝ }
@@ -91,7 +91,7 @@ fn read_on(chunk: &mut [u8], text: &[u8], rest: Input, length: usize, used: usiz
     }
 }
 
-// Makes room for the answer of a line.
+// Makes room in the buffer for the answer of a line.
 fn ready(text: &[u8], rest: Input, length: usize, used: usize, is_last: bool) -> Step
     requires { ⌜ used ≤ len (now text) ⌝ }
     ensures { λ r. ⌜ Ready (len (now (text .entry))) rest length used «is_last» r ⌝ }
@@ -115,7 +115,7 @@ fn ready(text: &[u8], rest: Input, length: usize, used: usize, is_last: bool) ->
     }
 }
 
-// Takes bytes of the line. If it has ended, room is made for its answer; else more bytes are read, unless the input is over.
+// Takes bytes of the line. If the line is complete, makes room for its answer; else reads more bytes, unless the input is over.
 fn advance(
     line: &mut [u8],
     chunk: &mut [u8],
@@ -150,7 +150,7 @@ fn advance(
     }
 }
 
-// The table, the input, how many bytes of the line are kept and how many of the text are buffered, from turn to turn.
+// State between two steps of the loop: the table, the input, the number of stored bytes of the line, the number of buffered bytes.
 struct State {
     header: Header,
     input: Input,
@@ -158,14 +158,14 @@ struct State {
     used: usize,
 }
 
-// The state after a turn, what it handed to write, and whether it is the last.
+// The state after a step, what the step passed to `write`, and whether it is the last step.
 struct TurnDone {
     state: State,
     handed: Handed,
     is_over: bool,
 }
 
-// A turn: answers the line, if it has ended, or reads.
+// One step of the loop: answers the line if it is complete, otherwise reads.
 fn turn(
     state: State,
     line: &mut [u8; KEPT],
@@ -215,13 +215,13 @@ fn turn(
     }
 }
 
-// The state at the end of a run, and what was handed to write last.
+// The state at the end of a run, and what was last passed to `write`.
 struct Ended {
     state: State,
     handed: Handed,
 }
 
-// Hands over what is still buffered, unless a write has failed.
+// Writes the bytes that are still buffered, unless a write has failed.
 fn finish(state: State, handed: Handed, text: &[u8]) -> Ended
     requires { ⌜ state .used ≤ len (now text) ⌝ }
     ensures { λ r. ⌜ Finished state handed r ⌝ }
@@ -239,7 +239,7 @@ fn finish(state: State, handed: Handed, text: &[u8]) -> Ended
     }
 }
 
-// Turns until the input is over or a write fails. What is still buffered when the input is over is handed over last.
+// Repeats `turn` until the input is over or a write fails. Writes the remaining buffered bytes when the input is over.
 fn run(
     line: &mut [u8; KEPT],
     chunk: &mut [u8; 4096],

@@ -1,4 +1,4 @@
-// A line of `levels`, by its bytes: read, served, and what it says put at the start of a lent text.
+// Answers a line of `levels`, given as bytes: parses it, runs it, and writes its response to the start of a lent text.
 ghost use Prim.Native.Nat.{_+_, _≤_};
 ghost use lib.ListN.{length, take};
 ghost use Rattle.table.specs.Promises.{stores};
@@ -12,7 +12,7 @@ use levels_text::Parsed;
 use levels_told::tell;
 use table::Header;
 
-// Any line, up to what it says.
+// Runs any line, and returns its response before it is encoded as text.
 fn respond(
     h: Header,
     line: &[u8],
@@ -41,13 +41,13 @@ fn respond(
     }
 }
 
-// The header after a line, and how many bytes it prints.
+// The header after a line, and how many bytes the line prints.
 pub struct LineAnswer {
     pub header: Header,
     pub used: usize,
 }
 
-// Any line. The text has room for a listing of 1,024 rows, each of a number and eight cells.
+// Answers any line. The text has room for a listing of 1,024 rows, each of a number and eight cells.
 pub fn answer(
     h: Header,
     line: &[u8],
@@ -70,7 +70,7 @@ pub fn answer(
     }
 }
 
-// The line that the first bytes are, answered behind the first bytes of the text, which stay.
+// Answers the line in the first `count` bytes. Writes the answer after the first `from` bytes of the text, which do not change.
 pub fn answer_behind(
     h: Header,
     line: &[u8],

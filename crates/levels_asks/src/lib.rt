@@ -1,4 +1,4 @@
-// The lines of `levels` that ask: what each says.
+// The lines of `levels` that read the table, and the response of each.
 ghost use mathlib.Core.Path.{_≡_};
 ghost use mathlib.Core.Bool.{true};
 ghost use mathlib.Core.Logic.{_⊎_};
@@ -32,7 +32,7 @@ fn say_version(answer: VersionAnswer) -> Said
     }
 }
 
-// A listing, with row numbers or without, unless the version is refused.
+// The response is a listing, with row numbers or without, unless the version is refused.
 fn say_listing(numbered: bool, answer: VersionAnswer) -> Said
     ensures { λ r. ⌜ r ≡ saidOf (saysListing numbered) (versionSays answer) ⌝ }
 {
@@ -42,7 +42,7 @@ fn say_listing(numbered: bool, answer: VersionAnswer) -> Said
     }
 }
 
-// F
+// F: the fast range of a condition.
 fn ask_range(h: Header, numbers: &[u32], sorts: &[u32]) -> Said
     requires { ⌜ length (now numbers) ≡ 3 ⌝ }
     ensures { λ r. ⌜ OnSorts 70 (now (numbers .entry)) h (now (sorts .entry)) r ⌝ }
@@ -55,7 +55,7 @@ fn ask_range(h: Header, numbers: &[u32], sorts: &[u32]) -> Said
     say_range(table_read::fast_subset(h, sorts, c))
 }
 
-// F, V, U and L.
+// Dispatches F, V, U and L.
 pub fn ask(h: Header, letter: u8, numbers: &[u32], sorts: &[u32]) -> Said
     requires { ⌜ isForm letter (length (now numbers)) ≡ true ⌝ }
     requires { ⌜ (letter ≡ 70) ⊎ ((letter ≡ 76) ⊎ ((letter ≡ 85) ⊎ (letter ≡ 86))) ⌝ }

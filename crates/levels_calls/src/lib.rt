@@ -1,5 +1,5 @@
-// The lines of `levels` that change a table: each makes its call, and gives the header after it and what it says. The compaction
-// words are made where they are lent.
+// The lines of `levels` that change a table. Each makes its call and returns the header after it and the response. The compaction
+// words are local arrays of the functions that lend them.
 ghost use mathlib.Core.Path.{_≡_};
 ghost use mathlib.Core.Bool.{cond};
 ghost use mathlib.Core.Logic.{_⊎_};
@@ -15,13 +15,13 @@ use table::Header;
 use table::MergeAnswer;
 use table::TableAnswer;
 
-// The most rows that the program's stores have room for.
+// The largest capacity that fits the program's stores.
 const MOST_ROWS: u32 = 1024;
 
-// The words that a compaction needs for so many rows.
+// The compaction words needed for `MOST_ROWS` rows.
 const WORDS: usize = 16;
 
-// What an opening, a staging, a compaction or a clear leaves and says.
+// The header and the response after an opening, a staging, a compaction or a clear.
 fn taken(h: Header, answer: TableAnswer) -> Served
     ensures { λ r. ⌜ Taken (headerAfter h (tableSays answer)) (saidOf saysNothing (tableSays answer)) r ⌝ }
 {
@@ -37,7 +37,7 @@ fn taken(h: Header, answer: TableAnswer) -> Served
     }
 }
 
-// K: a row, then the cells of its key.
+// K: a row number, then the cells of its key.
 fn stage_by_row(h: Header, numbers: &[u32], pending: &mut [u32]) -> Served
     requires { ⌜ 1 ≤ length (now numbers) ⌝ }
     ensures { λ r. ⌜ OnPending 75 (now (numbers .entry)) h (now (pending .entry)) r (now (pending .exit)) ⌝ }
@@ -46,7 +46,7 @@ fn stage_by_row(h: Header, numbers: &[u32], pending: &mut [u32]) -> Served
     taken(h, answer)
 }
 
-// I, R and K.
+// Dispatches I, R and K.
 pub fn stage(h: Header, letter: u8, numbers: &[u32], pending: &mut [u32]) -> Served
     requires { ⌜ (letter ≡ 73) ⊎ ((letter ≡ 75) ⊎ (letter ≡ 82)) ⌝ }
     requires { ⌜ 1 ≤ length (now numbers) ⌝ }
@@ -63,7 +63,7 @@ pub fn stage(h: Header, letter: u8, numbers: &[u32], pending: &mut [u32]) -> Ser
     stage_by_row(h, numbers, pending)
 }
 
-// O. A table that cannot be opened leaves the one before with its pending records.
+// O. If the opening is refused, the previous table remains, with its pending records.
 pub fn open_table(
     h: Header,
     numbers: &[u32],
@@ -97,7 +97,7 @@ pub fn open_table(
     taken(h, opened)
 }
 
-// C
+// C: clear.
 pub fn clear(h: Header, keys: &mut [u32]) -> Served
     ensures { λ r. ⌜ OnKeys 67 h (now (keys .entry)) r (now (keys .exit)) ⌝ }
 {
@@ -105,7 +105,7 @@ pub fn clear(h: Header, keys: &mut [u32]) -> Served
     taken(h, cleared)
 }
 
-// G
+// G: compact.
 pub fn compact(h: Header, rows: &mut [u32], keys: &mut [u32], sorts: &mut [u32]) -> Served
     ensures { λ r. ⌜ OnBody 71 h (now (rows .entry)) (now (keys .entry)) (now (sorts .entry)) r (now (rows .exit)) (now (keys .exit)) (now (sorts .exit)) ⌝ }
 {
@@ -121,7 +121,7 @@ fn digit_of(yes: bool) -> u32
     if yes { 1 } else { 0 }
 }
 
-// What a merge leaves and says.
+// The header and the response after a merge.
 fn merge_taken(h: Header, answer: MergeAnswer) -> Served
     ensures { λ r. ⌜ Taken (headerMerged h (mergeSays answer)) (saidOf saysMerge (mergeSays answer)) r ⌝ }
 {
@@ -140,7 +140,7 @@ fn merge_taken(h: Header, answer: MergeAnswer) -> Served
     }
 }
 
-// M
+// M: merge.
 pub fn merge_pending(
     h: Header,
     rows: &mut [u32],

@@ -1,4 +1,4 @@
-// Lines of standard input, taken out of chunks that reads bring.
+// Lines of standard input, extracted from the chunks that reads return.
 ghost use Prim.Native.Nat.{_-_, _≤_, _<_};
 ghost use mathlib.Core.Path.{_≡_};
 ghost use mathlib.Core.List.{[], _∷_};
@@ -8,7 +8,7 @@ ghost use Rattle.levels_input.specs.inner.Scanning.{Kept, Scanned};
 ghost use Rattle.levels_input.specs.inner.Taking.{Refilled, EndTested, LineTaken};
 use libc::STDIN_FILENO;
 
-// One byte more, if it has room.
+// Stores one more byte of the line, if there is room. Returns the new length.
 fn keep(line: &mut [u8], length: usize, byte: u8) -> usize
     requires { ⌜ length ≤ len (now line) ⌝ }
     ensures { λ r. ⌜ Kept (now (line .entry)) length (byte ∷ []) (now (line .exit)) r ⌝ }
@@ -20,14 +20,14 @@ fn keep(line: &mut [u8], length: usize, byte: u8) -> usize
     length + 1
 }
 
-// What was found: how many bytes of the line are kept, the place behind the bytes read, and whether the line ended.
+// Result of `scan_chunk`: how many bytes of the line are stored, the offset after the bytes taken, and whether the line ended.
 struct Scan {
     length: usize,
     next: usize,
     is_whole: bool,
 }
 
-// Takes bytes of the chunk up to the end of the line or of those that are there.
+// Takes bytes of the chunk, up to the end of the line or of the bytes in the chunk.
 fn scan_chunk(line: &mut [u8], length: usize, chunk: &[u8], from: usize, end: usize) -> Scan
     requires { ⌜ length ≤ len (now line) ⌝ }
     requires { ⌜ from ≤ end ⌝ }
@@ -56,7 +56,7 @@ fn scan_chunk(line: &mut [u8], length: usize, chunk: &[u8], from: usize, end: us
 }
 
 // The input so far: the unread bytes of the chunk are those from `next` up to `end`; `got` is what the last read returned, and
-// `reads` how many reads are left. The fields are private, so that other crates have an `Input` from the functions below alone.
+// `reads` how many reads are left. The fields are private, so that other crates get an `Input` only from the functions below.
 pub struct Input {
     next: usize,
     end: usize,
@@ -64,7 +64,7 @@ pub struct Input {
     reads: u64,
 }
 
-// One read, after all bytes of the chunk are taken.
+// Makes one read, after all bytes of the chunk are taken.
 pub fn refill(chunk: &mut [u8], input: Input) -> Input
     requires { ⌜ input .end ≤ input .next ⌝ }
     requires { ⌜ 0 < input .reads ⌝ }
@@ -79,7 +79,7 @@ pub fn refill(chunk: &mut [u8], input: Input) -> Input
     }
 }
 
-// The first read of 2^64 - 1. Nothing shows that the input ends, so the reads are counted down.
+// Makes the first of at most 2^64 - 1 reads. Nothing guarantees that the input ends, so the reads are counted down.
 pub fn first_read(chunk: &mut [u8]) -> Input
     ensures { λ r. ⌜ Refilled [] 18446744073709551615 (now (chunk .exit)) r ⌝ }
 {
@@ -92,7 +92,7 @@ pub fn first_read(chunk: &mut [u8]) -> Input
     refill(chunk, none)
 }
 
-// The last read returned no byte, or no read is left.
+// True if the last read returned no byte, or no read is left.
 pub fn is_at_end(input: Input) -> bool
     requires { ⌜ input .end ≡ bytesRead (input .got) ⌝ }
     ensures { λ r. ⌜ EndTested input r ⌝ }
@@ -100,14 +100,14 @@ pub fn is_at_end(input: Input) -> bool
     input.end == 0 || input.reads == 0
 }
 
-// What was taken of the unread bytes: how many bytes of the line are kept, and whether its newline was among them.
+// Result of `take_line`: the input after it, how many bytes of the line are stored, and whether its newline was found.
 pub struct Taken {
     pub input: Input,
     pub length: usize,
     pub is_whole: bool,
 }
 
-// Takes unread bytes up to the newline, or all, behind the `length` bytes of the line that are kept already.
+// Takes unread bytes up to the newline, or all of them. Appends them to the first `length` bytes of the line, as far as they fit.
 pub fn take_line(line: &mut [u8], length: usize, chunk: &[u8], input: Input) -> Taken
     requires { ⌜ length ≤ len (now line) ⌝ }
     requires { ⌜ InputIn (now chunk) input ⌝ }

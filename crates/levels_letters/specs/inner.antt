@@ -1,2 +1,2 @@
--- What the proofs of functions that no user calls lean on.
+-- Lemmas for the proofs of functions that no user calls.
 pub mod Letters

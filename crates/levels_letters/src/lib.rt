@@ -1,4 +1,4 @@
-// A line of `levels`, by its letter: which call or question it is.
+// Dispatches a line of `levels` by its letter.
 ghost use mathlib.Core.Path.{_≡_};
 ghost use mathlib.Core.Bool.{true};
 ghost use mathlib.Core.Logic.{_⊎_};
@@ -15,7 +15,7 @@ use levels_calls::stage;
 use levels_spec::Served;
 use table::Header;
 
-// O, C and G.
+// Dispatches O, C and G.
 fn remake(
     h: Header,
     letter: u8,
@@ -38,7 +38,7 @@ fn remake(
     compact(h, rows, keys, sorts)
 }
 
-// A line of the forms.
+// Runs a line of a valid form.
 pub fn serve(
     h: Header,
     letter: u8,

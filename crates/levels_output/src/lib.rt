@@ -1,4 +1,4 @@
-// Bytes of standard output, handed to write.
+// Bytes passed to `write` on standard output.
 ghost use mathlib.Core.Path.{_≡_};
 ghost use mathlib.Core.Bool.{true};
 ghost use Prim.Native.Nat.{_≤_};
@@ -7,14 +7,14 @@ ghost use Rattle.levels_output.specs.inner.Flushing.{RoomMade};
 use libc::STDERR_FILENO;
 use libc::STDOUT_FILENO;
 
-// How many bytes were handed to write, and whether it wrote them all. The fields are private, so that other crates have a `Handed`
-// from the functions below alone.
+// How many bytes were passed to `write`, and whether it wrote them all. The fields are private, so that other crates get a `Handed`
+// only from the functions below.
 pub struct Handed {
     count: usize,
     is_written: bool,
 }
 
-// Hands all of the bytes to write.
+// Passes all of the bytes to `write`.
 fn hand_over(bytes: &[u8]) -> Handed
     ensures { λ r. ⌜ r .count ≡ length (now (bytes .entry)) ⌝ }
 {
@@ -25,7 +25,7 @@ fn hand_over(bytes: &[u8]) -> Handed
     }
 }
 
-// Hands over the buffered bytes: the first `used` of the text.
+// Writes the buffered bytes: the first `used` of the text.
 pub fn flush(text: &[u8], used: usize) -> Handed
     requires { ⌜ used ≤ length (now text) ⌝ }
     ensures { λ r. ⌜ r .count ≡ used ⌝ }
@@ -33,7 +33,7 @@ pub fn flush(text: &[u8], used: usize) -> Handed
     hand_over(&text[..used])
 }
 
-// Hands them over where fewer than `room` bytes of the text are free, and nothing else.
+// Writes the buffered bytes if fewer than `room` bytes of the text are free; otherwise does nothing.
 pub fn make_room(text: &[u8], used: usize, room: usize) -> Handed
     requires { ⌜ used ≤ length (now text) ⌝ }
     ensures { λ r. ⌜ RoomMade (length (now (text .entry))) used room r ⌝ }
@@ -44,7 +44,7 @@ pub fn make_room(text: &[u8], used: usize, room: usize) -> Handed
     nothing()
 }
 
-// Nothing is handed over.
+// Passes nothing to `write`.
 pub fn nothing() -> Handed
     ensures { λ r. ⌜ r .count ≡ 0 ⌝ }
     ensures { λ r. ⌜ r .«is_written» ≡ true ⌝ }
@@ -67,7 +67,7 @@ pub fn is_written(handed: Handed) -> bool
     handed.is_written
 }
 
-// The one line on standard error.
+// Prints the only line that the program writes to standard error.
 pub fn report_failure() {
     io::write_all(STDERR_FILENO, b"levels: write failed\n");
 }

@@ -1,5 +1,5 @@
--- What it is to answer a line on lent stores: the bytes of its answer stand at the start of a lent text, and the header and stores
--- hold the table after it. Assumes nothing.
+-- The contract of answering a line on lent stores: the bytes of the answer are at the start of a lent text, and the header and
+-- stores hold the table after the line. Assumes nothing.
 use Prim.Native.Nat.{ℕ, _≤_}
 use mathlib.Core.Path.{_≡_}
 use mathlib.Core.Bool.{true}
@@ -12,7 +12,7 @@ use Rattle.table.specs.Refusing.{outside}
 use Rattle.table.specs.Promises.{Stores, Represents}
 use Rattle.levels_spec.specs.Said.{Turn, lineTurn}
 
--- the table that a header and stores hold; before the first accepted O there is none, and test 1 turns the header away
+-- The table that a header and stores hold. Before the first accepted O there is none, and check 1 refuses the header.
 pub data Held : Option Plain → Stores → Type 0 where
   no-table : {s : Stores} → outside (s .header) ≡ true → Held none s
   table : {p : Plain} {s : Stores} → Represents p s → Held (some p) s
@@ -29,12 +29,12 @@ lent s =
       baseWords = 16;
     }
 
--- what a turn leaves: its text, of which so many bytes are used, and its table
+-- the result of a line: its text is the first `used` bytes of the text, and the stores hold its table
 pub record TurnLeaves (turn : Turn) (s : Stores) (text : List ℕ) (used : ℕ) : Type 0 where
   pub text-is : take used text ≡ turn .text
   pub held : Held (turn .table) s
 
--- A line is answered: whatever table was held, the text and the table are those of the line's turn on it.
+-- A line is answered: for every table that the stores hold before, the text and the table after are those that `lineTurn` defines.
 pub record Answering (line : List ℕ) (s s′ : Stores) (text : List ℕ) (used : ℕ) : Type 0 where
   pub inside : used ≤ length text
   pub answers : (t : Option Plain) → Held t s → TurnLeaves (lineTurn (lent s) t line) s′ text used

@@ -1,5 +1,5 @@
--- What `levels` prints (document 01, "The program `levels`"): a line and the table before it give the text that it prints and the
--- table after it. Over the plain table; bytes are numbers, in ASCII. Assumes nothing.
+-- What `levels` prints (document 01, "The program `levels`"): the text that a line prints and the table after it, as a function of
+-- the line and the table before it. Defined over the plain table; bytes are numbers, in ASCII. Assumes nothing.
 use Prim.Native.Nat.{ℕ}
 use mathlib.Core.Bool.{true, false, cond}
 use mathlib.Core.List.{List, [], _∷_}
@@ -21,7 +21,7 @@ use Rattle.levels_text.specs.Written.{textLine}
 use Rattle.listing_spec.specs.Listings.{listingText}
 use Rattle.listing_write.specs.Writing.{tableListing}
 
--- what a line prints, and the table after it: none before the first accepted O
+-- the text that a line prints, and the table after it; there is no table before the first accepted O
 pub record Turn : Type 0 where
   pub text : List ℕ
   pub table : Option Plain
@@ -29,24 +29,24 @@ pub record Turn : Type 0 where
 abbrev pub printing : List ℕ → Option Plain → Turn
 printing text table = record { text = text; table = table }
 
--- "A refusal prints X,number" (X is 88); what is not refused prints its text
+-- "A refusal prints X,number" (X is 88); a line that is not refused prints its text
 unfoldable pub replied : ℕ → List ℕ → List ℕ
 replied number text = cond (eqb number 0) text (textLine 88 (number ∷ []))
 
--- "11 is .. a capacity above 1,024", before what an opening itself turns away
+-- "11 is .. a capacity above 1,024", checked before the refusals of the opening itself
 unfoldable pub openNumber : Lengths → Opening → ℕ
 openNumber l o = cond (ltb 1024 (o .capacity)) 11 (openRefusal o l)
 
--- O: accepted it prints nothing; a refused one keeps the old table
+-- O: an accepted opening prints nothing; a refused one leaves the old table
 unfoldable pub opens : Lengths → Option Plain → Opening → ℕ → Turn
 opens l t o generation =
     printing (replied (openNumber l o) []) (cond (eqb (openNumber l o) 0) (some (opened o generation)) t)
 
--- I, R, K, M, C and G: a call, and what it prints unless it is refused
+-- I, R, K, M, C and G: a call, and the text that it prints unless it is refused
 unfoldable pub calls : Lengths → Plain → Call → List ℕ → Turn
 calls l p c text = printing (replied (refusal p l c) text) (some (after p l c))
 
--- F, V, L and U: the number of its refusal, and what it prints unless it is refused; the table stays
+-- F, V, L and U: the number of the refusal, and the text that is printed unless it is refused; the table does not change
 unfoldable pub asks : Plain → ℕ → List ℕ → Turn
 asks p number text = printing (replied number text) (some p)
 
@@ -54,7 +54,7 @@ asks p number text = printing (replied number text) (some p)
 unfoldable pub mergeText : Plain → List ℕ
 mergeText p = textLine 77 (merged p .status ∷ cond (merged p .added) 1 0 ∷ merged p .place ∷ [])
 
--- "F,0,2 (start, end; or F,none)" (F is 70). It is never a list
+-- "F,0,2 (start, end; or F,none)" (F is 70); the answer is never a list
 unfoldable pub rangeText : Option Subset → List ℕ
 rangeText none = 70 ∷ 44 ∷ 110 ∷ 111 ∷ 110 ∷ 101 ∷ 10 ∷ []
 rangeText (some (range start end)) = textLine 70 (start ∷ end ∷ [])
@@ -78,8 +78,8 @@ abbrev pub openingIn : List ℕ → Opening
 openingIn ns =
     record { columns = getD ns 0 0; keys = getD ns 1 0; sort = getD ns 2 0; rule = getD ns 3 0; capacity = getD ns 4 0 }
 
--- A line on a table, by its letter: "I,cells" (73), "R,key cells" (82), "K,row,key cells" (75), M (77), "C clear" (67), "G
--- compact" (71), "F,kind,a,b" (70), where a kind or column that is not known is 6, V (86), U (85), else L.
+-- A line on a table, by its letter: "I,cells" (73), "R,key cells" (82), "K,row,key cells" (75), M (77), "C clear" (67), "G compact"
+-- (71), "F,kind,a,b" (70), which is refused with 6 if its kind or column is not known, V (86), U (85), else L.
 unfoldable pub served : Lengths → Plain → ℕ → List ℕ → Turn
 served l p letter ns =
     cond (eqb letter 73) (calls l p (staging (insert ns)) [])
@@ -97,11 +97,11 @@ unfoldable pub onTable : Option Plain → (Plain → Turn) → Turn
 onTable none line = printing (replied 1 []) none
 onTable (some p) line = line p
 
--- a line of the forms, by its letter and numbers; O is 79
+-- a line of a valid form, by its letter and numbers; O is 79
 unfoldable pub turn : Lengths → Option Plain → ℕ → List ℕ → Turn
 turn l t letter ns =
     cond (eqb letter 79) (opens l t (openingIn ns) (getD ns 5 0)) (onTable t (λ p. served l p letter ns))
 
--- any line, by its bytes: "11 is a line not of these forms"
+-- any line, given as bytes: "11 is a line not of these forms"
 unfoldable pub lineTurn : Lengths → Option Plain → List ℕ → Turn
 lineTurn l t line = cond (ofForms line) (turn l t (letter line) (numbers line)) (printing (replied 11 []) t)

@@ -1,5 +1,5 @@
--- What `levels` prints for a whole input (document 01, "The program `levels`"): its lines one after another, from no table on.
--- Bytes are numbers, in ASCII. Assumes nothing.
+-- What `levels` prints for a whole input (document 01, "The program `levels`"): its lines in order, starting without a table. Bytes
+-- are numbers, in ASCII. Assumes nothing.
 use Prim.Native.Nat.{ℕ}
 use mathlib.Core.Bool.{cond}
 use mathlib.Core.List.{List, [], _∷_, _++_}
@@ -9,21 +9,21 @@ use Rattle.plain_table.specs.Refusing.{Lengths}
 use Rattle.plain_table.specs.Plain.{Plain}
 use Rattle.levels_spec.specs.Said.{lineTurn}
 
--- "Its capacity is at most 1,024, over a row store of 8,192 cells and 2,048 pending words": the other stores for as many rows
+-- "Its capacity is at most 1,024, over a row store of 8,192 cells and 2,048 pending words": the other stores fit as many rows
 abbrev pub programLengths : Lengths
 programLengths = record { rows = 8192; keys = 2048; sorts = 2048; pending = 2048; liveWords = 16; baseWords = 16 }
 
--- a byte before the first of these lines
+-- prepends a byte to the first of these lines
 unfoldable pub begun : ℕ → List (List ℕ) → List (List ℕ)
 begun byte [] = (byte ∷ []) ∷ []
 begun byte (line ∷ lines) = (byte ∷ line) ∷ lines
 
--- the lines of an input: what stands before each newline (10), and what stands behind the last one, if anything does
+-- the lines of an input: the bytes before each newline (10), and the bytes after the last newline, if there are any
 unfoldable pub linesIn : List ℕ → List (List ℕ)
 linesIn [] = []
 linesIn (byte ∷ bytes) = cond (eqb byte 10) ([] ∷ linesIn bytes) (begun byte (linesIn bytes))
 
--- what lines print, the first one first, from a table on
+-- the text that lines print, in order, from a given table on
 unfoldable pub session : Option Plain → List (List ℕ) → List ℕ
 session t [] = []
 session t (line ∷ lines) =
@@ -34,6 +34,6 @@ unfoldable pub tableAfter : Option Plain → List (List ℕ) → Option Plain
 tableAfter t [] = t
 tableAfter t (line ∷ lines) = tableAfter (lineTurn programLengths t line .table) lines
 
--- what an input prints
+-- the text that an input prints
 unfoldable pub printed : List ℕ → List ℕ
 printed input = session none (linesIn input)

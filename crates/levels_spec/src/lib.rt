@@ -1,4 +1,4 @@
-// What a line of `levels` says before it is text.
+// The response to a line of `levels`, before it is encoded as text.
 use table::Header;
 
 pub enum Said {
@@ -11,11 +11,11 @@ pub enum Said {
     Range(u32, u32),
     // generation, row count
     Version(u32, u32),
-    // the head line and the live rows; where it says so, in the form with row numbers
+    // the head line and the live rows; true: in the form with row numbers
     Listing(bool),
 }
 
-// That, and the header after the line.
+// The response, and the header after the line.
 pub struct Served {
     pub header: Header,
     pub said: Said,

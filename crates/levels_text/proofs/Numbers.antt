@@ -17,7 +17,7 @@ use Rattle.levels_text.specs.declared.Parsed.the-variants.{Wrong, Line}
 use Rattle.levels_text.specs.inner.Reading.{fieldAt, FieldIs, LineIs, read-wrong, read-right}
 use Rattle.levels_text.specs.Laws.Lines.{first, others, first-end, others-end, first-at-comma, first-at-more, others-at-comma, others-at-more, next-first, next-others, next-inside, decimal-some, no-letter, no-decimal, is-line}
 
--- count numbers are read from the bytes before a place, and stored; the letter stands alone if nothing stands before the next comma
+-- `count` numbers are read from the bytes before `at`, and stored; the letter is a whole field if a comma or the end follows it
 pub record Numbers (line lent stored : List ℕ) (at count : ℕ) : Type 0 where
   pub inside : at ≤ length line
   pub room : 2 * count + 1 ≤ at

@@ -1,5 +1,5 @@
--- The lines that `levels` reads (document 01, "The program `levels`"): a letter and comma-parted decimals. Bytes are numbers,
--- in ASCII. Assumes nothing.
+-- The lines that `levels` reads (document 01, "The program `levels`"): a letter and comma-separated decimals. Bytes are numbers, in
+-- ASCII. Assumes nothing.
 use Prim.Native.Nat.{ℕ, _+_, _-_, _*_}
 use mathlib.Core.Bool.{Bool, cond, not, _&&_, _||_}
 use mathlib.Core.List.{List, [], _∷_, map}
@@ -7,7 +7,7 @@ use lib.ListN.{length, getD, drop}
 use lib.Dec.{leb, ltb, eqb}
 use Rattle.lists.specs.Lists.{every}
 
--- "comma-parted fields": what stands before, between and behind the commas
+-- "comma-parted fields": the bytes before, between and after the commas
 unfoldable pub fields : List ℕ → List (List ℕ)
 fields [] = [] ∷ []
 fields (byte ∷ bytes) = cond (eqb byte 44) ([] ∷ fields bytes) (longer byte (fields bytes))
@@ -16,7 +16,7 @@ fields (byte ∷ bytes) = cond (eqb byte 44) ([] ∷ fields bytes) (longer byte 
     longer byte [] = []
     longer byte (field ∷ rest) = (byte ∷ field) ∷ rest
 
--- the number that digits show, behind those already read
+-- the value of digits, given the value of the digits before them
 unfoldable pub valueFrom : ℕ → List ℕ → ℕ
 valueFrom n [] = n
 valueFrom n (digit ∷ digits) = valueFrom (10 * n + (digit - 48)) digits
@@ -34,18 +34,18 @@ unfoldable pub isLine : List ℕ → Bool
 isLine bytes =
     leb (length bytes) 120 && eqb (length (getD (fields bytes) 0 [])) 1 && every isDecimal (drop 1 (fields bytes))
 
--- its letter and its numbers
+-- the letter and the numbers of a line
 unfoldable pub letter : List ℕ → ℕ
 letter bytes = getD bytes 0 0
 
 unfoldable pub numbers : List ℕ → List ℕ
 numbers bytes = map (valueFrom 0) (drop 1 (fields bytes))
 
--- the letters that stand alone: M (77), V (86), L (76), U (85; document 02, change 11), C (67), G (71)
+-- the letters without numbers: M (77), V (86), L (76), U (85; document 02, change 11), C (67), G (71)
 unfoldable pub isBare : ℕ → Bool
 isBare letter = eqb letter 77 || eqb letter 86 || eqb letter 76 || eqb letter 85 || eqb letter 67 || eqb letter 71
 
--- the forms of a line: how many numbers O (79), I (73), R (82), K (75), F (70) and the bare letters take
+-- the valid forms: how many numbers O (79), I (73), R (82), K (75), F (70) and the bare letters have
 unfoldable pub isForm : ℕ → ℕ → Bool
 isForm letter count =
     cond (eqb letter 79) (eqb count 6)

@@ -1,27 +1,27 @@
-// Lines as `levels` reads them: a letter and comma-parted decimals, against the definitions of specs/Lines.antt. Nothing is
-// asked of a caller: where there is no room for the numbers, every line is wrong.
+// Parses the lines that `levels` reads: a letter and comma-separated decimals, as specs/Lines.antt defines them. There are no
+// preconditions: if there is no room for the numbers, every line is wrong.
 ghost use mathlib.Core.Path.{_≡_};
 ghost use Rattle.levels_text.specs.Lines.{isBare, isForm};
 ghost use Rattle.levels_text.specs.inner.Reading.{FieldIs, LineIs, ParsedIs};
 
-// At most 120 bytes hold a letter and 59 numbers.
+// A line of at most 120 bytes has a letter and at most 59 numbers.
 pub const MOST_NUMBERS: usize = 59;
 
 const LONGEST: usize = 120;
 
-// A line: its letter and how many numbers it has, which stand at the start of the lent numbers; or no line of the forms.
+// A line: its letter and the count of its numbers, which are at the start of the lent numbers; or not a line of a valid form.
 pub enum Parsed {
     Wrong,
     Line(u8, usize),
 }
 
-// A decimal and the place behind it, or no decimal.
+// A decimal and the offset after it, or no decimal.
 pub enum Field {
     Wrong,
     Decimal(u32, usize),
 }
 
-// The decimal that begins at a place and ends before a comma or the end.
+// Reads the decimal that begins at an offset and ends before a comma or the end.
 fn read_field(line: &[u8], start: usize) -> Field
     ensures { λ r. ⌜ FieldIs (now (line .entry)) start r ⌝ }
 {
@@ -55,7 +55,7 @@ fn read_field(line: &[u8], start: usize) -> Field
     Field::Decimal(value as u32, at)
 }
 
-// M, V, L, U, C and G: a letter that takes no number.
+// M, V, L, U, C and G: the letters without numbers.
 fn is_bare(letter: u8) -> bool
     ensures { λ r. ⌜ r ≡ isBare letter ⌝ }
 {
@@ -77,7 +77,7 @@ fn is_bare(letter: u8) -> bool
     letter == b'G'
 }
 
-// Whether a letter takes so many numbers.
+// True if a line of this letter has `count` numbers.
 fn is_form(letter: u8, count: usize) -> bool
     ensures { λ r. ⌜ r ≡ isForm letter count ⌝ }
 {
@@ -102,8 +102,8 @@ fn is_form(letter: u8, count: usize) -> bool
     false
 }
 
-// Reads a letter and decimals, a line without its end. The lent numbers must have room for the most that a line can hold; what
-// stands in them if the line is wrong is of no meaning.
+// Reads a letter and decimals: a line without its newline. The lent numbers must have room for the most that a line can have. Their
+// content is unspecified if the line is wrong.
 pub fn read_line(line: &[u8], numbers: &mut [u32]) -> Parsed
     ensures { λ r. ⌜ LineIs (now (line .entry)) (now (numbers .entry)) r (now (numbers .exit)) ⌝ }
 {
@@ -140,7 +140,7 @@ pub fn read_line(line: &[u8], numbers: &mut [u32]) -> Parsed
     Parsed::Line(letter, count)
 }
 
-// Reads a line of the forms.
+// Reads a line of a valid form.
 pub fn parse(line: &[u8], numbers: &mut [u32]) -> Parsed
     ensures { λ r. ⌜ ParsedIs (now (line .entry)) (now (numbers .entry)) r (now (numbers .exit)) ⌝ }
 {

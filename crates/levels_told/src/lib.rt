@@ -1,4 +1,4 @@
-// What a line says, as bytes at the start of a lent text.
+// Encodes the response of a line as bytes at the start of a lent text.
 ghost use Prim.Native.Nat.{_≤_};
 ghost use lib.ListN.{length};
 ghost use Rattle.levels_spec.specs.inner.Saying.{Telling};
@@ -11,7 +11,7 @@ use listing_spec::MoveAnswer;
 use listing_write::write_listing;
 use table::Header;
 
-// A listing; nothing where the header, the row store or the text refuses one.
+// Writes a listing; nothing if the header, the row store or the text is refused.
 fn list_table(numbered: bool, h: Header, rows: &[u32], text: &mut [u8]) -> usize
     ensures { λ r. ⌜ Listed numbered h (now (rows .entry)) (now (text .exit)) r ⌝ }
 {
@@ -21,7 +21,7 @@ fn list_table(numbered: bool, h: Header, rows: &[u32], text: &mut [u8]) -> usize
     }
 }
 
-// Anything that a line says: how many bytes it takes.
+// Encodes any response. Returns how many bytes it takes.
 pub fn tell(h: Header, said: Said, rows: &[u32], text: &mut [u8]) -> usize
     requires { ⌜ 90 ≤ length (now text) ⌝ }
     ensures { λ r. ⌜ Telling h (now (rows .entry)) said (now (text .exit)) r ⌝ }

@@ -1,4 +1,4 @@
-// A line of output, as specs/Written.antt of `levels_text` says it, behind the bytes that a lent text has already.
+// Appends a line of output, as specs/Written.antt of `levels_text` defines it, to the bytes that a lent text already has.
 ghost use mathlib.Core.Path.{_≡_};
 ghost use mathlib.Core.List.{[], _∷_, map};
 ghost use Prim.Native.Nat.{_+_, _*_, _≤_, _<_};
@@ -7,7 +7,7 @@ ghost use Rattle.lists.specs.Lists.{flat};
 ghost use Rattle.levels_text.specs.Written.{field, textLine};
 ghost use Rattle.levels_written.specs.inner.Appending.{Appended, Wrote};
 
-// One byte more.
+// Appends one byte.
 fn put(text: &mut [u8], used: usize, byte: u8) -> usize
     requires { ⌜ used < length (now text) ⌝ }
     ensures { λ r. ⌜ Appended (now (text .entry)) used (byte ∷ []) (now (text .exit)) r ⌝ }
@@ -38,7 +38,7 @@ pub fn number_length(number: u32) -> usize
     count + 1
 }
 
-// A comma and a number.
+// Appends a comma and a number.
 fn put_number(text: &mut [u8], used: usize, number: u32) -> usize
     requires { ⌜ used + length (field number) ≤ length (now text) ⌝ }
     ensures { λ r. ⌜ Appended (now (text .entry)) used (field number) (now (text .exit)) r ⌝ }
@@ -62,7 +62,7 @@ fn put_numbers(text: &mut [u8], used: usize, numbers: &[u32]) -> usize
     end
 }
 
-// A letter, numbers and the end of the line.
+// Appends a letter, numbers and a newline.
 pub fn put_line(text: &mut [u8], used: usize, letter: u8, numbers: &[u32]) -> usize
     requires { ⌜ used + length (textLine letter (now numbers)) ≤ length (now text) ⌝ }
     ensures { λ r. ⌜ Appended (now (text .entry)) used (textLine letter (now (numbers .entry))) (now (text .exit)) r ⌝ }
@@ -72,7 +72,7 @@ pub fn put_line(text: &mut [u8], used: usize, letter: u8, numbers: &[u32]) -> us
     put(text, numbered, b'\n')
 }
 
-// The same with a number before the others.
+// Like `put_line`, with a number before the others.
 pub fn put_numbered(text: &mut [u8], used: usize, letter: u8, number: u32, numbers: &[u32]) -> usize
     requires { ⌜ used + length (textLine letter (number ∷ now numbers)) ≤ length (now text) ⌝ }
     ensures { λ r. ⌜ Appended (now (text .entry)) used (textLine letter (number ∷ now (numbers .entry))) (now (text .exit)) r ⌝ }
@@ -83,7 +83,7 @@ pub fn put_numbered(text: &mut [u8], used: usize, letter: u8, number: u32, numbe
     put(text, filled, b'\n')
 }
 
-// A line at the start of the text.
+// Writes a line at the start of the text.
 pub fn write_line(text: &mut [u8], letter: u8, numbers: &[u32]) -> usize
     requires { ⌜ 11 * length (now numbers) + 2 ≤ length (now text) ⌝ }
     ensures { λ r. ⌜ Wrote (textLine letter (now (numbers .entry))) (now (text .exit)) r ⌝ }
@@ -91,7 +91,7 @@ pub fn write_line(text: &mut [u8], letter: u8, numbers: &[u32]) -> usize
     put_line(text, 0, letter, numbers)
 }
 
-// X and a number.
+// Writes the line of a refusal: X and its number.
 pub fn refuse(text: &mut [u8], number: u32) -> usize
     requires { ⌜ 90 ≤ length (now text) ⌝ }
     ensures { λ r. ⌜ Wrote (textLine 88 (number ∷ [])) (now (text .exit)) r ⌝ }

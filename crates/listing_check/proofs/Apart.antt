@@ -27,7 +27,7 @@ module _ (x y : ℕ) (xs ys : List ℕ) where
   unfolding firstApart
   apart-right h = let m : min x y ≡ y = min-eq-right (omega arith) in rw (ne-eqb x y (omega arith), m)
 
--- ---- what is said of the two lists
+-- ---- what the result means for the two lists
 
 abbrev Meant : List ℕ → List ℕ → Option ℕ → Type 0
 Meant l m none = l ≡ m

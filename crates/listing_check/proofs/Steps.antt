@@ -1,4 +1,4 @@
--- The ways through the walk: how it begins, goes a row further and is settled. Assumes nothing.
+-- The transitions of the scan: its start, one row processed, and its final state. Assumes nothing.
 use Prim.Native.Nat.{ℕ, suc, _+_, _-_, _≤_, _<_}
 use mathlib.Core.Path.{_≡_, refl, sym, ap, _∙_}
 use mathlib.Core.Bool.{Bool, true, false, cond, not, Bool·beq, false≢true}
@@ -33,7 +33,7 @@ use Rattle.listing_check.specs.Laws.Numbers.{misplaced-none}
 use Rattle.listing_check.specs.Laws.Verdicts.{above-kept, right-rising}
 use Rattle.listing_check.proofs.Apart.{apart-same, apart-left, apart-right, lowest-first}
 
--- ---- settled
+-- ---- the final state
 pub settle : {columns : ℕ} {text : List ℕ} {conditions : List Constraint} {given : List ℕ} {answer : CheckAnswer} → AnswersChecked text conditions given answer
     → Underway columns text conditions given (settledAs answer (length given))
 unfolding rowsLeft rightAmong rowNumbers keep firstApart unlessWrong
@@ -46,7 +46,7 @@ unfolding checkSays verdictSays unlessWrong rightOrWrong
 says-right none = refl
 says-right (some n) = refl
 
--- all rows of the text are left where its end is the walk's
+-- all rows of the text are left if the scan ends where the text ends
 left-from : (text : List ℕ) (at : Walk) → at .end ≡ length text → rowsLeft text at ≡ rowsFrom text (at .start)
 unfolding rowsLeft
 left-from text at e =
@@ -103,7 +103,7 @@ module _ (text : List ℕ) (conditions : List Constraint) (given : List ℕ) whe
           told : reply (cond (not (every (known (s .columns)) conditions)) 6 0) (verdictOn given right) ≡ accepted (rightOrWrong (lowest (wrongNumbers given right)))
           told = rw knows (unfold reply verdictOn placed in rw e)
 
--- ---- a row further
+-- ---- one row processed
 
 -- the numbers given from a place on
 pub getD-there : (given : List ℕ) (place d e : ℕ) → place < length given → getD given place d ≡ getD given place e
@@ -134,7 +134,7 @@ unfolding rightAmong rowNumbers keep
 right-more conditions n cells rows true e = rw (sym e)
 right-more conditions n cells rows false e = rw (sym e)
 
--- the walk behind a row
+-- the scan after a row
 abbrev pub onward : Walk → Row → ℕ → Walk
 onward at row place = record { answer = at .answer; start = row .next; end = at .end; place = place }
 

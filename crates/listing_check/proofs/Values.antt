@@ -1,4 +1,4 @@
--- The plain values that are passed on in the walks by hand: their types, and that they are owned for nothing. Assumes `Given`.
+-- The plain values that the manual proofs pass on: their types, and that they own no resource. Assumes `Given`.
 use Rattle.walks.proofs.Prelude.{refl, ℕ, List, w32, Val, u32, uint-makes, only}
 use denote.Array.{Array, array-vals, array-tells, array-lawful, array-makes}
 use denote.Plain.{uint-vals, uint-tells, uint-lawful}

@@ -1,5 +1,5 @@
--- Testing a laboratory's answers (document 02, change 13): a listing in the new form, a list of conditions and the row numbers that
--- the laboratory gives. Assumes nothing.
+-- Checking a laboratory's answers (document 02, change 13): a listing in the new form, a list of conditions and the row numbers
+-- that the laboratory gives. Assumes nothing.
 use Prim.Native.Nat.{ℕ, suc, min}
 use mathlib.Core.Path.{_≡_}
 use mathlib.Core.Bool.{true, cond, not}
@@ -17,11 +17,11 @@ use Rattle.listing_check.specs.declared.Verdict.the-variants.{Right, Mis
 use Rattle.listing_check.specs.declared.CheckAnswer.{CheckAnswer}
 use Rattle.listing_check.specs.declared.CheckAnswer.the-variants.{Refused, Checked}
 
--- the numbers of "the rows of the listing that meet every condition": a row's first field is its number, then its cells follow
+-- the numbers of "the rows of the listing that meet every condition": a row's first field is its number, followed by its cells
 unfoldable pub rightNumbers : List Constraint → Listing → List ℕ
 rightNumbers conditions l = rowNumbers (keep (λ ns. every (met (drop 1 ns)) conditions) (l .rows))
 
--- "the place, from 0, of the first number not above the one before": here of numbers from this place on, behind one
+-- "the place, from 0, of the first number not above the one before", for numbers that start at `place` and follow `before`
 unfoldable pub misplacedBehind : ℕ → ℕ → List ℕ → Option ℕ
 misplacedBehind before place [] = none
 misplacedBehind before place (n ∷ ns) = cond (ltb before n) (misplacedBehind n (suc place) ns) (some place)
@@ -31,7 +31,7 @@ misplaced [] = none
 misplaced (n ∷ ns) = misplacedBehind n 1 ns
 
 -- "wrongly present", then those wrongly "absent". "A number without a row in the listing counts as wrongly present": it is not
--- among the right ones
+-- among the right ones.
 unfoldable pub wrongNumbers : List ℕ → List ℕ → List ℕ
 wrongNumbers given right = keep (λ n. not (has n right)) given ++ keep (λ n. not (has n given)) right
 
@@ -46,7 +46,7 @@ pub data Finding : Type 0 where
   outOfOrder : ℕ → Finding
   lowestWrong : ℕ → Finding
 
--- what each case of the enum stands for
+-- the finding that each case of the enum represents
 unfoldable pub verdictSays : Verdict → Finding
 verdictSays Right = correct
 verdictSays (Misplaced place) = outOfOrder place
@@ -65,7 +65,7 @@ placed (some place) finding = outOfOrder place
 unfoldable pub verdictOn : List ℕ → List ℕ → Finding
 verdictOn given right = placed (misplaced given) (rightOrWrong (lowest (wrongNumbers given right)))
 
--- of the listing that a text shows, if it shows one
+-- the finding for the listing of a text, if it has one
 unfoldable pub verdictOf : Option Listing → List Constraint → List ℕ → Finding
 verdictOf none conditions given = correct
 verdictOf (some l) conditions given = verdictOn given (rightNumbers conditions l)
@@ -75,12 +75,12 @@ unfoldable pub checkRefusal : Option Listing → List Constraint → ℕ
 checkRefusal none conditions = 11
 checkRefusal (some l) conditions = first (rung (not (every (known (getD (l .head) 0 0)) conditions)) 6 ∷ [])
 
--- what an answer says
+-- the reply that an answer represents
 unfoldable pub checkSays : CheckAnswer → Reply Finding
 checkSays (Refused n) = refused n
 checkSays (Checked verdict) = accepted (verdictSays verdict)
 
--- What the checker promises; nothing is lent to be written.
+-- The contract of the check. It writes to no store.
 pub record AnswersChecked (text : List ℕ) (conditions : List Constraint) (given : List ℕ) (answer : CheckAnswer) : Type 0 where
   pub listing : Option Listing
   pub shown : Shows true text listing

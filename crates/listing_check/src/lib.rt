@@ -1,4 +1,4 @@
-// Testing a laboratory's answers: whether the row numbers given are those of the rows of a listing that meet every condition.
+// Checks a laboratory's answers: whether the row numbers given are those of the rows of a listing that meet every condition.
 ghost use mathlib.Core.Path.{_≡_};
 ghost use mathlib.Core.Bool.{true};
 ghost use Prim.Native.Nat.{_≤_};
@@ -30,15 +30,16 @@ pub enum CheckAnswer {
     Checked(Verdict),
 }
 
-// A row as its D line gives it, and the place behind the line. Cells past the listing's columns count for nothing.
+// A row as its D line gives it, and the offset after the line. Cells past the listing's columns are not used.
 struct Row {
     number: u32,
     cells: [u32; 8],
     next: usize,
 }
 
-// A walk over a listing's rows beside the numbers given: from the line at `start` on up to `end`, and from the number at `place`
-// on. Its answer stands unless a wrong number is still found; where it is settled, nothing is left of either.
+// The state of a merge scan of a listing's rows against the numbers given: the lines left, from `start` up to `end`, and the
+// numbers left, from `place` on. `answer` is the result unless a wrong number is still found. Once it is final, no line and no
+// number is left.
 struct Walk {
     answer: CheckAnswer,
     start: usize,
@@ -46,7 +47,7 @@ struct Walk {
     place: usize,
 }
 
-// The header of a table with the listing's rows: the conditions are tested on it.
+// The header of a table with the listing's rows, on which the conditions are tested.
 fn header_of(s: Survey) -> Header
     ensures { λ r. ⌜ r .columns ≡ s .columns ⌝ }
 {
@@ -65,7 +66,7 @@ fn header_of(s: Survey) -> Header
     }
 }
 
-// The place of the first number not above the one before, or how many there are.
+// The place of the first number not above the one before, or the number of numbers if there is none.
 fn first_misplaced(given: &[u32]) -> usize
     ensures { λ r. ⌜ MisplacedAt (now (given .entry)) r ⌝ }
 {
@@ -79,7 +80,7 @@ fn first_misplaced(given: &[u32]) -> usize
     given.len()
 }
 
-// Nothing is left that could overrule the answer.
+// The final state: no line or number is left that could change the answer.
 fn settled(answer: CheckAnswer, count: usize) -> Walk
     ensures { λ r. ⌜ r ≡ settledAs answer count ⌝ }
 {
@@ -91,7 +92,7 @@ fn settled(answer: CheckAnswer, count: usize) -> Walk
     }
 }
 
-// Refused, out of place, or right as long as the rows and the numbers agree.
+// The initial state: refused, misplaced, or right as long as the rows and the numbers agree.
 fn begin(s: Survey, known: bool, text: &[u8], given: &[u32]) -> Walk
     requires { ⌜ Surveyed true (now text) s ⌝ }
     ensures { λ r. ⌜ Begun s known (now (text .entry)) (now (given .entry)) r ⌝ }
@@ -114,7 +115,7 @@ fn begin(s: Survey, known: bool, text: &[u8], given: &[u32]) -> Walk
     }
 }
 
-// Reads the D line that begins at a place.
+// Reads the D line that begins at `start`.
 fn row_at(columns: u32, text: &[u8], start: usize) -> Row
     requires { ⌜ Due columns (now text) start ⌝ }
     ensures { λ r. ⌜ RowRead columns (now (text .entry)) start r ⌝ }
@@ -131,7 +132,7 @@ fn row_at(columns: u32, text: &[u8], start: usize) -> Row
     }
 }
 
-// The number given at a place; past the last one above any row's number.
+// The number given at `place`; past the last one, a number above every row's.
 fn given_at(given: &[u32], place: usize) -> u64
     ensures { λ r. ⌜ r ≡ getD (now (given .entry)) place 4294967296 ⌝ }
 {
@@ -141,8 +142,8 @@ fn given_at(given: &[u32], place: usize) -> u64
     0x1_0000_0000
 }
 
-// One row further: a number given that is below the row's is wrong, and the row's own is, unless it is given exactly if the row
-// meets every condition.
+// Processes one row. A given number below the row's number is wrong. The row's own number is wrong unless it is given exactly if
+// the row meets every condition.
 fn step(given: &[u32], at: Walk, row: Row, meets: bool) -> Walk
     ensures { λ r. ⌜ Stepped (now (given .entry)) at row meets r ⌝ }
 {
@@ -169,7 +170,7 @@ fn step(given: &[u32], at: Walk, row: Row, meets: bool) -> Walk
     n
 }
 
-// Behind the last row a number that is left is wrong.
+// After the last row, a number that is left is wrong.
 fn close(at: Walk, given: &[u32]) -> CheckAnswer
     ensures { λ r. ⌜ r ≡ closed at (now (given .entry)) ⌝ }
 {
@@ -180,7 +181,7 @@ fn close(at: Walk, given: &[u32]) -> CheckAnswer
     at.answer
 }
 
-// The row's cells meet every condition.
+// True if the row's cells meet every condition.
 fn meets_all(h: Header, cells: [u32; 8], conditions: &[Constraint]) -> bool
     requires { ⌜ (1 ≤ h .columns) × (h .columns ≤ 8) ⌝ }
     ensures { λ r. ⌜ r ≡ meets (take (h .columns) cells) (now (conditions .entry)) ⌝ }
@@ -188,8 +189,8 @@ fn meets_all(h: Header, cells: [u32; 8], conditions: &[Constraint]) -> bool
     all_pass(Test::Row(0), h, &cells, conditions)
 }
 
-// The text is looked through first, then once more row by row beside the numbers given. Whether the conditions are known is asked
-// without a row, so that the cells lent there count for nothing.
+// Scans the whole text first, then row by row together with the numbers given. Tests whether the conditions are known without a
+// row, so the cells passed there are not used.
 pub fn check_answers(text: &[u8], conditions: &[Constraint], given: &[u32]) -> CheckAnswer
     ensures { λ r. ⌜ AnswersChecked (now (text .entry)) (now (conditions .entry)) (now (given .entry)) r ⌝ }
 {

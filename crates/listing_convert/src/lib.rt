@@ -1,5 +1,5 @@
-// Moves of a listing's text from one form to the other. The text is looked through first and the length of what is to be written
-// counted, so that nothing is written where it is refused.
+// Converts a listing's text from one form to the other. Scans the text first and computes the length of the output, so that nothing
+// is written if it is refused.
 ghost use mathlib.Core.Path.{_≡_};
 ghost use mathlib.Core.Bool.{true, false, not, _&&_};
 ghost use mathlib.Core.List.{map};
@@ -26,7 +26,7 @@ use listing_parse::look_through;
 use listing_parse::row_width;
 use listing_spec::MoveAnswer;
 
-// The bytes that the numbers below a count take as fields.
+// The bytes that all numbers below a count take as fields.
 fn numbers_length(count: u32) -> usize
     requires { ⌜ count ≤ 65536 ⌝ }
     ensures { λ r. ⌜ r ≡ length (flat (map field (countFrom 0 count))) ⌝ }
@@ -40,7 +40,7 @@ fn numbers_length(count: u32) -> usize
     total
 }
 
-// A D line in the other form: its number left out, or this number before its cells.
+// Writes a D line in the other form: without its number, or with `number` before its cells.
 fn move_row(
     numbered: bool,
     columns: usize,
@@ -60,7 +60,7 @@ fn move_row(
     put_numbered(output, used, b'D', number, &numbers[..columns])
 }
 
-// The D lines in the other form.
+// Writes the D lines in the other form.
 fn move_rows(
     numbered: bool,
     columns: usize,
@@ -94,7 +94,7 @@ fn move_rows(
     end
 }
 
-// The head line in the other form.
+// Writes the head line in the other form.
 fn move_head(numbered: bool, s: Survey, output: &mut [u8]) -> usize
     requires { ⌜ length (textLine (headLetter (not numbered)) (movedHead numbered s)) ≤ length (now output) ⌝ }
     ensures { λ r. ⌜ Appended (now (output .entry)) 0 (textLine (headLetter (not numbered)) (movedHead numbered s)) (now (output .exit)) r ⌝ }
@@ -107,7 +107,7 @@ fn move_head(numbered: bool, s: Survey, output: &mut [u8]) -> usize
     put_line(output, 0, b'U', &head)
 }
 
-// The whole text in the other form.
+// Writes the whole text in the other form.
 fn write_moved(numbered: bool, s: Survey, text: &[u8], output: &mut [u8]) -> usize
     requires { ⌜ Listed numbered (now text) s ⌝ }
     requires { ⌜ length (movedText numbered (some (listingIn (now text)))) ≤ length (now output) ⌝ }
@@ -126,7 +126,7 @@ fn write_moved(numbered: bool, s: Survey, text: &[u8], output: &mut [u8]) -> usi
     )
 }
 
-// Some number below the count has no row: there are fewer rows than numbers.
+// True if some number below the count has no row: there are fewer rows than numbers.
 fn lacks_row(numbered: bool, s: Survey) -> bool
     ensures { λ r. ⌜ r ≡ (numbered && not (eqb (s .rows) (s .count))) ⌝ }
 {
@@ -136,7 +136,7 @@ fn lacks_row(numbered: bool, s: Survey) -> bool
     false
 }
 
-// The output is shorter than the text in the other form, which the count and the row numbers make longer or shorter.
+// True if the output is shorter than the text in the other form. The count and the row numbers make that text longer or shorter.
 fn lacks_room(numbered: bool, rows: u32, text: usize, output: usize) -> bool
     requires { ⌜ rows ≤ 65536 ⌝ }
     requires { ⌜ (numbered ≡ true → fieldsLength rows ≤ text) ⌝ }
@@ -152,7 +152,7 @@ fn lacks_room(numbered: bool, rows: u32, text: usize, output: usize) -> bool
     output - text < fields
 }
 
-// Moves a text that is of the form.
+// Converts a text that is of the form.
 fn move_found(numbered: bool, s: Survey, text: &[u8], output: &mut [u8]) -> MoveAnswer
     requires { ⌜ Listed numbered (now text) s ⌝ }
     ensures { λ r. ⌜ ListingMoved numbered (now (text .entry)) (now (output .entry)) r (now (output .exit)) ⌝ }
@@ -166,7 +166,7 @@ fn move_found(numbered: bool, s: Survey, text: &[u8], output: &mut [u8]) -> Move
     MoveAnswer::Written(write_moved(numbered, s, text, output))
 }
 
-// Both ways, from the form that is named.
+// Converts from the given form to the other.
 fn move_listing(numbered: bool, text: &[u8], output: &mut [u8]) -> MoveAnswer
     ensures { λ r. ⌜ ListingMoved numbered (now (text .entry)) (now (output .entry)) r (now (output .exit)) ⌝ }
 {

@@ -1,5 +1,5 @@
-// The text of a listing, line by line: whether it is of a form, what its head says, and how many rows it has. Lines are read as
-// `levels` reads its own.
+// Parses the text of a listing line by line: whether it is of a form, its head's numbers, and how many rows it has. Lines are read
+// as `levels` reads its own.
 ghost use mathlib.Core.Path.{_≡_};
 ghost use mathlib.Core.Bool.{false, cond};
 ghost use Prim.Native.Nat.{_+_, _≤_, _<_};
@@ -13,10 +13,10 @@ use levels_text::Parsed;
 
 pub const MOST_ROWS: usize = 65536;
 
-// More rows than a listing has.
+// One more row than a listing may have: marks a wrong text.
 const WRONG: usize = 65537;
 
-// Where the line ends that begins at a place: at its newline, or at the end of the text.
+// The end of the line that begins at `start`: the offset of its newline, or the end of the text.
 fn line_end(text: &[u8], start: usize) -> usize
     requires { ⌜ start ≤ length (now text) ⌝ }
     ensures { λ r. ⌜ LineEnd (now (text .entry)) start r ⌝ }
@@ -31,7 +31,7 @@ fn line_end(text: &[u8], start: usize) -> usize
     at
 }
 
-// Reads the line that begins at a place: the place behind its newline, or 0 if it is not of this letter with so many numbers.
+// Reads the line that begins at `start`. Returns the offset after its newline, or 0 if its letter or number count differs.
 pub fn line_at(text: &[u8], start: usize, letter: u8, width: usize, numbers: &mut [u32]) -> usize
     requires { ⌜ start ≤ length (now text) ⌝ }
     requires { ⌜ 59 ≤ length (now numbers) ⌝ }
@@ -55,7 +55,7 @@ pub fn line_at(text: &[u8], start: usize, letter: u8, width: usize, numbers: &mu
     }
 }
 
-// The numbers of a D line.
+// How many numbers a D line has.
 pub fn row_width(numbered: bool, columns: usize) -> usize
     requires { ⌜ columns ≤ 8 ⌝ }
     ensures { λ r. ⌜ r ≡ lead numbered + columns ⌝ }
@@ -66,7 +66,7 @@ pub fn row_width(numbered: bool, columns: usize) -> usize
     columns
 }
 
-// A first cell that is not dead, and a row number that is high enough and below the count.
+// True if the first cell is not dead, and the row number is at least `least` and below the count.
 fn row_fits(numbered: bool, count: u32, least: usize, numbers: &[u32]) -> bool
     requires { ⌜ lead numbered < length (now numbers) ⌝ }
     ensures { λ r. ⌜ r ≡ rowFits numbered count least (now (numbers .entry)) ⌝ }
@@ -83,7 +83,7 @@ fn row_fits(numbered: bool, count: u32, least: usize, numbers: &[u32]) -> bool
     numbers[0] != 0xffff_ffff
 }
 
-// Reads the D line that begins at a place: the place behind it, or 0 if it is wrong.
+// Reads the D line that begins at `start`. Returns the offset after it, or 0 if it is wrong.
 fn row_at(
     numbered: bool,
     columns: usize,
@@ -109,7 +109,7 @@ fn row_at(
     0
 }
 
-// How many D lines there are from a place on, or more than a listing has if one is wrong.
+// How many D lines there are from `start` on, or `WRONG` if one is wrong.
 fn count_rows(
     numbered: bool,
     columns: usize,
@@ -140,7 +140,7 @@ fn count_rows(
     rows
 }
 
-// Test 1's bounds of a head's first numbers.
+// Checks the bounds of check 1 on the first numbers of a head.
 fn keeps_bounds(columns: u32, keys: u32, sort: u32, rule: u32) -> bool
     ensures { λ r. ⌜ r ≡ keepsBounds columns keys sort rule ⌝ }
 {
@@ -162,7 +162,7 @@ fn keeps_bounds(columns: u32, keys: u32, sort: u32, rule: u32) -> bool
     rule <= 3
 }
 
-// The row count that a head gives; the old form's gives none.
+// The row count of a head; 0 in the old form, which has none.
 fn count_in(numbered: bool, last: u32) -> u32
     ensures { λ r. ⌜ r ≡ cond numbered last 0 ⌝ }
 {
@@ -172,7 +172,7 @@ fn count_in(numbered: bool, last: u32) -> u32
     0
 }
 
-// Reads the line that begins the text, of the form's letter and width.
+// Reads the first line of the text, with the letter and width of the form.
 fn first_line(numbered: bool, text: &[u8], numbers: &mut [u32]) -> usize
     requires { ⌜ 59 ≤ length (now numbers) ⌝ }
     ensures { λ r. ⌜ LineAt (now (text .entry)) 0 (headLetter numbered) (headWidth numbered) r (now (numbers .exit)) ⌝ }
@@ -183,7 +183,7 @@ fn first_line(numbered: bool, text: &[u8], numbers: &mut [u32]) -> usize
     line_at(text, 0, b'T', 5, numbers)
 }
 
-// Reads the head line: the place behind it, or 0 if it is wrong.
+// Reads the head line. Returns the offset after it, or 0 if it is wrong.
 fn head_at(numbered: bool, text: &[u8], numbers: &mut [u32]) -> usize
     requires { ⌜ 59 ≤ length (now numbers) ⌝ }
     ensures { λ r. ⌜ HeadAt numbered (now (text .entry)) r (now (numbers .exit)) ⌝ }
@@ -201,7 +201,7 @@ fn head_at(numbered: bool, text: &[u8], numbers: &mut [u32]) -> usize
     0
 }
 
-// What a text of a form says before its rows are read: the head's numbers, the row count among them, how many rows there are and
+// Facts about a text of a form, known before its rows are read: the head's numbers with the row count, how many rows there are, and
 // where they begin.
 pub struct Survey {
     pub is_listing: bool,
@@ -231,7 +231,7 @@ fn no_listing() -> Survey
     }
 }
 
-// Looks through a whole text.
+// Scans a whole text.
 pub fn look_through(numbered: bool, text: &[u8]) -> Survey
     ensures { λ r. ⌜ Surveyed numbered (now (text .entry)) r ⌝ }
 {

@@ -103,7 +103,7 @@ read-wrong numbered text output e = record {
 pub cells-few : (rows width : ℕ) → rows ≤ 65536 → width ≤ 9 → rows * width ≤ 589824
 cells-few rows width a b = let c = mul-le-mul a b in omega arith
 
--- ---- told as the form's own answer
+-- ---- converted to the answer type of the form
 
 module _ {text output output′ : List ℕ} {r : Outcome} where
   pub listing-refused : (n : ℕ) → r ≡ Refused n → ListingRead false text output (outcomeSays false r) output′ → ListingRead false text output (listingSays (ListingRefused n)) output′

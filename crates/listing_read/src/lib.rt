@@ -1,5 +1,5 @@
-// Readers of a listing's text: what the head says, and the rows' cells written in turn. The text is looked through first, so that
-// nothing is written where it is refused.
+// Readers of a listing's text: they return the head's numbers and write the rows' cells in order. They scan the whole text first,
+// so that nothing is written if it is refused.
 ghost use mathlib.Core.Path.{_≡_};
 ghost use mathlib.Core.Bool.{true, false};
 ghost use Prim.Native.Nat.{_≤_, _<_};
@@ -19,7 +19,7 @@ use listing_spec::ListingHead;
 use listing_spec::NumberedAnswer;
 use listing_spec::NumberedHead;
 
-// Writes the numbers of each D line in turn.
+// Writes the numbers of each D line in order.
 fn write_rows(
     numbered: bool,
     columns: usize,
@@ -49,7 +49,7 @@ fn write_rows(
     }
 }
 
-// What reading found, in either form.
+// The result of reading, in either form.
 enum Outcome {
     Refused(u32),
     Found(Survey),

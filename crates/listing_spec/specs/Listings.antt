@@ -1,14 +1,14 @@
 -- Listings as text (document 01, "The program `levels`"; document 02, change 11): the form that L prints, and the new form, which
--- keeps row numbers. Where a definition takes a Bool, it says whether the form is the new one; for a move it is the form that the
--- text is moved from. What L and U print is such a text (`levels_spec` laws `plain-listed`, `numbered-listed`). Bytes are numbers, in
--- ASCII. Assumes nothing.
+-- has row numbers. A definition that takes a Bool takes true for the new form; for a conversion it is the form of the given text. L
+-- and U print such texts (`levels_spec` laws `plain-listed`, `numbered-listed`). Bytes are numbers, in ASCII. Assumes nothing.
 --
 -- In the old form and in the new, of the same table:
 --
 --     T,4,2,3,1,0         U,4,2,3,1,0,1
 --     D,7,1,163,12        D,0,7,1,163,12
 --
--- The text U,4,2,3,1,0,3 D,2,7,1,163,12 is of the new form too, but numbers 0 and 1 have no row: 17 on the way to the old form.
+-- The text U,4,2,3,1,0,3 D,2,7,1,163,12 is of the new form too, but numbers 0 and 1 have no row: its conversion to the old form is
+-- refused with 17.
 use Prim.Native.Nat.{ℕ, suc, _+_, _≤_, _<_}
 use mathlib.Core.Path.{_≡_}
 use mathlib.Core.Bool.{Bool, true, false, cond, not, _&&_}
@@ -31,7 +31,7 @@ pub record Listing : Type 0 where
   pub head : List ℕ
   pub rows : List (List ℕ)
 
--- the head line: "columns, keys, sort, rule, generation" behind T (84); in the new form it "is U in place of T with the row count
+-- the head line: "columns, keys, sort, rule, generation" after T (84); in the new form it "is U in place of T with the row count
 -- added as a last field" (U is 85)
 unfoldable pub headLetter : Bool → ℕ
 headLetter numbered = cond numbered 85 84
@@ -39,16 +39,15 @@ headLetter numbered = cond numbered 85 84
 unfoldable pub headWidth : Bool → ℕ
 headWidth numbered = cond numbered 6 5
 
--- how many numbers stand before a row's cells: "each D line has the row number as its first field after D"
+-- how many numbers come before a row's cells: "each D line has the row number as its first field after D"
 unfoldable pub lead : Bool → ℕ
 lead numbered = cond numbered 1 0
 
--- its text: "each line ends in one newline" (D is 68)
+-- the text of a listing: "each line ends in one newline" (D is 68)
 unfoldable pub listingText : Bool → Listing → List ℕ
 listingText numbered l = textLine (headLetter numbered) (l .head) ++ flat (map (textLine 68) (l .rows))
 
--- "all fields are decimals": the numbers that fields can show. How they are written is how `levels` reads them (law
--- `decimal-back`).
+-- "all fields are decimals": the numbers that fields can have. They are written as `levels` reads them (law `decimal-back`).
 unfoldable pub areNumbers : List ℕ → Bool
 areNumbers ns = every (λ n. leb n 4294967295) ns
 
@@ -87,7 +86,7 @@ isListing numbered l =
     && every (isRow numbered (getD (l .head) 0 0)) (l .rows)
     && cond numbered (areNumbered (getD (l .head) 5 0) (l .rows)) true
 
--- the listing of a form that a text is the text of, if there is one
+-- the listing of the given form that has this text, if there is one
 pub data Shows (numbered : Bool) (text : List ℕ) : Option Listing → Type 0 where
   shows : (l : Listing) → isListing numbered l ≡ true → text ≡ listingText numbered l → Shows numbered text (some l)
   shows-none : ((l : Listing) → isListing numbered l ≡ true → text ≡ listingText numbered l → ⊥) → Shows numbered text none
@@ -104,12 +103,12 @@ unfoldable pub readRefusal : Option Listing → ℕ → ℕ
 readRefusal none output = 11
 readRefusal (some l) output = first (rung (ltb output (length (flat (l .rows)))) 2 ∷ [])
 
--- "give the head's numbers"; added to them is how many rows are listed, for the caller to find the end of the cells
+-- "give the head's numbers"; the number of listed rows is added, so that the caller finds the end of the cells
 unfoldable pub told : Option Listing → List ℕ
 told none = []
 told (some l) = l .head ++ (length (l .rows) ∷ [])
 
--- what an answer says
+-- the reply that an answer represents
 unfoldable pub listingSays : ListingAnswer → Reply (List ℕ)
 listingSays (ReadRefused n) = refused n
 listingSays (Read h) =
@@ -120,8 +119,8 @@ numberedSays (NumberedRefused n) = refused n
 numberedSays (NumberedRead h) =
     accepted (h .columns ∷ h .keys ∷ h .sort ∷ h .rule ∷ h .generation ∷ h .count ∷ h .listed ∷ [])
 
--- What either reader promises: the cells at the start of the output, and nothing changed past them; on refusal nothing changed at
--- all.
+-- The contract of both readers: the cells are at the start of the output, and nothing changes past them; on refusal nothing changes
+-- at all.
 pub record ListingRead (numbered : Bool) (text output : List ℕ) (says : Reply (List ℕ)) (output′ : List ℕ) : Type 0 where
   pub listing : Option Listing
   pub shown : Shows numbered text listing
@@ -129,7 +128,7 @@ pub record ListingRead (numbered : Bool) (text output : List ℕ) (says : Reply 
   pub written : readRefusal listing (length output) ≡ 0 → output′ ≡ putAt output 0 (cellsIn listing)
   pub unchanged : 0 < readRefusal listing (length output) → output′ ≡ output
 
--- ---- moves
+-- ---- conversions
 
 -- "Old to new numbers the rows from 0"
 unfoldable pub numberedFrom : ℕ → List (List ℕ) → List (List ℕ)
@@ -139,7 +138,7 @@ numberedFrom n (cells ∷ rows) = (n ∷ cells) ∷ numberedFrom (suc n) rows
 unfoldable pub toNumbered : Listing → Listing
 toNumbered l = record { head = l .head ++ (length (l .rows) ∷ []); rows = numberedFrom 0 (l .rows) }
 
--- new to old: the count and the numbers are left out
+-- new to old: the count and the row numbers are left out
 unfoldable pub fromNumbered : Listing → Listing
 fromNumbered l = record { head = take 5 (l .head); rows = map (drop 1) (l .rows) }
 
@@ -147,7 +146,7 @@ fromNumbered l = record { head = take 5 (l .head); rows = map (drop 1) (l .rows)
 unfoldable pub lacksRow : Listing → Bool
 lacksRow l = not (every (λ n. has n (rowNumbers (l .rows))) (countFrom 0 (getD (l .head) 5 0)))
 
--- the text in the other form of a listing in this one
+-- the text of a listing in the other form
 unfoldable pub movedText : Bool → Option Listing → List ℕ
 movedText numbered none = []
 movedText numbered (some l) = cond numbered (listingText false (fromNumbered l)) (listingText true (toNumbered l))
@@ -159,13 +158,13 @@ moveRefusal numbered none output = 11
 moveRefusal numbered (some l) output =
     first (rung (numbered && lacksRow l) 17 ∷ rung (ltb output (length (movedText numbered (some l)))) 2 ∷ [])
 
--- what an answer says: how many bytes were written, for the caller to find the end of the text
+-- the reply that an answer represents: how many bytes were written, so that the caller finds the end of the text
 unfoldable pub moveSays : MoveAnswer → Reply ℕ
 moveSays (MoveRefused n) = refused n
 moveSays (MoveWritten bytes) = accepted bytes
 
--- What a move from this form to the other promises: the text at the start of the output, its length as the answer, and nothing
--- changed past it; on refusal nothing changed at all.
+-- The contract of a conversion from this form to the other: the text is at the start of the output, its length is the answer, and
+-- nothing changes past it; on refusal nothing changes at all.
 pub record ListingMoved (numbered : Bool) (text output : List ℕ) (answer : MoveAnswer) (output′ : List ℕ) : Type 0 where
   pub listing : Option Listing
   pub shown : Shows numbered text listing
@@ -173,15 +172,15 @@ pub record ListingMoved (numbered : Bool) (text output : List ℕ) (answer : Mov
   pub written : moveRefusal numbered listing (length output) ≡ 0 → output′ ≡ putAt output 0 (movedText numbered listing)
   pub unchanged : 0 < moveRefusal numbered listing (length output) → output′ ≡ output
 
--- What a move back gives: the text again, at the start of the output. It is refused by no number but 2, and by 2 exactly if the output
+-- The contract of a conversion back: the text is at the start of the output. It is refused only with 2, and exactly if the output
 -- is shorter than the text.
 pub record Restored (text output : List ℕ) (answer : MoveAnswer) (output′ : List ℕ) : Type 0 where
   pub answers : moveSays answer ≡ reply (first (rung (ltb (length output) (length text)) 2 ∷ [])) (length text)
   pub written : length text ≤ length output → output′ ≡ putAt output 0 text
   pub unchanged : length output < length text → output′ ≡ output
 
--- "coming back restores the text exactly", where the text was moved from the old form; "New to old and again to new restores it too
--- wherever it is accepted": a text moved to the other form, and what was written moved back, is the text again.
+-- "coming back restores the text exactly", if the text was in the old form; "New to old and again to new restores it too wherever
+-- it is accepted". A text is converted to the other form, and the result is converted back: the result is the text again.
 abbrev pub RestoresText : Bool → Type 0
 RestoresText numbered =
     (text output output′ again again′ : List ℕ) (bytes : ℕ) (answer : MoveAnswer) → ListingMoved numbered text output (MoveWritten bytes) output′

@@ -1,4 +1,4 @@
-// What reading and moving a listing answer.
+// Answers of the functions that read and convert a listing.
 
 // The numbers of a head line, and how many rows are listed.
 pub struct ListingHead {
@@ -15,7 +15,7 @@ pub enum ListingAnswer {
     Listing(ListingHead),
 }
 
-// In the new form: `count` is the row count, the head's last number; at most so many rows are listed.
+// The same in the new form. `count` is the row count, the last number of the head; at most `count` rows are listed.
 pub struct NumberedHead {
     pub columns: u32,
     pub keys: u32,
@@ -31,7 +31,7 @@ pub enum NumberedAnswer {
     Listing(NumberedHead),
 }
 
-// How many bytes were written.
+// The number of a refusal, or how many bytes were written.
 pub enum MoveAnswer {
     Refused(u32),
     Written(usize),

@@ -1,6 +1,6 @@
 -- Writing a listing of a table (document 01, "The program `levels`"; document 02, change 11), in the old form or the new: what the
--- program `levels` prints for the lines L and U. Where a definition takes a Bool, it says whether the form is the new one. Bytes are
--- numbers, in ASCII. Assumes nothing.
+-- program `levels` prints for the lines L and U. A definition that takes a Bool takes true for the new form. Bytes are numbers, in
+-- ASCII. Assumes nothing.
 use Prim.Native.Nat.{ℕ, _<_}
 use mathlib.Core.Path.{_≡_}
 use mathlib.Core.Bool.{Bool, true, false, cond}
@@ -27,12 +27,12 @@ headNumbers false o generation count = o .columns ∷ o .keys ∷ o .sort ∷ o 
 unfoldable pub rowFields : Bool → Numbered → List ℕ
 rowFields numbered row = cond numbered (row .number ∷ row .cells) (row .cells)
 
--- the listing of a table of these numbers and rows: "(each live row, rising)"
+-- the listing of a table with these numbers and rows: "(each live row, rising)"
 unfoldable pub tableListing : Bool → Opening → ℕ → List Row → Listing
 tableListing numbered o generation rows =
     record { head = headNumbers numbered o generation (length rows); rows = map (rowFields numbered) (liveFrom 0 rows) }
 
--- of a header and a row store, and its text
+-- the listing of a header and a row store, and its text
 unfoldable pub storedListing : Bool → Header → List ℕ → Listing
 storedListing numbered h rows = tableListing numbered (openingOf h) (h .generation) (rowsIn h rows)
 
@@ -48,8 +48,8 @@ writeRefusal numbered h rows output =
     ∷ rung (ltb output (length (storedText numbered h rows))) 2
     ∷ [])
 
--- What writing a listing promises: the text at the start of the output, its length as the answer, and nothing changed past it; on
--- refusal nothing changed at all.
+-- The contract of writing a listing: the text is at the start of the output, its length is the answer, and nothing changes past it;
+-- on refusal nothing changes at all.
 pub record ListingWritten (numbered : Bool) (h : Header) (rows output : List ℕ) (answer : MoveAnswer) (output′ : List ℕ) : Type 0 where
   pub answers : moveSays answer ≡ reply (writeRefusal numbered h rows (length output)) (length (storedText numbered h rows))
   pub written : writeRefusal numbered h rows (length output) ≡ 0 → output′ ≡ putAt output 0 (storedText numbered h rows)

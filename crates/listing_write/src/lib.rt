@@ -1,5 +1,5 @@
-// Writing a listing of a table, in the old form or the new. The length of the text is computed first, so that nothing is written
-// where the output is too short.
+// Writes a listing of a table, in the old form or the new. Computes the length of the text first, so that nothing is written if the
+// output is too short.
 ghost use mathlib.Core.Path.{_≡_};
 ghost use mathlib.Core.List.{map};
 ghost use Prim.Native.Nat.{_+_, _*_, _≤_};
@@ -22,7 +22,7 @@ const OUTSIDE: u32 = 1;
 
 const TOO_SHORT: u32 = 2;
 
-// The bytes that numbers take, a comma before each.
+// The bytes that numbers take, with a comma before each.
 fn numbers_length(numbers: &[u32]) -> usize
     requires { ⌜ length (now numbers) ≤ 8 ⌝ }
     ensures { λ r. ⌜ r ≡ length (flat (map field (now (numbers .entry)))) ⌝ }
@@ -51,7 +51,7 @@ fn row_length(numbered: bool, number: u32, row: &[u32]) -> usize
     0
 }
 
-// The bytes of the lines of the live rows among the first.
+// The bytes of the lines of the live rows among the first `count`.
 fn rows_length(numbered: bool, rows: &[u32], columns: usize, count: u32) -> usize
     requires { ⌜ columns ≤ 8 ⌝ }
     requires { ⌜ count ≤ 65536 ⌝ }
@@ -81,7 +81,7 @@ fn head_length(numbered: bool, h: Header) -> usize
     numbers_length(&numbers[..5]) + 2
 }
 
-// The bytes of the text.
+// The bytes of the whole text.
 fn text_length(numbered: bool, h: Header, rows: &[u32]) -> usize
     requires { ⌜ Stored h (now rows) ⌝ }
     ensures { λ r. ⌜ r ≡ length (storedText numbered h (now (rows .entry))) ⌝ }
@@ -105,7 +105,7 @@ fn put_row(text: &mut [u8], used: usize, numbered: bool, number: u32, row: &[u32
     used
 }
 
-// Writes the lines of the live rows among the first.
+// Writes the lines of the live rows among the first `count`.
 fn put_rows(
     text: &mut [u8],
     used: usize,
@@ -131,7 +131,7 @@ fn put_rows(
     end
 }
 
-// Writes the head line: with the row count in the new form.
+// Writes the head line, in the new form with the row count.
 fn put_head(text: &mut [u8], numbered: bool, h: Header) -> usize
     requires { ⌜ length (headLine numbered h) ≤ length (now text) ⌝ }
     ensures { λ r. ⌜ Appended (now (text .entry)) 0 (headLine numbered h) (now (text .exit)) r ⌝ }
@@ -153,8 +153,7 @@ fn put_text(numbered: bool, h: Header, rows: &[u32], text: &mut [u8]) -> usize
     put_rows(text, used, numbered, rows, h.columns as usize, h.rows)
 }
 
-// Writes a listing of the table in `rows` to the start of `output`, in the new form if it is `numbered`; answers how many bytes were
-// written.
+// Writes a listing of the table in `rows` to the start of `output`, in the new form if `numbered`. Returns the bytes written.
 pub fn write_listing(h: Header, rows: &[u32], numbered: bool, output: &mut [u8]) -> MoveAnswer
     ensures { λ r. ⌜ ListingWritten numbered h (now (rows .entry)) (now (output .entry)) r (now (output .exit)) ⌝ }
 {

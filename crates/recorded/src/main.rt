@@ -1,6 +1,6 @@
-// The program `recorded`: reads the recorded list from standard input, makes each of its calls and questions on the library, and
-// compares what that answers with the list's answer. It writes how many answers the list has, how many were asked for here, and
-// how many agreed. Questions with a list of conditions are left out.
+// The program `recorded`: reads the recorded list from standard input, makes each of its calls and queries on the library, and
+// compares the answers with those of the list. It prints how many answers the list has, how many were compared, and how many
+// agreed. It skips queries with a list of conditions.
 use libc::STDIN_FILENO;
 use libc::STDOUT_FILENO;
 use recorded_answers::Counts;
@@ -9,7 +9,7 @@ use recorded_turns::turn;
 use table::Header;
 use table::Largest;
 
-// The header before the first opening, which every operation refuses.
+// The header before the first opening. Every operation refuses it.
 fn no_table() -> Header {
     Header {
         columns: 0,

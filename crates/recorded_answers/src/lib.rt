@@ -1,11 +1,11 @@
-// Answers against those of the recorded list, and how many agree.
+// Compares answers with those of the recorded list, and counts how many agree.
 use recorded_lines::Said;
 use recorded_lines::UNASKED;
 use recorded_lines::further;
 use recorded_lines::part;
 use recorded_lines::read_line;
 
-// The answers of the list, those asked for here, and those that agreed.
+// How many answers the list has, how many were compared, and how many agreed.
 pub struct Counts {
     pub answers: u64,
     pub asked: u64,
@@ -19,7 +19,7 @@ fn one_more(count: u64) -> u64 {
     count
 }
 
-// What was counted, and the place behind the answer's line.
+// The counts, and the offset after the answer's line.
 pub struct Judged {
     pub counts: Counts,
     pub place: usize,
@@ -37,7 +37,7 @@ fn counted(counts: Counts, is_asked: bool, agrees: bool) -> Counts {
     after
 }
 
-// The numbers of an answer are those of a line.
+// True if the numbers of an answer are those of a line.
 fn is_same(said: Said, out: &[u32], numbers: &[u32]) -> bool {
     let first = [said.first, said.second, said.third, said.fourth, said.fifth];
     if numbers.len() != further(said.count, said.more) {
@@ -50,7 +50,7 @@ fn is_same(said: Said, out: &[u32], numbers: &[u32]) -> bool {
     row_buffer::same_cells(more, part(numbers, said.count, numbers.len()))
 }
 
-// The answer against the list's line at a place.
+// Compares the answer with the list's line at `place`.
 pub fn judge(counts: Counts, said: Said, out: &[u32], text: &[u8], place: usize) -> Judged {
     let mut numbers = [0u32; 64];
     let line = read_line(text, place, &mut numbers);

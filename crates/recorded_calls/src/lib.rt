@@ -1,4 +1,4 @@
-// The calls of the recorded list, each made on the library, and its answer in the list's form.
+// Makes the calls of the recorded list on the library. Returns each answer in the list's form.
 use recorded_lines::Said;
 use recorded_lines::number_at;
 use recorded_lines::part;
@@ -16,7 +16,7 @@ fn taken(h: Header, answer: TableAnswer) -> Said {
     }
 }
 
-// I, R and K
+// I, R and K.
 fn stage(h: Header, letter: u8, numbers: &[u32], pending: &mut [u32]) -> Said {
     if letter == b'I' {
         return taken(h, table_stage::stage_insert(h, pending, numbers));
@@ -60,7 +60,7 @@ fn merge_pending(
     merge_told(h, answer)
 }
 
-// G, with the same.
+// G, with compaction words for the same capacity.
 fn compact(h: Header, rows: &mut [u32], keys: &mut [u32], sorts: &mut [u32]) -> Said {
     let mut live = [0u64; 1];
     let mut base = [0u32; 1];
@@ -75,7 +75,7 @@ fn is_emptying(letter: u8) -> bool {
     }
 }
 
-// O and C
+// O and C.
 fn empty(
     h: Header,
     letter: u8,
@@ -110,7 +110,7 @@ pub fn is_call(letter: u8) -> bool {
     }
 }
 
-// A call, by its letter.
+// Makes a call, dispatched by its letter.
 pub fn call(
     h: Header,
     letter: u8,

@@ -1,12 +1,12 @@
 // Lines of the recorded list (oracle/recorded/README.md) as the program `recorded` reads them, and answers in the same form: a
-// letter and numbers. Nothing is asked of a caller: a number that a line lacks counts as 0.
+// letter and numbers. There are no preconditions: a number that a line lacks is 0.
 use table::Header;
 
-// The letter of an answer that is not asked for: to a question with a list of conditions.
+// The letter of an answer that is not compared: the answer to a query with a list of conditions.
 pub const UNASKED: u8 = b'?';
 
-// An answer: the header that is left, the letter, its first numbers, as many as `count` says, and how many more stand at the start
-// of the lent ones.
+// An answer: the header after it, the letter, its first numbers (`count` of them), and how many more are at the start of the lent
+// numbers.
 pub struct Said {
     pub header: Header,
     pub letter: u8,
@@ -19,7 +19,7 @@ pub struct Said {
     pub more: u32,
 }
 
-// A line: its letter, how many numbers stand at the start of the lent ones, and the place behind the line's end.
+// A line: its letter, how many numbers are at the start of the lent numbers, and the offset after the line's end.
 pub struct Line {
     pub letter: u8,
     pub count: usize,
@@ -33,7 +33,7 @@ pub fn number_at(numbers: &[u32], place: usize) -> u32 {
     0
 }
 
-// A place so much further on. No line has as many numbers as the bounds.
+// The offset `place` + `count`; 0 if one of them is 1,000 or more. No line has that many numbers.
 pub fn further(place: usize, count: u32) -> usize {
     if place < 1000 {
         if count < 1000 {
@@ -43,7 +43,7 @@ pub fn further(place: usize, count: u32) -> usize {
     0
 }
 
-// The numbers from a place up to another, none where there are no such.
+// The numbers from one offset up to another; none if there are no such numbers.
 pub fn part<'a>(numbers: &'a [u32], from: usize, to: usize) -> &'a [u32] {
     if to <= numbers.len() {
         if from <= to {
@@ -89,7 +89,7 @@ pub fn refused(header: Header, number: u32) -> Said {
     tell_one(header, b'X', number)
 }
 
-// A decimal with one digit more; other bytes, and digits that do not fit, are passed over.
+// A decimal with one more digit. Other bytes, and digits that do not fit, are skipped.
 fn with_digit(number: u32, byte: u8) -> u32 {
     if byte < b'0' {
         return number;
@@ -104,7 +104,7 @@ fn with_digit(number: u32, byte: u8) -> u32 {
     longer as u32
 }
 
-// One byte behind the letter: a comma begins a number. Answers how many there are.
+// Processes one byte after the letter: a comma begins a number. Returns how many numbers there are.
 fn feed(count: usize, byte: u8, numbers: &mut [u32]) -> usize {
     if byte == b',' {
         if count < numbers.len() {
@@ -123,7 +123,7 @@ fn feed(count: usize, byte: u8, numbers: &mut [u32]) -> usize {
     count
 }
 
-// The line that begins at a place. An answer's letter stands behind an equals sign.
+// Reads the line that begins at `start`. The letter of an answer follows an equals sign.
 pub fn read_line(text: &[u8], start: usize, numbers: &mut [u32]) -> Line {
     let mut letter = b'=';
     let mut count = 0;

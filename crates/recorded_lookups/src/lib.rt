@@ -1,4 +1,4 @@
-// The lookups, ranges and versions of the recorded list, each put to the library, and its answer in the list's form.
+// Makes the lookups, range queries and version queries of the recorded list on the library. Returns each answer in the list's form.
 use recorded_lines::Said;
 use recorded_lines::further;
 use recorded_lines::number_at;
@@ -14,7 +14,7 @@ use table::RangeAnswer;
 use table::RowAnswer;
 use table::VersionAnswer;
 
-// The place of a row's first cell: as far on as its number, once for each column.
+// The offset of a row's first cell: the row number times the number of columns.
 fn row_place(row: u32, columns: u32) -> usize {
     let mut place = 0;
     let mut left = columns;
@@ -37,7 +37,7 @@ fn row_told(h: Header, row: u32, rows: &[u32], out: &mut [u32]) -> Said {
     said
 }
 
-// L
+// L: look up a row by key.
 pub fn look_up(h: Header, key: &[u32], rows: &[u32], keys: &[u32], out: &mut [u32]) -> Said {
     match table_read::get_row(h, rows, keys, key) {
         RowAnswer::Refused(number) => refused(h, number),
@@ -46,7 +46,7 @@ pub fn look_up(h: Header, key: &[u32], rows: &[u32], keys: &[u32], out: &mut [u3
     }
 }
 
-// E
+// E: look up one cell by key.
 pub fn one_cell(h: Header, numbers: &[u32], rows: &[u32], keys: &[u32]) -> Said {
     let key = part(numbers, 1, numbers.len());
     match table_read::get_row_column(h, rows, keys, key, number_at(numbers, 0)) {
@@ -64,7 +64,7 @@ pub fn range_told(h: Header, answer: RangeAnswer) -> Said {
     }
 }
 
-// V
+// V: version.
 pub fn version(h: Header) -> Said {
     match table_read::version(h) {
         VersionAnswer::Refused(number) => refused(h, number),

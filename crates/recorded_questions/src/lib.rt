@@ -1,4 +1,4 @@
-// The questions of the recorded list, by their letters; those over subsets are put to the library here.
+// Dispatches the queries of the recorded list by their letters, and makes those over subsets on the library.
 use constraints::Constraint;
 use offsets::SubsetAnswer;
 use offsets::SubsetHead;
@@ -17,7 +17,7 @@ use recorded_lookups::range_told;
 use recorded_lookups::version;
 use table::Header;
 
-// A condition that begins at a place.
+// Reads the condition that begins at `place`.
 fn constraint(numbers: &[u32], place: usize) -> Constraint {
     Constraint {
         kind: number_at(numbers, place),
@@ -26,7 +26,7 @@ fn constraint(numbers: &[u32], place: usize) -> Constraint {
     }
 }
 
-// A subset in a line: its head, the places of its ids, and the place behind it.
+// A subset in a line: its head, the offsets of its ids, and the offset after it.
 struct Passed {
     head: SubsetHead,
     from: usize,
@@ -57,7 +57,7 @@ fn subset(numbers: &[u32], place: usize) -> Passed {
     }
 }
 
-// The ids of a list stand in the lent numbers.
+// The ids of a list are in the lent numbers.
 fn subset_told(h: Header, answer: SubsetAnswer) -> Said {
     match answer {
         SubsetAnswer::Refused(number) => refused(h, number),
@@ -70,7 +70,7 @@ fn subset_told(h: Header, answer: SubsetAnswer) -> Said {
     }
 }
 
-// N
+// N: refine.
 fn refine(h: Header, numbers: &[u32], rows: &[u32], out: &mut [u32]) -> Said {
     let passed = subset(numbers, 0);
     let ids = part(numbers, passed.from, passed.to);
@@ -79,7 +79,7 @@ fn refine(h: Header, numbers: &[u32], rows: &[u32], out: &mut [u32]) -> Said {
     subset_told(h, answer)
 }
 
-// T
+// T: intersect.
 fn intersect(h: Header, numbers: &[u32], out: &mut [u32]) -> Said {
     let first = subset(numbers, 0);
     let second = subset(numbers, first.to);
@@ -89,7 +89,7 @@ fn intersect(h: Header, numbers: &[u32], out: &mut [u32]) -> Said {
     subset_told(h, answer)
 }
 
-// A question, by its letter.
+// Makes a query, dispatched by its letter.
 pub fn ask(
     h: Header,
     letter: u8,

@@ -1,4 +1,4 @@
-// A turn of the program `recorded`: a line of the recorded list, the call or question in it, and its answer.
+// One step of the program `recorded`: a line of the recorded list, the call or query in it, and its answer.
 use recorded_answers::Counts;
 use recorded_answers::judge;
 use recorded_calls::call;
@@ -9,7 +9,7 @@ use recorded_lines::read_line;
 use recorded_questions::ask;
 use table::Header;
 
-// A call or question, by its letter.
+// Makes a call or query, dispatched by its letter.
 fn serve(
     h: Header,
     letter: u8,
@@ -26,7 +26,7 @@ fn serve(
     ask(h, letter, numbers, rows, keys, sorts, out)
 }
 
-// The table, the place in the list, and what was counted.
+// The table, the offset in the list, and the counts.
 pub struct State {
     pub header: Header,
     pub place: usize,
@@ -34,7 +34,7 @@ pub struct State {
     pub is_over: bool,
 }
 
-// A call or question and its answer: two lines.
+// Processes a call or query and its answer: two lines.
 pub fn turn(
     state: State,
     text: &[u8; 65536],

@@ -1,5 +1,5 @@
-// Single parts of the library under C names, for comparing with the Rust and measuring alone: not part of the library that
-// is shipped.
+// Single functions of the library under C names, to compare them with the Rust and to measure them alone. Not part of the shipped
+// library.
 ghost use mathlib.Core.Path.{_≡_};
 ghost use mathlib.Core.List.{[], _∷_};
 ghost use Prim.Native.Nat.{_+_, _≤_, _<_};
@@ -91,8 +91,8 @@ pub extern "C" fn mouldgrey_changes(
     merge_rules::changes(rule, keys, sort, old, new)
 }
 
-// What a rule makes of an old and a new row, into the start of `out`; false, and nothing done, where the rows differ in
-// length or `out` is shorter.
+// Writes the row that a rule makes of an old and a new row to the start of `out`. Returns false and does nothing if the rows differ
+// in length or `out` is shorter.
 #[no_mangle]
 pub extern "C" fn mouldgrey_make(
     rule: u32,
@@ -146,8 +146,8 @@ fn copy_survivor<'a>(
     row_buffer::write_row(out, 0, row);
 }
 
-// The row that survives under rule 0 or 1, copied to the start of `out`; false, and nothing done, under another rule, where
-// a row does not lie in its store or `out` is shorter.
+// Copies the row that survives under rule 0 or 1 to the start of `out`. Returns false and does nothing under another rule, if a row
+// is not within its store, or if `out` is shorter.
 #[no_mangle]
 pub extern "C" fn mouldgrey_surviving_row<'a>(
     rule: u32,
@@ -184,12 +184,12 @@ pub extern "C" fn mouldgrey_surviving_row<'a>(
     true
 }
 
-// The answers where a table does not fit its stores, and where there is no such row.
+// The answers if a table does not fit its stores, and if there is no such row.
 pub const UNFIT: u64 = 0xffff_ffff_ffff_ffff;
 
 pub const NONE: u64 = 0xffff_ffff_ffff_fffe;
 
-// A table's numbers are within their bounds, and its stores long enough.
+// True if a table's numbers are within their bounds, and its stores are long enough.
 fn fits(t: Keyed, rows: usize, store: usize) -> bool
     ensures { λ r. ⌜ (r ≡ true → Sized t rows store) ⌝ }
 {
@@ -253,7 +253,7 @@ pub extern "C" fn mouldgrey_find(
     }
 }
 
-// A new row of a key: 1, or 0 where no slot is free.
+// Adds a new row of a key. Returns 1, or 0 if no slot is free.
 #[no_mangle]
 pub extern "C" fn mouldgrey_put(room: u32, store: &mut [u32], key: &[u32], row: u32) -> u64 {
     if room < 1 {
@@ -281,7 +281,7 @@ pub extern "C" fn mouldgrey_put(room: u32, store: &mut [u32], key: &[u32], row: 
     0
 }
 
-// The slot of a row of a key takes another row of that key.
+// Replaces the row in the slot of a key by another row of that key.
 #[no_mangle]
 pub extern "C" fn mouldgrey_replace(store: &mut [u32], slot: u32, key: &[u32], row: u32) -> u64 {
     if store.len() <= slot as usize {
@@ -295,7 +295,7 @@ pub extern "C" fn mouldgrey_replace(store: &mut [u32], slot: u32, key: &[u32], r
     1
 }
 
-// The slot of a row that dies is freed, and the gap closed.
+// Frees the slot of a row that dies, by backward-shift deletion.
 #[no_mangle]
 pub extern "C" fn mouldgrey_take_out(
     columns: u32,
@@ -322,7 +322,7 @@ pub extern "C" fn mouldgrey_take_out(
     1
 }
 
-// Every slot gets its row's number after a compaction.
+// Writes to every slot its row's number after a compaction.
 #[no_mangle]
 pub extern "C" fn mouldgrey_renumber(
     room: u32,

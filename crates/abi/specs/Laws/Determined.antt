@@ -1,6 +1,6 @@
--- The contract of a C function determines what is returned and stored as far as the library's promise determines the answer: two
--- outcomes that meet it, on the same input, come from two answers that the library's law holds of; answers with the same verdict
--- return the same number, and the same answer stores the same words. Assumes nothing.
+-- The contract of a C function determines what is returned and stored as far as the library's contract determines the answer. Two
+-- outcomes that meet it, on the same input, come from two answers that the library's law relates. Answers with the same outcome
+-- return the same number, and equal answers store the same words. Assumes nothing.
 use Prim.Native.Nat.{ℕ}
 use mathlib.Core.Path.{_≡_, sym, ap, _∙_}
 use mathlib.Core.List.{List}
@@ -15,7 +15,7 @@ verdict-returned (refused m) (accepted b) e = cc
 verdict-returned (accepted a) (refused n) e = cc
 verdict-returned (accepted a) (accepted b) e = cc
 
--- two outcomes, of answers that are the same as far as the library's law says
+-- two outcomes, of answers that are equal as far as the library's law states
 pub record SameOutcome {R A : Type 0} (says : R → Reply A) (Same : R → R → Type 0) (r₁ r₂ : ℕ) (words₁ words₂ : List ℕ) : Type 0 where
   pub first : R
   pub second : R

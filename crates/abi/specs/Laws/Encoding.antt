@@ -1,4 +1,5 @@
--- A header is decoded as it was encoded, a subset answer as the subset that it is, and a flag above 1 is refused. Assumes nothing.
+-- Decoding a header inverts its encoding, a subset answer decodes to the subset that it is, and a flag above 1 is refused. Assumes
+-- nothing.
 use Prim.Native.Nat.{ℕ, _<_}
 use mathlib.Core.Path.{_≡_, refl}
 use mathlib.Core.Bool.{Bool, true, false}
@@ -44,7 +45,7 @@ header-decoded h =
       largest = l i;
     }
 
--- a flag above 1 fails test 1
+-- a flag above 1 fails check 1
 pub flag-refused : (words : List ℕ) → 1 < getD words 10 0 → outside (decodeHeader words) ≡ true
 unfolding decodeHeader decodeColumns outside openable
 flag-refused words h = rw (lt-leb (getD words 10 0) 1 h)
@@ -58,12 +59,12 @@ dense-decoded false start end = refl
 pub subset-decoded : (s : SubsetHead) → decodeSubset (encodeSubset s) ≡ s
 subset-decoded s = dense-decoded (s .dense) (s .start) (s .end)
 
--- what is stored of an answer, by which answer it is
+-- what is stored for an answer, by cases of the answer
 pub stored-as : {R A : Type 0} {says : R → Reply A} {encode : A → List ℕ} {answer a : R} {words : List ℕ} {r : ℕ} {words′ : List ℕ}
     → answer ≡ a → r ≡ returned (says a) → words′ ≡ stored encode words (says a) → Stored says encode answer words r words′
 stored-as e p q = rw e record { returns = p; stores = q }
 
--- the contract of a C function, of this answer
+-- the contract of a C function, for this answer
 pub answers : {R A : Type 0} {promise : R → Type 0} {says : R → Reply A} {encode : A → List ℕ} {answer : R} {words : List ℕ} {r : ℕ} {words′ : List ℕ}
     → promise answer → Stored says encode answer words r words′ → Answers promise says encode words r words′
 answers {answer = answer} p s = record { answer = answer; promised = p; stores = s }

@@ -1,5 +1,5 @@
--- `abi_listing::mouldgrey_check_answers` meets its contract: a walk of its MIR, by hand. What is lent to be read is passed on whole;
--- the verdict is given up to `store_check`. Assumes nothing.
+-- `abi_listing::mouldgrey_check_answers` meets its contract: a manual proof over its MIR. The shared borrows are passed on whole;
+-- ownership of the verdict passes to `store_check`. Assumes nothing.
 use mathlib.Core.Path.{refl}
 use mathlib.Core.List.{[], _∷_}
 use mir.Syntax.{named, w32}
@@ -49,11 +49,11 @@ module _ {M : Type 1} (𝓤 : URA M) (H : Heap 𝓤) (A : Atoms 𝓤) (W : Given
       -- each token and what each parameter owns is an entry
       move ! (1 ∷ []) $ tokens-out ! 4 κs qs $ move ! (5 ∷ []) $ owns-out ! (_ ∷ _ ∷ _ ∷ _ ∷ []) $
       move ! (1 ∷ 2 ∷ 3 ∷ []) $ owns-in ! (_ ∷ _ ∷ _ ∷ []) $ move ! (3 ∷ 4 ∷ 5 ∷ 0 ∷ 6 ∷ []) $ tokens-in ! 3 κs′ qs′ $
-      -- [the check's tokens; what it asks; the locals; what the verdict owns, and its token]
+      -- [the check's tokens; what it requires; the locals; what the verdict owns, and its token]
       answers ! fm chk.ended (chk.clauses 𝓤 H A mem run) known-check ((κs′, qs′, tt, (x, (y, (n, tt))), (slice-vals x, (slice-vals y, (slice-vals n, tt)))), tt) (id⊢ 𝓤 _) refl (enum-lawful AT.the-type AT′.the-laws 𝓤 H A W tt) (λ v t. t .0) tt (λ rv r os is.
       move ! (4 ∷ []) $ heard ! (AnswersChecked (now x) (now y) (now n) r) (λ checked. lends-array ! refl tt (tt, tt) $
       move ! (4 ∷ 3 ∷ []) $ owns-in ! (_ ∷ _ ∷ []) $ move ! (4 ∷ []) $ tokens-in ! 1 (κs .1 .1 .1 .0, tt) (qs .1 .1 .1 .0, tt) $
-      -- [the verdict's token; what the call that stores it asks; the locals; the check's tokens and last values]
+      -- [the verdict's token; what the storing call requires; the locals; the check's tokens and last values]
       answers ! fm sto.ended (sto.clauses 𝓤 H A mem run) known-store (((κs .1 .1 .1 .0, tt), (qs .1 .1 .1 .0, tt), tt, (r, (z, tt)), (rv ∷ [], (ptr-vals z, tt))), tt) (id⊢ 𝓤 _) refl (uint-lawful 𝓤 H A W w32) (λ v t. t .0) tt (λ tv t zs is.
       move ! (4 ∷ []) $ heard ! (Stored checkSays encodeFinding r (now z) t (zs .1 .0)) (λ stored. leaves ! refl tt $
       -- [the verdict's token and last words; the result; the check's tokens and last values]

@@ -27,7 +27,7 @@ module _ {words words₁ words₂ : List ℕ} {r₁ r₂ : ℕ} (text : List ℕ
         → Answers (λ a. ListingRead true text output (numberedSays a) output₂) numberedSays encodeHead words r₂ words₂ → SameOutcome numberedSays (λ x y. Same x y output₁ output₂) r₁ r₂ words₁ words₂
     read-numbered-determined = answers-determined (λ x y. library.numbered-determined)
 
-    -- both moves
+    -- both conversions
     pub move-determined : (numbered : Bool) → Answers (λ a. ListingMoved numbered text output a output₁) moveSays encodeLength words r₁ words₁
         → Answers (λ a. ListingMoved numbered text output a output₂) moveSays encodeLength words r₂ words₂ → SameOutcome moveSays (λ x y. Same x y output₁ output₂) r₁ r₂ words₁ words₂
     move-determined numbered = answers-determined (λ x y. library.move-determined)

@@ -1,5 +1,5 @@
--- A whole run of `levels`: where the input is over and every write succeeded, the bytes handed to write are what `printed` states of
--- the bytes that reads brought; where a write failed, they begin it. Assumes nothing.
+-- A whole run of `levels`. If the input is over and every write succeeded, the bytes passed to `write` are `printed` of the bytes
+-- that were read. If a write failed, they are a prefix of that. Assumes nothing.
 use mathlib.Core.Path.{_≡_, refl, sym, ap, _∙_}
 use mathlib.Core.Bool.{true, false, false≢true}
 use mathlib.Core.List.{List, [], _∷_, _++_, append-assoc, append-nil}
@@ -13,7 +13,7 @@ use Rattle.levels_spec.specs.Laws.Session.{lines-ended, lines-last}
 use Rattle.levels_output.specs.declared.Handed.{Handed}
 use Rattle.levels.specs.Run.{Program, Turn, line-turn, read-turn, last-turn, over-turn, Turns, begin, then, Machine, bytesHanded, Ending, input-over, write-failed, Ran, input, output, Begins}
 
--- what a program prints from here on, if these bytes are all that is still read
+-- the bytes that a program still prints if these bytes are all that is still read
 abbrev toCome : Program → List ℕ → List ℕ
 toCome p bytes = p .buffered ++ session (p .table) (linesIn (p .begun ++ (p .unread ++ bytes)))
 
@@ -47,7 +47,7 @@ turns-to-come {p} (then {handed} {bytes} {reads} {read} {q} {r} turns turn) more
     ∙ turns-to-come turns (flat read ++ more)
     ∙ ap (toCome p) (sym (append-assoc (flat reads) (flat read) more) ∙ ap (λ (x : List ℕ). x ++ more) (sym (flat-append reads read)))
 
--- the last turn
+-- the last step
 over-to-come : {p q : Program} {bytes : List ℕ} → Turn p bytes [] q true → bytes ++ q .buffered ≡ toCome p []
 unfolding session linesIn
 over-to-come {p} (last-turn handed buffered no-newline some parts) =
@@ -79,7 +79,7 @@ module _ {m : Machine} {handed : Handed} where
   ends-begun (write-failed {p} unwritten buffered) =
       record { rest = session (p .table) (linesIn (p .begun ++ (p .unread ++ []))); whole = rw buffered }
 
-  -- from the first read on
+  -- the whole run, starting with the first read
   run-to-come : (r : Ran m handed) → r .bytes ++ toCome (r .end) [] ≡ printed (input r)
   unfolding printed
   run-to-come r =

@@ -1,4 +1,4 @@
--- What the steps of a turn promise. Assumes nothing.
+-- Contracts of the parts of a step. Assumes nothing.
 use Prim.Native.Nat.{ℕ, _<_}
 use mathlib.Core.Path.{_≡_}
 use mathlib.Core.Bool.{Bool, true, false}
@@ -11,7 +11,7 @@ use Rattle.levels_input.specs.inner.Taking.{Refilled, LineTaken}
 use Rattle.levels_output.specs.inner.Flushing.{RoomMade}
 use Rattle.levels.specs.declared.Step.{Step}
 
--- all buffered bytes are handed over; then a read is made, unless that failed
+-- All buffered bytes are written; then a read is made, unless the write failed.
 pub record ReadOn (chunk : List ℕ) (rest : Input) (count used : ℕ) (chunk′ : List ℕ) (r : Step) : Type 0 where
   pub same-length : r .length ≡ count
   pub all-handed : r .handed .count ≡ used
@@ -27,7 +27,7 @@ pub record Ready (text : ℕ) (rest : Input) (count used : ℕ) (last : Bool) (r
   pub answers : r .handed .«is_written» ≡ true → (r .«is_line» ≡ true) × (r .«is_over» ≡ last)
   pub fails : r .handed .«is_written» ≡ false → (r .«is_line» ≡ false) × (r .«is_over» ≡ true)
 
--- nothing is left to be done
+-- nothing remains to be done
 pub record Over (rest : Input) (r : Step) : Type 0 where
   pub same-input : r .input ≡ rest
   pub no-length : r .length ≡ 0

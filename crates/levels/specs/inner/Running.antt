@@ -1,4 +1,4 @@
--- What holds from turn to turn of a run, and what its end promises. Assumes nothing.
+-- The loop invariant of a run, and the contract of its end. Assumes nothing.
 use Prim.Native.Nat.{ℕ, suc, _+_}
 use mathlib.Core.Path.{_≡_, refl, sym}
 use mathlib.Core.Bool.{Bool, true, false, false≢true}
@@ -20,13 +20,13 @@ use Rattle.levels.specs.declared.Ended.{Ended}
 use Rattle.levels.specs.Run.{Program, program, Turn, last-turn, over-turn, Turns, begin, then, Machine, machine, Holds, Within, brought, Turned, input-over, write-failed, Ran}
 use Rattle.levels.specs.inner.Turning.{begun-none}
 
--- what is buffered is handed over, unless a write failed before
+-- the buffered bytes are written, unless an earlier write failed
 pub record Finished (state : State) (handed : Handed) (r : Ended) : Type 0 where
   pub same-state : r .state ≡ state
   pub all-handed : handed .«is_written» ≡ true → r .handed .count ≡ state .used
   pub unwritten : handed .«is_written» ≡ false → r .handed ≡ handed
 
--- turns so far
+-- the steps so far
 pub record Running (m : Machine) : Type 0 where
   pub within : Within m
   pub first : List ℕ
@@ -71,7 +71,7 @@ module _ {m m′ : Machine} {handed : Handed} (v : Running m) where
         | inr w ↦ absurd (false≢true (t .failed w .0))
       ]
 
--- the last turn makes no read
+-- the last step makes no read
 no-read : {p q : Program} {bytes : List ℕ} {reads : List (List ℕ)} → Turn p bytes reads q true → reads ≡ []
 no-read (last-turn handed buffered e some f) = refl
 no-read (over-turn e f) = refl

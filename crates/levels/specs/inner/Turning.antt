@@ -1,4 +1,4 @@
--- What a turn promises, from what its steps do. Assumes nothing.
+-- The contract of a step follows from the contracts of its parts. Assumes nothing.
 use Prim.Native.Nat.{ℕ, _+_, _-_, _*_, _≤_, _<_}
 use mathlib.Core.Path.{_≡_, refl, sym, ap, _∙_}
 use mathlib.Core.Bool.{Bool, true, false, not, false≢true}
@@ -28,14 +28,14 @@ use Rattle.levels.specs.declared.Step.{Step}
 use Rattle.levels.specs.Run.{Program, program, answered, line-turn, read-turn, last-turn, over-turn, Machine, Holds, Within, TurnMade, Turned}
 use Rattle.levels.specs.inner.Advancing.{ReadOn, Ready, Over, Advanced, found, more, ended, nothing-left}
 
--- the most bytes that may still be taken: each turn but the last leaves fewer, so that a run ends
+-- Termination measure: the most bytes that may still be taken. Each step but the last decreases it.
 abbrev pub inputLeft : Input → ℕ
 inputLeft input = input .reads * 4097 + (input .end - input .next)
 
 pub record Shorter (before after : Input) (over : Bool) : Type 0 where
   pub shorter : over ≡ false → inputLeft after < inputLeft before
 
--- the program's stores
+-- the lengths of the program's stores
 pub lent-program : (s : Stores) → length (s .rows) ≡ 8192 → length (s .keys) ≡ 2048 → length (s .sorts) ≡ 2048 → length (s .pending) ≡ 2048
     → lent s ≡ programLengths
 lent-program s rows keys sorts pending = rw (rows, keys, sorts, pending)
@@ -52,13 +52,13 @@ pub not-false : {b : Bool} → not b ≡ false → b ≡ true
 not-false {b = true} e = refl
 not-false {b = false} e = absurd (false≢true (sym e))
 
--- ---- the parts of a turn
+-- ---- the parts of a step
 
 no-bytes : (bytes : List ℕ) → length bytes ≡ 0 → bytes ≡ []
 no-bytes [] e = refl
 no-bytes (byte ∷ bytes) e = absurd (omega (arith, e))
 
--- all that is buffered is handed over, or nothing
+-- all buffered bytes are written, or none
 buffered-parts : (text : List ℕ) (used count : ℕ) → (count ≡ used) ⊎ (count ≡ 0) → take used text ≡ take count text ++ take (used - count) text
 buffered-parts text used count (inl all) =
     let none : used - count ≡ 0 = omega (arith, all) in rw (none, append-nil (take count text), all)
@@ -85,7 +85,7 @@ parts-used (inl all) = omega (arith, all)
 parts-used (inr none) = omega (arith, none)
 
 module _ (s : Stores) (line₀ : List ℕ) (count : ℕ) (chunk : List ℕ) (input : Input) (text : List ℕ) (used : ℕ) (line′ chunk′ : List ℕ) (r : Step) where
-  -- the machine before a turn, and after one that answers no line
+  -- the machine before a step, and after a step that answers no line
   abbrev before : Machine
   before =
       record { stores = s; line = line₀; length = count; chunk = chunk; input = input; text = text; used = used }
@@ -232,7 +232,7 @@ module _ (s : Stores) (line₀ : List ℕ) (count : ℕ) (chunk : List ℕ) (inp
     after-line =
         record { stores = s′; line = line′; length = 0; chunk = chunk′; input = r .input; text = text′; used = used′ }
 
-    -- of a line no more than 121 bytes are kept, which changes no answer
+    -- At most 121 bytes of a line are stored. This changes no answer.
     answered-holds : (p : Program) (bytes rest : List ℕ) → Held (p .table) s → take (r .length) line′ ≡ take 121 bytes → rest ≡ unread chunk′ (r .input)
         → Holds (answered p bytes rest (take (used - r .handed .count) text)) after-line
     answered-holds p bytes rest held cut there =
@@ -303,7 +303,7 @@ module _ (s : Stores) (line₀ : List ℕ) (count : ℕ) (chunk : List ℕ) (inp
 -- ---- bounds
 
 module _ {line₀ : List ℕ} {count : ℕ} {chunk : List ℕ} {input : Input} {text : List ℕ} {used : ℕ} {line′ chunk′ : List ℕ} {r : Step} where
-  -- no more is handed over than is buffered
+  -- no more bytes are written than are buffered
   pub handed-used : Advanced line₀ count chunk input text used line′ chunk′ r → r .handed .count ≤ used
   handed-used (found taken k whole y still) = parts-used (room-parts (length text) 103492 (y .room))
   handed-used (more taken k none goes y) = omega (arith, y .all-handed)
@@ -318,7 +318,7 @@ module _ {line₀ : List ℕ} {count : ℕ} {chunk : List ℕ} {input : Input} {
   room-for-line inside wide (ended taken k none end some y still) e = (omega (arith, y .same-length, k .inside), room-left inside (y .room) wide)
   room-for-line inside wide (nothing-left taken k none end empty y still) e = absurd (false≢true (sym (y .no-line) ∙ e))
 
-  -- a line or a read less
+  -- each step consumes a line or a read
   pub turn-shorter : (r .«is_line» ≡ false → length chunk′ ≡ 4096) → Advanced line₀ count chunk input text used line′ chunk′ r → Shorter input (r .input) (r .«is_over»)
   turn-shorter wide (found taken k whole y still) =
       record {

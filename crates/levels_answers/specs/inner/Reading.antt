@@ -1,4 +1,4 @@
--- From the bytes of a line to what it says, and from there to the bytes of its answer. Assumes nothing.
+-- From the bytes of a line to its response, and from there to the bytes of its answer. Assumes nothing.
 use Prim.Native.Nat.{ℕ, _+_, _≤_}
 use mathlib.Core.Path.{_≡_, sym, ap, _∙_}
 use mathlib.Core.Logic.{inl, inr}
@@ -27,12 +27,12 @@ use Rattle.levels_spec.specs.Answers.{Held, no-table, table, lent, Answering}
 use Rattle.levels_spec.specs.inner.Saying.{Listable, Telling, Told, Serving}
 use Rattle.levels_spec.specs.Laws.Turns.{told-refused}
 
--- a line that is answered, up to what it says
+-- a line is run, and its response is not yet encoded as text
 pub record Responding (line : List ℕ) (s s′ : Stores) (said : Said) : Type 0 where
   pub answers : (t : Option Plain) → Held t s → Told (lineTurn (lent s) t line) s′ said
 
 module _ {line lent′ : List ℕ} {r : Parsed} {numbers′ : List ℕ} (p : ParsedIs line lent′ r numbers′) (room : 59 ≤ length lent′) where
-  -- a line not of the forms
+  -- a line of no valid form
   not-forms : r ≡ Wrong → ofForms line ≡ false
   not-forms e =
       elim (split (ofForms line)) [
@@ -44,7 +44,7 @@ module _ {line lent′ : List ℕ} {r : Parsed} {numbers′ : List ℕ} (p : Par
   unfolding lineTurn
   wrong-responds e s = record { answers = λ t held. rw (not-forms e) (told-refused 11 held (omega arith)) }
 
-  -- one of them
+  -- a line of a valid form
   module _ {first count : ℕ} (e : r ≡ Line first count) where
     line-read : (l : Lengths) (t : Option Plain) → turn l t first (take count numbers′) ≡ lineTurn l t line
     unfolding lineTurn
@@ -59,16 +59,16 @@ module _ {line lent′ : List ℕ} {r : Parsed} {numbers′ : List ℕ} (p : Par
     pub line-responds : {s s′ : Stores} {said : Said} → Serving first (take count numbers′) s s′ said → Responding line s s′ said
     line-responds {s} m = record { answers = λ t held. rw (line-read (lent s) t) at (m .answers t held) }
 
--- A line is answered behind the first bytes of a text: whatever table was held, the text and the table are those of the line's turn
--- on it.
+-- A line is answered after the first bytes of a text. For every table that the stores hold before, the text and the table after are
+-- those that `lineTurn` defines.
 pub record AnsweringBehind (line : List ℕ) (s s′ : Stores) (text : List ℕ) (from : ℕ) (text′ : List ℕ) (used : ℕ) : Type 0 where
   pub inside : used ≤ length text′
   pub text-is : (t : Option Plain) → Held t s → take used text′ ≡ take from text ++ lineTurn (lent s) t line .text
   pub held : (t : Option Plain) → Held t s → Held (lineTurn (lent s) t line .table) s′
 
--- ---- the bytes
+-- ---- the bytes of the answer
 
--- a table that is held can be listed
+-- a table that the stores hold can be listed
 module _ {s : Stores} {text : List ℕ} (keys : length (s .keys) ≤ 2048) (room : 103492 ≤ length text) where
   table-listable : {p : Plain} → Represents p s → Listable (s .header) (s .rows) text
   table-listable {p} r =
@@ -93,7 +93,7 @@ told-answers keys room m w =
           record { text-is = w .begins (λ numbered l. held-listable keys room (k .held) (k .listed numbered l)) ∙ k .says; held = k .held };
     }
 
--- in a part of a text: what is before the part stays
+-- The answer is written to a part of a text. The bytes before the part do not change.
 pub answering-behind : {line : List ℕ} {s s′ : Stores} {used : ℕ} (text part after : List ℕ) (from : ℕ) → from ≤ length text → Answering line s s′ part used
     → AnsweringBehind line s s′ text from (take from text ++ (part ++ after)) (from + used)
 answering-behind {used = used} text part after from inside m =

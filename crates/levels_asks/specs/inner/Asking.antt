@@ -1,4 +1,4 @@
--- What a line that asks promises. Assumes nothing.
+-- The contract of a line that reads the table. Assumes nothing.
 use Prim.Native.Nat.{ℕ}
 use mathlib.Core.Path.{_≡_, refl, sym, subst}
 use mathlib.Core.Logic.{_⊎_, inl, inr}
@@ -20,11 +20,11 @@ use Rattle.levels_spec.specs.Laws.Letters.{turn-range, turn-version, turn-list,
 use Rattle.levels_spec.specs.Laws.Turns.{does-told}
 use Rattle.levels_spec.specs.Laws.Questions.{range-does, version-does, list-does, numbered-does}
 
--- lent the sort entries: it is served whatever the other stores hold, and all of them stay
+-- The function borrows the sort entries only. The contract holds for any content of the other stores, and no store changes.
 pub record OnSorts (letter : ℕ) (ns : List ℕ) (h : Header) (sorts : List ℕ) (said : Said) : Type 0 where
   pub serving : (rows keys pending : List ℕ) → Serving letter ns (stores h rows keys sorts pending) (stores h rows keys sorts pending) said
 
--- ---- what an answer says
+-- ---- the response to an answer of the library
 
 module _ (answer : RangeAnswer) where
   pub range-refused : (n : ℕ) → answer ≡ RangeRefused n → Refused n ≡ saidOf saysRange (rangeSays answer)
@@ -48,7 +48,7 @@ module _ (answer : VersionAnswer) where
   unfolding versionSays saidOf
   version-says v says e = rw e
 
--- ---- the promises serve
+-- ---- from the library's contracts to the contracts of lines
 
 pub range-served : {answer : RangeAnswer} {h : Header} {sorts : List ℕ} {said : Said} (ns : List ℕ) → said ≡ saidOf saysRange (rangeSays answer) → RangeRead h sorts (conditionIn ns 0) answer
     → OnSorts 70 ns h sorts said
@@ -79,7 +79,7 @@ module _ {answer : VersionAnswer} {letter : ℕ} {ns : List ℕ} {h : Header} {s
 pub range-letter : {letter : ℕ} {ns : List ℕ} {h : Header} {sorts : List ℕ} {said : Said} → letter ≡ 70 → OnSorts 70 ns h sorts said → OnSorts letter ns h sorts said
 range-letter {letter} {ns} {h} {sorts} {said} e m = subst (λ (x : ℕ). OnSorts x ns h sorts said) (sym e) m
 
--- L is the letter that is left of the four
+-- L is the only letter left of the four
 pub list-letter : {letter : ℕ} → (letter ≡ 70) ⊎ ((letter ≡ 76) ⊎ ((letter ≡ 85) ⊎ (letter ≡ 86))) → (letter ≡ 70 → ⊥) → (letter ≡ 86 → ⊥) → (letter ≡ 85 → ⊥) → letter ≡ 76
 list-letter (inl e) f v u = absurd (f e)
 list-letter (inr (inl e)) f v u = e

@@ -1,5 +1,5 @@
--- What a line that changes a table promises, where it is lent less than the whole table: it is served whatever the other stores
--- hold. Assumes nothing.
+-- The contract of a line that changes a table. Functions that borrow only some of the stores meet it for any content of the others.
+-- Assumes nothing.
 use Prim.Native.Nat.{ℕ, _-_, _≤_, _<_}
 use mathlib.Core.Path.{_≡_, refl, sym, subst}
 use mathlib.Core.Logic.{_⊎_, inl, inr}
@@ -25,23 +25,23 @@ use Rattle.levels_spec.specs.Laws.Turns.{does-told}
 use Rattle.levels_spec.specs.Laws.Opening.{opening-told, large-told}
 use Rattle.levels_spec.specs.Laws.Calls.{staging-does, clearing-does, compacting-does, merging-does}
 
--- lent the pending store
+-- borrows the pending store
 pub record OnPending (letter : ℕ) (ns : List ℕ) (h : Header) (pending : List ℕ) (r : Served) (pending′ : List ℕ) : Type 0 where
   pub serving : (rows keys sorts : List ℕ) → Serving letter ns (stores h rows keys sorts pending) (stores (r .header) rows keys sorts pending′) (r .said)
 
--- lent the key store; its letter stands alone
+-- borrows the key store; the line has no numbers
 pub record OnKeys (letter : ℕ) (h : Header) (keys : List ℕ) (r : Served) (keys′ : List ℕ) : Type 0 where
   pub serving : (ns rows sorts pending : List ℕ) → Serving letter ns (stores h rows keys sorts pending) (stores (r .header) rows keys′ sorts pending) (r .said)
 
--- lent all but the pending store
+-- borrows all stores but the pending store
 pub record OnBody (letter : ℕ) (h : Header) (rows keys sorts : List ℕ) (r : Served) (rows′ keys′ sorts′ : List ℕ) : Type 0 where
   pub serving : (ns pending : List ℕ) → Serving letter ns (stores h rows keys sorts pending) (stores (r .header) rows′ keys′ sorts′ pending) (r .said)
 
--- lent all
+-- borrows all stores
 pub record OnAll (letter : ℕ) (s s′ : Stores) (r : Served) : Type 0 where
   pub serving : (ns : List ℕ) → Serving letter ns s s′ (r .said)
 
--- ---- what an answer says
+-- ---- the response to an answer of the library
 
 module _ (h : Header) (answer : TableAnswer) where
   pub taken-refused : (n : ℕ) → answer ≡ TableRefused n → Taken (headerAfter h (tableSays answer)) (saidOf saysNothing (tableSays answer)) (record { header = h; said = Refused n })
@@ -62,7 +62,7 @@ module _ (h : Header) (answer : MergeAnswer) where
   unfolding headerMerged mergeSays saidOf
   merge-table m digit e d = rw (e, d) (record { header-same = refl; said-same = refl })
 
--- ---- the promises serve
+-- ---- from the library's contracts to the contracts of lines
 
 module _ {h : Header} {answer : TableAnswer} {r : Served} (k : Taken (headerAfter h (tableSays answer)) (saidOf saysNothing (tableSays answer)) r) where
   module _ {letter : ℕ} {ns pending pending′ : List ℕ} where
@@ -72,7 +72,7 @@ module _ {h : Header} {answer : TableAnswer} {r : Served} (k : Taken (headerAfte
     pub by-key-served : letter ≡ 82 → Staging h pending (removeKey ns) answer pending′ → OnPending letter ns h pending r pending′
     by-key-served e m = record { serving = λ rows keys sorts. record { answers = λ t held. rw (turn-by-key _ t ns e) (does-told (staging-does k rows keys sorts m) t held) } }
 
-  -- the cells of a key are all behind the row
+  -- the cells of the key are all numbers after the row number
   pub by-row-served : {pending pending′ : List ℕ} (ns : List ℕ) → Staging h pending (removeRow (getD ns 0 0) (take (length ns - 1) (drop 1 ns))) answer pending′
       → OnPending 75 ns h pending r pending′
   by-row-served {pending} {pending′} ns m =
@@ -102,7 +102,7 @@ pub merge-served : {h : Header} {answer : MergeAnswer} {r : Served} {rows keys s
     → OnAll 77 (stores h rows keys sorts pending) (stores (r .header) rows′ keys′ sorts′ pending) r
 merge-served k a b m = record { serving = λ ns. record { answers = λ t held. rw (turn-merge _ t ns refl) (does-told (merging-does k a b m) t held) } }
 
--- K is the letter that is left of the three
+-- K is the only letter left of the three
 pub row-letter : {letter : ℕ} → (letter ≡ 73) ⊎ ((letter ≡ 75) ⊎ (letter ≡ 82)) → (letter ≡ 73 → ⊥) → (letter ≡ 82 → ⊥) → letter ≡ 75
 row-letter (inl e) i r = absurd (i e)
 row-letter (inr (inl e)) i r = e

@@ -1,4 +1,4 @@
--- What reading a line promises. Assumes nothing.
+-- Contracts of the functions that scan a chunk for a line. Assumes nothing.
 use Prim.Native.Nat.{ℕ, zero, suc, _+_, _-_, _≤_, _<_, min}
 use mathlib.Core.Path.{_≡_, refl, sym, ap, _∙_}
 use mathlib.Core.Bool.{true, false, cond}
@@ -12,7 +12,7 @@ use borrow.Author.Tests.{eq-eqb, ne-eqb}
 use Rattle.lists.specs.Lists.{has}
 use Rattle.levels_input.specs.declared.Scan.{Scan}
 
--- bytes put behind those of a line, as far as its store goes
+-- bytes are appended to a line, as far as its store has room
 pub record Kept (line : List ℕ) (count : ℕ) (bytes line′ : List ℕ) (end : ℕ) : Type 0 where
   pub counted : end ≡ min (length line) (count + length bytes)
   pub same : take end line′ ≡ take (length line) (take count line ++ bytes)
@@ -22,13 +22,13 @@ unfoldable pub before-newline : List ℕ → List ℕ
 before-newline [] = []
 before-newline (byte ∷ bytes) = cond (eqb byte 10) [] (byte ∷ before-newline bytes)
 
--- these are kept, and what is read is they and the newline, if there is one
+-- Those bytes are stored. The bytes taken are those and the newline, if there is one.
 pub record Scanned (line : List ℕ) (count : ℕ) (bytes : List ℕ) (from : ℕ) (line′ : List ℕ) (r : Scan) : Type 0 where
   pub kept : Kept line count (before-newline bytes) line′ (r .length)
   pub whole : r .«is_whole» ≡ has 10 bytes
   pub next : r .next ≡ from + length (before-newline bytes) + cond (has 10 bytes) 1 0
 
--- ---- bytes kept
+-- ---- storing bytes
 
 pub take-in : (m : ℕ) (x y : List ℕ) → take m (take m x ++ y) ≡ take m (x ++ y)
 take-in zero x y = refl
@@ -41,7 +41,7 @@ module _ (line : List ℕ) (count : ℕ) where
       let short : length (take count line) ≤ length line = rw length-take (omega arith) in
       record { counted = omega arith; same = rw (append-nil (take count line), take-all (length line) (take count line) short) }
 
-  -- there is room
+  -- the store has room
   pub kept-one : (byte : ℕ) → count < length line → Kept line count (byte ∷ []) (set line count byte) (count + 1)
   kept-one byte inside =
       let long : length (take count line ++ (byte ∷ [])) ≤ length line = rw (length-append, length-take) (omega arith) in
@@ -50,7 +50,7 @@ module _ (line : List ℕ) (count : ℕ) where
         same = rw (add-one, take-suc-set line count byte inside) (sym (take-all (length line) (take count line ++ (byte ∷ [])) long));
       }
 
-  -- there is none
+  -- the store is full
   pub kept-full : (byte : ℕ) → count ≡ length line → Kept line count (byte ∷ []) line count
   kept-full byte full =
       let all : take count line ≡ line = take-all count line (omega arith) in
@@ -59,7 +59,7 @@ module _ (line : List ℕ) (count : ℕ) where
         same = rw (all, take-append-le (length line) line (byte ∷ []) (omega arith)) (sym (take-all (length line) line (omega arith)));
       }
 
--- one behind the other
+-- two appends in sequence
 kept-then : {line line′ line″ bytes more : List ℕ} {count end end′ : ℕ} → length line′ ≡ length line
     → Kept line count bytes line′ end → Kept line′ end more line″ end′ → Kept line count (bytes ++ more) line″ end′
 kept-then {line} {line′} {line″} {bytes} {more} {count} {end} lent a b =
@@ -86,7 +86,7 @@ has-newline : (byte : ℕ) (bytes : List ℕ) → byte ≡ 10 → has 10 (byte �
 unfolding has
 has-newline byte bytes e = rw (eq-eqb 10 byte (sym e))
 
--- what is left of a chunk
+-- the bytes of a chunk from `at` up to `end`
 abbrev pub left : List ℕ → ℕ → ℕ → List ℕ
 left chunk at end = take (end - at) (drop at chunk)
 
@@ -99,7 +99,7 @@ left-more chunk at end some inside =
 pub left-none : (chunk : List ℕ) (at end : ℕ) → end ≤ at → left chunk at end ≡ []
 left-none chunk at end none = let z : end - at ≡ 0 = omega arith in rw z
 
--- before the byte at a place: what is to come from here is what was to come from the start
+-- Loop invariant before the byte at `at`: scanning the rest gives the result of scanning all the bytes.
 pub record Scanning (line : List ℕ) (count : ℕ) (bytes : List ℕ) (from : ℕ) (line′ : List ℕ) (kept at : ℕ) (rest : List ℕ) : Type 0 where
   pub same-length : length line′ ≡ length line
   pub inside : kept ≤ length line

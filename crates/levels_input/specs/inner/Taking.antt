@@ -1,5 +1,5 @@
--- What a read and the taking of a line promise: the unread bytes are those before and those that a read brought; the unread bytes
--- are the line's next bytes, its newline, and the bytes that stay unread. Assumes nothing.
+-- Contracts of a read and of taking a line. After a read, the unread bytes are those before and those that the read returned.
+-- Taking a line splits the unread bytes into the line's next bytes, its newline, and the bytes that remain unread. Assumes nothing.
 use Prim.Native.Nat.{ℕ, suc, _+_, _-_, _≤_, _<_}
 use mathlib.Core.Path.{_≡_, refl, sym, ap, _∙_}
 use mathlib.Core.Logic.{inl, inr}
@@ -23,7 +23,8 @@ use Rattle.levels_input.specs.declared.Taken.{Taken}
 use Rattle.levels_input.specs.Input.{bytesRead, unread, InputIn, AtEnd, Begun}
 use Rattle.levels_input.specs.inner.Scanning.{before-newline, Scanned, take-in, left, left-none}
 
--- one read of those that are left: behind the bytes before come the first bytes of the chunk as it left it, as many as it returned
+-- One of the remaining reads is made. The bytes before are followed by the first bytes of the chunk after the read, as many as it
+-- returned.
 pub record Refilled (before : List ℕ) (reads : ℕ) (chunk′ : List ℕ) (r : Input) : Type 0 where
   pub one-read : r .reads + 1 ≡ reads
   pub within : InputIn chunk′ r
@@ -33,13 +34,13 @@ pub record EndTested (input : Input) (r : Bool) : Type 0 where
   pub ended : r ≡ true → AtEnd input
   pub goes-on : r ≡ false → (0 < bytesRead (input .got)) × (0 < input .reads)
 
--- nothing was read
+-- no read was made
 pub record SameRead (input r : Input) : Type 0 where
   pub end : r .end ≡ input .end
   pub got : r .got ≡ input .got
   pub reads : r .reads ≡ input .reads
 
--- bytes of a line are taken up to its newline (10), or all
+-- the bytes of a line are taken up to its newline (10), or all unread bytes are taken
 pub record LineTaken (line : List ℕ) (count : ℕ) (chunk : List ℕ) (input : Input) (line′ : List ℕ) (r : Taken) : Type 0 where
   pub bytes : List ℕ
   pub parts : unread chunk input ≡ bytes ++ cond (r .«is_whole») (10 ∷ unread chunk (r .input)) []
@@ -117,7 +118,7 @@ no-newline-whole (byte ∷ bytes) e =
       | inr f ↦ rw (ne-eqb byte 10 (λ g. eqb-false 10 byte f (sym g))) (ap (λ (x : List ℕ). byte ∷ x) (no-newline-whole bytes (rw f at e)))
     ]
 
--- what is left behind some of the bytes
+-- the bytes left after the first `k`
 left-drop : (chunk : List ℕ) (at end k : ℕ) → at + k ≤ end → left chunk (at + k) end ≡ drop k (left chunk at end)
 left-drop chunk at end k inside =
     let n : k + (end - (at + k)) ≡ end - at = omega arith in
@@ -130,7 +131,7 @@ length-left chunk at end inside = rw (length-take, length-drop) (omega arith)
 
 module _ {line line′ : List ℕ} {count : ℕ} {r : Scan} (chunk : List ℕ) (input : Input) (within : InputIn chunk input) (room : count ≤ length line) (same : length line′ ≡ length line)
     (k : Scanned line count (unread chunk input) (input .next) line′ r) where
-  -- the line's bytes that are taken, and the input behind them
+  -- the bytes of the line that are taken, and the input after them
   abbrev here : List ℕ
   here = before-newline (unread chunk input)
 
@@ -145,7 +146,7 @@ module _ {line line′ : List ℕ} {count : ℕ} {r : Scan} (chunk : List ℕ) (
         kept = k .kept .same ∙ rw (b .kept, same, take-in (length line) begun here);
       }
 
-  -- no newline among them: all are taken
+  -- there is no newline among them: all are taken
   here-all : r .«is_whole» ≡ false → (here ≡ unread chunk input) × (r .next ≡ input .end)
   here-all e =
       let none : has 10 (unread chunk input) ≡ false = sym (k .whole) ∙ e in

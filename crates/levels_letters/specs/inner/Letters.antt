@@ -1,4 +1,4 @@
--- What the letters of a line of the forms tell. Assumes nothing.
+-- Facts about the letters of a line of a valid form. Assumes nothing.
 use Prim.Native.Nat.{ℕ, _≤_}
 use mathlib.Core.Path.{_≡_, sym, subst}
 use mathlib.Core.Logic.{_⊎_, inl, inr}
@@ -14,7 +14,7 @@ use Rattle.levels_text.specs.Laws.Lines.{form-insert, form-by-row, form-by-key}
 use Rattle.levels_spec.specs.declared.Said.{Said}
 use Rattle.levels_spec.specs.inner.Saying.{Serving}
 
--- F, L, U and V are the letters that are left when the others are not it
+-- F, L, U and V are the letters left after the others are excluded
 pub asking-letters : {letter : ℕ} (count : ℕ) → isForm letter count ≡ true → ((letter ≡ 73) ⊎ ((letter ≡ 75) ⊎ (letter ≡ 82)) → ⊥) → (letter ≡ 77 → ⊥)
     → ((letter ≡ 67) ⊎ ((letter ≡ 71) ⊎ (letter ≡ 79)) → ⊥) → (letter ≡ 70) ⊎ ((letter ≡ 76) ⊎ ((letter ≡ 85) ⊎ (letter ≡ 86)))
 unfolding isForm isBare
@@ -40,18 +40,18 @@ asking-letters {letter} count form staging merge making =
           ]
     ]
 
--- I, K and R have a number at least
+-- I, K and R have at least one number
 pub staging-some : {letter : ℕ} (count : ℕ) → isForm letter count ≡ true → (letter ≡ 73) ⊎ ((letter ≡ 75) ⊎ (letter ≡ 82)) → 1 ≤ count
 staging-some {letter} count form (inl e) = form-insert letter count e form
 staging-some {letter} count form (inr (inl e)) = let two = form-by-row letter count e form in omega arith
 staging-some {letter} count form (inr (inr e)) = form-by-key letter count e form
 
--- C, G or O: the last that is left
+-- of C, G and O, the last letter left
 pub compact-letter : {letter : ℕ} → (letter ≡ 67) ⊎ ((letter ≡ 71) ⊎ (letter ≡ 79)) → (letter ≡ 79 → ⊥) → (letter ≡ 67 → ⊥) → letter ≡ 71
 compact-letter (inl e) o c = absurd (c e)
 compact-letter (inr (inl e)) o c = e
 compact-letter (inr (inr e)) o c = absurd (o e)
 
--- a letter by its name
+-- a letter replaced by an equal one
 pub as-letter : {letter letter′ : ℕ} {ns : List ℕ} {s s′ : Stores} {said : Said} → letter ≡ letter′ → Serving letter′ ns s s′ said → Serving letter ns s s′ said
 as-letter {letter} {letter′} {ns} {s} {s′} {said} e m = subst (λ (x : ℕ). Serving x ns s s′ said) (sym e) m

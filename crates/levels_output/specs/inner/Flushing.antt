@@ -1,10 +1,10 @@
--- What making room in a text promises. Assumes nothing.
+-- The contract of making room in a text. Assumes nothing.
 use Prim.Native.Nat.{ℕ, _+_, _≤_}
 use mathlib.Core.Path.{_≡_}
 use mathlib.Core.Logic.{_⊎_}
 use mathlib.Core.Bool.{true}
 use Rattle.levels_output.specs.declared.Handed.{Handed}
 
--- all buffered bytes are handed over, or none where there is room
+-- all buffered bytes are written; or none, if there is room
 abbrev pub RoomMade : ℕ → ℕ → ℕ → Handed → Type 0
 RoomMade length used room r = (r .count ≡ used) ⊎ ((r .count ≡ 0) × (r .«is_written» ≡ true) × (used + room ≤ length))

@@ -1,4 +1,4 @@
--- Each call's promise serves its line, whatever table the stores hold. Assumes nothing.
+-- The contract of each call implies the contract of its line, for any table that the stores hold. Assumes nothing.
 use Prim.Native.Nat.{ℕ, zero, suc}
 use mathlib.Core.Path.{_≡_, refl, _∙_}
 use mathlib.Core.Bool.{true}
@@ -30,7 +30,7 @@ unfolding verdict reply
 reply-ruled zero a = refl
 reply-ruled (suc n) a = refl
 
--- ---- test 1 comes first
+-- ---- check 1 comes first
 
 stage-outside : (h : Header) (pending : ℕ) (q : Staged) → outside h ≡ true → stageRefusal h pending q ≡ 1
 unfolding stageRefusal stageLadder pendingOutside first
@@ -87,7 +87,7 @@ module _ {h : Header} {answer : TableAnswer} {r : Served} (k : Taken (headerAfte
         → Does (λ p. calls (lent (stores h rows keys sorts pending)) p compacting []) (stores h rows keys sorts pending) (stores (r .header) rows′ keys′ sorts′ pending) (r .said) (compactRefusal h (lengths rows keys sorts [] live base))
     compacting-does pending m =
         let l : Lengths = lent (stores h rows keys sorts pending) in
-        -- the pending store is not lent, and the ladder does not look at it
+        -- The pending store is not lent, and the checks do not depend on it.
         let lent′ : Lengths = lengths rows keys sorts [] live base in
         let n : ℕ = compactRefusal h lent′ in
         let same : (p : Plain) → refusal p lent′ compacting ≡ refusal p l compacting =
@@ -103,7 +103,7 @@ module _ {h : Header} {answer : TableAnswer} {r : Served} (k : Taken (headerAfte
               (told-table (nothing-said (r .header) rows′ (tableSays answer) n (m .refusal) none) (rw (k .header-same) (unfold done in compacting-done m none s)));
         }
 
--- what a merge says
+-- the response to a merge
 merge-said : (h : Header) (rows : List ℕ) (p : Plain) → textOf h rows (saysMerge (mergeOf p)) ≡ mergeText p
 unfolding textOf mergeText
 merge-said h rows p = refl

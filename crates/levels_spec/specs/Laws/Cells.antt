@@ -28,7 +28,7 @@ pub record Fits (p : Plain) : Type 0 where
   pub rows : every liveFits (p .rows) ≡ true
   pub staged : every areNumbers (inserts (p .staged)) ≡ true
 
--- ---- the row that a rule makes: each cell is one of the two rows'
+-- ---- the row that a rule makes: each cell is a cell of one of the two rows
 
 abbrev Fit : ℕ → Type 0
 Fit n = leb n 4294967295 ≡ true
@@ -55,7 +55,7 @@ made-fits rule keys sort column (a ∷ l) (b ∷ m) e f =
 
 -- ---- merge
 
--- rows that died or are gone
+-- rows that died or were removed
 thinned-fits : {a b : List Row} → Thinned a b → every liveFits a ≡ true → every liveFits b ≡ true
 thinned-fits t e = thinned-every liveFits (λ row q. refl) t e
 
@@ -127,7 +127,7 @@ unfolding stage
 staged-fits {p} r h f =
     record { rows = h .rows; staged = rw (inserts-append (p .staged) (r ∷ [])) (every-append areNumbers (inserts (p .staged)) (inserts (r ∷ [])) (h .staged) f) }
 
--- a call, refused or not
+-- after a call, refused or not
 pub after-fits : {p : Plain} (l : Lengths) (c : Call) → Fits p → Fits (done p c) → Fits (after p l c)
 unfolding after
 after-fits {p} l c h k = elim (split (eqb (refusal p l c) 0)) [ inl e ↦ rw e k | inr e ↦ rw e h ]

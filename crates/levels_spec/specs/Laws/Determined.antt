@@ -1,5 +1,5 @@
--- An answer is determined: two programs that answer a line on the same table print the same bytes, and both leave stores that
--- hold the table of the same turn. Assumes nothing.
+-- The answer is determined: two programs that answer a line on the same table print the same bytes, and both leave stores that hold
+-- the same table. Assumes nothing.
 use Prim.Native.Nat.{ℕ}
 use mathlib.Core.Path.{_≡_, sym, _∙_}
 use mathlib.Core.List.{List}

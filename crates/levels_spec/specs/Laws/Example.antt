@@ -1,4 +1,4 @@
--- The paper's example of a session comes out: the bytes of its lines, in ASCII, and of what they print. Assumes nothing.
+-- The paper's example of a session: the bytes of its lines, in ASCII, and the bytes that they print. Assumes nothing.
 use Prim.Native.Nat.{ℕ}
 use mathlib.Core.Path.{_≡_, refl}
 use mathlib.Core.List.{List, [], _∷_}
@@ -21,7 +21,7 @@ use Rattle.listing_write.specs.Writing.{headNumbers, rowFields, tableListing}
 use Rattle.levels_spec.specs.Session.{begun, linesIn, session, printed}
 use Rattle.levels_spec.specs.Said.{replied, openNumber, opens, calls, asks, mergeText, rangeText, versionText, listText, served, onTable, turn, lineTurn}
 
--- a line each: `O,4,2,3,1,100,0` `I,7,1,160,10` `I,7,2,148,10` `M` `I,7,1,163,12` `R,7,2` `M` `F,1,3,10` `V` `L`
+-- one line each: `O,4,2,3,1,100,0` `I,7,1,160,10` `I,7,2,148,10` `M` `I,7,1,163,12` `R,7,2` `M` `F,1,3,10` `V` `L`
 unfoldable pub input : List ℕ
 input =
     79 ∷ 44 ∷ 52 ∷ 44 ∷ 50 ∷ 44 ∷ 51 ∷ 44 ∷ 49 ∷ 44 ∷ 49 ∷ 48 ∷ 48 ∷ 44 ∷ 48 ∷ 10
@@ -36,7 +36,7 @@ input =
     ∷ 76 ∷ 10
     ∷ []
 
--- a line each: `M,0,1,0` `M,0,1,0` `F,0,2` `V,0,3` `T,4,2,3,1,0` `D,7,1,163,12`
+-- one line each: `M,0,1,0` `M,0,1,0` `F,0,2` `V,0,3` `T,4,2,3,1,0` `D,7,1,163,12`
 unfoldable pub output : List ℕ
 output =
     77 ∷ 44 ∷ 48 ∷ 44 ∷ 49 ∷ 44 ∷ 48 ∷ 10

@@ -1,4 +1,4 @@
--- A line that is cut behind its first 121 bytes is answered as the whole line is: both are too long. Assumes nothing.
+-- A line that is cut after its first 121 bytes has the same answer as the whole line: both are too long. Assumes nothing.
 use Prim.Native.Nat.{ℕ, _<_}
 use mathlib.Core.Path.{_≡_}
 use mathlib.Core.Logic.{inl, inr}

@@ -1,4 +1,4 @@
--- What each letter does. Assumes nothing.
+-- The result of a line of each letter. Assumes nothing.
 use Prim.Native.Nat.{ℕ}
 use mathlib.Core.Path.{_≡_}
 use mathlib.Core.Bool.{cond}

@@ -1,5 +1,5 @@
--- What L and U print is the text of a listing, in the old form and the new (document 02, change 11), of every proper table in whose
--- live rows every cell is a u32. Every table of a session is such a table: Laws/Printed. Assumes nothing.
+-- L and U print the text of a listing, in the old form and in the new (document 02, change 11). This holds for every proper table
+-- in whose live rows every cell is a u32. Every table of a session is such a table: Laws/Printed. Assumes nothing.
 use mathlib.Core.Path.{_≡_}
 use mathlib.Core.Bool.{Bool, true, false}
 use mathlib.Core.Option.{some}

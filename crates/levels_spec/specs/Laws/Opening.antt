@@ -1,4 +1,4 @@
--- The promise of an opening serves O, whatever table the stores hold. Assumes nothing.
+-- The contract of an opening implies the contract of O, for any table that the stores hold. Assumes nothing.
 use Prim.Native.Nat.{ℕ, _≤_, _<_}
 use mathlib.Core.Path.{_≡_, refl, _∙_}
 use mathlib.Core.Logic.{inl, inr}

@@ -1,5 +1,5 @@
--- In a session on any input, a line U behind an accepted O prints a listing in the new form, and a line L one in the old (document 02,
--- change 11). Assumes nothing.
+-- In a session on any input, a line U after an accepted O prints a listing in the new form, and a line L prints one in the old form
+-- (document 02, change 11). Assumes nothing.
 use Prim.Native.Nat.{ℕ, _≤_}
 use mathlib.Core.Path.{_≡_, refl, sym, ap, _∙_}
 use mathlib.Core.Logic.{inl, inr}
@@ -32,12 +32,12 @@ use Rattle.levels_spec.specs.Laws.Cells.{Fits, opened-fits, staged-fits,
 
 -- ---- every table of a session
 
--- what a listing asks of a table
+-- what a listing requires of a table
 pub record Listable (p : Plain) : Type 0 where
   pub proper : Proper p
   pub fits : Fits p
 
--- no table yet, or such a table
+-- no table yet, or a table that can be listed
 pub data OfSession : Option Plain → Type 0 where
   no-table : OfSession none
   a-table : {p : Plain} → Listable p → OfSession (some p)
@@ -52,7 +52,7 @@ open-bounds : (o : Opening) (l : Lengths) → openRefusal o l ≡ 0 → openable
 unfolding openRefusal
 open-bounds o l e = not-false (openable o) (first-no (not (openable o)) 0 (rung (storesShort o l) 2 ∷ []) e)
 
--- What holds of every such table and held of the table before a line holds of the table after it.
+-- A property that holds for every table that can be listed, and for the table before a line, holds for the table after the line.
 module _ (Q : Option Plain → Type 0) (every-table : (p : Plain) → Listable p → Q (some p)) (l : Lengths) where
   one-of : (b : Bool) (x y : Turn) → Q (x .table) → Q (y .table) → Q (cond b x y .table)
   one-of true x y f g = f
@@ -123,7 +123,7 @@ module _ (Q : Option Plain → Type 0) (every-table : (p : Plain) → Listable p
         | inr e ↦ rw e here
       ]
 
--- so of the tables after lines
+-- the same for the tables after several lines
 pub line-of-session : (t : Option Plain) (line : List ℕ) → OfSession t → OfSession (lineTurn programLengths t line .table)
 line-of-session t line k = line-table OfSession (λ p g. a-table g) programLengths t line k k
 
@@ -133,13 +133,13 @@ open-of-session o = rw (o .same) (a-table (o .listable))
 open-of : (p : Plain) → Listable p → IsOpen (some p)
 open-of p k = record { table = p; same = refl; listable = k }
 
--- a table that is open stays open
+-- a table that is open remains open
 pub open-stays : (t : Option Plain) (lines : List (List ℕ)) → IsOpen t → IsOpen (tableAfter t lines)
 unfolding tableAfter
 open-stays t [] o = o
 open-stays t (line ∷ lines) o = open-stays (lineTurn programLengths t line .table) lines (line-table IsOpen open-of programLengths t line (open-of-session o) o)
 
--- ---- behind an accepted O
+-- ---- after an accepted O
 
 -- a line that opens a table
 unfoldable pub opensTable : List ℕ → Bool
@@ -190,7 +190,7 @@ session-append t (line ∷ before) after =
     ap (λ (l : List ℕ). lineTurn programLengths t line .text ++ l) (session-append (lineTurn programLengths t line .table) before after)
     ∙ sym (append-assoc (lineTurn programLengths t line .text) _ _)
 
--- what an input prints, where it has a line U or L: what its lines before print, the text of a listing, what those behind print
+-- the text that an input with a line U or L prints: that of the lines before it, that of a listing, that of the lines after it
 pub record ListingPrinted (numbered : Bool) (input : List ℕ) (before after : List (List ℕ)) : Type 0 where
   pub listing : Listing
   pub text : List ℕ

@@ -1,4 +1,4 @@
--- The promises of a fast range and a version serve F, V, L and U, whatever table the stores hold. Assumes nothing.
+-- The contracts of a fast range and of a version imply those of F, V, L and U, for any table that the stores hold. Assumes nothing.
 use Prim.Native.Nat.{ℕ, _*_, _≤_}
 use mathlib.Core.Path.{_≡_, refl, sym, ap, _∙_}
 use mathlib.Core.Logic.{inl, inr}
@@ -90,7 +90,7 @@ version-number : {p : Plain} {s : Stores} → Represents p s → versionRefusal 
 unfolding versionRefusal first
 version-number r = rw (represents-inside r)
 
--- a question that is answered with the version
+-- a query that is answered with the version
 version-asked : {s : Stores} {answer : VersionAnswer} {said : Said} (says : Version → Said) (text : Plain → List ℕ)
     → ((p : Plain) → Represents p s → textOf (s .header) (s .rows) (says (record { generation = s .header .generation; rows = s .header .rows })) ≡ text p)
     → said ≡ saidOf says (versionSays answer) → VersionRead (s .header) answer → Does (λ p. asks p 0 (text p)) s s said (versionRefusal (s .header))

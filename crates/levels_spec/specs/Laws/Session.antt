@@ -13,7 +13,7 @@ use Rattle.lists.specs.Laws.Keep.{split}
 use mathlib.Core.Bool.{false≢true}
 use Rattle.levels_spec.specs.Session.{begun, linesIn}
 
--- a byte that is no newline, and what stands behind it
+-- a byte that is not a newline, and the bytes after it
 byte-apart : (byte : ℕ) (bytes : List ℕ) → has 10 (byte ∷ bytes) ≡ false → (eqb byte 10 ≡ false) × (has 10 bytes ≡ false)
 unfolding has
 byte-apart byte bytes e =
@@ -22,13 +22,13 @@ byte-apart byte bytes e =
       | inr f ↦ (ne-eqb byte 10 (λ g. eqb-false 10 byte f (sym g)), rw f at e)
     ]
 
--- a line, its newline, and what comes behind
+-- a line, its newline, and the bytes after it
 pub lines-ended : (line more : List ℕ) → has 10 line ≡ false → linesIn (line ++ (10 ∷ more)) ≡ line ∷ linesIn more
 unfolding linesIn begun
 lines-ended [] more e = refl
 lines-ended (byte ∷ line) more e = let b = byte-apart byte line e in rw (b .0, lines-ended line more (b .1))
 
--- the last line, which the end of the input ends
+-- the last line, which ends with the input
 pub lines-last : (line : List ℕ) → has 10 line ≡ false → 0 < length line → linesIn line ≡ line ∷ []
 unfolding linesIn begun
 lines-last [] e some = absurd (omega (arith, some))

@@ -1,4 +1,4 @@
--- A line is refused and all stays, or it is done: what holds of every line on a table. Assumes nothing.
+-- Laws that hold for every line on a table: the line is refused and nothing changes, or it is done. Assumes nothing.
 use Prim.Native.Nat.{ℕ, _<_}
 use mathlib.Core.Path.{_≡_, refl, sym, _∙_}
 use mathlib.Core.Logic.{inl, inr}
@@ -24,7 +24,7 @@ use Rattle.levels_spec.specs.Said.{Turn, printing, replied, calls, asks,
 use Rattle.levels_spec.specs.Answers.{Held, no-table, table}
 use Rattle.levels_spec.specs.inner.Saying.{textOf, saidOf, saysNothing, Told}
 
--- ---- what is said
+-- ---- the response
 
 module _ {A : Type 0} (says : A → Said) (r : Reply A) (n : ℕ) (e : verdict r ≡ reply n tt) where
   pub said-refused : 0 < n → saidOf says r ≡ Refused n
@@ -35,13 +35,13 @@ pub said-accepted : {A : Type 0} (says : A → Said) (r : Reply A) (a : A) → r
 unfolding saidOf
 said-accepted says r a e = rw e
 
--- nothing, of a call that is not refused
+-- a call that is not refused prints nothing
 pub nothing-said : (h : Header) (rows : List ℕ) (r : Reply Header) (n : ℕ) → verdict r ≡ reply n tt → n ≡ 0 → textOf h rows (saidOf saysNothing r) ≡ []
 unfolding textOf saidOf verdict reply
 nothing-said h rows (accepted a) n e z = refl
 nothing-said h rows (refused m) n e z = absurd (let f = rw z at e in let y : _≡_ {A = ℕ} 0 1 = cc in omega arith)
 
--- ---- what is told
+-- ---- the text of the response
 
 replied-refused : (n : ℕ) (text : List ℕ) → 0 < n → replied n text ≡ textLine 88 (n ∷ [])
 unfolding replied
@@ -69,7 +69,7 @@ told-table e r = record { says = e; held = table r; listed = λ numbered l. repr
 
 -- ---- a line on a table
 
--- what is to be known of it: its ladder's number n, what it says and what it leaves
+-- Facts about a line with refusal number n: its response and its result.
 pub record Does (line : Plain → Turn) (s s′ : Stores) (said : Said) (n : ℕ) : Type 0 where
   pub outside-first : outside (s .header) ≡ true → n ≡ 1
   pub says-refused : 0 < n → said ≡ Refused n
@@ -100,7 +100,7 @@ module _ (l : Lengths) (p : Plain) (c : Call) (text : List ℕ) (n : ℕ) (same 
   unfolding calls
   calls-done zero = let e = sym same ∙ zero in rw (accepted-done p l c e, replied-accepted (refusal p l c) text e)
 
--- a question
+-- a query
 module _ (p : Plain) (number : ℕ) (text : List ℕ) (n : ℕ) (same : n ≡ number) where
   pub asks-refused : 0 < n → asks p number text ≡ printing (replied n []) (some p)
   unfolding asks

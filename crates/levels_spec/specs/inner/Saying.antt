@@ -1,4 +1,5 @@
--- What a line says before it is text: how that is text, and what the functions promise that answer by it. Assumes nothing.
+-- The response of a line before it is text: its encoding as text, and the contracts of the functions that return it. Assumes
+-- nothing.
 use Prim.Native.Nat.{ℕ, _+_, _*_, _≤_}
 use mathlib.Core.Path.{_≡_}
 use mathlib.Core.Bool.{Bool, false, cond}
@@ -21,7 +22,7 @@ use Rattle.levels_spec.specs.declared.Served.{Served}
 use Rattle.levels_spec.specs.Said.{Turn, rangeText, turn}
 use Rattle.levels_spec.specs.Answers.{Held, lent}
 
--- ---- as text
+-- ---- encoding as text
 
 unfoldable pub textOf : Header → List ℕ → Said → List ℕ
 textOf h rows Nothing = []
@@ -32,18 +33,18 @@ textOf h rows (Range start end) = textLine 70 (start ∷ end ∷ [])
 textOf h rows (Version generation count) = textLine 86 (generation ∷ count ∷ [])
 textOf h rows (Listing numbered) = storedText numbered h rows
 
--- what a listing needs: a header and a row store that pass tests 1 and 2, and a text with room for the rows
+-- what a listing requires: a header and a row store that pass checks 1 and 2, and a text with room for the rows
 pub record Listable (h : Header) (rows text : List ℕ) : Type 0 where
   pub inside : outside h ≡ false
   pub stored : rowsShort h (length rows) ≡ false
   pub room : 68 + 101 * h .rows ≤ length text
 
--- the text of what is said stands at the start of a lent text
+-- the text of the response is at the start of a lent text
 pub record Telling (h : Header) (rows : List ℕ) (said : Said) (text : List ℕ) (used : ℕ) : Type 0 where
   pub inside : used ≤ length text
   pub begins : ((numbered : Bool) → said ≡ Listing numbered → Listable h rows text) → take used text ≡ textOf h rows said
 
--- ---- what an entry point's answer says
+-- ---- the response to an entry point's answer
 
 unfoldable pub saidOf : {A : Type 0} → (A → Said) → Reply A → Said
 saidOf says (refused n) = Refused n
@@ -71,14 +72,14 @@ saysVersion v = Version (v .generation) (v .rows)
 abbrev pub saysListing : Bool → Versioned → Said
 saysListing numbered v = Listing numbered
 
--- the header that an answer leaves, and what it says
+-- the header after an answer, and the response
 pub record Taken (header : Header) (said : Said) (r : Served) : Type 0 where
   pub header-same : r .header ≡ header
   pub said-same : r .said ≡ said
 
--- ---- a line that is served
+-- ---- the contract of a line
 
--- what a turn leaves: its text, as what is said, and its table. There is a listing only of a header that test 1 lets pass
+-- The result of a line: its text, as a response, and its table. A listing occurs only with a header that passes check 1.
 pub record Told (turn : Turn) (s : Stores) (said : Said) : Type 0 where
   pub says : textOf (s .header) (s .rows) said ≡ turn .text
   pub held : Held (turn .table) s

@@ -1,5 +1,5 @@
--- Laws of fields and decimals in the form in which a reader meets them: byte by byte up to a comma or the end, and field by
--- field. Assumes nothing.
+-- Laws of fields and decimals in the order in which a reader needs them: byte by byte up to a comma or the end, and field by field.
+-- Assumes nothing.
 use Prim.Native.Nat.{ℕ, zero, suc, _+_, _-_, _*_, _≤_, _<_}
 use mathlib.Core.Path.{_≡_, refl, sym, ap, _∙_}
 use mathlib.Core.Logic.{inl, inr}
@@ -15,7 +15,7 @@ use Rattle.lists.specs.Lists.{every}
 use Rattle.lists.specs.Laws.Keep.{split, and-left, and-right}
 use Rattle.levels_text.specs.Lines.{fields, valueFrom, isDecimal, isLine, letter, numbers, isBare, isForm, ofForms}
 
--- ---- the first field, and those behind it
+-- ---- the first field, and the others
 
 unfoldable pub first : List ℕ → List ℕ
 first bytes = getD (fields bytes) 0 []
@@ -23,7 +23,7 @@ first bytes = getD (fields bytes) 0 []
 unfoldable pub others : List ℕ → List (List ℕ)
 others bytes = drop 1 (fields bytes)
 
--- there is always a first one
+-- there is always a first field
 pub fields-cons : (bytes : List ℕ) → fields bytes ≡ first bytes ∷ others bytes
 unfolding fields first others
 fields-cons [] = refl
@@ -55,7 +55,7 @@ length-first (byte ∷ bytes) =
       | inr e ↦ rw (first-more byte bytes (eqb-false byte 44 e)) (omega arith)
     ]
 
--- behind the first field stands a comma or nothing
+-- after the first field comes a comma or the end
 pub first-behind : (bytes : List ℕ) → first (drop (length (first bytes)) bytes) ≡ []
 first-behind [] = unfold first fields in refl
 first-behind (byte ∷ bytes) =
@@ -65,7 +65,7 @@ first-behind (byte ∷ bytes) =
       | inr e ↦ rw (first-more byte bytes (eqb-false byte 44 e)) more
     ]
 
--- and the other fields begin there
+-- the other fields begin there
 pub others-behind : (bytes : List ℕ) → others (drop (length (first bytes)) bytes) ≡ others bytes
 others-behind [] = unfold first fields in refl
 others-behind (byte ∷ bytes) =
@@ -75,7 +75,7 @@ others-behind (byte ∷ bytes) =
       | inr e ↦ rw (first-more byte bytes (eqb-false byte 44 e), others-more byte bytes (eqb-false byte 44 e)) more
     ]
 
--- ---- the field at a place of a line, and those behind it
+-- ---- the field at an offset of a line, and those after it
 
 module _ (line : List ℕ) (at : ℕ) where
   pub first-end : length line ≤ at → first (drop at line) ≡ []
@@ -99,7 +99,7 @@ module _ (line : List ℕ) (at : ℕ) where
     pub others-at-comma : getD line at 0 ≡ 44 → others (drop at line) ≡ first (drop (at + 1) line) ∷ others (drop (at + 1) line)
     others-at-comma e = rw (add-one, drop-cons line at 0 inside, e) (others-comma _)
 
-  -- behind the field
+  -- after the field
   pub next-first : first (drop (at + length (first (drop at line))) line) ≡ []
   next-first = rw (← drop-drop (length (first (drop at line))) at line) (first-behind (drop at line))
 
@@ -114,7 +114,7 @@ module _ (line : List ℕ) (at : ℕ) where
 abbrev pub digit : ℕ → Bool
 digit byte = leb 48 byte && leb byte 57
 
--- the field is a decimal if n digits with value v stand before these bytes
+-- the field is a decimal, given that n digits with value v come before these bytes
 unfoldable pub decimalFrom : ℕ → ℕ → List ℕ → Bool
 decimalFrom n v [] = ltb 0 n
 decimalFrom n v (byte ∷ bytes) =
@@ -123,13 +123,13 @@ decimalFrom n v (byte ∷ bytes) =
     && leb (10 * v + (byte - 48)) 4294967295
     && decimalFrom (suc n) (10 * v + (byte - 48)) bytes
 
--- more digits do not make less
+-- more digits do not make the value smaller
 pub value-least : (v : ℕ) (bytes : List ℕ) → v ≤ valueFrom v bytes
 unfolding valueFrom
 value-least v [] = omega arith
 value-least v (byte ∷ bytes) = let h = value-least (10 * v + (byte - 48)) bytes in omega arith
 
--- behind a digit other than a leading zero
+-- after a digit that is not a leading zero
 pub decimal-more : (n v : ℕ) (bytes : List ℕ) → 0 < n → 0 < v → v ≤ 4294967295
     → decimalFrom n v bytes ≡ (every digit bytes && leb (valueFrom v bytes) 4294967295)
 unfolding decimalFrom every valueFrom
@@ -175,7 +175,7 @@ decimal-long byte bytes some =
     shorter a b false f c d p q = absurd (false≢true p)
     shorter a b true true c d p q = absurd (false≢true (sym q))
 
--- behind a leading zero
+-- after a leading zero
 decimal-zero : (bytes : List ℕ) → 0 < length bytes → decimalFrom 1 0 bytes ≡ false
 unfolding decimalFrom
 decimal-zero [] some = absurd (omega arith)
@@ -238,7 +238,7 @@ module _ (line : List ℕ) where
   unfolding isLine first others
   is-line short one all = rw (le-leb (length line) 120 short, eq-eqb (length (getD (fields line) 0 [])) 1 one, all)
 
--- and of the forms is none but these
+-- a line that is not a letter and decimals is of no valid form
 pub no-forms : (line : List ℕ) → isLine line ≡ false → ofForms line ≡ false
 unfolding ofForms
 no-forms line e = rw e
@@ -247,7 +247,7 @@ pub line-forms : (line : List ℕ) → isLine line ≡ true → ofForms line ≡
 unfolding ofForms
 line-forms line e = rw e
 
--- the letters but the last that stand alone
+-- of the letters without numbers, the last one left
 pub bare-last : (letter : ℕ) → (letter ≡ 77 → ⊥) → (letter ≡ 86 → ⊥) → (letter ≡ 76 → ⊥) → (letter ≡ 85 → ⊥) → (letter ≡ 67 → ⊥) → isBare letter ≡ eqb letter 71
 unfolding isBare
 bare-last letter m v l u c = rw (ne-eqb letter 77 m, ne-eqb letter 86 v, ne-eqb letter 76 l, ne-eqb letter 85 u, ne-eqb letter 67 c)

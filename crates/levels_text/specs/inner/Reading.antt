@@ -1,4 +1,4 @@
--- What reading a field and a line promise. Assumes nothing.
+-- Contracts of reading a field and a line. Assumes nothing.
 use Prim.Native.Nat.{ℕ, _+_, _≤_, _<_}
 use mathlib.Core.Path.{_≡_, refl, sym, ap, _∙_}
 use mathlib.Core.Logic.{inl, inr}
@@ -17,7 +17,7 @@ use Rattle.levels_text.specs.declared.Field.the-variants.{Wrong as NoFie
 use Rattle.levels_text.specs.Laws.Lines.{no-forms, line-forms}
 use Rattle.levels_text.specs.Lines.{fields, valueFrom, isDecimal, isLine, isForm, letter, numbers, ofForms}
 
--- the field that begins at a place
+-- the field that begins at an offset
 unfoldable pub fieldAt : List ℕ → ℕ → List ℕ
 fieldAt line start = getD (fields (drop start line)) 0 []
 
@@ -37,18 +37,18 @@ module _ (line : List ℕ) (start : ℕ) where
     right = λ value′ next′ r. (e, cc, cc);
   }
 
--- a line that is taken gives its letter and its numbers, any other is wrong; so is every line where there is no room for the
--- numbers that a line may have
+-- An accepted line gives its letter and its numbers; any other line is wrong. If there is no room for the most numbers that a line
+-- may have, every line is wrong.
 pub record ReadIs (taken : Bool) (line lent : List ℕ) (r : Parsed) (lent′ : List ℕ) : Type 0 where
   pub right : 59 ≤ length lent → taken ≡ true → (r ≡ Line (letter line) (length (numbers line))) × (lent′ ≡ putAt lent 0 (numbers line))
   pub wrong : 59 ≤ length lent → taken ≡ false → r ≡ Wrong
   pub no-room : length lent < 59 → (r ≡ Wrong) × (lent′ ≡ lent)
 
--- a letter and decimals are taken
+-- accepts a letter and decimals
 abbrev pub LineIs : List ℕ → List ℕ → Parsed → List ℕ → Type 0
 LineIs line = ReadIs (isLine line) line
 
--- a line of the forms is
+-- accepts a line of a valid form
 abbrev pub ParsedIs : List ℕ → List ℕ → Parsed → List ℕ → Type 0
 ParsedIs line = ReadIs (ofForms line) line
 
@@ -71,7 +71,7 @@ module _ {taken : Bool} (line lent : List ℕ) where
     no-room = λ short. absurd (omega arith);
   }
 
--- what a caller knows of a line that was taken: that it is one, its letter, and that its numbers are there
+-- consequences for an accepted line: it is a line, it has this letter, and its numbers are stored
 module _ {taken : Bool} (line lent : List ℕ) (r : Parsed) (lent′ : List ℕ) (p : ReadIs taken line lent r lent′) (first count : ℕ) (e : r ≡ Line first count) where
   pub read-room : 59 ≤ length lent
   read-room =
@@ -106,7 +106,7 @@ module _ {taken : Bool} (line lent : List ℕ) (r : Parsed) (lent′ : List ℕ)
       let m = length-append (numbers line) (drop (0 + length (numbers line)) lent) in
       omega (arith, read-count)
 
--- a line that is none
+-- a line that is not accepted
 pub read-refused : {taken : Bool} (line lent : List ℕ) (r : Parsed) (lent′ : List ℕ) → ReadIs taken line lent r lent′ → 59 ≤ length lent → r ≡ Wrong → taken ≡ false
 read-refused {taken} line lent r lent′ p room e =
     elim (split taken) [
@@ -114,7 +114,7 @@ read-refused {taken} line lent r lent′ p room e =
       | inr f ↦ f
     ]
 
--- ---- a line of the forms
+-- ---- a line of a valid form
 
 module _ (line lent : List ℕ) (r : Parsed) (lent′ : List ℕ) (p : LineIs line lent r lent′) where
   pub parsed-no-line : r ≡ Wrong → ParsedIs line lent Wrong lent′
@@ -138,7 +138,7 @@ module _ (line lent : List ℕ) (r : Parsed) (lent′ : List ℕ) (p : LineIs li
     pub parsed-wrong : b ≡ false → ParsedIs line lent Wrong lent′
     parsed-wrong t = read-wrong line lent lent′ (form ∙ t) (λ short. p .no-room short .1)
 
--- what a caller knows of one
+-- consequences for such a line
 module _ (line lent : List ℕ) (r : Parsed) (lent′ : List ℕ) (p : ParsedIs line lent r lent′) (first count : ℕ) (e : r ≡ Line first count) where
   pub parsed-form : isForm first count ≡ true
   unfolding ofForms
@@ -146,7 +146,7 @@ module _ (line lent : List ℕ) (r : Parsed) (lent′ : List ℕ) (p : ParsedIs 
       rw (read-letter line lent r lent′ p first count e, read-count line lent r lent′ p first count e)
       (and-right (isLine line) (isForm (letter line) (length (numbers line))) (read-taken line lent r lent′ p first count e))
 
-  -- of the numbers themselves
+  -- the line's form, stated over the stored numbers
   pub parsed-numbers : isForm first (length (take count lent′)) ≡ true
   parsed-numbers =
       let n : length (take count lent′) ≡ count = rw length-take (omega (arith, read-fits line lent r lent′ p first count e)) in

@@ -1,4 +1,4 @@
--- What is said, as text. Assumes nothing.
+-- The encoding of a response as text. Assumes nothing.
 use Prim.Native.Nat.{ℕ, _≤_}
 use mathlib.Core.Path.{_≡_}
 use mathlib.Core.Bool.{Bool}
@@ -19,7 +19,7 @@ use Rattle.levels_spec.specs.declared.Said.the-variants.{Nothing, Refused, Merg
 use Rattle.levels_spec.specs.Said.{rangeText}
 use Rattle.levels_spec.specs.inner.Saying.{textOf, Listable, Telling}
 
--- the listing, where there is room
+-- the listing, if there is room
 pub record Listed (numbered : Bool) (h : Header) (rows text : List ℕ) (used : ℕ) : Type 0 where
   pub inside : used ≤ length text
   pub listed : Listable h rows text → take used text ≡ storedText numbered h rows
@@ -37,10 +37,10 @@ module _ {numbered : Bool} {h : Header} {rows text text′ : List ℕ} {answer :
   pub listed-all : {bytes : ℕ} → answer ≡ Written bytes → Listed numbered h rows text′ bytes
   listed-all {bytes} e = let w = rw e at x in record { inside = omega (arith, lent, written-inside w); listed = λ l. written-taken w }
 
--- ---- each thing that is said
+-- ---- each response
 
 module _ (h : Header) (rows : List ℕ) {said : Said} {text : List ℕ} {used : ℕ} where
-  -- its bytes
+  -- a response with these bytes
   says-bytes : {bytes : List ℕ} → textOf h rows said ≡ bytes → Wrote bytes text used → Telling h rows said text used
   says-bytes e w = record { inside = w .inside; begins = λ l. rw e (w .begins) }
 

@@ -1,4 +1,4 @@
--- The digits that `io::decimal` gives are those of the definition. Assumes nothing.
+-- `io::decimal` gives the digits that the definition gives. Assumes nothing.
 use Prim.Native.Nat.{ℕ, zero, suc, _+_, _-_, _*_, _/_, _%_, _^_, _≤_, _<_}
 use mathlib.Core.Path.{_≡_, ap, _∙_}
 use mathlib.Core.Logic.{inl, inr}
@@ -18,7 +18,7 @@ use Rattle.levels_text.specs.Written.{digitsIn, decimal, field, textLine}
 glyph-digit : (d : ℕ) → d < 10 → glyph d ≡ 48 + d
 glyph-digit d h = rw (lt-ltb d 10 h)
 
--- ten times as many digits
+-- the quotient by ten
 quotient-below : (n m : ℕ) → n < 10 * m → n / 10 < m
 quotient-below n m h = omega arith
 
@@ -39,7 +39,7 @@ digits-same (suc count) (suc places) n less below above =
     let ih = digits-same count places (n / 10) (omega arith) (quotient-below n (10 ^ suc count) fewer) (λ h. quotient-above n (10 ^ count) some) in
     rw (le-ltb n 10 big, glyph-digit (n % 10) (mod-lt n (omega arith)), ih)
 
--- a u32 has at most ten
+-- a u32 has at most ten digits
 pub few-digits : (count n : ℕ) → n ≤ 4294967295 → Fewest 10 1 n count → count ≤ 10
 few-digits count n fits f =
     elim (split (leb count 10)) [
@@ -58,7 +58,7 @@ decimal-digits (suc count) n fits f =
     let one-less : suc count - 1 ≡ count = omega arith in
     digits-same count 10 n (omega (arith, few-digits (suc count) n fits f)) (f .1) (λ h. rw one-less at (f .2 (omega arith)))
 
--- how many bytes a number takes behind others
+-- how many bytes a number takes as a field after others
 length-digits : (places n : ℕ) → length (digitsIn places n) ≤ places
 unfolding digitsIn
 length-digits zero n = omega arith
@@ -72,7 +72,7 @@ pub length-field : (n : ℕ) → length (field n) ≤ 11
 unfolding field decimal
 length-field n = omega (arith, length-digits 10 n)
 
--- exactly as many as its digits, and the comma
+-- exactly its digits and the comma
 pub field-length : {n count : ℕ} {shown : List ℕ} → n ≤ 4294967295 → Fewest 10 1 n count → shown ≡ digits 10 count n → length (field n) ≡ 1 + length shown
 unfolding field
 field-length {n} {count} fits f e = let same = ap length (e ∙ decimal-digits count n fits f) in omega (arith, same)
@@ -86,7 +86,7 @@ pub fields-more : (numbers : List ℕ) (n : ℕ) → flat (map field (numbers ++
 unfolding flat
 fields-more numbers n = rw (map-append field numbers (n ∷ []), flat-append (map field numbers) (field n ∷ []), append-nil (field n))
 
--- the first ones and the next take no more than all
+-- the first fields and the next one take no more bytes than all fields
 pub fields-front : (numbers : List ℕ) (i : ℕ) → i < length numbers → length (flat (map field (take i numbers))) + length (field (getD numbers i 0)) ≤ length (flat (map field numbers))
 unfolding flat
 fields-front [] i less = absurd (omega arith)

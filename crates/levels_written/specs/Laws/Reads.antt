@@ -1,4 +1,4 @@
--- A decimal that is written is read back: it is one of those that `levels` reads, and its value is the number. Assumes nothing.
+-- A decimal that is written is read back: `levels` reads it, and its value is the number. Assumes nothing.
 use Prim.Native.Nat.{ℕ, zero, suc, _+_, _-_, _*_, _/_, _%_, _^_, _≤_, _<_}
 use mathlib.Core.Path.{_≡_, refl}
 use mathlib.Core.Logic.{inl, inr}
@@ -14,7 +14,7 @@ use Rattle.lists.specs.Laws.Keep.{split}
 use Rattle.levels_text.specs.Lines.{valueFrom, isDecimal}
 use Rattle.levels_text.specs.Written.{digitsIn, decimal}
 
--- digits by their last one
+-- the value of digits, by their last one
 
 value-last : (v : ℕ) (digits : List ℕ) (d : ℕ) → valueFrom v (digits ++ (d ∷ [])) ≡ 10 * valueFrom v digits + (d - 48)
 unfolding valueFrom
@@ -39,7 +39,7 @@ digit-of d h =
     let high : 48 + d ≤ 57 = omega arith in
     rw (le-leb 48 (48 + d) low, le-leb (48 + d) 57 high)
 
--- of at most so many places
+-- of at most this many places
 
 all-digits : (places n : ℕ) → every digit (digitsIn places n) ≡ true
 unfolding digitsIn every

@@ -1,4 +1,4 @@
--- Bytes put behind those that a text has already. Assumes nothing.
+-- Bytes appended to those that a text already has. Assumes nothing.
 use Prim.Native.Nat.{ℕ, _+_, _*_, _≤_, _<_}
 use mathlib.Core.Path.{_≡_, refl, sym, _∙_}
 use mathlib.Core.List.{List, [], _∷_, _++_, map, append-nil, append-assoc}
@@ -11,7 +11,7 @@ use Rattle.lists.specs.Lists.{putAt, flat}
 use Rattle.levels_text.specs.Written.{field, textLine}
 use Rattle.levels_written.specs.Laws.Decimals.{decimal-digits, fields-more, fields-front, length-written}
 
--- the text has these bytes behind its first `used`, up to `end`; what stands behind them is as it was
+-- The text has these bytes after its first `used`, up to `end`. The bytes after them do not change.
 pub record Appended (text : List ℕ) (used : ℕ) (bytes text′ : List ℕ) (end : ℕ) : Type 0 where
   pub counted : end ≡ used + length bytes
   pub same : take end text′ ≡ take used text ++ bytes
@@ -29,7 +29,7 @@ module _ (text : List ℕ) (used : ℕ) where
         behind = drop-set-lt (used + 1) text used byte (omega arith);
       }
 
--- one behind the other
+-- two appends in sequence
 pub appended-then : {text text′ text″ bytes more : List ℕ} {used end end′ : ℕ}
     → Appended text used bytes text′ end → Appended text′ end more text″ end′ → Appended text used (bytes ++ more) text″ end′
 appended-then {text} {text′} {text″} {bytes} {more} {used} {end} {end′} a b =
@@ -39,7 +39,7 @@ appended-then {text} {text′} {text″} {bytes} {more} {used} {end} {end′} a 
       behind = b .behind ∙ rw (b .counted, ← drop-drop (length more) end text′, ← drop-drop (length more) end text, a .behind);
     }
 
--- where there is room for them, that is how the text then stands
+-- if there is room for the bytes, the text is this splice
 pub appended-put : {text bytes text′ : List ℕ} {used end : ℕ} → Appended text used bytes text′ end → text′ ≡ putAt text used bytes
 unfolding putAt
 appended-put {text} {bytes} {text′} {used} {end} a =
@@ -53,7 +53,7 @@ unfolding field
 appended-number {n = n} {count = count} fits f e comma number =
     appended-then comma (rw (e ∙ decimal-digits count n fits f) at number)
 
--- a letter, numbers, and the end of the line
+-- a letter, numbers, and a newline
 pub appended-line : {text text₁ text₂ text₃ : List ℕ} (numbers : List ℕ) {used lettered numbered end letter : ℕ}
     → Appended text used (letter ∷ []) text₁ lettered → Appended text₁ lettered (flat (map field numbers)) text₂ numbered
     → Appended text₂ numbered (10 ∷ []) text₃ end → Appended text used (textLine letter numbers) text₃ end
@@ -68,7 +68,7 @@ pub appended-numbered : {text text₁ text₂ text₃ text₄ : List ℕ} (numbe
 unfolding flat
 appended-numbered number numbers first lead rest last = appended-line (number ∷ numbers) first (appended-then lead rest) last
 
--- at the start of a lent text
+-- the bytes are at the start of a lent text
 pub record Wrote (bytes text : List ℕ) (used : ℕ) : Type 0 where
   pub inside : used ≤ length text
   pub begins : take used text ≡ bytes
@@ -76,7 +76,7 @@ pub record Wrote (bytes text : List ℕ) (used : ℕ) : Type 0 where
 pub wrote-nothing : (text : List ℕ) → Wrote [] text 0
 wrote-nothing text = record { inside = omega arith; begins = refl }
 
--- where there was room for it
+-- if there was room for them
 pub appended-wrote : {text bytes text′ : List ℕ} {end : ℕ} → length bytes ≤ length text′ → Appended text 0 bytes text′ end → Wrote bytes text′ end
 appended-wrote room a = record { inside = omega (arith, a .counted); begins = a .same }
 
@@ -86,7 +86,7 @@ line-wrote letter numbers room a = appended-wrote (omega (arith, length-written 
 
 -- ---- byte by byte
 
--- the first i bytes are put
+-- loop invariant: the first i bytes are written
 pub record Putting (text : List ℕ) (used : ℕ) (bytes text′ : List ℕ) (end i : ℕ) : Type 0 where
   pub inside : i ≤ length bytes
   pub same-length : length text′ ≡ length text
@@ -113,7 +113,7 @@ module _ {text : List ℕ} {used : ℕ} {bytes text′ : List ℕ} {end i : ℕ}
 
 -- ---- number by number
 
--- the first i numbers are put
+-- loop invariant: the first i numbers are written
 pub record Numbering (text : List ℕ) (used : ℕ) (numbers text′ : List ℕ) (end i : ℕ) : Type 0 where
   pub inside : i ≤ length numbers
   pub same-length : length text′ ≡ length text
@@ -134,7 +134,7 @@ module _ {text : List ℕ} {used : ℕ} {numbers text′ : List ℕ} {end i : �
         put = rw (add-one, take-suc numbers i 0 less, fields-more (take i numbers) (getD numbers i 0)) (appended-then (v .put) one);
       }
 
-  -- the next one takes no more than is left
+  -- the next number takes no more bytes than are left
   pub numbering-next : i < length numbers → end + length (field (getD numbers i 0)) ≤ used + length (flat (map field numbers))
   numbering-next less = omega (arith, v .put .counted, fields-front numbers i less)
 

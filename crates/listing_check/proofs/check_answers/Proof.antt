@@ -1,5 +1,5 @@
--- `listing_check::check_answers` meets its contract: a walk of its MIR, by hand, cut at each call before the loop. What is lent
--- is passed on whole. The loop's state is the walk over the rows. Assumes nothing.
+-- `listing_check::check_answers` meets its contract: a manual proof over its MIR, split at each call before the loop. The borrowed
+-- arguments are passed on whole. The loop's state is the merge scan over the rows. Assumes nothing.
 use Rattle.walks.proofs.Prelude.{_≡_, refl, sym, ap, subst, _∙_, ℕ, _<_, _≤_, Bool, true, false, List, [], _∷_, ltb, length, URA, fullShare, named, tyBool, w32, w64, Val, vbool, vint, SProp, ent, emp, id⊢, via, fst∗, Lft, Share, Fml, ftrue, fsep, flft, fat, Memory, Routine, Heap, Env, Tables, Wp, WpFn, afterBlock, afterSeq}
 use Rattle.walks.proofs.Prelude.{atReturn, afterTurn, Atoms, Fun, givenOf, tables, tablesOf, Given, Item, Sq, anyQ, atRet, runs, ‵, raw, ⋆, _$_, _∵_, !, qed, move, drop, group, use1, split, join, rewrite, fsplit, fjoin, suffices, frame, done, agg, whole, sub, look-in, Below, look, store, init, forget, stop, fld, from}
 use Rattle.walks.proofs.Prelude.{load, lit, bin, and-then, no-more, assigns, land, again, blocks, exec, first, leaves-loop, loops, goes-on, returns, enter, alloc1, alloc0, params1, pass1, pass0, free1, free0, fmOf, u32, bool, Is, bool-makes, RefT, now, ShrSlice, Room, owned, nothing, Clauses, onEntry, cited, says, ends-at}
@@ -206,12 +206,12 @@ module _ {M : Type 1} (𝓤 : URA M) (H : Heap 𝓤) (A : Atoms 𝓤) (W : Given
     Around four five six seven = ‵ (flft κ₀ q₀) ∷ ‵ (flft κ₁ q₁) ∷ ‵ (flft κ₂ q₂) ∷ ‵ OwnText ∷ ‵ OwnConditions ∷ ‵ OwnGiven ∷ Cells 𝓤 E (
         empty ∷ holds (slice-val x) ∷ holds (slice-val c) ∷ holds (slice-val g) ∷ four ∷ five ∷ six ∷ seven ∷ empty ∷ empty ∷ empty ∷ empty ∷ []) []
 
-    -- from what the head says
+    -- after the head is read
     module _ (s : Survey) (sv : Surveyed true (now x) s) (is-s : Is VT.the-row s (surveys .val s ∷ [])) (h : Header) (same : h .columns ≡ s .columns) (is-h : Is HT.the-row h (header-val h ∷ [])) where
       abbrev knows : Bool
       knows = allPass Known h (now g) (now c)
 
-      -- the loop's state: the walk, and what is known of it
+      -- the loop's state: the scan, and what is known of it
       abbrev Held : Walk → Type 0
       Held at = Underway (h .columns) (now x) (now c) (now g) at × Is WT.the-row at (walks .val at ∷ [])
 
@@ -227,7 +227,7 @@ module _ {M : Type 1} (𝓤 : URA M) (H : Heap 𝓤) (A : Atoms 𝓤) (W : Given
       abbrev I : State → List (Item 𝓤)
       I t = Around (holds (surveys .val s)) (holds (header-val h)) (holds (vbool knows)) (holds (walks .val (t .0)))
 
-      -- what is to hold where a turn ends
+      -- what must hold at the end of an iteration
       abbrev Turned : State → Kit.Post 𝓤 H
       Turned t = anyQ (afterTurn 𝓤 H (Below 𝓤 H A Nearer I t) (afterBlock 𝓤 H (afterSeq 𝓤 H (Wp 𝓤 H (𝓣 .C) (𝓣 .Λ) E mir.t-7 (atReturn 𝓤 H E Post)) (atReturn 𝓤 H E Post))))
 
@@ -270,11 +270,11 @@ module _ {M : Type 1} (𝓤 : URA M) (H : Heap 𝓤) (A : Atoms 𝓤) (W : Given
       loop : (at : Walk) → Held at → Sq W (Around (holds (surveys .val s)) (holds (header-val h)) (holds (vbool knows)) (holds (walks .val at))) (runs (𝓣 .C) (𝓣 .Λ) E mir.t-6 (atRet E Post))
       loop at k = first ! $ blocks ! $ loops ! 𝓣 Nearer (InvImage·wf left (Nat·lt-wfRel .wf)) I (λ t. turn (t .0) (t .1) (ltb (t .0 .start) (t .0 .end)) refl) (at, k)
 
-      -- whether the conditions are known is told: `begin`
+      -- it is computed whether the conditions are known: `begin`
       opens : Sq W (Around (holds (surveys .val s)) (holds (header-val h)) (holds (vbool knows)) empty) (runs (𝓣 .C) (𝓣 .Λ) E mir.t-5 (atRet E Post))
       opens =
           move ! (3 ∷ []) $ twice ! (named 0) κ₀ u8 x $ move ! (6 ∷ []) $ twice ! (named 2) κ₂ u32 g $ move ! (4 ∷ 6 ∷ 2 ∷ 0 ∷ []) $ group ! 4 $ use1 W (raw (Asked 𝓤 H A beg.ended beginning .pre (to-begin s knows))) (asks-begin s knows sv is-s) $
-          -- [what `begin` asks; what given owns, text; κ₁'s token; what the conditions own; _11; …]
+          -- [what `begin` requires; what given owns, text; κ₁'s token; what the conditions own; _11; …]
           calls beg.ended beginning (to-begin s knows) (λ at ws. Begun s knows (now x) (now g) at) (λ at ws. id⊢ 𝓤 _) ! (fmOf 𝓤 H (W .laws) 𝓣) known-begin (arg ! 19 refl (arg ! 15 refl (arg ! 25 refl (arg ! 21 refl (no-more !))))) (λ w at ws begun.
           move ! (2 ∷ []) $ drop ! $ move ! (1 ∷ []) $ value-lands ! walks at w (λ is-at. split ! $ move ! (1 ∷ []) $ split ! $ move ! (1 ∷ []) $ drop ! $ move ! (1 ∷ 4 ∷ 0 ∷ 3 ∷ 5 ∷ []) $
           land ! (from ! (stop !)) (init ! 14 refl (typed W walks at is-at .0)) $
@@ -285,12 +285,12 @@ module _ {M : Type 1} (𝓤 : URA M) (H : Heap 𝓤) (A : Atoms 𝓤) (W : Given
       tested =
           assigns ! (agg ! (and-then ! (lit ! tt) (no-more !))) (from ! (stop !)) (init ! 8 refl (typed W tests Known is-k .0)) $
           move ! (4 ∷ []) $ twice ! (named 1) κ₁ CT.the-row c $ move ! (6 ∷ []) $ twice ! (named 2) κ₂ u32 g $ move ! (6 ∷ 5 ∷ 0 ∷ 2 ∷ []) $ group ! 4 $ use1 W (raw (Asked 𝓤 H A all.ended passing .pre (to-all h))) (asks-all h is-h) $
-          -- [what `all_pass` asks; what given and the conditions own; κ₀'s token; what the text owns; _11; …]
+          -- [what `all_pass` requires; what given and the conditions own; κ₀'s token; what the text owns; _11; …]
           calls all.ended passing (to-all h) (λ r ws. r ≡ knows) (λ r ws. id⊢ 𝓤 _) ! (fmOf 𝓤 H (W .laws) 𝓣) known-all (arg ! 7 refl (arg ! 17 refl (arg ! 21 refl (arg ! 23 refl (no-more !))))) (λ w r ws e.
           move ! (2 ∷ []) $ drop ! $ move ! (1 ∷ []) $ bool-lands ! r w e $ split ! $ move ! (1 ∷ []) $ split ! $ move ! (1 ∷ []) $ drop ! $ move ! (4 ∷ 0 ∷ 1 ∷ 5 ∷ 3 ∷ []) $
           land ! (from ! (stop !)) (init ! 16 refl (tt, tt)) $ forget ! 8 refl $ opens)
 
-    -- the text is looked through: `header_of`
+    -- the text is scanned: `header_of`
     heads : (s : Survey) → Surveyed true (now x) s → Is VT.the-row s (surveys .val s ∷ []) → Sq W (Around (holds (surveys .val s)) empty empty empty) (runs (𝓣 .C) (𝓣 .Λ) E mir.t-2 (atRet E Post))
     heads s sv is-s =
         own ! surveys s is-s $ use1 W (raw (Asked 𝓤 H A hdr.ended heading .pre (to-head s))) (asks-head s) $

@@ -1,5 +1,5 @@
--- `listing_check::meets_all` meets its contract: a walk of its MIR, by hand. The array is copied to a local, which is lent for a
--- lifetime that the walk makes; the conditions are passed on whole. Assumes nothing.
+-- `listing_check::meets_all` meets its contract: a manual proof over its MIR. The array is copied to a local, which is lent for a
+-- lifetime that the proof creates; the conditions are passed on whole. Assumes nothing.
 use Rattle.walks.proofs.Prelude.{_≡_, refl, sym, _∙_, ℕ, Bool, List, [], _∷_, lit<, length, URA, fullShare, Ty, erased, imm, named, tyRef, vbool, SProp, ent, id⊢, Lft, Share, GName, Fml, ftrue, fsep, flft, fat, froom, Memory, Routine, Heap, Tables, WpFn, Atoms, Fun, givenOf, tables, tablesOf}
 use Rattle.walks.proofs.Prelude.{Given, ‵, raw, _⊛_, ⋆, some, later, _$_, _∵_, !, qed, move, drop, group, use1, use2, split, join, pick, rewrite, fsplit, fjoin, suffices, frame, await, done, agg, look, init, forget, stop, from}
 use Rattle.walks.proofs.Prelude.{load, addr, lit, of-opd, and-then, no-more, assigns, land, returns, enter, alloc1, alloc0, params1, pass1, pass0, free1, free0, lft-new, lft-end, fmOf, u32, bool, Is, bool-makes, pointee, RefT, now, sliceTy, sliceVal, ShrSlice, Room, owned, nothing, Clauses, onEntry, cited, says, needs, ends-at}
@@ -55,8 +55,8 @@ module _ {M : Type 1} (𝓤 : URA M) (H : Heap 𝓤) (A : Atoms 𝓤) (W : Given
   abbrev OwnCells : ℕ → ℕ → GName → Fml
   OwnCells ν l γ = LentFront u32 8 l cells 𝓤 H A W 8 (named 0) (ν ∷ []) γ
 
-  -- what the triples of this function and of `all_pass` bind outside; the array lies at a block, under a ghost name, for a
-  -- lifetime ν
+  -- what the triples of this function and of `all_pass` bind outside; the array is located at a block, under a ghost
+  -- name, for a lifetime ν
   abbrev y : Walked f.ended params 𝓤 H A clauses .Ghost
   y = (((κ, tt), (q, tt), tt, (h, (cells, (x, tt))), (header-val h ∷ [], (cells-val cells ∷ [], (slice-val x ∷ [], tt)))), tt)
 
@@ -100,12 +100,12 @@ module _ {M : Type 1} (𝓤 : URA M) (H : Heap 𝓤) (A : Atoms 𝓤) (W : Given
         move ! (8 ∷ []) $ use2 W (later (some (λ (γ : GName). ‵ (OwnCells ν l₄ γ) ⊛ ‵ (Kept u32 8 l₄ cells (ν ∷ []))))) (lends-front u32 8 l₄ cells 𝓤 H A W 8 (named 0) (ν ∷ []) (cells-val cells) tt (lit< tt, lit< tt)) $ await ! tt $ pick ! (λ γ. split ! $
         -- [the cells; what is kept; ν's token; _7; …; _0; κ's token; what the conditions own]
         move ! (19 ∷ []) $ twice ! (named 0) κ CT.the-row x $ move ! (4 ∷ 20 ∷ 2 ∷ 0 ∷ []) $ group ! 4 $ use1 W (raw (Asked 𝓤 H A all.ended passing .pre (to ν l₄ γ))) (asks ν l₄ γ) $
-        -- [what `all_pass` asks; what the conditions own; what is kept; _7; …]
+        -- [what `all_pass` requires; what the conditions own; what is kept; _7; …]
         calls all.ended passing (to ν l₄ γ) (λ r ws. r ≡ allPass (Row 0) h (take 8 cells) (now x)) (λ r ws. id⊢ 𝓤 _) ! (fmOf 𝓤 H (W .laws) 𝓣) known (arg ! 7 refl (arg ! 14 refl (arg ! 3 refl (arg ! 10 refl (no-more !))))) (λ w r ws e.
         move ! (2 ∷ []) $ drop ! $ move ! (1 ∷ []) $ bool-lands ! r w (e ∙ row-meets h cells long narrow (now x)) $ land ! (from ! (stop !)) (init ! 16 refl (tt, tt)) $
-        -- the lifetime is ended, and the array's local is room again
+        -- the lifetime ends, and the array's local is free again
         split ! $ lft-end ! tt $ move ! (0 ∷ 3 ∷ []) $ use2 W (later (‵ (froom (tyArray (lone (u32 .mir)) 8) l₄ 0))) (front-back u32 8 l₄ cells 𝓤 H A W 8 (ν ∷ []) long) $ await ! tt $
-        -- [room for _4; κ's token; what the conditions own; _7; …]
+        -- [the free local _4; κ's token; what the conditions own; _7; …]
         returns ! (look ! 16 refl) $ forget ! 3 refl $ forget ! 5 refl $ forget ! 7 refl $ forget ! 10 refl $ forget ! 12 refl $ forget ! 14 refl $ forget ! 16 refl $
         move ! (16 ∷ 17 ∷ []) $ free1 ! $ move ! (14 ∷ 15 ∷ []) $ free1 ! $ move ! (12 ∷ 13 ∷ []) $ free1 ! $ move ! (10 ∷ 11 ∷ []) $ free1 ! $ move ! (0 ∷ 9 ∷ []) $ free1 ! $ move ! (6 ∷ 7 ∷ []) $ free1 ! $ move ! (4 ∷ 5 ∷ []) $ free1 ! $ move ! (2 ∷ 3 ∷ []) $ free1 ! $ free0 ! $
         suffices ! _ (ends-at 𝓤 H A f.ended (stays (f.ended .signature .params) (f.ended .kept) params) clauses W y (vbool met) met (tt, (tt, (tt, tt))) (tt, (tt, (tt, tt)))) $ says ! refl $ frame ! $

@@ -1,4 +1,4 @@
--- The promise determines the answer. Assumes nothing.
+-- The contract determines the answer. Assumes nothing.
 use Prim.Native.Nat.{ℕ}
 use mathlib.Core.Path.{_≡_, refl, sym, ap, _∙_}
 use mathlib.Core.Bool.{true}
@@ -12,7 +12,7 @@ use Rattle.listing_check.specs.declared.CheckAnswer.{CheckAnswer}
 use Rattle.listing_check.specs.declared.CheckAnswer.the-variants.{Refused, Checked}
 use Rattle.listing_check.specs.Answers.{verdictSays, checkSays, AnswersChecked}
 
--- an answer is known by what it says
+-- the view of an answer determines the answer
 verdict-said : (v w : Verdict) → verdictSays v ≡ verdictSays w → v ≡ w
 unfolding verdictSays
 verdict-said Right Right e = refl

@@ -1,4 +1,4 @@
--- A listing with the rows 2, 5 and 8, of which 2 and 8 meet the condition that the first cell is 7, and what is said of some
+-- A listing with the rows 2, 5 and 8, of which 2 and 8 meet the condition that the first cell is 7, and the findings for some given
 -- numbers. Assumes nothing.
 use mathlib.Core.Path.{_≡_, refl}
 use mathlib.Core.List.{[], _∷_, map}

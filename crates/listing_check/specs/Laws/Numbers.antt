@@ -1,5 +1,4 @@
--- The lowest number that one of two lists has and the other has not, and the first that is not above the one before. Assumes
--- nothing.
+-- The lowest number that exactly one of two lists has, and the first number that is not above the one before. Assumes nothing.
 use Prim.Native.Nat.{ℕ, zero, suc, _+_, _-_, _≤_, _<_, min}
 use mathlib.Core.Path.{_≡_, refl, sym, ap, _∙_}
 use mathlib.Core.Logic.{_⊎_, inl, inr}
@@ -25,7 +24,7 @@ found (some n) = inr (n, refl)
 none-some : {n : ℕ} → none ≡ some n → ⊥
 none-some e = let z : _≡_ {A = ℕ} 0 1 = cc in omega arith
 
--- ---- tests of two lists
+-- ---- comparison of two lists
 
 both-alike : (a b : Bool) → ((a && not b) || (b && not a)) ≡ false → a ≡ b
 both-alike true true e = refl
@@ -157,7 +156,7 @@ behind-rising : (before place : ℕ) (ns : List ℕ) → above before ns ≡ tru
 behind-rising before place [] e = unfold misplacedBehind in refl
 behind-rising before place (n ∷ ns) e = behind-more before place n ns (above-head before n ns e) ∙ behind-rising n (suc place) ns (above-tail before n ns e)
 
--- of a number and those behind it
+-- for a number and those after it
 behind-none : (before place : ℕ) (ns : List ℕ) → misplacedBehind before place ns ≡ none → above before ns ≡ true
 behind-none before place [] e = unfold above in refl
 behind-none before place (n ∷ ns) e =

@@ -1,4 +1,4 @@
--- What each verdict says of the numbers given and the right ones. Assumes nothing.
+-- What each verdict implies about the numbers given and the right ones. Assumes nothing.
 use Prim.Native.Nat.{ℕ}
 use mathlib.Core.Path.{_≡_, refl, _∙_}
 use mathlib.Core.Logic.{inl, inr}
@@ -44,7 +44,7 @@ unfolding rightNumbers
 right-rising conditions l e =
     rising-kept (λ ns. every (met (drop 1 ns)) conditions) (l .rows) (rising-from (rowNumbers (l .rows)) ∙ listing-parts true l e .rows-fit .ordered refl .0)
 
--- ---- what a verdict is made of
+-- ---- the cases of a verdict
 
 said-right : (o w : Option ℕ) → placed o (rightOrWrong w) ≡ correct → (o ≡ none) × (w ≡ none)
 unfolding placed rightOrWrong
@@ -90,7 +90,7 @@ module _ (given right : List ℕ) where
   unfolding verdictOn
   first-misplaced {place} f = rw (misplaced-at given f) (unfold placed in refl)
 
--- and of a listing
+-- the same for a listing
 pub yes-exactly : (conditions : List Constraint) (l : Listing) (given : List ℕ) → isListing true l ≡ true
     → (verdictOf (some l) conditions given ≡ correct → given ≡ rightNumbers conditions l) × (given ≡ rightNumbers conditions l → verdictOf (some l) conditions given ≡ correct)
 unfolding verdictOf

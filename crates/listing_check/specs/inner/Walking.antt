@@ -1,4 +1,4 @@
--- The walk over a listing's rows beside the numbers given, and what each of its steps promises. Assumes nothing.
+-- The merge scan of a listing's rows against the numbers given, and the contract of each step. Assumes nothing.
 use Prim.Native.Nat.{ℕ, _-_, _≤_, _<_, min}
 use mathlib.Core.Path.{_≡_}
 use mathlib.Core.Bool.{Bool, true, cond}
@@ -19,34 +19,34 @@ use Rattle.listing_check.specs.declared.Row.{Row}
 use Rattle.listing_check.specs.declared.Walk.{Walk}
 use Rattle.listing_check.specs.Answers.{misplaced, AnswersChecked}
 
--- the place of the first number not above the one before, or as many as there are
+-- the place of the first number not above the one before, or the length of the list if there is none
 pub record MisplacedAt (given : List ℕ) (place : ℕ) : Type 0 where
   pub found : place < length given → misplaced given ≡ some place
   pub rising : length given ≤ place → misplaced given ≡ none
 
--- the lowest number that one of two rising lists has and the other has not
+-- the lowest number that exactly one of two rising lists has
 unfoldable pub firstApart : List ℕ → List ℕ → Option ℕ
 firstApart [] [] = none
 firstApart [] (y ∷ ys) = some y
 firstApart (x ∷ xs) [] = some x
 firstApart (x ∷ xs) (y ∷ ys) = cond (eqb x y) (firstApart xs ys) (some (min x y))
 
--- the numbers of those of some rows that meet every condition
+-- the numbers of the given rows that meet every condition
 unfoldable pub rightAmong : List Constraint → List (List ℕ) → List ℕ
 rightAmong conditions rows = rowNumbers (keep (λ ns. every (met (drop 1 ns)) conditions) rows)
 
--- an answer, unless a number is still found wrong
+-- an answer, unless a wrong number is still found
 unfoldable pub unlessWrong : CheckAnswer → Option ℕ → CheckAnswer
 unlessWrong answer none = answer
 unlessWrong answer (some number) = Checked (Wrong number)
 
--- a D line is to come from a place on
+-- there is a D line at an offset
 pub record Due (columns : ℕ) (text : List ℕ) (start : ℕ) : Type 0 where
   pub narrow : (1 ≤ columns) × (columns ≤ 8)
   pub before : start < length text
   pub awaited : Awaited true columns text start
 
--- it is read
+-- that line is read
 pub record RowRead (columns : ℕ) (text : List ℕ) (start : ℕ) (row : Row) : Type 0 where
   pub forward : start < row .next
   pub read : rowsFrom text start ≡ (row .number ∷ take columns (row .cells)) ∷ rowsFrom text (row .next)
@@ -59,20 +59,20 @@ pub record RowRead (columns : ℕ) (text : List ℕ) (start : ℕ) (row : Row) :
 unfoldable pub rowsLeft : List ℕ → Walk → List (List ℕ)
 rowsLeft text at = cond (ltb (at .start) (at .end)) (rowsFrom text (at .start)) []
 
--- what is to come from here makes the promised answer
+-- loop invariant: scanning what is left gives the answer of the contract
 pub record Underway (columns : ℕ) (text : List ℕ) (conditions : List Constraint) (given : List ℕ) (at : Walk) : Type 0 where
   pub whole : at .start < at .end → at .end ≡ length text
   pub due : at .start < at .end → Due columns text (at .start)
   pub comes : AnswersChecked text conditions given (unlessWrong (at .answer) (firstApart (drop (at .place) given) (rightAmong conditions (rowsLeft text at))))
 
--- nothing is left of the rows or of the numbers
+-- no row and no number is left
 abbrev pub settledAs : CheckAnswer → ℕ → Walk
 settledAs answer count = record { answer = answer; start = 0; end = 0; place = count }
 
 pub record Begun (s : Survey) (knows : Bool) (text given : List ℕ) (at : Walk) : Type 0 where
   pub begins : (conditions : List Constraint) → knows ≡ every (known (s .columns)) conditions → Underway (s .columns) text conditions given at
 
--- a row further, where it is known whether the row meets every condition
+-- one row is processed; `meets-all` states whether it meets every condition
 pub record Stepped (given : List ℕ) (at : Walk) (row : Row) (meets-all : Bool) (at′ : Walk) : Type 0 where
   pub keeps : (columns : ℕ) (text : List ℕ) (conditions : List Constraint) → Underway columns text conditions given at → at .start < at .end → RowRead columns text (at .start) row
       → meets-all ≡ meets (take columns (row .cells)) conditions → Underway columns text conditions given at′

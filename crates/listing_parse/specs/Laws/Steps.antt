@@ -1,4 +1,4 @@
--- D lines that have passed their tests, gone through again one by one. Assumes nothing.
+-- A second iteration over D lines that have passed their checks. Assumes nothing.
 use Prim.Native.Nat.{ℕ, suc, _+_, _-_, _≤_, _<_}
 use mathlib.Core.Path.{_≡_, refl, sym, _∙_}
 use mathlib.Core.Bool.{Bool, true, _&&_, false≢true}
@@ -14,11 +14,11 @@ use Rattle.listing_spec.specs.Laws.Pieces.{joined-pieces, pieces-some}
 use Rattle.listing_spec.specs.Laws.Texts.{good-more, no-row, rows-more}
 use Rattle.listing_parse.specs.inner.Lines.{lineIn, Found, LineAt}
 
--- the rows from a place on
+-- the rows from an offset on
 unfoldable pub rowsFrom : List ℕ → ℕ → List (List ℕ)
 rowsFrom text at = rowsIn (pieces (drop at text))
 
--- D lines that pass, from a place on
+-- valid D lines from an offset on
 pub record Awaited (numbered : Bool) (columns : ℕ) (text : List ℕ) (at : ℕ) : Type 0 where
   pub count : ℕ
   pub least : ℕ
@@ -26,7 +26,7 @@ pub record Awaited (numbered : Bool) (columns : ℕ) (text : List ℕ) (at : ℕ
   pub good : rowsGood numbered columns count least left (pieces (drop at text)) ≡ true
 
 module _ (numbered : Bool) (columns : ℕ) (text : List ℕ) (at : ℕ) where
-  -- where one is to come there is one
+  -- before the end of the text there is one more line
   pub awaited-line : at < length text → Awaited numbered columns text at → {next : ℕ} {stored : List ℕ} → LineAt text at 68 (lead numbered + columns) next stored → next ≡ 0 → ⊥
   awaited-line before w l zero =
       false≢true
@@ -52,7 +52,7 @@ module _ (numbered : Bool) (columns : ℕ) (text : List ℕ) (at : ℕ) where
     unfolding rowsFrom
     awaited-row = rw (f .cut, f .read) (rows-more (lineIn text at next) (pieces (drop next text)) (pieces-some (drop next text)))
 
--- at the end none is to come
+-- at the end of the text there are no more rows
 pub none-from : (text : List ℕ) (at : ℕ) → length text ≤ at → rowsFrom text at ≡ []
 unfolding rowsFrom
 none-from text at over = rw (drop-of-length-le text over) (unfold pieces rowsIn isNil in refl)

@@ -1,4 +1,4 @@
--- What reading a line of a listing promises. Assumes nothing.
+-- Contracts of reading a line of a listing. Assumes nothing.
 use Prim.Native.Nat.{ℕ, suc, _+_, _-_, _≤_, _<_}
 use mathlib.Core.Path.{_≡_}
 use mathlib.Core.Bool.{Bool, true, false, _&&_}
@@ -10,18 +10,18 @@ use Rattle.levels_text.specs.Lines.{numbers}
 use Rattle.listing_spec.specs.Listings.{lead}
 use Rattle.listing_spec.specs.inner.Checking.{pieces, begins, rowsGood, rowsIn}
 
--- no newline from the start up to the end, and one there unless the text ends
+-- there is no newline from `start` up to `end`, and one at `end` unless the text ends there
 pub record LineEnd (text : List ℕ) (start end : ℕ) : Type 0 where
   pub forward : start ≤ end
   pub inside : end ≤ length text
   pub clean : has 10 (take (end - start) (drop start text)) ≡ false
   pub ended : end < length text → getD text end 0 ≡ 10
 
--- the line from the start up to the newline before this place
+-- the line from `start` up to the newline before `next`
 unfoldable pub lineIn : List ℕ → ℕ → ℕ → List ℕ
 lineIn text start next = take (next - 1 - start) (drop start text)
 
--- a line of this letter with so many numbers, which are stored
+-- a line of this letter with this many numbers, which are stored
 pub record Found (text : List ℕ) (start first width next : ℕ) (stored : List ℕ) : Type 0 where
   pub forward : start < next
   pub inside : next ≤ length text
@@ -34,7 +34,7 @@ pub record LineAt (text : List ℕ) (start first width next : ℕ) (stored : Lis
   pub wrong : next ≡ 0 → begins first width (pieces (drop start text)) ≡ false
   pub found : 0 < next → Found text start first width next stored
 
--- a D line that passes its tests: what is to come from the start on is its row, then what is to come from the next place on
+-- A D line that passes its checks: the rows from `start` on are its row, then the rows from `next` on.
 pub record RowFound (numbered : Bool) (columns count least : ℕ) (text : List ℕ) (start next : ℕ) (stored : List ℕ) : Type 0 where
   pub forward : start < next
   pub inside : next ≤ length text

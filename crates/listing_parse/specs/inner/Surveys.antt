@@ -1,4 +1,4 @@
--- What looking through a listing's text promises. Assumes nothing.
+-- Contracts of the scan of a listing's text. Assumes nothing.
 use Prim.Native.Nat.{ℕ, _≤_, _<_}
 use mathlib.Core.Path.{_≡_}
 use mathlib.Core.Bool.{Bool, true, false, cond}
@@ -8,13 +8,13 @@ use Rattle.listing_spec.specs.Listings.{headWidth}
 use Rattle.listing_spec.specs.inner.Checking.{pieces, rowsGood, rowsIn, textGood, listingIn}
 use Rattle.listing_parse.specs.declared.Survey.{Survey}
 
--- how many D lines there are from a place on; 65,537 if one is wrong or there are too many
+-- how many D lines there are from `start` on; 65,537 if one is wrong or there are too many
 pub record Counted (numbered : Bool) (columns count : ℕ) (text : List ℕ) (start rows : ℕ) : Type 0 where
   pub bounded : rows ≤ 65537
   pub wrong : rows ≡ 65537 → rowsGood numbered columns count 0 65536 (pieces (drop start text)) ≡ false
   pub right : (rows ≡ 65537 → ⊥) → (rowsGood numbered columns count 0 65536 (pieces (drop start text)) ≡ true) × (rows ≡ length (rowsIn (pieces (drop start text))))
 
--- a head line that passes its tests, its numbers stored: what is to come behind it are the rows
+-- a head line that passes its checks, with its numbers stored; the lines after it are the rows
 pub record HeadFound (numbered : Bool) (text : List ℕ) (next : ℕ) (stored : List ℕ) : Type 0 where
   pub inside : next ≤ length text
   pub narrow : (1 ≤ getD stored 0 0) × (getD stored 0 0 ≤ 8)
@@ -31,7 +31,7 @@ unfoldable pub headOf : Bool → Survey → List ℕ
 headOf true s = s .columns ∷ s .keys ∷ s .sort ∷ s .rule ∷ s .generation ∷ s .count ∷ []
 headOf false s = s .columns ∷ s .keys ∷ s .sort ∷ s .rule ∷ s .generation ∷ []
 
--- what a text of the form says
+-- the facts that a survey states of a text of the form
 pub record Listed (numbered : Bool) (text : List ℕ) (s : Survey) : Type 0 where
   pub of-form : textGood numbered text ≡ true
   pub narrow : (1 ≤ s .columns) × (s .columns ≤ 8)

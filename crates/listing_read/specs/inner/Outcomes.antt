@@ -1,4 +1,4 @@
--- What reading says in either form. Assumes nothing.
+-- The reply of a reader in either form. Assumes nothing.
 use Prim.Native.Nat.{ℕ}
 use mathlib.Core.Bool.{Bool}
 use mathlib.Core.List.{List, [], _∷_, _++_}

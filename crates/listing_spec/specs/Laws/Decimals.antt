@@ -1,4 +1,4 @@
--- A decimal that `levels` reads is how its value is written. Assumes nothing.
+-- A decimal that `levels` reads is the written form of its value. Assumes nothing.
 use Prim.Native.Nat.{ℕ, zero, suc, _+_, _-_, _*_, _/_, _%_, _^_, _≤_, _<_}
 use mathlib.Core.Path.{_≡_, refl, sym, ap, _∙_}
 use mathlib.Core.Bool.{true, not, _&&_, _||_, false≢true}
@@ -22,7 +22,7 @@ module _ (d : ℕ) (h : digit d ≡ true) where
   digit-high : d ≤ 57
   digit-high = leb-true d 57 (and-right (leb 48 d) (leb d 57) h)
 
--- one digit more behind a number that is not 0
+-- one more digit after a number that is not 0
 digits-more : (places v d : ℕ) → digit d ≡ true → 0 < v → digitsIn (suc places) (10 * v + (d - 48)) ≡ digitsIn places v ++ (d ∷ [])
 unfolding digitsIn
 digits-more places v d h some =
@@ -50,7 +50,7 @@ digits-behind places v (d ∷ ds) h some =
     ∙ ap (λ (l : List ℕ). l ++ ds) (digits-more places v d (digit-first d ds h) some)
     ∙ append-assoc (digitsIn places v) (d ∷ []) ds
 
--- so many digits are a number of so many places
+-- a number of this many digits is below that power of ten
 value-below : (places v : ℕ) (ds : List ℕ) → every digit ds ≡ true → v < 10 ^ places → valueFrom v ds < 10 ^ (length ds + places)
 unfolding valueFrom
 value-below places v [] h below = rw (zero-add places) below
@@ -60,7 +60,7 @@ value-below places v (d ∷ ds) h below =
     let next : 10 * v + (d - 48) < 10 ^ suc places = rw (pow-succ' 10 places) (omega arith) in
     rw more (value-below (suc places) (10 * v + (d - 48)) ds (digits-rest d ds h) next)
 
--- where there are places enough, it does not matter how many
+-- if there are enough places, their number does not matter
 places-enough : (p q n : ℕ) → n < 10 ^ suc p → n < 10 ^ suc q → digitsIn (suc p) n ≡ digitsIn (suc q) n
 unfolding digitsIn
 places-enough zero zero n a b = refl

@@ -1,4 +1,4 @@
--- Each promise determines the outcome. Assumes nothing.
+-- Each contract determines the outcome. Assumes nothing.
 use Prim.Native.Nat.{ℕ}
 use mathlib.Core.Path.{_≡_, sym, ap, _∙_}
 use mathlib.Core.Logic.{⊎-elim}
@@ -18,7 +18,7 @@ use Rattle.listing_spec.specs.declared.MoveAnswer.the-variants.{Refused,
 use Rattle.listing_spec.specs.Listings.{listingSays, numberedSays, moveSays, readRefusal, moveRefusal, ListingRead, ListingMoved}
 use Rattle.listing_spec.specs.Laws.Texts.{shows-determined}
 
--- an answer is known by what it says
+-- the view of an answer determines the answer
 listing-said : (a b : ListingAnswer) → listingSays a ≡ listingSays b → a ≡ b
 unfolding listingSays
 listing-said (ReadRefused m) (ReadRefused n) e = cc

@@ -1,4 +1,5 @@
--- A line that `levels` reads is how its letter and numbers are written, and what is written is read back. Assumes nothing.
+-- A line that `levels` reads is the written form of its letter and numbers, and a line that is written is read back. Assumes
+-- nothing.
 use Prim.Native.Nat.{ℕ, suc, _+_, _≤_}
 use mathlib.Core.Path.{_≡_, refl, sym, ap, _∙_}
 use mathlib.Core.Logic.{inl, inr}
@@ -20,9 +21,9 @@ use Rattle.levels_written.specs.Laws.Reads.{decimal-value, decimal-read}
 use Rattle.listing_spec.specs.Listings.{areNumbers}
 use Rattle.listing_spec.specs.Laws.Decimals.{decimal-back, decimal-parts}
 
--- ---- what is read is what was written
+-- ---- a line that is read is the line that was written
 
--- the fields and the commas between them are the line
+-- the fields, with commas between them, are the line
 fields-joined : (bytes : List ℕ) → bytes ≡ first bytes ++ flat (map (λ (f : List ℕ). 44 ∷ f) (others bytes))
 unfolding flat
 fields-joined [] = unfold first others fields in refl
@@ -66,7 +67,7 @@ module _ (line : List ℕ) (e : isLine line ≡ true) where
   unfolding numbers others
   line-numbers = fields-fit (others line) line-decimals
 
--- ---- what is written is read back
+-- ---- a line that is written is read back
 
 -- a decimal has neither comma nor newline
 digits-without : (x : ℕ) → digit x ≡ false → (f : List ℕ) → every digit f ≡ true → has x f ≡ false
@@ -87,7 +88,7 @@ has-tail x y f e =
       | inr p ↦ (λ q. eqb-false x y p (sym q), rw p at e)
     ]
 
--- a field without a comma, and what comes behind it
+-- a field without a comma, and the bytes after it
 first-field : (f bytes : List ℕ) → has 44 f ≡ false → first (f ++ bytes) ≡ f ++ first bytes
 first-field [] bytes e = refl
 first-field (x ∷ f) bytes e =
@@ -109,7 +110,7 @@ module _ (n : ℕ) (ns : List ℕ) (e : areNumbers (n ∷ ns) ≡ true) where
   unfolding areNumbers
   numbers-rest = every-tail (λ m. leb m 4294967295) n ns e
 
--- fields one after another
+-- several fields in order
 written-first : (ns : List ℕ) → first (flat (map field ns)) ≡ []
 unfolding flat field
 written-first [] = unfold first fields in refl
@@ -138,7 +139,7 @@ fields-without [] e = refl
 fields-without (n ∷ ns) e =
     rw (has-append 10 (decimal n) (flat (map field ns)), decimal-without 10 n refl (numbers-first n ns e), fields-without ns (numbers-rest n ns e))
 
--- a line's bytes but its newline
+-- the bytes of a line without its newline
 unfoldable pub lineOf : ℕ → List ℕ → List ℕ
 lineOf letter ns = letter ∷ flat (map field ns)
 

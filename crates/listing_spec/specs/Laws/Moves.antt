@@ -1,4 +1,4 @@
--- From one form to the other and back: nothing is lost. Assumes nothing.
+-- Conversion from one form to the other and back loses nothing. Assumes nothing.
 use Prim.Native.Nat.{ℕ, suc, _+_, _-_, _≤_, _<_}
 use mathlib.Core.Path.{_≡_, refl, sym, ap, ap₂, _∙_}
 use mathlib.Core.Logic.{inl, inr}
@@ -19,13 +19,13 @@ use Rattle.levels_written.specs.Laws.Decimals.{fields-more, length-line}
 use Rattle.listing_spec.specs.Listings.{Listing, headLetter, headWidth, listingText, lead, isRow, rowNumbers, isListing, numberedFrom, toNumbered, fromNumbered, lacksRow}
 use Rattle.listing_spec.specs.Laws.Texts.{rising-from, Bounded, listing-parts, head-wide, row-parts}
 
--- ---- which numbers are there
+-- ---- which numbers have a row
 
 module _ (numbers : List ℕ) (count : ℕ) (rises : rising numbers ≡ true) (below : every (λ n. ltb n count) numbers ≡ true) where
   number-below : (i : ℕ) → i < length numbers → getD numbers i 0 < count
   number-below i h = ltb-true (getD numbers i 0) count (every-getD (λ n. ltb n count) numbers below i h 0)
 
-  -- as many as there are numbers below the count: each is there
+  -- as many row numbers as the count: every number below the count has a row
   pub all-there : length numbers ≡ count → every (λ n. has n numbers) (countFrom 0 count) ≡ true
   all-there e = every-of (λ n. has n numbers) 0 (countFrom 0 count) there
     where
@@ -46,7 +46,7 @@ module _ (numbers : List ℕ) (count : ℕ) (rises : rising numbers ≡ true) (b
           let here : getD (countFrom 0 count) i 0 ≡ i = getD-countFrom 0 count i 0 inside ∙ zero-add i in
           rw (here, ← at i inside) (has-of numbers i (omega (arith, e)))
 
-  -- if each is there, they are all the numbers below the count
+  -- if every number below the count has a row, the row numbers are all the numbers below the count
   pub all-counted : every (λ n. has n numbers) (countFrom 0 count) ≡ true → numbers ≡ countFrom 0 count
   all-counted all = rising-ext numbers (countFrom 0 count) rises (rising-countFrom 0 count) (λ x. bool-ext (has x numbers) (has x (countFrom 0 count)) (to x) (from x))
     where
@@ -126,7 +126,7 @@ module _ (l : Listing) (e : isListing true l ≡ true) where
   there : Bool
   there = every (λ n. has n (rowNumbers (l .rows))) (countFrom 0 count)
 
-  -- some number lacks a row exactly if there are fewer rows than the count
+  -- some number has no row exactly if there are fewer rows than the count
   pub lacks-none : length (l .rows) ≡ getD (l .head) 5 0 → lacksRow l ≡ false
   unfolding lacksRow count there
   lacks-none full = rw (all-there (rowNumbers (l .rows)) count rises below (length-numbers ∙ full))
@@ -140,7 +140,7 @@ module _ (l : Listing) (e : isListing true l ≡ true) where
   pub lacks-no-row : lacksRow l ≡ false → length (l .rows) ≡ getD (l .head) 5 0
   lacks-no-row none = sym length-numbers ∙ ap length (all-rows none) ∙ length-countFrom 0 (getD (l .head) 5 0)
 
-  -- to the old form and again to the new
+  -- to the old form and back to the new
   pub to-from : lacksRow l ≡ false → toNumbered (fromNumbered l) ≡ l
   unfolding toNumbered fromNumbered
   to-from none =

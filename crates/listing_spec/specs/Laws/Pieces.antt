@@ -27,7 +27,7 @@ pieces-some (byte ∷ bytes) =
     nil-cons : (piece : List ℕ) (ps : List (List ℕ)) → isNil (piece ∷ ps) ≡ false
     nil-cons piece ps = unfold isNil in refl
 
--- the text whose lines they are
+-- the text that has these lines
 unfoldable pub joined : List (List ℕ) → List ℕ
 joined [] = []
 joined (piece ∷ rest) = cond (isNil rest) piece (piece ++ (10 ∷ joined rest))
@@ -46,7 +46,7 @@ joined-pieces (byte ∷ bytes) =
       | inr e ↦ rw (e, joined-longer byte (pieces bytes) (pieces-some bytes), joined-pieces bytes)
     ]
 
--- ---- a line and what comes behind it
+-- ---- a line and the bytes after it
 
 has-tail : (x y : ℕ) (f : List ℕ) → has x (y ∷ f) ≡ false → (eqb y x ≡ false) × (has x f ≡ false)
 unfolding has

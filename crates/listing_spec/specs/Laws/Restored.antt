@@ -1,4 +1,4 @@
--- A listing moved to the other form is of that form, and coming back restores the text. Assumes nothing.
+-- A listing converted to the other form is of that form, and converting it back restores the text. Assumes nothing.
 use Prim.Native.Nat.{ℕ, zero, suc, _+_, _-_, _≤_, _<_}
 use mathlib.Core.Path.{_≡_, refl, sym, ap, ap₂, _∙_}
 use mathlib.Core.Logic.{inl, inr}
@@ -148,7 +148,7 @@ accepted-number m (suc k) e = absurd (let z : _≡_ {A = ℕ} 0 1 = cc in omega 
 pub accepted-same : {bytes m : ℕ} → accepted bytes ≡ accepted m → bytes ≡ m
 accepted-same e = cc
 
--- an accepted move has written the text in the other form
+-- an accepted conversion has written the text in the other form
 module _ {numbered : Bool} {text output output′ : List ℕ} {bytes : ℕ} (x : ListingMoved numbered text output (Written bytes) output′) where
   accepted-move : moveRefusal numbered (x .listing) (length output) ≡ 0
   unfolding moveSays
@@ -169,11 +169,11 @@ no-gap l room given =
       | inr f ↦ f
     ]
 
--- the number of a move back: 2 if the output is shorter than the text, 0 otherwise
+-- the number returned by the conversion back: 2 if the output is shorter than the text, 0 otherwise
 abbrev short : List ℕ → ℕ → ℕ
 short text room = first (rung (ltb room (length text)) 2 ∷ [])
 
--- a listing whose text in the other form is this one, with nothing to refuse but a short output
+-- a listing whose text in the other form is this one; it is refused only if the output is too short
 record Back (numbered : Bool) (text : List ℕ) (m : Option Listing) : Type 0 where
   pub same : movedText numbered m ≡ text
   pub number : (room : ℕ) → moveRefusal numbered m room ≡ short text room
@@ -210,7 +210,7 @@ module _ (text : List ℕ) (room : ℕ) where
   unfolding first
   short-some less = rw (lt-ltb room (length text) less) (omega arith)
 
--- so the move back restores the text
+-- therefore the conversion back restores the text
 restored : {numbered : Bool} {text moved again again′ : List ℕ} {answer : MoveAnswer} (y : ListingMoved numbered moved again answer again′) → Back numbered text (y .listing)
     → Restored text again answer again′
 restored {text = text} {again = again} y b =
@@ -231,7 +231,7 @@ pub back-and-there : RestoresText true
 back-and-there text output output′ again again′ bytes answer x y =
     restored y (come-again text (x .listing) (length output) (x .shown) (accepted-move x) _ (moved-taken x) (y .listing) (y .shown))
 
--- a move back that is accepted has written the text
+-- an accepted conversion back has written the text
 pub restored-taken : {text again again′ : List ℕ} {bytes : ℕ} → Restored text again (Written bytes) again′ → take bytes again′ ≡ text
 unfolding moveSays reply
 restored-taken {text} {again} {again′} {bytes} r =

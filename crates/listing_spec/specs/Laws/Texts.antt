@@ -1,4 +1,4 @@
--- Which texts are of a form, line by line, and that a text determines its listing. Assumes nothing.
+-- Which texts are of a form, checked line by line; a text determines its listing. Assumes nothing.
 use Prim.Native.Nat.{ℕ, suc, _+_, _-_, _≤_, _<_}
 use mathlib.Core.Path.{_≡_, refl, sym, ap, subst, _∙_}
 use mathlib.Core.Logic.{inl, inr}
@@ -19,7 +19,7 @@ use Rattle.listing_spec.specs.inner.Checking.{pieces, isNil, begins, row
 use Rattle.listing_spec.specs.Laws.Pieces.{joined, joined-pieces, pieces-some, pieces-line}
 use Rattle.listing_spec.specs.Laws.Lines.{line-written, line-numbers, lineOf, line-ended, read-numbers, read-letter, read-line, read-ended}
 
--- ---- numbers that rise, from one on
+-- ---- strictly rising numbers, with a least first number
 
 unfoldable pub risingFrom : ℕ → List ℕ → Bool
 risingFrom least [] = true
@@ -35,7 +35,7 @@ unfolding rising risingFrom
 rising-from [] = refl
 rising-from (x ∷ xs) = rw (le-leb 0 x (omega arith)) (above-from x xs)
 
--- ---- a line's tests
+-- ---- the checks of a line
 
 record Begun (first width : ℕ) (line : List ℕ) : Type 0 where
   pub is-line : isLine line ≡ true
@@ -174,7 +174,7 @@ module _ (numbered : Bool) (columns count : ℕ) where
       ordered = λ t. (and-right (leb least (getD ns 0 0)) (risingFrom (suc (getD ns 0 0)) (rowNumbers rows)) (r .ordered t .0), every-tail (λ n. ltb n count) (getD ns 0 0) (rowNumbers rows) (r .ordered t .1));
     }
 
-  -- the lines one by one
+  -- the checks, line by line
   module _ (line : List ℕ) (rest : List (List ℕ)) where
     pub good-last : (least left : ℕ) → isNil rest ≡ true → rowsGood numbered columns count least left (line ∷ rest) ≡ eqb (length line) 0
     unfolding rowsGood
@@ -186,7 +186,7 @@ module _ (numbered : Bool) (columns count : ℕ) where
     unfolding rowsGood
     good-more least left n = rw n
 
-  -- no line, and yet no end of the text
+  -- neither a D line nor the end of the text
   pub no-row : (least left : ℕ) (ps : List (List ℕ)) → begins 68 (lead numbered + columns) ps ≡ false → 0 < length (joined ps) → rowsGood numbered columns count least left ps ≡ false
   no-row least left [] e long = unfold rowsGood in refl
   no-row least left (line ∷ rest) e long =
@@ -195,7 +195,7 @@ module _ (numbered : Bool) (columns count : ℕ) where
         | inr n ↦ good-more line rest least left n ∙ rw (e, and-false (ltb 0 left))
       ]
 
-  -- lines that pass their tests are the text of such rows
+  -- lines that pass their checks are the text of such rows
   pub rows-shown : (least left : ℕ) (ps : List (List ℕ)) → rowsGood numbered columns count least left ps ≡ true
       → (joined ps ≡ flat (map (textLine 68) (rowsIn ps))) × RowsFit numbered columns count least left (rowsIn ps)
   rows-shown least left [] e = absurd (false≢true (unfold rowsGood in e))
@@ -224,7 +224,7 @@ module _ (numbered : Bool) (columns count : ℕ) where
             )
       ]
 
-  -- and the text of such rows is lines that pass
+  -- the text of such rows consists of lines that pass their checks
   pub rows-read : columns ≤ 8 → (least left : ℕ) (rows : List (List ℕ)) → RowsFit numbered columns count least left rows
       → (rowsGood numbered columns count least left (pieces (flat (map (textLine 68) rows))) ≡ true) × (rowsIn (pieces (flat (map (textLine 68) rows))) ≡ rows)
   unfolding flat
@@ -344,7 +344,7 @@ shown-listing (shows l good same) = good
 pub shown-text : {numbered : Bool} {text : List ℕ} {l : Listing} → Shows numbered text (some l) → text ≡ listingText numbered l
 shown-text (shows l good same) = same
 
--- a text that passes is that of the listing in it
+-- a text that passes the checks is the text of the listing that is read from it
 module _ (numbered : Bool) where
   pieces-shown : (ps : List (List ℕ)) → piecesGood numbered ps ≡ true → (joined ps ≡ listingText numbered (listingOf ps)) × Bounded numbered (listingOf ps)
   unfolding piecesGood listingOf listingText
@@ -367,7 +367,7 @@ module _ (numbered : Bool) where
       let s = pieces-shown (pieces text) e in
       shows (listingOf (pieces text)) (listing-of numbered (listingOf (pieces text)) (s .1)) (sym (joined-pieces text) ∙ s .0)
 
-  -- and the text of a listing passes, and shows that listing
+  -- the text of a listing passes the checks, and that listing is read from it
   text-read : (l : Listing) → isListing numbered l ≡ true → (textGood numbered (listingText numbered l) ≡ true) × (listingIn (listingText numbered l) ≡ l)
   unfolding textGood listingIn listingText piecesGood listingOf
   text-read l e =

@@ -1,4 +1,4 @@
--- A text line by line: whether it is of a form, and which listing it then shows. Assumes nothing.
+-- A text line by line: whether it is of a form, and the listing that is read from it. Assumes nothing.
 use Prim.Native.Nat.{ℕ, suc, _+_, _-_}
 use mathlib.Core.Bool.{Bool, true, false, cond, not, _&&_}
 use mathlib.Core.List.{List, [], _∷_}
@@ -7,12 +7,12 @@ use lib.Dec.{leb, ltb, eqb}
 use Rattle.levels_text.specs.Lines.{isLine, letter, numbers}
 use Rattle.listing_spec.specs.Listings.{Listing, headLetter, headWidth, lead, isHead}
 
--- a byte before the first of some pieces
+-- prepends a byte to the first of some pieces
 unfoldable pub longer : ℕ → List (List ℕ) → List (List ℕ)
 longer byte [] = []
 longer byte (piece ∷ pieces) = (byte ∷ piece) ∷ pieces
 
--- what stands before, between and behind the newlines (10): there is always a last piece
+-- the bytes before, between and after the newlines (10); there is always a last piece
 unfoldable pub pieces : List ℕ → List (List ℕ)
 pieces [] = [] ∷ []
 pieces (byte ∷ bytes) = cond (eqb byte 10) ([] ∷ pieces bytes) (longer byte (pieces bytes))
@@ -21,17 +21,17 @@ unfoldable pub isNil : List (List ℕ) → Bool
 isNil [] = true
 isNil (piece ∷ pieces) = false
 
--- a line of this letter with so many numbers, and a newline behind it
+-- a line of this letter with this many numbers, followed by a newline
 unfoldable pub begins : ℕ → ℕ → List (List ℕ) → Bool
 begins first width [] = false
 begins first width (line ∷ rest) = not (isNil rest) && (isLine line && eqb (letter line) first && eqb (length (numbers line)) width)
 
--- a D line's first cell and, in the new form, its number, at least so large and below the count
+-- the first cell of a D line is not dead; in the new form its number is at least `least` and below the count
 unfoldable pub rowFits : Bool → ℕ → ℕ → List ℕ → Bool
 rowFits numbered count least ns =
     not (eqb (getD ns (lead numbered) 0) 4294967295) && cond numbered (leb least (getD ns 0 0) && ltb (getD ns 0 0) count) true
 
--- the D lines, at most so many left
+-- the D lines, at most `left` of them
 unfoldable pub rowsGood : Bool → ℕ → ℕ → ℕ → ℕ → List (List ℕ) → Bool
 rowsGood numbered columns count least left [] = false
 rowsGood numbered columns count least left (line ∷ rest) =
@@ -44,7 +44,7 @@ unfoldable pub rowsIn : List (List ℕ) → List (List ℕ)
 rowsIn [] = []
 rowsIn (line ∷ rest) = cond (isNil rest) [] (numbers line ∷ rowsIn rest)
 
--- the head line, then these
+-- the head line, then the D lines
 unfoldable pub piecesGood : Bool → List (List ℕ) → Bool
 piecesGood numbered [] = false
 piecesGood numbered (head ∷ rest) =

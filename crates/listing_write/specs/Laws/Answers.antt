@@ -1,4 +1,4 @@
--- What an answer tells of a call that writes a listing. Assumes nothing.
+-- Consequences of the answer of a call that writes a listing. Assumes nothing.
 use Prim.Native.Nat.{ℕ, _≤_}
 use mathlib.Core.Path.{_≡_, ap, _∙_}
 use mathlib.Core.Bool.{Bool, false}
@@ -23,7 +23,7 @@ module _ {numbered : Bool} {h : Header} {rows output output′ : List ℕ} {byte
   unfolding moveSays
   accepted-write = accepted-number (length (storedText numbered h rows)) (writeRefusal numbered h rows (length output)) (x .answers)
 
-  -- both tests 2
+  -- both checks with refusal 2
   abbrev room : List Rung
   room = rung (ltb (length output) (length (storedText numbered h rows))) 2 ∷ []
 

@@ -1,4 +1,4 @@
--- The promise determines the outcome. Assumes nothing.
+-- The contract determines the outcome. Assumes nothing.
 use mathlib.Core.Path.{sym, _∙_}
 use mathlib.Core.Logic.{⊎-elim}
 use mathlib.Core.Bool.{Bool}

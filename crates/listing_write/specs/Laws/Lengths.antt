@@ -1,4 +1,4 @@
--- How long the lines of a listing are at most. Assumes nothing.
+-- Upper bounds of the lengths of a listing's lines. Assumes nothing.
 use Prim.Native.Nat.{ℕ, zero, suc, _+_, _*_, _≤_}
 use mathlib.Core.Path.{_≡_, ap}
 use mathlib.Core.Logic.{inl, inr}
@@ -48,13 +48,13 @@ length-rows numbered columns number (suc count) rows narrow =
     omega
     (arith, length-row numbered number (take columns rows) wide, length-rows numbered columns (suc number) count (drop columns rows) narrow, length-append (rowLine numbered number (take columns rows)) (rowLines numbered columns (suc number) count (drop columns rows)))
 
--- the head line takes at most 68
+-- the head line takes at most 68 bytes
 pub length-head : (numbered : Bool) (h : Header) → length (headLine numbered h) ≤ 68
 unfolding headLine headNumbers headLetter
 length-head true h = length-written 85 (h .columns ∷ h .keys ∷ h .sort ∷ h .rule ∷ h .generation ∷ h .rows ∷ [])
 length-head false h = omega (arith, length-written 84 (h .columns ∷ h .keys ∷ h .sort ∷ h .rule ∷ h .generation ∷ []))
 
--- all of them together
+-- the whole text
 pub length-stored : (numbered : Bool) (h : Header) (rows : List ℕ) → length (storedText numbered h rows) ≡ length (headLine numbered h) + length (rowLines numbered (h .columns) 0 (h .rows) rows)
 length-stored numbered h rows =
     omega (arith, ap length (stored-lines numbered h rows), length-append (headLine numbered h) (rowLines numbered (h .columns) 0 (h .rows) rows))

@@ -36,7 +36,7 @@ pub stored-lines : (numbered : Bool) (h : Header) (rows : List ℕ) → storedTe
 unfolding storedText storedListing tableListing listingText headLine
 stored-lines numbered h rows = rw (length-rowsIn h rows) (unfold rowsIn in rw (live-lines numbered (h .columns) 0 (h .rows) rows))
 
--- what tests 1 and 2 leave
+-- what checks 1 and 2 establish
 pub stored-rows : (h : Header) (rows : List ℕ) → outside h ≡ false → rowsShort h (length rows) ≡ false → Stored h rows
 unfolding rowsShort
 stored-rows h rows e f =

@@ -1,4 +1,4 @@
--- The listing of a table is one within all bounds of document 02, change 11, wherever its numbers keep theirs and every cell of a live
+-- The listing of a table is within all bounds of document 02, change 11, if its numbers are within theirs and every cell of a live
 -- row is a u32. Assumes nothing.
 use Prim.Native.Nat.{ℕ, suc, _+_, _-_, _≤_, _<_}
 use mathlib.Core.Path.{_≡_, refl}
@@ -31,7 +31,7 @@ liveFits row = not (row .live) || areNumbers (row .cells)
 abbrev lineOf : Bool → ℕ → List ℕ → List ℕ
 lineOf numbered n cells = cond numbered (n ∷ cells) cells
 
--- what a listing asks of a row
+-- what a listing requires of a row
 abbrev fits : ℕ → Row → Type 0
 fits columns row = (eqb (length (row .cells)) columns ≡ true) × (not (isDead (getD (row .cells) 0 0)) ≡ true) × (areNumbers (row .cells) ≡ true)
 
@@ -81,7 +81,7 @@ module _ (columns count : ℕ) (few : count ≤ 65536) where
             (rows-fit numbered (suc n) least left rows (λ t. (omega (arith, order t .0), omega (arith, order t .1))) (omega arith) wide′ live′ fit′)
       ]
 
--- ---- the head, and all of it
+-- ---- the head, and the whole listing
 
 module _ (o : Opening) (generation : ℕ) (rows : List Row) (b : Bounds o) (fits : generation ≤ 4294967295) (few : length rows ≤ o .capacity) where
   most : length rows ≤ 65536

@@ -18,8 +18,8 @@ use Rattle.listing_write.specs.Writing.{storedListing, ListingWritten}
 use Rattle.listing_write.specs.Laws.Answers.{inside, stored, written-taken}
 use Rattle.listing_write.specs.Laws.Represented.{stored-listed}
 
--- What reading a listing gives: the head's numbers and how many rows are listed, and each row's numbers in turn. It is refused by no
--- number but 2, and by 2 exactly if the output is too short for these.
+-- The contract of reading a listing: the head's numbers and the number of listed rows, and each row's numbers in order. It is
+-- refused only with 2, and exactly if the output is too short for these.
 pub record ReadBack (l : Listing) (output : List ℕ) (says : Reply (List ℕ)) (output′ : List ℕ) : Type 0 where
   pub answers : says ≡ reply (first (rung (ltb (length output) (length (flat (l .rows)))) 2 ∷ [])) (l .head ++ (length (l .rows) ∷ []))
   pub written : length (flat (l .rows)) ≤ length output → output′ ≡ putAt output 0 (flat (l .rows))
@@ -34,7 +34,7 @@ module _ (l : Listing) (room : ℕ) where
   unfolding readRefusal first
   short-some less = rw (lt-ltb room (length (flat (l .rows))) less) (omega arith)
 
--- the listing that a text shows is read
+-- the listing of a text is read from it
 shown-read : {numbered : Bool} {text output output′ : List ℕ} {says : Reply (List ℕ)} {l : Listing} → Shows numbered text (some l) → ListingRead numbered text output says output′ → ReadBack l output says output′
 unfolding readRefusal told cellsIn
 shown-read {numbered} {output = output} {l = l} s x =
@@ -47,7 +47,7 @@ shown-read {numbered} {output = output} {l = l} s x =
     }
 
 module _ {numbered : Bool} {h : Header} {rows output output′ : List ℕ} {bytes : ℕ} (x : ListingWritten numbered h rows output (Written bytes) output′) where
-  -- whatever the stores hold, reading it is refused by nothing but a short output, and gives the listing
+  -- For any content of the stores, reading the text is refused only if the output is too short, and gives the listing.
   pub read-back : {cells cells′ : List ℕ} {says : Reply (List ℕ)} → h .generation ≤ 4294967295 → areNumbers rows ≡ true → ListingRead numbered (take bytes output′) cells says cells′
       → ReadBack (storedListing numbered h rows) cells says cells′
   read-back fits u32s y = shown-read (rw (written-taken x) (stored-listed numbered h rows (inside x) (stored x) fits u32s)) y

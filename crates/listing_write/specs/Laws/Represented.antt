@@ -1,5 +1,5 @@
--- What is written of a table that lies in lent stores: a listing within all bounds, and where the stores show a plain table, that
--- table's. Assumes nothing.
+-- What is written for a table in lent stores: a listing within all bounds; if the stores represent a plain table, the listing of
+-- that table. Assumes nothing.
 use Prim.Native.Nat.{ℕ, zero, suc, _*_, _≤_}
 use mathlib.Core.Path.{_≡_, refl}
 use mathlib.Core.Bool.{Bool, true, false, not, _||_}
@@ -60,7 +60,7 @@ unfolding rowsOf
 rows-fit w zero l e = unfold every in refl
 rows-fit w (suc n) l e = every-cons areNumbers (take w l) (rowsOf w n (drop w l)) (first-fit w l e) (rows-fit w n (drop w l) (rest-fit w l e))
 
--- a row counts as live by its first cell
+-- a row is live exactly if its first cell is not dead
 live-first : (cells : List ℕ) → (not (isLive cells) || not (isDead (getD cells 0 0))) ≡ true
 unfolding isLive
 live-first cells = either (isDead (getD cells 0 0))
@@ -69,10 +69,10 @@ live-first cells = either (isDead (getD cells 0 0))
     either true = refl
     either false = refl
 
--- ---- any header that tests 1 and 2 let pass
+-- ---- any header that passes checks 1 and 2
 
 module _ (numbered : Bool) (h : Header) (rows : List ℕ) (e : outside h ≡ false) (f : rowsShort h (length rows) ≡ false) (generation : h .generation ≤ 4294967295) (cells : areNumbers rows ≡ true) where
-  -- whatever the stores hold, what is written is the text of a listing
+  -- for any content of the stores, the text written is the text of a listing
   pub stored-listed : Shows numbered (storedText numbered h rows) (some (storedListing numbered h rows))
   unfolding storedText storedListing
   stored-listed =
@@ -84,7 +84,7 @@ module _ (numbered : Bool) (h : Header) (rows : List ℕ) (e : outside h ≡ fal
       (unfold rowsIn in map-every liveFits told each (every-more areNumbers (λ c. not (isLive c) || areNumbers c) (λ c q. or-right (not (isLive c)) (areNumbers c) q) each (rows-fit (h .columns) (h .rows) rows cells)))
       numbered
 
--- ---- stores that show a plain table
+-- ---- stores that represent a plain table
 
 -- the row store is long enough
 pub rows-long : {p : Plain} {s : Stores} → Represents p s → rowsShort (s .header) (length (s .rows)) ≡ false
@@ -92,12 +92,12 @@ unfolding rowsShort
 rows-long {p} {s} r = rw (r .shown .header) (le-ltb (length (s .rows)) (p .opening .capacity * p .opening .columns) (represents-long r .rows-long))
 
 module _ {p : Plain} {s : Stores} (r : Represents p s) (numbered : Bool) where
-  -- the listing is the plain table's: what U and L print of it
+  -- the listing is that of the plain table, which U and L print
   pub stored-plain : storedListing numbered (s .header) (s .rows) ≡ tableListing numbered (p .opening) (p .generation) (p .rows)
   unfolding storedListing tableListing
   stored-plain = rw (length-rowsIn (s .header) (s .rows), live-shown r) (unfold liveRows in rw (r .shown .header))
 
-  -- nothing but a short output is refused
+  -- the call is refused only if the output is too short
   pub write-short : (output : ℕ) → writeRefusal numbered (s .header) (s .rows) output ≡ first (rung (ltb output (length (listingText numbered (tableListing numbered (p .opening) (p .generation) (p .rows))))) 2 ∷ [])
   unfolding writeRefusal storedText
   write-short output = rw stored-plain (unfold first in rw (represents-inside r, rows-long r))

@@ -17,13 +17,13 @@ headLine numbered h = textLine (headLetter numbered) (headNumbers numbered (open
 unfoldable pub rowLine : Bool → ℕ → List ℕ → List ℕ
 rowLine numbered number row = cond (isLive row) (textLine 68 (cond numbered (number ∷ row) row)) []
 
--- the lines of the live rows among the first of the store, numbered from here on
+-- the lines of the live rows among the first rows of the store, numbered from `number` on
 unfoldable pub rowLines : Bool → ℕ → ℕ → ℕ → List ℕ → List ℕ
 rowLines numbered columns number zero rows = []
 rowLines numbered columns number (suc count) rows =
     rowLine numbered number (take columns rows) ++ rowLines numbered columns (suc number) count (drop columns rows)
 
--- a header whose rows are few and narrow, and stored
+-- a header within the bounds, whose rows are in the store
 pub record Stored (h : Header) (rows : List ℕ) : Type 0 where
   pub narrow : h .columns ≤ 8
   pub few : h .rows ≤ 65536

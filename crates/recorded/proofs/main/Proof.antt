@@ -1,4 +1,4 @@
--- `recorded::main` is safe, and ends by its count of turns. Nothing has to hold from turn to turn. Assumes nothing.
+-- `recorded::main` is safe, and ends because its steps are counted. Its loop needs no invariant. Assumes nothing.
 use borrow.Author.Needs.{needs}
 use Rattle.recorded.proofs.main.Statement.{statement}
 use Rattle.recorded.proofs.main.Tie as tie

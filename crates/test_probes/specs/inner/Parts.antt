@@ -1,4 +1,4 @@
--- What the functions of single parts promise, where they are called for comparing and measuring. Assumes nothing.
+-- Contracts of the functions that are exported for comparison and measurement. Assumes nothing.
 use Prim.Native.Nat.{ℕ, _+_, _*_, _≤_}
 use mathlib.Core.Path.{_≡_, refl}
 use mathlib.Core.Bool.{Bool, true, false, true≢false, false≢true}
@@ -8,13 +8,13 @@ use Rattle.lists.specs.Lists.{putAt}
 use Rattle.key_index.specs.declared.Keyed.{Keyed}
 use Rattle.merge_rules.specs.Rules.{madeFrom, survivor}
 
--- a row made into a lent one: nothing is done where it does not fit
+-- a row is made in a lent one; nothing is done if it does not fit
 pub record MadeInto (rule keys sort : ℕ) (old new out : List ℕ) (r : Bool) (out′ : List ℕ) : Type 0 where
   pub done : r ≡ true → (length old ≡ length new) × (out′ ≡ putAt out 0 (madeFrom rule keys sort 0 old new))
   pub nothing : r ≡ false → ((length old ≡ length new) × (length old ≤ length out) → ⊥) × (out′ ≡ out)
 
--- a surviving row copied out: nothing is done under another rule than 0 and 1, where a row does not lie in its store, or
--- where it does not fit
+-- a surviving row is copied to the output; nothing is done under a rule other than 0 and 1, if a row is not within its store, or if
+-- it does not fit
 pub record Survives (rule keys sort width : ℕ) (rows : List ℕ) (old : ℕ) (pending : List ℕ) (new : ℕ) (out : List ℕ) (r : Bool) (out′ : List ℕ) : Type 0 where
   pub done : r ≡ true → (rule ≤ 1) × (out′ ≡ putAt out 0 (survivor rule keys sort (take width (drop old rows)) (take width (drop new pending))))
   pub nothing : r ≡ false → ((rule ≤ 1) × (old + width ≤ length rows) × (new + width ≤ length pending) × (width ≤ length out) → ⊥) × (out′ ≡ out)
@@ -37,7 +37,7 @@ module _ (rule keys sort width : ℕ) (rows : List ℕ) (old : ℕ) (pending : L
       → Survives rule keys sort width rows old pending new out true out′
   survives-done out′ q w = record { done = λ e. (q, w); nothing = λ e. absurd (true≢false e) }
 
--- a table's numbers are within their bounds, and these lengths of its row and key store enough
+-- a table's numbers are within their bounds, and these lengths of its row and key store are sufficient
 pub record Sized (t : Keyed) (rows store : ℕ) : Type 0 where
   pub some-columns : 1 ≤ t .columns
   pub most-columns : t .columns ≤ 8
