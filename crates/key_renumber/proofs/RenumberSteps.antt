@@ -13,8 +13,8 @@ use borrow.Author.Tests.{le-leb, lt-leb, eqb-true, not-false}
 use Rattle.lists.specs.inner.Searching.{mapFront}
 use Rattle.lists.specs.Laws.Front.{length-mapFront, getD-mapFront-past, mapFront-step}
 use Rattle.row_buffer.specs.Ranks.{setBelow, marks}
-use Rattle.marks.specs.inner.Marking.{otherAt}
-use Rattle.marks.specs.Laws.Lowest.{onward, onward-all, Next, next-mark, no-more}
+use Rattle.bitmap.specs.inner.Marking.{otherAt}
+use Rattle.bitmap.specs.Laws.Lowest.{onward, onward-all, Next, next-mark, no-more}
 use Rattle.key_index.specs.declared.Keyed.{Keyed}
 use Rattle.key_index.specs.Slots.{slots}
 use Rattle.key_index.specs.inner.Ring.{rowNamed, namesRow}

@@ -32,7 +32,7 @@ fn renumber_block(t: Keyed, store: &mut [u32], from: u32, count: u32, live: &[u6
     requires { ⌜ (Ranked t (now live) (now base)) × (Block (now store) from count) ⌝ }
     ensures { λ _. ⌜ BlockRenumbered t (now (live .entry)) (now (base .entry)) (now (store .entry)) from count (now (store .exit)) ⌝ }
 {
-    let mut word = marks::marks_other(store, from as usize, 1, count, 0);
+    let mut word = bitmap::word::marks_other(store, from as usize, 1, count, 0);
     while word != 0 {
         let at = (from + u64::trailing_zeros(word)) as usize;
         word = word & (word - 1);
@@ -48,7 +48,7 @@ pub fn renumber(t: Keyed, store: &mut [u32], live: &[u64], base: &[u32])
     let n = 2 * t.room;
     let mut at: u32 = 0;
     while at < n {
-        let count = marks::block(n - at);
+        let count = bitmap::word::block(n - at);
         renumber_block(t, store, at, count, live, base);
         at += count;
     }

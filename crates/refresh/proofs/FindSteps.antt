@@ -17,8 +17,8 @@ use Rattle.lists.specs.Laws.Keep.{split, and-left, and-right}
 use Rattle.constraints.specs.Constraints.{isLive}
 use Rattle.row_buffer.specs.Ranks.{setBelow, marks, countTo}
 use Rattle.row_buffer.specs.Laws.Rows.{below-marks}
-use Rattle.row_marks.specs.inner.Bitmaps.{Bitmap, Marked}
-use Rattle.row_marks.specs.Laws.Bitmaps.{marked-then, marked-weaker, marked-few, count-none}
+use Rattle.bitmap.specs.inner.Bitmaps.{Bitmap, Marked}
+use Rattle.bitmap.specs.Laws.Bitmaps.{marked-then, marked-weaker, marked-few, count-none}
 use Rattle.plain_table.specs.Plain.{Row, Numbered, liveFrom, liveRows}
 use Rattle.plain_table.specs.Refreshing.{Refresh, mentions, mentioning, refreshed}
 use Rattle.plain_table.specs.Laws.Rows.{noRow}

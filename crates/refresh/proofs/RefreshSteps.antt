@@ -16,7 +16,7 @@ use Rattle.lists.specs.Laws.Keep.{split}
 use Rattle.refusals.specs.Refusals.{rung, first, accepted}
 use Rattle.refusals.specs.Laws.Replies.{reply-refused, reply-accepted}
 use Rattle.row_buffer.specs.Ranks.{countTo}
-use Rattle.row_marks.specs.Laws.Bitmaps.{bitmap-none, countTo-le}
+use Rattle.bitmap.specs.Laws.Bitmaps.{bitmap-none, countTo-le}
 use Rattle.plain_table.specs.Staged.{Staged, wordsAll}
 use Rattle.plain_table.specs.Plain.{Numbered}
 use Rattle.plain_table.specs.Refusing.{overfull}

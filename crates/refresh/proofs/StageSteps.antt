@@ -18,7 +18,7 @@ use Rattle.lists.specs.Laws.Keep.{split, keep-append}
 use Rattle.lists.specs.Laws.Parts.{putAt-nil, putAt-then, length-putAt}
 use Rattle.lists.specs.Laws.Rising.{countFrom-snoc}
 use Rattle.lists.specs.Laws.Rows.{flat-append}
-use Rattle.marks.specs.Laws.Lowest.{onward, onward-all, Next, next-mark, no-more}
+use Rattle.bitmap.specs.Laws.Lowest.{onward, onward-all, Next, next-mark, no-more}
 use Rattle.row_buffer.specs.Ranks.{marks, countTo}
 use Rattle.plain_table.specs.Staged.{Staged, wordsOf, wordsAll}
 use Rattle.plain_table.specs.Plain.{Numbered}

@@ -7,8 +7,8 @@ use mathlib.Core.List.{List}
 use lib.ListN.{length, getD}
 use Rattle.lists.specs.Laws.Keep.{split}
 use Rattle.lists.specs.Laws.Every.{or-right}
-use Rattle.row_marks.specs.inner.Bitmaps.{Marked}
-use Rattle.row_marks.specs.Laws.Bitmaps.{bitmap-of, marked-none, marked-then, marked-weaker, marked-few}
+use Rattle.bitmap.specs.inner.Bitmaps.{Marked}
+use Rattle.bitmap.specs.Laws.Bitmaps.{bitmap-of, marked-none, marked-then, marked-weaker, marked-few}
 
 -- of all rows to be marked, those of the rest are yet to come
 pub record Going (all rest : ℕ → Bool) (words words′ : List ℕ) (more : ℕ) : Type 0 where

@@ -10,8 +10,8 @@ use Rattle.lists.specs.Laws.Keep.{and-right}
 use Rattle.cells.specs.Cells.{isDead}
 use Rattle.constraints.specs.Laws.Rows.{live-first}
 use Rattle.table.specs.declared.Header.{Header}
-use Rattle.row_marks.specs.inner.Bitmaps.{MarkedOne}
-use Rattle.row_marks.specs.Laws.Bitmaps.{marked-one, marked-none, marked-weaker}
+use Rattle.bitmap.specs.inner.Bitmaps.{MarkedOne}
+use Rattle.bitmap.specs.Laws.Bitmaps.{marked-one, marked-none, marked-weaker}
 use Rattle.refresh_spec.specs.Index.{leadsTo}
 use Rattle.refresh_index.specs.inner.Entries.{cellNamed, entryRow, entryLive, entryValue}
 use Rattle.refresh_index.specs.inner.Marking.{MarkedAll}

@@ -9,7 +9,7 @@ use lib.ListN.{length, drop, getD, drop-of-length-le}
 use lib.Seq.{drop-cons}
 use Rattle.lists.specs.Lists.{any}
 use Rattle.table.specs.declared.Header.{Header}
-use Rattle.row_marks.specs.Laws.Bitmaps.{marked-weaker}
+use Rattle.bitmap.specs.Laws.Bitmaps.{marked-weaker}
 use Rattle.refresh_spec.specs.Index.{rowsSeen, bucketOf, chain, entriesUnder, leadsTo, leads}
 use Rattle.refresh_spec.specs.inner.Finding.{Lendable, usable, ListedMarked}
 use Rattle.refresh_index.specs.inner.Entries.{headsAt}

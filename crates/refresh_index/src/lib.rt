@@ -176,7 +176,7 @@ fn mark_entry(
     if cell_named(h, rows, columns, row, place) != value {
         return 0;
     }
-    row_marks::mark(words, row)
+    bitmap::mark(words, row)
 }
 
 // Sets the bits of the rows that the entries under a value refer to. Each link refers to an entry below the last one, so the loop

@@ -23,8 +23,8 @@ use Rattle.key_index.specs.Laws.Places.{Inside, inside}
 use Rattle.plain_table.specs.Refreshing.{mentions}
 use Rattle.table.specs.declared.Header.{Header}
 use Rattle.table.specs.Laws.Refusals.{outside-inside}
-use Rattle.row_marks.specs.inner.Bitmaps.{MarkedOne, Marked}
-use Rattle.row_marks.specs.Laws.Bitmaps.{marked-one, marked-none, marked-then, marked-weaker}
+use Rattle.bitmap.specs.inner.Bitmaps.{MarkedOne, Marked}
+use Rattle.bitmap.specs.Laws.Bitmaps.{marked-one, marked-none, marked-then, marked-weaker}
 use Rattle.refresh_spec.specs.inner.Finding.{mentionsAt, mentionsFrom}
 use Rattle.refresh_scan.specs.inner.Scanning.{Scannable, mentionsOnly}
 

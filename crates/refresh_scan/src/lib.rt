@@ -8,7 +8,7 @@ ghost use lib.Dec.{ltb};
 ghost use lib.ListN.{length};
 ghost use Rattle.lists.specs.Lists.{every, has};
 ghost use Rattle.plain_table.specs.Refreshing.{mentions};
-ghost use Rattle.row_marks.specs.inner.Bitmaps.{Marked};
+ghost use Rattle.bitmap.specs.inner.Bitmaps.{Marked};
 ghost use Rattle.refresh_spec.specs.Index.{bucketOf};
 ghost use Rattle.refresh_spec.specs.inner.Finding.{mentionsFrom};
 ghost use Rattle.refresh_scan.specs.inner.Scanning.{Scannable, mentionsOnly, Linked};
@@ -97,7 +97,7 @@ fn mark_row(
     if !mentions_one(&rows[at..end], columns, values, links) {
         return 0;
     }
-    row_marks::mark(words, row)
+    bitmap::mark(words, row)
 }
 
 // Sets the bits of the rows from this one on that have a value of a part.

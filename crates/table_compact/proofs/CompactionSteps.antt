@@ -21,8 +21,8 @@ use Rattle.sort_entries.specs.Entries.{Entry, entryWords, push, pushAll, rebuil
 use Rattle.sort_entries.specs.inner.Append.{Append}
 use Rattle.sort_entries.specs.Laws.Push.{push-few}
 use Rattle.row_buffer.specs.Ranks.{liveAt, liveWord, marks, newNumber}
-use Rattle.marks.specs.inner.Marking.{Spaced, otherAt}
-use Rattle.marks.specs.Laws.Lowest.{marks-same, onward, onward-all, Next, next-mark, no-more}
+use Rattle.bitmap.specs.inner.Marking.{Spaced, otherAt}
+use Rattle.bitmap.specs.Laws.Lowest.{marks-same, onward, onward-all, Next, next-mark, no-more}
 use Rattle.key_index.specs.declared.Keyed.{Keyed}
 use Rattle.key_index.specs.Slots.{slots}
 use Rattle.key_index.specs.inner.Index.{Fits}

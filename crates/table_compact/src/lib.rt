@@ -78,10 +78,10 @@ fn close_up(
     let mut next: u32 = 0;
     while next < h.rows {
         let first = next;
-        let count = marks::block(h.rows - first);
+        let count = bitmap::word::block(h.rows - first);
         next += count;
         let from = (first * h.columns) as usize;
-        let word = marks::marks_other(rows, from, h.columns as usize, count, cells::STALE);
+        let word = bitmap::word::marks_other(rows, from, h.columns as usize, count, cells::STALE);
         let at = (first / 64) as usize;
         live[at] = word;
         base[at] = kept.rows;

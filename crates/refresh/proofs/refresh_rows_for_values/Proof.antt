@@ -2,7 +2,7 @@
 use mathlib.Core.Path.{sym, _∙_}
 use native.Mathlib.Omega.{arith}
 use lib.ListN.{length}
-use Rattle.row_marks.specs.Laws.Bitmaps.{bitmap-none}
+use Rattle.bitmap.specs.Laws.Bitmaps.{bitmap-none}
 use Rattle.refresh_spec.specs.inner.Finding.{Lendable}
 use borrow.Author.Needs.{needs}
 use Rattle.refresh.proofs.TestSteps.{Passed, passed, lendable}

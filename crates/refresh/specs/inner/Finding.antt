@@ -3,7 +3,7 @@ use Prim.Native.Nat.{ℕ}
 use mathlib.Core.Path.{_≡_}
 use mathlib.Core.Bool.{Bool, true}
 use mathlib.Core.List.{List}
-use Rattle.row_marks.specs.inner.Bitmaps.{Marked}
+use Rattle.bitmap.specs.inner.Bitmaps.{Marked}
 use Rattle.table.specs.declared.Header.{Header}
 use Rattle.refresh_spec.specs.Index.{IndexSound}
 use Rattle.refresh_spec.specs.inner.Finding.{mentionsAt}

@@ -6,7 +6,7 @@ use mathlib.Core.List.{List, map}
 use lib.ListN.{length}
 use Rattle.lists.specs.Lists.{putAt, keep, rowAt, flat, countFrom}
 use Rattle.row_buffer.specs.Ranks.{marks, countTo}
-use Rattle.row_marks.specs.inner.Bitmaps.{Bitmap}
+use Rattle.bitmap.specs.inner.Bitmaps.{Bitmap}
 use Rattle.plain_table.specs.Plain.{Numbered}
 use Rattle.plain_table.specs.Refreshing.{refreshed}
 use Rattle.table.specs.declared.Header.{Header}

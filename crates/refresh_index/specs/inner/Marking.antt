@@ -4,7 +4,7 @@ use mathlib.Core.Bool.{Bool}
 use mathlib.Core.List.{List}
 use Rattle.lists.specs.Lists.{any}
 use Rattle.table.specs.declared.Header.{Header}
-use Rattle.row_marks.specs.inner.Bitmaps.{Marked}
+use Rattle.bitmap.specs.inner.Bitmaps.{Marked}
 use Rattle.refresh_spec.specs.Index.{entriesUnder, leads}
 
 -- the bits of all rows that pass the test are set, and no others

@@ -3,8 +3,8 @@ use Prim.Native.Nat.{_-_, _≤_}
 use mathlib.Core.Path.{sym, _∙_}
 use borrow.Author.Needs.{needs}
 use native.Mathlib.Omega.{arith}
-use Rattle.row_marks.specs.inner.Bitmaps.{Marked}
-use Rattle.row_marks.specs.Laws.Bitmaps.{bitmap-of, marked-few}
+use Rattle.bitmap.specs.inner.Bitmaps.{Marked}
+use Rattle.bitmap.specs.Laws.Bitmaps.{bitmap-of, marked-few}
 use Rattle.refresh_spec.specs.inner.Finding.{mentionsFrom}
 use Rattle.refresh_scan.proofs.Marks.{scan-on, upTo, rows-begin, rows-on, rows-end}
 use Rattle.refresh_scan.proofs.mark_rows.Statement.{statement}

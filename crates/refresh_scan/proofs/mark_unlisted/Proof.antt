@@ -5,8 +5,8 @@ use mathlib.Core.Path.{sym, _∙_}
 use borrow.Author.Needs.{needs}
 use native.Mathlib.Omega.{arith}
 use lib.ListN.{length, take}
-use Rattle.row_marks.specs.inner.Bitmaps.{Marked}
-use Rattle.row_marks.specs.Laws.Bitmaps.{bitmap-of, marked-few}
+use Rattle.bitmap.specs.inner.Bitmaps.{Marked}
+use Rattle.bitmap.specs.Laws.Bitmaps.{bitmap-of, marked-few}
 use Rattle.refresh_spec.specs.inner.Finding.{mentionsFrom}
 use Rattle.refresh_scan.proofs.Marks.{scan-on, no-rows, part-few, parts-begin, parts-on, parts-end}
 use Rattle.refresh_scan.proofs.mark_unlisted.Statement.{statement}

@@ -11,7 +11,7 @@ use Rattle.constraints.specs.Constraints.{isLive}
 use Rattle.plain_table.specs.Refreshing.{mentions}
 use Rattle.table.specs.declared.Header.{Header}
 use Rattle.table.specs.Refusing.{outside}
-use Rattle.row_marks.specs.inner.Bitmaps.{Marked}
+use Rattle.bitmap.specs.inner.Bitmaps.{Marked}
 use Rattle.refresh_spec.specs.Index.{isNew, generationSeen, rowsSeen, columnsNamed, IndexOf, Current}
 
 -- row i is live and mentions a value

@@ -1,1 +1,2 @@
 pub mod MarkSteps
+pub mod Marking

@@ -15,9 +15,9 @@ use lib.Pow.{mod-pow-add}
 use borrow.Author.Tests.{eq-eqb, ne-eqb, eqb-true}
 use Rattle.lists.specs.Laws.Keep.{split}
 use Rattle.lists.specs.Laws.Every.{or-right, or-second}
-use Rattle.marks.specs.Laws.Lowest.{marks-same}
+use Rattle.bitmap.specs.Laws.Lowest.{marks-same}
 use Rattle.row_buffer.specs.Ranks.{marks, countTo}
-use Rattle.row_marks.specs.inner.Bitmaps.{Bitmap, MarkedOne, Marked}
+use Rattle.bitmap.specs.inner.Bitmaps.{Bitmap, MarkedOne, Marked}
 
 -- ---- setting one bit, in a sum over the bits; words and counts are such sums
 

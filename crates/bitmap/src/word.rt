@@ -3,7 +3,7 @@
 ghost use mathlib.Core.Path.{_≡_};
 ghost use Prim.Native.Nat.{min};
 ghost use Rattle.row_buffer.specs.Ranks.{marks};
-ghost use Rattle.marks.specs.inner.Marking.{Spaced, otherAt};
+ghost use Rattle.bitmap.specs.inner.Marking.{Spaced, otherAt};
 
 // The number of the remaining positions that the next word covers.
 pub fn block(left: u32) -> u32

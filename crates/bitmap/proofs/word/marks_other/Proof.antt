@@ -1,9 +1,9 @@
--- `marks::marks_other` meets its contract. Assumes nothing.
+-- `bitmap::word::marks_other` meets its contract. Assumes nothing.
 use Prim.Native.Nat.{_-_}
 use native.Mathlib.Omega.{arith}
-use Rattle.marks.proofs.MarkSteps.{Marked, marked-begin, word-below, place-in, marked-other, marked-same, marked-end}
-use Rattle.marks.proofs.marks_other.Statement.{statement}
-use Rattle.marks.proofs.marks_other.Tie as tie
+use Rattle.bitmap.proofs.MarkSteps.{Marked, marked-begin, word-below, place-in, marked-other, marked-same, marked-end}
+use Rattle.bitmap.proofs.word.marks_other.Statement.{statement}
+use Rattle.bitmap.proofs.word.marks_other.Tie as tie
 
 abbrev Inv-loop : tie.InvT-loop
 Inv-loop cells from stride count than word₀ at₀ bit₀ word at bit = Marked cells from stride count than word at bit

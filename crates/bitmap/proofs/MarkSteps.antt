@@ -11,7 +11,7 @@ use borrow.Author.Tests.{eq-eqb, ne-eqb}
 use Rattle.lists.specs.Laws.Rows.{row-in}
 use Rattle.row_buffer.specs.Ranks.{marks}
 use Rattle.row_buffer.specs.Laws.Rows.{marks-yes, marks-no, marks-lt}
-use Rattle.marks.specs.inner.Marking.{Spaced, otherAt}
+use Rattle.bitmap.specs.inner.Marking.{Spaced, otherAt}
 
 module _ (cells : List ℕ) (from stride count than : ℕ) where
   -- what holds at the loop's head

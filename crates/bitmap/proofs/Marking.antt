@@ -15,11 +15,11 @@ use lib.Pow.{pow-pos, shl-exact}
 use lib.Seq.{getD-set-same, getD-set-other}
 use borrow.Author.Tests.{eq-eqb, ne-eqb, eqb-true, eqb-false}
 use Rattle.lists.specs.Laws.Keep.{split}
-use Rattle.marks.specs.Laws.Lowest.{marks-same}
+use Rattle.bitmap.specs.Laws.Lowest.{marks-same}
 use Rattle.row_buffer.specs.Ranks.{setBelow, marks, countTo}
 use Rattle.row_buffer.specs.Laws.Rows.{below-marks}
-use Rattle.row_marks.specs.inner.Bitmaps.{Bitmap, MarkedOne}
-use Rattle.row_marks.specs.Laws.Bitmaps.{marks-with}
+use Rattle.bitmap.specs.inner.Bitmaps.{Bitmap, MarkedOne}
+use Rattle.bitmap.specs.Laws.Bitmaps.{marks-with}
 
 module _ (f : ℕ → Bool) (k n : ℕ) (h : k < n) where
   digit-of : marks f n / 2 ^ k % 2 ≡ cond (f k) 1 0

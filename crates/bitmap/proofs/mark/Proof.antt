@@ -1,8 +1,8 @@
--- `row_marks::mark` meets its contract. Assumes nothing.
+-- `bitmap::mark` meets its contract. Assumes nothing.
 use borrow.Author.Needs.{needs}
-use Rattle.row_marks.proofs.Marking.{marked-new, marked-already}
-use Rattle.row_marks.proofs.mark.Statement.{statement}
-use Rattle.row_marks.proofs.mark.Tie as tie
+use Rattle.bitmap.proofs.Marking.{marked-new, marked-already}
+use Rattle.bitmap.proofs.mark.Statement.{statement}
+use Rattle.bitmap.proofs.mark.Tie as tie
 
 returns : tie.Need-returns
 returns c = marked-new _ _ (c .before .before .pre .0) (c .before .before .pre .1) (c .if1 .taken)

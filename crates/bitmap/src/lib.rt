@@ -2,7 +2,9 @@
 ghost use mathlib.Core.Path.{_≡_};
 ghost use Prim.Native.Nat.{_<_};
 ghost use lib.ListN.{length};
-ghost use Rattle.row_marks.specs.inner.Bitmaps.{MarkedOne};
+ghost use Rattle.bitmap.specs.inner.Bitmaps.{MarkedOne};
+
+pub mod word; // word.rt: the marks of up to 64 places in one word
 
 // The number of words of a bitmap for the maximal number of rows of a table.
 pub const WORDS: usize = 1024;
