@@ -1,13 +1,13 @@
 // Makes the lookups, range queries and version queries of the recorded list on the library. Returns each answer in the list's form.
-use recorded_lines::Said;
-use recorded_lines::further;
-use recorded_lines::number_at;
-use recorded_lines::part;
-use recorded_lines::refused;
-use recorded_lines::tell;
-use recorded_lines::tell_one;
-use recorded_lines::tell_three;
-use recorded_lines::tell_two;
+use super::lines::Said;
+use super::lines::further;
+use super::lines::number_at;
+use super::lines::part;
+use super::lines::refused;
+use super::lines::tell;
+use super::lines::tell_one;
+use super::lines::tell_three;
+use super::lines::tell_two;
 use table::CellAnswer;
 use table::Header;
 use table::RangeAnswer;

@@ -1,20 +1,20 @@
 // Dispatches the queries of the recorded list by their letters, and makes those over subsets on the library.
+use super::lines::Said;
+use super::lines::UNASKED;
+use super::lines::further;
+use super::lines::number_at;
+use super::lines::part;
+use super::lines::refused;
+use super::lines::tell;
+use super::lines::tell_three;
+use super::lines::tell_two;
+use super::lookups::look_up;
+use super::lookups::one_cell;
+use super::lookups::range_told;
+use super::lookups::version;
 use constraints::Constraint;
 use offsets::SubsetAnswer;
 use offsets::SubsetHead;
-use recorded_lines::Said;
-use recorded_lines::UNASKED;
-use recorded_lines::further;
-use recorded_lines::number_at;
-use recorded_lines::part;
-use recorded_lines::refused;
-use recorded_lines::tell;
-use recorded_lines::tell_three;
-use recorded_lines::tell_two;
-use recorded_lookups::look_up;
-use recorded_lookups::one_cell;
-use recorded_lookups::range_told;
-use recorded_lookups::version;
 use table::Header;
 
 // Reads the condition that begins at `place`.

@@ -1,7 +1,7 @@
 -- `recorded::main` is safe, and ends because its steps are counted. Its loop needs no invariant. Assumes nothing.
 use borrow.Author.Needs.{needs}
-use Rattle.recorded.proofs.main.Statement.{statement}
-use Rattle.recorded.proofs.main.Tie as tie
+use Rattle.test_recorded.proofs.main.Statement.{statement}
+use Rattle.test_recorded.proofs.main.Tie as tie
 
 abbrev Inv-loop : tie.InvT-loop
 Inv-loop text rows₀ keys₀ sorts₀ pending₀ state₀ turns₀ rows keys sorts pending state turns =

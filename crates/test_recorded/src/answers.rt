@@ -1,9 +1,9 @@
 // Compares answers with those of the recorded list, and counts how many agree.
-use recorded_lines::Said;
-use recorded_lines::UNASKED;
-use recorded_lines::further;
-use recorded_lines::part;
-use recorded_lines::read_line;
+use test_recorded_calls::lines::Said;
+use test_recorded_calls::lines::UNASKED;
+use test_recorded_calls::lines::further;
+use test_recorded_calls::lines::part;
+use test_recorded_calls::lines::read_line;
 
 // How many answers the list has, how many were compared, and how many agreed.
 pub struct Counts {

@@ -1,13 +1,13 @@
 // One step of the program `recorded`: a line of the recorded list, the call or query in it, and its answer.
-use recorded_answers::Counts;
-use recorded_answers::judge;
-use recorded_calls::call;
-use recorded_calls::is_call;
-use recorded_lines::Said;
-use recorded_lines::part;
-use recorded_lines::read_line;
-use recorded_questions::ask;
+use super::answers::Counts;
+use super::answers::judge;
 use table::Header;
+use test_recorded_calls::call;
+use test_recorded_calls::is_call;
+use test_recorded_calls::lines::Said;
+use test_recorded_calls::lines::part;
+use test_recorded_calls::lines::read_line;
+use test_recorded_calls::queries::ask;
 
 // Makes a call or query, dispatched by its letter.
 fn serve(

@@ -1,13 +1,16 @@
 // The program `recorded`: reads the recorded list from standard input, makes each of its calls and queries on the library, and
 // compares the answers with those of the list. It prints how many answers the list has, how many were compared, and how many
 // agreed. It skips queries with a list of conditions.
+use answers::Counts;
 use libc::STDIN_FILENO;
 use libc::STDOUT_FILENO;
-use recorded_answers::Counts;
-use recorded_turns::State;
-use recorded_turns::turn;
 use table::Header;
 use table::Largest;
+use turns::State;
+use turns::turn;
+
+mod answers; // answers.rt: answers compared with those of the list
+mod turns; // turns.rt: a line and its answer
 
 // The header before the first opening. Every operation refuses it.
 fn no_table() -> Header {

@@ -1,13 +1,17 @@
 // Makes the calls of the recorded list on the library. Returns each answer in the list's form.
-use recorded_lines::Said;
-use recorded_lines::number_at;
-use recorded_lines::part;
-use recorded_lines::refused;
-use recorded_lines::tell;
-use recorded_lines::tell_three;
+use lines::Said;
+use lines::number_at;
+use lines::part;
+use lines::refused;
+use lines::tell;
+use lines::tell_three;
 use table::Header;
 use table::MergeAnswer;
 use table::TableAnswer;
+
+pub mod lines; // lines.rt: the lines of the list
+pub mod lookups; // lookups.rt: its lookups, ranges and versions
+pub mod queries; // queries.rt: its questions
 
 fn taken(h: Header, answer: TableAnswer) -> Said {
     match answer {
