@@ -1,2 +1,4 @@
 -- What follows from the definitions.
 pub mod Lines
+pub mod Decimals
+pub mod Reads

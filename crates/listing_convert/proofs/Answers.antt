@@ -16,7 +16,7 @@ use Rattle.lists.specs.Laws.Rising.{bool-ext}
 use Rattle.refusals.specs.Refusals.{first, refused, reply}
 use Rattle.refusals.specs.Laws.Replies.{reply-refused}
 use Rattle.levels_text.specs.Written.{textLine}
-use Rattle.levels_written.specs.inner.Appending.{Appended, appended-then, appended-put}
+use Rattle.levels_text.specs.inner.Appending.{Appended, appended-then, appended-put}
 use Rattle.listing_spec.specs.declared.MoveAnswer.the-variants.{Refused, Written}
 use Rattle.listing_spec.specs.Listings.{Listing, headLetter, listingText, numberedFrom, toNumbered, fromNumbered, lacksRow, movedText, moveRefusal, moveSays, ListingMoved}
 use Rattle.listing_spec.specs.inner.Checking.{textGood, listingIn}

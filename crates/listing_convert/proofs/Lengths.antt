@@ -10,7 +10,7 @@ use Rattle.lists.specs.Lists.{flat, countFrom}
 use Rattle.lists.specs.Laws.Parts.{take-drop}
 use Rattle.lists.specs.Laws.Rising.{countFrom-snoc, length-countFrom}
 use Rattle.levels_text.specs.Written.{field}
-use Rattle.levels_written.specs.Laws.Decimals.{fields-more, length-fields}
+use Rattle.levels_text.specs.Laws.Decimals.{fields-more, length-fields}
 use Rattle.listing_spec.specs.Listings.{lead}
 use Rattle.listing_spec.specs.Laws.Moves.{fieldsLength}
 use Rattle.listing_convert.specs.inner.Moving.{movedRow}

@@ -8,7 +8,7 @@ use native.Mathlib.Omega.{arith}
 use lib.ListN.{length, take, length-append}
 use Rattle.lists.specs.Lists.{flat}
 use Rattle.levels_text.specs.Written.{textLine}
-use Rattle.levels_written.specs.inner.Appending.{Appended, appended-none, appended-then}
+use Rattle.levels_text.specs.inner.Appending.{Appended, appended-none, appended-then}
 use Rattle.listing_spec.specs.Listings.{lead}
 use Rattle.listing_parse.specs.inner.Lines.{Found}
 use Rattle.listing_parse.specs.Laws.Steps.{rowsFrom, Awaited, awaited-next, awaited-row, none-from}

@@ -16,8 +16,8 @@ use Rattle.constraints.specs.Constraints.{isLive}
 use Rattle.table.specs.declared.Header.{Header}
 use Rattle.table.specs.Refusing.{outside, rowsShort}
 use Rattle.levels_text.specs.Written.{field, textLine}
-use Rattle.levels_written.specs.Laws.Decimals.{fields-more, length-fields, length-line, length-numbered}
-use Rattle.levels_written.specs.inner.Appending.{Appended, appended-none, appended-then, appended-put}
+use Rattle.levels_text.specs.Laws.Decimals.{fields-more, length-fields, length-line, length-numbered}
+use Rattle.levels_text.specs.inner.Appending.{Appended, appended-none, appended-then, appended-put}
 use Rattle.listing_spec.specs.declared.MoveAnswer.the-variants.{Refused, Written}
 use Rattle.listing_spec.specs.Listings.{headLetter, moveSays}
 use Rattle.listing_write.specs.Writing.{headNumbers, storedText, writeRefusal, ListingWritten}

@@ -1,6 +1,6 @@
 -- `levels_told::tell` meets its contract. Assumes nothing.
 use native.Mathlib.Omega.{arith}
-use Rattle.levels_written.specs.inner.Appending.{appended-wrote}
+use Rattle.levels_text.specs.inner.Appending.{appended-wrote}
 use Rattle.levels_told.specs.inner.Telling.{tells-nothing, tells-refused, tells-merged, tells-none, tells-range, tells-version, tells-listing}
 use borrow.Author.Needs.{needs}
 use Rattle.levels_told.proofs.tell.Statement.{statement}

@@ -8,7 +8,7 @@ use lib.ListN.{length, take}
 use Rattle.table.specs.declared.Header.{Header}
 use Rattle.table.specs.Laws.Refusals.{outside-inside}
 use Rattle.levels_text.specs.Written.{textLine}
-use Rattle.levels_written.specs.inner.Appending.{Wrote}
+use Rattle.levels_text.specs.inner.Appending.{Wrote}
 use Rattle.listing_spec.specs.declared.MoveAnswer.{MoveAnswer}
 use Rattle.listing_spec.specs.declared.MoveAnswer.the-variants.{Refused as NotWritten, Written}
 use Rattle.listing_write.specs.Writing.{storedText, ListingWritten}

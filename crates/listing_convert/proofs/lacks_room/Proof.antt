@@ -1,6 +1,6 @@
 -- `listing_convert::lacks_room` meets its contract. Assumes nothing.
 use native.Mathlib.Omega.{arith}
-use Rattle.levels_written.specs.Laws.Decimals.{length-field}
+use Rattle.levels_text.specs.Laws.Decimals.{length-field}
 use Rattle.listing_convert.proofs.Lengths.{numbers-few, fields-sum}
 use Rattle.listing_convert.proofs.Answers.{length-back, length-under, length-forth}
 use borrow.Author.Needs.{needs}

@@ -2,7 +2,7 @@
 use Prim.Native.Nat.{_-_}
 use native.Mathlib.Omega.{arith}
 use Rattle.listing_convert.proofs.Lengths.{Summing, summing-begin, summing-few, summing-more, summing-end}
-use Rattle.levels_written.specs.Laws.Decimals.{length-field}
+use Rattle.levels_text.specs.Laws.Decimals.{length-field}
 use borrow.Author.Needs.{needs}
 use Rattle.listing_convert.proofs.numbers_length.Statement.{statement}
 use Rattle.listing_convert.proofs.numbers_length.Tie as tie

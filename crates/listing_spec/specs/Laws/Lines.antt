@@ -16,8 +16,8 @@ use Rattle.lists.specs.Laws.Keep.{split, and-left, and-right}
 use Rattle.levels_text.specs.Lines.{valueFrom, isDecimal, isLine, letter, numbers, fields}
 use Rattle.levels_text.specs.Written.{decimal, field, textLine}
 use Rattle.levels_text.specs.Laws.Lines.{first, others, first-comma, first-more, others-comma, others-more, digit, is-line}
-use Rattle.levels_written.specs.Laws.Decimals.{length-fields}
-use Rattle.levels_written.specs.Laws.Reads.{decimal-value, decimal-read}
+use Rattle.levels_text.specs.Laws.Decimals.{length-fields}
+use Rattle.levels_text.specs.Laws.Reads.{decimal-value, decimal-read}
 use Rattle.listing_spec.specs.Listings.{areNumbers}
 use Rattle.listing_spec.specs.Laws.Decimals.{decimal-back, decimal-parts}
 

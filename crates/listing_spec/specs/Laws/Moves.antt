@@ -15,7 +15,7 @@ use Rattle.lists.specs.Laws.Every.{every-head, every-tail}
 use Rattle.lists.specs.Laws.Keep.{split, every-getD, every-of}
 use Rattle.lists.specs.Laws.Rising.{bool-ext, within-of, within-high, length-countFrom, getD-countFrom, rising-countFrom, has-at, has-of, has-countFrom, rising-ext, rising-gap}
 use Rattle.levels_text.specs.Written.{field, textLine}
-use Rattle.levels_written.specs.Laws.Decimals.{fields-more, length-line}
+use Rattle.levels_text.specs.Laws.Decimals.{fields-more, length-line}
 use Rattle.listing_spec.specs.Listings.{Listing, headLetter, headWidth, listingText, lead, isRow, rowNumbers, isListing, numberedFrom, toNumbered, fromNumbered, lacksRow}
 use Rattle.listing_spec.specs.Laws.Texts.{rising-from, Bounded, listing-parts, head-wide, row-parts}
 

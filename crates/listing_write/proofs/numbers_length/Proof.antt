@@ -2,7 +2,7 @@
 use Prim.Native.Nat.{_-_}
 use native.Mathlib.Omega.{arith}
 use lib.ListN.{length, getD}
-use Rattle.levels_written.specs.Laws.Decimals.{length-field}
+use Rattle.levels_text.specs.Laws.Decimals.{length-field}
 use Rattle.listing_write.proofs.Steps.{Counting, counting-begin, counting-few, counting-again, counting-end}
 use borrow.Author.Needs.{needs}
 use Rattle.listing_write.proofs.numbers_length.Statement.{statement}

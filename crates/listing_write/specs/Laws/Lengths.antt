@@ -10,7 +10,7 @@ use Rattle.lists.specs.Laws.Keep.{split}
 use Rattle.constraints.specs.Constraints.{isLive}
 use Rattle.table.specs.declared.Header.{Header}
 use Rattle.levels_text.specs.Written.{textLine}
-use Rattle.levels_written.specs.Laws.Decimals.{length-written}
+use Rattle.levels_text.specs.Laws.Decimals.{length-written}
 use Rattle.listing_spec.specs.Listings.{headLetter}
 use Rattle.listing_write.specs.Writing.{headNumbers, storedText}
 use Rattle.listing_write.specs.inner.Lines.{headLine, rowLine, rowLines}

@@ -1,9 +1,9 @@
--- `levels_written::number_length` meets its contract. Assumes nothing.
+-- `levels_text::write::number_length` meets its contract. Assumes nothing.
 use native.Mathlib.Omega.{arith}
-use Rattle.levels_written.specs.Laws.Decimals.{few-digits, field-length}
+use Rattle.levels_text.specs.Laws.Decimals.{few-digits, field-length}
 use borrow.Author.Needs.{needs}
-use Rattle.levels_written.proofs.number_length.Statement.{statement}
-use Rattle.levels_written.proofs.number_length.Tie as tie
+use Rattle.levels_text.proofs.write.number_length.Statement.{statement}
+use Rattle.levels_text.proofs.write.number_length.Tie as tie
 
 decimal-requires : tie.Need-decimal-requires
 decimal-requires c κs = search needs

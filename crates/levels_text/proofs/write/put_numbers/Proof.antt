@@ -1,11 +1,11 @@
--- `levels_written::put_numbers` meets its contract. The loop's invariant: the numbers passed are put. Assumes nothing.
+-- `levels_text::write::put_numbers` meets its contract. The loop's invariant: the numbers passed are put. Assumes nothing.
 use Prim.Native.Nat.{_-_}
 use native.Mathlib.Omega.{arith}
 use lib.ListN.{length}
-use Rattle.levels_written.specs.inner.Appending.{Numbering, numbering-begin, numbering-next, numbering-again, numbering-end}
+use Rattle.levels_text.specs.inner.Appending.{Numbering, numbering-begin, numbering-next, numbering-again, numbering-end}
 use borrow.Author.Needs.{needs}
-use Rattle.levels_written.proofs.put_numbers.Statement.{statement}
-use Rattle.levels_written.proofs.put_numbers.Tie as tie
+use Rattle.levels_text.proofs.write.put_numbers.Statement.{statement}
+use Rattle.levels_text.proofs.write.put_numbers.Tie as tie
 
 abbrev Inv-loop : tie.InvT-loop
 Inv-loop text₀ used numbers end₀ i₀ text end i =

@@ -1,10 +1,10 @@
--- `levels_written::put_numbered` meets its contract. Assumes nothing.
+-- `levels_text::write::put_numbered` meets its contract. Assumes nothing.
 use native.Mathlib.Omega.{arith}
-use Rattle.levels_written.specs.Laws.Decimals.{length-numbered}
-use Rattle.levels_written.specs.inner.Appending.{appended-numbered}
+use Rattle.levels_text.specs.Laws.Decimals.{length-numbered}
+use Rattle.levels_text.specs.inner.Appending.{appended-numbered}
 use borrow.Author.Needs.{needs}
-use Rattle.levels_written.proofs.put_numbered.Statement.{statement}
-use Rattle.levels_written.proofs.put_numbered.Tie as tie
+use Rattle.levels_text.proofs.write.put_numbered.Statement.{statement}
+use Rattle.levels_text.proofs.write.put_numbered.Tie as tie
 
 put-requires : tie.Need-put-requires
 put-requires c κs =

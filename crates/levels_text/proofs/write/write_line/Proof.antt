@@ -1,10 +1,10 @@
--- `levels_written::write_line` meets its contract. Assumes nothing.
-use Rattle.levels_written.specs.inner.Appending.{line-wrote}
+-- `levels_text::write::write_line` meets its contract. Assumes nothing.
+use Rattle.levels_text.specs.inner.Appending.{line-wrote}
 use native.Mathlib.Omega.{arith}
-use Rattle.levels_written.specs.Laws.Decimals.{length-written}
+use Rattle.levels_text.specs.Laws.Decimals.{length-written}
 use borrow.Author.Needs.{needs}
-use Rattle.levels_written.proofs.write_line.Statement.{statement}
-use Rattle.levels_written.proofs.write_line.Tie as tie
+use Rattle.levels_text.proofs.write.write_line.Statement.{statement}
+use Rattle.levels_text.proofs.write.write_line.Tie as tie
 
 put-line-requires : tie.Need-put-line-requires
 put-line-requires c κs = omega (arith, length-written (c .before .before .before .args .letter) (c .before .before .before .args .numbers .now), c .before .before .before .pre)

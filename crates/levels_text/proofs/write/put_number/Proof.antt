@@ -1,10 +1,10 @@
--- `levels_written::put_number` meets its contract. Assumes nothing.
+-- `levels_text::write::put_number` meets its contract. Assumes nothing.
 use native.Mathlib.Omega.{arith}
-use Rattle.levels_written.specs.Laws.Decimals.{field-length, field-some}
-use Rattle.levels_written.specs.inner.Appending.{appended-number}
+use Rattle.levels_text.specs.Laws.Decimals.{field-length, field-some}
+use Rattle.levels_text.specs.inner.Appending.{appended-number}
 use borrow.Author.Needs.{needs}
-use Rattle.levels_written.proofs.put_number.Statement.{statement}
-use Rattle.levels_written.proofs.put_number.Tie as tie
+use Rattle.levels_text.proofs.write.put_number.Statement.{statement}
+use Rattle.levels_text.proofs.write.put_number.Tie as tie
 
 decimal-requires : tie.Need-decimal-requires
 decimal-requires c κs = search needs

@@ -1,10 +1,10 @@
--- `levels_written::put_line` meets its contract. Assumes nothing.
+-- `levels_text::write::put_line` meets its contract. Assumes nothing.
 use native.Mathlib.Omega.{arith}
-use Rattle.levels_written.specs.Laws.Decimals.{length-line}
-use Rattle.levels_written.specs.inner.Appending.{appended-line}
+use Rattle.levels_text.specs.Laws.Decimals.{length-line}
+use Rattle.levels_text.specs.inner.Appending.{appended-line}
 use borrow.Author.Needs.{needs}
-use Rattle.levels_written.proofs.put_line.Statement.{statement}
-use Rattle.levels_written.proofs.put_line.Tie as tie
+use Rattle.levels_text.proofs.write.put_line.Statement.{statement}
+use Rattle.levels_text.proofs.write.put_line.Tie as tie
 
 put-requires : tie.Need-put-requires
 put-requires c κs = omega (arith, length-line (c .before .before .before .args .letter) (c .before .before .before .args .numbers .now), c .before .before .before .pre)

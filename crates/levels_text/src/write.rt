@@ -4,8 +4,8 @@ ghost use mathlib.Core.List.{[], _∷_, map};
 ghost use Prim.Native.Nat.{_+_, _*_, _≤_, _<_};
 ghost use lib.ListN.{length};
 ghost use Rattle.lists.specs.Lists.{flat};
 ghost use Rattle.levels_text.specs.Written.{field, textLine};
-ghost use Rattle.levels_written.specs.inner.Appending.{Appended, Wrote};
+ghost use Rattle.levels_text.specs.inner.Appending.{Appended, Wrote};
 
 // Appends one byte.
 fn put(text: &mut [u8], used: usize, byte: u8) -> usize

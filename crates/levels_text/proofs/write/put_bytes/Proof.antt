@@ -1,10 +1,10 @@
--- `levels_written::put_bytes` meets its contract. The loop's invariant: the bytes passed are put. Assumes nothing.
+-- `levels_text::write::put_bytes` meets its contract. The loop's invariant: the bytes passed are put. Assumes nothing.
 use Prim.Native.Nat.{_-_}
 use lib.ListN.{length}
 use borrow.Author.Needs.{needs}
-use Rattle.levels_written.specs.inner.Appending.{Putting, putting-begin, putting-again, putting-end}
-use Rattle.levels_written.proofs.put_bytes.Statement.{statement}
-use Rattle.levels_written.proofs.put_bytes.Tie as tie
+use Rattle.levels_text.specs.inner.Appending.{Putting, putting-begin, putting-again, putting-end}
+use Rattle.levels_text.proofs.write.put_bytes.Statement.{statement}
+use Rattle.levels_text.proofs.write.put_bytes.Tie as tie
 
 abbrev Inv-loop : tie.InvT-loop
 Inv-loop text₀ used bytes end₀ i₀ text end i =

@@ -8,8 +8,8 @@ use lib.ListN.{length, take, drop, getD, set, length-append, take-append-drop}
 use lib.Seq.{take-suc, take-all, take-suc-set, drop-set-lt, drop-drop}
 use Rattle.io.specs.Digits.{digits, Fewest}
 use Rattle.lists.specs.Lists.{putAt, flat}
 use Rattle.levels_text.specs.Written.{field, textLine}
-use Rattle.levels_written.specs.Laws.Decimals.{decimal-digits, fields-more, fields-front, length-written}
+use Rattle.levels_text.specs.Laws.Decimals.{decimal-digits, fields-more, fields-front, length-written}
 
 -- The text has these bytes after its first `used`, up to `end`. The bytes after them do not change.
 pub record Appended (text : List ℕ) (used : ℕ) (bytes text′ : List ℕ) (end : ℕ) : Type 0 where
