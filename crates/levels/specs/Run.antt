@@ -14,9 +14,9 @@ use Rattle.table.specs.Promises.{Stores, stores}
 use Rattle.levels_spec.specs.Said.{lineTurn}
 use Rattle.levels_spec.specs.Answers.{Held}
 use Rattle.levels_spec.specs.Session.{programLengths}
-use Rattle.levels_input.specs.declared.Input.{Input}
-use Rattle.levels_input.specs.Input.{bytesRead, unread, InputIn, AtEnd, Begun}
-use Rattle.levels_output.specs.declared.Handed.{Handed}
+use Rattle.levels_io.specs.declared.input.Input.{Input}
+use Rattle.levels_io.specs.Input.{bytesRead, unread, InputIn, AtEnd, Begun}
+use Rattle.levels_io.specs.declared.output.Handed.{Handed}
 use Rattle.levels.specs.declared.State.{State}
 
 -- The state of the program between two steps: its table; the bytes of a line whose newline is not found yet; the bytes after them

@@ -10,7 +10,7 @@ use Rattle.lists.specs.Laws.Rows.{flat-append}
 use Rattle.levels_spec.specs.Said.{lineTurn}
 use Rattle.levels_spec.specs.Session.{programLengths, linesIn, session, printed}
 use Rattle.levels_spec.specs.Laws.Session.{lines-ended, lines-last}
-use Rattle.levels_output.specs.declared.Handed.{Handed}
+use Rattle.levels_io.specs.declared.output.Handed.{Handed}
 use Rattle.levels.specs.Run.{Program, Turn, line-turn, read-turn, last-turn, over-turn, Turns, begin, then, Machine, bytesHanded, Ending, input-over, write-failed, Ran, input, output, Begins}
 
 -- the bytes that a program still prints if these bytes are all that is still read

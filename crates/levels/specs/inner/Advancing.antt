@@ -4,11 +4,11 @@ use mathlib.Core.Path.{_≡_}
 use mathlib.Core.Bool.{Bool, true, false}
 use mathlib.Core.List.{List}
 use lib.ListN.{length}
-use Rattle.levels_input.specs.declared.Input.{Input}
-use Rattle.levels_input.specs.declared.Taken.{Taken}
-use Rattle.levels_input.specs.Input.{bytesRead, unread, AtEnd}
-use Rattle.levels_input.specs.inner.Taking.{Refilled, LineTaken}
-use Rattle.levels_output.specs.inner.Flushing.{RoomMade}
+use Rattle.levels_io.specs.declared.input.Input.{Input}
+use Rattle.levels_io.specs.declared.input.Taken.{Taken}
+use Rattle.levels_io.specs.Input.{bytesRead, unread, AtEnd}
+use Rattle.levels_io.specs.inner.Taking.{Refilled, LineTaken}
+use Rattle.levels_io.specs.inner.Flushing.{RoomMade}
 use Rattle.levels.specs.declared.Step.{Step}
 
 -- All buffered bytes are written; then a read is made, unless the write failed.

@@ -11,10 +11,10 @@ use Rattle.lists.specs.Laws.Keep.{split}
 use Rattle.table.specs.declared.Header.{Header}
 use Rattle.table.specs.Refusing.{outside}
 use Rattle.levels_spec.specs.Answers.{no-table}
-use Rattle.levels_input.specs.declared.Input.{Input}
-use Rattle.levels_input.specs.Input.{bytesRead}
-use Rattle.levels_input.specs.inner.Taking.{Refilled}
-use Rattle.levels_output.specs.declared.Handed.{Handed}
+use Rattle.levels_io.specs.declared.input.Input.{Input}
+use Rattle.levels_io.specs.Input.{bytesRead}
+use Rattle.levels_io.specs.inner.Taking.{Refilled}
+use Rattle.levels_io.specs.declared.output.Handed.{Handed}
 use Rattle.levels.specs.declared.State.{State}
 use Rattle.levels.specs.declared.Ended.{Ended}
 use Rattle.levels.specs.Run.{Program, program, Turn, last-turn, over-turn, Turns, begin, then, Machine, machine, Holds, Within, brought, Turned, input-over, write-failed, Ran}

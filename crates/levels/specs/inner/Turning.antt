@@ -17,13 +17,13 @@ use Rattle.levels_spec.specs.Answers.{Held, lent}
 use Rattle.levels_spec.specs.Session.{programLengths}
 use Rattle.levels_spec.specs.Laws.Kept.{line-kept}
 use Rattle.levels_answers.specs.inner.Reading.{AnsweringBehind}
-use Rattle.levels_input.specs.declared.Input.{Input}
-use Rattle.levels_input.specs.declared.Taken.{Taken}
-use Rattle.levels_input.specs.Input.{bytesRead, unread, AtEnd, Begun}
-use Rattle.levels_input.specs.inner.Scanning.{left-none}
-use Rattle.levels_input.specs.inner.Taking.{LineTaken}
-use Rattle.levels_output.specs.declared.Handed.{Handed}
-use Rattle.levels_output.specs.inner.Flushing.{RoomMade}
+use Rattle.levels_io.specs.declared.input.Input.{Input}
+use Rattle.levels_io.specs.declared.input.Taken.{Taken}
+use Rattle.levels_io.specs.Input.{bytesRead, unread, AtEnd, Begun}
+use Rattle.levels_io.specs.inner.Scanning.{left-none}
+use Rattle.levels_io.specs.inner.Taking.{LineTaken}
+use Rattle.levels_io.specs.declared.output.Handed.{Handed}
+use Rattle.levels_io.specs.inner.Flushing.{RoomMade}
 use Rattle.levels.specs.declared.Step.{Step}
 use Rattle.levels.specs.Run.{Program, program, answered, line-turn, read-turn, last-turn, over-turn, Machine, Holds, Within, TurnMade, Turned}
 use Rattle.levels.specs.inner.Advancing.{ReadOn, Ready, Over, Advanced, found, more, ended, nothing-left}

@@ -1,3 +1,0 @@
--- Contracts of functions that no user calls.
-pub mod Scanning
-pub mod Taking

@@ -1,0 +1,4 @@
+-- Contracts of functions that no user calls.
+pub mod Scanning
+pub mod Taking
+pub mod Flushing
