@@ -4,9 +4,9 @@ ghost use mathlib.Core.Path.{_≡_};
 ghost use Rattle.levels_text.specs.Lines.{isBare, isForm};
 ghost use Rattle.levels_text.specs.inner.Reading.{FieldIs, LineIs, ParsedIs};
 
-// A line of at most 120 bytes has a letter and at most 59 numbers.
 pub mod write; // write.rt: a line of output put behind the bytes of a text
 
+// A line of at most 120 bytes has a letter and at most 59 numbers.
 pub const MOST_NUMBERS: usize = 59;
 
 const LONGEST: usize = 120;
