@@ -10,7 +10,7 @@ ghost use Rattle.levels.specs.Run.{Within, machine, Turned, Ran};
 ghost use Rattle.levels.specs.inner.Advancing.{ReadOn, Ready, Advanced};
 ghost use Rattle.levels.specs.inner.Turning.{Shorter};
 ghost use Rattle.levels.specs.inner.Running.{Finished};
-use levels_answers::answer_behind;
+use levels_answer::answer_behind;
 use levels_io::input::Input;
 use levels_io::input::first_read;
 use levels_io::input::is_at_end;

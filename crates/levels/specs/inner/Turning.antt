@@ -16,7 +16,7 @@ use Rattle.levels_spec.specs.Said.{lineTurn}
 use Rattle.levels_spec.specs.Answers.{Held, lent}
 use Rattle.levels_spec.specs.Session.{programLengths}
 use Rattle.levels_spec.specs.Laws.Kept.{line-kept}
-use Rattle.levels_answers.specs.inner.Reading.{AnsweringBehind}
+use Rattle.levels_answer.specs.inner.Reading.{AnsweringBehind}
 use Rattle.levels_io.specs.declared.input.Input.{Input}
 use Rattle.levels_io.specs.declared.input.Taken.{Taken}
 use Rattle.levels_io.specs.Input.{bytesRead, unread, AtEnd, Begun}

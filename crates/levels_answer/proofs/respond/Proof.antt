@@ -1,0 +1,42 @@
+-- `levels_answer::respond` meets its contract. Assumes nothing.
+use lib.ListN.{length-take}
+use native.Mathlib.Omega.{arith}
+use Rattle.levels_text.specs.inner.Reading.{read-fits, parsed-numbers}
+use Rattle.levels_answer.specs.inner.Reading.{wrong-responds, line-responds}
+use borrow.Author.Needs.{needs}
+use Rattle.levels_answer.proofs.respond.Statement.{statement}
+use Rattle.levels_answer.proofs.respond.Tie as tie
+
+array-share-prefix-numbers : tie.Need-array-share-prefix-numbers
+array-share-prefix-numbers c = omega (arith, read-fits _ _ _ _ (c .before .before .before .before .parse .ensures) _ _ (c .before .letter .given .1), c .before .before .before .numbers2 .given)
+
+slice-aggregate-serve : tie.Need-slice-aggregate-serve
+slice-aggregate-serve c = simp length-take (omega (arith, read-fits _ _ _ _ (c .before .before .before .before .before .parse .ensures) _ _ (c .before .before .letter .given .1), c .before .before .before .before .numbers2 .given))
+
+serve-requires : tie.Need-serve-requires
+serve-requires c κs = parsed-numbers _ _ _ _ (c .before .before .before .before .before .before .before .before .before .parse .ensures) _ _ (c .before .before .before .before .before .before .letter .given .1)
+
+returns : tie.Need-returns
+returns c = wrong-responds (c .before .before .before .parse .ensures) (search needs) (c .enum-told .given .1) _
+
+same-length : tie.Need-same-length
+same-length c = c .before .before .before .before .before .before .before .rows .given
+
+same-length-2 : tie.Need-same-length-2
+same-length-2 c = c .before .before .before .before .before .keys .given
+
+same-length-3 : tie.Need-same-length-3
+same-length-3 c = c .before .before .before .sorts .given
+
+same-length-4 : tie.Need-same-length-4
+same-length-4 c = c .before .pending .given
+
+returns-2 : tie.Need-returns-2
+returns-2 c = line-responds (c .before .before .before .before .before .before .before .before .before .before .before .before .before .before .before .before .before .before .parse .ensures) (omega arith) (c .before .before .before .before .before .before .before .before .before .before .before .before .before .before .before .letter .given .1) (c .before .before .before .before .before .before .before .before .serve .ensures)
+
+pub respond-spec : {M : Type 1} → statement M
+respond-spec =
+    tie.close
+    (tie.spec
+    (λ c. search needs) (λ c κs. search needs) (λ c. search needs) (λ c. search needs) array-share-prefix-numbers
+    slice-aggregate-serve serve-requires returns same-length same-length-2 same-length-3 same-length-4 returns-2)

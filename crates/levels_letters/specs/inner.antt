@@ -1,2 +1,0 @@
--- Lemmas for the proofs of functions that no user calls.
-pub mod Letters
