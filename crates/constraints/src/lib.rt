@@ -7,6 +7,8 @@ ghost use lib.Dec.{eqb};
 ghost use lib.ListN.{getD};
 ghost use Rattle.constraints.specs.Constraints as rules;
 
+pub mod decode; // decode.rt: conditions read from words
+
 // Kind 0: two columns are equal, `column` and `value`. Kinds 1 to 5: the cell of `column` is equal to, less than, greater than, at
 // most or at least `value`, unsigned. C callers pass arrays of this struct.
 #[repr(C)]

@@ -12,11 +12,11 @@ use levels_text::MOST_NUMBERS;
 use levels_text::Parsed;
 use table::Header;
 
-// Runs any line, and returns its response before it is encoded as text.
-mod dispatch; // dispatch.rt: a line by its letter
-mod encode; // encode.rt: what a line says, as bytes
-mod queries; // queries.rt: the lines that ask
+mod dispatch; // dispatch.rt: a line dispatched by its letter
+mod encode; // encode.rt: a response encoded as bytes
+mod queries; // queries.rt: the lines that query the table
 
+// Runs any line, and returns its response before it is encoded as text.
 fn respond(
     h: Header,
     line: &[u8],

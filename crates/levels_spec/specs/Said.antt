@@ -8,7 +8,7 @@ use lib.ListN.{length, drop, getD}
 use lib.Dec.{ltb, eqb}
 use Rattle.offsets.specs.Subsets.{Subset, range, list}
 use Rattle.constraints.specs.Constraints.{known}
-use Rattle.condition_words.specs.Conditions.{conditionIn}
+use Rattle.constraints.specs.Encoding.{conditionIn}
 use Rattle.sort_entries.specs.Entries.{entryWords}
 use Rattle.plain_table.specs.Staged.{Opening, insert, removeKey, removeRow}
 use Rattle.plain_table.specs.Refusing.{Lengths, openRefusal}

@@ -12,7 +12,7 @@ use Rattle.offsets.specs.Subsets.{Subset, range, list}
 use Rattle.offsets.specs.Answers.{subsetOf, Answered, intersectReply}
 use Rattle.offsets.specs.Laws.Subsets.{dense-is, sparse-is}
 use Rattle.constraints.specs.declared.Constraint.{Constraint}
-use Rattle.condition_words.specs.Conditions.{conditionIn, conditionsIn}
+use Rattle.constraints.specs.Encoding.{conditionIn, conditionsIn}
 use Rattle.table.specs.declared.Header.{Header}
 use Rattle.table.specs.declared.RangeAnswer.{RangeAnswer}
 use Rattle.table.specs.declared.RangeAnswer.the-variants.{Refused as RangeRefused, None as NoRange, Range as Found}

@@ -7,7 +7,7 @@ use lib.ListN.{length, getD}
 use lib.Dec.{eqb, leb}
 use Rattle.replay_frames.specs.Frames.{framed}
 use Rattle.offsets.specs.Subsets.{range, list}
-use Rattle.condition_words.specs.Conditions.{conditionIn, conditionsIn}
+use Rattle.constraints.specs.Encoding.{conditionIn, conditionsIn}
 use Rattle.history.specs.Runs.{Question, refineOne, refineList, intersectWith, intersectRange}
 
 -- a query if there are this many words, or none

@@ -4,7 +4,7 @@ use mathlib.Core.Path.{_≡_, refl, sym, subst}
 use mathlib.Core.Logic.{_⊎_, inl, inr}
 use mathlib.Core.Bool.{true, false}
 use mathlib.Core.List.{List}
-use Rattle.condition_words.specs.Conditions.{conditionIn}
+use Rattle.constraints.specs.Encoding.{conditionIn}
 use Rattle.table.specs.declared.Header.{Header}
 use Rattle.table.specs.declared.RangeAnswer.{RangeAnswer}
 use Rattle.table.specs.declared.RangeAnswer.the-variants.{Refused as RangeRefused, None, Range as Ranged}

@@ -6,7 +6,7 @@ use mathlib.Core.List.{List, []}
 use mathlib.Core.Option.{Option}
 use lib.ListN.{drop, getD}
 use Rattle.constraints.specs.Constraints.{known}
-use Rattle.condition_words.specs.Conditions.{conditionIn}
+use Rattle.constraints.specs.Encoding.{conditionIn}
 use Rattle.sort_entries.specs.Entries.{entryWords}
 use Rattle.plain_table.specs.Staged.{insert, removeKey, removeRow}
 use Rattle.plain_table.specs.Refusing.{Lengths}

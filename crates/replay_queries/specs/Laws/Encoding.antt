@@ -6,7 +6,7 @@ use native.Mathlib.Omega.{arith}
 use lib.ListN.{length, getD}
 use borrow.Author.Tests.{eq-eqb, ne-eqb, le-leb, lt-leb}
 use Rattle.offsets.specs.Subsets.{range, list}
-use Rattle.condition_words.specs.Conditions.{conditionIn, conditionsIn}
+use Rattle.constraints.specs.Encoding.{conditionIn, conditionsIn}
 use Rattle.history.specs.Runs.{refineOne, refineList, intersectWith, intersectRange}
 use Rattle.replay_queries.specs.Encoding.{ofWords, listOf, questionOf}
 

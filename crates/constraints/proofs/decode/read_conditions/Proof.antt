@@ -1,10 +1,10 @@
--- `condition_words::read_conditions` meets its contract. The loop's invariant: the first i are read. Assumes nothing.
+-- `constraints::decode::read_conditions` meets its contract. The loop's invariant: the first i are read. Assumes nothing.
 use Prim.Native.Nat.{_-_}
 use mathlib.Core.Path.{refl}
 use native.Mathlib.Omega.{arith}
-use Rattle.condition_words.proofs.ReadSteps.{Reading, reading-begin, reading-again, reading-end}
-use Rattle.condition_words.proofs.read_conditions.Statement.{statement}
-use Rattle.condition_words.proofs.read_conditions.Tie as tie
+use Rattle.constraints.proofs.ReadSteps.{Reading, reading-begin, reading-again, reading-end}
+use Rattle.constraints.proofs.decode.read_conditions.Statement.{statement}
+use Rattle.constraints.proofs.decode.read_conditions.Tie as tie
 
 abbrev Inv-loop : tie.InvT-loop
 Inv-loop words count all₀ i₀ all i = Reading words count all i

@@ -5,9 +5,9 @@ use mathlib.Core.List.{List, [], _∷_, _++_}
 use native.Mathlib.Omega.{arith}
 use lib.ListN.{length, take, set, length-set}
 use lib.Seq.{take-suc-set}
 use Rattle.constraints.specs.declared.Constraint.{Constraint}
-use Rattle.condition_words.specs.Conditions.{conditionIn, conditionsIn}
-use Rattle.condition_words.specs.Laws.Conditions.{none-in, more-in}
+use Rattle.constraints.specs.Encoding.{conditionIn, conditionsIn}
+use Rattle.constraints.specs.Laws.Encoding.{none-in, more-in}
 
 pub record Reading (words : List ℕ) (count : ℕ) (all : List Constraint) (i : ℕ) : Type 0 where
   pub long : length all ≡ 16

@@ -5,7 +5,7 @@ use mathlib.Core.List.{List, [], _∷_, _++_, map-append}
 use native.Mathlib.Omega.{arith}
 use Rattle.lists.specs.Lists.{countFrom}
 use Rattle.lists.specs.Laws.Rising.{countFrom-snoc}
-use Rattle.condition_words.specs.Conditions.{conditionIn, conditionsIn}
+use Rattle.constraints.specs.Encoding.{conditionIn, conditionsIn}
 
 pub none-in : (words : List ℕ) → conditionsIn 0 words ≡ []
 unfolding conditionsIn countFrom

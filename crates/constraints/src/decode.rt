@@ -2,8 +2,8 @@
 ghost use Prim.Native.Nat.{_+_, _*_, _≤_};
 ghost use mathlib.Core.Path.{_≡_};
 ghost use lib.ListN.{length, take};
-ghost use Rattle.condition_words.specs.Conditions.{conditionIn, conditionsIn};
-use constraints::Constraint;
+ghost use Rattle.constraints.specs.Encoding.{conditionIn, conditionsIn};
+use super::Constraint;
 
 // Decodes the condition with number `i`.
 pub fn read_condition(words: &[u32], i: usize) -> Constraint
