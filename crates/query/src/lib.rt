@@ -15,6 +15,8 @@ use query_spec::PageAnswer;
 use table::Header;
 use walks::ask;
 
+pub mod array; // array.rt: conditions that lie in an array
+
 // Returns the rows of a subset that are live and meet a condition. From a range: a range while they are neighbours, else a list.
 // From a list: a list.
 pub fn refine_one(

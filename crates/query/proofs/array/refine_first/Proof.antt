@@ -26,16 +26,16 @@ use Rattle.table.proofs.Header as HT
 use Rattle.query_spec.specs.Queries.{RefinedList}
 use Rattle.walks.proofs.Lent.{Lent, OwnOut, Ranged, Slices, Tokens₃, fits, head-val, header-val, headers, heads, lifetimes, numbers, owns-off, owns-on, shares, slice-val, slices-on, slices-twice, together, tokens-off, tokens-on}
 use Rattle.walks.proofs.Walking.{AllPassed, Asked, Cites, Tokens, Value, Walked, arg, by-value, calls, given-slice, lent-slice, own, stays, typed, walk-runs}
 use Rattle.query.proofs.refine_ref as ask
 use Rattle.query.proofs.refine_ref.Symbol as ask-def
 use Rattle.query.proofs.refine_ref.Symbol.{name as #query·refine-ref}
 use Rattle.query.proofs.refine_ref.Met as ask-thm
 use Rattle.walks.proofs.LentArray.{Kept, lends-front, front-back}
 use Rattle.walks.proofs.LentArray.{Lent as LentFront}
-use Rattle.condition_lists.proofs.refine_first.Key.{name as #condition-lists·refine-first}
-use Rattle.condition_lists.proofs.refine_first as f
-use Rattle.condition_lists.proofs.refine_first.Statement as stated
-use Rattle.condition_lists.proofs.refine_first.Code as code
+use Rattle.query.proofs.array.refine_first.Key.{name as #query·array·refine-first}
+use Rattle.query.proofs.array.refine_first as f
+use Rattle.query.proofs.array.refine_first.Statement as stated
+use Rattle.query.proofs.array.refine_first.Code as code
 
 -- the array's type, and that of the local that holds the slice of its first conditions
 abbrev Arr : RattleType
@@ -125,7 +125,7 @@ module _ {M : Type 1} (𝓤 : URA M) (H : Heap 𝓤) (A : Atoms 𝓤) (W : Given
 pub refine-first-spec : {M : Type 1} → stated.statement M
 unfolding code.routine tablesOf
 refine-first-spec 𝓤 H 𝓜 𝓖 𝓡 =
-    walk-runs f.ended params 𝓤 H 𝓜 𝓖 𝓡 (f.clauses 𝓤 H (𝓖 .A) (𝓜 .mem) (𝓡 .run)) code.env #condition-lists·refine-first code.function (code.unfolded 𝓤 H 𝓜 𝓡) (λ κs qs bounds a g are. needs 𝓤 (a .1 .1 .1 .1 .1 .0 ≤ 16) _ (λ can.
+    walk-runs f.ended params 𝓤 H 𝓜 𝓖 𝓡 (f.clauses 𝓤 H (𝓖 .A) (𝓜 .mem) (𝓡 .run)) code.env #query·array·refine-first code.function (code.unfolded 𝓤 H 𝓜 𝓡) (λ κs qs bounds a g are. needs 𝓤 (a .1 .1 .1 .1 .1 .0 ≤ 16) _ (λ can.
     walk 𝓤 H (𝓖 .A) (givenOf 𝓤 H 𝓜 𝓖) (𝓜 .mem) (𝓡 .run) (κs .0) (κs .1 .0) (κs .1 .1 .0) (qs .0) (qs .1 .0) (qs .1 .1 .0) (a .0) (a .1 .0) (a .1 .1 .0) (a .1 .1 .1 .0) (a .1 .1 .1 .1 .0) (a .1 .1 .1 .1 .1 .0) (a .1 .1 .1 .1 .1 .1 .0)
     (are .0, are .1 .1 .0) (are .1 .1 .1 .1 .0) (are .1 .1 .1 .1 .1 .0) can (tablesOf 𝓤 H 𝓜 (tables 𝓤 H 𝓜 𝓡 code.env))
     (cited 𝓤 H _ 𝓜 𝓡 code.env #query·refine-ref ask-def.routine code.calls-query·refine-ref (ask-thm.met 𝓤 H 𝓜 𝓖 𝓡)) (are .1 .0 .0 .1) (are .1 .1 .1 .0 .0 .1) (are .1 .1 .1 .1 .1 .1 .0 .0 .1)))

@@ -3,10 +3,10 @@ ghost use Prim.Native.Nat.{_≤_};
 ghost use lib.ListN.{take};
 ghost use Rattle.offsets.specs.Answers.{subsetOf};
 ghost use Rattle.query_spec.specs.Queries.{RefinedList};
+use super::refine_ref;
 use constraints::Constraint;
 use offsets::SubsetAnswer;
 use offsets::SubsetHead;
-use query::refine_ref;
 use table::Header;
 
 // Refines by the first `count` conditions of an array.
