@@ -16,13 +16,13 @@ use Rattle.plain_table.specs.Staged.{due}
 use Rattle.plain_table.specs.Plain.{live as liveCount, compactsAfter, Plain, applied, unstaged, dead}
 use Rattle.table.specs.declared.Header.{Header}
 use Rattle.table.specs.declared.Merge.{Merge}
-use Rattle.insertions.specs.declared.Passed.{Passed}
+use Rattle.merge_insert.specs.declared.Passed.{Passed}
 use Rattle.table.specs.declared.MergeAnswer.the-variants.{Refused as MergeRefused, Merged}
 use Rattle.table.specs.Numbers.{mergeSays}
 use Rattle.table.specs.Refusing.{mergeRefusal}
 use Rattle.table.specs.Promises.{stores, body, compactionWords, lengths, Represents, withPending, Merging}
 use Rattle.merge_pending.specs.inner.Becoming.{withCounts, withDead, Ready}
-use Rattle.insertions.specs.inner.Insertions.{Insertions}
+use Rattle.merge_insert.specs.inner.Insertions.{Insertions}
 use Rattle.merge_remove.specs.inner.Removals.{Removable, Removals}
 use Rattle.table_compact.specs.inner.Compaction.{Lendable, Compaction}
 use Rattle.merge.specs.inner.Parts.{Applying, finishedAs, Finishing}

@@ -15,13 +15,13 @@ use Rattle.plain_table.specs.Plain.{Inserted, insertAll, Plain, dead, withoutRo
 use Rattle.table.specs.declared.Header.{Header}
 use Rattle.plain_table.specs.Laws.Price.{compacted-live}
 use Rattle.table.specs.declared.Merge.{Merge}
-use Rattle.insertions.specs.declared.Passed.{Passed}
+use Rattle.merge_insert.specs.declared.Passed.{Passed}
 use Rattle.table.specs.declared.MergeAnswer.the-variants.{Merged}
 use Rattle.table.specs.Numbers.{mergeSays}
 use Rattle.table.specs.Stores.{headerOf, rowStore}
 use Rattle.table.specs.Promises.{Stores, stores, body, compactionWords, Represents, mergeOf, mergedRows, MergedTable}
 use Rattle.merge_pending.specs.inner.Becoming.{Becomes}
-use Rattle.insertions.specs.inner.Insertions.{InsertedTable}
+use Rattle.merge_insert.specs.inner.Insertions.{InsertedTable}
 use Rattle.merge_remove.specs.inner.Removals.{removedAll}
 use Rattle.merge.specs.inner.Parts.{AppliedTable, finished, FinishedTable}
 use Rattle.table.specs.Laws.Stored.{stored-live}

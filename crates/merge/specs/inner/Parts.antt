@@ -8,8 +8,8 @@ use Rattle.lists.specs.Lists.{rowsOf}
 use Rattle.plain_table.specs.Plain.{Plain, applied, live, dead, compacted, unstaged, compactsAfter}
 use Rattle.table.specs.declared.Header.{Header}
 use Rattle.table.specs.declared.Merge.{Merge}
-use Rattle.insertions.specs.declared.Passed.{Passed}
-use Rattle.insertions.specs.inner.Insertions.{hasAdded}
+use Rattle.merge_insert.specs.declared.Passed.{Passed}
+use Rattle.merge_insert.specs.inner.Insertions.{hasAdded}
 use Rattle.table.specs.Stores.{headerOf, rowStore, sortStore}
 use Rattle.table.specs.Promises.{Stores, stores, Represents, SlotsPast, PastNeeded}
 use Rattle.merge_pending.specs.inner.Becoming.{Becomes, withCounts}

@@ -1,3 +1,0 @@
--- Contracts of functions that no user calls.
-pub mod Inserting
-pub mod Ruling

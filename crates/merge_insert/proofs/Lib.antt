@@ -1,0 +1,2 @@
+pub mod InsertSteps
+pub mod PassInserts
