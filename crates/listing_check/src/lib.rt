@@ -12,10 +12,10 @@ use levels_text::MOST_NUMBERS;
 use listing_parse::Survey;
 use listing_parse::line_at;
 use listing_parse::look_through;
+use query_loop::all_pass;
 use query_scan::Test;
 use table::Header;
 use table::Largest;
-use walks::all_pass;
 
 // The numbers are right; or the number at this place is not above the one before; or this is the lowest row number that is wrongly
 // present or wrongly absent.

@@ -1,25 +1,25 @@
--- A query run: the call of `walks::ask` in a manual proof, with what the caller is lent passed on. Assumes `Given`.
+-- A query run: the call of `query_loop::ask` in a manual proof, with what the caller is lent passed on. Assumes `Given`.
 --     calls-ask      the output is given up
 --     asked          the output is lent for the call, and returned
-use Rattle.walks.proofs.Prelude.{_≡_, ℕ, List, [], _∷_, length, URA, fullShare, Body, Place, Operand, call, named, seq, Val, SProp, ent, id⊢, Lft, Share, GName, flft, Memory, Routine, Heap, Calls, Env, Loops, Atoms, Fun, Given, Item, Post}
-use Rattle.walks.proofs.Prelude.{Seq, lands, runs, ‵, raw, ⋆, _$_, _∵_, !, qed, move, drop, group, use1, split, join, fsplit, fjoin, feqL, frame, done, Opds, FmC, u32, Is, RefT, now, sliceVal, Room, finally, nothing, Clauses}
+use Rattle.query_loop.proofs.Prelude.{_≡_, ℕ, List, [], _∷_, length, URA, fullShare, Body, Place, Operand, call, named, seq, Val, SProp, ent, id⊢, Lft, Share, GName, flft, Memory, Routine, Heap, Calls, Env, Loops, Atoms, Fun, Given, Item, Post}
+use Rattle.query_loop.proofs.Prelude.{Seq, lands, runs, ‵, raw, ⋆, _$_, _∵_, !, qed, move, drop, group, use1, split, join, fsplit, fjoin, feqL, frame, done, Opds, FmC, u32, Is, RefT, now, sliceVal, Room, finally, nothing, Clauses}
 use Rattle.query_scan.specs.declared.Question.{Question}
 use Rattle.query_scan.specs.declared.Sweep.{Sweep}
 use Rattle.query_scan.specs.inner.Sweeping.{SweepAnswered}
 use Rattle.query_scan.proofs.Question as QT
 use Rattle.query_scan.proofs.Sweep as ST
-use Rattle.walks.proofs.Again.{LentAgain, lends, gets-back}
-use Rattle.walks.proofs.Lent.{Lent, OwnOut, Ranged, Slices, Tokens₃, head-val, header-val, lifetimes, out-at, question-val, questions, shares, slice-val, slices-on, slices-twice, subset, sweep-val, sweeps, tokens-off, tokens-on}
-use Rattle.walks.proofs.Walking.{Asked, Cites, calls, own, value-lands}
-use Rattle.walks.proofs.ask as ask
-use Rattle.walks.proofs.ask.Symbol.{name as #walks·ask}
+use Rattle.query_loop.proofs.Again.{LentAgain, lends, gets-back}
+use Rattle.query_loop.proofs.Lent.{Lent, OwnOut, Ranged, Slices, Tokens₃, head-val, header-val, lifetimes, out-at, question-val, questions, shares, slice-val, slices-on, slices-twice, subset, sweep-val, sweeps, tokens-off, tokens-on}
+use Rattle.query_loop.proofs.Walking.{Asked, Cites, calls, own, value-lands}
+use Rattle.query_loop.proofs.ask as ask
+use Rattle.query_loop.proofs.ask.Symbol.{name as #query-loop·ask}
 
 module _ {M : Type 1} (𝓤 : URA M) (H : Heap 𝓤) (A : Atoms 𝓤) (mem : Memory → SProp 𝓤) (run : Routine → Fun 𝓤) where
   abbrev asking : Clauses 𝓤 ask.ended
   asking = ask.clauses 𝓤 H A mem run
 
   abbrev pub CitesAsk : Calls 𝓤 H → Type 1
-  CitesAsk C = Cites 𝓤 H A ask.ended asking C #walks·ask
+  CitesAsk C = Cites 𝓤 H A ask.ended asking C #query-loop·ask
 
   module _ (p : Lent) (question : Question) where
     -- what the call's triple binds outside, with the output at a lifetime
@@ -45,7 +45,7 @@ module _ {M : Type 1} (𝓤 : URA M) (H : Heap 𝓤) (A : Atoms 𝓤) (mem : Mem
       module _ {K : Type 0} {Γ : List (Item 𝓤)} {E : Env 𝓤 H} {C : Calls 𝓤 H} {Λ : Loops 𝓤 H} {post : Post 𝓤 H} {d : Place} {xs : List Operand} {rest : Body} where
         pub calls-ask : K → FmC 𝓤 H (W .laws) C → CitesAsk C → (κ : Lft) (q : Share) (z : RefT (List ℕ)) → Opds K W (asks κ q z ∷ Slices p ∷ Γ) E xs (ask-args κ q z)
             → ((s : Sweep) (ws : List ℕ) → Swept (now z) s ws → length ws ≡ length (now z) → Is ST.the-row s (sweep-val s ∷ []) → Seq K W (Tokens₃ p ∷ Slices p ∷ ‵ (flft κ q) ∷ ‵ (finally u32 (z .name) ws) ∷ Γ) (lands C Λ E d (sweep-val s) rest post))
-            → Seq K W (Tokens₃ p ∷ Slices p ∷ ‵ (flft κ q) ∷ ‵ (OwnOut κ z (slice-val z)) ∷ Γ) (runs C Λ E (seq (call #walks·ask xs d) rest) post)
+            → Seq K W (Tokens₃ p ∷ Slices p ∷ ‵ (flft κ q) ∷ ‵ (OwnOut κ z (slice-val z)) ∷ Γ) (runs C Λ E (seq (call #query-loop·ask xs d) rest) post)
         calls-ask t fm known κ q z os k =
             move t (1 ∷ []) $ slices-twice p t $ move t (2 ∷ 0 ∷ 3 ∷ 4 ∷ []) $ group t 4 $ use1 W (asks κ q z) (can-ask κ q z) $
             calls ask.ended asking (to-ask κ q z) (λ s ws. Swept (now z) s (ws .1 .1 .1 .1 .1 .1 .0)) (λ s ws. id⊢ 𝓤 _) t fm known os (λ w s ws e.
@@ -57,7 +57,7 @@ module _ {M : Type 1} (𝓤 : URA M) (H : Heap 𝓤) (A : Atoms 𝓤) (mem : Mem
         pub asked : K → FmC 𝓤 H (W .laws) C → CitesAsk C → (κ : Lft) (q : Share) (γ : GName) (b o : ℕ) (os : List ℕ) → Room u32 (length os)
             → ((ν : ℕ) (δ : GName) → Opds K W (asks (ν ∷ []) fullShare (out-at b o δ os) ∷ Slices p ∷ ‵ (LentAgain u32 κ q γ b o (ν ∷ []) δ os) ∷ Γ) E xs (ask-args (ν ∷ []) fullShare (out-at b o δ os)))
             → ((s : Sweep) (ws : List ℕ) → Swept os s ws → length ws ≡ length os → Is ST.the-row s (sweep-val s ∷ []) → Seq K W (Tokens₃ p ∷ Slices p ∷ ‵ (flft κ q) ∷ ‵ (OwnOut κ (out-at b o γ ws) (sliceVal (b, o) (length os))) ∷ Γ) (lands C Λ E d (sweep-val s) rest post))
-            → Seq K W (Tokens₃ p ∷ Slices p ∷ ‵ (flft κ q) ∷ ‵ (OwnOut κ (out-at b o γ os) (sliceVal (b, o) (length os))) ∷ Γ) (runs C Λ E (seq (call #walks·ask xs d) rest) post)
+            → Seq K W (Tokens₃ p ∷ Slices p ∷ ‵ (flft κ q) ∷ ‵ (OwnOut κ (out-at b o γ os) (sliceVal (b, o) (length os))) ∷ Γ) (runs C Λ E (seq (call #query-loop·ask xs d) rest) post)
         asked t fm known κ q γ b o os room args k =
             move t (2 ∷ 3 ∷ []) $ lends u32 κ q γ b o (named 3) (named 3) os t tt (λ ν δ.
             -- [ν's token; the output at ν; what is lent; the tokens; what is lent as `&`]

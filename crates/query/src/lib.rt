@@ -4,6 +4,7 @@ ghost use Rattle.query_spec.specs.Queries.{RefinedOne, RefinedList, Matched, Pa
 use constraints::Constraint;
 use offsets::SubsetAnswer;
 use offsets::SubsetHead;
+use query_loop::ask;
 use query_scan::Question;
 use query_scan::ask_one;
 use query_scan::close_match;
@@ -13,7 +14,6 @@ use query_scan::write_found;
 use query_spec::MatchAnswer;
 use query_spec::PageAnswer;
 use table::Header;
-use walks::ask;
 
 pub mod array; // array.rt: conditions that lie in an array
 

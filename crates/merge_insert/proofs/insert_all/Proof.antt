@@ -1,4 +1,4 @@
--- `insertions::insert_all` meets its contract. The loop's invariant: the result of all inserts is that of the remaining records
+-- `merge_insert::insert_all` meets its contract. The loop's invariant: the result of all inserts is that of the remaining records
 -- from here. Assumes nothing.
 use Prim.Native.Nat.{_-_}
 use native.Mathlib.Omega.{arith}

@@ -1,7 +1,7 @@
 -- `query::contains_match` meets its contract: a manual proof over its MIR. The list of conditions is passed on whole; the output
 -- lent to `ask` is an empty array. Assumes nothing.
-use Rattle.walks.proofs.Prelude.{refl, [], _∷_, lit<, URA, fullShare, named, SProp, ent, emp, id⊢, via, fst∗, GName, ftrue, fsep, Memory, Routine, Heap, Tables, WpFn, Atoms, Fun, givenOf, tables, tablesOf, Given, ‵, raw, _⊛_, some, later, _$_, _∵_, !, qed, move, keep, drop, use1, split, join}
-use Rattle.walks.proofs.Prelude.{pick, fjoin, suffices, frame, await, done, agg, look, init, forget, stop, from, addr, lit, and-then, no-more, assigns, land, returns, enter, alloc1, alloc0, params1, pass1, pass0, free1, free0, lft-new, fmOf, u32, Is, shows, now, sliceVal, peeks, nothing, Clauses, onEntry, cited, says, ends-at}
+use Rattle.query_loop.proofs.Prelude.{refl, [], _∷_, lit<, URA, fullShare, named, SProp, ent, emp, id⊢, via, fst∗, GName, ftrue, fsep, Memory, Routine, Heap, Tables, WpFn, Atoms, Fun, givenOf, tables, tablesOf, Given, ‵, raw, _⊛_, some, later, _$_, _∵_, !, qed, move, keep, drop, use1, split, join}
+use Rattle.query_loop.proofs.Prelude.{pick, fjoin, suffices, frame, await, done, agg, look, init, forget, stop, from, addr, lit, and-then, no-more, assigns, land, returns, enter, alloc1, alloc0, params1, pass1, pass0, free1, free0, lft-new, fmOf, u32, Is, shows, now, sliceVal, peeks, nothing, Clauses, onEntry, cited, says, ends-at}
 use base.Fml.{flent}
 use ghost.Atoms.{sem}
 use denote.Lend.{Held, lends-slice}
@@ -16,11 +16,11 @@ use Rattle.query_scan.proofs.MatchSteps.{match-answered}
 use Rattle.query_scan.proofs.Sweep as ST
 use Rattle.query_scan.proofs.Question as QT
 use Rattle.query_scan.proofs.Question.Laws as QT′
-use Rattle.walks.proofs.Lent.{Lent, OwnConditions, OwnOut, Owns, Ranged, Rooms, fits, head-val, header-val, headers, heads, lent-of, lifetimes, out-at, questions, shares, slice-val, slices-off, slices-on, subset, sweep-val, sweeps, tokens-off, tokens-on}
-use Rattle.walks.proofs.Walking.{AllPassed, Asked, Cites, Tokens, Walked, arg, by-value, calls, lent-slice, own, stays, typed, walk-runs}
-use Rattle.walks.proofs.ask.Symbol as ask-def
-use Rattle.walks.proofs.ask.Symbol.{name as #walks·ask}
-use Rattle.walks.proofs.ask.Met as ask-thm
+use Rattle.query_loop.proofs.Lent.{Lent, OwnConditions, OwnOut, Owns, Ranged, Rooms, fits, head-val, header-val, headers, heads, lent-of, lifetimes, out-at, questions, shares, slice-val, slices-off, slices-on, subset, sweep-val, sweeps, tokens-off, tokens-on}
+use Rattle.query_loop.proofs.Walking.{AllPassed, Asked, Cites, Tokens, Walked, arg, by-value, calls, lent-slice, own, stays, typed, walk-runs}
+use Rattle.query_loop.proofs.ask.Symbol as ask-def
+use Rattle.query_loop.proofs.ask.Symbol.{name as #query-loop·ask}
+use Rattle.query_loop.proofs.ask.Met as ask-thm
 use Rattle.query_scan.proofs.close_match as cls
 use Rattle.query_scan.proofs.close_match.Symbol as cls-def
 use Rattle.query_scan.proofs.close_match.Symbol.{name as #query-scan·close-match}
@@ -88,5 +88,5 @@ unfolding code.routine tablesOf
 contains-match-spec 𝓤 H 𝓜 𝓖 𝓡 =
     walk-runs f.ended params 𝓤 H 𝓜 𝓖 𝓡 (f.clauses 𝓤 H (𝓖 .A) (𝓜 .mem) (𝓡 .run)) code.env #query·contains-match code.function (code.unfolded 𝓤 H 𝓜 𝓡) (λ κs qs bounds a g are. via 𝓤 _ (fst∗ 𝓤 _ (emp 𝓤))
     (walk 𝓤 H (𝓖 .A) (givenOf 𝓤 H 𝓜 𝓖) (𝓜 .mem) (𝓡 .run) (lent-of κs qs a (a .1 .1 .1 .1 .0)) (are .0, are .1 .1 .0) (are .1 .0 .0 .1, (are .1 .1 .1 .0 .0 .1, are .1 .1 .1 .1 .0 .0 .1)) (tablesOf 𝓤 H 𝓜 (tables 𝓤 H 𝓜 𝓡 code.env))
-    (cited 𝓤 H _ 𝓜 𝓡 code.env #walks·ask ask-def.routine code.calls-walks·ask (ask-thm.met 𝓤 H 𝓜 𝓖 𝓡))
+    (cited 𝓤 H _ 𝓜 𝓡 code.env #query-loop·ask ask-def.routine code.calls-query-loop·ask (ask-thm.met 𝓤 H 𝓜 𝓖 𝓡))
     (cited 𝓤 H _ 𝓜 𝓡 code.env #query-scan·close-match cls-def.routine code.calls-query-scan·close-match (cls-thm.met 𝓤 H 𝓜 𝓖 𝓡))))

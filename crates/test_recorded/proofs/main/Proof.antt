@@ -1,4 +1,4 @@
--- `recorded::main` is safe, and ends because its steps are counted. Its loop needs no invariant. Assumes nothing.
+-- `test_recorded::main` is safe, and ends because its steps are counted. Its loop needs no invariant. Assumes nothing.
 use borrow.Author.Needs.{needs}
 use Rattle.test_recorded.proofs.main.Statement.{statement}
 use Rattle.test_recorded.proofs.main.Tie as tie

@@ -1,8 +1,8 @@
--- `condition_lists::refine_first` meets its contract: a manual proof over its MIR. The array is copied to a local, whose first
+-- `query::array::refine_first` meets its contract: a manual proof over its MIR. The array is copied to a local, whose first
 -- conditions are lent for a lifetime that the proof makes; out is given up to the query. Assumes nothing.
-use Rattle.walks.proofs.Prelude.{_≡_, refl, sym, ℕ, _≤_, List, [], _∷_, lit<, length, URA, fullShare, Ty, erased, imm, named, tyRef, w64, Val, vint, SProp, ent, id⊢, Lft, Share, GName, flft, fat, froom, Memory, Routine, Heap, Tables, WpFn, Atoms, Fun, givenOf, tables, tablesOf}
-use Rattle.walks.proofs.Prelude.{Given, ‵, raw, _⊛_, ⋆, some, later, _$_, _∵_, !, qed, move, keep, drop, group, use1, use2, split, join, pick, rewrite, fsplit, fjoin, feqL, suffices, frame, await, done, agg, whole, sub, look-in, look, init, forget, stop, hop, fld, from}
-use Rattle.walks.proofs.Prelude.{load, addr, of-opd, and-then, no-more, assigns, land, returns, enter, alloc1, alloc0, params1, pass1, pass0, free1, free0, lft-new, lft-end, fmOf, u32, usize, Is, shows, pointee, RattleType, RefT, now, sliceTy, sliceVal, Room, peeks, nothing, only, Clauses, onEntry, cited, says, needs, ends-at}
+use Rattle.query_loop.proofs.Prelude.{_≡_, refl, sym, ℕ, _≤_, List, [], _∷_, lit<, length, URA, fullShare, Ty, erased, imm, named, tyRef, w64, Val, vint, SProp, ent, id⊢, Lft, Share, GName, flft, fat, froom, Memory, Routine, Heap, Tables, WpFn, Atoms, Fun, givenOf, tables, tablesOf}
+use Rattle.query_loop.proofs.Prelude.{Given, ‵, raw, _⊛_, ⋆, some, later, _$_, _∵_, !, qed, move, keep, drop, group, use1, use2, split, join, pick, rewrite, fsplit, fjoin, feqL, suffices, frame, await, done, agg, whole, sub, look-in, look, init, forget, stop, hop, fld, from}
+use Rattle.query_loop.proofs.Prelude.{load, addr, of-opd, and-then, no-more, assigns, land, returns, enter, alloc1, alloc0, params1, pass1, pass0, free1, free0, lft-new, lft-end, fmOf, u32, usize, Is, shows, pointee, RattleType, RefT, now, sliceTy, sliceVal, Room, peeks, nothing, only, Clauses, onEntry, cited, says, needs, ends-at}
 use lib.ListN.{take}
 use lib.Seq.{length-take-le}
 use native.Mathlib.Omega.{arith}
@@ -24,14 +24,14 @@ use Rattle.offsets.proofs.SubsetHead as DT
 use Rattle.table.specs.declared.Header.{Header}
 use Rattle.table.proofs.Header as HT
 use Rattle.query_spec.specs.Queries.{RefinedList}
-use Rattle.walks.proofs.Lent.{Lent, OwnOut, Ranged, Slices, Tokens₃, fits, head-val, header-val, headers, heads, lifetimes, numbers, owns-off, owns-on, shares, slice-val, slices-on, slices-twice, together, tokens-off, tokens-on}
-use Rattle.walks.proofs.Walking.{AllPassed, Asked, Cites, Tokens, Value, Walked, arg, by-value, calls, given-slice, lent-slice, own, stays, typed, walk-runs}
+use Rattle.query_loop.proofs.Lent.{Lent, OwnOut, Ranged, Slices, Tokens₃, fits, head-val, header-val, headers, heads, lifetimes, numbers, owns-off, owns-on, shares, slice-val, slices-on, slices-twice, together, tokens-off, tokens-on}
+use Rattle.query_loop.proofs.Walking.{AllPassed, Asked, Cites, Tokens, Value, Walked, arg, by-value, calls, given-slice, lent-slice, own, stays, typed, walk-runs}
 use Rattle.query.proofs.refine_ref as ask
 use Rattle.query.proofs.refine_ref.Symbol as ask-def
 use Rattle.query.proofs.refine_ref.Symbol.{name as #query·refine-ref}
 use Rattle.query.proofs.refine_ref.Met as ask-thm
-use Rattle.walks.proofs.LentArray.{Kept, lends-front, front-back}
-use Rattle.walks.proofs.LentArray.{Lent as LentFront}
+use Rattle.query_loop.proofs.LentArray.{Kept, lends-front, front-back}
+use Rattle.query_loop.proofs.LentArray.{Lent as LentFront}
 use Rattle.query.proofs.array.refine_first.Key.{name as #query·array·refine-first}
 use Rattle.query.proofs.array.refine_first as f
 use Rattle.query.proofs.array.refine_first.Statement as stated

@@ -1,9 +1,9 @@
--- `walks::ask` meets its contract: a manual proof over its MIR, cut at each call. The list of conditions is passed on whole. The
+-- `query_loop::ask` meets its contract: a manual proof over its MIR, cut at each call. The list of conditions is passed on whole. The
 -- loop's state is the scan and the output, which each iteration lends again to `step`. Assumes nothing.
-use Rattle.walks.proofs.Prelude.{_≡_, refl, sym, subst, _∙_, ℕ, _<_, _≤_, Bool, true, false, List, [], _∷_, ltb, length, URA, fullShare, Body, Place, Ty, Operand, call, erased, mut, named, seq, tyBool, tyInt, tyRef, w32, w64, Val, vbool, vint, SProp, ent, emp}
-use Rattle.walks.proofs.Prelude.{id⊢, via, fst∗, Lft, Share, GName, ftrue, fsep, flft, fat, Memory, Routine, Heap, Env, Loops, Tables, Wp, WpFn, afterBlock, afterSeq, atReturn, afterTurn, Atoms, Fun, givenOf, tables, tablesOf, Given, Item, Seq, Sq, anyQ, atRet, lands, runs, ‵, raw, ⋆}
-use Rattle.walks.proofs.Prelude.{_$_, _∵_, !, qed, move, keep, drop, group, use1, split, join, rewrite, fsplit, fjoin, feqL, suffices, frame, done, agg, whole, sub, look-in, Below, Opds, look, store, init, forget, stop, hop, fld, from, load, addr, lit, of-opd, bin, and-then}
-use Rattle.walks.proofs.Prelude.{no-more, assigns, land, again, blocks, exec, first, leaves-loop, loops, goes-on, returns, enter, alloc1, alloc0, params1, pass1, pass0, free1, free0, fmOf, u32, bool, Is, bool-makes, now, sliceTy, sliceVal, Room, owned, nothing, Clauses, onEntry, cited, says, ends-at}
+use Rattle.query_loop.proofs.Prelude.{_≡_, refl, sym, subst, _∙_, ℕ, _<_, _≤_, Bool, true, false, List, [], _∷_, ltb, length, URA, fullShare, Body, Place, Ty, Operand, call, erased, mut, named, seq, tyBool, tyInt, tyRef, w32, w64, Val, vbool, vint, SProp, ent, emp}
+use Rattle.query_loop.proofs.Prelude.{id⊢, via, fst∗, Lft, Share, GName, ftrue, fsep, flft, fat, Memory, Routine, Heap, Env, Loops, Tables, Wp, WpFn, afterBlock, afterSeq, atReturn, afterTurn, Atoms, Fun, givenOf, tables, tablesOf, Given, Item, Seq, Sq, anyQ, atRet, lands, runs, ‵, raw, ⋆}
+use Rattle.query_loop.proofs.Prelude.{_$_, _∵_, !, qed, move, keep, drop, group, use1, split, join, rewrite, fsplit, fjoin, feqL, suffices, frame, done, agg, whole, sub, look-in, Below, Opds, look, store, init, forget, stop, hop, fld, from, load, addr, lit, of-opd, bin, and-then}
+use Rattle.query_loop.proofs.Prelude.{no-more, assigns, land, again, blocks, exec, first, leaves-loop, loops, goes-on, returns, enter, alloc1, alloc0, params1, pass1, pass0, free1, free0, fmOf, u32, bool, Is, bool-makes, now, sliceTy, sliceVal, Room, owned, nothing, Clauses, onEntry, cited, says, ends-at}
 use types.Kit as Kit
 use types.Run.{land-last}
 use borrow.Author.Tests.{le-ltb, lt-ltb, ltb-false, ltb-true}
@@ -23,14 +23,14 @@ use Rattle.query_scan.proofs.Sweep as ST
 use Rattle.query_scan.proofs.Sweep.Laws as ST′
 use Rattle.query_scan.proofs.Test as TT
 use Rattle.query_scan.proofs.Test.Laws as TT′
-use Rattle.walks.proofs.Again.{lends, gets-back}
-use Rattle.walks.proofs.Lent.{Lent, OwnConditions, OwnIds, OwnOut, OwnRows, Owns, Ranged, Rooms, Slices, Tokens₃, apart, fits, head-val, header-val, headers, heads, lent-of, lifetimes, numbers, out-at, owns-on, question-val, questions, shares, slice-val, slices-off, slices-on, subset, sweep-val, sweeps, test-val, tests, together, tokens-off, tokens-on}
-use Rattle.walks.proofs.WalkSteps.{Fewer, all-known, fewer-wf, row-matches}
-use Rattle.walks.proofs.Walking.{AllPassed, Asked, Cell, Cells, Cites, Tokens, Walked, arg, bool-lands, by-value, calls, calls-last, empty, env-of, holds, kept-slice, lent-slice, own, stays, typed, value-lands, value-settles, walk-runs}
-use Rattle.walks.proofs.all_pass as all
-use Rattle.walks.proofs.all_pass.Symbol as all-def
-use Rattle.walks.proofs.all_pass.Symbol.{name as #walks·all-pass}
-use Rattle.walks.proofs.all_pass.Met as all-thm
+use Rattle.query_loop.proofs.Again.{lends, gets-back}
+use Rattle.query_loop.proofs.Lent.{Lent, OwnConditions, OwnIds, OwnOut, OwnRows, Owns, Ranged, Rooms, Slices, Tokens₃, apart, fits, head-val, header-val, headers, heads, lent-of, lifetimes, numbers, out-at, owns-on, question-val, questions, shares, slice-val, slices-off, slices-on, subset, sweep-val, sweeps, test-val, tests, together, tokens-off, tokens-on}
+use Rattle.query_loop.proofs.WalkSteps.{Fewer, all-known, fewer-wf, row-matches}
+use Rattle.query_loop.proofs.Walking.{AllPassed, Asked, Cell, Cells, Cites, Tokens, Walked, arg, bool-lands, by-value, calls, calls-last, empty, env-of, holds, kept-slice, lent-slice, own, stays, typed, value-lands, value-settles, walk-runs}
+use Rattle.query_loop.proofs.all_pass as all
+use Rattle.query_loop.proofs.all_pass.Symbol as all-def
+use Rattle.query_loop.proofs.all_pass.Symbol.{name as #query-loop·all-pass}
+use Rattle.query_loop.proofs.all_pass.Met as all-thm
 use Rattle.query_scan.proofs.opening as opn
 use Rattle.query_scan.proofs.opening.Symbol as opn-def
 use Rattle.query_scan.proofs.opening.Symbol.{name as #query-scan·opening}
@@ -39,11 +39,11 @@ use Rattle.query_scan.proofs.step as stp
 use Rattle.query_scan.proofs.step.Symbol as stp-def
 use Rattle.query_scan.proofs.step.Symbol.{name as #query-scan·step}
 use Rattle.query_scan.proofs.step.Met as stp-thm
-use Rattle.walks.proofs.ask.Key.{name as #walks·ask}
-use Rattle.walks.proofs.ask as f
-use Rattle.walks.proofs.ask.Statement as stated
-use Rattle.walks.proofs.ask.Code as code
-use Rattle.walks.proofs.ask.Code.Mir as mir
+use Rattle.query_loop.proofs.ask.Key.{name as #query-loop·ask}
+use Rattle.query_loop.proofs.ask as f
+use Rattle.query_loop.proofs.ask.Statement as stated
+use Rattle.query_loop.proofs.ask.Code as code
+use Rattle.query_loop.proofs.ask.Code.Mir as mir
 
 -- the type of the local that holds the output as it is lent on
 abbrev LentTy : Ty
@@ -76,9 +76,9 @@ module _ {M : Type 1} (𝓤 : URA M) (H : Heap 𝓤) (A : Atoms 𝓤) (W : Given
         own ! tests test is-t $ fjoin ! $ nothing ! $ move ! (3 ∷ 0 ∷ []) $ join ! $ move ! (2 ∷ 0 ∷ []) $ join ! $ join ! $ done !
 
     -- the call of `all_pass`
-    calls-all : {K : Type 0} {Γ : List (Item 𝓤)} {E : Env 𝓤 H} {Λ : Loops 𝓤 H} {post : Kit.Post 𝓤 H} {d : Place} {xs : List Operand} {rest : Body} → K → (𝓣 : Tables 𝓤 H) → Cites 𝓤 H A all.ended passing (𝓣 .C) #walks·all-pass
+    calls-all : {K : Type 0} {Γ : List (Item 𝓤)} {E : Env 𝓤 H} {Λ : Loops 𝓤 H} {post : Kit.Post 𝓤 H} {d : Place} {xs : List Operand} {rest : Body} → K → (𝓣 : Tables 𝓤 H) → Cites 𝓤 H A all.ended passing (𝓣 .C) #query-loop·all-pass
         → Opds K W (asks-all test ∷ ‵ (flft (p .κ₁) (p .q₁)) ∷ Slices p ∷ Γ) E xs (Asked 𝓤 H A all.ended passing .args (to-all test)) → Seq K W (Tokens₃ p ∷ Slices p ∷ Γ) (lands (𝓣 .C) Λ E d (vbool (all-pass test)) rest post)
-        → Seq K W (Tokens₃ p ∷ Slices p ∷ Γ) (runs (𝓣 .C) Λ E (seq (call #walks·all-pass xs d) rest) post)
+        → Seq K W (Tokens₃ p ∷ Slices p ∷ Γ) (runs (𝓣 .C) Λ E (seq (call #query-loop·all-pass xs d) rest) post)
     calls-all t 𝓣 known os k =
         apart p t $ move t (4 ∷ []) $ drop t $ move t (0 ∷ 2 ∷ 3 ∷ 4 ∷ []) $ group t 4 $ use1 W (asks-all test) can-ask $
         calls all.ended passing (to-all test) (λ r ws. r ≡ all-pass test) (λ r ws. id⊢ 𝓤 _) t (fmOf 𝓤 H (W .laws) 𝓣) known os (λ w r ws e.
@@ -138,7 +138,7 @@ module _ {M : Type 1} (𝓤 : URA M) (H : Heap 𝓤) (A : Atoms 𝓤) (W : Given
           move ! (2 ∷ 0 ∷ []) $ fjoin ! $ own ! heads (p .head) (is .1) $ fjoin ! $ own ! (numbers w64) (length rows) (refl, rooms .0 .0) $ fjoin ! $ own ! headers (p .header) (is .0) $ fjoin ! $ own ! questions question is-q $ fjoin ! $
           nothing ! $ move ! (2 ∷ 0 ∷ []) $ join ! $ join ! $ frame ! $ done !
 
-      module _ (𝓣 : Tables 𝓤 H) (known-all : Cites 𝓤 H A all.ended passing (𝓣 .C) #walks·all-pass) (known-open : Cites 𝓤 H A opn.ended opening (𝓣 .C) #query-scan·opening) (known-step : Cites 𝓤 H A stp.ended stepping (𝓣 .C) #query-scan·step)
+      module _ (𝓣 : Tables 𝓤 H) (known-all : Cites 𝓤 H A all.ended passing (𝓣 .C) #query-loop·all-pass) (known-open : Cites 𝓤 H A opn.ended opening (𝓣 .C) #query-scan·opening) (known-step : Cites 𝓤 H A stp.ended stepping (𝓣 .C) #query-scan·step)
           (l₀ l₁ l₂ l₃ l₄ l₅ l₆ l₇ l₈ l₉ l₁₀ l₁₁ l₁₂ l₁₃ l₁₄ l₁₅ l₁₆ l₁₇ : ℕ) where
         abbrev E : Env 𝓤 H
         E = env-of mir.locals (l₀ ∷ l₁ ∷ l₂ ∷ l₃ ∷ l₄ ∷ l₅ ∷ l₆ ∷ l₇ ∷ l₈ ∷ l₉ ∷ l₁₀ ∷ l₁₁ ∷ l₁₂ ∷ l₁₃ ∷ l₁₄ ∷ l₁₅ ∷ l₁₆ ∷ l₁₇ ∷ [])
@@ -253,7 +253,7 @@ module _ {M : Type 1} (𝓤 : URA M) (H : Heap 𝓤) (A : Atoms 𝓤) (W : Given
             is-t : Is TT.the-row Known (test-val Known ∷ [])
             is-t = EL.owes TT.the-type TT′.the-laws Known tt
 
-      walk : (𝓣 : Tables 𝓤 H) → Cites 𝓤 H A all.ended passing (𝓣 .C) #walks·all-pass → Cites 𝓤 H A opn.ended opening (𝓣 .C) #query-scan·opening → Cites 𝓤 H A stp.ended stepping (𝓣 .C) #query-scan·step
+      walk : (𝓣 : Tables 𝓤 H) → Cites 𝓤 H A all.ended passing (𝓣 .C) #query-loop·all-pass → Cites 𝓤 H A opn.ended opening (𝓣 .C) #query-scan·opening → Cites 𝓤 H A stp.ended stepping (𝓣 .C) #query-scan·step
           → ent 𝓤 (onEntry 𝓤 H A f.signature (y .0 .0) (y .0 .1) (y .0 .3) (y .0 .4)) (WpFn 𝓤 H (𝓣 .C) (𝓣 .Λ) code.function (Walked f.ended params 𝓤 H A clauses .args y) Post)
       walk 𝓣 known-all known-open known-step =
           qed W (Tokens 𝓤 H A 4 (y .0 .0) (y .0 .1) ∷ ‵ (fsep (QT.the-row .own question (question-val question ∷ [])) (Owns p (fsep (OwnConditions p) (fsep (OwnOut κ (out-at b o γ os) sz) ftrue)))) ∷ []) ∵
@@ -266,10 +266,10 @@ module _ {M : Type 1} (𝓤 : URA M) (H : Heap 𝓤) (A : Atoms 𝓤) (W : Given
 pub ask-spec : {M : Type 1} → stated.statement M
 unfolding code.routine tablesOf
 ask-spec 𝓤 H 𝓜 𝓖 𝓡 =
-    walk-runs f.ended params 𝓤 H 𝓜 𝓖 𝓡 (f.clauses 𝓤 H (𝓖 .A) (𝓜 .mem) (𝓡 .run)) code.env #walks·ask code.function (code.unfolded 𝓤 H 𝓜 𝓡) (λ κs qs bounds a g are. via 𝓤 _ (fst∗ 𝓤 _ (emp 𝓤))
+    walk-runs f.ended params 𝓤 H 𝓜 𝓖 𝓡 (f.clauses 𝓤 H (𝓖 .A) (𝓜 .mem) (𝓡 .run)) code.env #query-loop·ask code.function (code.unfolded 𝓤 H 𝓜 𝓡) (λ κs qs bounds a g are. via 𝓤 _ (fst∗ 𝓤 _ (emp 𝓤))
     (walk 𝓤 H (𝓖 .A) (givenOf 𝓤 H 𝓜 𝓖) (𝓜 .mem) (𝓡 .run) (lent-of κs qs (a .1) (a .1 .1 .1 .1 .1 .0)) (are .1 .0, are .1 .1 .1 .0) (a .0) (κs .1 .1 .1 .0) (qs .1 .1 .1 .0)
     (a .1 .1 .1 .1 .1 .1 .0 .ptr .0) (a .1 .1 .1 .1 .1 .1 .0 .ptr .1) (a .1 .1 .1 .1 .1 .1 .0 .name) (a .1 .1 .1 .1 .1 .1 .0 .now)
     (are .0) (are .1 .1 .0 .0 .1, (are .1 .1 .1 .1 .0 .0 .1, are .1 .1 .1 .1 .1 .0 .0 .1)) (are .1 .1 .1 .1 .1 .1 .0 .0 .1) (tablesOf 𝓤 H 𝓜 (tables 𝓤 H 𝓜 𝓡 code.env))
-    (cited 𝓤 H _ 𝓜 𝓡 code.env #walks·all-pass all-def.routine code.calls-walks·all-pass (all-thm.met 𝓤 H 𝓜 𝓖 𝓡))
+    (cited 𝓤 H _ 𝓜 𝓡 code.env #query-loop·all-pass all-def.routine code.calls-query-loop·all-pass (all-thm.met 𝓤 H 𝓜 𝓖 𝓡))
     (cited 𝓤 H _ 𝓜 𝓡 code.env #query-scan·opening opn-def.routine code.calls-query-scan·opening (opn-thm.met 𝓤 H 𝓜 𝓖 𝓡))
     (cited 𝓤 H _ 𝓜 𝓡 code.env #query-scan·step stp-def.routine code.calls-query-scan·step (stp-thm.met 𝓤 H 𝓜 𝓖 𝓡))))

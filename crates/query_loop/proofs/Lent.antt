@@ -1,8 +1,8 @@
 -- What a query is lent and passes on: a table's header and rows, a subset's head and ids, and conditions; and the output, which is
 -- lent and returned. Their machine values, what owning them is, and the steps by which a manual proof makes what a call requires of
 -- them. Assumes `Given`.
-use Rattle.walks.proofs.Prelude.{refl, ℕ, _<_, _^_, List, [], _∷_, length, URA, named, w64, Val, vint, Lft, Share, GName, Fml, fsep, flft, Heap, Atoms, Given, Goal}
-use Rattle.walks.proofs.Prelude.{Item, Step, step, ‵, _⊛_, _$_, move, drop, split, join, fsplit, fjoin, u32, Is, uint-makes, RefT, now, sliceVal, ShrSlice, MutSlice, Room}
+use Rattle.query_loop.proofs.Prelude.{refl, ℕ, _<_, _^_, List, [], _∷_, length, URA, named, w64, Val, vint, Lft, Share, GName, Fml, fsep, flft, Heap, Atoms, Given, Goal}
+use Rattle.query_loop.proofs.Prelude.{Item, Step, step, ‵, _⊛_, _$_, move, drop, split, join, fsplit, fjoin, u32, Is, uint-makes, RefT, now, sliceVal, ShrSlice, MutSlice, Room}
 use package.mir.Syntax.{Width}
 use package.mir.Val.{Fits}
 use denote.Plain.{UInt, uint-lawful, uint-tells}
@@ -27,7 +27,7 @@ use Rattle.query_scan.proofs.Question as QT
 use Rattle.query_scan.proofs.Question.Laws as QT′
 use Rattle.query_scan.proofs.Test as TT
 use Rattle.query_scan.proofs.Test.Laws as TT′
-use Rattle.walks.proofs.Walking.{Value, enum-value, own, struct-value, twice}
+use Rattle.query_loop.proofs.Walking.{Value, enum-value, own, struct-value, twice}
 
 -- the types of plain values that are passed
 abbrev pub headers : Value

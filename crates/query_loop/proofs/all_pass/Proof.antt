@@ -1,9 +1,9 @@
--- `walks::all_pass` meets its contract: a manual proof over its MIR. The loop's state at i: `ok` is whether the first i conditions
+-- `query_loop::all_pass` meets its contract: a manual proof over its MIR. The loop's state at i: `ok` is whether the first i conditions
 -- pass. Each iteration copies one record out of the slice and passes it to `passes_test`, of which the proof knows only its
 -- contract. Assumes nothing.
-use Rattle.walks.proofs.Prelude.{_≡_, refl, sym, _∙_, ℕ, _<_, _^_, Bool, true, false, List, [], _∷_, ltb, lit<, length, URA, fullShare, named, tyBool, w64, Val, vbool, vint, SProp, ent, id⊢, Lft, Share, GName, Fml, ftrue, fsep, flft, fat, Memory, Routine, Heap, Env, Tables, Wp, WpFn, afterBlock, afterSeq}
-use Rattle.walks.proofs.Prelude.{atReturn, afterTurn, Atoms, Fun, givenOf, tables, tablesOf, Given, Item, Sq, anyQ, atRet, runs, ‵, raw, ⋆, _$_, _∵_, !, qed, move, drop, group, use1, split, join, rewrite, fsplit, fjoin, suffices, frame, done, whole, sub, look-in, Below, look, store, init, forget, stop, hop, fld, from}
-use Rattle.walks.proofs.Prelude.{load, lit, of-opd, bin, no-more, assigns, land, again, blocks, exec, first, leaves-loop, loops, goes-on, returns, enter, alloc1, alloc0, params1, pass1, pass0, free1, free0, fmOf, u32, bool, Is, shows, bool-makes, RefT, now, sliceVal, ShrSlice, Room, owned, nothing, Clauses, onEntry, cited, says, needs, ends-at}
+use Rattle.query_loop.proofs.Prelude.{_≡_, refl, sym, _∙_, ℕ, _<_, _^_, Bool, true, false, List, [], _∷_, ltb, lit<, length, URA, fullShare, named, tyBool, w64, Val, vbool, vint, SProp, ent, id⊢, Lft, Share, GName, Fml, ftrue, fsep, flft, fat, Memory, Routine, Heap, Env, Tables, Wp, WpFn, afterBlock, afterSeq}
+use Rattle.query_loop.proofs.Prelude.{atReturn, afterTurn, Atoms, Fun, givenOf, tables, tablesOf, Given, Item, Sq, anyQ, atRet, runs, ‵, raw, ⋆, _$_, _∵_, !, qed, move, drop, group, use1, split, join, rewrite, fsplit, fjoin, suffices, frame, done, whole, sub, look-in, Below, look, store, init, forget, stop, hop, fld, from}
+use Rattle.query_loop.proofs.Prelude.{load, lit, of-opd, bin, no-more, assigns, land, again, blocks, exec, first, leaves-loop, loops, goes-on, returns, enter, alloc1, alloc0, params1, pass1, pass0, free1, free0, fmOf, u32, bool, Is, shows, bool-makes, RefT, now, sliceVal, ShrSlice, Room, owned, nothing, Clauses, onEntry, cited, says, needs, ends-at}
 use Prim.Native.Nat.{_+_, _*_}
 use native.Mathlib.Numerals.{add-one-dec}
 use native.Mathlib.Omega.{arith}
@@ -25,9 +25,9 @@ use Rattle.table.proofs.Header as HT
 use Rattle.query_scan.specs.declared.Test.{Test}
 use Rattle.query_scan.specs.inner.Sweeping.{RowNeeded, starts, passes, allPass}
 use Rattle.query_scan.proofs.Test as TT
-use Rattle.walks.proofs.Lent.{fits, header-val, headers, slice-val, test-val, tests}
-use Rattle.walks.proofs.WalkSteps.{none, passed, passed-none, passed-next, passed-all, Up, up-wf}
-use Rattle.walks.proofs.Walking.{AllPassed, Asked, Cell, Cells, Cites, Tokens, Walked, arg, bool-lands, by-value, calls, empty, env-of, holds, lent-slice, own, stays, twice, typed, walk-runs}
+use Rattle.query_loop.proofs.Lent.{fits, header-val, headers, slice-val, test-val, tests}
+use Rattle.query_loop.proofs.WalkSteps.{none, passed, passed-none, passed-next, passed-all, Up, up-wf}
+use Rattle.query_loop.proofs.Walking.{AllPassed, Asked, Cell, Cells, Cites, Tokens, Walked, arg, bool-lands, by-value, calls, empty, env-of, holds, lent-slice, own, stays, twice, typed, walk-runs}
 use Rattle.query_scan.proofs.can_pass as can
 use Rattle.query_scan.proofs.can_pass.Symbol as can-def
 use Rattle.query_scan.proofs.can_pass.Symbol.{name as #query-scan·can-pass}
@@ -36,11 +36,11 @@ use Rattle.query_scan.proofs.passes_test as too
 use Rattle.query_scan.proofs.passes_test.Symbol as too-def
 use Rattle.query_scan.proofs.passes_test.Symbol.{name as #query-scan·passes-test}
 use Rattle.query_scan.proofs.passes_test.Met as too-thm
-use Rattle.walks.proofs.all_pass.Key.{name as #walks·all-pass}
-use Rattle.walks.proofs.all_pass as f
-use Rattle.walks.proofs.all_pass.Statement as stated
-use Rattle.walks.proofs.all_pass.Code as code
-use Rattle.walks.proofs.all_pass.Code.Mir as mir
+use Rattle.query_loop.proofs.all_pass.Key.{name as #query-loop·all-pass}
+use Rattle.query_loop.proofs.all_pass as f
+use Rattle.query_loop.proofs.all_pass.Statement as stated
+use Rattle.query_loop.proofs.all_pass.Code as code
+use Rattle.query_loop.proofs.all_pass.Code.Mir as mir
 
 abbrev params : AllPassed (f.ended .signature .params) (f.ended .kept)
 params = (by-value tests, (by-value headers, (lent-slice u32 0 tt, (lent-slice CT.the-row 1 tt, tt))))
@@ -192,7 +192,7 @@ module _ {M : Type 1} (𝓤 : URA M) (H : Heap 𝓤) (A : Atoms 𝓤) (W : Given
 pub all-pass-spec : {M : Type 1} → stated.statement M
 unfolding code.routine tablesOf
 all-pass-spec 𝓤 H 𝓜 𝓖 𝓡 =
-    walk-runs f.ended params 𝓤 H 𝓜 𝓖 𝓡 (f.clauses 𝓤 H (𝓖 .A) (𝓜 .mem) (𝓡 .run)) code.env #walks·all-pass code.function (code.unfolded 𝓤 H 𝓜 𝓡) (λ κs qs bounds a g are. needs 𝓤 (RowNeeded (a .0) (a .1 .0) (length (now (a .1 .1 .0)))) _ (λ need.
+    walk-runs f.ended params 𝓤 H 𝓜 𝓖 𝓡 (f.clauses 𝓤 H (𝓖 .A) (𝓜 .mem) (𝓡 .run)) code.env #query-loop·all-pass code.function (code.unfolded 𝓤 H 𝓜 𝓡) (λ κs qs bounds a g are. needs 𝓤 (RowNeeded (a .0) (a .1 .0) (length (now (a .1 .1 .0)))) _ (λ need.
     walk 𝓤 H (𝓖 .A) (givenOf 𝓤 H 𝓜 𝓖) (𝓜 .mem) (𝓡 .run) (κs .0) (κs .1 .0) (qs .0) (qs .1 .0) (a .0) (a .1 .0) (a .1 .1 .0) (a .1 .1 .1 .0 .ptr .0) (a .1 .1 .1 .0 .ptr .1) (a .1 .1 .1 .0 .name) (a .1 .1 .1 .0 .now)
     (are .0) (are .1 .0) need (tablesOf 𝓤 H 𝓜 (tables 𝓤 H 𝓜 𝓡 code.env))
     (cited 𝓤 H _ 𝓜 𝓡 code.env #query-scan·can-pass can-def.routine code.calls-query-scan·can-pass (can-thm.met 𝓤 H 𝓜 𝓖 𝓡))
