@@ -25,10 +25,8 @@ abbrev pub KeysDiffer : Header → List ℕ → Type 0
 KeysDiffer h rows = (i j : ℕ) → LiveAt (keyedOf h) rows i → LiveAt (keyedOf h) rows j
     → keyAt (keyedOf h) rows i ≡ keyAt (keyedOf h) rows j → i ≡ j
 
--- "A table is *sound* if:"
-pub record Sound (h : Header) (rows keys sorts pending : List ℕ) (staged : List Staged) : Type 0 where
-  -- its header and stores pass tests 1 and 2
-  pub tested : soundRefusal h (length rows) (length keys) (length sorts) (length pending) ≡ 0
+-- The part of soundness that is about the contents of a table: everything but the lengths of its stores and the key store.
+pub record SoundContents (h : Header) (rows sorts pending : List ℕ) (staged : List Staged) : Type 0 where
   -- "its dead count is the number of dead rows"
   pub dead-counted : h .dead ≡ count (λ row. not (isLive row)) (rowsOf (h .columns) (h .rows) rows)
   pub keys-differ : KeysDiffer h rows
@@ -39,8 +37,14 @@ pub record Sound (h : Header) (rows keys sorts pending : List ℕ) (staged : Lis
       → getD (rowAt (h .columns) i rows) (h .sort) 0 ≡ valueAt i (entriesOf (h .entries) sorts)
   -- change 7: "no sort entry exceeds it, and .. there is one wherever there are sort entries"
   pub largest-kept : every (λ e. atMost (e .value) (largestSays (h .largest))) (entriesOf (h .entries) sorts) ≡ true
-  -- "the key store leads to exactly the live rows"
-  pub keyed : KeysSound (keyedOf h) rows keys
   -- "pending records are whole"
   pub pending-counted : h .pending ≡ wordsAll (openingOf h) staged
   pub pending-whole : Holds (openingOf h) pending staged
+
+-- "A table is *sound* if:"
+pub record Sound (h : Header) (rows keys sorts pending : List ℕ) (staged : List Staged) : Type 0 where
+  -- its header and stores pass tests 1 and 2
+  pub tested : soundRefusal h (length rows) (length keys) (length sorts) (length pending) ≡ 0
+  pub contents : SoundContents h rows sorts pending staged
+  -- "the key store leads to exactly the live rows"
+  pub keyed : KeysSound (keyedOf h) rows keys

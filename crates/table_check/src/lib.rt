@@ -60,7 +60,7 @@ fn largest_sound(h: Header, sorts: &[u32]) -> bool
 }
 
 // Whether the dead count, the sort entries, the largest value and the live sort cells are sound.
-fn rows_sound(h: Header, rows: &[u32], sorts: &[u32]) -> bool
+pub fn rows_sound(h: Header, rows: &[u32], sorts: &[u32]) -> bool
     requires { ⌜ Cells (now rows) (h .columns) (h .sort) (h .rows) ⌝ }
     requires { ⌜ Held (now sorts) (h .entries) ⌝ }
     ensures { λ r. ⌜ Decides (RowsSound h (now (rows .entry)) (now (sorts .entry))) r ⌝ }
@@ -96,7 +96,7 @@ fn finds_itself(t: Keyed, rows: &[u32], keys: &[u32], row: u32) -> bool
 }
 
 // Whether the keys of live rows differ, given a sound key store.
-fn keys_differ(t: Keyed, rows: &[u32], keys: &[u32]) -> bool
+pub fn keys_differ(t: Keyed, rows: &[u32], keys: &[u32]) -> bool
     requires { ⌜ (Fits t (now rows) (now keys)) × (KeysSound t (now rows) (now keys)) ⌝ }
     ensures { λ r. ⌜ Decides (KeysDiffer t (now (rows .entry))) r ⌝ }
 {
@@ -171,7 +171,7 @@ fn record_words(h: Header, pending: &[u32], at: u32) -> u32
 }
 
 // Whether the pending words in use are complete records.
-fn pending_whole(h: Header, pending: &[u32]) -> bool
+pub fn pending_whole(h: Header, pending: &[u32]) -> bool
     requires { ⌜ PendingIn h (now pending) ⌝ }
     ensures { λ r. ⌜ Decides (PendingWhole h (now (pending .entry))) r ⌝ }
 {

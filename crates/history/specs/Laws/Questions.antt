@@ -186,15 +186,15 @@ module _ {p : Plain} {s : Stores} (r : Represents p s) (c : Constraint) (lent : 
       let below : length (take lent (s .sorts)) ≤ lent = simp length-take (omega arith) in
       let lies : 2 * s .header .entries ≤ lent = omega (arith, t .inside .rows-fit, t .inside .entries-fit, t .sorts-long, below) in
       let part = entries-lent (s .header .entries) lent (s .sorts) lies in
-      let k : fastSubset (s .header) (take lent (s .sorts)) c ≡ some b = same (sym (m .table n (rw part (sound .entries-rise))) ∙ q) in
+      let k : fastSubset (s .header) (take lent (s .sorts)) c ≡ some b = same (sym (m .table n (rw part (sound .contents .entries-rise))) ∙ q) in
       let g = ranged (s .header) (take lent (s .sorts)) c b k in
       let few = known-kind (s .header .columns) c (t .is-known) in
       let is = g .is ∙ ap (λ (es : List Entry). fastRange (c .kind) (c .value) es (s .header .rows)) part in
       let compared = g .compared in
       let above : 1 ≤ c .kind = omega arith in
       rw is
-      (fast-range (entriesOf (s .header .entries) (s .sorts)) (s .header .rows) (c .kind) (c .value) (sound .entries-rise) above few id (alive-below s id e)
-      ∙ rw (met-compared (rowAt (s .header .columns) id (s .rows)) c compared, g .sorted, sound .sorted id (alive-below s id e, alive-live s id e)))
+      (fast-range (entriesOf (s .header .entries) (s .sorts)) (s .header .rows) (c .kind) (c .value) (sound .contents .entries-rise) above few id (alive-below s id e)
+      ∙ rw (met-compared (rowAt (s .header .columns) id (s .rows)) c compared, g .sorted, sound .contents .sorted id (alive-below s id e, alive-live s id e)))
     where
       same : {x y : Option Subset} → accepted x ≡ accepted y → x ≡ y
       same f = cc

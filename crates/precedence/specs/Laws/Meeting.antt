@@ -223,5 +223,5 @@ module _ {p : Plain} {h : Header} {rows keys sorts pending : List ℕ} (r : Repr
   pub checked-plain : {column : ℕ} {pairs : List ℕ} {answer : PrecedenceAnswer} → PrecedenceChecked h rows keys column pairs answer
       → precedenceRefusal h (length rows) (length keys) column (length pairs) ≡ 0 → precedenceSays answer ≡ accepted (precedenceFailure p column (pairsOf pairs))
   checked-plain {column} {pairs} m passed =
-      m .table passed (r .keyed) (represents-sound r .keys-differ)
+      m .table passed (r .keyed) (represents-sound r .contents .keys-differ)
       ∙ ap accepted (failure-same (ofRows h rows) p column (pairsOf pairs) (ap (λ (x : Header). openingOf x) (r .shown .header)) rows-live)

@@ -111,7 +111,7 @@ module _ {p : Plain} {h : Header} {b : Body} {pending : List ℕ} (b′ : Body) 
 -- ---- stores with more cells behind, and without them
 
 -- stores that represent a plain table pass test 2 for the header's numbers
-long-header : {p : Plain} {h : Header} {rows keys sorts pending : List ℕ} → Represents p (stores h rows keys sorts pending)
+pub long-header : {p : Plain} {h : Header} {rows keys sorts pending : List ℕ} → Represents p (stores h rows keys sorts pending)
     → LongEnough (openingOf h) (length rows) (length keys) (length sorts)
 long-header r = rw (ap openingOf (r .shown .header)) (represents-long r)
 

@@ -166,14 +166,14 @@ module _ {s : Stores} (t : SoundTable s) where
   pub sound-looked-up : {key : List ℕ} {answer : RowAnswer} → LookedUp (s .header) (s .rows) (s .keys) key answer
       → lookupRefusal (s .header) (length (s .rows)) (length (s .keys)) (length key) ≡ 0
       → rowSays answer ≡ accepted (Option·map (λ row. row .number) (lookup (ofRows (s .header) (s .rows)) key))
-  sound-looked-up m passed = m .table passed (t .sound .keyed) (t .sound .keys-differ)
+  sound-looked-up m passed = m .table passed (t .sound .keyed) (t .sound .contents .keys-differ)
 
   pub sound-cell-read : {key : List ℕ} {column : ℕ} {answer : CellAnswer} → CellRead (s .header) (s .rows) (s .keys) key column answer
       → cellRefusal (s .header) (length (s .rows)) (length (s .keys)) (length key) column ≡ 0
       → cellSays answer ≡ accepted (Option·map (λ row. getD (row .cells) column 0) (lookup (ofRows (s .header) (s .rows)) key))
-  sound-cell-read m passed = m .table passed (t .sound .keyed) (t .sound .keys-differ)
+  sound-cell-read m passed = m .table passed (t .sound .keyed) (t .sound .contents .keys-differ)
 
   -- *Fast range*
   pub sound-range-read : {c : Constraint} {answer : RangeAnswer} → RangeRead (s .header) (s .sorts) c answer
       → fastRefusal (s .header) (length (s .sorts)) c ≡ 0 → rangeSays answer ≡ accepted (fastSubset (s .header) (s .sorts) c)
-  sound-range-read m passed = m .table passed (t .sound .entries-rise)
+  sound-range-read m passed = m .table passed (t .sound .contents .entries-rise)

@@ -47,7 +47,7 @@ module _ {p : Plain} {s : Stores} (r : Represents p s) (key : List ℕ) where
   pub row-lookup : (i : ℕ) → LiveAt (keyedOf (s .header)) (s .rows) i → keyAt (keyedOf (s .header)) (s .rows) i ≡ key
       → lookup p key ≡ some (record { number = i; cells = rowAt (s .header .columns) i (s .rows) })
   row-lookup i l e =
-      one-lookup p key i (live-passes i l e) (λ j f. let g = passes-live j f in represents-sound r .keys-differ j i (g .0) l (g .1 ∙ sym e))
+      one-lookup p key i (live-passes i l e) (λ j f. let g = passes-live j f in represents-sound r .contents .keys-differ j i (g .0) l (g .1 ∙ sym e))
       ∙ ap (λ (cells : List ℕ). some (record { number = i; cells = cells })) (live-cells r i (in-live r i l))
 
   -- if no live row has the key, nothing is found
@@ -97,8 +97,8 @@ module _ {p : Plain} {h : Header} {rows keys sorts pending : List ℕ} (key : Li
 
   pub looked-up-plain : {answer : RowAnswer} → LookedUp h rows keys key answer → lookupRefusal h (length rows) (length keys) (length key) ≡ 0
       → rowSays answer ≡ accepted (Option·map (λ row. row .number) (lookup p key))
-  looked-up-plain m passed = rw (← rows-lookup) (m .table passed (r .keyed) (represents-sound r .keys-differ))
+  looked-up-plain m passed = rw (← rows-lookup) (m .table passed (r .keyed) (represents-sound r .contents .keys-differ))
 
   pub cell-read-plain : {column : ℕ} {answer : CellAnswer} → CellRead h rows keys key column answer → cellRefusal h (length rows) (length keys) (length key) column ≡ 0
       → cellSays answer ≡ accepted (Option·map (λ row. getD (row .cells) column 0) (lookup p key))
-  cell-read-plain m passed = rw (← rows-lookup) (m .table passed (r .keyed) (represents-sound r .keys-differ))
+  cell-read-plain m passed = rw (← rows-lookup) (m .table passed (r .keyed) (represents-sound r .contents .keys-differ))

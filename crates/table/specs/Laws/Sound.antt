@@ -129,14 +129,17 @@ module _ {p : Plain} {s : Stores} (r : Represents p s) where
   represents-sound =
       record {
         tested = tested-sound;
-        dead-counted = counted;
-        keys-differ = differ;
-        entries-rise = rise;
-        sorted = recorded;
-        largest-kept = rw (r .shown .entries-shown, r .shown .header, says-of (p .largest)) (entries-kept (r .proper));
+        contents =
+            record {
+              dead-counted = counted;
+              keys-differ = differ;
+              entries-rise = rise;
+              sorted = recorded;
+              largest-kept = rw (r .shown .entries-shown, r .shown .header, says-of (p .largest)) (entries-kept (r .proper));
+              pending-counted = rw (r .shown .header);
+              pending-whole = rw (r .shown .header) (r .shown .pending-held);
+            };
         keyed = r .keyed;
-        pending-counted = rw (r .shown .header);
-        pending-whole = rw (r .shown .header) (r .shown .pending-held);
       }
 
 -- ---- a sound table shows a plain table
@@ -230,7 +233,7 @@ module _ {h : Header} {rows keys sorts pending : List ℕ} {staged : List Staged
   plainOf-sort i k =
       let t = sound-facts .inside .bounds .sort-column in
       rw (plainOf-row i k)
-      (plainRow-sort (h .sort) (valueAt i (entriesOf (h .entries) sorts)) (rowAt (h .columns) i rows) (omega (arith, width-at i k)) (λ e. s .sorted i (k, e)))
+      (plainRow-sort (h .sort) (valueAt i (entriesOf (h .entries) sorts)) (rowAt (h .columns) i rows) (omega (arith, width-at i k)) (λ e. s .contents .sorted i (k, e)))
 
   plainOf-below : (i : ℕ) → rowOf (plainOf h rows sorts staged) i .live ≡ true → i < h .rows
   plainOf-below i e = omega (arith, live-below (plainOf h rows sorts staged .rows) i e, plainOf-length)
@@ -250,10 +253,10 @@ module _ {h : Header} {rows keys sorts pending : List ℕ} {staged : List Staged
         rows-fit = omega (arith, plainOf-length, t .inside .rows-fit);
         widths = every-of (wideRow (h .columns)) noRow (plainOf h rows sorts staged .rows) wide;
         live-first = every-of firstFits noRow (plainOf h rows sorts staged .rows) first-fits;
-        keys-differ = λ i j a b e. s .keys-differ i j (plainOf-live i a) (plainOf-live j b) (ap (take (h .keys)) (sym (plainOf-cells i a)) ∙ e ∙ ap (take (h .keys)) (plainOf-cells j b));
+        keys-differ = λ i j a b e. s .contents .keys-differ i j (plainOf-live i a) (plainOf-live j b) (ap (take (h .keys)) (sym (plainOf-cells i a)) ∙ e ∙ ap (take (h .keys)) (plainOf-cells j b));
         sorted = λ i j a b. climb i j a (omega (arith, plainOf-length));
         largest-kept = every-of (keptRow (h .sort) (largestSays (h .largest))) noRow (plainOf h rows sorts staged .rows) kept;
-        staged-whole = s .pending-whole .whole;
+        staged-whole = s .contents .pending-whole .whole;
       }
     where
       inside : (i : ℕ) → i < length (plainOf h rows sorts staged .rows) → i < h .rows
@@ -271,7 +274,7 @@ module _ {h : Header} {rows keys sorts pending : List ℕ} {staged : List Staged
       kept i k =
           let es : List Entry = entriesOf (h .entries) sorts in
           let some-rows : 0 < h .rows = omega (arith, inside i k) in
-          rw (plainOf-sort i (inside i k)) (valueAt-every (λ v. atMost v (largestSays (h .largest))) i es (sound-some es (h .rows) (s .entries-rise) some-rows) (s .largest-kept))
+          rw (plainOf-sort i (inside i k)) (valueAt-every (λ v. atMost v (largestSays (h .largest))) i es (sound-some es (h .rows) (s .contents .entries-rise) some-rows) (s .contents .largest-kept))
 
       climb : (i j : ℕ) → i ≤ j → j < h .rows → getD (rowOf (plainOf h rows sorts staged) i .cells) (h .sort) 0 ≤ getD (rowOf (plainOf h rows sorts staged) j .cells) (h .sort) 0
       climb i j a b =
@@ -279,7 +282,7 @@ module _ {h : Header} {rows keys sorts pending : List ℕ} {staged : List Staged
             arith,
             plainOf-sort i (omega arith),
             plainOf-sort j b,
-            valueAt-climbs i j (entriesOf (h .entries) sorts) (h .rows) (sound-climb (entriesOf (h .entries) sorts) (h .rows) (s .entries-rise)) a,
+            valueAt-climbs i j (entriesOf (h .entries) sorts) (h .rows) (sound-climb (entriesOf (h .entries) sorts) (h .rows) (s .contents .entries-rise)) a,
           )
 
   -- its entries are the stored ones
@@ -289,13 +292,13 @@ module _ {h : Header} {rows keys sorts pending : List ℕ} {staged : List Staged
       let p : Plain = plainOf h rows sorts staged in
       let n : length (sortCells p) ≡ h .rows = length-sortCells p ∙ plainOf-length in
       sym
-      (rebuilt-same (sortCells p) (entriesOf (h .entries) sorts) (rw n (s .entries-rise))
+      (rebuilt-same (sortCells p) (entriesOf (h .entries) sorts) (rw n (s .contents .entries-rise))
       (λ i k. getD-sortCells p i (omega (arith, plainOf-length)) ∙ plainOf-sort i (omega arith)))
 
   plainOf-dead : h .dead ≡ dead (plainOf h rows sorts staged)
   unfolding dead
   plainOf-dead =
-      s .dead-counted
+      s .contents .dead-counted
       ∙ count-alike (λ (row : List ℕ). not (isLive row)) (λ (row : Row). not (row .live)) [] noRow (rowsOf (h .columns) (h .rows) rows) (plainOf h rows sorts staged .rows)
       (length-rowsOf (h .columns) (h .rows) rows ∙ sym plainOf-length)
       (λ i k.
@@ -317,7 +320,7 @@ module _ {h : Header} {rows keys sorts pending : List ℕ} {staged : List Staged
         rows = a i;
         dead = plainOf-dead i;
         entries = c i;
-        pending = s .pending-counted i;
+        pending = s .contents .pending-counted i;
         generation = h .generation;
         largest = d i;
       }
@@ -333,7 +336,7 @@ module _ {h : Header} {rows keys sorts pending : List ℕ} {staged : List Staged
               header = plainOf-header;
               rows-shown = λ i k. plainOf-shown i k;
               entries-shown = plainOf-entries;
-              pending-held = s .pending-whole;
+              pending-held = s .contents .pending-whole;
             };
         keyed = s .keyed;
       }

@@ -76,24 +76,27 @@ module _ (h : Header) (rows keys sorts pending : List ℕ) (staged : List Staged
   parts-sound tested a b c =
       record {
         tested = tested;
-        dead-counted = a .dead-counted;
-        keys-differ = b .keys-differ;
-        entries-rise = a .entries-rise;
-        sorted = a .sorted;
-        largest-kept = a .largest-kept;
+        contents =
+            record {
+              dead-counted = a .dead-counted;
+              keys-differ = b .keys-differ;
+              entries-rise = a .entries-rise;
+              sorted = a .sorted;
+              largest-kept = a .largest-kept;
+              pending-counted = c .pending-counted;
+              pending-whole = c .pending-whole;
+            };
         keyed = b .keyed;
-        pending-counted = c .pending-counted;
-        pending-whole = c .pending-whole;
       }
 
   pub sound-rows : Sound h rows keys sorts pending staged → RowsSound h rows sorts
-  sound-rows s = record { dead-counted = s .dead-counted; entries-rise = s .entries-rise; sorted = s .sorted; largest-kept = s .largest-kept }
+  sound-rows s = let c = s .contents in record { dead-counted = c .dead-counted; entries-rise = c .entries-rise; sorted = c .sorted; largest-kept = c .largest-kept }
 
   pub sound-index : Sound h rows keys sorts pending staged → IndexSound (keyedOf h) rows keys
-  sound-index s = record { keyed = s .keyed; keys-differ = s .keys-differ }
+  sound-index s = record { keyed = s .keyed; keys-differ = s .contents .keys-differ }
 
   pub sound-whole : Sound h rows keys sorts pending staged → Pending h pending staged
-  sound-whole s = record { pending-counted = s .pending-counted; pending-whole = s .pending-whole }
+  sound-whole s = record { pending-counted = s .contents .pending-counted; pending-whole = s .contents .pending-whole }
 
 -- ---- keys
 

@@ -1,0 +1,7 @@
+-- What follows from the definitions.
+pub mod Contents
+pub mod Resized
+pub mod Saved
+pub mod Loaded
+pub mod Damage
+pub mod Theorem

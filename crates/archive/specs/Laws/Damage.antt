@@ -1,0 +1,90 @@
+-- An image changed within four neighbouring bytes is no image. Assumes nothing.
+use Prim.Native.Nat.{ℕ, zero, suc, _+_, _<_}
+use mathlib.Core.Path.{_≡_, refl, sym, ap, _∙_}
+use mathlib.Core.Bool.{true}
+use mathlib.Core.List.{List, [], _∷_, _++_}
+use mathlib.Core.Logic.{_⊎_, inl, inr}
+use mathlib.Core.Option.{Option, none, some}
+use native.Mathlib.Omega.{arith}
+use lib.ListN.{length, getD}
+use Rattle.lists.specs.Lists.{flat}
+use Rattle.refusals.specs.Refusals.{Reply, refused, accepted}
+use Rattle.crc32.specs.Crc.{register, crc32, bytesOf, wordBytes}
+use Rattle.crc32.specs.Bytes.{Below}
+use Rattle.crc32.specs.Laws.Bytes.{bytes-of-append, bytes-of-below, bytes-of-cons}
+use Rattle.crc32.specs.Laws.Damage.{damage-shows, residue-of-crc}
+use Rattle.table.specs.declared.Header.{Header}
+use Rattle.table.specs.declared.TableAnswer.{TableAnswer}
+use Rattle.table.specs.declared.TableAnswer.the-variants.{Table}
+use Rattle.table.specs.Numbers.{tableSays}
+use Rattle.image_spec.specs.Image.{Image, imageBody, imageWords, isImage, Reads, reads, reads-none}
+use Rattle.image_spec.specs.Contracts.{checkReply, ImageChecked}
+use Rattle.archive.specs.Archive.{Damaged}
+
+-- ---- bytes
+
+below-first : (a b : List ℕ) → Below 256 (a ++ b) → Below 256 a
+below-first [] b h i = omega arith
+below-first (x ∷ a) b h zero = h 0
+below-first (x ∷ a) b h (suc i) = below-first a b (λ k. h (suc k)) i
+
+below-second : (a b : List ℕ) → Below 256 (a ++ b) → Below 256 b
+below-second [] b h = h
+below-second (x ∷ a) b h = below-second a b (λ k. h (suc k))
+
+-- ---- images
+
+one : (w : ℕ) → bytesOf (w ∷ []) ≡ wordBytes w
+unfolding bytesOf wordBytes flat
+one w = refl
+
+-- the register over a whole image is a constant
+image-residue : (i : Image) → register (bytesOf (imageWords i)) ≡ 3736805603
+unfolding imageWords
+image-residue i =
+    let c = crc32 (bytesOf (imageBody i)) in
+    ap register (bytes-of-append (imageBody i) (c ∷ []) ∙ ap (λ (x : List ℕ). bytesOf (imageBody i) ++ x) (one c))
+    ∙ residue-of-crc (bytesOf (imageBody i)) (bytes-of-below (imageBody i))
+
+-- words that are read as an image
+pub record IsImage (words : List ℕ) (o : Option Image) : Type 0 where
+  pub image : Image
+  pub is-read : o ≡ some image
+  pub passes : isImage image ≡ true
+  pub are : words ≡ imageWords image
+
+pub read-cases : (words : List ℕ) (o : Option Image) → Reads words o → (o ≡ none) ⊎ IsImage words o
+read-cases words (some i) (reads _ p e) = inr (record { image = i; is-read = refl; passes = p; are = e })
+read-cases words none (reads-none _) = inl refl
+
+-- damage within four bytes changes the register
+damaged-register : (bytes bytes′ : List ℕ) → Below 256 bytes → Below 256 bytes′ → Damaged bytes bytes′ → register bytes ≡ register bytes′ → ⊥
+damaged-register bytes bytes′ h h′ d e =
+    let k = rw (d .is) at h in
+    let k′ = rw (d .is′) at h′ in
+    let front = below-first (d .before ++ d .four) (d .after) k in
+    let front′ = below-first (d .before ++ d .four′) (d .after) k′ in
+    let same : d .four ≡ d .four′ =
+    damage-shows (d .before) (d .four) (d .four′) (d .after) (below-first (d .before) (d .four) front) (below-second (d .before) (d .four) front)
+    (below-second (d .before) (d .four′) front′) (below-second (d .before ++ d .four) (d .after) k) (d .long) (d .long′)
+    (sym (ap register (d .is)) ∙ e ∙ ap register (d .is′)) in
+    d .differ (d .is ∙ ap (λ (x : List ℕ). d .before ++ x ++ d .after) same ∙ sym (d .is′))
+
+pub damaged-none : (words words′ : List ℕ) (i : Image) → words ≡ imageWords i → Damaged (bytesOf words) (bytesOf words′)
+    → (j : Image) → words′ ≡ imageWords j → ⊥
+damaged-none words words′ i e d j f =
+    damaged-register (bytesOf words) (bytesOf words′) (bytes-of-below words) (bytes-of-below words′) d
+    (ap (λ (x : List ℕ). register (bytesOf x)) e ∙ image-residue i ∙ sym (ap (λ (x : List ℕ). register (bytesOf x)) f ∙ image-residue j))
+
+pub damage-refused : (words words′ : List ℕ) (h : Header) (answer : TableAnswer)
+    → ImageChecked words (Table h) → Damaged (bytesOf words) (bytesOf words′) → ImageChecked words′ answer
+    → tableSays answer ≡ refused 19
+unfolding checkReply tableSays
+damage-refused words words′ h answer m d m′ =
+    elim (read-cases words′ (m′ .decoded .image) (m′ .decoded .reads)) [
+      | inl e ↦ m′ .answers ∙ ap (λ (o : Option Image). checkReply o (m′ .decoded .sound)) e
+      | inr k ↦ elim (read-cases words (m .decoded .image) (m .decoded .reads)) [
+        | inl e ↦ absurd (let q : _≡_ {A = Reply Header} (accepted h) (refused 19) = m .answers ∙ ap (λ (o : Option Image). checkReply o (m .decoded .sound)) e in let z : _≡_ {A = ℕ} 0 1 = cc in omega arith)
+        | inr i ↦ absurd (damaged-none words words′ (i .image) (i .are) d (k .image) (k .are))
+      ]
+    ]

@@ -1,0 +1,125 @@
+-- The words that `write_image` leaves are an image of the table, of a sound one if the table is. Assumes nothing.
+use Prim.Native.Nat.{ℕ, zero, suc, _+_, _*_, _/_, _≤_}
+use mathlib.Core.Path.{_≡_, refl, sym, ap, _∙_}
+use mathlib.Core.Bool.{true, false}
+use mathlib.Core.List.{List, [], _∷_, _++_}
+use mathlib.Core.Option.{Option, none, some}
+use native.Mathlib.Nat.{le-refl, mul-le-mul-right}
+use native.Mathlib.Omega.{arith}
+use lib.ListN.{length, take, drop, length-append}
+use lib.Seq.{length-take-le, take-take, take-at}
+use borrow.Author.Tests.{ltb-false, le-leb, eq-eqb}
+use Rattle.lists.specs.Lists.{putAt}
+use Rattle.refusals.specs.Refusals.{Reply, refused, accepted, reply}
+use Rattle.crc32.specs.Crc.{crc32, bytesOf}
+use Rattle.plain_table.specs.Laws.Calls.{first-no, first-rest}
+use Rattle.plain_table.specs.Plain.{Plain}
+use Rattle.table.specs.declared.Header.{Header}
+use Rattle.table.specs.Numbers.{openingOf}
+use Rattle.table.specs.Sound.{SoundContents}
+use Rattle.table.specs.Promises.{Stores, Represents}
+use Rattle.table.specs.Laws.Shown.{represents-long, represents-inside}
+use Rattle.table.specs.Laws.Refusals.{Inside, outside-inside}
+use Rattle.table.specs.Laws.Pending.{holds-fits}
+use Rattle.table.specs.Laws.Sound.{represents-sound}
+use Rattle.abi.specs.Encoding.{encodeHeader}
+use Rattle.image_spec.specs.Image.{Image, packed, imageBody, imageWords, isImage, Reads, reads, SoundImage, imageOf, imageLength}
+use Rattle.image_spec.specs.Contracts.{lengthSays, writeRefusal}
+use Rattle.image_spec.specs.Laws.Unique.{Parts, image-parts, parts-image, length-encoded, length-packed}
+use Rattle.archive.specs.Archive.{Saved}
+use Rattle.archive.specs.Laws.Contents.{SameInUse, contents-same}
+
+-- ---- lengths
+
+pub length-image : (i : Image) → Parts i → length (imageWords i) ≡ imageLength (i .header) (length (i .text))
+unfolding imageWords imageBody imageLength
+length-image i p =
+    omega (
+      arith,
+      length-append (imageBody i) (crc32 (bytesOf (imageBody i)) ∷ []),
+      length-append (encodeHeader (i .header)) (length (i .text) ∷ (packed (i .text) ++ (i .rows ++ (i .sorts ++ i .pending)))),
+      length-append (packed (i .text)) (i .rows ++ (i .sorts ++ i .pending)),
+      length-append (i .rows) (i .sorts ++ i .pending),
+      length-append (i .sorts) (i .pending),
+      length-encoded (i .header),
+      length-packed (i .text),
+      p .rows-counted,
+      p .sorts-counted,
+      p .pending-counted,
+    )
+
+-- an accepted answer
+pub accepted-number : (n m v : ℕ) → _≡_ {A = Reply ℕ} (accepted v) (reply n m) → (n ≡ 0) × (v ≡ m)
+unfolding reply
+accepted-number zero m v e = (refl, cc)
+accepted-number (suc n) m v e = absurd (let z : _≡_ {A = ℕ} 0 1 = cc in omega arith)
+
+-- ---- the image of a table that is saved
+
+module _ {p : Plain} {s : Stores} (r : Represents p s) {words : List ℕ} (saved : Saved s words) where
+  abbrev pub savedImage : Image
+  savedImage = imageOf (s .header) (s .rows) (s .sorts) (s .pending) (saved .text)
+
+  refusal : ℕ
+  refusal = writeRefusal (s .header) (length (s .rows)) (length (s .sorts)) (length (s .pending)) (length (saved .text)) (length (saved .output))
+
+  said : (refusal ≡ 0) × (saved .count ≡ imageLength (s .header) (length (saved .text)))
+  unfolding refusal lengthSays
+  said = accepted-number refusal _ _ (saved .written .answers)
+
+  inside : Inside (s .header)
+  inside = outside-inside (s .header) (represents-inside r)
+
+  -- the words in use lie in the stores
+  rows-in : s .header .rows * s .header .columns ≤ length (s .rows)
+  rows-in =
+      let o : openingOf (s .header) ≡ p .opening = ap openingOf (r .shown .header) in
+      let long : s .header .capacity * s .header .columns ≤ length (s .rows) = rw (← o) at (represents-long r .rows-long) in
+      let fit = mul-le-mul-right (s .header .columns) (inside .rows-fit) in
+      omega (arith, long, fit)
+
+  sorts-in : 2 * s .header .entries ≤ length (s .sorts)
+  sorts-in =
+      let o : openingOf (s .header) ≡ p .opening = ap openingOf (r .shown .header) in
+      let long : 2 * s .header .capacity ≤ length (s .sorts) = rw (← o) at (represents-long r .sorts-long) in
+      omega (arith, long, inside .rows-fit, inside .entries-fit)
+
+  pending-in : s .header .pending ≤ length (s .pending)
+  pending-in = rw (r .shown .header) (holds-fits (r .shown .pending-held))
+
+  pub saved-parts : Parts savedImage
+  unfolding refusal writeRefusal
+  saved-parts =
+      record {
+        bounds = represents-inside r;
+        text-fits = ltb-false _ _ (first-no _ _ _ (first-rest _ _ _ (first-rest _ _ _ (said .0))));
+        text-bytes = saved .bytes;
+        rows-counted = length-take-le _ _ rows-in;
+        sorts-counted = length-take-le _ _ sorts-in;
+        pending-counted = length-take-le _ _ pending-in;
+      }
+
+  pub saved-words : words ≡ imageWords savedImage
+  unfolding putAt refusal
+  saved-words =
+      saved .image
+      ∙ ap (take (saved .count)) (saved .written .written (said .0))
+      ∙ take-at (imageWords savedImage) _ (saved .count) (length-image savedImage saved-parts ∙ sym (said .1))
+
+  pub saved-reads : Reads words (some savedImage)
+  saved-reads = reads savedImage (parts-image savedImage saved-parts) saved-words
+
+  same : (n : ℕ) (l : List ℕ) → take n (take n l) ≡ take n l
+  same n l = take-take n n l (le-refl n)
+
+  pub saved-sound : SoundImage savedImage
+  saved-sound = (
+    p .staged,
+    contents-same
+        (record {
+          rows-same = same (s .header .rows * s .header .columns) (s .rows);
+          sorts-same = same (2 * s .header .entries) (s .sorts);
+          pending-same = same (s .header .pending) (s .pending);
+        })
+        (represents-sound r .contents),
+  )

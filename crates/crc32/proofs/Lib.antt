@@ -1,0 +1,3 @@
+pub mod TableRule
+pub mod Slices
+pub mod Words

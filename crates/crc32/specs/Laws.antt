@@ -1,0 +1,6 @@
+-- What follows from the definitions.
+pub mod Xor
+pub mod Steps
+pub mod Bytes
+pub mod Register
+pub mod Damage

@@ -1,0 +1,4 @@
+pub mod Crc
+pub mod Bytes
+pub mod inner
+pub mod Laws

@@ -1,0 +1,186 @@
+-- The steps of the check of an image: one law for each way that a function returns. Assumes nothing.
+use Prim.Native.Nat.{ℕ, _*_, _≤_}
+use mathlib.Core.Path.{_≡_, refl, sym}
+use mathlib.Core.Bool.{Bool, true, false, true≢false, false≢true}
+use mathlib.Core.List.{List}
+use mathlib.Core.Option.{Option, none, some}
+use native.Mathlib.Omega.{arith}
+use lib.ListN.{length}
+use Rattle.refusals.specs.Refusals.{first, reply}
+use Rattle.key_index.specs.declared.Keyed.{Keyed}
+use Rattle.key_index.specs.inner.Index.{Fits}
+use Rattle.sort_entries.specs.inner.Search.{Held}
+use Rattle.sort_entries.specs.inner.Checks.{Decides, decides-no, Cells}
+use Rattle.table.specs.declared.Header.{Header}
+use Rattle.table.specs.declared.TableAnswer.the-variants.{Refused as TableRefused, Table}
+use Rattle.table.specs.Numbers.{tableSays}
+use Rattle.table.specs.Refusing.{outside}
+use Rattle.table.specs.Sound.{KeysDiffer}
+use Rattle.table.specs.Laws.Refusals.{outside-inside}
+use Rattle.table_check.specs.inner.Checks.{RowsSound, PendingIn, PendingWhole}
+use Rattle.image_spec.specs.Image.{Image, Reads, SoundImage}
+use Rattle.image_spec.specs.Contracts.{Decoded, checkReply, ImageChecked}
+use Rattle.image_parse.specs.declared.Layout.{Layout}
+use Rattle.image_parse.specs.inner.Parsed.{part, imageIn, IsAt}
+use Rattle.image_parse.specs.Laws.Images.{Proper, image-in-proper}
+use Rattle.image_check.specs.declared.Decoding.{Decoding}
+use Rattle.image_check.specs.declared.Decoding.the-variants.{Refused, Sound}
+use Rattle.image_check.specs.inner.Decoding.{DecodingIs}
+
+-- ---- `is_key_unique`
+
+-- as many slots as rows call for, and no more room
+abbrev rowsAlone : Header → Keyed
+rowsAlone h = record { columns = h .columns; keys = h .keys; room = h .rows; rows = h .rows }
+
+pub no-row-differs : (h : Header) (rows : List ℕ) → h .rows ≡ 0 → KeysDiffer h rows
+no-row-differs h rows e i j a b k = absurd (omega (arith, a .0))
+
+pub rows-fit : (h : Header) (rows store : List ℕ) → outside h ≡ false → h .rows * h .columns ≤ length rows → (h .rows ≡ 0 → ⊥) → 131072 ≤ length store → Fits (rowsAlone h) rows store
+rows-fit h rows store e long any slots =
+    let i = outside-inside h e in
+    let b = i .bounds in
+    record {
+      some-columns = b .columns-some;
+      most-columns = b .columns-few;
+      some-keys = b .keys-some;
+      most-keys = b .keys-few;
+      some = omega arith;
+      most = omega (arith, i .rows-fit, b .capacity-few);
+      count = omega arith;
+      cells = long;
+      long = omega (arith, i .rows-fit, b .capacity-few);
+    }
+
+-- ---- `is_contents_sound`
+
+module _ (words : List ℕ) (l : Layout) (t : IsAt words l) where
+  proper : Proper (imageIn words l)
+  proper = image-in-proper words l (t .placed) (t .counted)
+
+  pub contents-cells : Cells (part words (l .rows) (l .sorts)) (l .header .columns) (l .header .sort) (l .header .rows)
+  unfolding imageIn
+  contents-cells =
+      let i = outside-inside (l .header) (t .placed .inside) in
+      record {
+        narrow = i .bounds .columns-few;
+        column = i .bounds .sort-column;
+        few = omega (arith, i .rows-fit, i .bounds .capacity-few);
+        words = omega (arith, proper .rows-are);
+      }
+
+  pub contents-held : Held (part words (l .sorts) (l .pending)) (l .header .entries)
+  unfolding imageIn
+  contents-held =
+      let i = outside-inside (l .header) (t .placed .inside) in
+      record { few = omega (arith, i .entries-fit, i .rows-fit, i .bounds .capacity-few); words = omega (arith, proper .sorts-are) }
+
+  pub contents-long : l .header .rows * l .header .columns ≤ length (part words (l .rows) (l .sorts))
+  unfolding imageIn
+  contents-long = omega (arith, proper .rows-are)
+
+  pub contents-pending : PendingIn (l .header) (part words (l .pending) (l .end))
+  unfolding imageIn
+  contents-pending =
+      let i = outside-inside (l .header) (t .placed .inside) in
+      record { most-columns = i .bounds .columns-few; most-keys = i .bounds .keys-few; fits = omega (arith, proper .pending-are) }
+
+  pub unsound-rows : (RowsSound (l .header) (part words (l .rows) (l .sorts)) (part words (l .sorts) (l .pending)) → ⊥) → Decides (SoundImage (imageIn words l)) false
+  unfolding imageIn
+  unsound-rows f =
+      decides-no (λ s. let c = s .1 in f (record { dead-counted = c .dead-counted; entries-rise = c .entries-rise; sorted = c .sorted; largest-kept = c .largest-kept }))
+
+  pub unsound-keys : (KeysDiffer (l .header) (part words (l .rows) (l .sorts)) → ⊥) → Decides (SoundImage (imageIn words l)) false
+  unfolding imageIn
+  unsound-keys f = decides-no (λ s. f (s .1 .keys-differ))
+
+  pub sound-by-pending : RowsSound (l .header) (part words (l .rows) (l .sorts)) (part words (l .sorts) (l .pending)) → KeysDiffer (l .header) (part words (l .rows) (l .sorts))
+      → (r : Bool) → Decides (PendingWhole (l .header) (part words (l .pending) (l .end))) r → Decides (SoundImage (imageIn words l)) r
+  unfolding imageIn
+  sound-by-pending a k r d =
+      record {
+        yes = λ q.
+            let w = d .yes q in (
+              w .0,
+              record {
+                dead-counted = a .dead-counted;
+                keys-differ = k;
+                entries-rise = a .entries-rise;
+                sorted = a .sorted;
+                largest-kept = a .largest-kept;
+                pending-counted = w .1 .pending-counted;
+                pending-whole = w .1 .pending-whole;
+              },
+            );
+        no = λ q s. d .no q (s .0, record { pending-counted = s .1 .pending-counted; pending-whole = s .1 .pending-whole });
+      }
+
+-- ---- `decode`
+
+module _ (words : List ℕ) where
+  pub decoding-none : Reads words none → DecodingIs words (Refused 19)
+  unfolding checkReply
+  decoding-none n =
+      record {
+        decoded =
+            record {
+              image = none;
+              reads = n;
+              sound = false;
+              if-sound = λ e. absurd (false≢true e);
+              if-unsound = λ _ i e. absurd (let z : _≡_ {A = ℕ} 0 1 = cc in omega arith);
+            };
+        refusal = λ m e. cc;
+        sound-at = λ l e. absurd (let z : _≡_ {A = ℕ} 0 1 = cc in omega arith);
+      }
+
+  module _ (l : Layout) (t : IsAt words l) where
+    pub decoding-unsound : (SoundImage (imageIn words l) → ⊥) → DecodingIs words (Refused 20)
+    unfolding checkReply reply first
+    decoding-unsound f =
+        record {
+          decoded =
+              record {
+                image = some (imageIn words l);
+                reads = t .reads;
+                sound = false;
+                if-sound = λ e. absurd (false≢true e);
+                if-unsound = λ _ i e s. let k : imageIn words l ≡ i = cc in f (rw k s);
+              };
+          refusal = λ m e. cc;
+          sound-at = λ m e. absurd (let z : _≡_ {A = ℕ} 0 1 = cc in omega arith);
+        }
+
+    that-one : SoundImage (imageIn words l) → (i : Image) → _≡_ {A = Option Image} (some (imageIn words l)) (some i) → SoundImage i
+    that-one s i e = let k : imageIn words l ≡ i = cc in rw (← k) s
+
+    abbrev sound-one : SoundImage (imageIn words l) → Decoded words
+    sound-one s =
+        record {
+          image = some (imageIn words l);
+          reads = t .reads;
+          sound = true;
+          if-sound = λ _. that-one s;
+          if-unsound = λ e. absurd (true≢false e);
+        }
+
+    pub decoding-sound : SoundImage (imageIn words l) → DecodingIs words (Sound l)
+    decoding-sound s =
+        record {
+          decoded = sound-one s;
+          refusal = λ m e. absurd (let z : _≡_ {A = ℕ} 0 1 = cc in omega arith);
+          sound-at = λ m e. let k : l ≡ m = cc in rw (← k) (record { there = t; image-is = refl; sound-is = refl });
+        }
+
+-- ---- `check_image`
+
+module _ (words : List ℕ) (r : Decoding) (d : DecodingIs words r) where
+  pub checked-refused : (n : ℕ) → r ≡ Refused n → ImageChecked words (TableRefused n)
+  unfolding tableSays
+  checked-refused n e = record { decoded = d .decoded; answers = sym (d .refusal n e) }
+
+  pub checked-sound : (l : Layout) → r ≡ Sound l → ImageChecked words (Table (l .header))
+  unfolding tableSays checkReply reply first imageIn
+  checked-sound l e =
+      let s = d .sound-at l e in
+      record { decoded = d .decoded; answers = rw (s .image-is, s .sound-is) }

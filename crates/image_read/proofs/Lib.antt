@@ -1,0 +1,2 @@
+pub mod LoadingSteps
+pub mod TextSteps

@@ -1,0 +1,199 @@
+-- The steps of loading an image's table: one law for each way that a function returns. Assumes nothing.
+use Prim.Native.Nat.{ℕ, _*_, _≤_, _<_}
+use mathlib.Core.Path.{_≡_, refl, sym, ap, _∙_}
+use mathlib.Core.Bool.{Bool, true, false, _||_}
+use mathlib.Core.List.{List, []}
+use mathlib.Core.Option.{Option, none, some}
+use native.Mathlib.Nat.{mul-le-mul-right}
+use native.Mathlib.Omega.{arith}
+use lib.Dec.{ltb}
+use lib.ListN.{length}
+use borrow.Author.Tests.{ltb-false, lt-ltb, le-ltb, eq-eqb, ne-eqb}
+use Rattle.lists.specs.Laws.Every.{or-no-left, or-no-right}
+use Rattle.lists.specs.Laws.Parts.{length-putAt}
+use Rattle.refusals.specs.Refusals.{refused, accepted, first, reply}
+use Rattle.refusals.specs.Laws.Replies.{verdict-refused, verdict-accepted}
+use Rattle.key_index.specs.declared.Keyed.{Keyed}
+use Rattle.key_index.specs.inner.Index.{Fits}
+use Rattle.key_index.specs.Laws.Rooms.{past-room}
+use Rattle.key_rebuild.specs.inner.Growth.{Rebuilt}
+use Rattle.plain_table.specs.Refusing.{Lengths, storesShort}
+use Rattle.plain_table.specs.Laws.Calls.{first-no, first-rest}
+use Rattle.table.specs.declared.Header.{Header}
+use Rattle.table.specs.declared.TableAnswer.{TableAnswer}
+use Rattle.table.specs.declared.TableAnswer.the-variants.{Refused, Table}
+use Rattle.table.specs.Numbers.{openingOf, tableSays}
+use Rattle.table.specs.Refusing.{outside, rowsShort}
+use Rattle.table.specs.Sound.{keyedOf}
+use Rattle.table.specs.Promises.{Body, body, lengths}
+use Rattle.table.specs.Laws.Shown.{LongEnough, stores-long}
+use Rattle.table.specs.Laws.Refusals.{Inside, outside-inside, inside-fits}
+use Rattle.image_spec.specs.Image.{Image}
+use Rattle.image_spec.specs.Contracts.{withCapacity, checkReply, readRefusal, ImageRead}
+use Rattle.image_parse.specs.declared.Layout.{Layout}
+use Rattle.image_parse.specs.inner.Parsed.{part, imageIn, IsAt}
+use Rattle.image_parse.specs.Laws.Images.{image-in-proper}
+use Rattle.image_check.specs.declared.Decoding.{Decoding}
+use Rattle.image_check.specs.declared.Decoding.the-variants.{Refused as NotDecoded, Sound}
+use Rattle.image_check.specs.inner.Decoding.{DecodingIs}
+use Rattle.image_read.specs.inner.Loading.{loadRefusal, storesRefusal, PartsFit, PartsWritten, Loading}
+
+-- ---- `with_capacity`
+
+module _ (h : Header) (capacity : ℕ) where
+  pub capacity-kept : capacity ≡ 0 → h ≡ withCapacity h capacity
+  capacity-kept e = rw (eq-eqb capacity 0 e)
+
+  pub capacity-changed : (capacity ≡ 0 → ⊥)
+      → record { columns = h .columns; keys = h .keys; sort = h .sort; rule = h .rule; capacity = capacity; rows = h .rows; dead = h .dead; entries = h .entries; pending = h .pending; generation = h .generation; largest = h .largest } ≡ withCapacity h capacity
+  capacity-changed e = rw (ne-eqb capacity 0 e)
+
+-- ---- `load_refusal`
+
+pub capacity-few : (h : Header) → outside h ≡ false → h .capacity ≤ 65536
+capacity-few h e = outside-inside h e .bounds .capacity-few
+
+module _ (h : Header) (l : Lengths) where
+  pub load-outside : outside h ≡ true → 1 ≡ loadRefusal h l
+  unfolding loadRefusal first
+  load-outside e = rw e
+
+  module _ (e : outside h ≡ false) where
+    pub load-rows : rowsShort h (l .rows) ≡ true → 2 ≡ loadRefusal h l
+    unfolding loadRefusal first storesShort rowsShort
+    load-rows r = rw (e, r)
+
+    module _ (r : rowsShort h (l .rows) ≡ false) where
+      pub load-keys : l .keys < 2 * h .capacity → 2 ≡ loadRefusal h l
+      unfolding loadRefusal first storesShort rowsShort
+      load-keys k = rw (e, r, lt-ltb _ _ k)
+
+      pub load-sorts : 2 * h .capacity ≤ l .keys → l .sorts < 2 * h .capacity → 2 ≡ loadRefusal h l
+      unfolding loadRefusal first storesShort rowsShort
+      load-sorts k s = rw (e, r, le-ltb _ _ k, lt-ltb _ _ s)
+
+      pub load-pending : 2 * h .capacity ≤ l .keys → 2 * h .capacity ≤ l .sorts → l .pending < h .pending → 2 ≡ loadRefusal h l
+      unfolding loadRefusal first storesShort rowsShort
+      load-pending k s p = rw (e, r, le-ltb _ _ k, le-ltb _ _ s, lt-ltb _ _ p)
+
+      pub load-none : 2 * h .capacity ≤ l .keys → 2 * h .capacity ≤ l .sorts → h .pending ≤ l .pending → 0 ≡ loadRefusal h l
+      unfolding loadRefusal first storesShort rowsShort
+      load-none k s p = rw (e, r, le-ltb _ _ k, le-ltb _ _ s, le-ltb _ _ p)
+
+-- what is known where nothing is refused
+pub record Loadable (h : Header) (l : Lengths) : Type 0 where
+  pub inside : Inside h
+  pub long : LongEnough (openingOf h) (l .rows) (l .keys) (l .sorts)
+  pub pending-fits : h .pending ≤ l .pending
+
+pub load-accepted : (h : Header) (l : Lengths) → loadRefusal h l ≡ 0 → Loadable h l
+unfolding loadRefusal
+load-accepted h l e =
+    let b = first-no (storesShort (openingOf h) l || ltb (l .pending) (h .pending)) 1 _ (first-rest (outside h) 0 _ e) in
+    record {
+      inside = outside-inside h (first-no (outside h) 0 _ e);
+      long = stores-long (openingOf h) l (or-no-left (storesShort (openingOf h) l) _ b);
+      pending-fits = ltb-false _ _ (or-no-right (storesShort (openingOf h) l) _ b);
+    }
+
+-- ---- `load`
+
+module _ (words : List ℕ) (l : Layout) (capacity : ℕ) (b : Body) (pending : List ℕ) (n : Header) (header : n ≡ withCapacity (l .header) capacity)
+    (number : ℕ) (e : number ≡ loadRefusal n (lengths (b .rows) (b .keys) (b .sorts) pending [] [])) where
+  refusal-is : number ≡ storesRefusal l capacity b pending
+  refusal-is = e ∙ ap (λ (h : Header). loadRefusal h (lengths (b .rows) (b .keys) (b .sorts) pending [] [])) header
+
+  pub loading-refused : (number ≡ 0 → ⊥) → Loading words l capacity b pending (Refused number) b pending
+  unfolding tableSays
+  loading-refused f =
+      record {
+        refusal = verdict-refused _ _ number refl refusal-is f;
+        unchanged = λ _. (refl, refl);
+        loaded = λ z. absurd (f (refusal-is ∙ z));
+      }
+
+  module _ (z : number ≡ 0) where
+    loadable : Loadable (withCapacity (l .header) capacity) (lengths (b .rows) (b .keys) (b .sorts) pending [] [])
+    loadable = load-accepted _ _ (sym refusal-is ∙ z)
+
+    pub parts-fit : IsAt words l → PartsFit words l (length (b .rows)) (length (b .sorts)) (length pending)
+    parts-fit t =
+        let g = loadable in
+        record {
+          there = t;
+          rows-fit = omega (arith, g .long .rows-long, mul-le-mul-right (l .header .columns) (g .inside .rows-fit));
+          sorts-fit = omega (arith, g .long .sorts-long, g .inside .rows-fit, g .inside .entries-fit);
+          pending-fit = g .pending-fits;
+        }
+
+    module _ (t : IsAt words l) (rows′ sorts′ pending′ : List ℕ) (w : PartsWritten words l (b .rows) (b .sorts) pending rows′ sorts′ pending′) where
+      rows-length : length rows′ ≡ length (b .rows)
+      unfolding imageIn
+      rows-length =
+          let p = image-in-proper words l (t .placed) (t .counted) in
+          ap length (w .rows-after) ∙ length-putAt (b .rows) (part words (l .rows) (l .sorts)) 0 (omega (arith, p .rows-are, parts-fit t .rows-fit))
+
+      pub keys-fit : (k : Keyed) → k ≡ keyedOf n → Fits k rows′ (b .keys)
+      keys-fit k is =
+          let g = loadable in
+          rw (is, header) (inside-fits (withCapacity (l .header) capacity) rows′ (b .keys) (g .inside) (omega (arith, g .long .rows-long, rows-length)) (g .long .keys-long))
+
+      pub loading-done : (k : Keyed) → k ≡ keyedOf n → (keys′ : List ℕ) → Rebuilt k rows′ (b .keys) keys′ → length keys′ ≡ length (b .keys) → Loading words l capacity b pending (Table n) (body rows′ keys′ sorts′) pending′
+      unfolding tableSays imageIn
+      loading-done k is keys′ s kept =
+          let h = withCapacity (l .header) capacity in
+          let r : Rebuilt (keyedOf h) rows′ (b .keys) keys′ = rw (is, header) at s in
+          record {
+            refusal = verdict-accepted _ _ n refl (sym refusal-is ∙ z);
+            unchanged = λ k. absurd (omega (arith, refusal-is, z, k));
+            loaded = λ _.
+                record {
+                  answers = ap accepted header;
+                  rows-after = w .rows-after;
+                  sorts-after = w .sorts-after;
+                  pending-after = w .pending-after;
+                  keyed = r .sound;
+                  past = past-room (h .capacity) (h .rows) (b .keys) keys′ (r .rest);
+                  slots = kept;
+                };
+          }
+
+-- ---- `read_image`
+
+-- words that the check refuses are refused with the same number when they are read
+refusal-same : (image : Option Image) (sound : Bool) (number : ℕ) (capacity : ℕ) (b : Body) (pending : List ℕ) → checkReply image sound ≡ refused number
+    → (readRefusal image sound capacity b pending ≡ number) × (0 < number)
+unfolding checkReply readRefusal reply first
+refusal-same none sound number capacity b pending e = let k : 19 ≡ number = cc in (k, omega arith)
+refusal-same (some i) true number capacity b pending e = absurd (let z : _≡_ {A = ℕ} 0 1 = cc in omega arith)
+refusal-same (some i) false number capacity b pending e = let k : 20 ≡ number = cc in (k, omega arith)
+
+module _ (words : List ℕ) (capacity : ℕ) (b : Body) (pending : List ℕ) (r : Decoding) (d : DecodingIs words r) where
+  pub read-refused : (number : ℕ) → r ≡ NotDecoded number → ImageRead words capacity b pending (Refused number) b pending
+  unfolding tableSays
+  read-refused number e =
+      let s = refusal-same (d .decoded .image) (d .decoded .sound) number capacity b pending (d .refusal number e) in
+      record {
+        decoded = d .decoded;
+        refusal = verdict-refused _ _ number refl (sym (s .0)) (λ z. omega (arith, s .1, z));
+        unchanged = λ _. (refl, refl);
+        loaded = λ i _ z. absurd (omega (arith, s .0, s .1, z));
+      }
+
+  pub read-loaded : (l : Layout) → r ≡ Sound l → (answer : TableAnswer) (b′ : Body) (pending′ : List ℕ) → Loading words l capacity b pending answer b′ pending′
+      → ImageRead words capacity b pending answer b′ pending′
+  read-loaded l e answer b′ pending′ g =
+      let s = d .sound-at l e in
+      let n : readRefusal (d .decoded .image) (d .decoded .sound) capacity b pending ≡ storesRefusal l capacity b pending = rw (s .image-is, s .sound-is) same in
+      record {
+        decoded = d .decoded;
+        refusal = rw n (g .refusal);
+        unchanged = λ k. g .unchanged (rw n at k);
+        loaded = λ i is z. let f : imageIn words l ≡ i = some-same (sym (s .image-is) ∙ is) in rw (← f) (g .loaded (sym n ∙ z));
+      }
+    where
+      same : readRefusal (some (imageIn words l)) true capacity b pending ≡ storesRefusal l capacity b pending
+      same = unfold readRefusal first loadRefusal imageIn in refl
+
+      some-same : {i j : Image} → _≡_ {A = Option Image} (some i) (some j) → i ≡ j
+      some-same e = cc

@@ -1,0 +1,50 @@
+-- `image_write::parts::write_text` meets its contract. The loop's invariant: the first i words of the text are in the output, which is
+-- otherwise as it was. Assumes nothing.
+use Prim.Native.Nat.{ℕ, _+_, _-_, _≤_}
+use mathlib.Core.Path.{_≡_, refl, sym, ap₂, _∙_}
+use mathlib.Core.List.{List}
+use native.Mathlib.Omega.{arith}
+use lib.ListN.{length, take, set, length-set}
+use lib.Seq.{take-length}
+use Rattle.lists.specs.Lists.{putAt}
+use Rattle.lists.specs.Laws.Parts.{putAt-nil}
+use Rattle.image_spec.specs.Image.{packed}
+use Rattle.image_write.specs.Laws.Packed.{length-packed}
+use Rattle.image_write.specs.Laws.Bodies.{write-step}
+use borrow.Author.Needs.{needs}
+use Rattle.image_write.proofs.parts.write_text.Statement.{statement}
+use Rattle.image_write.proofs.parts.write_text.Tie as tie
+
+abbrev Inv-loop : tie.InvT-loop
+Inv-loop text output₀ at words i₀ output i = (i ≤ words) × (length output ≡ length output₀) × (output ≡ putAt output₀ at (take i (packed text)))
+
+abbrev μ-loop : tie.MeasureT-loop
+μ-loop text output₀ at words i₀ output i = words - i
+
+loop-holds : tie.Need-loop-holds Inv-loop μ-loop
+loop-holds c = (search needs, refl, sym (putAt-nil _ _))
+
+loop-again : tie.Need-loop-again Inv-loop μ-loop
+loop-again c =
+    let l = c .before .before in
+    let a = l .before .before .before .before .args in
+    let n : length (packed (a .text .now)) ≡ l .before .packed-length .result = length-packed (a .text .now) ∙ sym (l .before .packed-length .ensures) in (
+      search needs,
+      simp length-set (l .loop .inv .1),
+      ap₂ (λ (x : List ℕ) (v : ℕ). set x (a .at + l .loop .i) v) (l .loop .inv .2) (c .text-word .ensures)
+          ∙ write-step (a .output .now) (packed (a .text .now)) (a .at) (l .loop .i) (omega arith) (omega arith),
+    )
+
+returns : tie.Need-returns Inv-loop μ-loop
+returns c =
+    let a = c .before .before .before .before .before .args in
+    let n : length (packed (a .text .now)) ≡ c .before .before .packed-length .result = length-packed (a .text .now) ∙ sym (c .before .before .packed-length .ensures) in
+    let e : c .before .loop .i ≡ length (packed (a .text .now)) = omega arith in
+    c .before .loop .inv .2 ∙ rw (e, take-length (packed (a .text .now)))
+
+pub write-text-spec : {M : Type 1} → statement M
+write-text-spec =
+    tie.close
+    (tie.spec
+    Inv-loop μ-loop (λ c κs. search needs) loop-holds (λ c κs. search needs) (λ c. search needs) (λ c. search needs)
+    (λ c. search needs) (λ c. search needs) (λ c. search needs) loop-again (λ c. search needs) returns)

@@ -1,0 +1,33 @@
+-- The contracts of *Image size* and *Write image* determine the outcome. Assumes nothing.
+use Prim.Native.Nat.{ℕ}
+use mathlib.Core.Path.{_≡_, sym, _∙_}
+use mathlib.Core.Logic.{⊎-elim}
+use mathlib.Core.List.{List}
+use lib.ListN.{length}
+use Rattle.refusals.specs.Laws.Replies.{some-number}
+use Rattle.refusals.specs.Laws.Determined.{Same}
+use Rattle.table.specs.declared.Header.{Header}
+use Rattle.image_spec.specs.declared.LengthAnswer.{LengthAnswer}
+use Rattle.image_spec.specs.declared.LengthAnswer.the-variants.{Refused, Length}
+use Rattle.image_spec.specs.Contracts.{lengthSays, ImageSized, writeRefusal, ImageWritten}
+
+-- two answers with the same reply are the same
+same-reply : (a b : LengthAnswer) → lengthSays a ≡ lengthSays b → a ≡ b
+unfolding lengthSays
+same-reply (Refused m) (Refused n) e = cc
+same-reply (Refused m) (Length n) e = cc
+same-reply (Length m) (Refused n) e = cc
+same-reply (Length m) (Length n) e = cc
+
+pub sized-determined : {h : Header} {text : ℕ} {a b : LengthAnswer} → ImageSized h text a → ImageSized h text b → a ≡ b
+sized-determined {a = a} {b = b} x y = same-reply a b (x .answers ∙ sym (y .answers))
+
+pub written-determined : {h : Header} {rows sorts pending text output output₁ output₂ : List ℕ} {a b : LengthAnswer}
+    → ImageWritten h rows sorts pending text output a output₁ → ImageWritten h rows sorts pending text output b output₂ → Same a b output₁ output₂
+written-determined {h} {rows} {sorts} {pending} {text} {output} {a = a} {b = b} x y =
+    record {
+      answer = same-reply a b (x .answers ∙ sym (y .answers));
+      cells =
+          ⊎-elim (λ none. x .written none ∙ sym (y .written none)) (λ some. x .unchanged some ∙ sym (y .unchanged some))
+          (some-number (writeRefusal h (length rows) (length sorts) (length pending) (length text) (length output)));
+    }

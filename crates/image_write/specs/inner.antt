@@ -1,0 +1,2 @@
+-- The contracts of private parts.
+pub mod Parts
