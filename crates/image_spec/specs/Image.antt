@@ -56,7 +56,7 @@ pub data Reads (words : List ℕ) : Option Image → Type 0 where
   reads : (i : Image) → isImage i ≡ true → words ≡ imageWords i → Reads words (some i)
   reads-none : ((i : Image) → isImage i ≡ true → words ≡ imageWords i → ⊥) → Reads words none
 
--- An image of a sound table: all that soundness asks of a header, rows, sort entries and pending records.
+-- An image of a sound table: all that soundness requires of a header, rows, sort entries and pending records.
 abbrev pub SoundImage : Image → Type 0
 SoundImage i = (staged : List Staged) × SoundContents (i .header) (i .rows) (i .sorts) (i .pending) staged
 
