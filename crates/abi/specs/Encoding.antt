@@ -117,10 +117,10 @@ encodeVersion v = v .generation ∷ v .rows ∷ []
 
 -- A subset as an answer has the same layout as an argument: a range, or the list of the first ids of the output, whose end is their
 -- number.
-unfoldable pub subsetSays : SubsetAnswer → Reply SubsetHead
-subsetSays (SubsetRefused n) = refused n
-subsetSays (SubsetRange start end) = accepted (record { dense = true; start = start; end = end })
-subsetSays (SubsetList count) = accepted (record { dense = false; start = 0; end = count })
+unfoldable pub subsetView : SubsetAnswer → Reply SubsetHead
+subsetView (SubsetRefused n) = refused n
+subsetView (SubsetRange start end) = accepted (record { dense = true; start = start; end = end })
+subsetView (SubsetList count) = accepted (record { dense = false; start = 0; end = count })
 
 unfoldable pub encodeSubset : SubsetHead → List ℕ
 encodeSubset s = bit (s .dense) ∷ s .start ∷ s .end ∷ []
@@ -142,25 +142,25 @@ stored encode words (refused n) = words
 stored encode words (accepted a) = encode a
 
 -- an answer's number is returned and its encoding stored
-pub record Stored {R A : Type 0} (says : R → Reply A) (encode : A → List ℕ) (answer : R) (words : List ℕ) (r : ℕ) (words′ : List ℕ) : Type 0 where
-  pub returns : r ≡ returned (says answer)
-  pub stores : words′ ≡ stored encode words (says answer)
+pub record Stored {R A : Type 0} (view : R → Reply A) (encode : A → List ℕ) (answer : R) (words : List ℕ) (r : ℕ) (words′ : List ℕ) : Type 0 where
+  pub returns : r ≡ returned (view answer)
+  pub stores : words′ ≡ stored encode words (view answer)
 
 -- The contract of a C function: some answer meets the library's contract, its number is returned and its encoding stored.
-pub record Answers {R A : Type 0} (promise : R → Type 0) (says : R → Reply A) (encode : A → List ℕ) (words : List ℕ) (r : ℕ) (words′ : List ℕ) : Type 0 where
+pub record Answers {R A : Type 0} (contract : R → Type 0) (view : R → Reply A) (encode : A → List ℕ) (words : List ℕ) (r : ℕ) (words′ : List ℕ) : Type 0 where
   pub answer : R
-  pub promised : promise answer
-  pub stores : Stored says encode answer words r words′
+  pub contract-met : contract answer
+  pub stores : Stored view encode answer words r words′
 
 -- The same for a function whose answer is its number alone.
-pub record AnswersNumber {R A : Type 0} (promise : R → Type 0) (says : R → Reply A) (r : ℕ) : Type 0 where
+pub record AnswersNumber {R A : Type 0} (contract : R → Type 0) (view : R → Reply A) (r : ℕ) : Type 0 where
   pub answer : R
-  pub promised : promise answer
-  pub returns : r ≡ returned (says answer)
+  pub contract-met : contract answer
+  pub returns : r ≡ returned (view answer)
 
 -- The same for a function that stores a header and its answer.
-pub record AnswersWithHeader {R A : Type 0} (promise : R → Type 0) (says : R → Reply A) (headerOf : A → Header) (encode : A → List ℕ) (header words : List ℕ) (r : ℕ) (header′ words′ : List ℕ) : Type 0 where
+pub record AnswersWithHeader {R A : Type 0} (contract : R → Type 0) (view : R → Reply A) (headerOf : A → Header) (encode : A → List ℕ) (header words : List ℕ) (r : ℕ) (header′ words′ : List ℕ) : Type 0 where
   pub answer : R
-  pub promised : promise answer
-  pub header-stored : Stored says (λ a. encodeHeader (headerOf a)) answer header r header′
-  pub stores : Stored says encode answer words r words′
+  pub contract-met : contract answer
+  pub header-stored : Stored view (λ a. encodeHeader (headerOf a)) answer header r header′
+  pub stores : Stored view encode answer words r words′

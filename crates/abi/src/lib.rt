@@ -1,9 +1,9 @@
 // Encodes headers and answers as words for C callers, and decodes their arguments. A fixed number of words is a fixed array, which
 // goes to C as a plain pointer.
 ghost use mathlib.Core.Path.{_≡_};
-ghost use Rattle.table.specs.Numbers.{tableSays, mergeSays, rowSays, cellSays, rangeSays, versionSays, soundSays};
-ghost use Rattle.query_spec.specs.Queries.{matchSays, pageSays};
-ghost use Rattle.abi.specs.Encoding.{decodeLargest, decodeColumns, decodeHeader, decodeCondition, decodeSubset, bit, largestFlag, largestValue, encodeHeader, encodeMerge, encodeBool, encodeOption, encodeRange, encodeVersion, subsetSays, encodeSubset, encodePage, Stored};
+ghost use Rattle.table.specs.Numbers.{tableView, mergeView, rowView, cellView, rangeView, versionView, soundView};
+ghost use Rattle.query_spec.specs.Queries.{matchView, pageView};
+ghost use Rattle.abi.specs.Encoding.{decodeLargest, decodeColumns, decodeHeader, decodeCondition, decodeSubset, bit, largestFlag, largestValue, encodeHeader, encodeMerge, encodeBool, encodeOption, encodeRange, encodeVersion, subsetView, encodeSubset, encodePage, Stored};
 use constraints::Constraint;
 use offsets::SubsetAnswer;
 use offsets::SubsetHead;
@@ -133,7 +133,7 @@ pub fn encode_header(h: Header) -> [u32; 12]
 }
 
 pub fn store_table(answer: TableAnswer, header: &mut [u32; 12]) -> u32
-    ensures { λ r. ⌜ Stored tableSays encodeHeader answer (now (header .entry)) r (now (header .exit)) ⌝ }
+    ensures { λ r. ⌜ Stored tableView encodeHeader answer (now (header .entry)) r (now (header .exit)) ⌝ }
 {
     match answer {
         TableAnswer::Refused(number) => number,
@@ -145,7 +145,7 @@ pub fn store_table(answer: TableAnswer, header: &mut [u32; 12]) -> u32
 }
 
 pub fn store_merge(answer: MergeAnswer, header: &mut [u32; 12], merged: &mut [u32; 5]) -> u32
-    ensures { λ r. ⌜ Stored mergeSays (λ m. encodeHeader (m .header)) answer (now (header .entry)) r (now (header .exit)) × Stored mergeSays encodeMerge answer (now (merged .entry)) r (now (merged .exit)) ⌝ }
+    ensures { λ r. ⌜ Stored mergeView (λ m. encodeHeader (m .header)) answer (now (header .entry)) r (now (header .exit)) × Stored mergeView encodeMerge answer (now (merged .entry)) r (now (merged .exit)) ⌝ }
 {
     match answer {
         MergeAnswer::Refused(number) => number,
@@ -158,7 +158,7 @@ pub fn store_merge(answer: MergeAnswer, header: &mut [u32; 12], merged: &mut [u3
 }
 
 pub fn store_row(answer: RowAnswer, row: &mut [u32; 2]) -> u32
-    ensures { λ r. ⌜ Stored rowSays encodeOption answer (now (row .entry)) r (now (row .exit)) ⌝ }
+    ensures { λ r. ⌜ Stored rowView encodeOption answer (now (row .entry)) r (now (row .exit)) ⌝ }
 {
     match answer {
         RowAnswer::Refused(number) => number,
@@ -174,7 +174,7 @@ pub fn store_row(answer: RowAnswer, row: &mut [u32; 2]) -> u32
 }
 
 pub fn store_cell(answer: CellAnswer, cell: &mut [u32; 2]) -> u32
-    ensures { λ r. ⌜ Stored cellSays encodeOption answer (now (cell .entry)) r (now (cell .exit)) ⌝ }
+    ensures { λ r. ⌜ Stored cellView encodeOption answer (now (cell .entry)) r (now (cell .exit)) ⌝ }
 {
     match answer {
         CellAnswer::Refused(number) => number,
@@ -190,7 +190,7 @@ pub fn store_cell(answer: CellAnswer, cell: &mut [u32; 2]) -> u32
 }
 
 pub fn store_range(answer: RangeAnswer, range: &mut [u32; 3]) -> u32
-    ensures { λ r. ⌜ Stored rangeSays encodeRange answer (now (range .entry)) r (now (range .exit)) ⌝ }
+    ensures { λ r. ⌜ Stored rangeView encodeRange answer (now (range .entry)) r (now (range .exit)) ⌝ }
 {
     match answer {
         RangeAnswer::Refused(number) => number,
@@ -206,7 +206,7 @@ pub fn store_range(answer: RangeAnswer, range: &mut [u32; 3]) -> u32
 }
 
 pub fn store_version(answer: VersionAnswer, version: &mut [u32; 2]) -> u32
-    ensures { λ r. ⌜ Stored versionSays encodeVersion answer (now (version .entry)) r (now (version .exit)) ⌝ }
+    ensures { λ r. ⌜ Stored versionView encodeVersion answer (now (version .entry)) r (now (version .exit)) ⌝ }
 {
     match answer {
         VersionAnswer::Refused(number) => number,
@@ -218,7 +218,7 @@ pub fn store_version(answer: VersionAnswer, version: &mut [u32; 2]) -> u32
 }
 
 pub fn store_sound(answer: SoundAnswer, sound: &mut [u32; 1]) -> u32
-    ensures { λ r. ⌜ Stored soundSays encodeBool answer (now (sound .entry)) r (now (sound .exit)) ⌝ }
+    ensures { λ r. ⌜ Stored soundView encodeBool answer (now (sound .entry)) r (now (sound .exit)) ⌝ }
 {
     match answer {
         SoundAnswer::Refused(number) => number,
@@ -230,7 +230,7 @@ pub fn store_sound(answer: SoundAnswer, sound: &mut [u32; 1]) -> u32
 }
 
 pub fn store_subset(answer: SubsetAnswer, subset: &mut [u32; 3]) -> u32
-    ensures { λ r. ⌜ Stored subsetSays encodeSubset answer (now (subset .entry)) r (now (subset .exit)) ⌝ }
+    ensures { λ r. ⌜ Stored subsetView encodeSubset answer (now (subset .entry)) r (now (subset .exit)) ⌝ }
 {
     match answer {
         SubsetAnswer::Refused(number) => number,
@@ -246,7 +246,7 @@ pub fn store_subset(answer: SubsetAnswer, subset: &mut [u32; 3]) -> u32
 }
 
 pub fn store_match(answer: MatchAnswer, matched: &mut [u32; 1]) -> u32
-    ensures { λ r. ⌜ Stored matchSays encodeBool answer (now (matched .entry)) r (now (matched .exit)) ⌝ }
+    ensures { λ r. ⌜ Stored matchView encodeBool answer (now (matched .entry)) r (now (matched .exit)) ⌝ }
 {
     match answer {
         MatchAnswer::Refused(number) => number,
@@ -258,7 +258,7 @@ pub fn store_match(answer: MatchAnswer, matched: &mut [u32; 1]) -> u32
 }
 
 pub fn store_page(answer: PageAnswer, page: &mut [u32; 4]) -> u32
-    ensures { λ r. ⌜ Stored pageSays encodePage answer (now (page .entry)) r (now (page .exit)) ⌝ }
+    ensures { λ r. ⌜ Stored pageView encodePage answer (now (page .entry)) r (now (page .exit)) ⌝ }
 {
     match answer {
         PageAnswer::Refused(number) => number,

@@ -1,8 +1,8 @@
 // Images of tables as C functions. Each returns 0 or the number of a refusal, and stores its answer only if it returns 0. A slice goes as
 // a pointer and a length, a fixed array as a pointer alone.
-ghost use Rattle.table.specs.Numbers.{tableSays};
-ghost use Rattle.table.specs.Promises.{body};
-ghost use Rattle.image_spec.specs.Contracts.{lengthSays, ImageSized, ImageWritten, ImageChecked, ImageRead, TextRead};
+ghost use Rattle.table.specs.Numbers.{tableView};
+ghost use Rattle.table.specs.Contracts.{body};
+ghost use Rattle.image_spec.specs.Contracts.{lengthView, ImageSized, ImageWritten, ImageChecked, ImageRead, TextRead};
 ghost use Rattle.abi.specs.Encoding.{decodeHeader, encodeHeader, Stored, Answers};
 ghost use Rattle.abi_image.specs.Encoding.{encodeLength};
 use abi::ACCEPTED;
@@ -17,7 +17,7 @@ use image_write::write_image;
 
 // Stores a length as one word of 64 bits.
 fn store_length(answer: LengthAnswer, length: &mut [u64; 1]) -> u32
-    ensures { λ r. ⌜ Stored lengthSays encodeLength answer (now (length .entry)) r (now (length .exit)) ⌝ }
+    ensures { λ r. ⌜ Stored lengthView encodeLength answer (now (length .entry)) r (now (length .exit)) ⌝ }
 {
     match answer {
         LengthAnswer::Refused(number) => number,
@@ -31,7 +31,7 @@ fn store_length(answer: LengthAnswer, length: &mut [u64; 1]) -> u32
 // Stores how many words the image of a table has, with a text of so many bytes. Refuses with 1 or 21.
 #[no_mangle]
 pub extern "C" fn mouldgrey_image_size(header: &[u32; 12], text: usize, words: &mut [u64; 1]) -> u32
-    ensures { λ r. ⌜ Answers (λ answer. ImageSized (decodeHeader (now (header .entry))) text answer) lengthSays encodeLength (now (words .entry)) r (now (words .exit)) ⌝ }
+    ensures { λ r. ⌜ Answers (λ answer. ImageSized (decodeHeader (now (header .entry))) text answer) lengthView encodeLength (now (words .entry)) r (now (words .exit)) ⌝ }
 {
     let h = decode_header(header);
     let answer = image_size(h, text);
@@ -49,7 +49,7 @@ pub extern "C" fn mouldgrey_write_image(
     image: &mut [u32],
     words: &mut [u64; 1],
 ) -> u32
-    ensures { λ r. ⌜ Answers (λ answer. ImageWritten (decodeHeader (now (header .entry))) (now (rows .entry)) (now (sorts .entry)) (now (pending .entry)) (now (text .entry)) (now (image .entry)) answer (now (image .exit))) lengthSays encodeLength (now (words .entry)) r (now (words .exit)) ⌝ }
+    ensures { λ r. ⌜ Answers (λ answer. ImageWritten (decodeHeader (now (header .entry))) (now (rows .entry)) (now (sorts .entry)) (now (pending .entry)) (now (text .entry)) (now (image .entry)) answer (now (image .exit))) lengthView encodeLength (now (words .entry)) r (now (words .exit)) ⌝ }
 {
     let h = decode_header(header);
     let answer = write_image(h, rows, sorts, pending, text, image);
@@ -59,7 +59,7 @@ pub extern "C" fn mouldgrey_write_image(
 // Stores the header of an image. Refuses with 19 words that are no image, with 20 an image of a table that is not sound.
 #[no_mangle]
 pub extern "C" fn mouldgrey_check_image(image: &[u32], header: &mut [u32; 12]) -> u32
-    ensures { λ r. ⌜ Answers (λ answer. ImageChecked (now (image .entry)) answer) tableSays encodeHeader (now (header .entry)) r (now (header .exit)) ⌝ }
+    ensures { λ r. ⌜ Answers (λ answer. ImageChecked (now (image .entry)) answer) tableView encodeHeader (now (header .entry)) r (now (header .exit)) ⌝ }
 {
     let answer = check_image(image);
     store_table(answer, header)
@@ -77,7 +77,7 @@ pub extern "C" fn mouldgrey_read_image(
     sorts: &mut [u32],
     pending: &mut [u32],
 ) -> u32
-    ensures { λ r. ⌜ Answers (λ answer. ImageRead (now (image .entry)) capacity (body (now (rows .entry)) (now (keys .entry)) (now (sorts .entry))) (now (pending .entry)) answer (body (now (rows .exit)) (now (keys .exit)) (now (sorts .exit))) (now (pending .exit))) tableSays encodeHeader (now (header .entry)) r (now (header .exit)) ⌝ }
+    ensures { λ r. ⌜ Answers (λ answer. ImageRead (now (image .entry)) capacity (body (now (rows .entry)) (now (keys .entry)) (now (sorts .entry))) (now (pending .entry)) answer (body (now (rows .exit)) (now (keys .exit)) (now (sorts .exit))) (now (pending .exit))) tableView encodeHeader (now (header .entry)) r (now (header .exit)) ⌝ }
 {
     let answer = read_image(image, capacity, rows, keys, sorts, pending);
     store_table(answer, header)
@@ -90,7 +90,7 @@ pub extern "C" fn mouldgrey_read_image_text(
     text: &mut [u8],
     bytes: &mut [u64; 1],
 ) -> u32
-    ensures { λ r. ⌜ Answers (λ answer. TextRead (now (image .entry)) (now (text .entry)) answer (now (text .exit))) lengthSays encodeLength (now (bytes .entry)) r (now (bytes .exit)) ⌝ }
+    ensures { λ r. ⌜ Answers (λ answer. TextRead (now (image .entry)) (now (text .entry)) answer (now (text .exit))) lengthView encodeLength (now (bytes .entry)) r (now (bytes .exit)) ⌝ }
 {
     let answer = read_text(image, text);
     store_length(answer, bytes)

@@ -2,8 +2,8 @@
 ghost use mathlib.Core.Path.{_≡_};
 ghost use mathlib.Core.Bool.{true, false, not};
 ghost use lib.Dec.{eqb};
-ghost use Rattle.listing_spec.specs.Listings.{listingSays, numberedSays, moveSays, ListingRead, ListingMoved};
-ghost use Rattle.listing_check.specs.Answers.{verdictSays, checkSays, AnswersChecked};
+ghost use Rattle.listing_spec.specs.Listings.{listingView, numberedView, textView, ListingRead, ListingConverted};
+ghost use Rattle.listing_check.specs.Answers.{verdictView, checkView, AnswersChecked};
 ghost use Rattle.listing_write.specs.Writing.{ListingWritten};
 ghost use Rattle.abi.specs.Encoding.{decodeHeader, Stored, Answers};
 ghost use Rattle.abi_listing.specs.Encoding.{encodeHead, encodeLength, encodeFinding};
@@ -14,8 +14,8 @@ use listing_check::CheckAnswer;
 use listing_check::Verdict;
 use listing_check::check_answers;
 use listing_spec::ListingAnswer;
-use listing_spec::MoveAnswer;
 use listing_spec::NumberedAnswer;
+use listing_spec::TextAnswer;
 use listing_write::write_listing;
 
 // Kinds of verdicts.
@@ -26,7 +26,7 @@ const MISPLACED: u64 = 1;
 const WRONG: u64 = 2;
 
 fn store_listing(answer: ListingAnswer, head: &mut [u32; 6]) -> u32
-    ensures { λ r. ⌜ Stored listingSays encodeHead answer (now (head .entry)) r (now (head .exit)) ⌝ }
+    ensures { λ r. ⌜ Stored listingView encodeHead answer (now (head .entry)) r (now (head .exit)) ⌝ }
 {
     match answer {
         ListingAnswer::Refused(number) => number,
@@ -38,7 +38,7 @@ fn store_listing(answer: ListingAnswer, head: &mut [u32; 6]) -> u32
 }
 
 fn store_numbered(answer: NumberedAnswer, head: &mut [u32; 7]) -> u32
-    ensures { λ r. ⌜ Stored numberedSays encodeHead answer (now (head .entry)) r (now (head .exit)) ⌝ }
+    ensures { λ r. ⌜ Stored numberedView encodeHead answer (now (head .entry)) r (now (head .exit)) ⌝ }
 {
     match answer {
         NumberedAnswer::Refused(number) => number,
@@ -57,12 +57,12 @@ fn store_numbered(answer: NumberedAnswer, head: &mut [u32; 7]) -> u32
     }
 }
 
-fn store_length(answer: MoveAnswer, length: &mut [u64; 1]) -> u32
-    ensures { λ r. ⌜ Stored moveSays encodeLength answer (now (length .entry)) r (now (length .exit)) ⌝ }
+fn store_length(answer: TextAnswer, length: &mut [u64; 1]) -> u32
+    ensures { λ r. ⌜ Stored textView encodeLength answer (now (length .entry)) r (now (length .exit)) ⌝ }
 {
     match answer {
-        MoveAnswer::Refused(number) => number,
-        MoveAnswer::Written(bytes) => {
+        TextAnswer::Refused(number) => number,
+        TextAnswer::Written(bytes) => {
             *length = [bytes as u64];
             ACCEPTED
         }
@@ -70,7 +70,7 @@ fn store_length(answer: MoveAnswer, length: &mut [u64; 1]) -> u32
 }
 
 fn encode_verdict(verdict: Verdict) -> [u64; 2]
-    ensures { λ r. ⌜ r ≡ encodeFinding (verdictSays verdict) ⌝ }
+    ensures { λ r. ⌜ r ≡ encodeFinding (verdictView verdict) ⌝ }
 {
     match verdict {
         Verdict::Right => [RIGHT, 0],
@@ -80,7 +80,7 @@ fn encode_verdict(verdict: Verdict) -> [u64; 2]
 }
 
 fn store_check(answer: CheckAnswer, verdict: &mut [u64; 2]) -> u32
-    ensures { λ r. ⌜ Stored checkSays encodeFinding answer (now (verdict .entry)) r (now (verdict .exit)) ⌝ }
+    ensures { λ r. ⌜ Stored checkView encodeFinding answer (now (verdict .entry)) r (now (verdict .exit)) ⌝ }
 {
     match answer {
         CheckAnswer::Refused(number) => number,
@@ -100,7 +100,7 @@ pub extern "C" fn mouldgrey_write_listing(
     output: &mut [u8],
     length: &mut [u64; 1],
 ) -> u32
-    ensures { λ r. ⌜ Answers (λ answer. ListingWritten (not (eqb numbered 0)) (decodeHeader (now (header .entry))) (now (rows .entry)) (now (output .entry)) answer (now (output .exit))) moveSays encodeLength (now (length .entry)) r (now (length .exit)) ⌝ }
+    ensures { λ r. ⌜ Answers (λ answer. ListingWritten (not (eqb numbered 0)) (decodeHeader (now (header .entry))) (now (rows .entry)) (now (output .entry)) answer (now (output .exit))) textView encodeLength (now (length .entry)) r (now (length .exit)) ⌝ }
 {
     let h = decode_header(header);
     let answer = write_listing(h, rows, numbered != 0, output);
@@ -114,7 +114,7 @@ pub extern "C" fn mouldgrey_read_listing(
     output: &mut [u32],
     head: &mut [u32; 6],
 ) -> u32
-    ensures { λ r. ⌜ Answers (λ answer. ListingRead false (now (text .entry)) (now (output .entry)) (listingSays answer) (now (output .exit))) listingSays encodeHead (now (head .entry)) r (now (head .exit)) ⌝ }
+    ensures { λ r. ⌜ Answers (λ answer. ListingRead false (now (text .entry)) (now (output .entry)) (listingView answer) (now (output .exit))) listingView encodeHead (now (head .entry)) r (now (head .exit)) ⌝ }
 {
     let answer = listing_read::read_listing(text, output);
     store_listing(answer, head)
@@ -127,7 +127,7 @@ pub extern "C" fn mouldgrey_read_numbered(
     output: &mut [u32],
     head: &mut [u32; 7],
 ) -> u32
-    ensures { λ r. ⌜ Answers (λ answer. ListingRead true (now (text .entry)) (now (output .entry)) (numberedSays answer) (now (output .exit))) numberedSays encodeHead (now (head .entry)) r (now (head .exit)) ⌝ }
+    ensures { λ r. ⌜ Answers (λ answer. ListingRead true (now (text .entry)) (now (output .entry)) (numberedView answer) (now (output .exit))) numberedView encodeHead (now (head .entry)) r (now (head .exit)) ⌝ }
 {
     let answer = listing_read::read_numbered(text, output);
     store_numbered(answer, head)
@@ -140,7 +140,7 @@ pub extern "C" fn mouldgrey_to_numbered(
     output: &mut [u8],
     length: &mut [u64; 1],
 ) -> u32
-    ensures { λ r. ⌜ Answers (λ answer. ListingMoved false (now (text .entry)) (now (output .entry)) answer (now (output .exit))) moveSays encodeLength (now (length .entry)) r (now (length .exit)) ⌝ }
+    ensures { λ r. ⌜ Answers (λ answer. ListingConverted false (now (text .entry)) (now (output .entry)) answer (now (output .exit))) textView encodeLength (now (length .entry)) r (now (length .exit)) ⌝ }
 {
     let answer = listing_convert::to_numbered(text, output);
     store_length(answer, length)
@@ -153,7 +153,7 @@ pub extern "C" fn mouldgrey_from_numbered(
     output: &mut [u8],
     length: &mut [u64; 1],
 ) -> u32
-    ensures { λ r. ⌜ Answers (λ answer. ListingMoved true (now (text .entry)) (now (output .entry)) answer (now (output .exit))) moveSays encodeLength (now (length .entry)) r (now (length .exit)) ⌝ }
+    ensures { λ r. ⌜ Answers (λ answer. ListingConverted true (now (text .entry)) (now (output .entry)) answer (now (output .exit))) textView encodeLength (now (length .entry)) r (now (length .exit)) ⌝ }
 {
     let answer = listing_convert::from_numbered(text, output);
     store_length(answer, length)
@@ -169,7 +169,7 @@ pub extern "C" fn mouldgrey_check_answers(
     given: &[u32],
     verdict: &mut [u64; 2],
 ) -> u32
-    ensures { λ r. ⌜ Answers (λ answer. AnswersChecked (now (text .entry)) (now (conditions .entry)) (now (given .entry)) answer) checkSays encodeFinding (now (verdict .entry)) r (now (verdict .exit)) ⌝ }
+    ensures { λ r. ⌜ Answers (λ answer. AnswersChecked (now (text .entry)) (now (conditions .entry)) (now (given .entry)) answer) checkView encodeFinding (now (verdict .entry)) r (now (verdict .exit)) ⌝ }
 {
     let answer = check_answers(text, conditions, given);
     store_check(answer, verdict)

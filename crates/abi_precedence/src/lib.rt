@@ -1,5 +1,5 @@
 // The precedence check as a C function.
-ghost use Rattle.precedence.specs.Precedence.{precedenceSays, PrecedenceChecked};
+ghost use Rattle.precedence.specs.Precedence.{precedenceView, PrecedenceChecked};
 ghost use Rattle.abi.specs.Encoding.{decodeHeader, Stored, Answers};
 ghost use Rattle.abi_precedence.specs.Encoding.{encodeFailure};
 use abi::ACCEPTED;
@@ -7,7 +7,7 @@ use abi::decode_header;
 use precedence::PrecedenceAnswer;
 
 fn store_failure(answer: PrecedenceAnswer, failure: &mut [u32; 3]) -> u32
-    ensures { λ r. ⌜ Stored precedenceSays encodeFailure answer (now (failure .entry)) r (now (failure .exit)) ⌝ }
+    ensures { λ r. ⌜ Stored precedenceView encodeFailure answer (now (failure .entry)) r (now (failure .exit)) ⌝ }
 {
     match answer {
         PrecedenceAnswer::Refused(number) => number,
@@ -32,7 +32,7 @@ pub extern "C" fn mouldgrey_check_precedence(
     pairs: &[u32],
     failure: &mut [u32; 3],
 ) -> u32
-    ensures { λ r. ⌜ Answers (λ answer. PrecedenceChecked (decodeHeader (now (header .entry))) (now (rows .entry)) (now (keys .entry)) column (now (pairs .entry)) answer) precedenceSays encodeFailure (now (failure .entry)) r (now (failure .exit)) ⌝ }
+    ensures { λ r. ⌜ Answers (λ answer. PrecedenceChecked (decodeHeader (now (header .entry))) (now (rows .entry)) (now (keys .entry)) column (now (pairs .entry)) answer) precedenceView encodeFailure (now (failure .entry)) r (now (failure .exit)) ⌝ }
 {
     let answer = precedence::check_precedence(decode_header(header), rows, keys, column, pairs);
     store_failure(answer, failure)

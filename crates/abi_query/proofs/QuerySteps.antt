@@ -69,7 +69,7 @@ module _ {M : Type 1} {𝓤 : URA M} {H : Heap 𝓤} {A : Atoms 𝓤} {K : Type 
       move t (1 ∷ []) $ owns-in t (_ ∷ []) $ move t (1 ∷ []) $ tokens-in t 1 (κ, tt) (s, tt) $
       calls t fm hdr.ended (hdr.clauses 𝓤 H A mem run) known (((κ, tt), (s, tt), tt, (e, tt), (ptr-vals e, tt)), tt) (id⊢ 𝓤 _) reads-them (LL.lawful HT.the-type HT′.the-laws 𝓤 H A W) fits z (λ v h ws is.
       -- [the locals; the token; the last values, of which there are none; the header; the facts about it]
-      move t (4 ∷ []) $ heard t (h ≡ decodeHeader (now e)) (λ said. move t (2 ∷ []) $ drop t $ move t (1 ∷ []) $ tokens-out t 1 (κ, tt) (s, tt) $ move t (1 ∷ 2 ∷ []) $ k v h said))
+      move t (4 ∷ []) $ heard t (h ≡ decodeHeader (now e)) (λ fact. move t (2 ∷ []) $ drop t $ move t (1 ∷ []) $ tokens-out t 1 (κ, tt) (s, tt) $ move t (1 ∷ 2 ∷ []) $ k v h fact))
 
   -- a condition, likewise
   pub decodes-condition : Triple 𝓤 (C con-def.name) (tripleOf 𝓤 H A con.signature (con.spec 𝓤 H A mem run)) → {xs : List Operand} {j : ℕ} (κ : Lft) (s : Share) (e : RefT (List ℕ))
@@ -79,7 +79,7 @@ module _ {M : Type 1} {𝓤 : URA M} {H : Heap 𝓤} {A : Atoms 𝓤} {K : Type 
   decodes-condition known κ s e reads-them fits z k =
       move t (1 ∷ []) $ owns-in t (_ ∷ []) $ move t (1 ∷ []) $ tokens-in t 1 (κ, tt) (s, tt) $
       calls t fm con.ended (con.clauses 𝓤 H A mem run) known (((κ, tt), (s, tt), tt, (e, tt), (ptr-vals e, tt)), tt) (id⊢ 𝓤 _) reads-them (LL.lawful CT.the-type CT′.the-laws 𝓤 H A W) fits z (λ v c ws is.
-      move t (4 ∷ []) $ heard t (c ≡ decodeCondition (now e)) (λ said. move t (2 ∷ []) $ drop t $ move t (1 ∷ []) $ tokens-out t 1 (κ, tt) (s, tt) $ move t (1 ∷ 2 ∷ []) $ k v c said))
+      move t (4 ∷ []) $ heard t (c ≡ decodeCondition (now e)) (λ fact. move t (2 ∷ []) $ drop t $ move t (1 ∷ []) $ tokens-out t 1 (κ, tt) (s, tt) $ move t (1 ∷ 2 ∷ []) $ k v c fact))
 
   -- a subset: its machine value is known, and nothing is kept of what it owns
   pub decodes-subset : Triple 𝓤 (C head-def.name) (tripleOf 𝓤 H A head.signature (head.spec 𝓤 H A mem run)) → {xs : List Operand} {j : ℕ} (κ : Lft) (s : Share) (e : RefT (List ℕ))
@@ -89,10 +89,10 @@ module _ {M : Type 1} {𝓤 : URA M} {H : Heap 𝓤} {A : Atoms 𝓤} {K : Type 
   decodes-subset known {j = j} κ s e reads-them fits z k =
       move t (1 ∷ []) $ owns-in t (_ ∷ []) $ move t (1 ∷ []) $ tokens-in t 1 (κ, tt) (s, tt) $
       calls t fm head.ended (head.clauses 𝓤 H A mem run) known (((κ, tt), (s, tt), tt, (e, tt), (ptr-vals e, tt)), tt) (id⊢ 𝓤 _) reads-them (LL.lawful ST.the-type ST′.the-laws 𝓤 H A W) fits z (λ v d ws is.
-      move t (4 ∷ []) $ heard t (d ≡ decodeSubset (now e)) (λ said. move t (2 ∷ []) $ drop t $ move t (2 ∷ []) $ drop t $ move t (1 ∷ []) $ tokens-out t 1 (κ, tt) (s, tt) $ move t (1 ∷ []) $
+      move t (4 ∷ []) $ heard t (d ≡ decodeSubset (now e)) (λ fact. move t (2 ∷ []) $ drop t $ move t (2 ∷ []) $ drop t $ move t (1 ∷ []) $ tokens-out t 1 (κ, tt) (s, tt) $ move t (1 ∷ []) $
       -- [the locals; the token]
       let value : v ∷ [] ≡ ST′.lowered d ∷ [] = LL.tells ST.the-type ST′.the-laws d (v ∷ []) is in
-      subst (λ (u : Val). Seq K W (Locals 𝓤 H E (set hs j u) ∷ ‵ (flft κ s) ∷ Γ) (runs C Λ E rest q)) (sym (ap only value)) (k d (subst (Is ST.the-row d) value is) said)))
+      subst (λ (u : Val). Seq K W (Locals 𝓤 H E (set hs j u) ∷ ‵ (flft κ s) ∷ Γ) (runs C Λ E rest q)) (sym (ap only value)) (k d (subst (Is ST.the-row d) value is) fact)))
 
 -- ---- the borrowed subset
 abbrev pub lent : SubsetHead → RefT (List ℕ) → SubsetRef
@@ -133,7 +133,7 @@ abbrev pub Final : RefT (List ℕ) → List ℕ → Fml
 Final x xs = fsep (finally u32 (x .name) xs) (feq ℕ (length xs) (length (now x)))
 
 -- an answer to what was decoded, stored
-pub decoded : {R B : Type 0} (promise : Header → SubsetHead → R → Type 0) {says : R → Reply B} {encode : B → List ℕ} {h g : Header} {d b : SubsetHead} {answer : R} {words : List ℕ} {r : ℕ} {words′ : List ℕ}
-    → h ≡ g → d ≡ b → promise h d answer → Stored says encode answer words r words′ → Answers (promise g b) says encode words r words′
+pub decoded : {R B : Type 0} (promise : Header → SubsetHead → R → Type 0) {view : R → Reply B} {encode : B → List ℕ} {h g : Header} {d b : SubsetHead} {answer : R} {words : List ℕ} {r : ℕ} {words′ : List ℕ}
+    → h ≡ g → d ≡ b → promise h d answer → Stored view encode answer words r words′ → Answers (promise g b) view encode words r words′
 decoded promise {h = h} {b = b} {answer = answer} p q asked s =
     answers (subst (λ (x : Header). promise x b answer) p (subst (λ (x : SubsetHead). promise h x answer) q asked)) s

@@ -3,8 +3,8 @@
 // of three words, so a list of them is lent without a conversion. The proof of each function is
 // manual: the function decodes, queries and stores.
 ghost use Rattle.offsets.specs.Answers.{subsetOf};
-ghost use Rattle.query_spec.specs.Queries.{matchSays, pageSays, RefinedOne, RefinedList, Matched, PageRead};
-ghost use Rattle.abi.specs.Encoding.{decodeHeader, decodeCondition, decodeSubset, encodeBool, subsetSays, encodeSubset, encodePage, Answers};
+ghost use Rattle.query_spec.specs.Queries.{matchView, pageView, RefinedOne, RefinedList, Matched, PageRead};
+ghost use Rattle.abi.specs.Encoding.{decodeHeader, decodeCondition, decodeSubset, encodeBool, subsetView, encodeSubset, encodePage, Answers};
 use abi::decode_condition;
 use abi::decode_header;
 use abi::decode_subset;
@@ -25,7 +25,7 @@ pub extern "C" fn mouldgrey_refine_one(
     output: &mut [u32],
     answer: &mut [u32; 3],
 ) -> u32
-    ensures { λ r. ⌜ Answers (λ a. RefinedOne (decodeHeader (now (header .entry))) (now (rows .entry)) (subsetOf (decodeSubset (now (subset .entry))) (now (ids .entry))) (decodeCondition (now (condition .entry))) (now (output .entry)) a (now (output .exit))) subsetSays encodeSubset (now (answer .entry)) r (now (answer .exit)) ⌝ }
+    ensures { λ r. ⌜ Answers (λ a. RefinedOne (decodeHeader (now (header .entry))) (now (rows .entry)) (subsetOf (decodeSubset (now (subset .entry))) (now (ids .entry))) (decodeCondition (now (condition .entry))) (now (output .entry)) a (now (output .exit))) subsetView encodeSubset (now (answer .entry)) r (now (answer .exit)) ⌝ }
 {
     let h = decode_header(header);
     let head = decode_subset(subset);
@@ -51,7 +51,7 @@ pub extern "C" fn mouldgrey_refine_ref(
     output: &mut [u32],
     answer: &mut [u32; 3],
 ) -> u32
-    ensures { λ r. ⌜ Answers (λ a. RefinedList (decodeHeader (now (header .entry))) (now (rows .entry)) (subsetOf (decodeSubset (now (subset .entry))) (now (ids .entry))) (now (conditions .entry)) (now (output .entry)) a (now (output .exit))) subsetSays encodeSubset (now (answer .entry)) r (now (answer .exit)) ⌝ }
+    ensures { λ r. ⌜ Answers (λ a. RefinedList (decodeHeader (now (header .entry))) (now (rows .entry)) (subsetOf (decodeSubset (now (subset .entry))) (now (ids .entry))) (now (conditions .entry)) (now (output .entry)) a (now (output .exit))) subsetView encodeSubset (now (answer .entry)) r (now (answer .exit)) ⌝ }
 {
     let h = decode_header(header);
     let head = decode_subset(subset);
@@ -75,7 +75,7 @@ pub extern "C" fn mouldgrey_contains_match(
     conditions: &[Constraint],
     matched: &mut [u32; 1],
 ) -> u32
-    ensures { λ r. ⌜ Answers (Matched (decodeHeader (now (header .entry))) (now (rows .entry)) (subsetOf (decodeSubset (now (subset .entry))) (now (ids .entry))) (now (conditions .entry))) matchSays encodeBool (now (matched .entry)) r (now (matched .exit)) ⌝ }
+    ensures { λ r. ⌜ Answers (Matched (decodeHeader (now (header .entry))) (now (rows .entry)) (subsetOf (decodeSubset (now (subset .entry))) (now (ids .entry))) (now (conditions .entry))) matchView encodeBool (now (matched .entry)) r (now (matched .exit)) ⌝ }
 {
     let h = decode_header(header);
     let head = decode_subset(subset);
@@ -102,7 +102,7 @@ pub extern "C" fn mouldgrey_read_page(
     output: &mut [u32],
     page: &mut [u32; 4],
 ) -> u32
-    ensures { λ r. ⌜ Answers (λ a. PageRead (decodeHeader (now (header .entry))) (now (rows .entry)) (subsetOf (decodeSubset (now (subset .entry))) (now (ids .entry))) place n (now (conditions .entry)) (now (output .entry)) a (now (output .exit))) pageSays encodePage (now (page .entry)) r (now (page .exit)) ⌝ }
+    ensures { λ r. ⌜ Answers (λ a. PageRead (decodeHeader (now (header .entry))) (now (rows .entry)) (subsetOf (decodeSubset (now (subset .entry))) (now (ids .entry))) place n (now (conditions .entry)) (now (output .entry)) a (now (output .exit))) pageView encodePage (now (page .entry)) r (now (page .exit)) ⌝ }
 {
     let h = decode_header(header);
     let head = decode_subset(subset);

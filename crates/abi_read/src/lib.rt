@@ -4,9 +4,9 @@ ghost use mathlib.Core.List.{List};
 ghost use lib.ListN.{length, getD};
 ghost use Rattle.offsets.specs.Subsets.{range};
 ghost use Rattle.offsets.specs.Answers.{subsetOf, intersectReply, Answered};
-ghost use Rattle.table.specs.Numbers.{rowSays, cellSays, rangeSays, versionSays};
-ghost use Rattle.table.specs.Promises.{LookedUp, CellRead, RangeRead, RowsSince, RowsSinceVersion, VersionRead};
-ghost use Rattle.abi.specs.Encoding.{decodeHeader, decodeCondition, decodeSubset, encodeOption, encodeRange, encodeVersion, subsetSays, encodeSubset, Answers};
+ghost use Rattle.table.specs.Numbers.{rowView, cellView, rangeView, versionView};
+ghost use Rattle.table.specs.Contracts.{LookedUp, CellRead, RangeRead, RowsSince, RowsSinceVersion, VersionRead};
+ghost use Rattle.abi.specs.Encoding.{decodeHeader, decodeCondition, decodeSubset, encodeOption, encodeRange, encodeVersion, subsetView, encodeSubset, Answers};
 use abi::decode_condition;
 use abi::decode_header;
 use abi::decode_subset;
@@ -25,7 +25,7 @@ pub extern "C" fn mouldgrey_get_row(
     key: &[u32],
     row: &mut [u32; 2],
 ) -> u32
-    ensures { λ r. ⌜ Answers (λ answer. LookedUp (decodeHeader (now (header .entry))) (now (rows .entry)) (now (keys .entry)) (now (key .entry)) answer) rowSays encodeOption (now (row .entry)) r (now (row .exit)) ⌝ }
+    ensures { λ r. ⌜ Answers (λ answer. LookedUp (decodeHeader (now (header .entry))) (now (rows .entry)) (now (keys .entry)) (now (key .entry)) answer) rowView encodeOption (now (row .entry)) r (now (row .exit)) ⌝ }
 {
     let answer = table_read::get_row(decode_header(header), rows, keys, key);
     store_row(answer, row)
@@ -41,7 +41,7 @@ pub extern "C" fn mouldgrey_get_row_column(
     column: u32,
     cell: &mut [u32; 2],
 ) -> u32
-    ensures { λ r. ⌜ Answers (λ answer. CellRead (decodeHeader (now (header .entry))) (now (rows .entry)) (now (keys .entry)) (now (key .entry)) column answer) cellSays encodeOption (now (cell .entry)) r (now (cell .exit)) ⌝ }
+    ensures { λ r. ⌜ Answers (λ answer. CellRead (decodeHeader (now (header .entry))) (now (rows .entry)) (now (keys .entry)) (now (key .entry)) column answer) cellView encodeOption (now (cell .entry)) r (now (cell .exit)) ⌝ }
 {
     let answer = table_read::get_row_column(decode_header(header), rows, keys, key, column);
     store_cell(answer, cell)
@@ -55,7 +55,7 @@ pub extern "C" fn mouldgrey_fast_subset(
     condition: &[u32; 3],
     range: &mut [u32; 3],
 ) -> u32
-    ensures { λ r. ⌜ Answers (λ answer. RangeRead (decodeHeader (now (header .entry))) (now (sorts .entry)) (decodeCondition (now (condition .entry))) answer) rangeSays encodeRange (now (range .entry)) r (now (range .exit)) ⌝ }
+    ensures { λ r. ⌜ Answers (λ answer. RangeRead (decodeHeader (now (header .entry))) (now (sorts .entry)) (decodeCondition (now (condition .entry))) answer) rangeView encodeRange (now (range .entry)) r (now (range .exit)) ⌝ }
 {
     let h = decode_header(header);
     let answer = table_read::fast_subset(h, sorts, decode_condition(condition));
@@ -65,7 +65,7 @@ pub extern "C" fn mouldgrey_fast_subset(
 // The answer is three words: found, start, end.
 #[no_mangle]
 pub extern "C" fn mouldgrey_updates_since(header: &[u32; 12], row: u32, range: &mut [u32; 3]) -> u32
-    ensures { λ r. ⌜ Answers (λ answer. RowsSince (decodeHeader (now (header .entry))) row answer) rangeSays encodeRange (now (range .entry)) r (now (range .exit)) ⌝ }
+    ensures { λ r. ⌜ Answers (λ answer. RowsSince (decodeHeader (now (header .entry))) row answer) rangeView encodeRange (now (range .entry)) r (now (range .exit)) ⌝ }
 {
     let answer = table_read::updates_since(decode_header(header), row);
     store_range(answer, range)
@@ -78,7 +78,7 @@ pub extern "C" fn mouldgrey_rows_since_version(
     version: &[u32; 2],
     range: &mut [u32; 3],
 ) -> u32
-    ensures { λ r. ⌜ Answers (λ answer. RowsSinceVersion (decodeHeader (now (header .entry))) (getD (now (version .entry)) 0 0) (getD (now (version .entry)) 1 0) answer) rangeSays encodeRange (now (range .entry)) r (now (range .exit)) ⌝ }
+    ensures { λ r. ⌜ Answers (λ answer. RowsSinceVersion (decodeHeader (now (header .entry))) (getD (now (version .entry)) 0 0) (getD (now (version .entry)) 1 0) answer) rangeView encodeRange (now (range .entry)) r (now (range .exit)) ⌝ }
 {
     let answer = table_read::rows_since_version(decode_header(header), version[0], version[1]);
     store_range(answer, range)
@@ -87,7 +87,7 @@ pub extern "C" fn mouldgrey_rows_since_version(
 // The answer is two words: generation, rows.
 #[no_mangle]
 pub extern "C" fn mouldgrey_table_version(header: &[u32; 12], version: &mut [u32; 2]) -> u32
-    ensures { λ r. ⌜ Answers (λ answer. VersionRead (decodeHeader (now (header .entry))) answer) versionSays encodeVersion (now (version .entry)) r (now (version .exit)) ⌝ }
+    ensures { λ r. ⌜ Answers (λ answer. VersionRead (decodeHeader (now (header .entry))) answer) versionView encodeVersion (now (version .entry)) r (now (version .exit)) ⌝ }
 {
     let answer = table_read::version(decode_header(header));
     store_version(answer, version)
@@ -103,7 +103,7 @@ pub extern "C" fn mouldgrey_intersect(
     output: &mut [u32],
     subset: &mut [u32; 3],
 ) -> u32
-    ensures { λ r. ⌜ Answers (λ answer. Answered (intersectReply (subsetOf (decodeSubset (now (first .entry))) (now («first_ids» .entry))) (subsetOf (decodeSubset (now (second .entry))) (now («second_ids» .entry))) (length (now (output .entry)))) (now (output .entry)) answer (now (output .exit))) subsetSays encodeSubset (now (subset .entry)) r (now (subset .exit)) ⌝ }
+    ensures { λ r. ⌜ Answers (λ answer. Answered (intersectReply (subsetOf (decodeSubset (now (first .entry))) (now («first_ids» .entry))) (subsetOf (decodeSubset (now (second .entry))) (now («second_ids» .entry))) (length (now (output .entry)))) (now (output .entry)) answer (now (output .exit))) subsetView encodeSubset (now (subset .entry)) r (now (subset .exit)) ⌝ }
 {
     let a = decode_subset(first);
     let b = decode_subset(second);
@@ -120,7 +120,7 @@ pub extern "C" fn mouldgrey_intersect_ranges(
     other_end: u32,
     subset: &mut [u32; 3],
 ) -> u32
-    ensures { λ r. ⌜ ((output : List ℕ) → Answers (λ answer. Answered (intersectReply (range start end) (range «other_start» «other_end») (length output)) output answer output) subsetSays encodeSubset (now (subset .entry)) r (now (subset .exit))) ⌝ }
+    ensures { λ r. ⌜ ((output : List ℕ) → Answers (λ answer. Answered (intersectReply (range start end) (range «other_start» «other_end») (length output)) output answer output) subsetView encodeSubset (now (subset .entry)) r (now (subset .exit))) ⌝ }
 {
     let answer = offsets_intersect::intersect_ranges(start, end, other_start, other_end);
     store_subset(answer, subset)

@@ -1,5 +1,5 @@
 // The refresh of the rows that contain a given value, as a C function.
-ghost use Rattle.refresh_spec.specs.Refreshes.{refreshSays, Refreshing};
+ghost use Rattle.refresh_spec.specs.Refreshes.{refreshView, Refreshing};
 ghost use Rattle.abi.specs.Encoding.{decodeHeader, encodeHeader, encodeBool, Stored, AnswersWithHeader};
 use abi::ACCEPTED;
 use abi::decode_header;
@@ -9,7 +9,7 @@ use refresh::refresh_rows_for_values;
 use refresh_spec::RefreshAnswer;
 
 fn store_refresh(answer: RefreshAnswer, header: &mut [u32; 12], staged: &mut [u32; 1]) -> u32
-    ensures { λ r. ⌜ Stored refreshSays (λ a. encodeHeader (a .header)) answer (now (header .entry)) r (now (header .exit)) × Stored refreshSays (λ a. encodeBool (a .staged)) answer (now (staged .entry)) r (now (staged .exit)) ⌝ }
+    ensures { λ r. ⌜ Stored refreshView (λ a. encodeHeader (a .header)) answer (now (header .entry)) r (now (header .exit)) × Stored refreshView (λ a. encodeBool (a .staged)) answer (now (staged .entry)) r (now (staged .exit)) ⌝ }
 {
     match answer {
         RefreshAnswer::Refused(number) => number,
@@ -33,7 +33,7 @@ pub extern "C" fn mouldgrey_refresh_rows_for_values(
     stamp: u32,
     staged: &mut [u32; 1],
 ) -> u32
-    ensures { λ r. ⌜ AnswersWithHeader (λ answer. Refreshing (decodeHeader (now (header .entry))) (now (rows .entry)) (now (pending .entry)) (now (index .entry)) (record { columns = now (columns .entry); values = now (values .entry); stamp = stamp }) answer (now (pending .exit)) (now (index .exit))) refreshSays (λ a. a .header) (λ a. encodeBool (a .staged)) (now (header .entry)) (now (staged .entry)) r (now (header .exit)) (now (staged .exit)) ⌝ }
+    ensures { λ r. ⌜ AnswersWithHeader (λ answer. Refreshing (decodeHeader (now (header .entry))) (now (rows .entry)) (now (pending .entry)) (now (index .entry)) (record { columns = now (columns .entry); values = now (values .entry); stamp = stamp }) answer (now (pending .exit)) (now (index .exit))) refreshView (λ a. a .header) (λ a. encodeBool (a .staged)) (now (header .entry)) (now (staged .entry)) r (now (header .exit)) (now (staged .exit)) ⌝ }
 {
     let h = decode_header(header);
     let answer = refresh_rows_for_values(h, rows, pending, index, columns, values, stamp);

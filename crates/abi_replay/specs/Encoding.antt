@@ -6,8 +6,8 @@ use Rattle.replay_queries.specs.declared.RunAnswer.{RunAnswer}
 use Rattle.abi.specs.Encoding.{bit}
 
 -- a run of queries is never refused
-abbrev pub runSays : RunAnswer → Reply RunAnswer
-runSays a = accepted a
+abbrev pub runView : RunAnswer → Reply RunAnswer
+runView a = accepted a
 
 -- Whether the ids left are a range; its start and end; how many ids the list has; which list it is: 0 the whole starting list, 1
 -- the first lent list, 2 the second; whether an accepted query refined; how many queries were taken from the list, at most

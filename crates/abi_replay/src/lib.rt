@@ -2,14 +2,14 @@
 ghost use mathlib.Core.Path.{_≡_};
 ghost use Prim.Native.Nat.{min};
 ghost use Rattle.offsets.specs.Answers.{subsetOf};
-ghost use Rattle.table.specs.Numbers.{tableSays};
-ghost use Rattle.table.specs.Promises.{body, compactionWords};
+ghost use Rattle.table.specs.Numbers.{tableView};
+ghost use Rattle.table.specs.Contracts.{body, compactionWords};
 ghost use Rattle.replay_calls.specs.Encoding.{decoded};
 ghost use Rattle.replay.specs.Replays.{Replayed};
-ghost use Rattle.replay_queries.specs.Encoding.{questionsIn};
-ghost use Rattle.replay_run.specs.Asking.{RunMade};
+ghost use Rattle.replay_queries.specs.Encoding.{queriesIn};
+ghost use Rattle.replay_run.specs.RunQueries.{RunMade};
 ghost use Rattle.abi.specs.Encoding.{decodeHeader, decodeOpening, openingGeneration, decodeSubset, encodeHeader, Stored, Answers};
-ghost use Rattle.abi_replay.specs.Encoding.{runSays, encodeRun};
+ghost use Rattle.abi_replay.specs.Encoding.{runView, encodeRun};
 use abi::ACCEPTED;
 use abi::decode_header;
 use abi::decode_subset;
@@ -35,7 +35,7 @@ pub extern "C" fn mouldgrey_replay(
     base: &mut [u32],
     index: &mut [u32],
 ) -> u32
-    ensures { λ r. ⌜ Answers (λ answer. Replayed (decodeOpening (now (opening .entry))) (openingGeneration (now (opening .entry))) (decoded (now (calls .entry))) (body (now (rows .entry)) (now (keys .entry)) (now (sorts .entry))) (now (pending .entry)) (compactionWords (now (live .entry)) (now (base .entry))) (now (index .entry)) answer (body (now (rows .exit)) (now (keys .exit)) (now (sorts .exit))) (now (pending .exit)) (compactionWords (now (live .exit)) (now (base .exit))) (now (index .exit))) tableSays encodeHeader (now (header .entry)) r (now (header .exit)) ⌝ }
+    ensures { λ r. ⌜ Answers (λ answer. Replayed (decodeOpening (now (opening .entry))) (openingGeneration (now (opening .entry))) (decoded (now (calls .entry))) (body (now (rows .entry)) (now (keys .entry)) (now (sorts .entry))) (now (pending .entry)) (compactionWords (now (live .entry)) (now (base .entry))) (now (index .entry)) answer (body (now (rows .exit)) (now (keys .exit)) (now (sorts .exit))) (now (pending .exit)) (compactionWords (now (live .exit)) (now (base .exit))) (now (index .exit))) tableView encodeHeader (now (header .entry)) r (now (header .exit)) ⌝ }
 {
     let answer = replay::replay(
         opening[0],
@@ -67,7 +67,7 @@ fn count_word(n: usize) -> u32
 }
 
 fn store_run(l: RunAnswer, words: &mut [u32; 7]) -> u32
-    ensures { λ r. ⌜ Stored runSays encodeRun l (now (words .entry)) r (now (words .exit)) ⌝ }
+    ensures { λ r. ⌜ Stored runView encodeRun l (now (words .entry)) r (now (words .exit)) ⌝ }
 {
     *words = [
         encode_bool(l.dense),
@@ -95,10 +95,10 @@ pub extern "C" fn mouldgrey_run_queries(
     second: &mut [u32],
     answer: &mut [u32; 7],
 ) -> u32
-    ensures { λ r. ⌜ Answers (λ a. RunMade (decodeHeader (now (header .entry))) (now (rows .entry)) (now (sorts .entry)) (subsetOf (decodeSubset (now (subset .entry))) (now (ids .entry))) (now (ids .entry)) (questionsIn (now (queries .entry))) (now (first .entry)) (now (second .entry)) a (now (first .exit)) (now (second .exit))) runSays encodeRun (now (answer .entry)) r (now (answer .exit)) ⌝ }
+    ensures { λ r. ⌜ Answers (λ a. RunMade (decodeHeader (now (header .entry))) (now (rows .entry)) (now (sorts .entry)) (subsetOf (decodeSubset (now (subset .entry))) (now (ids .entry))) (now (ids .entry)) (queriesIn (now (queries .entry))) (now (first .entry)) (now (second .entry)) a (now (first .exit)) (now (second .exit))) runView encodeRun (now (answer .entry)) r (now (answer .exit)) ⌝ }
 {
     let h = decode_header(header);
     let start = decode_subset(subset);
-    let run = replay_run::ask(h, rows, sorts, start, ids, queries, first, second);
+    let run = replay_run::run_queries(h, rows, sorts, start, ids, queries, first, second);
     store_run(run, answer)
 }

@@ -1,5 +1,5 @@
 // All short histories as C functions.
-ghost use Rattle.short_histories.specs.Sequences.{stepSays, positionSays, sequenceSays, StepTold, PositionTold, SequenceFound, NextFound};
+ghost use Rattle.short_histories.specs.Sequences.{stepView, positionView, sequenceView, StepAnswered, PositionAnswered, SequenceFound, NextFound};
 ghost use Rattle.abi.specs.Encoding.{encodeOption, Stored, Answers};
 ghost use Rattle.abi_short_histories.specs.Encoding.{encodeCall, encodeNumber};
 use abi::ACCEPTED;
@@ -15,7 +15,7 @@ const REMOVE: u32 = 1;
 const MERGE: u32 = 2;
 
 fn store_step(answer: StepAnswer, words: &mut [u32; 4]) -> u32
-    ensures { λ r. ⌜ Stored stepSays encodeCall answer (now (words .entry)) r (now (words .exit)) ⌝ }
+    ensures { λ r. ⌜ Stored stepView encodeCall answer (now (words .entry)) r (now (words .exit)) ⌝ }
 {
     match answer {
         StepAnswer::Refused(number) => number,
@@ -35,7 +35,7 @@ fn store_step(answer: StepAnswer, words: &mut [u32; 4]) -> u32
 }
 
 fn store_position(answer: PositionAnswer, position: &mut [u32; 1]) -> u32
-    ensures { λ r. ⌜ Stored positionSays encodeNumber answer (now (position .entry)) r (now (position .exit)) ⌝ }
+    ensures { λ r. ⌜ Stored positionView encodeNumber answer (now (position .entry)) r (now (position .exit)) ⌝ }
 {
     match answer {
         PositionAnswer::Refused(number) => number,
@@ -47,7 +47,7 @@ fn store_position(answer: PositionAnswer, position: &mut [u32; 1]) -> u32
 }
 
 fn store_sequence(answer: SequenceAnswer, words: &mut [u32; 2]) -> u32
-    ensures { λ r. ⌜ Stored sequenceSays encodeOption answer (now (words .entry)) r (now (words .exit)) ⌝ }
+    ensures { λ r. ⌜ Stored sequenceView encodeOption answer (now (words .entry)) r (now (words .exit)) ⌝ }
 {
     match answer {
         SequenceAnswer::Refused(number) => number,
@@ -65,14 +65,14 @@ fn store_sequence(answer: SequenceAnswer, words: &mut [u32; 2]) -> u32
 // The call of a step, in four words: 0, key, stamp, third cell; 1, key, 0, 0; 2, 0, 0, 0.
 #[no_mangle]
 pub extern "C" fn mouldgrey_step_at(step: u32, answer: &mut [u32; 4]) -> u32
-    ensures { λ r. ⌜ Answers (StepTold step) stepSays encodeCall (now (answer .entry)) r (now (answer .exit)) ⌝ }
+    ensures { λ r. ⌜ Answers (StepAnswered step) stepView encodeCall (now (answer .entry)) r (now (answer .exit)) ⌝ }
 {
     store_step(short_histories::step_at(step), answer)
 }
 
 #[no_mangle]
 pub extern "C" fn mouldgrey_position_of(sequence: &[u32], position: &mut [u32; 1]) -> u32
-    ensures { λ r. ⌜ Answers (PositionTold (now (sequence .entry))) positionSays encodeNumber (now (position .entry)) r (now (position .exit)) ⌝ }
+    ensures { λ r. ⌜ Answers (PositionAnswered (now (sequence .entry))) positionView encodeNumber (now (position .entry)) r (now (position .exit)) ⌝ }
 {
     store_position(short_histories::position_of(sequence), position)
 }
@@ -84,7 +84,7 @@ pub extern "C" fn mouldgrey_sequence_at(
     output: &mut [u32],
     answer: &mut [u32; 2],
 ) -> u32
-    ensures { λ r. ⌜ Answers (λ a. SequenceFound position (now (output .entry)) a (now (output .exit))) sequenceSays encodeOption (now (answer .entry)) r (now (answer .exit)) ⌝ }
+    ensures { λ r. ⌜ Answers (λ a. SequenceFound position (now (output .entry)) a (now (output .exit))) sequenceView encodeOption (now (answer .entry)) r (now (answer .exit)) ⌝ }
 {
     let found = short_histories::sequence_at(position, output);
     store_sequence(found, answer)
@@ -97,7 +97,7 @@ pub extern "C" fn mouldgrey_next_sequence(
     output: &mut [u32],
     answer: &mut [u32; 2],
 ) -> u32
-    ensures { λ r. ⌜ Answers (λ a. NextFound (now (sequence .entry)) (now (output .entry)) a (now (output .exit))) sequenceSays encodeOption (now (answer .entry)) r (now (answer .exit)) ⌝ }
+    ensures { λ r. ⌜ Answers (λ a. NextFound (now (sequence .entry)) (now (output .entry)) a (now (output .exit))) sequenceView encodeOption (now (answer .entry)) r (now (answer .exit)) ⌝ }
 {
     let found = short_histories::next_sequence(sequence, output);
     store_sequence(found, answer)

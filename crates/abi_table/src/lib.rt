@@ -2,8 +2,8 @@
 // array as a pointer alone.
 ghost use mathlib.Core.Path.{_≡_};
 ghost use Rattle.plain_table.specs.Staged.{insert, removeKey, removeRow};
-ghost use Rattle.table.specs.Numbers.{tableSays, mergeSays, soundSays};
-ghost use Rattle.table.specs.Promises.{stores, body, compactionWords, Opened, Staging, Merging, Compacting, Clearing, Checked};
+ghost use Rattle.table.specs.Numbers.{tableView, mergeView, soundView};
+ghost use Rattle.table.specs.Contracts.{stores, body, compactionWords, Opened, Staging, Merging, Compacting, Clearing, Checked};
 ghost use Rattle.abi.specs.Encoding.{decodeHeader, decodeOpening, openingGeneration, encodeHeader, encodeMerge, encodeBool, Answers, AnswersWithHeader};
 ghost use Rattle.abi_table.specs.Version.{libraryVersion};
 use abi::decode_header;
@@ -30,7 +30,7 @@ pub extern "C" fn mouldgrey_open_table(
     sorts: &[u32],
     pending: &[u32],
 ) -> u32
-    ensures { λ r. ⌜ Answers (λ answer. Opened (decodeOpening (now (opening .entry))) (openingGeneration (now (opening .entry))) (body (now (rows .entry)) (now (keys .entry)) (now (sorts .entry))) (now (pending .entry)) answer (now (keys .exit))) tableSays encodeHeader (now (header .entry)) r (now (header .exit)) ⌝ }
+    ensures { λ r. ⌜ Answers (λ answer. Opened (decodeOpening (now (opening .entry))) (openingGeneration (now (opening .entry))) (body (now (rows .entry)) (now (keys .entry)) (now (sorts .entry))) (now (pending .entry)) answer (now (keys .exit))) tableView encodeHeader (now (header .entry)) r (now (header .exit)) ⌝ }
 {
     let answer = table_open::open_table(
         opening[0],
@@ -53,7 +53,7 @@ pub extern "C" fn mouldgrey_stage_insert(
     pending: &mut [u32],
     cells: &[u32],
 ) -> u32
-    ensures { λ r. ⌜ Answers (λ answer. Staging (decodeHeader (now (header .entry))) (now (pending .entry)) (insert (now (cells .entry))) answer (now (pending .exit))) tableSays encodeHeader (now (header .entry)) r (now (header .exit)) ⌝ }
+    ensures { λ r. ⌜ Answers (λ answer. Staging (decodeHeader (now (header .entry))) (now (pending .entry)) (insert (now (cells .entry))) answer (now (pending .exit))) tableView encodeHeader (now (header .entry)) r (now (header .exit)) ⌝ }
 {
     let answer = table_stage::stage_insert(decode_header(header), pending, cells);
     store_table(answer, header)
@@ -65,7 +65,7 @@ pub extern "C" fn mouldgrey_stage_remove(
     pending: &mut [u32],
     key: &[u32],
 ) -> u32
-    ensures { λ r. ⌜ Answers (λ answer. Staging (decodeHeader (now (header .entry))) (now (pending .entry)) (removeKey (now (key .entry))) answer (now (pending .exit))) tableSays encodeHeader (now (header .entry)) r (now (header .exit)) ⌝ }
+    ensures { λ r. ⌜ Answers (λ answer. Staging (decodeHeader (now (header .entry))) (now (pending .entry)) (removeKey (now (key .entry))) answer (now (pending .exit))) tableView encodeHeader (now (header .entry)) r (now (header .exit)) ⌝ }
 {
     let answer = table_stage::stage_remove(decode_header(header), pending, key);
     store_table(answer, header)
@@ -78,7 +78,7 @@ pub extern "C" fn mouldgrey_stage_remove_row(
     row: u32,
     key: &[u32],
 ) -> u32
-    ensures { λ r. ⌜ Answers (λ answer. Staging (decodeHeader (now (header .entry))) (now (pending .entry)) (removeRow row (now (key .entry))) answer (now (pending .exit))) tableSays encodeHeader (now (header .entry)) r (now (header .exit)) ⌝ }
+    ensures { λ r. ⌜ Answers (λ answer. Staging (decodeHeader (now (header .entry))) (now (pending .entry)) (removeRow row (now (key .entry))) answer (now (pending .exit))) tableView encodeHeader (now (header .entry)) r (now (header .exit)) ⌝ }
 {
     let answer = table_stage::stage_remove_row(decode_header(header), pending, row, key);
     store_table(answer, header)
@@ -96,7 +96,7 @@ pub extern "C" fn mouldgrey_merge(
     base: &mut [u32],
     merged: &mut [u32; 5],
 ) -> u32
-    ensures { λ r. ⌜ AnswersWithHeader (λ answer. Merging (stores (decodeHeader (now (header .entry))) (now (rows .entry)) (now (keys .entry)) (now (sorts .entry)) (now (pending .entry))) (compactionWords (now (live .entry)) (now (base .entry))) answer (body (now (rows .exit)) (now (keys .exit)) (now (sorts .exit))) (compactionWords (now (live .exit)) (now (base .exit)))) mergeSays (λ m. m .header) encodeMerge (now (header .entry)) (now (merged .entry)) r (now (header .exit)) (now (merged .exit)) ⌝ }
+    ensures { λ r. ⌜ AnswersWithHeader (λ answer. Merging (stores (decodeHeader (now (header .entry))) (now (rows .entry)) (now (keys .entry)) (now (sorts .entry)) (now (pending .entry))) (compactionWords (now (live .entry)) (now (base .entry))) answer (body (now (rows .exit)) (now (keys .exit)) (now (sorts .exit))) (compactionWords (now (live .exit)) (now (base .exit)))) mergeView (λ m. m .header) encodeMerge (now (header .entry)) (now (merged .entry)) r (now (header .exit)) (now (merged .exit)) ⌝ }
 {
     let h = decode_header(header);
     let answer = merge::merge(h, rows, keys, sorts, pending, live, base);
@@ -112,7 +112,7 @@ pub extern "C" fn mouldgrey_compact(
     live: &mut [u64],
     base: &mut [u32],
 ) -> u32
-    ensures { λ r. ⌜ Answers (λ answer. Compacting (decodeHeader (now (header .entry))) (body (now (rows .entry)) (now (keys .entry)) (now (sorts .entry))) (compactionWords (now (live .entry)) (now (base .entry))) answer (body (now (rows .exit)) (now (keys .exit)) (now (sorts .exit))) (compactionWords (now (live .exit)) (now (base .exit)))) tableSays encodeHeader (now (header .entry)) r (now (header .exit)) ⌝ }
+    ensures { λ r. ⌜ Answers (λ answer. Compacting (decodeHeader (now (header .entry))) (body (now (rows .entry)) (now (keys .entry)) (now (sorts .entry))) (compactionWords (now (live .entry)) (now (base .entry))) answer (body (now (rows .exit)) (now (keys .exit)) (now (sorts .exit))) (compactionWords (now (live .exit)) (now (base .exit)))) tableView encodeHeader (now (header .entry)) r (now (header .exit)) ⌝ }
 {
     let answer = table_compact::compact(decode_header(header), rows, keys, sorts, live, base);
     store_table(answer, header)
@@ -120,7 +120,7 @@ pub extern "C" fn mouldgrey_compact(
 
 #[no_mangle]
 pub extern "C" fn mouldgrey_clear(header: &mut [u32; 12], keys: &mut [u32]) -> u32
-    ensures { λ r. ⌜ Answers (λ answer. Clearing (decodeHeader (now (header .entry))) (now (keys .entry)) answer (now (keys .exit))) tableSays encodeHeader (now (header .entry)) r (now (header .exit)) ⌝ }
+    ensures { λ r. ⌜ Answers (λ answer. Clearing (decodeHeader (now (header .entry))) (now (keys .entry)) answer (now (keys .exit))) tableView encodeHeader (now (header .entry)) r (now (header .exit)) ⌝ }
 {
     let answer = table_open::clear(decode_header(header), keys);
     store_table(answer, header)
@@ -136,7 +136,7 @@ pub extern "C" fn mouldgrey_is_sound(
     pending: &[u32],
     sound: &mut [u32; 1],
 ) -> u32
-    ensures { λ r. ⌜ Answers (λ answer. Checked (decodeHeader (now (header .entry))) (now (rows .entry)) (now (keys .entry)) (now (sorts .entry)) (now (pending .entry)) answer) soundSays encodeBool (now (sound .entry)) r (now (sound .exit)) ⌝ }
+    ensures { λ r. ⌜ Answers (λ answer. Checked (decodeHeader (now (header .entry))) (now (rows .entry)) (now (keys .entry)) (now (sorts .entry)) (now (pending .entry)) answer) soundView encodeBool (now (sound .entry)) r (now (sound .exit)) ⌝ }
 {
     let answer = table_check::is_sound(decode_header(header), rows, keys, sorts, pending);
     store_sound(answer, sound)

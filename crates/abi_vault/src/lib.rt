@@ -1,12 +1,12 @@
 // Column order for the vault as C functions. They return the refusal's number, or 0 if the output was written.
 ghost use mathlib.Core.Path.{_≡_};
-ghost use Rattle.vault.specs.Columns.{toColumns, fromColumns, columnsSays, Rearranged};
+ghost use Rattle.vault.specs.Columns.{toColumns, fromColumns, columnsView, Rearranged};
 ghost use Rattle.abi.specs.Encoding.{returned, AnswersNumber};
 use abi::ACCEPTED;
 use vault::ColumnsAnswer;
 
 fn number_of(answer: ColumnsAnswer) -> u32
-    ensures { λ r. ⌜ r ≡ returned (columnsSays answer) ⌝ }
+    ensures { λ r. ⌜ r ≡ returned (columnsView answer) ⌝ }
 {
     match answer {
         ColumnsAnswer::Refused(number) => number,
@@ -16,7 +16,7 @@ fn number_of(answer: ColumnsAnswer) -> u32
 
 #[no_mangle]
 pub extern "C" fn mouldgrey_to_columns(width: u32, cells: &[u32], output: &mut [u32]) -> u32
-    ensures { λ r. ⌜ AnswersNumber (λ answer. Rearranged toColumns width (now (cells .entry)) (now (output .entry)) answer (now (output .exit))) columnsSays r ⌝ }
+    ensures { λ r. ⌜ AnswersNumber (λ answer. Rearranged toColumns width (now (cells .entry)) (now (output .entry)) answer (now (output .exit))) columnsView r ⌝ }
 {
     let answer = vault::to_columns(width, cells, output);
     number_of(answer)
@@ -24,7 +24,7 @@ pub extern "C" fn mouldgrey_to_columns(width: u32, cells: &[u32], output: &mut [
 
 #[no_mangle]
 pub extern "C" fn mouldgrey_from_columns(width: u32, cells: &[u32], output: &mut [u32]) -> u32
-    ensures { λ r. ⌜ AnswersNumber (λ answer. Rearranged fromColumns width (now (cells .entry)) (now (output .entry)) answer (now (output .exit))) columnsSays r ⌝ }
+    ensures { λ r. ⌜ AnswersNumber (λ answer. Rearranged fromColumns width (now (cells .entry)) (now (output .entry)) answer (now (output .exit))) columnsView r ⌝ }
 {
     let answer = vault::from_columns(width, cells, output);
     number_of(answer)

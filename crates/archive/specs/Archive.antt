@@ -6,8 +6,8 @@ use mathlib.Core.Bool.{true, cond, _||_}
 use mathlib.Core.List.{List, [], _∷_, _++_}
 use lib.ListN.{length, take}
 use lib.Dec.{ltb, eqb}
-use Rattle.lists.specs.Lists.{every}
-use Rattle.refusals.specs.Refusals.{rung, first, refused, reply, verdict}
+use Rattle.lists.specs.Lists.{all}
+use Rattle.refusals.specs.Refusals.{check, firstRefusal, refused, reply, outcome}
 use Rattle.crc32.specs.Crc.{bytesOf}
 use Rattle.plain_table.specs.Staged.{Opening}
 use Rattle.plain_table.specs.Refusing.{storesShort}
@@ -16,9 +16,9 @@ use Rattle.plain_table.specs.Calls.{LentCall}
 use Rattle.table.specs.declared.Header.{Header}
 use Rattle.table.specs.declared.TableAnswer.{TableAnswer}
 use Rattle.table.specs.declared.TableAnswer.the-variants.{Table}
-use Rattle.table.specs.Numbers.{openingOf, tableSays}
+use Rattle.table.specs.Numbers.{openingOf, tableView}
 use Rattle.table.specs.Refusing.{outside}
-use Rattle.table.specs.Promises.{Stores, Body, body, bodyOf, joined, lengths, Represents}
+use Rattle.table.specs.Contracts.{Stores, Body, body, bodyOf, joined, lengths, Represents}
 use Rattle.image_spec.specs.declared.LengthAnswer.the-variants.{Length}
 use Rattle.image_spec.specs.Image.{imageWords, imageOf}
 use Rattle.image_spec.specs.Contracts.{ImageWritten, ImageChecked, ImageRead, withCapacity}
@@ -28,7 +28,7 @@ use Rattle.history.specs.Claim.{Claimed}
 -- an image of a table, in words
 pub record Saved (s : Stores) (words : List ℕ) : Type 0 where
   pub text : List ℕ
-  pub bytes : every (λ byte. ltb byte 256) text ≡ true
+  pub bytes : all (λ byte. ltb byte 256) text ≡ true
   pub output : List ℕ
   pub output′ : List ℕ
   pub count : ℕ
@@ -56,11 +56,11 @@ resized p capacity =
 -- Reading after writing: refused by nothing but a capacity outside its bounds or a short store; else the same plain table, with that
 -- capacity.
 pub record ReadAfterWrite (p : Plain) (s : Stores) (capacity : ℕ) (b : Body) (pending : List ℕ) (answer : TableAnswer) (b′ : Body) (pending′ : List ℕ) : Type 0 where
-  pub refusal : verdict (tableSays answer)
+  pub refusal : outcome (tableView answer)
       ≡ reply
-      (first
-      (rung (outside (withCapacity (s .header) capacity)) 1
-      ∷ rung
+      (firstRefusal
+      (check (outside (withCapacity (s .header) capacity)) 1
+      ∷ check
       (storesShort (openingOf (withCapacity (s .header) capacity)) (lengths (b .rows) (b .keys) (b .sorts) pending [] [])
       || ltb (length pending) (s .header .pending))
       2
@@ -104,6 +104,6 @@ pub record Archives : Type 0 where
   -- an image changed within any four neighbouring bytes is refused with 19
   pub damage-refused : (words words′ : List ℕ) (h : Header) (answer : TableAnswer)
       → ImageChecked words (Table h) → Damaged (bytesOf words) (bytesOf words′) → ImageChecked words′ answer
-      → tableSays answer ≡ refused 19
+      → tableView answer ≡ refused 19
   -- the claim of term 3 holds of archives
   pub term-three : (o : Opening) (generation : ℕ) (calls : List LentCall) (s : Stores) → Archived o generation calls s → Claimed o generation calls s

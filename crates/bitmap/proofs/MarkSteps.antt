@@ -1,4 +1,4 @@
--- The loop iterations of `marks_other`. Assumes nothing.
+-- The loop iterations of `different_bits`. Assumes nothing.
 use Prim.Native.Nat.{ℕ, _+_, _*_, _^_, _≤_, _<_}
 use mathlib.Core.Path.{_≡_, refl, sym, ap, _∙_}
 use mathlib.Core.Bool.{true, false, not}
@@ -9,8 +9,8 @@ use native.Mathlib.Omega.{arith}
 use lib.ListN.{length, getD}
 use borrow.Author.Tests.{eq-eqb, ne-eqb}
 use Rattle.lists.specs.Laws.Rows.{row-in}
-use Rattle.row_buffer.specs.Ranks.{marks}
-use Rattle.row_buffer.specs.Laws.Rows.{marks-yes, marks-no, marks-lt}
+use Rattle.row_buffer.specs.Ranks.{bitmapWord}
+use Rattle.row_buffer.specs.Laws.Rows.{bitmapWord-yes, bitmapWord-no, bitmapWord-lt}
 use Rattle.bitmap.specs.inner.Marking.{Spaced, otherAt}
 
 module _ (cells : List ℕ) (from stride count than : ℕ) where
@@ -18,15 +18,15 @@ module _ (cells : List ℕ) (from stride count than : ℕ) where
   pub record Marked (word at bit : ℕ) : Type 0 where
     pub few : bit ≤ count
     pub here : at ≡ from + bit * stride
-    pub made : word ≡ marks (otherAt cells from stride than) bit
+    pub made : word ≡ bitmapWord (otherAt cells from stride than) bit
 
   pub marked-begin : Marked 0 from 0
-  unfolding marks
+  unfolding bitmapWord
   marked-begin = record { few = omega arith; here = omega (arith, zero-mul stride); made = refl }
 
   module _ (s : Spaced cells from stride count) (word at bit : ℕ) (m : Marked word at bit) where
     pub word-below : word < 2 ^ bit
-    word-below = rw (m .made) (marks-lt (otherAt cells from stride than) bit)
+    word-below = rw (m .made) (bitmapWord-lt (otherAt cells from stride than) bit)
 
     module _ (more : bit < count) where
       -- the position is inside the store, and the next one is at most its end
@@ -42,13 +42,13 @@ module _ (cells : List ℕ) (from stride count than : ℕ) where
       unfolding otherAt
       marked-other ne word′ e =
           let y : otherAt cells from stride than bit ≡ true = ap not (ne-eqb _ than (rw (m .here) at ne)) in
-          record { few = omega arith; here = on; made = e ∙ ap (λ (x : ℕ). x + 2 ^ bit) (m .made) ∙ sym (marks-yes (otherAt cells from stride than) bit y) }
+          record { few = omega arith; here = on; made = e ∙ ap (λ (x : ℕ). x + 2 ^ bit) (m .made) ∙ sym (bitmapWord-yes (otherAt cells from stride than) bit y) }
 
       pub marked-same : getD cells at 0 ≡ than → Marked word (at + stride) (bit + 1)
       unfolding otherAt
       marked-same e =
           let y : otherAt cells from stride than bit ≡ false = ap not (eq-eqb _ than (rw (m .here) at e)) in
-          record { few = omega arith; here = on; made = m .made ∙ sym (marks-no (otherAt cells from stride than) bit y) }
+          record { few = omega arith; here = on; made = m .made ∙ sym (bitmapWord-no (otherAt cells from stride than) bit y) }
 
-    pub marked-end : count ≤ bit → word ≡ marks (otherAt cells from stride than) count
+    pub marked-end : count ≤ bit → word ≡ bitmapWord (otherAt cells from stride than) count
     marked-end h = let e : bit ≡ count = omega (arith, m .few) in rw (← e) (m .made)

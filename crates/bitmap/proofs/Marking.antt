@@ -14,29 +14,29 @@ use lib.ListN.{length, getD, set, length-set}
 use lib.Pow.{pow-pos, shl-exact}
 use lib.Seq.{getD-set-same, getD-set-other}
 use borrow.Author.Tests.{eq-eqb, ne-eqb, eqb-true, eqb-false}
-use Rattle.lists.specs.Laws.Keep.{split}
-use Rattle.bitmap.specs.Laws.Lowest.{marks-same}
-use Rattle.row_buffer.specs.Ranks.{setBelow, marks, countTo}
-use Rattle.row_buffer.specs.Laws.Rows.{below-marks}
+use Rattle.lists.specs.Laws.Filter.{split}
+use Rattle.bitmap.specs.Laws.Lowest.{bitmapWord-same}
+use Rattle.row_buffer.specs.Ranks.{setBelow, bitmapWord, countTo}
+use Rattle.row_buffer.specs.Laws.Rows.{below-bitmapWord}
 use Rattle.bitmap.specs.inner.Bitmaps.{Bitmap, MarkedOne}
-use Rattle.bitmap.specs.Laws.Bitmaps.{marks-with}
+use Rattle.bitmap.specs.Laws.Bitmaps.{bitmapWord-with}
 
 module _ (f : ℕ → Bool) (k n : ℕ) (h : k < n) where
-  digit-of : marks f n / 2 ^ k % 2 ≡ cond (f k) 1 0
+  digit-of : bitmapWord f n / 2 ^ k % 2 ≡ cond (f k) 1 0
   unfolding setBelow countTo
-  digit-of = omega (arith, below-marks f k n (omega arith), below-marks f (suc k) n h)
+  digit-of = omega (arith, below-bitmapWord f k n (omega arith), below-bitmapWord f (suc k) n h)
 
-  and-bit : bitAnd (marks f n) (2 ^ k) ≡ cond (f k) (2 ^ k) 0
+  and-bit : bitAnd (bitmapWord f n) (2 ^ k) ≡ cond (f k) (2 ^ k) 0
   and-bit =
       let e : 2 ^ k ≡ 2 ^ (1 + k) - 2 ^ k = rw (one-add k, pow-suc 2 k) (omega arith) in
-      ap (bitAnd (marks f n)) e ∙ and-high (marks f n) 1 k ∙ rw digit-of (elim (split (f k)) [ inl q ↦ rw q (one-mul (2 ^ k)) | inr q ↦ rw q (zero-mul (2 ^ k)) ])
+      ap (bitAnd (bitmapWord f n)) e ∙ and-high (bitmapWord f n) 1 k ∙ rw digit-of (elim (split (f k)) [ inl q ↦ rw q (one-mul (2 ^ k)) | inr q ↦ rw q (zero-mul (2 ^ k)) ])
 
-  or-bit : bitOr (marks f n) (2 ^ k) ≡ marks (λ i. eqb i k || f i) n
+  or-bit : bitOr (bitmapWord f n) (2 ^ k) ≡ bitmapWord (λ i. eqb i k || f i) n
   or-bit =
-      rw (marks-with f k n h)
+      rw (bitmapWord-with f k n h)
       (elim (split (f k)) [
-        | inl q ↦ let a : bitAnd (marks f n) (2 ^ k) ≡ 2 ^ k = and-bit ∙ rw q in rw q (omega (arith, or-add-and (marks f n) (2 ^ k)))
-        | inr q ↦ let a : bitAnd (marks f n) (2 ^ k) ≡ 0 = and-bit ∙ rw q in rw q (omega (arith, or-add-and (marks f n) (2 ^ k)))
+        | inl q ↦ let a : bitAnd (bitmapWord f n) (2 ^ k) ≡ 2 ^ k = and-bit ∙ rw q in rw q (omega (arith, or-add-and (bitmapWord f n) (2 ^ k)))
+        | inr q ↦ let a : bitAnd (bitmapWord f n) (2 ^ k) ≡ 0 = and-bit ∙ rw q in rw q (omega (arith, or-add-and (bitmapWord f n) (2 ^ k)))
       ])
 
 -- the bitmap with the bit of a row
@@ -78,17 +78,17 @@ module _ (words : List ℕ) (row : ℕ) (long : length words ≡ 1024) (h : row 
           ];
         }
       where
-        other : (w : ℕ) → w < 1024 → (w ≡ row / 64 → ⊥) → getD (set words (row / 64) (bitOr word bit)) w 0 ≡ marks (λ i. eqb (64 * w + i) row || test (64 * w + i)) 64
+        other : (w : ℕ) → w < 1024 → (w ≡ row / 64 → ⊥) → getD (set words (row / 64) (bitOr word bit)) w 0 ≡ bitmapWord (λ i. eqb (64 * w + i) row || test (64 * w + i)) 64
         other w few ne =
             getD-set-other words (row / 64) w (bitOr word bit) 0 ne
             ∙ b .marked w few
-            ∙ marks-same _ _ 64 (λ i q. rw (ne-eqb (64 * w + i) row (λ e. ne (omega arith))))
+            ∙ bitmapWord-same _ _ 64 (λ i q. rw (ne-eqb (64 * w + i) row (λ e. ne (omega arith))))
 
-        same : getD (set words (row / 64) (bitOr word bit)) (row / 64) 0 ≡ marks (λ i. eqb (64 * (row / 64) + i) row || of-word i) 64
+        same : getD (set words (row / 64) (bitOr word bit)) (row / 64) 0 ≡ bitmapWord (λ i. eqb (64 * (row / 64) + i) row || of-word i) 64
         same =
-            let e : bitOr word bit ≡ marks (λ i. eqb i (row % 64) || of-word i) 64 =
+            let e : bitOr word bit ≡ bitmapWord (λ i. eqb i (row % 64) || of-word i) 64 =
             rw (bit-is, b .marked (row / 64) (omega arith)) (or-bit of-word (row % 64) 64 (omega arith)) in
-            getD-set-same words (row / 64) (bitOr word bit) 0 (omega arith) ∙ e ∙ marks-same _ _ 64 (λ i q. rw (here i q))
+            getD-set-same words (row / 64) (bitOr word bit) 0 (omega arith) ∙ e ∙ bitmapWord-same _ _ 64 (λ i q. rw (here i q))
 
   pub marked-new : bitAnd word bit ≡ 0 → MarkedOne words row (set words (row / 64) (bitOr word bit)) 1
   marked-new z =

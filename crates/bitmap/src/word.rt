@@ -2,7 +2,7 @@
 // unpredictable branch for each position.
 ghost use mathlib.Core.Path.{_≡_};
 ghost use Prim.Native.Nat.{min};
-ghost use Rattle.row_buffer.specs.Ranks.{marks};
+ghost use Rattle.row_buffer.specs.Ranks.{bitmapWord};
 ghost use Rattle.bitmap.specs.inner.Marking.{Spaced, otherAt};
 
 // The number of the remaining positions that the next word covers.
@@ -16,9 +16,9 @@ pub fn block(left: u32) -> u32
 }
 
 // A bitmap word: the bits of the positions whose cell is different from `than`.
-pub fn marks_other(cells: &[u32], from: usize, stride: usize, count: u32, than: u32) -> u64
+pub fn different_bits(cells: &[u32], from: usize, stride: usize, count: u32, than: u32) -> u64
     requires { ⌜ Spaced (now cells) from stride count ⌝ }
-    ensures { λ r. ⌜ r ≡ marks (otherAt (now (cells .entry)) from stride than) count ⌝ }
+    ensures { λ r. ⌜ r ≡ bitmapWord (otherAt (now (cells .entry)) from stride than) count ⌝ }
 {
     let mut word: u64 = 0;
     let mut at = from;
@@ -29,7 +29,7 @@ pub fn marks_other(cells: &[u32], from: usize, stride: usize, count: u32, than: 
         at += stride;
         bit += 1;
         if cell != than {
-            word = row_buffer::add_mark(word, place);
+            word = row_buffer::set_bit(word, place);
         }
     }
     word

@@ -5,10 +5,10 @@ use native.Mathlib.Nat.{add-comm}
 use native.Mathlib.Omega.{arith}
 use lib.Pow.{shl-exact, shr-mod}
 use lib.Bits.{bitAnd, bitOr, and-mask, or-shifted-r}
-use Rattle.cells.specs.Cells.{compact, probed}
+use Rattle.cells.specs.Cells.{compactHash, probed}
 
 pub compact-law : (x : ℕ) → x < 2 ^ 64
-    → bitOr (bitAnd x (2 ^ 25 - 1)) ((bitAnd (x / 2 ^ 57) (2 ^ 7 - 1) * 2 ^ 25) % 2 ^ 64) ≡ compact x
+    → bitOr (bitAnd x (2 ^ 25 - 1)) ((bitAnd (x / 2 ^ 57) (2 ^ 7 - 1) * 2 ^ 25) % 2 ^ 64) ≡ compactHash x
 compact-law x h =
     let low : bitAnd x (2 ^ 25 - 1) ≡ x % 2 ^ 25 = and-mask x 25 in
     let high : bitAnd (x / 2 ^ 57) (2 ^ 7 - 1) ≡ x / 2 ^ 57 = and-mask (x / 2 ^ 57) 7 ∙ shr-mod {n = x} 7 57 h in

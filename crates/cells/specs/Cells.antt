@@ -10,8 +10,8 @@ unfoldable pub isDead : ℕ → Bool
 isDead first = eqb first 4294967295
 
 -- "the low 25 bits of the 64-bit hash, with its top 7 bits above them"
-abbrev pub compact : ℕ → ℕ
-compact full = full / 2 ^ 57 * 2 ^ 25 + full % 2 ^ 25
+abbrev pub compactHash : ℕ → ℕ
+compactHash full = full / 2 ^ 57 * 2 ^ 25 + full % 2 ^ 25
 
 -- "`probe` is that 32-bit number plus its top 7 bits times 2^57"
 abbrev pub probed : ℕ → ℕ

@@ -1,7 +1,7 @@
 // Cells, the dead mark and the hash of a key: common.rs, and `CompactHash`, `ProbeHash` and `shard_hash` of
 // table/mod.rs. Each contract cites its definition in specs/Cells.antt.
 ghost use mathlib.Core.Path.{_≡_};
-ghost use Rattle.cells.specs.Cells.{isDead, compact, probed, mixed, keyHash};
+ghost use Rattle.cells.specs.Cells.{isDead, compactHash, probed, mixed, keyHash};
 
 // The dead mark. A row whose first cell is this number is dead. In any other column it is an ordinary number.
 pub const STALE: u32 = 0xffff_ffff;
@@ -25,7 +25,7 @@ const LOW_MASK: u64 = 0x1ff_ffff;
 
 // The compact hash of a 64-bit hash.
 pub fn from_full(full: u64) -> u32
-    ensures { λ r. ⌜ r ≡ compact full ⌝ }
+    ensures { λ r. ⌜ r ≡ compactHash full ⌝ }
 {
     let low = full & LOW_MASK;
     let h2 = (full >> H2_SHIFT) & H2_MASK;
@@ -66,7 +66,7 @@ pub fn key_hash(key: &[u32]) -> u64
 
 // The compact hash of a key.
 pub fn compact_hash(key: &[u32]) -> u32
-    ensures { λ r. ⌜ r ≡ compact (keyHash (now (key .entry))) ⌝ }
+    ensures { λ r. ⌜ r ≡ compactHash (keyHash (now (key .entry))) ⌝ }
 {
     from_full(key_hash(key))
 }

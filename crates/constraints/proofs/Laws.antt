@@ -6,8 +6,8 @@ use mathlib.Core.Bool.{Bool, true, false, cond, _&&_}
 use mathlib.Core.List.{List, [], _∷_}
 use lib.Dec.{eqb}
 use lib.ListN.{getD}
-use Rattle.lists.specs.Lists.{every}
-use Rattle.lists.specs.Laws.Keep.{split}
+use Rattle.lists.specs.Lists.{all}
+use Rattle.lists.specs.Laws.Filter.{split}
 use Rattle.constraints.specs.declared.Constraint.{Constraint}
 use Rattle.constraints.specs.Constraints.{compares, met, isLive, meets}
 
@@ -16,7 +16,7 @@ and-true true = refl
 and-true false = refl
 
 pub meets-live : (row : List ℕ) (c : Constraint) → isLive row ≡ true → meets row (c ∷ []) ≡ met row c
-unfolding meets every
+unfolding meets all
 meets-live row c e = rw e (and-true (met row c))
 
 pub meets-dead : (row : List ℕ) (c : Constraint) → isLive row ≡ false → meets row (c ∷ []) ≡ false

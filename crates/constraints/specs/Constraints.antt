@@ -4,7 +4,7 @@ use mathlib.Core.Bool.{Bool, cond, not, _&&_, _||_}
 use mathlib.Core.List.{List}
 use lib.ListN.{getD}
 use lib.Dec.{leb, ltb, eqb}
-use Rattle.lists.specs.Lists.{every}
+use Rattle.lists.specs.Lists.{all}
 use Rattle.cells.specs.Cells.{isDead}
 use Rattle.constraints.specs.declared.Constraint.{Constraint}
 
@@ -32,4 +32,4 @@ isLive row = not (isDead (getD row 0 0))
 
 -- "The empty list is met by every live row; a dead row meets none"
 unfoldable pub meets : List ℕ → List Constraint → Bool
-meets row conditions = isLive row && every (met row) conditions
+meets row conditions = isLive row && all (met row) conditions

@@ -2,7 +2,7 @@
 use Prim.Native.Nat.{ℕ, _+_, _*_}
 use mathlib.Core.List.{List, map}
 use lib.ListN.{getD}
-use Rattle.lists.specs.Lists.{countFrom}
+use Rattle.lists.specs.Lists.{iota}
 use Rattle.constraints.specs.declared.Constraint.{Constraint}
 
 -- the condition with number i, from 0
@@ -11,4 +11,4 @@ conditionIn words i = record { kind = getD words (i * 3) 0; column = getD words 
 
 -- the first n conditions
 unfoldable pub conditionsIn : ℕ → List ℕ → List Constraint
-conditionsIn n words = map (conditionIn words) (countFrom 0 n)
+conditionsIn n words = map (conditionIn words) (iota 0 n)

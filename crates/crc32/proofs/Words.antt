@@ -6,14 +6,14 @@ use native.Mathlib.Numerals.{add-one}
 use native.Mathlib.Omega.{arith}
 use lib.ListN.{length, drop, getD, drop-of-length-le}
 use lib.Seq.{drop-cons}
-use Rattle.lists.specs.Lists.{flat}
+use Rattle.lists.specs.Lists.{flatten}
 use Rattle.crc32.specs.Crc.{byteStep, wordBytes, bytesOf}
 
 -- one word more
 word-next : (words : List ℕ) (i s : ℕ) → i < length words
     → foldl byteStep s (bytesOf (drop i words))
     ≡ foldl byteStep (foldl byteStep s (wordBytes (getD words i 0))) (bytesOf (drop (i + 1) words))
-unfolding bytesOf flat
+unfolding bytesOf flatten
 word-next words i s h = rw (add-one, drop-cons words i 0 h) (foldl-append byteStep s (wordBytes (getD words i 0)) _)
 
 -- two words more
@@ -29,7 +29,7 @@ two-next words i s h =
 
 -- no word left
 pub none-left : (words : List ℕ) (i s : ℕ) → length words ≤ i → foldl byteStep s (bytesOf (drop i words)) ≡ s
-unfolding bytesOf flat
+unfolding bytesOf flatten
 none-left words i s h = rw (drop-of-length-le words h)
 
 -- one word left

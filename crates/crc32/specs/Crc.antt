@@ -4,7 +4,7 @@ use mathlib.Core.Bool.{cond}
 use mathlib.Core.List.{List, [], _∷_, foldl, map}
 use lib.Dec.{eqb}
 use lib.Bits.{bitXor}
-use Rattle.lists.specs.Lists.{flat}
+use Rattle.lists.specs.Lists.{flatten}
 
 -- One bit: the register moves one bit to the right; where a 1 moves out, the polynomial 0xEDB88320 is added.
 unfoldable pub bitStep : ℕ → ℕ
@@ -33,4 +33,4 @@ wordBytes word = word % 256 ∷ word / 256 % 256 ∷ word / 65536 % 256 ∷ word
 
 -- The bytes of words, one word after another.
 unfoldable pub bytesOf : List ℕ → List ℕ
-bytesOf words = flat (map wordBytes words)
+bytesOf words = flatten (map wordBytes words)

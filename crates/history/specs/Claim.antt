@@ -4,42 +4,42 @@ use mathlib.Core.Path.{_≡_}
 use mathlib.Core.Bool.{Bool, true, _&&_}
 use mathlib.Core.List.{List}
 use lib.Dec.{ltb}
-use Rattle.lists.specs.Lists.{keep, every, any, rising, has, rowAt}
+use Rattle.lists.specs.Lists.{filter, all, any, rising, elem, rowAt}
 use Rattle.offsets.specs.Subsets.{Subset, members}
 use Rattle.constraints.specs.Constraints.{isLive, met}
 use Rattle.plain_table.specs.Staged.{Opening}
 use Rattle.plain_table.specs.Plain.{Numbered, liveFrom, liveRows, opened}
 use Rattle.plain_table.specs.Calls.{LentCall, afterAll}
 use Rattle.table.specs.Stores.{rowsIn}
-use Rattle.table.specs.Promises.{Stores}
+use Rattle.table.specs.Contracts.{Stores}
 use Rattle.history.specs.Histories.{History}
-use Rattle.history.specs.Runs.{Question, refineOne, refineList, intersectWith, intersectRange, refines, Run}
+use Rattle.history.specs.Runs.{Query, refineOne, refineList, intersectWith, intersectRange, refines, Run}
 
 -- the live rows of a table, read from its header and row store: numbers and cells
 unfoldable pub liveIn : Stores → List Numbered
 liveIn s = liveFrom 0 (rowsIn (s .header) (s .rows))
 
 -- a row satisfies an accepted query: it is in its subset, or meets its conditions, "those of ranges too"
-unfoldable pub satisfies : ℕ → List ℕ → Question → Bool
+unfoldable pub satisfies : ℕ → List ℕ → Query → Bool
 satisfies id row (refineOne c) = met row c
-satisfies id row (refineList cs) = every (met row) cs
-satisfies id row (intersectWith subset) = has id (members subset)
+satisfies id row (refineList cs) = all (met row) cs
+satisfies id row (intersectWith subset) = elem id (members subset)
 satisfies id row (intersectRange c) = met row c
 
 -- a live row that is "in every accepted subset" and meets "every accepted condition"
-unfoldable pub wanted : Stores → List Question → ℕ → Bool
+unfoldable pub wanted : Stores → List Query → ℕ → Bool
 wanted s accepted id =
     let row = rowAt (s .header .columns) id (s .rows) in
-    ltb id (s .header .rows) && isLive row && every (satisfies id row) accepted
+    ltb id (s .header .rows) && isLive row && all (satisfies id row) accepted
 
 pub record Claimed (o : Opening) (generation : ℕ) (calls : List LentCall) (s : Stores) : Type 0 where
   -- "the live rows, numbers and cells, are those of document 01's plain table after the same calls"
   pub live-rows : liveIn s ≡ liveRows (afterAll (opened o generation) calls)
   -- "If some accepted step refines, the ids left .. are exactly the live rows of the starting subset that ..", "rising,
   -- each once"
-  pub ids-left : (start : Subset) (questions : List Question) (end : Subset) (accepted : List Question)
-      → Run s start questions end accepted → any refines accepted ≡ true
-      → (members end ≡ keep (wanted s accepted) (members start)) × (rising (members end) ≡ true)
+  pub ids-left : (start : Subset) (queries : List Query) (end : Subset) (accepted : List Query)
+      → Run s start queries end accepted → any refines accepted ≡ true
+      → (members end ≡ filter (wanted s accepted) (members start)) × (rising (members end) ≡ true)
 
 abbrev pub Claim : Type 0
 Claim = (o : Opening) (generation : ℕ) (calls : List LentCall) (s : Stores) → History o generation calls s → Claimed o generation calls s

@@ -11,11 +11,11 @@ use Rattle.plain_table.specs.Calls.{staging, merging, compacting, clearing, ref
 use Rattle.table.specs.declared.TableAnswer.{TableAnswer}
 use Rattle.table.specs.declared.TableAnswer.the-variants.{Table}
 use Rattle.table.specs.declared.MergeAnswer.{MergeAnswer}
-use Rattle.table.specs.Numbers.{tableSays, mergeSays}
+use Rattle.table.specs.Numbers.{tableView, mergeView}
 use Rattle.refresh_spec.specs.declared.RefreshAnswer.{RefreshAnswer}
 use Rattle.refresh_spec.specs.Index.{IndexSound}
-use Rattle.refresh_spec.specs.Refreshes.{refreshSays, recordsFound, recordsStaged, headerRefreshed, Refreshing}
-use Rattle.table.specs.Promises.{Stores, stores, Body, body, bodyOf, joined, CompactionWords, compactionWords, lengthsLent, headerAfter, headerMerged, Opened, Staging, Merging, Compacting, Clearing}
+use Rattle.refresh_spec.specs.Refreshes.{refreshView, recordsFound, recordsStaged, headerRefreshed, Refreshing}
+use Rattle.table.specs.Contracts.{Stores, stores, Body, body, bodyOf, joined, CompactionWords, compactionWords, lengthsLent, headerAfter, headerMerged, Opened, Staging, Merging, Compacting, Clearing}
 
 -- One call, by the contract of its entry point: the lent stores before and after it, and their lengths. A store that it is not lent
 -- is unchanged.
@@ -23,31 +23,31 @@ pub data Called (s : Stores) : LentCall → Stores → Type 0 where
   stages : (r : Staged) (answer : TableAnswer) (pending′ : List ℕ) → Staging (s .header) (s .pending) r answer pending′
       → Called s
       (record { call = staging r; lengths = lengthsLent s (compactionWords [] []) })
-      (joined (headerAfter (s .header) (tableSays answer)) (bodyOf s) pending′)
+      (joined (headerAfter (s .header) (tableView answer)) (bodyOf s) pending′)
   merges : (w : CompactionWords) (answer : MergeAnswer) (b′ : Body) (w′ : CompactionWords) → Merging s w answer b′ w′
       → Called s
       (record { call = merging; lengths = lengthsLent s w })
-      (joined (headerMerged (s .header) (mergeSays answer)) b′ (s .pending))
+      (joined (headerMerged (s .header) (mergeView answer)) b′ (s .pending))
   compacts : (w : CompactionWords) (answer : TableAnswer) (b′ : Body) (w′ : CompactionWords) → Compacting (s .header) (bodyOf s) w answer b′ w′
       → Called s
       (record { call = compacting; lengths = lengthsLent s w })
-      (joined (headerAfter (s .header) (tableSays answer)) b′ (s .pending))
+      (joined (headerAfter (s .header) (tableView answer)) b′ (s .pending))
   clears : (answer : TableAnswer) (keys′ : List ℕ) → Clearing (s .header) (s .keys) answer keys′
       → Called s
       (record { call = clearing; lengths = lengthsLent s (compactionWords [] []) })
-      (joined (headerAfter (s .header) (tableSays answer)) (body (s .rows) keys′ (s .sorts)) (s .pending))
+      (joined (headerAfter (s .header) (tableView answer)) (body (s .rows) keys′ (s .sorts)) (s .pending))
   -- over a sound index store "the plain table stages these records of its own rows"
   refreshes : (r : Refresh) (index : List ℕ) (answer : RefreshAnswer) (pending′ index′ : List ℕ) → Refreshing (s .header) (s .rows) (s .pending) index r answer pending′ index′
       → IndexSound (s .header) (s .rows) (r .columns) index
       → Called s
       (record { call = refreshing r (length index); lengths = lengthsLent s (compactionWords [] []) })
-      (joined (headerRefreshed (s .header) (refreshSays answer)) (bodyOf s) pending′)
+      (joined (headerRefreshed (s .header) (refreshView answer)) (bodyOf s) pending′)
   -- "Over such an unsound index store, and nowhere else, it is fed the records that the call staged"
   refreshes-unsound : (r : Refresh) (index : List ℕ) (answer : RefreshAnswer) (pending′ index′ : List ℕ) (m : Refreshing (s .header) (s .rows) (s .pending) index r answer pending′ index′)
       → (IndexSound (s .header) (s .rows) (r .columns) index → ⊥)
       → Called s
-      (record { call = feeding (recordsStaged (refreshSays answer) (recordsFound (s .header) (s .rows) r (m .found))); lengths = lengthsLent s (compactionWords [] []) })
-      (joined (headerRefreshed (s .header) (refreshSays answer)) (bodyOf s) pending′)
+      (record { call = feeding (recordsStaged (refreshView answer) (recordsFound (s .header) (s .rows) r (m .found))); lengths = lengthsLent s (compactionWords [] []) })
+      (joined (headerRefreshed (s .header) (refreshView answer)) (bodyOf s) pending′)
 
 -- stores with more cells behind each
 abbrev pub behind : Stores → Body → List ℕ → Stores

@@ -3,13 +3,13 @@ pub mod Calls
 pub mod Further
 pub mod Determined
 pub mod Narrowing
-pub mod Questions
+pub mod Queries
 pub mod Theorem
 pub mod Batches
 pub mod LentLengths
 pub mod Total
 pub mod RefreshKinds
-pub mod LentQuestions
+pub mod LentQueries
 pub mod Stamps
 pub mod Notes
 pub mod Refreshes

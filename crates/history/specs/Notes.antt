@@ -9,15 +9,15 @@ use mathlib.Core.Bool.{false}
 use mathlib.Core.Logic.{_⊎_}
 use mathlib.Core.List.{List, _++_}
 use mathlib.Core.Option.{some}
-use Rattle.lists.specs.Lists.{keep, has, rowAt}
+use Rattle.lists.specs.Lists.{filter, elem, rowAt}
 use Rattle.refusals.specs.Refusals.{accepted}
 use Rattle.offsets.specs.Subsets.{Subset, members}
 use Rattle.constraints.specs.Constraints.{isLive}
 use Rattle.plain_table.specs.Staged.{Opening}
 use Rattle.plain_table.specs.Calls.{LentCall}
 use Rattle.table.specs.declared.RangeAnswer.{RangeAnswer}
-use Rattle.table.specs.Numbers.{rangeSays}
-use Rattle.table.specs.Promises.{Stores, RowsSinceVersion}
+use Rattle.table.specs.Numbers.{rangeView}
+use Rattle.table.specs.Contracts.{Stores, RowsSinceVersion}
 use Rattle.history.specs.Histories.{Steps, History}
 use Rattle.history.specs.Claim.{liveIn}
 
@@ -32,8 +32,8 @@ pub record Guaranteed (then now : Stores) (since : Subset) : Type 0 where
       → (storedRow now i ≡ storedRow then i) ⊎ (isLive (storedRow now i) ≡ false)
   -- "the copied rows still live together with the live rows of the answer", numbers and cells, in order
   pub live-rows : liveIn now
-      ≡ keep (λ row. isLive (storedRow now (row .number))) (liveIn then)
-      ++ keep (λ row. has (row .number) (members since)) (liveIn now)
+      ≡ filter (λ row. isLive (storedRow now (row .number))) (liveIn then)
+      ++ filter (λ row. elem (row .number) (members since)) (liveIn now)
 
 -- A note is taken at any moment of a history, "that version" being the generation and row count of that moment, and is accepted at
 -- any later moment of it.
@@ -41,5 +41,5 @@ abbrev pub OldNote : Type 0
 OldNote =
     (o : Opening) (generation : ℕ) (earlier later : List LentCall) (then now : Stores) (answer : RangeAnswer) (since : Subset)
     → History o generation earlier then → Steps then later now
-    → RowsSinceVersion (now .header) (then .header .generation) (then .header .rows) answer → rangeSays answer ≡ accepted (some since)
+    → RowsSinceVersion (now .header) (then .header .generation) (then .header .rows) answer → rangeView answer ≡ accepted (some since)
     → Guaranteed then now since

@@ -7,9 +7,9 @@ use Rattle.refusals.specs.Refusals.{Reply, refused, accepted}
 use Rattle.plain_table.specs.Staged.{Opening}
 use Rattle.plain_table.specs.Plain.{Plain, opened, mergeKeeps, mergeDrops}
 use Rattle.plain_table.specs.Calls.{LentCall}
-use Rattle.plain_table.specs.Appending.{overMerges, mergeAdds}
-use Rattle.table.specs.Numbers.{tableSays, mergeSays}
-use Rattle.table.specs.Promises.{Stores}
+use Rattle.plain_table.specs.Appending.{sumOverMerges, mergeAdds}
+use Rattle.table.specs.Numbers.{tableView, mergeView}
+use Rattle.table.specs.Contracts.{Stores}
 use Rattle.history.specs.Histories.{Called, stages, merges, compacts, clears, refreshes, refreshes-unsound, called, Steps, end, next, History}
 
 -- the row counts of calls
@@ -31,34 +31,34 @@ counted (refused n) f = wear 0 0 0 0
 counted (accepted a) f = f a
 
 -- the counts of one call: the caller's compaction drops all dead rows, a clear drops all rows
-unfoldable pub ofCall : {s t : Stores} {c : LentCall} → Called s c t → Wear
-ofCall (stages r answer pending′ m) = wear 0 0 0 0
-ofCall (merges w answer b′ w′ m) = counted (mergeSays answer) (λ a. wear (a .kept) (a .dropped) 0 0)
-ofCall {s} (compacts w answer b′ w′ m) = counted (tableSays answer) (λ h. wear 0 0 (s .header .dead) 0)
-ofCall {s} (clears answer keys′ m) = counted (tableSays answer) (λ h. wear 0 0 0 (s .header .rows))
-ofCall (refreshes r index answer pending′ index′ m sound) = wear 0 0 0 0
-ofCall (refreshes-unsound r index answer pending′ index′ m unsound) = wear 0 0 0 0
+unfoldable pub wearOfCall : {s t : Stores} {c : LentCall} → Called s c t → Wear
+wearOfCall (stages r answer pending′ m) = wear 0 0 0 0
+wearOfCall (merges w answer b′ w′ m) = counted (mergeView answer) (λ a. wear (a .kept) (a .dropped) 0 0)
+wearOfCall {s} (compacts w answer b′ w′ m) = counted (tableView answer) (λ h. wear 0 0 (s .header .dead) 0)
+wearOfCall {s} (clears answer keys′ m) = counted (tableView answer) (λ h. wear 0 0 0 (s .header .rows))
+wearOfCall (refreshes r index answer pending′ index′ m sound) = wear 0 0 0 0
+wearOfCall (refreshes-unsound r index answer pending′ index′ m unsound) = wear 0 0 0 0
 
 -- the counts of all calls
-unfoldable pub ofSteps : {s t : Stores} {cs : List LentCall} → Steps s cs t → Wear
-ofSteps (end s) = wear 0 0 0 0
-ofSteps (next (called rest pending c) steps) =
-    let a = ofCall c in
-    let b = ofSteps steps in
+unfoldable pub wearOfSteps : {s t : Stores} {cs : List LentCall} → Steps s cs t → Wear
+wearOfSteps (end s) = wear 0 0 0 0
+wearOfSteps (next (called rest pending c) steps) =
+    let a = wearOfCall c in
+    let b = wearOfSteps steps in
     wear (a .kept + b .kept) (a .dropped + b .dropped) (a .compacted + b .compacted) (a .emptied + b .emptied)
 
 -- `p` is the plain table before the calls, `w` are the counts of the calls, `rows` is the row count after them
 pub record Priced (p : Plain) (calls : List LentCall) (w : Wear) (rows : ℕ) : Type 0 where
   -- "kept and dropped counts in the merge result equal the definition's, summed over a history"
-  pub kept-sum : w .kept ≡ overMerges mergeKeeps p calls
-  pub dropped-sum : w .dropped ≡ overMerges mergeDrops p calls
+  pub kept-sum : w .kept ≡ sumOverMerges mergeKeeps p calls
+  pub dropped-sum : w .dropped ≡ sumOverMerges mergeDrops p calls
   -- "rows kept by merges' compactions together never exceed rows appended"
-  pub kept-few : w .kept ≤ overMerges mergeAdds p calls
+  pub kept-few : w .kept ≤ sumOverMerges mergeAdds p calls
   -- "rows appended equal rows in the store plus dead rows dropped by any compaction plus rows, live and dead, dropped by clears"
-  pub accounted : overMerges mergeAdds p calls ≡ rows + (w .dropped + w .compacted) + w .emptied
+  pub accounted : sumOverMerges mergeAdds p calls ≡ rows + (w .dropped + w .compacted) + w .emptied
 
 -- "Over any history of demand 3"
 abbrev pub PriceOfCompaction : Type 0
 PriceOfCompaction =
     (o : Opening) (generation : ℕ) (calls : List LentCall) (s : Stores) (h : History o generation calls s)
-    → Priced (opened o generation) calls (ofSteps (h .steps)) (s .header .rows)
+    → Priced (opened o generation) calls (wearOfSteps (h .steps)) (s .header .rows)

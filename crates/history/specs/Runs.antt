@@ -11,34 +11,34 @@ use lib.ListN.{length, take}
 use Rattle.refusals.specs.Refusals.{Reply, refused, accepted}
 use Rattle.offsets.specs.declared.SubsetAnswer.{SubsetAnswer}
 use Rattle.offsets.specs.Subsets.{Subset, members}
-use Rattle.offsets.specs.Answers.{Answered, readOff, intersectReply}
+use Rattle.offsets.specs.Answers.{Answered, subsetView, intersectReply}
 use Rattle.constraints.specs.declared.Constraint.{Constraint}
 use Rattle.table.specs.declared.RangeAnswer.{RangeAnswer}
-use Rattle.table.specs.Numbers.{rangeSays}
-use Rattle.table.specs.Promises.{Stores, RangeRead}
+use Rattle.table.specs.Numbers.{rangeView}
+use Rattle.table.specs.Contracts.{Stores, RangeRead}
 use Rattle.query_spec.specs.Queries.{RefinedOne, RefinedList}
 
-pub data Question : Type 0 where
-  refineOne : Constraint → Question
-  refineList : List Constraint → Question
-  intersectWith : Subset → Question
-  intersectRange : Constraint → Question
+pub data Query : Type 0 where
+  refineOne : Constraint → Query
+  refineList : List Constraint → Query
+  intersectWith : Subset → Query
+  intersectRange : Constraint → Query
 
 -- whether the query is a step that "refines"
-unfoldable pub refines : Question → Bool
+unfoldable pub refines : Query → Bool
 refines (refineOne c) = true
 refines (refineList cs) = true
 refines (intersectWith b) = false
 refines (intersectRange c) = false
 
 -- a refused query leaves the ids unchanged and counts for nothing
-unfoldable pub left : Subset → Reply Subset → Subset
-left before (refused n) = before
-left before (accepted subset) = subset
+unfoldable pub subsetAfter : Subset → Reply Subset → Subset
+subsetAfter before (refused n) = before
+subsetAfter before (accepted subset) = subset
 
-unfoldable pub counting : Question → Reply Subset → List Question
-counting q (refused n) = []
-counting q (accepted subset) = q ∷ []
+unfoldable pub countedQueries : Query → Reply Subset → List Query
+countedQueries q (refused n) = []
+countedQueries q (accepted subset) = q ∷ []
 
 -- `intersect` takes the two subsets in either order
 abbrev pub Intersected : Subset → Subset → List ℕ → SubsetAnswer → List ℕ → Type 0
@@ -49,26 +49,26 @@ Intersected a b output answer output′ =
 -- One query on a table, on the current ids: the ids after it, and the query itself if it counts. Each query has its own output and
 -- is lent the first `lent` cells of a store, or all of them if it has no more. So a query may be refused for a store of which the
 -- next one is lent more. "where [the fast range] is *none*, the step and its condition count for nothing", as if it is refused
-pub data Asked (s : Stores) (a : Subset) : Question → Subset → List Question → Type 0 where
+pub data Queried (s : Stores) (a : Subset) : Query → Subset → List Query → Type 0 where
   one-refined : (c : Constraint) (lent : ℕ) (output output′ : List ℕ) (answer : SubsetAnswer)
       → RefinedOne (s .header) (take lent (s .rows)) a c output answer output′
-      → Asked s a (refineOne c) (left a (readOff answer output′)) (counting (refineOne c) (readOff answer output′))
+      → Queried s a (refineOne c) (subsetAfter a (subsetView answer output′)) (countedQueries (refineOne c) (subsetView answer output′))
   list-refined : (cs : List Constraint) (lent : ℕ) (output output′ : List ℕ) (answer : SubsetAnswer)
       → RefinedList (s .header) (take lent (s .rows)) a cs output answer output′
-      → Asked s a (refineList cs) (left a (readOff answer output′)) (counting (refineList cs) (readOff answer output′))
+      → Queried s a (refineList cs) (subsetAfter a (subsetView answer output′)) (countedQueries (refineList cs) (subsetView answer output′))
   intersected : (b : Subset) (output output′ : List ℕ) (answer : SubsetAnswer) → Intersected a b output answer output′
-      → Asked s a (intersectWith b) (left a (readOff answer output′)) (counting (intersectWith b) (readOff answer output′))
+      → Queried s a (intersectWith b) (subsetAfter a (subsetView answer output′)) (countedQueries (intersectWith b) (subsetView answer output′))
   range-intersected : (b : Subset) (c : Constraint) (lent : ℕ) (range : RangeAnswer) (output output′ : List ℕ) (answer : SubsetAnswer)
-      → RangeRead (s .header) (take lent (s .sorts)) c range → rangeSays range ≡ accepted (some b)
+      → RangeRead (s .header) (take lent (s .sorts)) c range → rangeView range ≡ accepted (some b)
       → Intersected a b output answer output′
-      → Asked s a (intersectRange c) (left a (readOff answer output′)) (counting (intersectRange c) (readOff answer output′))
+      → Queried s a (intersectRange c) (subsetAfter a (subsetView answer output′)) (countedQueries (intersectRange c) (subsetView answer output′))
   range-nothing : (c : Constraint) (lent : ℕ) (range : RangeAnswer)
-      → RangeRead (s .header) (take lent (s .sorts)) c range → ((b : Subset) → rangeSays range ≡ accepted (some b) → ⊥)
-      → Asked s a (intersectRange c) a []
+      → RangeRead (s .header) (take lent (s .sorts)) c range → ((b : Subset) → rangeView range ≡ accepted (some b) → ⊥)
+      → Queried s a (intersectRange c) a []
 
 -- The queries in order, and those that were accepted. Each query may take any subset with the current ids, a range or a list: a
 -- caller may copy the ids from one form into the other.
-pub data Run (s : Stores) : Subset → List Question → Subset → List Question → Type 0 where
+pub data Run (s : Stores) : Subset → List Query → Subset → List Query → Type 0 where
   end : (a : Subset) → Run s a [] a []
-  next : {a b b′ c : Subset} {q : Question} {qs counted rest : List Question}
-      → Asked s a q b counted → members b′ ≡ members b → Run s b′ qs c rest → Run s a (q ∷ qs) c (counted ++ rest)
+  next : {a b b′ c : Subset} {q : Query} {qs counted rest : List Query}
+      → Queried s a q b counted → members b′ ≡ members b → Run s b′ qs c rest → Run s a (q ∷ qs) c (counted ++ rest)

@@ -7,8 +7,8 @@ use Rattle.plain_table.specs.Staged.{Opening}
 use Rattle.plain_table.specs.Plain.{opened}
 use Rattle.plain_table.specs.Calls.{LentCall}
 use Rattle.plain_table.specs.Appending.{stampsSince, greatest}
-use Rattle.table.specs.Numbers.{largestSays}
-use Rattle.table.specs.Promises.{Stores}
+use Rattle.table.specs.Numbers.{largestView}
+use Rattle.table.specs.Contracts.{Stores}
 use Rattle.history.specs.Histories.{History}
 
 -- the sort values that a history has appended "since opening or the last clear that emptied rows", in order
@@ -17,7 +17,7 @@ stamps o generation calls = stampsSince [] (opened o generation) calls
 
 pub record StampsKept (o : Opening) (generation : ℕ) (calls : List LentCall) (s : Stores) : Type 0 where
   -- "The header shall keep the largest" of them, "and whether there is one"
-  pub largest-kept : largestSays (s .header .largest) ≡ greatest (stamps o generation calls)
+  pub largest-kept : largestView (s .header .largest) ≡ greatest (stamps o generation calls)
   -- and they never fall
   pub never-fall : (i j : ℕ) → i ≤ j → j < length (stamps o generation calls)
       → getD (stamps o generation calls) i 0 ≤ getD (stamps o generation calls) j 0

@@ -6,14 +6,14 @@ use mathlib.Core.List.{List}
 use mathlib.Core.Option.{Option, none, some}
 use native.Mathlib.Omega.{arith}
 use lib.ListN.{length}
-use Rattle.refusals.specs.Refusals.{first, reply}
-use Rattle.key_index.specs.declared.Keyed.{Keyed}
+use Rattle.refusals.specs.Refusals.{firstRefusal, reply}
+use Rattle.key_index.specs.declared.IndexShape.{IndexShape}
 use Rattle.key_index.specs.inner.Index.{Fits}
-use Rattle.sort_entries.specs.inner.Search.{Held}
+use Rattle.sort_entries.specs.inner.Search.{EntriesFit}
 use Rattle.sort_entries.specs.inner.Checks.{Decides, decides-no, Cells}
 use Rattle.table.specs.declared.Header.{Header}
 use Rattle.table.specs.declared.TableAnswer.the-variants.{Refused as TableRefused, Table}
-use Rattle.table.specs.Numbers.{tableSays}
+use Rattle.table.specs.Numbers.{tableView}
 use Rattle.table.specs.Refusing.{outside}
 use Rattle.table.specs.Sound.{KeysDiffer}
 use Rattle.table.specs.Laws.Refusals.{outside-inside}
@@ -30,7 +30,7 @@ use Rattle.image_check.specs.inner.Decoding.{DecodingIs}
 -- ---- `is_key_unique`
 
 -- as many slots as rows call for, and no more room
-abbrev rowsAlone : Header → Keyed
+abbrev rowsAlone : Header → IndexShape
 rowsAlone h = record { columns = h .columns; keys = h .keys; room = h .rows; rows = h .rows }
 
 pub no-row-differs : (h : Header) (rows : List ℕ) → h .rows ≡ 0 → KeysDiffer h rows
@@ -69,7 +69,7 @@ module _ (words : List ℕ) (l : Layout) (t : IsAt words l) where
         words = omega (arith, proper .rows-are);
       }
 
-  pub contents-held : Held (part words (l .sorts) (l .pending)) (l .header .entries)
+  pub contents-held : EntriesFit (part words (l .sorts) (l .pending)) (l .header .entries)
   unfolding imageIn
   contents-held =
       let i = outside-inside (l .header) (t .placed .inside) in
@@ -136,7 +136,7 @@ module _ (words : List ℕ) where
 
   module _ (l : Layout) (t : IsAt words l) where
     pub decoding-unsound : (SoundImage (imageIn words l) → ⊥) → DecodingIs words (Refused 20)
-    unfolding checkReply reply first
+    unfolding checkReply reply firstRefusal
     decoding-unsound f =
         record {
           decoded =
@@ -176,11 +176,11 @@ module _ (words : List ℕ) where
 
 module _ (words : List ℕ) (r : Decoding) (d : DecodingIs words r) where
   pub checked-refused : (n : ℕ) → r ≡ Refused n → ImageChecked words (TableRefused n)
-  unfolding tableSays
+  unfolding tableView
   checked-refused n e = record { decoded = d .decoded; answers = sym (d .refusal n e) }
 
   pub checked-sound : (l : Layout) → r ≡ Sound l → ImageChecked words (Table (l .header))
-  unfolding tableSays checkReply reply first imageIn
+  unfolding tableView checkReply reply firstRefusal imageIn
   checked-sound l e =
       let s = d .sound-at l e in
       record { decoded = d .decoded; answers = rw (s .image-is, s .sound-is) }

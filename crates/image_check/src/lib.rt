@@ -12,7 +12,7 @@ ghost use Rattle.image_parse.specs.inner.Parsed.{imageIn, IsAt};
 ghost use Rattle.image_check.specs.inner.Decoding.{DecodingIs};
 use image_parse::Layout;
 use image_parse::Parsed;
-use key_index::Keyed;
+use key_index::IndexShape;
 use table::Header;
 use table::TableAnswer;
 
@@ -39,7 +39,7 @@ fn is_key_unique(h: Header, rows: &[u32]) -> bool
     if h.rows == 0 {
         return true;
     }
-    let t = Keyed {
+    let t = IndexShape {
         columns: h.columns,
         keys: h.keys,
         room: h.rows,

@@ -9,23 +9,23 @@ use native.Mathlib.Omega.{arith}
 use lib.Dec.{ltb}
 use lib.ListN.{length}
 use borrow.Author.Tests.{ltb-false, lt-ltb, le-ltb, eq-eqb, ne-eqb}
-use Rattle.lists.specs.Laws.Every.{or-no-left, or-no-right}
-use Rattle.lists.specs.Laws.Parts.{length-putAt}
-use Rattle.refusals.specs.Refusals.{refused, accepted, first, reply}
-use Rattle.refusals.specs.Laws.Replies.{verdict-refused, verdict-accepted}
-use Rattle.key_index.specs.declared.Keyed.{Keyed}
+use Rattle.lists.specs.Laws.All.{or-no-left, or-no-right}
+use Rattle.lists.specs.Laws.Parts.{length-splice}
+use Rattle.refusals.specs.Refusals.{refused, accepted, firstRefusal, reply}
+use Rattle.refusals.specs.Laws.Replies.{outcome-refused, outcome-accepted}
+use Rattle.key_index.specs.declared.IndexShape.{IndexShape}
 use Rattle.key_index.specs.inner.Index.{Fits}
-use Rattle.key_index.specs.Laws.Rooms.{past-room}
-use Rattle.key_rebuild.specs.inner.Growth.{Rebuilt}
+use Rattle.key_index.specs.Laws.SizeClasses.{past-sizeClass}
+use Rattle.key_rebuild.specs.inner.Rebuilding.{Rebuilt}
 use Rattle.plain_table.specs.Refusing.{Lengths, storesShort}
-use Rattle.plain_table.specs.Laws.Calls.{first-no, first-rest}
+use Rattle.plain_table.specs.Laws.Calls.{firstRefusal-no, firstRefusal-rest}
 use Rattle.table.specs.declared.Header.{Header}
 use Rattle.table.specs.declared.TableAnswer.{TableAnswer}
 use Rattle.table.specs.declared.TableAnswer.the-variants.{Refused, Table}
-use Rattle.table.specs.Numbers.{openingOf, tableSays}
+use Rattle.table.specs.Numbers.{openingOf, tableView}
 use Rattle.table.specs.Refusing.{outside, rowsShort}
-use Rattle.table.specs.Sound.{keyedOf}
-use Rattle.table.specs.Promises.{Body, body, lengths}
+use Rattle.table.specs.Sound.{indexShapeOf}
+use Rattle.table.specs.Contracts.{Body, body, lengths}
 use Rattle.table.specs.Laws.Shown.{LongEnough, stores-long}
 use Rattle.table.specs.Laws.Refusals.{Inside, outside-inside, inside-fits}
 use Rattle.image_spec.specs.Image.{Image}
@@ -55,29 +55,29 @@ capacity-few h e = outside-inside h e .bounds .capacity-few
 
 module _ (h : Header) (l : Lengths) where
   pub load-outside : outside h ≡ true → 1 ≡ loadRefusal h l
-  unfolding loadRefusal first
+  unfolding loadRefusal firstRefusal
   load-outside e = rw e
 
   module _ (e : outside h ≡ false) where
     pub load-rows : rowsShort h (l .rows) ≡ true → 2 ≡ loadRefusal h l
-    unfolding loadRefusal first storesShort rowsShort
+    unfolding loadRefusal firstRefusal storesShort rowsShort
     load-rows r = rw (e, r)
 
     module _ (r : rowsShort h (l .rows) ≡ false) where
       pub load-keys : l .keys < 2 * h .capacity → 2 ≡ loadRefusal h l
-      unfolding loadRefusal first storesShort rowsShort
+      unfolding loadRefusal firstRefusal storesShort rowsShort
       load-keys k = rw (e, r, lt-ltb _ _ k)
 
       pub load-sorts : 2 * h .capacity ≤ l .keys → l .sorts < 2 * h .capacity → 2 ≡ loadRefusal h l
-      unfolding loadRefusal first storesShort rowsShort
+      unfolding loadRefusal firstRefusal storesShort rowsShort
       load-sorts k s = rw (e, r, le-ltb _ _ k, lt-ltb _ _ s)
 
       pub load-pending : 2 * h .capacity ≤ l .keys → 2 * h .capacity ≤ l .sorts → l .pending < h .pending → 2 ≡ loadRefusal h l
-      unfolding loadRefusal first storesShort rowsShort
+      unfolding loadRefusal firstRefusal storesShort rowsShort
       load-pending k s p = rw (e, r, le-ltb _ _ k, le-ltb _ _ s, lt-ltb _ _ p)
 
       pub load-none : 2 * h .capacity ≤ l .keys → 2 * h .capacity ≤ l .sorts → h .pending ≤ l .pending → 0 ≡ loadRefusal h l
-      unfolding loadRefusal first storesShort rowsShort
+      unfolding loadRefusal firstRefusal storesShort rowsShort
       load-none k s p = rw (e, r, le-ltb _ _ k, le-ltb _ _ s, le-ltb _ _ p)
 
 -- what is known where nothing is refused
@@ -89,9 +89,9 @@ pub record Loadable (h : Header) (l : Lengths) : Type 0 where
 pub load-accepted : (h : Header) (l : Lengths) → loadRefusal h l ≡ 0 → Loadable h l
 unfolding loadRefusal
 load-accepted h l e =
-    let b = first-no (storesShort (openingOf h) l || ltb (l .pending) (h .pending)) 1 _ (first-rest (outside h) 0 _ e) in
+    let b = firstRefusal-no (storesShort (openingOf h) l || ltb (l .pending) (h .pending)) 1 _ (firstRefusal-rest (outside h) 0 _ e) in
     record {
-      inside = outside-inside h (first-no (outside h) 0 _ e);
+      inside = outside-inside h (firstRefusal-no (outside h) 0 _ e);
       long = stores-long (openingOf h) l (or-no-left (storesShort (openingOf h) l) _ b);
       pending-fits = ltb-false _ _ (or-no-right (storesShort (openingOf h) l) _ b);
     }
@@ -104,10 +104,10 @@ module _ (words : List ℕ) (l : Layout) (capacity : ℕ) (b : Body) (pending : 
   refusal-is = e ∙ ap (λ (h : Header). loadRefusal h (lengths (b .rows) (b .keys) (b .sorts) pending [] [])) header
 
   pub loading-refused : (number ≡ 0 → ⊥) → Loading words l capacity b pending (Refused number) b pending
-  unfolding tableSays
+  unfolding tableView
   loading-refused f =
       record {
-        refusal = verdict-refused _ _ number refl refusal-is f;
+        refusal = outcome-refused _ _ number refl refusal-is f;
         unchanged = λ _. (refl, refl);
         loaded = λ z. absurd (f (refusal-is ∙ z));
       }
@@ -131,20 +131,20 @@ module _ (words : List ℕ) (l : Layout) (capacity : ℕ) (b : Body) (pending : 
       unfolding imageIn
       rows-length =
           let p = image-in-proper words l (t .placed) (t .counted) in
-          ap length (w .rows-after) ∙ length-putAt (b .rows) (part words (l .rows) (l .sorts)) 0 (omega (arith, p .rows-are, parts-fit t .rows-fit))
+          ap length (w .rows-after) ∙ length-splice (b .rows) (part words (l .rows) (l .sorts)) 0 (omega (arith, p .rows-are, parts-fit t .rows-fit))
 
-      pub keys-fit : (k : Keyed) → k ≡ keyedOf n → Fits k rows′ (b .keys)
+      pub keys-fit : (k : IndexShape) → k ≡ indexShapeOf n → Fits k rows′ (b .keys)
       keys-fit k is =
           let g = loadable in
           rw (is, header) (inside-fits (withCapacity (l .header) capacity) rows′ (b .keys) (g .inside) (omega (arith, g .long .rows-long, rows-length)) (g .long .keys-long))
 
-      pub loading-done : (k : Keyed) → k ≡ keyedOf n → (keys′ : List ℕ) → Rebuilt k rows′ (b .keys) keys′ → length keys′ ≡ length (b .keys) → Loading words l capacity b pending (Table n) (body rows′ keys′ sorts′) pending′
-      unfolding tableSays imageIn
+      pub loading-done : (k : IndexShape) → k ≡ indexShapeOf n → (keys′ : List ℕ) → Rebuilt k rows′ (b .keys) keys′ → length keys′ ≡ length (b .keys) → Loading words l capacity b pending (Table n) (body rows′ keys′ sorts′) pending′
+      unfolding tableView imageIn
       loading-done k is keys′ s kept =
           let h = withCapacity (l .header) capacity in
-          let r : Rebuilt (keyedOf h) rows′ (b .keys) keys′ = rw (is, header) at s in
+          let r : Rebuilt (indexShapeOf h) rows′ (b .keys) keys′ = rw (is, header) at s in
           record {
-            refusal = verdict-accepted _ _ n refl (sym refusal-is ∙ z);
+            refusal = outcome-accepted _ _ n refl (sym refusal-is ∙ z);
             unchanged = λ k. absurd (omega (arith, refusal-is, z, k));
             loaded = λ _.
                 record {
@@ -152,8 +152,8 @@ module _ (words : List ℕ) (l : Layout) (capacity : ℕ) (b : Body) (pending : 
                   rows-after = w .rows-after;
                   sorts-after = w .sorts-after;
                   pending-after = w .pending-after;
-                  keyed = r .sound;
-                  past = past-room (h .capacity) (h .rows) (b .keys) keys′ (r .rest);
+                  keys-sound = r .sound;
+                  past = past-sizeClass (h .capacity) (h .rows) (b .keys) keys′ (r .rest);
                   slots = kept;
                 };
           }
@@ -163,19 +163,19 @@ module _ (words : List ℕ) (l : Layout) (capacity : ℕ) (b : Body) (pending : 
 -- words that the check refuses are refused with the same number when they are read
 refusal-same : (image : Option Image) (sound : Bool) (number : ℕ) (capacity : ℕ) (b : Body) (pending : List ℕ) → checkReply image sound ≡ refused number
     → (readRefusal image sound capacity b pending ≡ number) × (0 < number)
-unfolding checkReply readRefusal reply first
+unfolding checkReply readRefusal reply firstRefusal
 refusal-same none sound number capacity b pending e = let k : 19 ≡ number = cc in (k, omega arith)
 refusal-same (some i) true number capacity b pending e = absurd (let z : _≡_ {A = ℕ} 0 1 = cc in omega arith)
 refusal-same (some i) false number capacity b pending e = let k : 20 ≡ number = cc in (k, omega arith)
 
 module _ (words : List ℕ) (capacity : ℕ) (b : Body) (pending : List ℕ) (r : Decoding) (d : DecodingIs words r) where
   pub read-refused : (number : ℕ) → r ≡ NotDecoded number → ImageRead words capacity b pending (Refused number) b pending
-  unfolding tableSays
+  unfolding tableView
   read-refused number e =
       let s = refusal-same (d .decoded .image) (d .decoded .sound) number capacity b pending (d .refusal number e) in
       record {
         decoded = d .decoded;
-        refusal = verdict-refused _ _ number refl (sym (s .0)) (λ z. omega (arith, s .1, z));
+        refusal = outcome-refused _ _ number refl (sym (s .0)) (λ z. omega (arith, s .1, z));
         unchanged = λ _. (refl, refl);
         loaded = λ i _ z. absurd (omega (arith, s .0, s .1, z));
       }
@@ -193,7 +193,7 @@ module _ (words : List ℕ) (capacity : ℕ) (b : Body) (pending : List ℕ) (r 
       }
     where
       same : readRefusal (some (imageIn words l)) true capacity b pending ≡ storesRefusal l capacity b pending
-      same = unfold readRefusal first loadRefusal imageIn in refl
+      same = unfold readRefusal firstRefusal loadRefusal imageIn in refl
 
       some-same : {i j : Image} → _≡_ {A = Option Image} (some i) (some j) → i ≡ j
       some-same e = cc

@@ -7,13 +7,13 @@ use native.Mathlib.Omega.{arith}
 use lib.ListN.{length, take, drop, getD, set, length-drop}
 use lib.Seq.{drop-cons, take-length, getD-drop, getD-take, length-take-le}
 use borrow.Author.Tests.{lt-ltb, le-ltb}
-use Rattle.lists.specs.Lists.{putAt}
+use Rattle.lists.specs.Lists.{splice}
 use Rattle.lists.specs.Laws.Parts.{copy-step}
-use Rattle.refusals.specs.Refusals.{first, reply}
+use Rattle.refusals.specs.Refusals.{firstRefusal, reply}
 use Rattle.crc32.specs.Crc.{bytesOf}
 use Rattle.image_spec.specs.declared.LengthAnswer.the-variants.{Refused, Length}
 use Rattle.image_spec.specs.Image.{Reads}
-use Rattle.image_spec.specs.Contracts.{lengthSays, textRefusal, textOf, TextRead}
+use Rattle.image_spec.specs.Contracts.{lengthView, textRefusal, textOf, TextRead}
 use Rattle.image_parse.specs.declared.Layout.{Layout}
 use Rattle.image_parse.specs.inner.Parsed.{imageIn, IsAt}
 use Rattle.image_parse.specs.Laws.Bytes.{bytes-cons, length-bytes, byte-of}
@@ -65,8 +65,8 @@ module _ (words : List ℕ) (count : ℕ) (t : TextIn words count) where
       let f : b ≡ getD text i 0 = e ∙ sym (getD-take count (bytesOf (drop 15 words)) i 0 k) in
       ap (λ (x : ℕ). set (take i text ++ drop i output) i x) f ∙ copy-step text output i 0 (omega (arith, count-is)) (omega arith)
 
-  pub text-end : (output : List ℕ) (i : ℕ) → i ≡ count → take i text ++ drop i output ≡ putAt output 0 text
-  unfolding putAt
+  pub text-end : (output : List ℕ) (i : ℕ) → i ≡ count → take i text ++ drop i output ≡ splice output 0 text
+  unfolding splice
   text-end output i e =
       let n : i ≡ length text = e ∙ sym count-is in
       let m : 0 + length text ≡ length text = omega arith in
@@ -75,7 +75,7 @@ module _ (words : List ℕ) (count : ℕ) (t : TextIn words count) where
 -- ---- `read_text`
 
 pub text-none : (words output : List ℕ) → Reads words none → TextRead words output (Refused 19) output
-unfolding lengthSays textRefusal textOf reply
+unfolding lengthView textRefusal textOf reply
 text-none words output n =
     record { image = none; reads = n; answers = refl; unchanged = λ _. refl; written = λ z. absurd (omega arith) }
 
@@ -95,33 +95,33 @@ module _ (words output : List ℕ) (l : Layout) (t : IsAt words l) where
       record {
         image = some (imageIn words l);
         reads = t .reads;
-        answers = rw n said;
+        answers = rw n answer-is;
         unchanged = λ _. refl;
         written = λ z. absurd (omega (arith, n, z));
       }
     where
       refused-by : textRefusal (some (imageIn words l)) (length output) ≡ 2
-      refused-by = unfold textRefusal first in rw (length-is, lt-ltb _ _ k)
+      refused-by = unfold textRefusal firstRefusal in rw (length-is, lt-ltb _ _ k)
 
-      said : lengthSays (Refused 2) ≡ reply 2 (length (textOf (some (imageIn words l))))
-      said = unfold lengthSays reply in refl
+      answer-is : lengthView (Refused 2) ≡ reply 2 (length (textOf (some (imageIn words l))))
+      answer-is = unfold lengthView reply in refl
 
-  pub text-written : l .text ≤ length output → (output′ : List ℕ) → output′ ≡ putAt output 0 (take (l .text) (bytesOf (drop 15 words))) → TextRead words output (Length (l .text)) output′
+  pub text-written : l .text ≤ length output → (output′ : List ℕ) → output′ ≡ splice output 0 (take (l .text) (bytesOf (drop 15 words))) → TextRead words output (Length (l .text)) output′
   text-written k output′ e =
       let n : textRefusal (some (imageIn words l)) (length output) ≡ 0 = accepted-by in
       record {
         image = some (imageIn words l);
         reads = t .reads;
-        answers = rw n said;
+        answers = rw n answer-is;
         unchanged = λ z. absurd (omega (arith, n, z));
         written = λ _. e ∙ text-is;
       }
     where
       accepted-by : textRefusal (some (imageIn words l)) (length output) ≡ 0
-      accepted-by = unfold textRefusal first in rw (length-is, le-ltb _ _ k)
+      accepted-by = unfold textRefusal firstRefusal in rw (length-is, le-ltb _ _ k)
 
-      said : lengthSays (Length (l .text)) ≡ reply 0 (length (textOf (some (imageIn words l))))
-      said = unfold lengthSays reply textOf in rw length-is
+      answer-is : lengthView (Length (l .text)) ≡ reply 0 (length (textOf (some (imageIn words l))))
+      answer-is = unfold lengthView reply textOf in rw length-is
 
-      text-is : putAt output 0 (take (l .text) (bytesOf (drop 15 words))) ≡ putAt output 0 (textOf (some (imageIn words l)))
+      text-is : splice output 0 (take (l .text) (bytesOf (drop 15 words))) ≡ splice output 0 (textOf (some (imageIn words l)))
       text-is = unfold textOf imageIn in refl

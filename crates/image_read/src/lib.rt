@@ -2,10 +2,10 @@
 ghost use mathlib.Core.Path.{_≡_};
 ghost use Prim.Native.Nat.{_+_, _≤_, _<_};
 ghost use lib.ListN.{length, take, drop, getD};
-ghost use Rattle.lists.specs.Lists.{putAt};
+ghost use Rattle.lists.specs.Lists.{splice};
 ghost use Rattle.crc32.specs.Crc.{bytesOf};
 ghost use Rattle.table.specs.inner.Lent.{lengthsOf};
-ghost use Rattle.table.specs.Promises.{body};
+ghost use Rattle.table.specs.Contracts.{body};
 ghost use Rattle.image_spec.specs.Contracts.{withCapacity, ImageRead, TextRead};
 ghost use Rattle.image_parse.specs.inner.Parsed.{part, IsAt};
 ghost use Rattle.image_read.specs.inner.Loading.{loadRefusal, PartsFit, PartsWritten, Loading, TextIn};
@@ -69,7 +69,7 @@ fn load_refusal(h: Header, l: Lent) -> u32
 // Writes the words from one place to another at the start of a store.
 fn write_part(words: &[u32], from: usize, to: usize, store: &mut [u32])
     requires { ⌜ (from ≤ to) × (to ≤ length (now words)) × (to ≤ from + length (now store)) ⌝ }
-    ensures { λ _. ⌜ now (store .exit) ≡ putAt (now (store .entry)) 0 (part (now (words .entry)) from to) ⌝ }
+    ensures { λ _. ⌜ now (store .exit) ≡ splice (now (store .entry)) 0 (part (now (words .entry)) from to) ⌝ }
 {
     row_buffer::write_row(store, 0, &words[from..to]);
 }
@@ -112,7 +112,7 @@ fn load(
         return TableAnswer::Refused(refusal);
     }
     write_parts(words, l, rows, sorts, pending);
-    key_rebuild::rebuild(table::keyed(n), rows, keys);
+    key_rebuild::rebuild(table::index_shape(n), rows, keys);
     TableAnswer::Table(n)
 }
 
@@ -158,7 +158,7 @@ fn byte_at(words: &[u32], i: usize) -> u8
 // Writes the first `count` bytes of an image's text at the start of the output.
 fn write_text(words: &[u32], count: usize, output: &mut [u8])
     requires { ⌜ TextIn (now words) count × (count ≤ length (now output)) ⌝ }
-    ensures { λ _. ⌜ now (output .exit) ≡ putAt (now (output .entry)) 0 (take count (bytesOf (drop 15 (now (words .entry))))) ⌝ }
+    ensures { λ _. ⌜ now (output .exit) ≡ splice (now (output .entry)) 0 (take count (bytesOf (drop 15 (now (words .entry))))) ⌝ }
 {
     let mut i = 0;
     while i < count {

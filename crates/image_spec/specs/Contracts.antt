@@ -7,50 +7,50 @@ use mathlib.Core.List.{List, [], _∷_}
 use mathlib.Core.Option.{Option, none, some}
 use lib.ListN.{length}
 use lib.Dec.{ltb, eqb}
-use Rattle.lists.specs.Lists.{putAt}
-use Rattle.refusals.specs.Refusals.{rung, first, Reply, refused, accepted, reply, verdict}
+use Rattle.lists.specs.Lists.{splice}
+use Rattle.refusals.specs.Refusals.{check, firstRefusal, Reply, refused, accepted, reply, outcome}
 use Rattle.key_index.specs.Slots.{KeysSound}
 use Rattle.plain_table.specs.Refusing.{storesShort}
 use Rattle.table.specs.declared.Header.{Header}
 use Rattle.table.specs.declared.TableAnswer.{TableAnswer}
-use Rattle.table.specs.Numbers.{openingOf, tableSays, header}
+use Rattle.table.specs.Numbers.{openingOf, tableView, header}
 use Rattle.table.specs.Refusing.{outside, pendingOutside, rowsShort, pairsShort}
-use Rattle.table.specs.Sound.{keyedOf}
-use Rattle.table.specs.Promises.{Body, lengths, SlotsPast}
+use Rattle.table.specs.Sound.{indexShapeOf}
+use Rattle.table.specs.Contracts.{Body, lengths, SlotsPast}
 use Rattle.image_spec.specs.declared.LengthAnswer.{LengthAnswer}
 use Rattle.image_spec.specs.declared.LengthAnswer.the-variants.{Refused as LengthRefused, Length}
 use Rattle.image_spec.specs.Image.{Image, imageWords, Reads, SoundImage, imageOf, imageLength}
 
-unfoldable pub lengthSays : LengthAnswer → Reply ℕ
-lengthSays (LengthRefused n) = refused n
-lengthSays (Length n) = accepted n
+unfoldable pub lengthView : LengthAnswer → Reply ℕ
+lengthView (LengthRefused n) = refused n
+lengthView (Length n) = accepted n
 
 -- ---- sizes and writing
 
 -- *Image size*: 1, 21
 unfoldable pub sizeRefusal : Header → ℕ → ℕ
-sizeRefusal h text = first (rung (outside h) 1 ∷ rung (ltb 4096 text) 21 ∷ [])
+sizeRefusal h text = firstRefusal (check (outside h) 1 ∷ check (ltb 4096 text) 21 ∷ [])
 
 pub record ImageSized (h : Header) (text : ℕ) (answer : LengthAnswer) : Type 0 where
-  pub answers : lengthSays answer ≡ reply (sizeRefusal h text) (imageLength h text)
+  pub answers : lengthView answer ≡ reply (sizeRefusal h text) (imageLength h text)
 
 -- *Write image*: 1, 2, 21; "2 again" for an output shorter than the image
 unfoldable pub writeRefusal : Header → ℕ → ℕ → ℕ → ℕ → ℕ → ℕ
 writeRefusal h rows sorts pending text output =
-    first
-    (rung (pendingOutside h pending) 1
-    ∷ rung (rowsShort h rows || pairsShort h sorts) 2
-    ∷ rung (ltb 4096 text) 21
-    ∷ rung (ltb output (imageLength h text)) 2
+    firstRefusal
+    (check (pendingOutside h pending) 1
+    ∷ check (rowsShort h rows || pairsShort h sorts) 2
+    ∷ check (ltb 4096 text) 21
+    ∷ check (ltb output (imageLength h text)) 2
     ∷ [])
 
 -- lent rows, sort entries, pending and a text; the image is at the start of the output, and nothing behind it changes
 pub record ImageWritten (h : Header) (rows sorts pending text output : List ℕ) (answer : LengthAnswer) (output′ : List ℕ) : Type 0 where
-  pub answers : lengthSays answer
+  pub answers : lengthView answer
       ≡ reply (writeRefusal h (length rows) (length sorts) (length pending) (length text) (length output)) (imageLength h (length text))
   pub unchanged : 0 < writeRefusal h (length rows) (length sorts) (length pending) (length text) (length output) → output′ ≡ output
   pub written : writeRefusal h (length rows) (length sorts) (length pending) (length text) (length output) ≡ 0
-      → output′ ≡ putAt output 0 (imageWords (imageOf h rows sorts pending text))
+      → output′ ≡ splice output 0 (imageWords (imageOf h rows sorts pending text))
 
 -- ---- checking and reading
 
@@ -72,20 +72,20 @@ withCapacity h capacity =
 -- *Check image*: 19, 20; else the image's header
 unfoldable pub checkReply : Option Image → Bool → Reply Header
 checkReply none sound = refused 19
-checkReply (some i) sound = reply (first (rung (not sound) 20 ∷ [])) (i .header)
+checkReply (some i) sound = reply (firstRefusal (check (not sound) 20 ∷ [])) (i .header)
 
 pub record ImageChecked (words : List ℕ) (answer : TableAnswer) : Type 0 where
   pub decoded : Decoded words
-  pub answers : tableSays answer ≡ checkReply (decoded .image) (decoded .sound)
+  pub answers : tableView answer ≡ checkReply (decoded .image) (decoded .sound)
 
 -- *Read image*: 19, 20; 1 for a capacity outside its bounds or below the row count; 2 for a store shorter than needed
 unfoldable pub readRefusal : Option Image → Bool → ℕ → Body → List ℕ → ℕ
 readRefusal none sound capacity b pending = 19
 readRefusal (some i) sound capacity b pending =
-    first
-    (rung (not sound) 20
-    ∷ rung (outside (withCapacity (i .header) capacity)) 1
-    ∷ rung
+    firstRefusal
+    (check (not sound) 20
+    ∷ check (outside (withCapacity (i .header) capacity)) 1
+    ∷ check
     (storesShort (openingOf (withCapacity (i .header) capacity)) (lengths (b .rows) (b .keys) (b .sorts) pending [] [])
     || ltb (length pending) (i .header .pending))
     2
@@ -93,17 +93,17 @@ readRefusal (some i) sound capacity b pending =
 
 -- the stores hold the image from their start on, and nothing behind it changes; of the key store soundness is promised
 pub record Loaded (i : Image) (capacity : ℕ) (b : Body) (pending : List ℕ) (answer : TableAnswer) (b′ : Body) (pending′ : List ℕ) : Type 0 where
-  pub answers : tableSays answer ≡ accepted (withCapacity (i .header) capacity)
-  pub rows-after : b′ .rows ≡ putAt (b .rows) 0 (i .rows)
-  pub sorts-after : b′ .sorts ≡ putAt (b .sorts) 0 (i .sorts)
-  pub pending-after : pending′ ≡ putAt pending 0 (i .pending)
-  pub keyed : KeysSound (keyedOf (withCapacity (i .header) capacity)) (b′ .rows) (b′ .keys)
+  pub answers : tableView answer ≡ accepted (withCapacity (i .header) capacity)
+  pub rows-after : b′ .rows ≡ splice (b .rows) 0 (i .rows)
+  pub sorts-after : b′ .sorts ≡ splice (b .sorts) 0 (i .sorts)
+  pub pending-after : pending′ ≡ splice pending 0 (i .pending)
+  pub keys-sound : KeysSound (indexShapeOf (withCapacity (i .header) capacity)) (b′ .rows) (b′ .keys)
   pub past : SlotsPast (withCapacity (i .header) capacity .capacity) (b .keys) (b′ .keys)
   pub slots : length (b′ .keys) ≡ length (b .keys)
 
 pub record ImageRead (words : List ℕ) (capacity : ℕ) (b : Body) (pending : List ℕ) (answer : TableAnswer) (b′ : Body) (pending′ : List ℕ) : Type 0 where
   pub decoded : Decoded words
-  pub refusal : verdict (tableSays answer) ≡ reply (readRefusal (decoded .image) (decoded .sound) capacity b pending) tt
+  pub refusal : outcome (tableView answer) ≡ reply (readRefusal (decoded .image) (decoded .sound) capacity b pending) tt
   pub unchanged : 0 < readRefusal (decoded .image) (decoded .sound) capacity b pending → (b′ ≡ b) × (pending′ ≡ pending)
   pub loaded : (i : Image) → decoded .image ≡ some i → readRefusal (decoded .image) (decoded .sound) capacity b pending ≡ 0
       → Loaded i capacity b pending answer b′ pending′
@@ -111,7 +111,7 @@ pub record ImageRead (words : List ℕ) (capacity : ℕ) (b : Body) (pending : L
 -- *Read text*: 19; 2 for an output shorter than the text; else the text's bytes at the start of the output
 unfoldable pub textRefusal : Option Image → ℕ → ℕ
 textRefusal none output = 19
-textRefusal (some i) output = first (rung (ltb output (length (i .text))) 2 ∷ [])
+textRefusal (some i) output = firstRefusal (check (ltb output (length (i .text))) 2 ∷ [])
 
 unfoldable pub textOf : Option Image → List ℕ
 textOf none = []
@@ -120,6 +120,6 @@ textOf (some i) = i .text
 pub record TextRead (words output : List ℕ) (answer : LengthAnswer) (output′ : List ℕ) : Type 0 where
   pub image : Option Image
   pub reads : Reads words image
-  pub answers : lengthSays answer ≡ reply (textRefusal image (length output)) (length (textOf image))
+  pub answers : lengthView answer ≡ reply (textRefusal image (length output)) (length (textOf image))
   pub unchanged : 0 < textRefusal image (length output) → output′ ≡ output
-  pub written : textRefusal image (length output) ≡ 0 → output′ ≡ putAt output 0 (textOf image)
+  pub written : textRefusal image (length output) ≡ 0 → output′ ≡ splice output 0 (textOf image)

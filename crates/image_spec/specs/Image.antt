@@ -7,7 +7,7 @@ use mathlib.Core.List.{List, [], _∷_, _++_}
 use mathlib.Core.Option.{Option, none, some}
 use lib.ListN.{length, take}
 use lib.Dec.{leb, ltb, eqb}
-use Rattle.lists.specs.Lists.{every}
+use Rattle.lists.specs.Lists.{all}
 use Rattle.crc32.specs.Crc.{crc32, bytesOf}
 use Rattle.plain_table.specs.Staged.{Staged}
 use Rattle.table.specs.declared.Header.{Header}
@@ -46,7 +46,7 @@ unfoldable pub isImage : Image → Bool
 isImage i =
     not (outside (i .header))
     && leb (length (i .text)) 4096
-    && every (λ byte. ltb byte 256) (i .text)
+    && all (λ byte. ltb byte 256) (i .text)
     && eqb (length (i .rows)) (i .header .rows * i .header .columns)
     && eqb (length (i .sorts)) (2 * i .header .entries)
     && eqb (length (i .pending)) (i .header .pending)

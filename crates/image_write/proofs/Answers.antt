@@ -4,40 +4,40 @@ use mathlib.Core.Path.{_≡_, refl, ap, _∙_}
 use mathlib.Core.List.{List}
 use native.Mathlib.Omega.{arith}
 use lib.ListN.{length}
-use Rattle.lists.specs.Lists.{putAt}
+use Rattle.lists.specs.Lists.{splice}
 use Rattle.refusals.specs.Laws.Replies.{reply-refused, reply-accepted}
 use Rattle.table.specs.declared.Header.{Header}
 use Rattle.image_spec.specs.declared.LengthAnswer.the-variants.{Refused, Length}
 use Rattle.image_spec.specs.Image.{imageWords, imageOf, imageLength}
-use Rattle.image_spec.specs.Contracts.{lengthSays, sizeRefusal, ImageSized, writeRefusal, ImageWritten}
+use Rattle.image_spec.specs.Contracts.{lengthView, sizeRefusal, ImageSized, writeRefusal, ImageWritten}
 
 module _ (h : Header) (text : ℕ) where
   pub sized-refused : (number : ℕ) → number ≡ sizeRefusal h text → (number ≡ 0 → ⊥) → ImageSized h text (Refused number)
-  unfolding lengthSays
-  sized-refused number e some = record { answers = reply-refused (lengthSays (Refused number)) _ number _ refl e some }
+  unfolding lengthView
+  sized-refused number e some = record { answers = reply-refused (lengthView (Refused number)) _ number _ refl e some }
 
   pub sized-accepted : (n : ℕ) → sizeRefusal h text ≡ 0 → n ≡ imageLength h text → ImageSized h text (Length n)
-  unfolding lengthSays
-  sized-accepted n none e = record { answers = reply-accepted (lengthSays (Length n)) _ _ (ap (λ (k : ℕ). lengthSays (Length k)) e) none }
+  unfolding lengthView
+  sized-accepted n none e = record { answers = reply-accepted (lengthView (Length n)) _ _ (ap (λ (k : ℕ). lengthView (Length k)) e) none }
 
 module _ (h : Header) (rows sorts pending text output : List ℕ) where
   pub written-refused : (number : ℕ) → number ≡ writeRefusal h (length rows) (length sorts) (length pending) (length text) (length output) → (number ≡ 0 → ⊥)
       → ImageWritten h rows sorts pending text output (Refused number) output
-  unfolding lengthSays
+  unfolding lengthView
   written-refused number e some =
       record {
-        answers = reply-refused (lengthSays (Refused number)) _ number _ refl e some;
+        answers = reply-refused (lengthView (Refused number)) _ number _ refl e some;
         unchanged = λ k. refl;
         written = λ none. absurd (some (e ∙ none));
       }
 
   pub written-accepted : (n : ℕ) (output′ : List ℕ) → writeRefusal h (length rows) (length sorts) (length pending) (length text) (length output) ≡ 0
-      → n ≡ imageLength h (length text) → output′ ≡ putAt output 0 (imageWords (imageOf h rows sorts pending text))
+      → n ≡ imageLength h (length text) → output′ ≡ splice output 0 (imageWords (imageOf h rows sorts pending text))
       → ImageWritten h rows sorts pending text output (Length n) output′
-  unfolding lengthSays
+  unfolding lengthView
   written-accepted n output′ none e w =
       record {
-        answers = reply-accepted (lengthSays (Length n)) _ _ (ap (λ (k : ℕ). lengthSays (Length k)) e) none;
+        answers = reply-accepted (lengthView (Length n)) _ _ (ap (λ (k : ℕ). lengthView (Length k)) e) none;
         unchanged = λ some. absurd (omega arith);
         written = λ k. w;
       }

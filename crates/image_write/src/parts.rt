@@ -3,7 +3,7 @@
 ghost use mathlib.Core.Path.{_≡_};
 ghost use Prim.Native.Nat.{_+_, _*_, _/_, _≤_, _<_};
 ghost use lib.ListN.{length, take, getD, set};
-ghost use Rattle.lists.specs.Lists.{putAt};
+ghost use Rattle.lists.specs.Lists.{splice};
 ghost use Rattle.crc32.specs.Crc.{crc32, bytesOf};
 ghost use Rattle.image_spec.specs.Image.{packed, imageBody, imageOf};
 ghost use Rattle.image_write.specs.inner.Parts.{imageHead, storeWords, wordsInUse, Holds};
@@ -35,7 +35,7 @@ pub fn packed_length(bytes: usize) -> usize
 // Writes the words before the text: "MGTB", the format's number, the header, the text's length in bytes.
 fn write_head(h: Header, text: usize, output: &mut [u32])
     requires { ⌜ (text ≤ 4096) × (15 ≤ length (now output)) ⌝ }
-    ensures { λ _. ⌜ now (output .exit) ≡ putAt (now (output .entry)) 0 (imageHead h text) ⌝ }
+    ensures { λ _. ⌜ now (output .exit) ≡ splice (now (output .entry)) 0 (imageHead h text) ⌝ }
 {
     let header = encode_header(h);
     output[0] = MARK;
@@ -70,7 +70,7 @@ fn text_word(text: &[u8], word: usize) -> u32
 // Writes the text.
 fn write_text(text: &[u8], output: &mut [u32], at: usize)
     requires { ⌜ (length (now text) ≤ 4096) × (at + (length (now text) + 3) / 4 ≤ length (now output)) ⌝ }
-    ensures { λ _. ⌜ now (output .exit) ≡ putAt (now (output .entry)) at (packed (now (text .entry))) ⌝ }
+    ensures { λ _. ⌜ now (output .exit) ≡ splice (now (output .entry)) at (packed (now (text .entry))) ⌝ }
 {
     let words = packed_length(text.len());
     let mut i = 0;
@@ -83,7 +83,7 @@ fn write_text(text: &[u8], output: &mut [u32], at: usize)
 // Writes the first words of a store.
 fn write_words(store: &[u32], count: usize, output: &mut [u32], at: usize)
     requires { ⌜ (count ≤ length (now store)) × (at + count ≤ length (now output)) ⌝ }
-    ensures { λ _. ⌜ now (output .exit) ≡ putAt (now (output .entry)) at (take count (now (store .entry))) ⌝ }
+    ensures { λ _. ⌜ now (output .exit) ≡ splice (now (output .entry)) at (take count (now (store .entry))) ⌝ }
 {
     write_row(output, at, &store[..count]);
 }
@@ -98,7 +98,7 @@ fn write_stores(
     at: usize,
 )
     requires { ⌜ Holds h (now rows) (now sorts) (now pending) × (at + wordsInUse h ≤ length (now output)) ⌝ }
-    ensures { λ _. ⌜ now (output .exit) ≡ putAt (now (output .entry)) at (storeWords h (now (rows .entry)) (now (sorts .entry)) (now (pending .entry))) ⌝ }
+    ensures { λ _. ⌜ now (output .exit) ≡ splice (now (output .entry)) at (storeWords h (now (rows .entry)) (now (sorts .entry)) (now (pending .entry))) ⌝ }
 {
     let cells = h.rows as usize * h.columns as usize;
     let pairs = 2 * (h.entries as usize);
@@ -117,7 +117,7 @@ pub fn write_body(
     output: &mut [u32],
 )
     requires { ⌜ Holds h (now rows) (now sorts) (now pending) × (length (now text) ≤ 4096) × (15 + (length (now text) + 3) / 4 + wordsInUse h ≤ length (now output)) ⌝ }
-    ensures { λ _. ⌜ now (output .exit) ≡ putAt (now (output .entry)) 0 (imageBody (imageOf h (now (rows .entry)) (now (sorts .entry)) (now (pending .entry)) (now (text .entry)))) ⌝ }
+    ensures { λ _. ⌜ now (output .exit) ≡ splice (now (output .entry)) 0 (imageBody (imageOf h (now (rows .entry)) (now (sorts .entry)) (now (pending .entry)) (now (text .entry)))) ⌝ }
 {
     let words = packed_length(text.len());
     write_head(h, text.len(), output);

@@ -13,9 +13,9 @@ use lib.Seq.{getD-set-same, getD-set-other}
 use borrow.Author.Tests.{lt-ltb, le-ltb, ltb-true, ltb-false, eqb-true, eqb-false}
 use Rattle.lists.specs.Lists.{rowAt}
 use Rattle.lists.specs.Laws.Parts.{part-width}
-use Rattle.cells.specs.Cells.{compact, keyHash}
+use Rattle.cells.specs.Cells.{compactHash, keyHash}
 use Rattle.constraints.specs.Constraints.{isLive}
-use Rattle.key_index.specs.declared.Keyed.{Keyed}
+use Rattle.key_index.specs.declared.IndexShape.{IndexShape}
 use Rattle.key_index.specs.Slots.{LiveAt, keyAt, slots, word, home, slotFrom, KeysSound}
 use Rattle.key_index.specs.inner.Ring.{spread, tagged, rowNamed}
 use Rattle.key_index.specs.Laws.Ring.{home-spread, word-tagged, word-some, word-same, home-below}
@@ -23,48 +23,48 @@ use Rattle.key_index.specs.Laws.Unrolled.{away, slot-zero, line}
 use Rattle.key_index.specs.inner.Index.{Fits, homeOf}
 use Rattle.key_index.specs.Laws.Lines.{small, Stored, lineHome, unroll, roll}
 use Rattle.key_index.specs.Laws.Index.{free-slot}
-use Rattle.key_check.specs.inner.Check.{isLiveRow, tally, liveCount, FreeIs, named, Stands, StandsIs, RoundFits, KeysChecked}
+use Rattle.key_check.specs.inner.Check.{isLiveRow, tally, liveCount, FreeIs, named, Reachable, ReachableIs, RoundFits, KeysChecked}
 use Rattle.key_check.specs.Laws.Check.{tally-yes, tally-no, tally-le, without, without-other, tally-without, matched, Front, Joins, front-none, front-more, front-all, Run, run-none, run-more, near-line, far-line}
 
 -- ---- rows
 
 -- the part of the store that is lent is the row
-pub row-part : (t : Keyed) (rows : List ℕ) (row : ℕ) → isLive (take (row * t .columns + t .columns - row * t .columns) (drop (row * t .columns) rows)) ≡ isLiveRow t rows row
+pub row-part : (t : IndexShape) (rows : List ℕ) (row : ℕ) → isLive (take (row * t .columns + t .columns - row * t .columns) (drop (row * t .columns) rows)) ≡ isLiveRow t rows row
 unfolding rowAt isLiveRow
 row-part t rows row = ap isLive (part-width rows (row * t .columns) (t .columns))
 
-live-is : (t : Keyed) (rows : List ℕ) (row : ℕ) → row < t .rows → isLiveRow t rows row ≡ true → LiveAt t rows row
+live-is : (t : IndexShape) (rows : List ℕ) (row : ℕ) → row < t .rows → isLiveRow t rows row ≡ true → LiveAt t rows row
 unfolding isLiveRow
 live-is t rows row h e = (h, e)
 
-is-live : (t : Keyed) (rows : List ℕ) (row : ℕ) → LiveAt t rows row → isLiveRow t rows row ≡ true
+is-live : (t : IndexShape) (rows : List ℕ) (row : ℕ) → LiveAt t rows row → isLiveRow t rows row ≡ true
 unfolding isLiveRow
 is-live t rows row s = s .1
 
 -- ---- a slot's word
 
-module _ (t : Keyed) (rows : List ℕ) (w at run : ℕ) where
+module _ (t : IndexShape) (rows : List ℕ) (w at run : ℕ) where
   -- no number, or no row's
-  pub stands-zero : w % 2 ^ 17 ≡ 0 → StandsIs t rows w at run false
-  stands-zero e = record { yes = λ q. absurd (false≢true q); no = λ q s. omega (arith, s .number) }
+  pub reachable-zero : w % 2 ^ 17 ≡ 0 → ReachableIs t rows w at run false
+  reachable-zero e = record { yes = λ q. absurd (false≢true q); no = λ q s. omega (arith, s .number) }
 
-  pub stands-past : t .rows < w % 2 ^ 17 → StandsIs t rows w at run false
-  stands-past h = record { yes = λ q. absurd (false≢true q); no = λ q s. omega (arith, s .live .0) }
+  pub reachable-past : t .rows < w % 2 ^ 17 → ReachableIs t rows w at run false
+  reachable-past h = record { yes = λ q. absurd (false≢true q); no = λ q s. omega (arith, s .live .0) }
 
   -- a dead row's
-  pub stands-dead : isLiveRow t rows (named w) ≡ false → StandsIs t rows w at run false
-  stands-dead e = record { yes = λ q. absurd (false≢true q); no = λ q s. false≢true (sym e ∙ is-live t rows (named w) (s .live)) }
+  pub reachable-dead : isLiveRow t rows (named w) ≡ false → ReachableIs t rows w at run false
+  reachable-dead e = record { yes = λ q. absurd (false≢true q); no = λ q s. false≢true (sym e ∙ is-live t rows (named w) (s .live)) }
 
-  module _ (hash : ℕ) (h : hash ≡ compact (keyHash (keyAt t rows (named w)))) where
+  module _ (hash : ℕ) (h : hash ≡ compactHash (keyHash (keyAt t rows (named w)))) where
     -- other bits of the hash
-    pub stands-bits : (w ≡ tagged hash (named w) → ⊥) → StandsIs t rows w at run false
-    stands-bits ne = record { yes = λ q. absurd (false≢true q); no = λ q s. ne (s .word-is ∙ sym (word-tagged hash (named w) _ h)) }
+    pub reachable-bits : (w ≡ tagged hash (named w) → ⊥) → ReachableIs t rows w at run false
+    reachable-bits ne = record { yes = λ q. absurd (false≢true q); no = λ q s. ne (s .word-is ∙ sym (word-tagged hash (named w) _ h)) }
 
     -- and by the distance to the home
-    pub stands-by : 0 < w % 2 ^ 17 → w % 2 ^ 17 ≤ t .rows → isLiveRow t rows (named w) ≡ true → w ≡ tagged hash (named w) → (home′ : ℕ) → home′ ≡ spread (slots t) hash
-        → StandsIs t rows w at run (ltb ((at + (slots t - home′)) % slots t) run)
+    pub reachable-by : 0 < w % 2 ^ 17 → w % 2 ^ 17 ≤ t .rows → isLiveRow t rows (named w) ≡ true → w ≡ tagged hash (named w) → (home′ : ℕ) → home′ ≡ spread (slots t) hash
+        → ReachableIs t rows w at run (ltb ((at + (slots t - home′)) % slots t) run)
     unfolding away
-    stands-by p b l e home′ f =
+    reachable-by p b l e home′ f =
         let same : home′ ≡ home (slots t) (keyAt t rows (named w)) = f ∙ home-spread (slots t) hash _ h in
         record {
           yes = λ q.
@@ -83,25 +83,25 @@ module _ (t : Keyed) (rows : List ℕ) (w at run : ℕ) where
 -- ---- the round: the line from a free slot
 
 -- a word that is held determines its row
-held-row : (t : Keyed) (rows store : List ℕ) → Fits t rows store → (w row : ℕ) → row < t .rows → w ≡ word (keyAt t rows row) row → w % 2 ^ 17 ≡ row + 1
+held-row : (t : IndexShape) (rows store : List ℕ) → Fits t rows store → (w row : ℕ) → row < t .rows → w ≡ word (keyAt t rows row) row → w % 2 ^ 17 ≡ row + 1
 unfolding word
 held-row t rows store f w row h e = omega (arith, f .count, f .most)
 
-line-home : (t : Keyed) (rows : List ℕ) (z w : ℕ) → lineHome t rows z w ≡ away (slots t) z (home (slots t) (keyAt t rows (named w)))
+line-home : (t : IndexShape) (rows : List ℕ) (z w : ℕ) → lineHome t rows z w ≡ away (slots t) z (home (slots t) (keyAt t rows (named w)))
 unfolding lineHome homeOf rowNamed
 line-home t rows z w = refl
 
 -- the loop invariant: the positions before p are correct, and their rows are seen
-pub record Walk (t : Keyed) (rows store : List ℕ) (z : ℕ) (seen : List ℕ) (p run taken : ℕ) : Type 0 where
+pub record RoundInvariant (t : IndexShape) (rows store : List ℕ) (z : ℕ) (seen : List ℕ) (p run taken : ℕ) : Type 0 where
   pub end : p ≤ slots t
   pub front : Front (lineHome t rows z) (Stored t rows) (line (slots t) z store) p
   pub run-is : Run (line (slots t) z store) p run
   pub count : taken ≡ tally (λ q. ltb 0 (line (slots t) z store q)) p
-  pub marks : t .rows ≤ length seen
+  pub flags : t .rows ≤ length seen
   pub marked : (r : ℕ) → r < t .rows → (getD seen r 0 ≡ 0) ⊎ ((q : ℕ) × (q < p) × (0 < line (slots t) z store q) × (named (line (slots t) z store q) ≡ r))
   pub clear : (r : ℕ) → getD seen r 0 ≡ 0 → (q : ℕ) → q < p → 0 < line (slots t) z store q → named (line (slots t) z store q) ≡ r → ⊥
 
-module _ (t : Keyed) (rows store : List ℕ) (z : ℕ) (f : Fits t rows store) (b : z < slots t) (free : getD store z 0 ≡ 0) where
+module _ (t : IndexShape) (rows store : List ℕ) (z : ℕ) (f : Fits t rows store) (b : z < slots t) (free : getD store z 0 ≡ 0) where
   abbrev l : ℕ → ℕ
   l = line (slots t) z store
 
@@ -109,14 +109,14 @@ module _ (t : Keyed) (rows store : List ℕ) (z : ℕ) (f : Fits t rows store) (
   unfolding line
   first = ap (λ (k : ℕ). getD store k 0) (slot-zero (slots t) z b) ∙ free
 
-  begin : (live : ℕ) (seen : List ℕ) → RoundFits t rows store z live seen → Walk t rows store z seen 1 0 0
+  begin : (live : ℕ) (seen : List ℕ) → RoundFits t rows store z live seen → RoundInvariant t rows store z seen 1 0 0
   begin live seen s =
       record {
         end = omega (arith, f .some);
         front = front-more (lineHome t rows z) (Stored t rows) l 0 (front-none (lineHome t rows z) (Stored t rows) l) (λ c. absurd (omega (arith, first)));
         run-is = run-none l 0 first;
         count = sym (tally-no (λ q. ltb 0 (l q)) 0 (le-ltb 0 (l 0) (omega (arith, first))) ∙ (unfold tally in refl));
-        marks = s .marks;
+        flags = s .flags;
         marked = λ r h. inl (s .clear r h);
         clear = λ r e q h c.
             let i : q ≡ 0 = omega arith in
@@ -124,27 +124,27 @@ module _ (t : Keyed) (rows store : List ℕ) (z : ℕ) (f : Fits t rows store) (
             absurd (omega arith);
       }
 
-  module _ (seen : List ℕ) (p run taken : ℕ) (s : Walk t rows store z seen p run taken) where
+  module _ (seen : List ℕ) (p run taken : ℕ) (s : RoundInvariant t rows store z seen p run taken) where
     few : taken ≤ p
     few = omega (arith, s .count, tally-le (λ q. ltb 0 (l q)) p)
 
     module _ (h : p < slots t) where
-      pass-free : l p ≡ 0 → Walk t rows store z seen (p + 1) 0 taken
+      pass-free : l p ≡ 0 → RoundInvariant t rows store z seen (p + 1) 0 taken
       pass-free e =
           record {
             end = omega arith;
             front = front-more (lineHome t rows z) (Stored t rows) l p (s .front) (λ c. absurd (omega arith));
             run-is = run-none l p e;
             count = s .count ∙ sym (tally-no (λ q. ltb 0 (l q)) p (le-ltb 0 (l p) (omega arith)));
-            marks = s .marks;
+            flags = s .flags;
             marked = λ r k. elim (s .marked r k) [ inl u ↦ inl u | inr u ↦ inr (u .0, omega (arith, u .1), u .2, u .3) ];
             clear = λ r u q k c v. elim (ℕ-discrete q p) [ yes i ↦ (let y : l q ≡ 0 = ap l i ∙ e in omega arith) | no i ↦ s .clear r u q (omega arith) c v ];
           }
 
       module _ (c : 0 < l p) where
         -- in a sound store this holds for each word
-        sound-stands : KeysSound t rows store → Stands t rows (l p) (slotFrom (slots t) z p) (run + 1)
-        sound-stands k =
+        sound-reachable : KeysSound t rows store → Reachable t rows (l p) (slotFrom (slots t) z p) (run + 1)
+        sound-reachable k =
             let u = unroll t (small t rows store f) rows z b store k free in
             let o = u .only p h c in
             let n = held-row t rows store f (l p) (o .0) (o .1 .0) (o .2) in
@@ -164,7 +164,7 @@ module _ (t : Keyed) (rows store : List ℕ) (z : ℕ) (f : Fits t rows store) (
                   | no j ↦ absurd (let x = way (p - (run + 1)) (omega arith) (omega arith) in omega (arith, s .run-is .before (p - (run + 1)) (omega arith)))
                 ]
 
-        module _ (st : Stands t rows (l p) (slotFrom (slots t) z p) (run + 1)) where
+        module _ (st : Reachable t rows (l p) (slotFrom (slots t) z p) (run + 1)) where
           -- a word of the same row, before, is the same word
           same-word : (q : ℕ) → q < p → 0 < l q → named (l q) ≡ named (l p) → l q ≡ l p
           same-word q k d e =
@@ -184,14 +184,14 @@ module _ (t : Keyed) (rows store : List ℕ) (z : ℕ) (f : Fits t rows store) (
                     omega (arith, u .1)
               ]
 
-          pass-taken : getD seen (named (l p)) 0 ≡ 0 → Walk t rows store z (set seen (named (l p)) 1) (p + 1) (run + 1) (taken + 1)
+          pass-taken : getD seen (named (l p)) 0 ≡ 0 → RoundInvariant t rows store z (set seen (named (l p)) 1) (p + 1) (run + 1) (taken + 1)
           pass-taken e =
               record {
                 end = omega arith;
                 front = front-more (lineHome t rows z) (Stored t rows) l p (s .front) (λ _. joins);
                 run-is = more;
                 count = ap (λ (x : ℕ). x + 1) (s .count) ∙ sym (tally-yes (λ q. ltb 0 (l q)) p (lt-ltb 0 (l p) c));
-                marks = rw (length-set seen (named (l p)) 1) (s .marks);
+                flags = rw (length-set seen (named (l p)) 1) (s .flags);
                 marked = λ r k. mark r k (ℕ-discrete r (named (l p)));
                 clear = λ r u q k d v. unmarked r u q k d v (ℕ-discrete r (named (l p))) (ℕ-discrete q p);
               }
@@ -215,7 +215,7 @@ module _ (t : Keyed) (rows store : List ℕ) (z : ℕ) (f : Fits t rows store) (
                   }
 
               long : named (l p) < length seen
-              long = omega (arith, st .live .0, s .marks)
+              long = omega (arith, st .live .0, s .flags)
 
               mark : (r : ℕ) → r < t .rows → Dec (r ≡ named (l p)) → (getD (set seen (named (l p)) 1) r 0 ≡ 0) ⊎ ((q : ℕ) × (q < p + 1) × (0 < l q) × (named (l q) ≡ r))
               mark r k (yes u) = inr (p, omega arith, c, sym u)
@@ -276,17 +276,17 @@ module _ (t : Keyed) (rows store : List ℕ) (z : ℕ) (f : Fits t rows store) (
 
 -- ---- answers
 
-refused : (t : Keyed) (rows store : List ℕ) → (KeysSound t rows store → ⊥) → KeysChecked t rows store false
+refused : (t : IndexShape) (rows store : List ℕ) → (KeysSound t rows store → ⊥) → KeysChecked t rows store false
 refused t rows store n = record { yes = λ e. absurd (false≢true e); no = λ e. n }
 
-pub none-free : (t : Keyed) (rows store : List ℕ) (r : ℕ) → Fits t rows store → FreeIs (slots t) store r → slots t ≤ r → KeysChecked t rows store false
+pub none-free : (t : IndexShape) (rows store : List ℕ) (r : ℕ) → Fits t rows store → FreeIs (slots t) store r → slots t ≤ r → KeysChecked t rows store false
 none-free t rows store r f s h = refused t rows store (λ k. let x = free-slot t rows store f k in s .none h (x .0) (x .1) (x .2))
 
-compared : (t : Keyed) (rows store : List ℕ) (a b : ℕ) → (a ≡ b → KeysSound t rows store) → (KeysSound t rows store → a ≡ b) → KeysChecked t rows store (eqb a b)
+compared : (t : IndexShape) (rows store : List ℕ) (a b : ℕ) → (a ≡ b → KeysSound t rows store) → (KeysSound t rows store → a ≡ b) → KeysChecked t rows store (eqb a b)
 compared t rows store a b y n = record { yes = λ e. y (eqb-true a b e); no = λ e k. eqb-false a b e (n k) }
 
 -- no row is seen yet
-pub round-fits : (t : Keyed) (rows store : List ℕ) (z live n : ℕ) → Fits t rows store → FreeIs (slots t) store z → z < slots t → live ≡ liveCount t rows → t .rows ≤ n
+pub round-fits : (t : IndexShape) (rows store : List ℕ) (z live n : ℕ) → Fits t rows store → FreeIs (slots t) store z → z < slots t → live ≡ liveCount t rows → t .rows ≤ n
     → RoundFits t rows store z live (replicate n 0)
 round-fits t rows store z live n f s h e k =
     record {
@@ -294,20 +294,20 @@ round-fits t rows store z live n f s h e k =
       slot = h;
       free = s .free h;
       count = e;
-      marks = rw (length-replicate {A = ℕ} n 0) k;
+      flags = rw (length-replicate {A = ℕ} n 0) k;
       clear = λ i m. getD-replicate n i 0 0 (omega arith);
     }
 
 -- ---- the loop iterations of `round_holds`, in the terms of the code
 
-module _ (t : Keyed) (rows store : List ℕ) (z live : ℕ) (seen₀ : List ℕ) (r : RoundFits t rows store z live seen₀) where
-  pub round-begin : Walk t rows store z seen₀ 1 0 0
+module _ (t : IndexShape) (rows store : List ℕ) (z live : ℕ) (seen₀ : List ℕ) (r : RoundFits t rows store z live seen₀) where
+  pub round-begin : RoundInvariant t rows store z seen₀ 1 0 0
   round-begin = begin t rows store z (r .fits) (r .slot) (r .free) live seen₀ r
 
   pub slot-in : (p : ℕ) → (z + p) % slots t < slots t
   slot-in p = mod-lt (z + p) (omega (arith, r .slot))
 
-  module _ (seen : List ℕ) (p run taken : ℕ) (s : Walk t rows store z seen p run taken) where
+  module _ (seen : List ℕ) (p run taken : ℕ) (s : RoundInvariant t rows store z seen p run taken) where
     -- the numbers of the round stay small
     pub record Few : Type 0 where
       pub of-run : run < p
@@ -324,7 +324,7 @@ module _ (t : Keyed) (rows store : List ℕ) (z live : ℕ) (seen₀ : List ℕ)
         (λ k. finish-no t rows store z (r .fits) (r .slot) (r .free) seen p run taken s h k ∙ sym (r .count))
 
     module _ (h : p < slots t) where
-      pub turn-free : getD store ((z + p) % slots t) 0 ≡ 0 → Walk t rows store z seen (p + 1) 0 taken
+      pub turn-free : getD store ((z + p) % slots t) 0 ≡ 0 → RoundInvariant t rows store z seen (p + 1) 0 taken
       unfolding line slotFrom
       turn-free e = pass-free t rows store z (r .fits) (r .slot) (r .free) seen p run taken s h e
 
@@ -333,16 +333,16 @@ module _ (t : Keyed) (rows store : List ℕ) (z live : ℕ) (seen₀ : List ℕ)
         unfolding line slotFrom
         some = omega arith
 
-        pub turn-wrong : (Stands t rows (getD store ((z + p) % slots t) 0) ((z + p) % slots t) (run + 1) → ⊥) → KeysChecked t rows store false
+        pub turn-wrong : (Reachable t rows (getD store ((z + p) % slots t) 0) ((z + p) % slots t) (run + 1) → ⊥) → KeysChecked t rows store false
         unfolding line slotFrom
-        turn-wrong n = refused t rows store (λ k. n (sound-stands t rows store z (r .fits) (r .slot) (r .free) seen p run taken s h some k))
+        turn-wrong n = refused t rows store (λ k. n (sound-reachable t rows store z (r .fits) (r .slot) (r .free) seen p run taken s h some k))
 
-        module _ (st : Stands t rows (getD store ((z + p) % slots t) 0) ((z + p) % slots t) (run + 1)) where
+        module _ (st : Reachable t rows (getD store ((z + p) % slots t) 0) ((z + p) % slots t) (run + 1)) where
           pub turn-twice : (getD seen (named (getD store ((z + p) % slots t) 0)) 0 ≡ 0 → ⊥) → KeysChecked t rows store false
           unfolding line slotFrom
           turn-twice n = refused t rows store (seen-twice t rows store z (r .fits) (r .slot) (r .free) seen p run taken s h some st n)
 
           pub turn-taken : getD seen (named (getD store ((z + p) % slots t) 0)) 0 ≡ 0
-              → Walk t rows store z (set seen (named (getD store ((z + p) % slots t) 0)) 1) (p + 1) (run + 1) (taken + 1)
+              → RoundInvariant t rows store z (set seen (named (getD store ((z + p) % slots t) 0)) 1) (p + 1) (run + 1) (taken + 1)
           unfolding line slotFrom
           turn-taken e = pass-taken t rows store z (r .fits) (r .slot) (r .free) seen p run taken s h some st e

@@ -6,14 +6,14 @@ ghost use Prim.Native.Nat.{_<_, _≤_};
 ghost use lib.ListN.{length};
 ghost use Rattle.key_index.specs.Slots.{slots};
 ghost use Rattle.key_index.specs.inner.Index.{RowsIn, Fits};
-ghost use Rattle.key_check.specs.inner.Check.{isLiveRow, liveCount, StandsIs, FreeIs, RoundFits, KeysChecked};
-use key_index::Keyed;
+ghost use Rattle.key_check.specs.inner.Check.{isLiveRow, liveCount, ReachableIs, FreeIs, RoundFits, KeysChecked};
+use key_index::IndexShape;
 use key_index::ROW_RANGE;
 use key_index::home_slot;
 use key_index::slot_word;
 
 // Whether a row is live.
-fn row_live(t: Keyed, rows: &[u32], row: u32) -> bool
+fn row_live(t: IndexShape, rows: &[u32], row: u32) -> bool
     requires { ⌜ RowsIn t (now rows) × (row < t .rows) ⌝ }
     ensures { λ r. ⌜ r ≡ isLiveRow t (now (rows .entry)) row ⌝ }
 {
@@ -23,7 +23,7 @@ fn row_live(t: Keyed, rows: &[u32], row: u32) -> bool
 }
 
 // How many rows are live.
-fn count_live(t: Keyed, rows: &[u32]) -> u32
+fn count_live(t: IndexShape, rows: &[u32]) -> u32
     requires { ⌜ RowsIn t (now rows) ⌝ }
     ensures { λ r. ⌜ r ≡ liveCount t (now (rows .entry)) ⌝ }
 {
@@ -56,9 +56,9 @@ fn free_slot(n: u32, store: &[u32]) -> u32
 
 // Whether the word in slot `at` is that of a live row whose home is in the run. `run` is the number of consecutive taken slots that
 // end at `at`. Then no slot from the home to `at` is free, and none of them is read again.
-fn stands(t: Keyed, rows: &[u32], word: u32, at: u32, run: u32) -> bool
+fn is_reachable(t: IndexShape, rows: &[u32], word: u32, at: u32, run: u32) -> bool
     requires { ⌜ RowsIn t (now rows) × (at < slots t) ⌝ }
-    ensures { λ r. ⌜ StandsIs t (now (rows .entry)) word at run r ⌝ }
+    ensures { λ r. ⌜ ReachableIs t (now (rows .entry)) word at run r ⌝ }
 {
     let number = word % ROW_RANGE;
     if number == 0 {
@@ -82,7 +82,14 @@ fn stands(t: Keyed, rows: &[u32], word: u32, at: u32, run: u32) -> bool
 
 // Whether the slots, scanned once round from a free one, have each live row exactly once. `seen` has a flag for each row, all of
 // them clear. Each taken slot has a different row, so no live row is missing if taken slots and live rows are equally many.
-fn round_holds(t: Keyed, rows: &[u32], store: &[u32], free: u32, live: u32, seen: &mut [u8]) -> bool
+fn round_holds(
+    t: IndexShape,
+    rows: &[u32],
+    store: &[u32],
+    free: u32,
+    live: u32,
+    seen: &mut [u8],
+) -> bool
     requires { ⌜ RoundFits t (now rows) (now store) free live (now seen) ⌝ }
     ensures { λ r. ⌜ KeysChecked t (now (rows .entry)) (now (store .entry)) r ⌝ }
 {
@@ -99,7 +106,7 @@ fn round_holds(t: Keyed, rows: &[u32], store: &[u32], free: u32, live: u32, seen
         } else {
             run += 1;
             taken += 1;
-            if !stands(t, rows, word, at, run) {
+            if !is_reachable(t, rows, word, at, run) {
                 return false;
             }
             let row = (word % ROW_RANGE - 1) as usize;
@@ -113,7 +120,7 @@ fn round_holds(t: Keyed, rows: &[u32], store: &[u32], free: u32, live: u32, seen
 }
 
 // Whether a key store leads to exactly the live rows.
-pub fn keys_sound(t: Keyed, rows: &[u32], store: &[u32]) -> bool
+pub fn keys_sound(t: IndexShape, rows: &[u32], store: &[u32]) -> bool
     requires { ⌜ Fits t (now rows) (now store) ⌝ }
     ensures { λ r. ⌜ KeysChecked t (now (rows .entry)) (now (store .entry)) r ⌝ }
 {

@@ -7,48 +7,48 @@ use native.Mathlib.Decide.{decLt, ℕ-discrete}
 use native.Mathlib.Nat.{add-zero}
 use native.Mathlib.Omega.{arith}
 use lib.ListN.{getD}
-use Rattle.cells.specs.Cells.{compact, keyHash}
-use Rattle.key_index.specs.declared.Keyed.{Keyed}
+use Rattle.cells.specs.Cells.{compactHash, keyHash}
+use Rattle.key_index.specs.declared.IndexShape.{IndexShape}
 use Rattle.key_index.specs.declared.Found.the-variants.{None, At}
-use Rattle.key_index.specs.Slots.{LiveAt, keyAt, slots, word, home, slotFrom, StandsAt, KeysSound}
+use Rattle.key_index.specs.Slots.{LiveAt, keyAt, slots, word, home, slotFrom, ReachableAt, KeysSound}
 use Rattle.key_index.specs.inner.Ring.{spread}
 use Rattle.key_index.specs.Laws.Ring.{home-spread, word-tagged, word-some, word-same, tagged-row, tagged-bits}
 use Rattle.key_index.specs.inner.Index.{Leads, FoundAt, FoundIs}
 use Rattle.key_index.specs.inner.Window.{Ahead}
-use Rattle.key_index.proofs.WalkSteps.{Walked, begin-past}
+use Rattle.key_index.proofs.ScanSteps.{ScannedSlots, begin-past}
 
 -- a lookup passes a slot that leads to no row with the key
-pub record Past (t : Keyed) (rows key : List ℕ) (hash w : ℕ) : Type 0 where
+pub record Past (t : IndexShape) (rows key : List ℕ) (hash w : ℕ) : Type 0 where
   pub other : (i : ℕ) → Leads t rows key hash w i → ⊥
 
 -- a word that leads to a row determines it
-pub leads-some : (t : Keyed) (rows key : List ℕ) (hash w row : ℕ) → t .rows ≤ 65536 → Leads t rows key hash w row → 0 < w % 2 ^ 17
+pub leads-some : (t : IndexShape) (rows key : List ℕ) (hash w row : ℕ) → t .rows ≤ 65536 → Leads t rows key hash w row → 0 < w % 2 ^ 17
 leads-some t rows key hash w row few l = omega (arith, ap (λ (x : ℕ). x % 2 ^ 17) (l .tag), tagged-row hash row (omega (arith, l .below)))
 
 none-at : (row slot : ℕ) → None ≡ At row slot → ⊥
 none-at row slot e = let z : _≡_ {A = ℕ} 0 1 = cc in omega arith
 
-module _ (t : Keyed) (rows store key : List ℕ) (hash : ℕ) (few : t .rows ≤ 65536) where
+module _ (t : IndexShape) (rows store key : List ℕ) (hash : ℕ) (few : t .rows ≤ 65536) where
   abbrev Passed : ℕ → ℕ → Type 0
-  Passed at passed = Walked (slots t) store (Past t rows key hash) (spread (slots t) hash) at passed
+  Passed at passed = ScannedSlots (slots t) store (Past t rows key hash) (spread (slots t) hash) at passed
 
   -- the slot of a live row with the key leads to it
-  stands-leads : hash ≡ compact (keyHash key) → (i d : ℕ) → LiveAt t rows i → keyAt t rows i ≡ key → StandsAt (slots t) store key i d
+  stands-leads : hash ≡ compactHash (keyHash key) → (i d : ℕ) → LiveAt t rows i → keyAt t rows i ≡ key → ReachableAt (slots t) store key i d
       → Leads t rows key hash (getD store (slotFrom (slots t) (spread (slots t) hash) d) 0) i
   stands-leads e i d live k s =
       record { tag = rw (home-spread (slots t) hash key e) (s .there) ∙ sym (word-tagged hash i key e); below = live .0; cells = k }
 
   -- so no scan passed it
-  not-passed : (at passed : ℕ) → Passed at passed → hash ≡ compact (keyHash key) → (i d : ℕ) → LiveAt t rows i → keyAt t rows i ≡ key
-      → StandsAt (slots t) store key i d → passed ≤ d
+  not-passed : (at passed : ℕ) → Passed at passed → hash ≡ compactHash (keyHash key) → (i d : ℕ) → LiveAt t rows i → keyAt t rows i ≡ key
+      → ReachableAt (slots t) store key i d → passed ≤ d
   not-passed at passed w e i d live k s = elim (decLt d passed) [ yes h ↦ absurd (w .each d h .other i (stands-leads e i d live k s)) | no h ↦ omega arith ]
 
-  stands : KeysSound t rows store → (i : ℕ) → LiveAt t rows i → keyAt t rows i ≡ key → (d : ℕ) × StandsAt (slots t) store key i d
+  stands : KeysSound t rows store → (i : ℕ) → LiveAt t rows i → keyAt t rows i ≡ key → (d : ℕ) × ReachableAt (slots t) store key i d
   stands sound i live k = rw k at (sound .leads i live)
 
   module _ (at passed : ℕ) (w : Passed at passed) where
     -- no row is found if none with the key can be past the scanned slots
-    found-none : (hash ≡ compact (keyHash key) → (i d : ℕ) → passed ≤ d → StandsAt (slots t) store key i d → ⊥) → FoundIs t rows store key hash None
+    found-none : (hash ≡ compactHash (keyHash key) → (i d : ℕ) → passed ≤ d → ReachableAt (slots t) store key i d → ⊥) → FoundIs t rows store key hash None
     found-none f =
         record {
           row-in = λ row slot e. absurd (none-at row slot e);
@@ -98,7 +98,7 @@ module _ (t : Keyed) (rows store key : List ℕ) (hash : ℕ) (few : t .rows ≤
         at = λ e sound r s f. let q : row ≡ r = cc in let p : at ≡ s = cc in rw (← q, ← p) (the-one e sound);
       }
     where
-      the-one : hash ≡ compact (keyHash key) → KeysSound t rows store → FoundAt t rows store key row at
+      the-one : hash ≡ compactHash (keyHash key) → KeysSound t rows store → FoundAt t rows store key row at
       the-one e sound =
           let o = sound .only-live at (walked .inside) some in
           let w : getD store at 0 ≡ word key row = l .tag ∙ word-tagged hash row key e in

@@ -1,5 +1,5 @@
 pub mod FindSteps
 pub mod PutSteps
-pub mod WalkSteps
+pub mod ScanSteps
 pub mod WindowSteps
 pub mod WordSteps

@@ -7,16 +7,16 @@ use mathlib.Core.List.{List, [], _∷_}
 use native.Mathlib.Omega.{arith}
 use lib.ListN.{length, getD, set, drop, length-replicate, replicate-append-replicate}
 use lib.Seq.{drop-set-lt}
-use Rattle.lists.specs.Lists.{putAt}
-use Rattle.lists.specs.Laws.Parts.{drop-putAt, length-putAt, putAt-nil, putAt-then, set-putAt}
+use Rattle.lists.specs.Lists.{splice}
+use Rattle.lists.specs.Laws.Parts.{drop-splice, length-splice, splice-nil, splice-then, set-splice}
 use Rattle.key_index.specs.Laws.Ring.{slot-met}
 use Rattle.key_index.specs.inner.Ring.{spread, tagged}
 use Rattle.key_index.specs.inner.Index.{PutIs, zeros, EmptyIs}
-use Rattle.key_index.proofs.WalkSteps.{Walked}
+use Rattle.key_index.proofs.ScanSteps.{ScannedSlots}
 use Rattle.key_index.proofs.WindowSteps.{Taken}
 
 module _ (n : ℕ) (store : List ℕ) (hash row : ℕ) where
-  pub put-here : (at passed : ℕ) → Walked n store Taken (spread n hash) at passed → passed < n → getD store at 0 ≡ 0 → (w : ℕ) → w ≡ tagged hash row
+  pub put-here : (at passed : ℕ) → ScannedSlots n store Taken (spread n hash) at passed → passed < n → getD store at 0 ≡ 0 → (w : ℕ) → w ≡ tagged hash row
       → PutIs n store hash row true (set store at w)
   put-here at passed walk h z w e =
       record {
@@ -26,7 +26,7 @@ module _ (n : ℕ) (store : List ℕ) (hash row : ℕ) where
         tail = drop-set-lt n store at w (walk .inside);
       }
 
-  pub put-none : (at passed : ℕ) → Walked n store Taken (spread n hash) at passed → n ≤ passed → PutIs n store hash row false store
+  pub put-none : (at passed : ℕ) → ScannedSlots n store Taken (spread n hash) at passed → n ≤ passed → PutIs n store hash row false store
   put-none at passed walk h =
       record { yes = λ f. absurd (false≢true f); full = λ _. each; kept = λ _. refl; tail = refl }
     where
@@ -37,26 +37,26 @@ module _ (n : ℕ) (store : List ℕ) (hash row : ℕ) where
           walk .each (m .0) (omega (arith, m .1)) (rw (m .2) z)
 
 -- one more slot is made free
-pub empty-step : (store : List ℕ) (i : ℕ) → i < length store → set (putAt store 0 (zeros i)) i 0 ≡ putAt store 0 (zeros (i + 1))
+pub empty-step : (store : List ℕ) (i : ℕ) → i < length store → set (splice store 0 (zeros i)) i 0 ≡ splice store 0 (zeros (i + 1))
 empty-step store i h =
     let r : length (zeros i) ≡ i = length-replicate i 0 in
     let f : 0 + length (zeros i) ≤ length store = omega arith in
-    let g : i < length (putAt store 0 (zeros i)) = omega (arith, length-putAt store (zeros i) 0 f) in
+    let g : i < length (splice store 0 (zeros i)) = omega (arith, length-splice store (zeros i) 0 f) in
     let k : 0 + (length (zeros i) + 1) ≤ length store = omega arith in
     let e : 0 + length (zeros i) ≡ i = omega arith in
-    set-putAt (putAt store 0 (zeros i)) i 0 g
-    ∙ ap (λ (j : ℕ). putAt (putAt store 0 (zeros i)) j (0 ∷ [])) (sym e)
-    ∙ putAt-then store (zeros i) (0 ∷ []) 0 k
-    ∙ ap (putAt store 0) (replicate-append-replicate i 1 0)
+    set-splice (splice store 0 (zeros i)) i 0 g
+    ∙ ap (λ (j : ℕ). splice (splice store 0 (zeros i)) j (0 ∷ [])) (sym e)
+    ∙ splice-then store (zeros i) (0 ∷ []) 0 k
+    ∙ ap (splice store 0) (replicate-append-replicate i 1 0)
 
-pub empty-begin : (store : List ℕ) → store ≡ putAt store 0 (zeros 0)
-empty-begin store = sym (putAt-nil store 0)
+pub empty-begin : (store : List ℕ) → store ≡ splice store 0 (zeros 0)
+empty-begin store = sym (splice-nil store 0)
 
-pub empty-end : (room : ℕ) (store store′ : List ℕ) → 2 * room ≤ length store → store′ ≡ putAt store 0 (zeros (2 * room))
+pub empty-end : (room : ℕ) (store store′ : List ℕ) → 2 * room ≤ length store → store′ ≡ splice store 0 (zeros (2 * room))
     → EmptyIs room store store′
 empty-end room store store′ h e =
     let r : length (zeros (2 * room)) ≡ 2 * room = length-replicate (2 * room) 0 in
     record {
       free = e;
-      tail = ap (drop (2 * room)) e ∙ drop-putAt store (zeros (2 * room)) 0 (omega arith) (2 * room) (omega arith);
+      tail = ap (drop (2 * room)) e ∙ drop-splice store (zeros (2 * room)) 0 (omega arith) (2 * room) (omega arith);
     }

@@ -10,32 +10,32 @@ use lib.ListN.{length}
 use borrow.Author.Tests.{lt-ltb}
 use Rattle.lists.specs.Lists.{same}
 use Rattle.lists.specs.Laws.Rising.{same-refl, same-eq}
-use Rattle.key_index.specs.declared.Keyed.{Keyed}
+use Rattle.key_index.specs.declared.IndexShape.{IndexShape}
 use Rattle.key_index.specs.Slots.{keyAt}
 use Rattle.key_index.specs.inner.Ring.{tagged, namesRow}
 use Rattle.key_index.specs.Laws.Ring.{tagged-row, tagged-bits, tagged-of, names-yes, names-number}
 use Rattle.key_index.specs.Laws.Places.{row-inside}
 use Rattle.key_index.specs.inner.Index.{RowsIn, Leads, HitIs}
 
-pub names-some : (t : Keyed) (w : ℕ) → (w % 2 ^ 17 ≡ 0 → ⊥) → leb (w % 2 ^ 17) (t .rows) ≡ namesRow t w
+pub names-some : (t : IndexShape) (w : ℕ) → (w % 2 ^ 17 ≡ 0 → ⊥) → leb (w % 2 ^ 17) (t .rows) ≡ namesRow t w
 unfolding namesRow
 names-some t w ne = let p : 0 < w % 2 ^ 17 = omega arith in rw (lt-ltb 0 (w % 2 ^ 17) p)
 
 -- a word that names a row has its number plus 1, and the row is inside its store
-pub record Named (t : Keyed) (rows : List ℕ) (w : ℕ) : Type 0 where
+pub record Named (t : IndexShape) (rows : List ℕ) (w : ℕ) : Type 0 where
   pub some : 0 < w % 2 ^ 17
   pub row : w % 2 ^ 17 - 1 < t .rows
   pub inside : (w % 2 ^ 17 - 1) * t .columns + t .columns ≤ length rows
   pub small : (w % 2 ^ 17 - 1) * t .columns + t .columns ≤ 524288
 
-pub named : (t : Keyed) (rows : List ℕ) (w : ℕ) → RowsIn t rows → namesRow t w ≡ true → Named t rows w
+pub named : (t : IndexShape) (rows : List ℕ) (w : ℕ) → RowsIn t rows → namesRow t w ≡ true → Named t rows w
 named t rows w f e =
     let n = names-number t w e in
     let r : w % 2 ^ 17 - 1 < t .rows = omega (arith, n) in
     let i = row-inside t rows (w % 2 ^ 17 - 1) f r in
     record { some = n .0; row = r; inside = i .in-store; small = i .small }
 
-module _ (t : Keyed) (rows key : List ℕ) (hash w row : ℕ) (few : t .rows ≤ 65536) where
+module _ (t : IndexShape) (rows key : List ℕ) (hash w row : ℕ) (few : t .rows ≤ 65536) where
   pub hit-bits : (w / 2 ^ 17 ≡ hash % 2 ^ 15 → ⊥) → HitIs t rows key hash w row false
   hit-bits ne =
       record {

@@ -1,9 +1,9 @@
 -- What follows from the definitions.
 pub mod Index
 pub mod Lines
-pub mod Pigeons
+pub mod Pigeonhole
 pub mod Places
 pub mod Rows
 pub mod Unrolled
 pub mod Ring
-pub mod Rooms
+pub mod SizeClasses

@@ -5,14 +5,14 @@ ghost use mathlib.Core.Path.{_≡_};
 ghost use Prim.Native.Nat.{ℕ, _+_, _-_, _%_, _^_, _≤_, _<_};
 ghost use mathlib.Core.Bool.{true};
 ghost use lib.ListN.{length, set};
-ghost use Rattle.cells.specs.Cells.{compact, keyHash};
-ghost use Rattle.key_index.specs.Slots.{keyAt, roomStep, roomFor, slots, slotFrom};
+ghost use Rattle.cells.specs.Cells.{compactHash, keyHash};
+ghost use Rattle.key_index.specs.Slots.{keyAt, sizeClass, sizeClassFor, slots, slotFrom};
 ghost use Rattle.key_index.specs.inner.Ring.{spread, tagged, namesRow};
-ghost use Rattle.key_index.specs.inner.Index.{Room, RowsIn, Fits, HitIs, FoundIs, PutIs, EmptyIs};
+ghost use Rattle.key_index.specs.inner.Index.{SlotsFit, RowsIn, Fits, HitIs, FoundIs, PutIs, EmptyIs};
 ghost use Rattle.key_index.specs.inner.Window.{isFree, hasBits, someOf, Ahead, FreeSoon, TakenRun};
 
 // The parameters of a key index. `room` is the number of rows that the slots in use are sized for; there are twice as many slots.
-pub struct Keyed {
+pub struct IndexShape {
     pub columns: u32,
     pub keys: u32,
     pub room: u32,
@@ -31,8 +31,8 @@ pub const ROW_RANGE: u32 = 0x2_0000;
 const HASH_RANGE: u32 = 0x8000;
 
 // The size class for this many rows, regardless of the capacity. The largest class is tested first.
-fn room_step(rows: u32) -> u32
-    ensures { λ r. ⌜ r ≡ roomStep rows ⌝ }
+fn size_class(rows: u32) -> u32
+    ensures { λ r. ⌜ r ≡ sizeClass rows ⌝ }
 {
     if 8192 < rows {
         return 65536;
@@ -47,10 +47,10 @@ fn room_step(rows: u32) -> u32
 }
 
 // The number of rows that the slots in use are sized for. There are two slots for each.
-pub fn room_for(capacity: u32, rows: u32) -> u32
-    ensures { λ r. ⌜ r ≡ roomFor capacity rows ⌝ }
+pub fn size_class_for(capacity: u32, rows: u32) -> u32
+    ensures { λ r. ⌜ r ≡ sizeClassFor capacity rows ⌝ }
 {
-    let step = room_step(rows);
+    let step = size_class(rows);
     if step < capacity {
         return step;
     }
@@ -75,9 +75,9 @@ pub fn slot_word(hash: u32, row: u32) -> u32
 }
 
 // The hash of a row's key.
-pub fn row_hash(t: Keyed, rows: &[u32], row: u32) -> u32
+pub fn row_hash(t: IndexShape, rows: &[u32], row: u32) -> u32
     requires { ⌜ (RowsIn t (now rows)) × (row < t .rows) ⌝ }
-    ensures { λ r. ⌜ r ≡ compact (keyHash (keyAt t (now (rows .entry)) row)) ⌝ }
+    ensures { λ r. ⌜ r ≡ compactHash (keyHash (keyAt t (now (rows .entry)) row)) ⌝ }
 {
     let from = (row * t.columns) as usize;
     let to = from + t.keys as usize;
@@ -98,7 +98,7 @@ pub fn next_slot(slots: u32, at: u32) -> u32
 }
 
 // Whether a word has the number of a row of the table. In a sound store each word but 0 has one.
-pub fn names_row(t: Keyed, word: u32) -> bool
+pub fn names_row(t: IndexShape, word: u32) -> bool
     ensures { λ r. ⌜ r ≡ namesRow t word ⌝ }
 {
     let number = word % ROW_RANGE;
@@ -110,7 +110,7 @@ pub fn names_row(t: Keyed, word: u32) -> bool
 
 // Whether a slot's word leads to a row with this key. The 15 hash bits are tested first: they rule out most other keys, whose rows
 // are then not read.
-fn is_hit(t: Keyed, rows: &[u32], key: &[u32], hash: u32, word: u32) -> bool
+fn is_hit(t: IndexShape, rows: &[u32], key: &[u32], hash: u32, word: u32) -> bool
     requires { ⌜ (RowsIn t (now rows)) × (length (now key) ≡ t .keys) ⌝ }
     ensures { λ r. ⌜ HitIs t (now (rows .entry)) (now (key .entry)) hash word (word % 2 ^ 17 - 1) r ⌝ }
 {
@@ -126,7 +126,7 @@ fn is_hit(t: Keyed, rows: &[u32], key: &[u32], hash: u32, word: u32) -> bool
 }
 
 // The live row that has a key, and its slot.
-pub fn find(t: Keyed, rows: &[u32], store: &[u32], key: &[u32], hash: u32) -> Found
+pub fn find(t: IndexShape, rows: &[u32], store: &[u32], key: &[u32], hash: u32) -> Found
     requires { ⌜ (Fits t (now rows) (now store)) × (length (now key) ≡ t .keys) ⌝ }
     ensures { λ r. ⌜ FoundIs t (now (rows .entry)) (now (store .entry)) (now (key .entry)) hash r ⌝ }
 {
@@ -222,7 +222,7 @@ fn bits_ahead(slots: u32, store: &[u32], home: u32, hash: u32) -> u32
 // Same contract as `find`, but faster. Most rows are in their key's home slot. A window detects most keys that have no row. Most
 // other rows are in the next slot with their hash's bits. Otherwise falls back to `find`. Call it from one place of a library only:
 // it is long, and the compiler inlines it at one call site only, but `find` at each.
-pub fn look_up(t: Keyed, rows: &[u32], store: &[u32], key: &[u32], hash: u32) -> Found
+pub fn look_up(t: IndexShape, rows: &[u32], store: &[u32], key: &[u32], hash: u32) -> Found
     requires { ⌜ (Fits t (now rows) (now store)) × (length (now key) ≡ t .keys) ⌝ }
     ensures { λ r. ⌜ FoundIs t (now (rows .entry)) (now (store .entry)) (now (key .entry)) hash r ⌝ }
 {
@@ -266,8 +266,8 @@ fn taken_run(slots: u32, store: &[u32], start: u32) -> u32
 }
 
 // Writes a new row to the first free slot from its key's home on. Returns false, and writes nothing, if there is none.
-pub fn put(t: Keyed, store: &mut [u32], hash: u32, row: u32) -> bool
-    requires { ⌜ (Room (t .room) (now store)) × (row < 65536) ⌝ }
+pub fn put(t: IndexShape, store: &mut [u32], hash: u32, row: u32) -> bool
+    requires { ⌜ (SlotsFit (t .room) (now store)) × (row < 65536) ⌝ }
     ensures { λ r. ⌜ PutIs (slots t) (now (store .entry)) hash row r (now (store .exit)) ⌝ }
 {
     let slots = 2 * t.room;
@@ -295,7 +295,7 @@ pub fn replace(store: &mut [u32], slot: u32, hash: u32, row: u32)
 
 // Frees every slot.
 pub fn empty(room: u32, store: &mut [u32])
-    requires { ⌜ Room room (now store) ⌝ }
+    requires { ⌜ SlotsFit room (now store) ⌝ }
     ensures { λ _. ⌜ EmptyIs room (now (store .entry)) (now (store .exit)) ⌝ }
 {
     let slots = (2 * room) as usize;

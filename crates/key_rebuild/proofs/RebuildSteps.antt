@@ -6,18 +6,18 @@ use mathlib.Core.List.{List}
 use native.Mathlib.Omega.{arith}
 use lib.ListN.{length, getD, drop}
 use Rattle.lists.specs.Lists.{rowAt}
-use Rattle.cells.specs.Cells.{isDead, compact, keyHash}
+use Rattle.cells.specs.Cells.{isDead, compactHash, keyHash}
 use Rattle.constraints.specs.Constraints.{isLive}
 use Rattle.constraints.specs.Laws.Rows.{live-first}
-use Rattle.key_index.specs.declared.Keyed.{Keyed}
+use Rattle.key_index.specs.declared.IndexShape.{IndexShape}
 use Rattle.key_index.specs.Slots.{keyAt, slots, KeysSound}
 use Rattle.key_index.specs.inner.Index.{Fits, PutIs, EmptyIs}
 use Rattle.key_index.specs.Laws.Index.{keys-same, empty-sound, emptied, put-sound}
-use Rattle.key_index.specs.Laws.Rooms.{fits-room}
+use Rattle.key_index.specs.Laws.SizeClasses.{fits-fewer}
 use Rattle.key_index.specs.Laws.Rows.{grown-rows}
-use Rattle.key_rebuild.specs.inner.Growth.{firstRows, RowPut, Rebuilt}
+use Rattle.key_rebuild.specs.inner.Rebuilding.{firstRows, RowPut, Rebuilt}
 
-module _ (t : Keyed) (rows store : List ℕ) (row : ℕ) (f : Fits t rows store) (h : row < t .rows) where
+module _ (t : IndexShape) (rows store : List ℕ) (row : ℕ) (f : Fits t rows store) (h : row < t .rows) where
   by-first : isLive (rowAt (t .columns) row rows) ≡ not (isDead (getD rows (row * t .columns) 0))
   by-first = live-first (t .columns) row rows (f .some-columns)
 
@@ -36,10 +36,10 @@ module _ (t : Keyed) (rows store : List ℕ) (row : ℕ) (f : Fits t rows store)
       }
 
   -- a live one
-  pub row-live : (hash : ℕ) (r : Bool) (store′ : List ℕ) → isDead (getD rows (row * t .columns) 0) ≡ false → hash ≡ compact (keyHash (keyAt t rows row))
+  pub row-live : (hash : ℕ) (r : Bool) (store′ : List ℕ) → isDead (getD rows (row * t .columns) 0) ≡ false → hash ≡ compactHash (keyHash (keyAt t rows row))
       → PutIs (slots t) store hash row r store′ → RowPut t rows store row store′
   row-live hash r store′ e hash-is put =
-      let before : Fits (firstRows t row) rows store = fits-room t (firstRows t row) rows store f refl refl (f .some) (omega (arith, f .count)) (omega arith) in
+      let before : Fits (firstRows t row) rows store = fits-fewer t (firstRows t row) rows store f refl refl (f .some) (omega (arith, f .count)) (omega arith) in
       record {
         sound = λ s. put-sound (firstRows t row) (firstRows t (row + 1)) rows rows store store′ hash r before s
             (grown-rows (firstRows t row) (firstRows t (row + 1)) rows rows (record { columns = refl; keys = refl; room = refl; count = refl }) (omega (arith, f .count)) (λ i k. refl) (by-first ∙ ap not e))
@@ -48,14 +48,14 @@ module _ (t : Keyed) (rows store : List ℕ) (row : ℕ) (f : Fits t rows store)
       }
 
 -- what holds at the loop's head
-pub record Turn (t : Keyed) (rows store₀ store : List ℕ) (row : ℕ) : Type 0 where
+pub record RebuildInvariant (t : IndexShape) (rows store₀ store : List ℕ) (row : ℕ) : Type 0 where
   pub most : row ≤ t .rows
   pub same : length store ≡ length store₀
   pub sound : KeysSound (firstRows t row) rows store
   pub rest : drop (slots t) store ≡ drop (slots t) store₀
 
-module _ (t : Keyed) (rows before store₀ : List ℕ) (freed : EmptyIs (t .room) before store₀) where
-  pub turn-begin : slots t ≤ length before → Turn t rows store₀ store₀ 0
+module _ (t : IndexShape) (rows before store₀ : List ℕ) (freed : EmptyIs (t .room) before store₀) where
+  pub turn-begin : slots t ≤ length before → RebuildInvariant t rows store₀ store₀ 0
   turn-begin long =
       record {
         most = omega arith;
@@ -64,12 +64,12 @@ module _ (t : Keyed) (rows before store₀ : List ℕ) (freed : EmptyIs (t .room
         rest = refl;
       }
 
-  pub turn-end : (store : List ℕ) (row : ℕ) → Turn t rows store₀ store row → t .rows ≤ row → Rebuilt t rows before store
+  pub turn-end : (store : List ℕ) (row : ℕ) → RebuildInvariant t rows store₀ store row → t .rows ≤ row → Rebuilt t rows before store
   turn-end store row s h =
       let e : row ≡ t .rows = omega (arith, s .most) in
       record { sound = rw e at (s .sound); rest = s .rest ∙ freed .tail }
 
-pub turn-on : (t : Keyed) (rows store₀ store store′ : List ℕ) (row : ℕ) → Turn t rows store₀ store row → row < t .rows → length store′ ≡ length store
-    → RowPut t rows store row store′ → Turn t rows store₀ store′ (row + 1)
+pub turn-on : (t : IndexShape) (rows store₀ store store′ : List ℕ) (row : ℕ) → RebuildInvariant t rows store₀ store row → row < t .rows → length store′ ≡ length store
+    → RowPut t rows store row store′ → RebuildInvariant t rows store₀ store′ (row + 1)
 turn-on t rows store₀ store store′ row s h same p =
     record { most = omega arith; same = same ∙ s .same; sound = p .sound (s .sound); rest = p .rest ∙ s .rest }

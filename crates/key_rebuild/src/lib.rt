@@ -2,11 +2,11 @@
 // compaction leaves so few rows that fewer slots suffice. Safe on any rows and store.
 ghost use Prim.Native.Nat.{_<_};
 ghost use Rattle.key_index.specs.inner.Index.{Fits};
-ghost use Rattle.key_rebuild.specs.inner.Growth.{RowPut, Rebuilt};
-use key_index::Keyed;
+ghost use Rattle.key_rebuild.specs.inner.Rebuilding.{RowPut, Rebuilt};
+use key_index::IndexShape;
 
 // Inserts a row if it is live.
-fn put_row(t: Keyed, rows: &[u32], store: &mut [u32], row: u32)
+fn put_row(t: IndexShape, rows: &[u32], store: &mut [u32], row: u32)
     requires { ⌜ Fits t (now rows) (now store) × (row < t .rows) ⌝ }
     ensures { λ _. ⌜ RowPut t (now (rows .entry)) (now (store .entry)) row (now (store .exit)) ⌝ }
 {
@@ -19,7 +19,7 @@ fn put_row(t: Keyed, rows: &[u32], store: &mut [u32], row: u32)
 }
 
 // Makes the slots in use lead to exactly the live rows, whatever their previous contents.
-pub fn rebuild(t: Keyed, rows: &[u32], store: &mut [u32])
+pub fn rebuild(t: IndexShape, rows: &[u32], store: &mut [u32])
     requires { ⌜ Fits t (now rows) (now store) ⌝ }
     ensures { λ _. ⌜ Rebuilt t (now (rows .entry)) (now (store .entry)) (now (store .exit)) ⌝ }
 {

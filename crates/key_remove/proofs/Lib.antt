@@ -1,1 +1,1 @@
-pub mod GapSteps
+pub mod ShiftSteps

@@ -1,2 +1,2 @@
 -- What follows from the definitions.
-pub mod Gaps
+pub mod BackwardShift

@@ -7,8 +7,8 @@ ghost use Prim.Native.Nat.{_≤_, _<_};
 ghost use Rattle.key_index.specs.Slots.{slots};
 ghost use Rattle.key_index.specs.inner.Ring.{namesRow, away};
 ghost use Rattle.key_index.specs.inner.Index.{RowsIn, Fits, homeOf};
-ghost use Rattle.key_remove.specs.inner.Gaps.{Shifted, TakenOut};
-use key_index::Keyed;
+ghost use Rattle.key_remove.specs.inner.BackwardShift.{Shifted, RowRemoved};
+use key_index::IndexShape;
 use key_index::ROW_RANGE;
 use key_index::home_slot;
 use key_index::names_row;
@@ -26,7 +26,7 @@ fn slots_away(n: u32, from: u32, to: u32) -> u32
 }
 
 // The distance from the home of the row in a word to slot `at`.
-fn home_away(t: Keyed, rows: &[u32], word: u32, at: u32) -> u32
+fn home_away(t: IndexShape, rows: &[u32], word: u32, at: u32) -> u32
     requires { ⌜ (RowsIn t (now rows)) × (namesRow t word ≡ true) × (at < slots t) ⌝ }
     ensures { λ r. ⌜ r ≡ away (slots t) (homeOf t (now (rows .entry)) word) at ⌝ }
 {
@@ -37,7 +37,7 @@ fn home_away(t: Keyed, rows: &[u32], word: u32, at: u32) -> u32
 }
 
 // Branch-free select. The condition depends on a hash, so a branch would be unpredictable.
-fn either(first: bool, a: u32, b: u32) -> u32
+fn select(first: bool, a: u32, b: u32) -> u32
     ensures { λ r. ⌜ r ≡ cond first a b ⌝ }
 {
     if first {
@@ -48,7 +48,7 @@ fn either(first: bool, a: u32, b: u32) -> u32
 
 // Moves back each word whose path passes the hole; the slot of a moved word is the new hole. Returns the last hole. Where a word
 // does not move, the hole is rewritten with the word that it has.
-fn close_gap(t: Keyed, rows: &[u32], store: &mut [u32], slot: u32) -> u32
+fn close_hole(t: IndexShape, rows: &[u32], store: &mut [u32], slot: u32) -> u32
     requires { ⌜ (Fits t (now rows) (now store)) × (slot < slots t) ⌝ }
     ensures { λ r. ⌜ Shifted t (now (rows .entry)) (now (store .entry)) slot r (now (store .exit)) ⌝ }
 {
@@ -67,19 +67,19 @@ fn close_gap(t: Keyed, rows: &[u32], store: &mut [u32], slot: u32) -> u32
         gap += 1;
         left -= 1;
         let moves = gap <= home_away(t, rows, word, at);
-        held = either(moves, word, held);
+        held = select(moves, word, held);
         store[hole as usize] = held;
-        hole = either(moves, at, hole);
-        gap = either(moves, 0, gap);
+        hole = select(moves, at, hole);
+        gap = select(moves, 0, gap);
     }
     hole
 }
 
 // Removes the row in a slot. The caller marks the row dead afterwards.
-pub fn take_out(t: Keyed, rows: &[u32], store: &mut [u32], slot: u32)
+pub fn remove_row(t: IndexShape, rows: &[u32], store: &mut [u32], slot: u32)
     requires { ⌜ (Fits t (now rows) (now store)) × (slot < slots t) ⌝ }
-    ensures { λ _. ⌜ TakenOut t (now (rows .entry)) (now (store .entry)) slot (now (store .exit)) ⌝ }
+    ensures { λ _. ⌜ RowRemoved t (now (rows .entry)) (now (store .entry)) slot (now (store .exit)) ⌝ }
 {
-    let hole = close_gap(t, rows, store, slot);
+    let hole = close_hole(t, rows, store, slot);
     store[hole as usize] = 0;
 }

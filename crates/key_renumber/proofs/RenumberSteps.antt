@@ -12,17 +12,17 @@ use lib.Seq.{set-getD}
 use borrow.Author.Tests.{le-leb, lt-leb, eqb-true, not-false}
 use Rattle.lists.specs.inner.Searching.{mapFront}
 use Rattle.lists.specs.Laws.Front.{length-mapFront, getD-mapFront-past, mapFront-step}
-use Rattle.row_buffer.specs.Ranks.{setBelow, marks}
+use Rattle.row_buffer.specs.Ranks.{setBelow, bitmapWord}
 use Rattle.bitmap.specs.inner.Marking.{otherAt}
-use Rattle.bitmap.specs.Laws.Lowest.{onward, onward-all, Next, next-mark, no-more}
-use Rattle.key_index.specs.declared.Keyed.{Keyed}
+use Rattle.bitmap.specs.Laws.Lowest.{onward, onward-all, Next, next-bit, no-more}
+use Rattle.key_index.specs.declared.IndexShape.{IndexShape}
 use Rattle.key_index.specs.Slots.{slots}
 use Rattle.key_index.specs.inner.Ring.{rowNamed, namesRow}
 use Rattle.key_index.specs.Laws.Ring.{names-number}
 use Rattle.key_renumber.specs.inner.Renumbering.{newRow, renumbered, Ranked, Block, BlockRenumbered}
 use Rattle.key_renumber.specs.Laws.Renumbering.{renumbered-free}
 
-module _ (t : Keyed) (w : ℕ) (live base : List ℕ) where
+module _ (t : IndexShape) (w : ℕ) (live base : List ℕ) where
   -- a word that names no row stays
   pub stays : namesRow t w ≡ false → w ≡ renumbered t live base w
   unfolding renumbered
@@ -42,7 +42,7 @@ module _ (t : Keyed) (w : ℕ) (live base : List ℕ) where
 
     -- the row's bitmap word and its base are inside their lists
     pub in-words : Ranked t live base → (0 < w % 2 ^ 17) × ((w % 2 ^ 17 - 1) / 64 < length live) × ((w % 2 ^ 17 - 1) / 64 < length base)
-    in-words r = let n = names-number t w e in (n .0, omega (arith, n, r .marks, r .count), omega (arith, n, r .firsts, r .count))
+    in-words r = let n = names-number t w e in (n .0, omega (arith, n, r .bitmapWord, r .count), omega (arith, n, r .firsts, r .count))
 
 -- ---- the slots of a block
 
@@ -61,7 +61,7 @@ mapFront-skip f n (suc k) l h same =
     ∙ mapFront-step f (n + k) l 0 (omega arith)
     ∙ ap (λ (x : ℕ). mapFront f x l) (sym e)
 
-module _ (t : Keyed) (live base store₀ : List ℕ) (from count : ℕ) where
+module _ (t : IndexShape) (live base store₀ : List ℕ) (from count : ℕ) where
   abbrev taken : ℕ → Bool
   taken = otherAt store₀ from 1 0
 
@@ -73,10 +73,10 @@ module _ (t : Keyed) (live base store₀ : List ℕ) (from count : ℕ) where
     pub place : ℕ
     pub few : place ≤ count
     pub same : length store ≡ length store₀
-    pub others : word ≡ marks (onward taken place) count
+    pub others : word ≡ bitmapWord (onward taken place) count
     pub on : (l : List ℕ) → store₀ ≡ mapFront new from l → store ≡ mapFront new (from + place) l
 
-  pub left-begin : (word : ℕ) → word ≡ marks taken count → Left store₀ word
+  pub left-begin : (word : ℕ) → word ≡ bitmapWord taken count → Left store₀ word
   left-begin word e =
       record {
         place = 0;
@@ -116,7 +116,7 @@ module _ (t : Keyed) (live base store₀ : List ℕ) (from count : ℕ) where
       z = trailingZeros 64 word
 
       at : Next taken (s .place) count word z
-      at = next-mark taken (s .place) count word (s .others) (b .few) some
+      at = next-bit taken (s .place) count word (s .others) (b .few) some
 
       pub left-in : from + z < from + count
       left-in = omega (arith, at .below)
@@ -139,16 +139,16 @@ module _ (t : Keyed) (live base store₀ : List ℕ) (from count : ℕ) where
 -- ---- all slots
 
 -- what holds at the loop's head: the first `at` slots are renumbered
-pub record Pass (t : Keyed) (live base store₀ store : List ℕ) (at : ℕ) : Type 0 where
+pub record Pass (t : IndexShape) (live base store₀ store : List ℕ) (at : ℕ) : Type 0 where
   pub at-in : at ≤ slots t
   pub same : length store ≡ length store₀
   pub words : store ≡ mapFront (renumbered t live base) at store₀
 
-pub pass-begin : (t : Keyed) (live base store : List ℕ) → Pass t live base store store 0
+pub pass-begin : (t : IndexShape) (live base store : List ℕ) → Pass t live base store store 0
 unfolding mapFront
 pass-begin t live base store = record { at-in = omega arith; same = refl; words = refl }
 
-module _ (t : Keyed) (live base store₀ store : List ℕ) (at : ℕ) (s : Pass t live base store₀ store at) where
+module _ (t : IndexShape) (live base store₀ store : List ℕ) (at : ℕ) (s : Pass t live base store₀ store at) where
   -- the next ones
   pub pass-block : (count : ℕ) → count ≡ min 64 (slots t - at) → slots t ≤ length store₀ → slots t ≤ 131072 → Block store at count
   pass-block count e long most =

@@ -6,12 +6,12 @@ ghost use lib.ListN.{length};
 ghost use Rattle.lists.specs.inner.Searching.{mapFront};
 ghost use Rattle.key_index.specs.Slots.{slots};
 ghost use Rattle.key_renumber.specs.inner.Renumbering.{renumbered, Ranked, Block, BlockRenumbered};
-use key_index::Keyed;
+use key_index::IndexShape;
 use key_index::ROW_RANGE;
 use key_index::names_row;
 
 // A word with its row's new number and the same 15 hash bits.
-fn renumber_word(t: Keyed, word: u32, live: &[u64], base: &[u32]) -> u32
+fn renumber_word(t: IndexShape, word: u32, live: &[u64], base: &[u32]) -> u32
     requires { ⌜ Ranked t (now live) (now base) ⌝ }
     ensures { λ r. ⌜ r ≡ renumbered t (now (live .entry)) (now (base .entry)) word ⌝ }
 {
@@ -28,11 +28,18 @@ fn renumber_word(t: Keyed, word: u32, live: &[u64], base: &[u32]) -> u32
 }
 
 // Renumbers up to 64 slots; visits only those that are taken.
-fn renumber_block(t: Keyed, store: &mut [u32], from: u32, count: u32, live: &[u64], base: &[u32])
+fn renumber_block(
+    t: IndexShape,
+    store: &mut [u32],
+    from: u32,
+    count: u32,
+    live: &[u64],
+    base: &[u32],
+)
     requires { ⌜ (Ranked t (now live) (now base)) × (Block (now store) from count) ⌝ }
     ensures { λ _. ⌜ BlockRenumbered t (now (live .entry)) (now (base .entry)) (now (store .entry)) from count (now (store .exit)) ⌝ }
 {
-    let mut word = bitmap::word::marks_other(store, from as usize, 1, count, 0);
+    let mut word = bitmap::word::different_bits(store, from as usize, 1, count, 0);
     while word != 0 {
         let at = (from + u64::trailing_zeros(word)) as usize;
         word = word & (word - 1);
@@ -41,7 +48,7 @@ fn renumber_block(t: Keyed, store: &mut [u32], from: u32, count: u32, live: &[u6
 }
 
 // Gives each row in the store its new number, in place, without reading its key.
-pub fn renumber(t: Keyed, store: &mut [u32], live: &[u64], base: &[u32])
+pub fn renumber(t: IndexShape, store: &mut [u32], live: &[u64], base: &[u32])
     requires { ⌜ (Ranked t (now live) (now base)) × (slots t ≤ length (now store)) ⌝ }
     ensures { λ _. ⌜ now (store .exit) ≡ mapFront (renumbered t (now (live .entry)) (now (base .entry))) (slots t) (now (store .entry)) ⌝ }
 {

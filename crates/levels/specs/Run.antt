@@ -8,15 +8,15 @@ use mathlib.Core.List.{List, [], _∷_, _++_}
 use mathlib.Core.Option.{Option, none}
 use lib.ListN.{length, take}
 use lib.Dec.{eqb}
-use Rattle.lists.specs.Lists.{has, flat}
+use Rattle.lists.specs.Lists.{elem, flatten}
 use Rattle.plain_table.specs.Plain.{Plain}
-use Rattle.table.specs.Promises.{Stores, stores}
-use Rattle.levels_spec.specs.Said.{lineTurn}
+use Rattle.table.specs.Contracts.{Stores, stores}
+use Rattle.levels_spec.specs.Response.{lineResult}
 use Rattle.levels_spec.specs.Answers.{Held}
 use Rattle.levels_spec.specs.Session.{programLengths}
 use Rattle.levels_io.specs.declared.input.Input.{Input}
-use Rattle.levels_io.specs.Input.{bytesRead, unread, InputIn, AtEnd, Begun}
-use Rattle.levels_io.specs.declared.output.Handed.{Handed}
+use Rattle.levels_io.specs.Input.{bytesRead, unread, InputIn, AtEnd, LineSoFar}
+use Rattle.levels_io.specs.declared.output.WriteResult.{WriteResult}
 use Rattle.levels.specs.declared.State.{State}
 
 -- The state of the program between two steps: its table; the bytes of a line whose newline is not found yet; the bytes after them
@@ -33,26 +33,26 @@ program table begun unread buffered = record { table = table; begun = begun; unr
 -- The program after a line is answered: `unread` bytes remain, and the answer follows the bytes that remain buffered.
 abbrev pub answered : Program → List ℕ → List ℕ → List ℕ → Program
 answered p line unread buffered =
-    program (lineTurn programLengths (p .table) line .table) [] unread (buffered ++ lineTurn programLengths (p .table) line .text)
+    program (lineResult programLengths (p .table) line .table) [] unread (buffered ++ lineResult programLengths (p .table) line .text)
 
 -- One step: the bytes that it passes to `write`, the bytes of each of its reads (one or none), and whether the input is over.
-pub data Turn : Program → List ℕ → List (List ℕ) → Program → Bool → Type 0 where
+pub data Step : Program → List ℕ → List (List ℕ) → Program → Bool → Type 0 where
   -- The line ends (10) among the unread bytes, and is answered. Buffered bytes are written first if the answer has no room.
-  line-turn : {p : Program} (bytes rest handed buffered : List ℕ) → p .unread ≡ bytes ++ (10 ∷ rest) → has 10 (p .begun ++ bytes) ≡ false
-      → p .buffered ≡ handed ++ buffered → Turn p handed [] (answered p (p .begun ++ bytes) rest buffered) false
+  line-step : {p : Program} (bytes rest handed buffered : List ℕ) → p .unread ≡ bytes ++ (10 ∷ rest) → elem 10 (p .begun ++ bytes) ≡ false
+      → p .buffered ≡ handed ++ buffered → Step p handed [] (answered p (p .begun ++ bytes) rest buffered) false
   -- The line does not end: all buffered bytes are written, then one read is made.
-  read-turn : {p : Program} (brought : List ℕ) → has 10 (p .begun ++ p .unread) ≡ false
-      → Turn p (p .buffered) (brought ∷ []) (program (p .table) (p .begun ++ p .unread) brought []) false
+  read-step : {p : Program} (newBytes : List ℕ) → elem 10 (p .begun ++ p .unread) ≡ false
+      → Step p (p .buffered) (newBytes ∷ []) (program (p .table) (p .begun ++ p .unread) newBytes []) false
   -- The line does not end, and the input is over: the bytes so far are the last line, if there are any.
-  last-turn : {p : Program} (handed buffered : List ℕ) → has 10 (p .begun ++ p .unread) ≡ false → 0 < length (p .begun ++ p .unread)
-      → p .buffered ≡ handed ++ buffered → Turn p handed [] (answered p (p .begun ++ p .unread) [] buffered) true
-  over-turn : {p : Program} → p .begun ≡ [] → p .unread ≡ [] → Turn p [] [] p true
+  last-step : {p : Program} (handed buffered : List ℕ) → elem 10 (p .begun ++ p .unread) ≡ false → 0 < length (p .begun ++ p .unread)
+      → p .buffered ≡ handed ++ buffered → Step p handed [] (answered p (p .begun ++ p .unread) [] buffered) true
+  over-step : {p : Program} → p .begun ≡ [] → p .unread ≡ [] → Step p [] [] p true
 
 -- a sequence of steps, none of which ends the input
-pub data Turns (p : Program) : List ℕ → List (List ℕ) → Program → Type 0 where
-  begin : Turns p [] [] p
-  then : {handed bytes : List ℕ} {reads read : List (List ℕ)} {q r : Program} → Turns p handed reads q → Turn q bytes read r false
-      → Turns p (handed ++ bytes) (reads ++ read) r
+pub data Steps (p : Program) : List ℕ → List (List ℕ) → Program → Type 0 where
+  begin : Steps p [] [] p
+  then : {handed bytes : List ℕ} {reads read : List (List ℕ)} {q r : Program} → Steps p handed reads q → Step q bytes read r false
+      → Steps p (handed ++ bytes) (reads ++ read) r
 
 -- ---- the code's state and stores
 
@@ -69,7 +69,7 @@ pub record Machine : Type 0 where
 
 pub record Holds (p : Program) (m : Machine) : Type 0 where
   pub table-held : Held (p .table) (m .stores)
-  pub line-begun : Begun (p .begun) (m .line) (m .length)
+  pub line-begun : LineSoFar (p .begun) (m .line) (m .length)
   pub bytes-unread : p .unread ≡ unread (m .chunk) (m .input)
   pub bytes-buffered : p .buffered ≡ take (m .used) (m .text)
 
@@ -93,55 +93,55 @@ pub record Within (m : Machine) : Type 0 where
   pub text-in : m .used ≤ length (m .text)
 
 -- the bytes that were passed to `write`, and those that were read, if a read was made
-abbrev pub bytesHanded : Handed → Machine → List ℕ
-bytesHanded handed m = take (handed .count) (m .text)
+abbrev pub bytesWritten : WriteResult → Machine → List ℕ
+bytesWritten handed m = take (handed .count) (m .text)
 
-abbrev pub brought : Input → Machine → List (List ℕ)
-brought before m =
+abbrev pub newBytes : Input → Machine → List (List ℕ)
+newBytes before m =
     cond (eqb (m .input .reads) (before .reads)) [] (take (bytesRead (m .input .got)) (m .chunk) ∷ [])
 
 -- One step of the code, for every program that the machine represents.
-pub record TurnMade (p : Program) (m : Machine) (handed : Handed) (m′ : Machine) (over : Bool) : Type 0 where
+pub record StepMade (p : Program) (m : Machine) (handed : WriteResult) (m′ : Machine) (over : Bool) : Type 0 where
   pub after : Program
-  pub turn : Turn p (bytesHanded handed m) (brought (m .input) m′) after over
+  pub step : Step p (bytesWritten handed m) (newBytes (m .input) m′) after over
   pub holds : Holds after m′
 
-pub record Turned (m : Machine) (handed : Handed) (m′ : Machine) (over : Bool) : Type 0 where
+pub record Stepped (m : Machine) (handed : WriteResult) (m′ : Machine) (over : Bool) : Type 0 where
   pub within : Within m′
-  pub reads-left : length (brought (m .input) m′) + m′ .input .reads ≡ m .input .reads
+  pub reads-left : length (newBytes (m .input) m′) + m′ .input .reads ≡ m .input .reads
   -- no read is made after the end of the input
   pub none-past-end : AtEnd (m .input) → m′ .input .reads ≡ m .input .reads
-  pub made : handed .«is_written» ≡ true → (p : Program) → Holds p m → TurnMade p m handed m′ over
+  pub made : handed .«is_written» ≡ true → (p : Program) → Holds p m → StepMade p m handed m′ over
   pub at-end : handed .«is_written» ≡ true → over ≡ true → AtEnd (m′ .input)
   -- A write of all buffered bytes failed: this is the last step, and it makes no read.
   pub failed : handed .«is_written» ≡ false → (over ≡ true) × (handed .count ≡ m .used) × (m′ .input .reads ≡ m .input .reads) × (m′ .text ≡ m .text)
 
 -- The only two ways a run ends, with the bytes that are written last: the input is over, and all buffered bytes are written; or a
 -- write of them failed.
-pub data Ending (m : Machine) (handed : Handed) : Program → List ℕ → Type 0 where
-  input-over : {p q : Program} {bytes : List ℕ} → Turn p bytes [] q true → Holds q m → AtEnd (m .input) → handed .count ≡ m .used
-      → Ending m handed p (bytes ++ bytesHanded handed m)
-  write-failed : {p : Program} → handed .«is_written» ≡ false → bytesHanded handed m ≡ p .buffered → Ending m handed p (bytesHanded handed m)
+pub data Ending (m : Machine) (handed : WriteResult) : Program → List ℕ → Type 0 where
+  input-over : {p q : Program} {bytes : List ℕ} → Step p bytes [] q true → Holds q m → AtEnd (m .input) → handed .count ≡ m .used
+      → Ending m handed p (bytes ++ bytesWritten handed m)
+  write-failed : {p : Program} → handed .«is_written» ≡ false → bytesWritten handed m ≡ p .buffered → Ending m handed p (bytesWritten handed m)
 
 -- A run that starts without a table: the bytes of the first read and of each later one, and all bytes written before the last ones.
-pub record Ran (m : Machine) (handed : Handed) : Type 0 where
+pub record Ran (m : Machine) (handed : WriteResult) : Type 0 where
   pub first : List ℕ
   pub reads : List (List ℕ)
   pub bytes : List ℕ
   pub end : Program
-  pub turns : Turns (program none [] first []) bytes reads end
+  pub steps : Steps (program none [] first []) bytes reads end
   pub last : List ℕ
   pub ending : Ending m handed end last
   pub reads-made : suc (length reads) + m .input .reads ≡ 18446744073709551615
 
 -- all bytes that were read, and all bytes that were passed to `write`
-abbrev pub input : {m : Machine} {handed : Handed} → Ran m handed → List ℕ
-input r = r .first ++ flat (r .reads)
+abbrev pub input : {m : Machine} {handed : WriteResult} → Ran m handed → List ℕ
+input r = r .first ++ flatten (r .reads)
 
-abbrev pub output : {m : Machine} {handed : Handed} → Ran m handed → List ℕ
+abbrev pub output : {m : Machine} {handed : WriteResult} → Ran m handed → List ℕ
 output r = r .bytes ++ r .last
 
 -- a list is a prefix of another
-pub record Begins (bytes all : List ℕ) : Type 0 where
+pub record IsPrefix (bytes all : List ℕ) : Type 0 where
   pub rest : List ℕ
   pub whole : bytes ++ rest ≡ all

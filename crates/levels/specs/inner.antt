@@ -1,4 +1,4 @@
 -- Contracts of functions that no user calls.
 pub mod Advancing
-pub mod Turning
+pub mod Stepping
 pub mod Running

@@ -6,17 +6,17 @@ ghost use Prim.Native.Nat.{_≤_, _<_};
 ghost use lib.ListN.{length as len};
 ghost use Rattle.table.specs.Refusing.{outside};
 ghost use Rattle.levels_io.specs.Input.{InputIn};
-ghost use Rattle.levels.specs.Run.{Within, machine, Turned, Ran};
+ghost use Rattle.levels.specs.Run.{Within, machine, Stepped, Ran};
 ghost use Rattle.levels.specs.inner.Advancing.{ReadOn, Ready, Advanced};
-ghost use Rattle.levels.specs.inner.Turning.{Shorter};
+ghost use Rattle.levels.specs.inner.Stepping.{Shorter};
 ghost use Rattle.levels.specs.inner.Running.{Finished};
-use levels_answer::answer_behind;
+use levels_answer::append_answer;
 use levels_io::input::Input;
 use levels_io::input::first_read;
 use levels_io::input::is_at_end;
 use levels_io::input::refill;
 use levels_io::input::take_line;
-use levels_io::output::Handed;
+use levels_io::output::WriteResult;
 use levels_io::output::count;
 use levels_io::output::flush;
 use levels_io::output::is_written;
@@ -27,7 +27,7 @@ use table::Header;
 use table::Largest;
 
 // Bytes of a line that are stored: one more than a line may have, so that a longer line is detected.
-const KEPT: usize = 121;
+const LINE_BYTES: usize = 121;
 
 // Upper bound of the bytes that one line prints: a listing's head of six numbers, then 1,024 rows of nine.
 const MOST_TEXT: usize = 103492;
@@ -56,16 +56,16 @@ fn no_table() -> Header
 
 // Result of `advance`: how many bytes of the line are stored, whether the line is complete and must be answered, what was passed to
 // `write`, and whether this is the last step of the loop.
-struct Step {
+struct LineProgress {
     input: Input,
     length: usize,
-    handed: Handed,
+    handed: WriteResult,
     is_line: bool,
     is_over: bool,
 }
 
 // Writes all buffered bytes, then reads. Reads nothing if the write fails.
-fn read_on(chunk: &mut [u8], text: &[u8], rest: Input, length: usize, used: usize) -> Step
+fn read_on(chunk: &mut [u8], text: &[u8], rest: Input, length: usize, used: usize) -> LineProgress
     requires { ⌜ used ≤ len (now text) ⌝ }
     requires { ⌜ rest .end ≤ rest .next ⌝ }
     requires { ⌜ 0 < rest .reads ⌝ }
@@ -74,7 +74,7 @@ fn read_on(chunk: &mut [u8], text: &[u8], rest: Input, length: usize, used: usiz
     let handed = flush(text, used);
     if is_written(handed) {
         let input = refill(chunk, rest);
-        return Step {
+        return LineProgress {
             input: input,
             length: length,
             handed: handed,
@@ -82,7 +82,7 @@ fn read_on(chunk: &mut [u8], text: &[u8], rest: Input, length: usize, used: usiz
             is_over: false,
         };
     }
-    Step {
+    LineProgress {
         input: rest,
         length: length,
         handed: handed,
@@ -92,13 +92,13 @@ fn read_on(chunk: &mut [u8], text: &[u8], rest: Input, length: usize, used: usiz
 }
 
 // Makes room in the buffer for the answer of a line.
-fn ready(text: &[u8], rest: Input, length: usize, used: usize, is_last: bool) -> Step
+fn ready(text: &[u8], rest: Input, length: usize, used: usize, is_last: bool) -> LineProgress
     requires { ⌜ used ≤ len (now text) ⌝ }
     ensures { λ r. ⌜ Ready (len (now (text .entry))) rest length used «is_last» r ⌝ }
 {
     let handed = make_room(text, used, MOST_TEXT);
     if is_written(handed) {
-        return Step {
+        return LineProgress {
             input: rest,
             length: length,
             handed: handed,
@@ -106,7 +106,7 @@ fn ready(text: &[u8], rest: Input, length: usize, used: usize, is_last: bool) ->
             is_over: is_last,
         };
     }
-    Step {
+    LineProgress {
         input: rest,
         length: length,
         handed: handed,
@@ -123,7 +123,7 @@ fn advance(
     input: Input,
     length: usize,
     used: usize,
-) -> Step
+) -> LineProgress
     requires { ⌜ InputIn (now chunk) input ⌝ }
     requires { ⌜ length ≤ len (now line) ⌝ }
     requires { ⌜ used ≤ len (now text) ⌝ }
@@ -141,7 +141,7 @@ fn advance(
     if kept > 0 {
         return ready(text, rest, kept, used, true);
     }
-    Step {
+    LineProgress {
         input: rest,
         length: 0,
         handed: nothing(),
@@ -159,48 +159,48 @@ struct State {
 }
 
 // The state after a step, what the step passed to `write`, and whether it is the last step.
-struct TurnDone {
+struct StepDone {
     state: State,
-    handed: Handed,
+    handed: WriteResult,
     is_over: bool,
 }
 
 // One step of the loop: answers the line if it is complete, otherwise reads.
-fn turn(
+fn step(
     state: State,
-    line: &mut [u8; KEPT],
+    line: &mut [u8; LINE_BYTES],
     chunk: &mut [u8; 4096],
     rows: &mut [u32; 8192],
     keys: &mut [u32; 2048],
     sorts: &mut [u32; 2048],
     pending: &mut [u32; 2048],
     text: &mut [u8; BUFFER],
-) -> TurnDone
+) -> StepDone
     requires { ⌜ Within (machine state (now line) (now chunk) (now rows) (now keys) (now sorts) (now pending) (now text)) ⌝ }
-    ensures { λ r. ⌜ Turned (machine state (now (line .entry)) (now (chunk .entry)) (now (rows .entry)) (now (keys .entry)) (now (sorts .entry)) (now (pending .entry)) (now (text .entry))) (r .handed) (machine (r .state) (now (line .exit)) (now (chunk .exit)) (now (rows .exit)) (now (keys .exit)) (now (sorts .exit)) (now (pending .exit)) (now (text .exit))) (r .«is_over») ⌝ }
+    ensures { λ r. ⌜ Stepped (machine state (now (line .entry)) (now (chunk .entry)) (now (rows .entry)) (now (keys .entry)) (now (sorts .entry)) (now (pending .entry)) (now (text .entry))) (r .handed) (machine (r .state) (now (line .exit)) (now (chunk .exit)) (now (rows .exit)) (now (keys .exit)) (now (sorts .exit)) (now (pending .exit)) (now (text .exit))) (r .«is_over») ⌝ }
     ensures { λ r. ⌜ Shorter (state .input) (r .state .input) (r .«is_over») ⌝ }
 {
     let header = state.header;
     let from = state.input;
-    let step = advance(line, chunk, text, from, state.length, state.used);
-    let input = step.input;
-    let handed = step.handed;
+    let progress = advance(line, chunk, text, from, state.length, state.used);
+    let input = progress.input;
+    let handed = progress.handed;
     let left = state.used - count(handed);
-    let length = step.length;
-    if !step.is_line {
+    let length = progress.length;
+    if !progress.is_line {
         let next = State {
             header: header,
             input: input,
             length: length,
             used: left,
         };
-        return TurnDone {
+        return StepDone {
             state: next,
             handed: handed,
-            is_over: step.is_over,
+            is_over: progress.is_over,
         };
     }
-    let answered = answer_behind(header, line, length, rows, keys, sorts, pending, text, left);
+    let answered = append_answer(header, line, length, rows, keys, sorts, pending, text, left);
     let after = answered.header;
     let next = State {
         header: after,
@@ -208,21 +208,21 @@ fn turn(
         length: 0,
         used: answered.used,
     };
-    TurnDone {
+    StepDone {
         state: next,
         handed: handed,
-        is_over: step.is_over,
+        is_over: progress.is_over,
     }
 }
 
 // The state at the end of a run, and what was last passed to `write`.
 struct Ended {
     state: State,
-    handed: Handed,
+    handed: WriteResult,
 }
 
 // Writes the bytes that are still buffered, unless a write has failed.
-fn finish(state: State, handed: Handed, text: &[u8]) -> Ended
+fn finish(state: State, handed: WriteResult, text: &[u8]) -> Ended
     requires { ⌜ state .used ≤ len (now text) ⌝ }
     ensures { λ r. ⌜ Finished state handed r ⌝ }
 {
@@ -239,9 +239,9 @@ fn finish(state: State, handed: Handed, text: &[u8]) -> Ended
     }
 }
 
-// Repeats `turn` until the input is over or a write fails. Writes the remaining buffered bytes when the input is over.
+// Repeats `step` until the input is over or a write fails. Writes the remaining buffered bytes when the input is over.
 fn run(
-    line: &mut [u8; KEPT],
+    line: &mut [u8; LINE_BYTES],
     chunk: &mut [u8; 4096],
     rows: &mut [u32; 8192],
     keys: &mut [u32; 2048],
@@ -258,7 +258,7 @@ fn run(
         used: 0,
     };
     loop {
-        let made = turn(state, line, chunk, rows, keys, sorts, pending, text);
+        let made = step(state, line, chunk, rows, keys, sorts, pending, text);
         state = made.state;
         if made.is_over {
             let handed = made.handed;
@@ -268,7 +268,7 @@ fn run(
 }
 
 fn main() {
-    let mut line = [0u8; KEPT];
+    let mut line = [0u8; LINE_BYTES];
     let mut chunk = [0u8; 4096];
     let mut rows = [0u32; 8192];
     let mut keys = [0u32; 2048];

@@ -3,10 +3,10 @@ ghost use mathlib.Core.Path.{_≡_};
 ghost use mathlib.Core.Bool.{true};
 ghost use mathlib.Core.Logic.{_⊎_};
 ghost use lib.ListN.{length};
-ghost use Rattle.table.specs.Promises.{stores};
+ghost use Rattle.table.specs.Contracts.{stores};
 ghost use Rattle.levels_text.specs.Lines.{isForm};
-ghost use Rattle.levels_spec.specs.inner.Saying.{Serving};
-use super::queries::ask;
+ghost use Rattle.levels_spec.specs.inner.Responses.{Serving};
+use super::queries::query;
 use levels_calls::clear;
 use levels_calls::compact;
 use levels_calls::merge_pending;
@@ -27,7 +27,7 @@ fn remake(
 ) -> Served
     requires { ⌜ isForm letter (length (now numbers)) ≡ true ⌝ }
     requires { ⌜ (letter ≡ 67) ⊎ ((letter ≡ 71) ⊎ (letter ≡ 79)) ⌝ }
-    ensures { λ r. ⌜ Serving letter (now (numbers .entry)) (stores h (now (rows .entry)) (now (keys .entry)) (now (sorts .entry)) (now (pending .entry))) (stores (r .header) (now (rows .exit)) (now (keys .exit)) (now (sorts .exit)) (now (pending .entry))) (r .said) ⌝ }
+    ensures { λ r. ⌜ Serving letter (now (numbers .entry)) (stores h (now (rows .entry)) (now (keys .entry)) (now (sorts .entry)) (now (pending .entry))) (stores (r .header) (now (rows .exit)) (now (keys .exit)) (now (sorts .exit)) (now (pending .entry))) (r .response) ⌝ }
 {
     if letter == b'O' {
         return open_table(h, numbers, rows, keys, sorts, pending);
@@ -49,7 +49,7 @@ pub fn serve(
     pending: &mut [u32],
 ) -> Served
     requires { ⌜ isForm letter (length (now numbers)) ≡ true ⌝ }
-    ensures { λ r. ⌜ Serving letter (now (numbers .entry)) (stores h (now (rows .entry)) (now (keys .entry)) (now (sorts .entry)) (now (pending .entry))) (stores (r .header) (now (rows .exit)) (now (keys .exit)) (now (sorts .exit)) (now (pending .exit))) (r .said) ⌝ }
+    ensures { λ r. ⌜ Serving letter (now (numbers .entry)) (stores h (now (rows .entry)) (now (keys .entry)) (now (sorts .entry)) (now (pending .entry))) (stores (r .header) (now (rows .exit)) (now (keys .exit)) (now (sorts .exit)) (now (pending .exit))) (r .response) ⌝ }
 {
     match letter {
         b'I' | b'R' | b'K' => stage(h, letter, numbers, pending),
@@ -57,7 +57,7 @@ pub fn serve(
         b'O' | b'C' | b'G' => remake(h, letter, numbers, rows, keys, sorts, pending),
         _ => Served {
             header: h,
-            said: ask(h, letter, numbers, sorts),
+            response: query(h, letter, numbers, sorts),
         },
     }
 }

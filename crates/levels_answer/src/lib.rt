@@ -1,12 +1,12 @@
 // Answers a line of `levels`, given as bytes: parses it, runs it, and writes its response to the start of a lent text.
 ghost use Prim.Native.Nat.{_+_, _≤_};
 ghost use lib.ListN.{length, take};
-ghost use Rattle.table.specs.Promises.{stores};
+ghost use Rattle.table.specs.Contracts.{stores};
 ghost use Rattle.levels_spec.specs.Answers.{Answering};
-ghost use Rattle.levels_answer.specs.inner.Reading.{Responding, AnsweringBehind};
+ghost use Rattle.levels_answer.specs.inner.Reading.{Responding, AnswerAppended};
 use dispatch::serve;
-use encode::tell;
-use levels_spec::Said;
+use encode::encode_response;
+use levels_spec::Response;
 use levels_spec::Served;
 use levels_text::MOST_NUMBERS;
 use levels_text::Parsed;
@@ -25,13 +25,13 @@ fn respond(
     sorts: &mut [u32],
     pending: &mut [u32],
 ) -> Served
-    ensures { λ r. ⌜ Responding (now (line .entry)) (stores h (now (rows .entry)) (now (keys .entry)) (now (sorts .entry)) (now (pending .entry))) (stores (r .header) (now (rows .exit)) (now (keys .exit)) (now (sorts .exit)) (now (pending .exit))) (r .said) ⌝ }
+    ensures { λ r. ⌜ Responding (now (line .entry)) (stores h (now (rows .entry)) (now (keys .entry)) (now (sorts .entry)) (now (pending .entry))) (stores (r .header) (now (rows .exit)) (now (keys .exit)) (now (sorts .exit)) (now (pending .exit))) (r .response) ⌝ }
 {
     let mut numbers = [0u32; MOST_NUMBERS];
     match levels_text::parse(line, &mut numbers) {
         Parsed::Wrong => Served {
             header: h,
-            said: Said::Refused(11),
+            response: Response::Refused(11),
         },
         Parsed::Line(letter, count) => serve(
             h,
@@ -67,15 +67,15 @@ pub fn answer(
 {
     let served = respond(h, line, rows, keys, sorts, pending);
     let header = served.header;
-    let said = served.said;
+    let response = served.response;
     LineAnswer {
         header: header,
-        used: tell(header, said, rows, text),
+        used: encode_response(header, response, rows, text),
     }
 }
 
 // Answers the line in the first `count` bytes. Writes the answer after the first `from` bytes of the text, which do not change.
-pub fn answer_behind(
+pub fn append_answer(
     h: Header,
     line: &[u8],
     count: usize,
@@ -89,7 +89,7 @@ pub fn answer_behind(
     requires { ⌜ count ≤ length (now line) ⌝ }
     requires { ⌜ length (now keys) ≤ 2048 ⌝ }
     requires { ⌜ from + 103492 ≤ length (now text) ⌝ }
-    ensures { λ r. ⌜ AnsweringBehind (take count (now (line .entry))) (stores h (now (rows .entry)) (now (keys .entry)) (now (sorts .entry)) (now (pending .entry))) (stores (r .header) (now (rows .exit)) (now (keys .exit)) (now (sorts .exit)) (now (pending .exit))) (now (text .entry)) from (now (text .exit)) (r .used) ⌝ }
+    ensures { λ r. ⌜ AnswerAppended (take count (now (line .entry))) (stores h (now (rows .entry)) (now (keys .entry)) (now (sorts .entry)) (now (pending .entry))) (stores (r .header) (now (rows .exit)) (now (keys .exit)) (now (sorts .exit)) (now (pending .exit))) (now (text .entry)) from (now (text .exit)) (r .used) ⌝ }
 {
     let answered = answer(
         h,

@@ -5,11 +5,11 @@ ghost use mathlib.Core.Bool.{cond};
 ghost use mathlib.Core.Logic.{_⊎_};
 ghost use Prim.Native.Nat.{_≤_};
 ghost use lib.ListN.{length};
-ghost use Rattle.table.specs.Numbers.{tableSays, mergeSays};
-ghost use Rattle.table.specs.Promises.{headerAfter, headerMerged, stores};
-ghost use Rattle.levels_spec.specs.inner.Saying.{saidOf, saysNothing, saysMerge, Taken, Serving};
+ghost use Rattle.table.specs.Numbers.{tableView, mergeView};
+ghost use Rattle.table.specs.Contracts.{headerAfter, headerMerged, stores};
+ghost use Rattle.levels_spec.specs.inner.Responses.{responseOf, nothingResponse, mergeResponse, ServedWith, Serving};
 ghost use Rattle.levels_calls.specs.inner.Calling.{OnPending, OnKeys, OnBody, OnAll};
-use levels_spec::Said;
+use levels_spec::Response;
 use levels_spec::Served;
 use table::Header;
 use table::MergeAnswer;
@@ -23,16 +23,16 @@ const WORDS: usize = 16;
 
 // The header and the response after an opening, a staging, a compaction or a clear.
 fn taken(h: Header, answer: TableAnswer) -> Served
-    ensures { λ r. ⌜ Taken (headerAfter h (tableSays answer)) (saidOf saysNothing (tableSays answer)) r ⌝ }
+    ensures { λ r. ⌜ ServedWith (headerAfter h (tableView answer)) (responseOf nothingResponse (tableView answer)) r ⌝ }
 {
     match answer {
         TableAnswer::Refused(number) => Served {
             header: h,
-            said: Said::Refused(number),
+            response: Response::Refused(number),
         },
         TableAnswer::Table(after) => Served {
             header: after,
-            said: Said::Nothing,
+            response: Response::Nothing,
         },
     }
 }
@@ -73,13 +73,13 @@ pub fn open_table(
     pending: &[u32],
 ) -> Served
     requires { ⌜ length (now numbers) ≡ 6 ⌝ }
-    ensures { λ r. ⌜ Serving 79 (now (numbers .entry)) (stores h (now (rows .entry)) (now (keys .entry)) (now (sorts .entry)) (now (pending .entry))) (stores (r .header) (now (rows .entry)) (now (keys .exit)) (now (sorts .entry)) (now (pending .entry))) (r .said) ⌝ }
+    ensures { λ r. ⌜ Serving 79 (now (numbers .entry)) (stores h (now (rows .entry)) (now (keys .entry)) (now (sorts .entry)) (now (pending .entry))) (stores (r .header) (now (rows .entry)) (now (keys .exit)) (now (sorts .entry)) (now (pending .entry))) (r .response) ⌝ }
 {
     let capacity = numbers[4];
     if MOST_ROWS < capacity {
         return Served {
             header: h,
-            said: Said::Refused(11),
+            response: Response::Refused(11),
         };
     }
     let opened = table_open::open_table(
@@ -122,19 +122,19 @@ fn digit_of(yes: bool) -> u32
 }
 
 // The header and the response after a merge.
-fn merge_taken(h: Header, answer: MergeAnswer) -> Served
-    ensures { λ r. ⌜ Taken (headerMerged h (mergeSays answer)) (saidOf saysMerge (mergeSays answer)) r ⌝ }
+fn respond_merge(h: Header, answer: MergeAnswer) -> Served
+    ensures { λ r. ⌜ ServedWith (headerMerged h (mergeView answer)) (responseOf mergeResponse (mergeView answer)) r ⌝ }
 {
     match answer {
         MergeAnswer::Refused(number) => Served {
             header: h,
-            said: Said::Refused(number),
+            response: Response::Refused(number),
         },
         MergeAnswer::Merged(m) => {
             let header = m.header;
             Served {
                 header: header,
-                said: Said::Merged(m.status, digit_of(m.added), m.place),
+                response: Response::Merged(m.status, digit_of(m.added), m.place),
             }
         }
     }
@@ -153,5 +153,5 @@ pub fn merge_pending(
     let mut live = [0u64; WORDS];
     let mut base = [0u32; WORDS];
     let merged = merge::merge(h, rows, keys, sorts, pending, &mut live, &mut base);
-    merge_taken(h, merged)
+    respond_merge(h, merged)
 }

@@ -8,7 +8,7 @@ use mathlib.Core.Bool.{false}
 use mathlib.Core.List.{List}
 use lib.IntN.{ℤ, pos, negsuc}
 use lib.ListN.{length, take, drop}
-use Rattle.lists.specs.Lists.{has}
+use Rattle.lists.specs.Lists.{elem}
 use Rattle.levels_io.specs.declared.input.Input.{Input}
 
 -- the return value of `read` as a number of bytes; a read that fails (-1) returns no byte
@@ -31,7 +31,7 @@ abbrev pub AtEnd : Input → Type 0
 AtEnd input = (bytesRead (input .got) ≡ 0) ⊎ (input .reads ≡ 0)
 
 -- the bytes so far of a line that has not ended (10); the store has as many of them as fit
-pub record Begun (bytes line : List ℕ) (count : ℕ) : Type 0 where
-  pub no-newline : has 10 bytes ≡ false
+pub record LineSoFar (bytes line : List ℕ) (count : ℕ) : Type 0 where
+  pub no-newline : elem 10 bytes ≡ false
   pub counted : count ≡ min (length line) (length bytes)
   pub kept : take count line ≡ take (length line) bytes

@@ -4,14 +4,14 @@ ghost use mathlib.Core.Path.{_≡_};
 ghost use mathlib.Core.List.{[], _∷_};
 ghost use lib.ListN.{length as len, take, drop};
 ghost use Rattle.levels_io.specs.Input.{bytesRead, unread, InputIn};
-ghost use Rattle.levels_io.specs.inner.Scanning.{Kept, Scanned};
+ghost use Rattle.levels_io.specs.inner.Scanning.{Pushed, Scanned};
 ghost use Rattle.levels_io.specs.inner.Taking.{Refilled, EndTested, LineTaken};
 use libc::STDIN_FILENO;
 
 // Stores one more byte of the line, if there is room. Returns the new length.
-fn keep(line: &mut [u8], length: usize, byte: u8) -> usize
+fn push(line: &mut [u8], length: usize, byte: u8) -> usize
     requires { ⌜ length ≤ len (now line) ⌝ }
-    ensures { λ r. ⌜ Kept (now (line .entry)) length (byte ∷ []) (now (line .exit)) r ⌝ }
+    ensures { λ r. ⌜ Pushed (now (line .entry)) length (byte ∷ []) (now (line .exit)) r ⌝ }
 {
     if length == line.len() {
         return length;
@@ -21,14 +21,14 @@ fn keep(line: &mut [u8], length: usize, byte: u8) -> usize
 }
 
 // Result of `scan_chunk`: how many bytes of the line are stored, the offset after the bytes taken, and whether the line ended.
-struct Scan {
+struct ChunkScan {
     length: usize,
     next: usize,
     is_whole: bool,
 }
 
 // Takes bytes of the chunk, up to the end of the line or of the bytes in the chunk.
-fn scan_chunk(line: &mut [u8], length: usize, chunk: &[u8], from: usize, end: usize) -> Scan
+fn scan_chunk(line: &mut [u8], length: usize, chunk: &[u8], from: usize, end: usize) -> ChunkScan
     requires { ⌜ length ≤ len (now line) ⌝ }
     requires { ⌜ from ≤ end ⌝ }
     requires { ⌜ end ≤ len (now chunk) ⌝ }
@@ -40,15 +40,15 @@ fn scan_chunk(line: &mut [u8], length: usize, chunk: &[u8], from: usize, end: us
         let byte = chunk[at];
         at += 1;
         if byte == b'\n' {
-            return Scan {
+            return ChunkScan {
                 length: kept,
                 next: at,
                 is_whole: true,
             };
         }
-        kept = keep(line, kept, byte);
+        kept = push(line, kept, byte);
     }
-    Scan {
+    ChunkScan {
         length: kept,
         next: at,
         is_whole: false,
@@ -101,14 +101,14 @@ pub fn is_at_end(input: Input) -> bool
 }
 
 // Result of `take_line`: the input after it, how many bytes of the line are stored, and whether its newline was found.
-pub struct Taken {
+pub struct TakenLine {
     pub input: Input,
     pub length: usize,
     pub is_whole: bool,
 }
 
 // Takes unread bytes up to the newline, or all of them. Appends them to the first `length` bytes of the line, as far as they fit.
-pub fn take_line(line: &mut [u8], length: usize, chunk: &[u8], input: Input) -> Taken
+pub fn take_line(line: &mut [u8], length: usize, chunk: &[u8], input: Input) -> TakenLine
     requires { ⌜ length ≤ len (now line) ⌝ }
     requires { ⌜ InputIn (now chunk) input ⌝ }
     ensures { λ r. ⌜ LineTaken (now (line .entry)) length (now (chunk .entry)) input (now (line .exit)) r ⌝ }
@@ -118,7 +118,7 @@ pub fn take_line(line: &mut [u8], length: usize, chunk: &[u8], input: Input) -> 
     let found = scan_chunk(line, length, chunk, from, end);
     let mut rest = input;
     rest.next = found.next;
-    Taken {
+    TakenLine {
         input: rest,
         length: found.length,
         is_whole: found.is_whole,

@@ -9,8 +9,8 @@ use lib.ListN.{length, take}
 use Rattle.plain_table.specs.Plain.{Plain}
 use Rattle.plain_table.specs.Refusing.{Lengths}
 use Rattle.table.specs.Refusing.{outside}
-use Rattle.table.specs.Promises.{Stores, Represents}
-use Rattle.levels_spec.specs.Said.{Turn, lineTurn}
+use Rattle.table.specs.Contracts.{Stores, Represents}
+use Rattle.levels_spec.specs.Response.{LineResult, lineResult}
 
 -- The table that a header and stores hold. Before the first accepted O there is none, and check 1 refuses the header.
 pub data Held : Option Plain → Stores → Type 0 where
@@ -30,11 +30,11 @@ lent s =
     }
 
 -- the result of a line: its text is the first `used` bytes of the text, and the stores hold its table
-pub record TurnLeaves (turn : Turn) (s : Stores) (text : List ℕ) (used : ℕ) : Type 0 where
-  pub text-is : take used text ≡ turn .text
-  pub held : Held (turn .table) s
+pub record ResultStored (result : LineResult) (s : Stores) (text : List ℕ) (used : ℕ) : Type 0 where
+  pub text-is : take used text ≡ result .text
+  pub held : Held (result .table) s
 
--- A line is answered: for every table that the stores hold before, the text and the table after are those that `lineTurn` defines.
+-- A line is answered: for every table that the stores hold before, the text and the table after are those that `lineResult` defines.
 pub record Answering (line : List ℕ) (s s′ : Stores) (text : List ℕ) (used : ℕ) : Type 0 where
   pub inside : used ≤ length text
-  pub answers : (t : Option Plain) → Held t s → TurnLeaves (lineTurn (lent s) t line) s′ text used
+  pub answers : (t : Option Plain) → Held t s → ResultStored (lineResult (lent s) t line) s′ text used

@@ -1,10 +1,10 @@
 -- What follows from the definitions.
 pub mod Letters
-pub mod Kept
-pub mod Turns
+pub mod Truncated
+pub mod Results
 pub mod Opening
 pub mod Calls
-pub mod Questions
+pub mod Queries
 pub mod Determined
 pub mod Session
 pub mod Example

@@ -1,4 +1,4 @@
-pub mod Said
+pub mod Response
 pub mod Answers
 pub mod Session
 pub mod inner

@@ -1,7 +1,7 @@
 // The response to a line of `levels`, before it is encoded as text.
 use table::Header;
 
-pub enum Said {
+pub enum Response {
     Nothing,
     Refused(u32),
     // status, added as 0 or 1, place
@@ -18,5 +18,5 @@ pub enum Said {
 // The response, and the header after the line.
 pub struct Served {
     pub header: Header,
-    pub said: Said,
+    pub response: Response,
 }

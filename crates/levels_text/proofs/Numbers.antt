@@ -7,8 +7,8 @@ use native.Mathlib.Numerals.{add-one}
 use native.Mathlib.Omega.{arith}
 use lib.ListN.{length, take, drop, getD, set, length-set, length-take}
 use lib.Seq.{take-suc-set}
-use Rattle.lists.specs.Lists.{putAt, every}
-use Rattle.lists.specs.Laws.Parts.{putAt-nil}
+use Rattle.lists.specs.Lists.{splice, all}
+use Rattle.lists.specs.Laws.Parts.{splice-nil}
 use Rattle.lists.specs.Laws.Search.{put-more}
 use Rattle.levels_text.specs.Lines.{valueFrom, isDecimal, isLine, letter, numbers}
 use Rattle.levels_text.specs.declared.Field.{Field}
@@ -25,9 +25,9 @@ pub record Numbers (line lent stored : List ℕ) (at count : ℕ) : Type 0 where
   pub long : 59 ≤ length lent
   pub same : length stored ≡ length lent
   pub alone : length (first line) ≡ 1 + length (first (drop at line))
-  pub decimals : every isDecimal (others line) ≡ every isDecimal (others (drop at line))
+  pub decimals : all isDecimal (others line) ≡ all isDecimal (others (drop at line))
   pub worth : numbers line ≡ take count stored ++ map (valueFrom 0) (others (drop at line))
-  pub put : stored ≡ putAt lent 0 (take count stored)
+  pub put : stored ≡ splice lent 0 (take count stored)
 
 module _ (line lent : List ℕ) (short : length line ≤ 120) (long : 59 ≤ length lent) (some : 0 < length line) (ne : getD line 0 0 ≡ 44 → ⊥) where
   pub numbers-begin : Numbers line lent lent 1 0
@@ -39,9 +39,9 @@ module _ (line lent : List ℕ) (short : length line ≤ 120) (long : 59 ≤ len
     long = long;
     same = refl;
     alone = let e : length (first line) ≡ length (getD line 0 0 ∷ first (drop 1 line)) = ap length (first-at-more line 0 some ne) in omega arith;
-    decimals = ap (every isDecimal) (others-at-more line 0 some ne);
+    decimals = ap (all isDecimal) (others-at-more line 0 some ne);
     worth = ap (map (valueFrom 0)) (others-at-more line 0 some ne);
-    put = sym (putAt-nil lent 0);
+    put = sym (splice-nil lent 0);
   }
 
 module _ (line lent stored : List ℕ) (at count : ℕ) (s : Numbers line lent stored at count) where
@@ -56,23 +56,23 @@ module _ (line lent stored : List ℕ) (at count : ℕ) (s : Numbers line lent s
         wrong-line (no-letter line (λ e. omega (arith, s .alone, more)))
 
     module _ (comma : getD line at 0 ≡ 44) where
-      field-cons : every isDecimal (others (drop at line)) ≡ (isDecimal (fieldAt line (at + 1)) && every isDecimal (others (drop (at + 1) line)))
-      unfolding fieldAt first every
-      field-cons = ap (every isDecimal) (others-at-comma line at before comma)
+      field-cons : all isDecimal (others (drop at line)) ≡ (isDecimal (fieldAt line (at + 1)) && all isDecimal (others (drop (at + 1) line)))
+      unfolding fieldAt first all
+      field-cons = ap (all isDecimal) (others-at-comma line at before comma)
 
       pub wrong-number : (r : Field) → FieldIs line (at + 1) r → r ≡ NoField → LineIs line lent Wrong stored
       wrong-number r f e = wrong-line (no-decimal line (s .decimals ∙ field-cons ∙ rw (f .wrong e)))
 
-      module _ (r : Field) (f : FieldIs line (at + 1) r) (value next : ℕ) (told : r ≡ Decimal value next) where
+      module _ (r : Field) (f : FieldIs line (at + 1) r) (value next : ℕ) (result-is : r ≡ Decimal value next) where
         place : next ≡ at + 1 + length (first (drop (at + 1) line))
         unfolding fieldAt first
-        place = f .right value next told .2
+        place = f .right value next result-is .2
 
         -- the place moves on, and stays in the line
         pub next-place : (at + 2 ≤ next) × (next ≤ length line)
         unfolding fieldAt first
         next-place =
-            let some = decimal-some (fieldAt line (at + 1)) (f .right value next told .0) in
+            let some = decimal-some (fieldAt line (at + 1)) (f .right value next result-is .0) in
             let after : at + 1 ≤ length line = omega arith in
             let within = next-inside line (at + 1) after in
             (omega (arith, place, some), omega (arith, place, within))
@@ -87,7 +87,7 @@ module _ (line lent stored : List ℕ) (at count : ℕ) (s : Numbers line lent s
         unfolding fieldAt first
         worth-more =
             ap (map (valueFrom 0)) (others-at-comma line at before comma)
-            ∙ ap (λ (v : ℕ). v ∷ map (valueFrom 0) (others (drop (at + 1) line))) (sym (f .right value next told .1))
+            ∙ ap (λ (v : ℕ). v ∷ map (valueFrom 0) (others (drop (at + 1) line))) (sym (f .right value next result-is .1))
             ∙ ap (λ (l : List (List ℕ)). value ∷ map (valueFrom 0) l) (sym later)
 
         -- a line so short has no number too many
@@ -108,7 +108,7 @@ module _ (line lent stored : List ℕ) (at count : ℕ) (s : Numbers line lent s
           long = s .long;
           same = length-set stored count value ∙ s .same;
           alone = s .alone ∙ ap (λ (l : List ℕ). 1 + length l) (first-at-comma line at before comma ∙ sym behind);
-          decimals = s .decimals ∙ field-cons ∙ rw (f .right value next told .0) (ap (every isDecimal) (sym later));
+          decimals = s .decimals ∙ field-cons ∙ rw (f .right value next result-is .0) (ap (all isDecimal) (sym later));
           worth =
               s .worth
               ∙ ap (λ (l : List ℕ). take count stored ++ l) worth-more
@@ -117,7 +117,7 @@ module _ (line lent stored : List ℕ) (at count : ℕ) (s : Numbers line lent s
           put =
               ap (λ (l : List ℕ). set l count value) (s .put)
               ∙ put-more lent (take count stored) count value read-length (omega (arith, fits, s .same))
-              ∙ ap (putAt lent 0) (sym taken);
+              ∙ ap (splice lent 0) (sym taken);
         }
 
   module _ (ended : length line ≤ at) where
@@ -130,6 +130,6 @@ module _ (line lent stored : List ℕ) (at count : ℕ) (s : Numbers line lent s
     pub line-read : LineIs line lent (Line (letter line) count) stored
     line-read =
         let one : length (first line) ≡ 1 = let e = ap length (first-end line at ended) in omega (arith, s .alone, e) in
-        let decimals : every isDecimal (others line) ≡ true = s .decimals ∙ rw (others-end line at ended) (unfold every in refl) in
+        let decimals : all isDecimal (others line) ≡ true = s .decimals ∙ rw (others-end line at ended) (unfold all in refl) in
         read-right line lent (letter line) count stored (s .long) (is-line line (s .short) one decimals) refl (sym counted)
-        (s .put ∙ ap (putAt lent 0) (sym all-read))
+        (s .put ∙ ap (splice lent 0) (sym all-read))

@@ -5,7 +5,7 @@ use mathlib.Core.Bool.{Bool, cond, not, _&&_, _||_}
 use mathlib.Core.List.{List, [], _∷_, map}
 use lib.ListN.{length, getD, drop}
 use lib.Dec.{leb, ltb, eqb}
-use Rattle.lists.specs.Lists.{every}
+use Rattle.lists.specs.Lists.{all}
 
 -- "comma-parted fields": the bytes before, between and after the commas
 unfoldable pub fields : List ℕ → List (List ℕ)
@@ -24,7 +24,7 @@ valueFrom n (digit ∷ digits) = valueFrom (10 * n + (digit - 48)) digits
 -- "decimals up to 4294967295 without leading zeros"
 unfoldable pub isDecimal : List ℕ → Bool
 isDecimal field =
-    every (λ byte. leb 48 byte && leb byte 57) field
+    all (λ byte. leb 48 byte && leb byte 57) field
     && ltb 0 (length field)
     && (eqb (length field) 1 || not (eqb (getD field 0 0) 48))
     && leb (valueFrom 0 field) 4294967295
@@ -32,7 +32,7 @@ isDecimal field =
 -- a letter and decimals, "at most 120 characters"
 unfoldable pub isLine : List ℕ → Bool
 isLine bytes =
-    leb (length bytes) 120 && eqb (length (getD (fields bytes) 0 [])) 1 && every isDecimal (drop 1 (fields bytes))
+    leb (length bytes) 120 && eqb (length (getD (fields bytes) 0 [])) 1 && all isDecimal (drop 1 (fields bytes))
 
 -- the letter and the numbers of a line
 unfoldable pub letter : List ℕ → ℕ

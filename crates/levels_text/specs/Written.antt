@@ -4,7 +4,7 @@ use Prim.Native.Nat.{ℕ, zero, suc, _+_, _/_, _%_}
 use mathlib.Core.Bool.{cond}
 use mathlib.Core.List.{List, [], _∷_, _++_, map}
 use lib.Dec.{ltb}
-use Rattle.lists.specs.Lists.{flat}
+use Rattle.lists.specs.Lists.{flatten}
 
 -- the digits of a number, at most this many, "without leading zeros"
 unfoldable pub digitsIn : ℕ → ℕ → List ℕ
@@ -21,4 +21,4 @@ field n = 44 ∷ decimal n
 
 -- a letter, numbers, and the newline
 unfoldable pub textLine : ℕ → List ℕ → List ℕ
-textLine letter numbers = letter ∷ (flat (map field numbers) ++ (10 ∷ []))
+textLine letter numbers = letter ∷ (flatten (map field numbers) ++ (10 ∷ []))

@@ -3,7 +3,7 @@ ghost use mathlib.Core.Path.{_≡_};
 ghost use mathlib.Core.List.{[], _∷_, map};
 ghost use Prim.Native.Nat.{_+_, _*_, _≤_, _<_};
 ghost use lib.ListN.{length};
-ghost use Rattle.lists.specs.Lists.{flat};
+ghost use Rattle.lists.specs.Lists.{flatten};
 ghost use Rattle.levels_text.specs.Written.{field, textLine};
 ghost use Rattle.levels_text.specs.inner.Appending.{Appended, Wrote};
 
@@ -50,8 +50,8 @@ fn put_number(text: &mut [u8], used: usize, number: u32) -> usize
 }
 
 fn put_numbers(text: &mut [u8], used: usize, numbers: &[u32]) -> usize
-    requires { ⌜ used + length (flat (map field (now numbers))) ≤ length (now text) ⌝ }
-    ensures { λ r. ⌜ Appended (now (text .entry)) used (flat (map field (now (numbers .entry)))) (now (text .exit)) r ⌝ }
+    requires { ⌜ used + length (flatten (map field (now numbers))) ≤ length (now text) ⌝ }
+    ensures { λ r. ⌜ Appended (now (text .entry)) used (flatten (map field (now (numbers .entry)))) (now (text .exit)) r ⌝ }
 {
     let mut end = used;
     let mut i = 0;

@@ -8,10 +8,10 @@ use native.Mathlib.Decide.{decLt, ℕ-discrete}
 use native.Mathlib.Nat.{min-eq-left, min-eq-right}
 use native.Mathlib.Omega.{arith}
 use borrow.Author.Tests.{eq-eqb, ne-eqb}
-use Rattle.lists.specs.Lists.{above, rising, has}
-use Rattle.lists.specs.Laws.Rising.{above-has, above-rising, has-here, has-there, rising-ext}
+use Rattle.lists.specs.Lists.{above, rising, elem}
+use Rattle.lists.specs.Laws.Rising.{above-elem, above-rising, elem-here, elem-there, rising-ext}
 use Rattle.listing_check.specs.Answers.{wrongNumbers, lowest}
-use Rattle.listing_check.specs.inner.Walking.{firstApart}
+use Rattle.listing_check.specs.inner.Scanning.{firstApart}
 use Rattle.listing_check.specs.Laws.Numbers.{differ, Apart, apart-one, wrong-none, wrong-some}
 
 module _ (x y : ℕ) (xs ys : List ℕ) where
@@ -35,8 +35,8 @@ Meant l m (some n) = Apart l m n
 
 meant-one : (l m : List ℕ) (o p : Option ℕ) → Meant l m o → Meant l m p → o ≡ p
 meant-one l m none none a b = refl
-meant-one l m none (some n) a b = absurd (differ (has n m) (ap (has n) (sym a) ∙ b .differs))
-meant-one l m (some n) none a b = absurd (differ (has n m) (ap (has n) (sym b) ∙ a .differs))
+meant-one l m none (some n) a b = absurd (differ (elem n m) (ap (elem n) (sym a) ∙ b .differs))
+meant-one l m (some n) none a b = absurd (differ (elem n m) (ap (elem n) (sym b) ∙ a .differs))
 meant-one l m (some n) (some k) a b = ap some (apart-one a b)
 
 -- ---- by the lowest that is wrong
@@ -51,7 +51,7 @@ lowest-meant l m a b = go (lowest (wrongNumbers l m)) refl
 -- ---- by the first place where they part
 
 turned : {l m : List ℕ} {n : ℕ} → Apart l m n → Apart m l n
-turned {l} {m} {n} p = record { differs = not-turned (has n l) (has n m) (p .differs); alike = λ k h. sym (p .alike k h) }
+turned {l} {m} {n} p = record { differs = not-turned (elem n l) (elem n m) (p .differs); alike = λ k h. sym (p .alike k h) }
   where
     not-turned : (a b : Bool) → a ≡ not b → b ≡ not a
     not-turned true true e = e
@@ -59,31 +59,31 @@ turned {l} {m} {n} p = record { differs = not-turned (has n l) (has n m) (p .dif
     not-turned false true e = refl
     not-turned false false e = e
 
-lower : (x : ℕ) (xs m : List ℕ) → above x xs ≡ true → ((k : ℕ) → k ≤ x → has k m ≡ false) → Apart (x ∷ xs) m x
+lower : (x : ℕ) (xs m : List ℕ) → above x xs ≡ true → ((k : ℕ) → k ≤ x → elem k m ≡ false) → Apart (x ∷ xs) m x
 lower x xs m a below = record {
-  differs = has-here x x xs refl ∙ rw (below x (omega arith));
-  alike = λ k h. has-there k x xs (omega arith) ∙ above-has x xs k a (omega arith) ∙ sym (below k (omega arith));
+  differs = elem-here x x xs refl ∙ rw (below x (omega arith));
+  alike = λ k h. elem-there k x xs (omega arith) ∙ above-elem x xs k a (omega arith) ∙ sym (below k (omega arith));
 }
 
 module _ (x y : ℕ) (xs ys : List ℕ) (a : above x xs ≡ true) (b : above y ys ≡ true) where
-  below : x < y → (k : ℕ) → k ≤ x → has k (y ∷ ys) ≡ false
-  below h k l = has-there k y ys (omega arith) ∙ above-has y ys k b (omega arith)
+  below : x < y → (k : ℕ) → k ≤ x → elem k (y ∷ ys) ≡ false
+  below h k l = elem-there k y ys (omega arith) ∙ above-elem y ys k b (omega arith)
 
   further : x ≡ y → (o : Option ℕ) → Meant xs ys o → Meant (x ∷ xs) (y ∷ ys) o
   further e none p = ap₂ (λ (z : ℕ) (zs : List ℕ). z ∷ zs) e p
   further e (some n) p =
-      let other : n ≡ x → ⊥ = λ q. false≢true (sym (above-has x xs n a (omega arith)) ∙ p .differs ∙ rw (above-has y ys n b (omega arith))) in
+      let other : n ≡ x → ⊥ = λ q. false≢true (sym (above-elem x xs n a (omega arith)) ∙ p .differs ∙ rw (above-elem y ys n b (omega arith))) in
       record {
-        differs = has-there n x xs other ∙ p .differs ∙ ap not (sym (has-there n y ys (λ q. other (q ∙ sym e))));
+        differs = elem-there n x xs other ∙ p .differs ∙ ap not (sym (elem-there n y ys (λ q. other (q ∙ sym e))));
         alike = λ k h.
             elim (ℕ-discrete k x) [
-              | yes q ↦ has-here k x xs q ∙ sym (has-here k y ys (q ∙ e))
-              | no q ↦ has-there k x xs q ∙ p .alike k h ∙ sym (has-there k y ys (λ r. q (r ∙ sym e)))
+              | yes q ↦ elem-here k x xs q ∙ sym (elem-here k y ys (q ∙ e))
+              | no q ↦ elem-there k x xs q ∙ p .alike k h ∙ sym (elem-there k y ys (λ r. q (r ∙ sym e)))
             ];
       }
 
-none-in : (k : ℕ) → has k [] ≡ false
-unfolding has
+none-in : (k : ℕ) → elem k [] ≡ false
+unfolding elem
 none-in k = refl
 
 first-meant : (l m : List ℕ) → rising l ≡ true → rising m ≡ true → Meant l m (firstApart l m)

@@ -11,14 +11,14 @@ use Rattle.constraints.specs.declared.Constraint.{Constraint}
 use Rattle.constraints.specs.Constraints.{meets}
 use Rattle.table.specs.declared.Header.{Header}
 use Rattle.query_scan.specs.declared.Test.the-variants.{Row}
-use Rattle.query_scan.specs.inner.Sweeping.{RowLies, starts, passes, allPass}
+use Rattle.query_scan.specs.inner.Scanning.{RowInStore, starts, passes, allPass}
 
 module _ (h : Header) (cells : List ℕ) (long : length cells ≡ 8) (narrow : (1 ≤ h .columns) × (h .columns ≤ 8)) where
   whole : take 8 cells ≡ cells
   whole = take-all 8 cells (omega (arith, long))
 
-  pub row-lies : RowLies h (length (take 8 cells)) 0
-  row-lies = rw whole (omega (arith, narrow), omega (arith, zero-mul (h .columns), narrow, long))
+  pub row-in-store : RowInStore h (length (take 8 cells)) 0
+  row-in-store = rw whole (omega (arith, narrow), omega (arith, zero-mul (h .columns), narrow, long))
 
   pub row-meets : (conditions : List Constraint) → allPass (Row 0) h (take 8 cells) conditions ≡ meets (take (h .columns) cells) conditions
   unfolding allPass starts passes meets

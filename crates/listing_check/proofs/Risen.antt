@@ -6,7 +6,7 @@ use native.Mathlib.Decide.{decLt}
 use native.Mathlib.Omega.{arith}
 use lib.ListN.{length, getD}
 use Rattle.lists.specs.Laws.Rising.{rising-of}
-use Rattle.listing_check.specs.inner.Walking.{MisplacedAt}
+use Rattle.listing_check.specs.inner.Scanning.{MisplacedAt}
 use Rattle.listing_check.specs.Laws.Numbers.{misplaced-rising, misplaced-at}
 
 abbrev pub Risen : List ℕ → ℕ → Type 0

@@ -9,29 +9,29 @@ use lib.Dec.{leb}
 use lib.ListN.{length, take, drop, getD, length-drop}
 use lib.Seq.{length-take-le}
 use borrow.Author.Tests.{leb-true, le-leb}
-use Rattle.lists.specs.Lists.{putAt, above, rising}
-use Rattle.lists.specs.Laws.Every.{every-head}
-use Rattle.lists.specs.Laws.Keep.{and-right}
+use Rattle.lists.specs.Lists.{splice, above, rising}
+use Rattle.lists.specs.Laws.All.{all-head}
+use Rattle.lists.specs.Laws.Filter.{and-right}
 use Rattle.lists.specs.Laws.Search.{take-put}
 use Rattle.refusals.specs.Laws.Replies.{some-number}
 use Rattle.cells.specs.Cells.{isDead}
 use Rattle.constraints.specs.Constraints.{isLive}
-use Rattle.listing_spec.specs.Listings.{lead, areNumbers, isRow, rowNumbers}
+use Rattle.listing_spec.specs.Listings.{prefixWidth, areNumbers, isRow, rowNumbers}
 use Rattle.listing_spec.specs.inner.Checking.{pieces}
 use Rattle.listing_spec.specs.Laws.Texts.{risingFrom, rising-from, RowsFit, row-parts, rows-shown}
 use Rattle.listing_parse.specs.inner.Lines.{Found, LineAt}
-use Rattle.listing_parse.specs.Laws.Steps.{rowsFrom, Awaited, awaited-line, awaited-next, awaited-row}
-use Rattle.listing_check.specs.inner.Walking.{RowRead}
+use Rattle.listing_parse.specs.Laws.Steps.{rowsFrom, ValidRows, valid-rows-line, valid-rows-next, valid-rows-row}
+use Rattle.listing_check.specs.inner.Scanning.{RowRead}
 
 -- rows that fit, the first of them
 module _ (columns count least left n : ℕ) (cells : List ℕ) (rows : List (List ℕ)) (r : RowsFit true columns count least left ((n ∷ cells) ∷ rows)) where
   fits : n < 4294967296
   unfolding areNumbers
-  fits = let e = leb-true n 4294967295 (every-head (λ m. leb m 4294967295) n cells (every-head areNumbers (n ∷ cells) rows (r .fit))) in omega arith
+  fits = let e = leb-true n 4294967295 (all-head (λ m. leb m 4294967295) n cells (all-head areNumbers (n ∷ cells) rows (r .fit))) in omega arith
 
   live : isLive cells ≡ true
-  unfolding isLive isDead lead
-  live = row-parts true columns count (n ∷ cells) (every-head (isRow true columns) (n ∷ cells) rows (r .wide)) .1
+  unfolding isLive isDead prefixWidth
+  live = row-parts true columns count (n ∷ cells) (all-head (isRow true columns) (n ∷ cells) rows (r .wide)) .1
 
   rises : above n (rowNumbers rows) ≡ true
   unfolding rowNumbers risingFrom rising
@@ -42,26 +42,26 @@ front : (stored : List ℕ) (columns : ℕ) → 1 + columns ≤ length stored �
 front [] columns h = absurd (omega arith)
 front (x ∷ stored) columns h = let e : 1 + columns ≡ suc columns = omega arith in rw e
 
-module _ {columns : ℕ} {text : List ℕ} {start next : ℕ} {stored : List ℕ} (before : start < length text) (w : Awaited true columns text start) (at : LineAt text start 68 (1 + columns) next stored) where
-  there : Found text start 68 (lead true + columns) next stored
-  unfolding lead
-  there = at .found (elim (some-number next) [ inl e ↦ absurd (awaited-line true columns text start before w at e) | inr h ↦ h ])
+module _ {columns : ℕ} {text : List ℕ} {start next : ℕ} {stored : List ℕ} (before : start < length text) (w : ValidRows true columns text start) (at : LineAt text start 68 (1 + columns) next stored) where
+  there : Found text start 68 (prefixWidth true + columns) next stored
+  unfolding prefixWidth
+  there = at .found (elim (some-number next) [ inl e ↦ absurd (valid-rows-line true columns text start before w at e) | inr h ↦ h ])
 
   wide : 1 + columns ≤ length stored
-  unfolding lead
+  unfolding prefixWidth
   wide = there .wide
 
-  module _ {cells : List ℕ} (zeros : List ℕ) (put : cells ≡ putAt zeros 0 (take (1 + columns - 1) (drop 1 stored))) where
+  module _ {cells : List ℕ} (zeros : List ℕ) (put : cells ≡ splice zeros 0 (take (1 + columns - 1) (drop 1 stored))) where
     cells-are : take columns cells ≡ take columns (drop 1 stored)
     cells-are =
         let behind = take columns (drop 1 stored) in
         let many : length behind ≡ columns = length-take-le columns (drop 1 stored) (omega (arith, length-drop 1 stored, wide)) in
-        let put′ : cells ≡ putAt zeros 0 behind = let e : 1 + columns - 1 ≡ columns = omega arith in rw e at put in
-        ap (take columns) put′ ∙ subst (λ (k : ℕ). take k (putAt zeros 0 behind) ≡ behind) many (take-put zeros behind)
+        let put′ : cells ≡ splice zeros 0 behind = let e : 1 + columns - 1 ≡ columns = omega arith in rw e at put in
+        ap (take columns) put′ ∙ subst (λ (k : ℕ). take k (splice zeros 0 behind) ≡ behind) many (take-put zeros behind)
 
     read : rowsFrom text start ≡ (getD stored 0 0 ∷ take columns cells) ∷ rowsFrom text next
-    unfolding lead
-    read = awaited-row true columns text start there ∙ ap (λ (row : List ℕ). row ∷ rowsFrom text next) (front stored columns wide ∙ ap (λ (l : List ℕ). getD stored 0 0 ∷ l) (sym cells-are))
+    unfolding prefixWidth
+    read = valid-rows-row true columns text start there ∙ ap (λ (row : List ℕ). row ∷ rowsFrom text next) (front stored columns wide ∙ ap (λ (l : List ℕ). getD stored 0 0 ∷ l) (sym cells-are))
 
     shown : RowsFit true columns (w .count) (w .least) (w .left) (rowsFrom text start)
     unfolding rowsFrom
@@ -76,5 +76,5 @@ module _ {columns : ℕ} {text : List ℕ} {start next : ℕ} {stored : List ℕ
           fits = fits columns (w .count) (w .least) (w .left) (getD stored 0 0) (take columns cells) (rowsFrom text next) all;
           live = live columns (w .count) (w .least) (w .left) (getD stored 0 0) (take columns cells) (rowsFrom text next) all;
           rises = rises columns (w .count) (w .least) (w .left) (getD stored 0 0) (take columns cells) (rowsFrom text next) all;
-          awaited = awaited-next true columns text start there w;
+          valid-rows = valid-rows-next true columns text start there w;
         }

@@ -11,9 +11,9 @@ use lib.Dec.{eqb}
 use lib.ListN.{length, take, drop, getD, drop-of-length-le, List·getD-eq-default}
 use lib.Seq.{drop-cons}
 use borrow.Author.Tests.{lt-ltb, le-ltb, eq-eqb, ne-eqb, eqb-true}
-use Rattle.lists.specs.Lists.{keep, every, above}
+use Rattle.lists.specs.Lists.{filter, all, above}
 use Rattle.lists.specs.Laws.Rising.{above-head, above-cons, above-weaker}
-use Rattle.refusals.specs.Refusals.{first, accepted, reply}
+use Rattle.refusals.specs.Refusals.{firstRefusal, accepted, reply}
 use Rattle.constraints.specs.declared.Constraint.{Constraint}
 use Rattle.constraints.specs.Constraints.{known, met, meets}
 use Rattle.listing_spec.specs.Listings.{rowNumbers}
@@ -26,28 +26,28 @@ use Rattle.listing_check.specs.declared.Verdict.the-variants.{Right, Mis
 use Rattle.listing_check.specs.declared.CheckAnswer.{CheckAnswer}
 use Rattle.listing_check.specs.declared.CheckAnswer.the-variants.{Refused, Checked}
 use Rattle.listing_check.specs.declared.Row.{Row}
-use Rattle.listing_check.specs.declared.Walk.{Walk}
-use Rattle.listing_check.specs.Answers.{rightNumbers, misplaced, wrongNumbers, lowest, rightOrWrong, placed, verdictOn, verdictOf, verdictSays, checkRefusal, checkSays, AnswersChecked}
-use Rattle.listing_check.specs.inner.Walking.{firstApart, rightAmong, unlessWrong, RowRead, rowsLeft, Underway, settledAs, Stepped, closed}
+use Rattle.listing_check.specs.declared.CheckScan.{CheckScan}
+use Rattle.listing_check.specs.Answers.{rightNumbers, misplaced, wrongNumbers, lowest, rightOrWrong, placed, verdictOn, verdictOf, verdictView, checkRefusal, checkView, AnswersChecked}
+use Rattle.listing_check.specs.inner.Scanning.{firstApart, rightAmong, unlessWrong, RowRead, rowsLeft, Underway, finishedAs, Stepped, closed}
 use Rattle.listing_check.specs.Laws.Numbers.{misplaced-none}
 use Rattle.listing_check.specs.Laws.Verdicts.{above-kept, right-rising}
 use Rattle.listing_check.proofs.Apart.{apart-same, apart-left, apart-right, lowest-first}
 
 -- ---- the final state
 pub settle : {columns : ℕ} {text : List ℕ} {conditions : List Constraint} {given : List ℕ} {answer : CheckAnswer} → AnswersChecked text conditions given answer
-    → Underway columns text conditions given (settledAs answer (length given))
-unfolding rowsLeft rightAmong rowNumbers keep firstApart unlessWrong
+    → Underway columns text conditions given (finishedAs answer (length given))
+unfolding rowsLeft rightAmong rowNumbers filter firstApart unlessWrong
 settle {given = given} p = record { whole = λ l. absurd (omega arith); due = λ l. absurd (omega arith); comes = rw (drop-of-length-le given {i = length given} (omega arith)) p }
 
 -- ---- the beginning
 
-says-right : (o : Option ℕ) → checkSays (unlessWrong (Checked Right) o) ≡ accepted (rightOrWrong o)
-unfolding checkSays verdictSays unlessWrong rightOrWrong
-says-right none = refl
-says-right (some n) = refl
+view-right : (o : Option ℕ) → checkView (unlessWrong (Checked Right) o) ≡ accepted (rightOrWrong o)
+unfolding checkView verdictView unlessWrong rightOrWrong
+view-right none = refl
+view-right (some n) = refl
 
 -- all rows of the text are left if the scan ends where the text ends
-left-from : (text : List ℕ) (at : Walk) → at .end ≡ length text → rowsLeft text at ≡ rowsFrom text (at .start)
+left-from : (text : List ℕ) (at : CheckScan) → at .end ≡ length text → rowsLeft text at ≡ rowsFrom text (at .start)
 unfolding rowsLeft
 left-from text at e =
     elim (decLt (at .start) (at .end)) [
@@ -57,36 +57,36 @@ left-from text at e =
 
 module _ (text : List ℕ) (conditions : List Constraint) (given : List ℕ) where
   pub no-listing : textGood true text ≡ false → AnswersChecked text conditions given (Refused 11)
-  unfolding checkSays checkRefusal reply
+  unfolding checkView checkRefusal reply
   no-listing e = record { listing = none; shown = text-wrong true text e; answers = refl }
 
   module _ (s : Survey) (l : Listed true text s) where
-    refusal-is : checkRefusal (some (listingIn text)) conditions ≡ cond (not (every (known (s .columns)) conditions)) 6 0
-    unfolding checkRefusal first headOf
+    refusal-is : checkRefusal (some (listingIn text)) conditions ≡ cond (not (all (known (s .columns)) conditions)) 6 0
+    unfolding checkRefusal firstRefusal headOf
     refusal-is = rw (l .head)
 
-    answered : {answer : CheckAnswer} → checkSays answer ≡ reply (cond (not (every (known (s .columns)) conditions)) 6 0) (verdictOn given (rightNumbers conditions (listingIn text)))
+    answered : {answer : CheckAnswer} → checkView answer ≡ reply (cond (not (all (known (s .columns)) conditions)) 6 0) (verdictOn given (rightNumbers conditions (listingIn text)))
         → AnswersChecked text conditions given answer
     unfolding verdictOf
     answered e = record { listing = some (listingIn text); shown = text-shown true text (l .of-form); answers = rw refusal-is e }
 
-    pub unknown : every (known (s .columns)) conditions ≡ false → AnswersChecked text conditions given (Refused 6)
-    unfolding checkSays reply
+    pub unknown : all (known (s .columns)) conditions ≡ false → AnswersChecked text conditions given (Refused 6)
+    unfolding checkView reply
     unknown e = answered (rw e)
 
-    module _ (knows : every (known (s .columns)) conditions ≡ true) where
+    module _ (knows : all (known (s .columns)) conditions ≡ true) where
       pub out-of-place : {place : ℕ} → misplaced given ≡ some place → AnswersChecked text conditions given (Checked (Misplaced place))
-      unfolding checkSays verdictSays reply verdictOn placed
+      unfolding checkView verdictView reply verdictOn placed
       out-of-place e = answered (rw (knows, e))
 
       pub begin : misplaced given ≡ none → Underway (s .columns) text conditions given (record { answer = Checked Right; start = s .start; end = length text; place = 0 })
       begin e = record {
         whole = λ h. refl;
-        due = λ h. record { narrow = l .narrow; before = h; awaited = record { count = s .count; least = 0; left = 65536; good = l .good } };
-        comes = answered (says-right (firstApart given (rightAmong conditions (rowsLeft text at))) ∙ ap (λ o. accepted (rightOrWrong o)) parts ∙ sym told);
+        due = λ h. record { narrow = l .narrow; before = h; valid-rows = record { count = s .count; least = 0; left = 65536; good = l .good } };
+        comes = answered (view-right (firstApart given (rightAmong conditions (rowsLeft text at))) ∙ ap (λ o. accepted (rightOrWrong o)) parts ∙ sym reply-is);
       }
         where
-          at : Walk
+          at : CheckScan
           at = record { answer = Checked Right; start = s .start; end = length text; place = 0 }
 
           right : List ℕ
@@ -100,8 +100,8 @@ module _ (text : List ℕ) (conditions : List Constraint) (given : List ℕ) whe
               ap (λ (rows : List (List ℕ)). firstApart given (rightAmong conditions rows)) rows-are
               ∙ unfold rightAmong rightNumbers in sym (lowest-first given right (misplaced-none given e) (right-rising conditions (listingIn text) (shown-listing (text-shown true text (l .of-form)))))
 
-          told : reply (cond (not (every (known (s .columns)) conditions)) 6 0) (verdictOn given right) ≡ accepted (rightOrWrong (lowest (wrongNumbers given right)))
-          told = rw knows (unfold reply verdictOn placed in rw e)
+          reply-is : reply (cond (not (all (known (s .columns)) conditions)) 6 0) (verdictOn given right) ≡ accepted (rightOrWrong (lowest (wrongNumbers given right)))
+          reply-is = rw knows (unfold reply verdictOn placed in rw e)
 
 -- ---- one row processed
 
@@ -128,17 +128,17 @@ apart-next given place n ys h = elim (decLt place (length given)) [
   | no l ↦ rw (drop-of-length-le given {i = place} (omega arith)) (unfold firstApart in refl)
 ]
 
-right-more : (conditions : List Constraint) (n : ℕ) (cells : List ℕ) (rows : List (List ℕ)) (b : Bool) → b ≡ every (met cells) conditions
+right-more : (conditions : List Constraint) (n : ℕ) (cells : List ℕ) (rows : List (List ℕ)) (b : Bool) → b ≡ all (met cells) conditions
     → rightAmong conditions ((n ∷ cells) ∷ rows) ≡ cond b (n ∷ rightAmong conditions rows) (rightAmong conditions rows)
-unfolding rightAmong rowNumbers keep
+unfolding rightAmong rowNumbers filter
 right-more conditions n cells rows true e = rw (sym e)
 right-more conditions n cells rows false e = rw (sym e)
 
 -- the scan after a row
-abbrev pub onward : Walk → Row → ℕ → Walk
+abbrev pub onward : CheckScan → Row → ℕ → CheckScan
 onward at row place = record { answer = at .answer; start = row .next; end = at .end; place = place }
 
-module _ {columns : ℕ} {text : List ℕ} {conditions : List Constraint} {given : List ℕ} {at : Walk} {row : Row} {meets-all : Bool} (w : Underway columns text conditions given at) (l : at .start < at .end)
+module _ {columns : ℕ} {text : List ℕ} {conditions : List Constraint} {given : List ℕ} {at : CheckScan} {row : Row} {meets-all : Bool} (w : Underway columns text conditions given at) (l : at .start < at .end)
     (r : RowRead columns text (at .start) row) (m : meets-all ≡ meets (take columns (row .cells)) conditions) where
   abbrev n : ℕ
   n = row .number
@@ -159,16 +159,16 @@ module _ {columns : ℕ} {text : List ℕ} {conditions : List Constraint} {given
 
   rest-above : above n rest ≡ true
   unfolding rightAmong
-  rest-above = above-kept (λ ns. every (met (drop 1 ns)) conditions) n (rowsFrom text (row .next)) (r .rises)
+  rest-above = above-kept (λ ns. all (met (drop 1 ns)) conditions) n (rowsFrom text (row .next)) (r .rises)
 
   comes-here : AnswersChecked text conditions given (unlessWrong (at .answer) (firstApart (drop (at .place) given) here))
   comes-here = rw right-here at (w .comes)
 
-  wrong : {x : ℕ} → firstApart (drop (at .place) given) here ≡ some x → Underway columns text conditions given (settledAs (Checked (Wrong x)) (length given))
+  wrong : {x : ℕ} → firstApart (drop (at .place) given) here ≡ some x → Underway columns text conditions given (finishedAs (Checked (Wrong x)) (length given))
   unfolding unlessWrong
   wrong e = settle (rw e at comes-here)
 
-  pub given-wrong : next < n → Underway columns text conditions given (settledAs (Checked (Wrong next)) (length given))
+  pub given-wrong : next < n → Underway columns text conditions given (finishedAs (Checked (Wrong next)) (length given))
   given-wrong h = wrong (rw (some-left given (at .place) (omega (arith, r .fits))) (apart-low next (drop (suc (at .place)) given) here (above-here meets-all)))
     where
       above-here : (b : Bool) → above next (cond b (n ∷ rest) rest) ≡ true
@@ -178,7 +178,7 @@ module _ {columns : ℕ} {text : List ℕ} {conditions : List Constraint} {given
   further : (place : ℕ) → firstApart (drop (at .place) given) here ≡ firstApart (drop place given) rest → Underway columns text conditions given (onward at row place)
   further place e = record {
     whole = λ h. w .whole l;
-    due = λ h. record { narrow = w .due l .narrow; before = omega (arith, w .whole l); awaited = r .awaited };
+    due = λ h. record { narrow = w .due l .narrow; before = omega (arith, w .whole l); valid-rows = r .valid-rows };
     comes = rw (left-from text (onward at row place) (w .whole l), ← e) comes-here;
   }
 
@@ -186,7 +186,7 @@ module _ {columns : ℕ} {text : List ℕ} {conditions : List Constraint} {given
   next-here : next ≡ n → drop (at .place) given ≡ next ∷ drop (at .place + 1) given
   next-here e = some-left given (at .place) (omega (arith, r .fits)) ∙ ap (λ (i : ℕ). next ∷ drop i given) (sym (add-one (at .place)))
 
-  pub row-wrong : n ≤ next → (eqb next n ≡ meets-all → ⊥) → Underway columns text conditions given (settledAs (Checked (Wrong n)) (length given))
+  pub row-wrong : n ≤ next → (eqb next n ≡ meets-all → ⊥) → Underway columns text conditions given (finishedAs (Checked (Wrong n)) (length given))
   row-wrong h other = wrong (parts meets-all other (ℕ-discrete next n))
     where
       parts : (b : Bool) → (eqb next n ≡ b → ⊥) → Dec (next ≡ n) → firstApart (drop (at .place) given) (cond b (n ∷ rest) rest) ≡ some n
@@ -215,15 +215,15 @@ alike true false e = sym e
 alike false true e = e
 alike false false e = refl
 
-module _ {given : List ℕ} {at : Walk} {row : Row} {meets-all : Bool} {next : ℕ} (e : next ≡ getD given (at .place) 4294967296) where
-  pub step-given : {at′ : Walk} → next < row .number → at′ ≡ settledAs (Checked (Wrong next)) (length given) → Stepped given at row meets-all at′
-  step-given h settled = rw settled (record {
+module _ {given : List ℕ} {at : CheckScan} {row : Row} {meets-all : Bool} {next : ℕ} (e : next ≡ getD given (at .place) 4294967296) where
+  pub step-given : {at′ : CheckScan} → next < row .number → at′ ≡ finishedAs (Checked (Wrong next)) (length given) → Stepped given at row meets-all at′
+  step-given h finished = rw finished (record {
     keeps = λ columns text conditions w l r m. rw e (given-wrong w l r m (omega (arith, e)));
     nearer = λ l f. omega arith;
   })
 
-  pub step-row : {at′ : Walk} → row .number ≤ next → not (Bool·beq (eqb next (row .number)) meets-all) ≡ true → at′ ≡ settledAs (Checked (Wrong (row .number))) (length given) → Stepped given at row meets-all at′
-  step-row h o settled = rw settled (record {
+  pub step-row : {at′ : CheckScan} → row .number ≤ next → not (Bool·beq (eqb next (row .number)) meets-all) ≡ true → at′ ≡ finishedAs (Checked (Wrong (row .number))) (length given) → Stepped given at row meets-all at′
+  step-row h o finished = rw finished (record {
     keeps = λ columns text conditions w l r m. row-wrong w l r m (omega (arith, e)) (rw e at (unlike (eqb next (row .number)) meets-all o));
     nearer = λ l f. omega arith;
   })
@@ -242,7 +242,7 @@ module _ {given : List ℕ} {at : Walk} {row : Row} {meets-all : Bool} {next : �
 
 -- ---- the end
 
-pub finish : {columns : ℕ} {text : List ℕ} {conditions : List Constraint} {given : List ℕ} {at : Walk} → Underway columns text conditions given at → at .end ≤ at .start
+pub finish : {columns : ℕ} {text : List ℕ} {conditions : List Constraint} {given : List ℕ} {at : CheckScan} → Underway columns text conditions given at → at .end ≤ at .start
     → AnswersChecked text conditions given (closed at given)
-unfolding closed rowsLeft rightAmong rowNumbers keep
+unfolding closed rowsLeft rightAmong rowNumbers filter
 finish {at = at} w h = rw (le-ltb (at .start) (at .end) h) at (w .comes)

@@ -9,8 +9,8 @@ use Rattle.listing_check.proofs.CheckAnswer as AT
 use Rattle.listing_check.proofs.CheckAnswer.Laws as AT′
 use Rattle.listing_check.proofs.Row as RT
 use Rattle.listing_check.proofs.Row.Laws as RT′
-use Rattle.listing_check.proofs.Walk as WT
-use Rattle.listing_check.proofs.Walk.Laws as WT′
+use Rattle.listing_check.proofs.CheckScan as WT
+use Rattle.listing_check.proofs.CheckScan.Laws as WT′
 
 abbrev pub surveys : Value
 surveys = struct-value VT.the-type VT′.the-laws VT′.the-plain (λ x f. refl)

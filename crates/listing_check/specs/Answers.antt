@@ -7,11 +7,11 @@ use mathlib.Core.List.{List, [], _∷_, _++_, foldl}
 use mathlib.Core.Option.{Option, none, some}
 use lib.ListN.{drop, getD}
 use lib.Dec.{ltb}
-use Rattle.lists.specs.Lists.{keep, every, has}
-use Rattle.refusals.specs.Refusals.{rung, first, Reply, refused, accepted, reply}
+use Rattle.lists.specs.Lists.{filter, all, elem}
+use Rattle.refusals.specs.Refusals.{check, firstRefusal, Reply, refused, accepted, reply}
 use Rattle.constraints.specs.declared.Constraint.{Constraint}
 use Rattle.constraints.specs.Constraints.{known, met}
-use Rattle.listing_spec.specs.Listings.{Listing, rowNumbers, Shows}
+use Rattle.listing_spec.specs.Listings.{Listing, rowNumbers, ParsesAs}
 use Rattle.listing_check.specs.declared.Verdict.{Verdict}
 use Rattle.listing_check.specs.declared.Verdict.the-variants.{Right, Misplaced, Wrong}
 use Rattle.listing_check.specs.declared.CheckAnswer.{CheckAnswer}
@@ -19,7 +19,7 @@ use Rattle.listing_check.specs.declared.CheckAnswer.the-variants.{Refuse
 
 -- the numbers of "the rows of the listing that meet every condition": a row's first field is its number, followed by its cells
 unfoldable pub rightNumbers : List Constraint → Listing → List ℕ
-rightNumbers conditions l = rowNumbers (keep (λ ns. every (met (drop 1 ns)) conditions) (l .rows))
+rightNumbers conditions l = rowNumbers (filter (λ ns. all (met (drop 1 ns)) conditions) (l .rows))
 
 -- "the place, from 0, of the first number not above the one before", for numbers that start at `place` and follow `before`
 unfoldable pub misplacedBehind : ℕ → ℕ → List ℕ → Option ℕ
@@ -33,7 +33,7 @@ misplaced (n ∷ ns) = misplacedBehind n 1 ns
 -- "wrongly present", then those wrongly "absent". "A number without a row in the listing counts as wrongly present": it is not
 -- among the right ones.
 unfoldable pub wrongNumbers : List ℕ → List ℕ → List ℕ
-wrongNumbers given right = keep (λ n. not (has n right)) given ++ keep (λ n. not (has n given)) right
+wrongNumbers given right = filter (λ n. not (elem n right)) given ++ filter (λ n. not (elem n given)) right
 
 unfoldable pub lowest : List ℕ → Option ℕ
 lowest [] = none
@@ -47,10 +47,10 @@ pub data Finding : Type 0 where
   lowestWrong : ℕ → Finding
 
 -- the finding that each case of the enum represents
-unfoldable pub verdictSays : Verdict → Finding
-verdictSays Right = correct
-verdictSays (Misplaced place) = outOfOrder place
-verdictSays (Wrong number) = lowestWrong number
+unfoldable pub verdictView : Verdict → Finding
+verdictView Right = correct
+verdictView (Misplaced place) = outOfOrder place
+verdictView (Wrong number) = lowestWrong number
 
 -- "the lowest row number wrongly present or absent", and yes if there is none
 unfoldable pub rightOrWrong : Option ℕ → Finding
@@ -73,15 +73,15 @@ verdictOf (some l) conditions given = verdictOn given (rightNumbers conditions l
 -- "After 11 comes 6, as for any condition"
 unfoldable pub checkRefusal : Option Listing → List Constraint → ℕ
 checkRefusal none conditions = 11
-checkRefusal (some l) conditions = first (rung (not (every (known (getD (l .head) 0 0)) conditions)) 6 ∷ [])
+checkRefusal (some l) conditions = firstRefusal (check (not (all (known (getD (l .head) 0 0)) conditions)) 6 ∷ [])
 
 -- the reply that an answer represents
-unfoldable pub checkSays : CheckAnswer → Reply Finding
-checkSays (Refused n) = refused n
-checkSays (Checked verdict) = accepted (verdictSays verdict)
+unfoldable pub checkView : CheckAnswer → Reply Finding
+checkView (Refused n) = refused n
+checkView (Checked verdict) = accepted (verdictView verdict)
 
 -- The contract of the check. It writes to no store.
 pub record AnswersChecked (text : List ℕ) (conditions : List Constraint) (given : List ℕ) (answer : CheckAnswer) : Type 0 where
   pub listing : Option Listing
-  pub shown : Shows true text listing
-  pub answers : checkSays answer ≡ reply (checkRefusal listing conditions) (verdictOf listing conditions given)
+  pub shown : ParsesAs true text listing
+  pub answers : checkView answer ≡ reply (checkRefusal listing conditions) (verdictOf listing conditions given)

@@ -6,12 +6,12 @@ ghost use lib.ListN.{take, getD};
 ghost use Rattle.constraints.specs.Constraints.{meets};
 ghost use Rattle.listing_parse.specs.inner.Surveys.{Surveyed};
 ghost use Rattle.listing_check.specs.Answers.{AnswersChecked};
-ghost use Rattle.listing_check.specs.inner.Walking.{MisplacedAt, Due, RowRead, settledAs, Begun, Stepped, closed};
+ghost use Rattle.listing_check.specs.inner.Scanning.{MisplacedAt, Due, RowRead, finishedAs, Begun, Stepped, closed};
 use constraints::Constraint;
 use levels_text::MOST_NUMBERS;
 use listing_parse::Survey;
 use listing_parse::line_at;
-use listing_parse::look_through;
+use listing_parse::scan_text;
 use query_loop::all_pass;
 use query_scan::Test;
 use table::Header;
@@ -40,7 +40,7 @@ struct Row {
 // The state of a merge scan of a listing's rows against the numbers given: the lines left, from `start` up to `end`, and the
 // numbers left, from `place` on. `answer` is the result unless a wrong number is still found. Once it is final, no line and no
 // number is left.
-struct Walk {
+struct CheckScan {
     answer: CheckAnswer,
     start: usize,
     end: usize,
@@ -81,10 +81,10 @@ fn first_misplaced(given: &[u32]) -> usize
 }
 
 // The final state: no line or number is left that could change the answer.
-fn settled(answer: CheckAnswer, count: usize) -> Walk
-    ensures { λ r. ⌜ r ≡ settledAs answer count ⌝ }
+fn finished(answer: CheckAnswer, count: usize) -> CheckScan
+    ensures { λ r. ⌜ r ≡ finishedAs answer count ⌝ }
 {
-    Walk {
+    CheckScan {
         answer: answer,
         start: 0,
         end: 0,
@@ -93,21 +93,21 @@ fn settled(answer: CheckAnswer, count: usize) -> Walk
 }
 
 // The initial state: refused, misplaced, or right as long as the rows and the numbers agree.
-fn begin(s: Survey, known: bool, text: &[u8], given: &[u32]) -> Walk
+fn begin(s: Survey, known: bool, text: &[u8], given: &[u32]) -> CheckScan
     requires { ⌜ Surveyed true (now text) s ⌝ }
     ensures { λ r. ⌜ Begun s known (now (text .entry)) (now (given .entry)) r ⌝ }
 {
     if !s.is_listing {
-        return settled(CheckAnswer::Refused(11), given.len());
+        return finished(CheckAnswer::Refused(11), given.len());
     }
     if !known {
-        return settled(CheckAnswer::Refused(6), given.len());
+        return finished(CheckAnswer::Refused(6), given.len());
     }
     let place = first_misplaced(given);
     if place < given.len() {
-        return settled(CheckAnswer::Checked(Verdict::Misplaced(place)), given.len());
+        return finished(CheckAnswer::Checked(Verdict::Misplaced(place)), given.len());
     }
-    Walk {
+    CheckScan {
         answer: CheckAnswer::Checked(Verdict::Right),
         start: s.start,
         end: text.len(),
@@ -144,20 +144,20 @@ fn given_at(given: &[u32], place: usize) -> u64
 
 // Processes one row. A given number below the row's number is wrong. The row's own number is wrong unless it is given exactly if
 // the row meets every condition.
-fn step(given: &[u32], at: Walk, row: Row, meets: bool) -> Walk
+fn step(given: &[u32], at: CheckScan, row: Row, meets: bool) -> CheckScan
     ensures { λ r. ⌜ Stepped (now (given .entry)) at row meets r ⌝ }
 {
     let next = given_at(given, at.place);
     let number = row.number as u64;
     if next < number {
-        return settled(
+        return finished(
             CheckAnswer::Checked(Verdict::Wrong(next as u32)),
             given.len(),
         );
     }
     let there = next == number;
     if there != meets {
-        return settled(
+        return finished(
             CheckAnswer::Checked(Verdict::Wrong(row.number)),
             given.len(),
         );
@@ -171,7 +171,7 @@ fn step(given: &[u32], at: Walk, row: Row, meets: bool) -> Walk
 }
 
 // After the last row, a number that is left is wrong.
-fn close(at: Walk, given: &[u32]) -> CheckAnswer
+fn close(at: CheckScan, given: &[u32]) -> CheckAnswer
     ensures { λ r. ⌜ r ≡ closed at (now (given .entry)) ⌝ }
 {
     let place = at.place;
@@ -194,7 +194,7 @@ fn meets_all(h: Header, cells: [u32; 8], conditions: &[Constraint]) -> bool
 pub fn check_answers(text: &[u8], conditions: &[Constraint], given: &[u32]) -> CheckAnswer
     ensures { λ r. ⌜ AnswersChecked (now (text .entry)) (now (conditions .entry)) (now (given .entry)) r ⌝ }
 {
-    let s = look_through(true, text);
+    let s = scan_text(true, text);
     let h = header_of(s);
     let known = all_pass(Test::Known, h, given, conditions);
     let mut at = begin(s, known, text, given);

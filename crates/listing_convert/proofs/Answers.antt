@@ -1,4 +1,4 @@
--- The ways through `write_moved`, `lacks_room` and `move_found`. Assumes nothing.
+-- The ways through `write_converted`, `lacks_room` and `convert_found`. Assumes nothing.
 use Prim.Native.Nat.{ℕ, _+_, _-_, _≤_, _<_}
 use mathlib.Core.Path.{_≡_, refl, sym, ap, _∙_}
 use mathlib.Core.Logic.{inl, inr}
@@ -10,41 +10,41 @@ use native.Mathlib.Omega.{arith}
 use lib.Dec.{ltb, eqb}
 use lib.ListN.{length, drop, getD, length-append}
 use borrow.Author.Tests.{eq-eqb, ne-eqb, lt-ltb, le-ltb, ltb-true, ltb-false}
-use Rattle.lists.specs.Lists.{flat}
-use Rattle.lists.specs.Laws.Keep.{split}
+use Rattle.lists.specs.Lists.{flatten}
+use Rattle.lists.specs.Laws.Filter.{split}
 use Rattle.lists.specs.Laws.Rising.{bool-ext}
-use Rattle.refusals.specs.Refusals.{first, refused, reply}
+use Rattle.refusals.specs.Refusals.{firstRefusal, refused, reply}
 use Rattle.refusals.specs.Laws.Replies.{reply-refused}
 use Rattle.levels_text.specs.Written.{textLine}
 use Rattle.levels_text.specs.inner.Appending.{Appended, appended-then, appended-put}
-use Rattle.listing_spec.specs.declared.MoveAnswer.the-variants.{Refused, Written}
-use Rattle.listing_spec.specs.Listings.{Listing, headLetter, listingText, numberedFrom, toNumbered, fromNumbered, lacksRow, movedText, moveRefusal, moveSays, ListingMoved}
+use Rattle.listing_spec.specs.declared.TextAnswer.the-variants.{Refused, Written}
+use Rattle.listing_spec.specs.Listings.{Listing, headLetter, listingText, numberedFrom, toNumbered, fromNumbered, lacksRow, convertedText, convertRefusal, textView, ListingConverted}
 use Rattle.listing_spec.specs.inner.Checking.{textGood, listingIn}
 use Rattle.listing_spec.specs.Laws.Texts.{shown-listing, shown-text, text-shown, text-wrong}
-use Rattle.listing_spec.specs.Laws.Moves.{lacks-none, lacks-no-row, fieldsLength, numbered-longer, plain-shorter}
+use Rattle.listing_spec.specs.Laws.Conversions.{lacks-none, lacks-no-row, fieldsLength, numbered-longer, plain-shorter}
 use Rattle.listing_parse.specs.declared.Survey.{Survey}
 use Rattle.listing_parse.specs.inner.Surveys.{headOf, Listed}
-use Rattle.listing_parse.specs.Laws.Steps.{rowsFrom, Awaited}
-use Rattle.listing_convert.specs.inner.Moving.{movedRow, movedFrom, movedHead, movedLength}
+use Rattle.listing_parse.specs.Laws.Steps.{rowsFrom, ValidRows}
+use Rattle.listing_convert.specs.inner.Converting.{convertedRow, convertedFrom, convertedHead, convertedLength}
 
 -- ---- the text in the other form
 
-rows-back : (n : ℕ) (rows : List (List ℕ)) → map (drop 1) rows ≡ movedFrom true n rows
-unfolding movedFrom movedRow
+rows-back : (n : ℕ) (rows : List (List ℕ)) → map (drop 1) rows ≡ convertedFrom true n rows
+unfolding convertedFrom convertedRow
 rows-back n [] = refl
 rows-back n (ns ∷ rows) = ap (λ (l : List (List ℕ)). drop 1 ns ∷ l) (rows-back _ rows)
 
-rows-forth : (n : ℕ) (rows : List (List ℕ)) → numberedFrom n rows ≡ movedFrom false n rows
-unfolding movedFrom movedRow numberedFrom
+rows-forth : (n : ℕ) (rows : List (List ℕ)) → numberedFrom n rows ≡ convertedFrom false n rows
+unfolding convertedFrom convertedRow numberedFrom
 rows-forth n [] = refl
 rows-forth n (ns ∷ rows) = ap (λ (l : List (List ℕ)). (n ∷ ns) ∷ l) (rows-forth _ rows)
 
 module _ (text : List ℕ) (s : Survey) where
-  pub moved-text : (numbered : Bool) → Listed numbered text s
-      → movedText numbered (some (listingIn text)) ≡ textLine (headLetter (not numbered)) (movedHead numbered s) ++ flat (map (textLine 68) (movedFrom numbered 0 (rowsFrom text (s .start))))
-  unfolding movedText listingText fromNumbered toNumbered headLetter movedHead headOf rowsFrom
-  moved-text true l = rw (l .head, l .rows-there, rows-back 0 _)
-  moved-text false l = rw (l .head, ← l .counted, l .rows-there, rows-forth 0 _)
+  pub converted-text : (numbered : Bool) → Listed numbered text s
+      → convertedText numbered (some (listingIn text)) ≡ textLine (headLetter (not numbered)) (convertedHead numbered s) ++ flatten (map (textLine 68) (convertedFrom numbered 0 (rowsFrom text (s .start))))
+  unfolding convertedText listingText fromNumbered toNumbered headLetter convertedHead headOf rowsFrom
+  converted-text true l = rw (l .head, l .rows-there, rows-back 0 _)
+  converted-text false l = rw (l .head, ← l .counted, l .rows-there, rows-forth 0 _)
 
 module _ (text : List ℕ) (s : Survey) where
   -- rows that lack
@@ -54,21 +54,21 @@ module _ (text : List ℕ) (s : Survey) where
       let good = shown-listing (text-shown true text (l .of-form)) in
       let count : getD (listingIn text .head) 5 0 ≡ s .count = rw (l .head) (unfold headOf in refl) in
       elim (ℕ-discrete (s .rows) (s .count)) [
-        | yes e ↦ lacks-none (listingIn text) good (sym (l .counted) ∙ e ∙ sym count) ∙ sym (no-gap e)
+        | yes e ↦ lacks-none (listingIn text) good (sym (l .counted) ∙ e ∙ sym count) ∙ sym (none-missing e)
         | no e ↦ elim (split (lacksRow (listingIn text))) [
-          | inl t ↦ t ∙ sym (gap e)
+          | inl t ↦ t ∙ sym (missing e)
           | inr f ↦ absurd (e (l .counted ∙ lacks-no-row (listingIn text) good f ∙ count))
         ]
       ]
     where
-      no-gap : s .rows ≡ s .count → not (eqb (s .rows) (s .count)) ≡ false
-      no-gap e = rw (eq-eqb (s .rows) (s .count) e)
+      none-missing : s .rows ≡ s .count → not (eqb (s .rows) (s .count)) ≡ false
+      none-missing e = rw (eq-eqb (s .rows) (s .count) e)
 
-      gap : (s .rows ≡ s .count → ⊥) → not (eqb (s .rows) (s .count)) ≡ true
-      gap e = rw (ne-eqb (s .rows) (s .count) e)
+      missing : (s .rows ≡ s .count → ⊥) → not (eqb (s .rows) (s .count)) ≡ true
+      missing e = rw (ne-eqb (s .rows) (s .count) e)
 
-  longer : (numbered : Bool) → Listed numbered text s → (numbered && lacksRow (listingIn text)) ≡ false → (numbered ≡ true → fieldsLength (s .rows) ≤ length text) × (length (movedText numbered (some (listingIn text))) ≡ movedLength numbered (s .rows) (length text))
-  unfolding movedText movedLength
+  longer : (numbered : Bool) → Listed numbered text s → (numbered && lacksRow (listingIn text)) ≡ false → (numbered ≡ true → fieldsLength (s .rows) ≤ length text) × (length (convertedText numbered (some (listingIn text))) ≡ convertedLength numbered (s .rows) (length text))
+  unfolding convertedText convertedLength
   longer true l full =
       let shown = text-shown true text (l .of-form) in
       let e = ap length (shown-text shown) ∙ plain-shorter (listingIn text) (shown-listing shown) full ∙ ap (λ (n : ℕ). length (listingText false (fromNumbered (listingIn text))) + fieldsLength n) (sym (l .counted)) in
@@ -83,13 +83,13 @@ module _ (text : List ℕ) (s : Survey) where
 
 -- ---- the answers
 
-says-refused : (n : ℕ) → moveSays (Refused n) ≡ refused n
-unfolding moveSays
-says-refused n = refl
+view-refused : (n : ℕ) → textView (Refused n) ≡ refused n
+unfolding textView
+view-refused n = refl
 
-pub moved-wrong : (numbered : Bool) (text output : List ℕ) → textGood numbered text ≡ false → ListingMoved numbered text output (Refused 11) output
-unfolding moveSays moveRefusal reply
-moved-wrong numbered text output e = record {
+pub converted-wrong : (numbered : Bool) (text output : List ℕ) → textGood numbered text ≡ false → ListingConverted numbered text output (Refused 11) output
+unfolding textView convertRefusal reply
+converted-wrong numbered text output e = record {
   listing = none;
   shown = text-wrong numbered text e;
   answers = refl;
@@ -98,64 +98,64 @@ moved-wrong numbered text output e = record {
 }
 
 module _ (numbered : Bool) (l : Listing) (output : ℕ) where
-  gives-17 : (numbered && lacksRow l) ≡ true → moveRefusal numbered (some l) output ≡ 17
-  unfolding moveRefusal first
+  gives-17 : (numbered && lacksRow l) ≡ true → convertRefusal numbered (some l) output ≡ 17
+  unfolding convertRefusal firstRefusal
   gives-17 e = rw e
 
-  gives-2 : (numbered && lacksRow l) ≡ false → output < length (movedText numbered (some l)) → moveRefusal numbered (some l) output ≡ 2
-  unfolding moveRefusal first
-  gives-2 e h = rw (e, lt-ltb output (length (movedText numbered (some l))) h)
+  gives-2 : (numbered && lacksRow l) ≡ false → output < length (convertedText numbered (some l)) → convertRefusal numbered (some l) output ≡ 2
+  unfolding convertRefusal firstRefusal
+  gives-2 e h = rw (e, lt-ltb output (length (convertedText numbered (some l))) h)
 
-  gives-0 : (numbered && lacksRow l) ≡ false → length (movedText numbered (some l)) ≤ output → moveRefusal numbered (some l) output ≡ 0
-  unfolding moveRefusal first
-  gives-0 e h = rw (e, le-ltb output (length (movedText numbered (some l))) h)
+  gives-0 : (numbered && lacksRow l) ≡ false → length (convertedText numbered (some l)) ≤ output → convertRefusal numbered (some l) output ≡ 0
+  unfolding convertRefusal firstRefusal
+  gives-0 e h = rw (e, le-ltb output (length (convertedText numbered (some l))) h)
 
 module _ (numbered : Bool) (text : List ℕ) (s : Survey) (l : Listed numbered text s) (output : List ℕ) where
-  pub awaited : Awaited numbered (s .columns) text (s .start)
-  awaited = record { count = s .count; least = 0; left = 65536; good = l .good }
+  pub valid-rows : ValidRows numbered (s .columns) text (s .start)
+  valid-rows = record { count = s .count; least = 0; left = 65536; good = l .good }
 
   pub rows-few : length (rowsFrom text (s .start)) ≤ 65536
   unfolding rowsFrom
   rows-few = omega (arith, l .few, l .counted, ap length (l .rows-there))
 
-  refused-with : (n : ℕ) → 0 < n → moveRefusal numbered (some (listingIn text)) (length output) ≡ n → ListingMoved numbered text output (Refused n) output
+  refused-with : (n : ℕ) → 0 < n → convertRefusal numbered (some (listingIn text)) (length output) ≡ n → ListingConverted numbered text output (Refused n) output
   refused-with n some-number e = record {
     listing = some (listingIn text);
     shown = text-shown numbered text (l .of-form);
     answers =
-        reply-refused (moveSays (Refused n)) (moveRefusal numbered (some (listingIn text)) (length output)) n (length (movedText numbered (some (listingIn text)))) (says-refused n) (sym e)
+        reply-refused (textView (Refused n)) (convertRefusal numbered (some (listingIn text)) (length output)) n (length (convertedText numbered (some (listingIn text)))) (view-refused n) (sym e)
         (λ z. omega (arith, some-number, z));
     written = λ zero. absurd (omega (arith, zero, e, some-number));
     unchanged = λ more. refl;
   }
 
-  module _ {gap : Bool} (tested : gap ≡ (numbered && not (eqb (s .rows) (s .count)))) where
-    pub moved-gap : gap ≡ true → ListingMoved numbered text output (Refused 17) output
-    moved-gap t = refused-with 17 (omega arith) (gives-17 numbered (listingIn text) (length output) (lacks-same text s numbered l ∙ sym tested ∙ t))
+  module _ {missing : Bool} (tested : missing ≡ (numbered && not (eqb (s .rows) (s .count)))) where
+    pub converted-missing : missing ≡ true → ListingConverted numbered text output (Refused 17) output
+    converted-missing t = refused-with 17 (omega arith) (gives-17 numbered (listingIn text) (length output) (lacks-same text s numbered l ∙ sym tested ∙ t))
 
-    module _ (no-gap : gap ≡ false) where
+    module _ (none-missing : missing ≡ false) where
       whole : (numbered && lacksRow (listingIn text)) ≡ false
-      whole = lacks-same text s numbered l ∙ sym tested ∙ no-gap
+      whole = lacks-same text s numbered l ∙ sym tested ∙ none-missing
 
       pub fields-fit : numbered ≡ true → fieldsLength (s .rows) ≤ length text
       fields-fit = longer text s numbered l whole .0
 
-      moved-length : length (movedText numbered (some (listingIn text))) ≡ movedLength numbered (s .rows) (length text)
-      moved-length = longer text s numbered l whole .1
+      converted-length : length (convertedText numbered (some (listingIn text))) ≡ convertedLength numbered (s .rows) (length text)
+      converted-length = longer text s numbered l whole .1
 
-      module _ {short : Bool} (measured : short ≡ ltb (length output) (movedLength numbered (s .rows) (length text))) where
-        pub moved-short : short ≡ true → ListingMoved numbered text output (Refused 2) output
-        moved-short t =
+      module _ {short : Bool} (measured : short ≡ ltb (length output) (convertedLength numbered (s .rows) (length text))) where
+        pub converted-short : short ≡ true → ListingConverted numbered text output (Refused 2) output
+        converted-short t =
             refused-with 2 (omega arith)
             (gives-2 numbered (listingIn text) (length output) whole
-            (let h = ltb-true (length output) (movedLength numbered (s .rows) (length text)) (sym measured ∙ t) in omega (arith, h, moved-length)))
+            (let h = ltb-true (length output) (convertedLength numbered (s .rows) (length text)) (sym measured ∙ t) in omega (arith, h, converted-length)))
 
         module _ (fits : short ≡ false) where
-          pub moved-room : length (movedText numbered (some (listingIn text))) ≤ length output
-          moved-room = let h = ltb-false (length output) (movedLength numbered (s .rows) (length text)) (sym measured ∙ fits) in omega (arith, h, moved-length)
+          pub converted-room : length (convertedText numbered (some (listingIn text))) ≤ length output
+          converted-room = let h = ltb-false (length output) (convertedLength numbered (s .rows) (length text)) (sym measured ∙ fits) in omega (arith, h, converted-length)
 
-          pub moved-done : {output′ : List ℕ} {bytes : ℕ} → Appended output 0 (movedText numbered (some (listingIn text))) output′ bytes → ListingMoved numbered text output (Written bytes) output′
-          moved-done {output′} {bytes} a = record {
+          pub converted-done : {output′ : List ℕ} {bytes : ℕ} → Appended output 0 (convertedText numbered (some (listingIn text))) output′ bytes → ListingConverted numbered text output (Written bytes) output′
+          converted-done {output′} {bytes} a = record {
             listing = some (listingIn text);
             shown = text-shown numbered text (l .of-form);
             answers = answered;
@@ -163,23 +163,23 @@ module _ (numbered : Bool) (text : List ℕ) (s : Survey) (l : Listed numbered t
             unchanged = λ more. absurd (omega (arith, more, none-given));
           }
             where
-              none-given : moveRefusal numbered (some (listingIn text)) (length output) ≡ 0
-              none-given = gives-0 numbered (listingIn text) (length output) whole moved-room
+              none-given : convertRefusal numbered (some (listingIn text)) (length output) ≡ 0
+              none-given = gives-0 numbered (listingIn text) (length output) whole converted-room
 
-              answered : moveSays (Written bytes) ≡ reply (moveRefusal numbered (some (listingIn text)) (length output)) (length (movedText numbered (some (listingIn text))))
-              answered = let n : bytes ≡ length (movedText numbered (some (listingIn text))) = omega (arith, a .counted) in rw (none-given, n) (unfold moveSays reply in refl)
+              answered : textView (Written bytes) ≡ reply (convertRefusal numbered (some (listingIn text)) (length output)) (length (convertedText numbered (some (listingIn text))))
+              answered = let n : bytes ≡ length (convertedText numbered (some (listingIn text))) = omega (arith, a .counted) in rw (none-given, n) (unfold textView reply in refl)
 
 -- ---- the head, then the rows
 
-module _ (numbered : Bool) (text : List ℕ) (s : Survey) (l : Listed numbered text s) (output : List ℕ) (room : length (movedText numbered (some (listingIn text))) ≤ length output) where
+module _ (numbered : Bool) (text : List ℕ) (s : Survey) (l : Listed numbered text s) (output : List ℕ) (room : length (convertedText numbered (some (listingIn text))) ≤ length output) where
   abbrev head : List ℕ
-  head = textLine (headLetter (not numbered)) (movedHead numbered s)
+  head = textLine (headLetter (not numbered)) (convertedHead numbered s)
 
   abbrev lines : List ℕ
-  lines = flat (map (textLine 68) (movedFrom numbered 0 (rowsFrom text (s .start))))
+  lines = flatten (map (textLine 68) (convertedFrom numbered 0 (rowsFrom text (s .start))))
 
   both : length head + length lines ≤ length output
-  both = omega (arith, room, ap length (moved-text text s numbered l), length-append head lines)
+  both = omega (arith, room, ap length (converted-text text s numbered l), length-append head lines)
 
   pub head-room : length head ≤ length output
   head-room = omega (arith, both)
@@ -188,22 +188,22 @@ module _ (numbered : Bool) (text : List ℕ) (s : Survey) (l : Listed numbered t
     pub rows-room : length output′ ≡ length output → used + length lines ≤ length output′
     rows-room kept = omega (arith, both, a .counted, kept)
 
-    pub all-moved : {output″ : List ℕ} {end : ℕ} → Appended output′ used lines output″ end → Appended output 0 (movedText numbered (some (listingIn text))) output″ end
-    all-moved b = rw (moved-text text s numbered l) (appended-then a b)
+    pub all-converted : {output″ : List ℕ} {end : ℕ} → Appended output′ used lines output″ end → Appended output 0 (convertedText numbered (some (listingIn text))) output″ end
+    all-converted b = rw (converted-text text s numbered l) (appended-then a b)
 
 -- ---- the length, compared
 
 module _ (rows text output fields : ℕ) (e : fields ≡ fieldsLength rows) where
-  pub length-back : {numbered : Bool} → numbered ≡ true → ltb output (text - fields) ≡ ltb output (movedLength numbered rows text)
-  unfolding movedLength
+  pub length-back : {numbered : Bool} → numbered ≡ true → ltb output (text - fields) ≡ ltb output (convertedLength numbered rows text)
+  unfolding convertedLength
   length-back t = rw (t, e)
 
-  pub length-under : {numbered : Bool} → numbered ≡ false → output < text → true ≡ ltb output (movedLength numbered rows text)
-  unfolding movedLength
+  pub length-under : {numbered : Bool} → numbered ≡ false → output < text → true ≡ ltb output (convertedLength numbered rows text)
+  unfolding convertedLength
   length-under t h = rw t (sym (lt-ltb output (text + fieldsLength rows) (omega arith)))
 
-  pub length-forth : {numbered : Bool} → numbered ≡ false → text ≤ output → ltb (output - text) fields ≡ ltb output (movedLength numbered rows text)
-  unfolding movedLength
+  pub length-forth : {numbered : Bool} → numbered ≡ false → text ≤ output → ltb (output - text) fields ≡ ltb output (convertedLength numbered rows text)
+  unfolding convertedLength
   length-forth t h = rw (t, e) (bool-ext (ltb (output - text) (fieldsLength rows)) (ltb output (text + fieldsLength rows))
       (λ y. let k = ltb-true (output - text) (fieldsLength rows) y in lt-ltb output (text + fieldsLength rows) (omega arith))
       (λ y. let k = ltb-true output (text + fieldsLength rows) y in lt-ltb (output - text) (fieldsLength rows) (omega arith)))

@@ -1,4 +1,4 @@
--- The ways through `numbers_length` and `move_row`. Assumes nothing.
+-- The ways through `numbers_length` and `convert_row`. Assumes nothing.
 use Prim.Native.Nat.{ℕ, _+_, _-_, _*_, _≤_, _<_}
 use mathlib.Core.Path.{_≡_, refl}
 use mathlib.Core.Bool.{Bool, true, false}
@@ -6,26 +6,26 @@ use mathlib.Core.List.{List, _∷_, map}
 use native.Mathlib.Nat.{zero-add}
 use native.Mathlib.Omega.{arith}
 use lib.ListN.{length, take, drop, length-append}
-use Rattle.lists.specs.Lists.{flat, countFrom}
+use Rattle.lists.specs.Lists.{flatten, iota}
 use Rattle.lists.specs.Laws.Parts.{take-drop}
-use Rattle.lists.specs.Laws.Rising.{countFrom-snoc, length-countFrom}
+use Rattle.lists.specs.Laws.Rising.{iota-snoc, length-iota}
 use Rattle.levels_text.specs.Written.{field}
 use Rattle.levels_text.specs.Laws.Decimals.{fields-more, length-fields}
-use Rattle.listing_spec.specs.Listings.{lead}
-use Rattle.listing_spec.specs.Laws.Moves.{fieldsLength}
-use Rattle.listing_convert.specs.inner.Moving.{movedRow}
+use Rattle.listing_spec.specs.Listings.{prefixWidth}
+use Rattle.listing_spec.specs.Laws.Conversions.{fieldsLength}
+use Rattle.listing_convert.specs.inner.Converting.{convertedRow}
 
 -- at most eleven for each
-pub numbers-few : (count : ℕ) → length (flat (map field (countFrom 0 count))) ≤ 11 * count
-numbers-few count = omega (arith, length-fields (countFrom 0 count), length-countFrom 0 count)
+pub numbers-few : (count : ℕ) → length (flatten (map field (iota 0 count))) ≤ 11 * count
+numbers-few count = omega (arith, length-fields (iota 0 count), length-iota 0 count)
 
 -- the bytes of the numbers so far
 pub record Summing (count total number : ℕ) : Type 0 where
   pub inside : number ≤ count
-  pub summed : total ≡ length (flat (map field (countFrom 0 number)))
+  pub summed : total ≡ length (flatten (map field (iota 0 number)))
 
 pub summing-begin : (count : ℕ) → Summing count 0 0
-summing-begin count = record { inside = omega arith; summed = unfold flat countFrom in refl }
+summing-begin count = record { inside = omega arith; summed = unfold flatten iota in refl }
 
 pub summing-few : {count total number : ℕ} → Summing count total number → total ≤ 11 * number
 summing-few {count} {total} {number} v = omega (arith, v .summed, numbers-few number)
@@ -33,35 +33,35 @@ summing-few {count} {total} {number} v = omega (arith, v .summed, numbers-few nu
 pub summing-more : {count total number next : ℕ} → Summing count total number → number < count → next ≡ length (field number) → Summing count (total + next) (number + 1)
 summing-more {count} {total} {number} {next} v less e = record { inside = omega arith; summed = omega (arith, v .summed, e, longer) }
   where
-    longer : length (flat (map field (countFrom 0 (number + 1)))) ≡ length (flat (map field (countFrom 0 number))) + length (field number)
+    longer : length (flatten (map field (iota 0 (number + 1)))) ≡ length (flatten (map field (iota 0 number))) + length (field number)
     longer =
-        rw (countFrom-snoc 0 number, zero-add number, fields-more (countFrom 0 number) number)
-        (length-append (flat (map field (countFrom 0 number))) (field number))
+        rw (iota-snoc 0 number, zero-add number, fields-more (iota 0 number) number)
+        (length-append (flatten (map field (iota 0 number))) (field number))
 
-pub summing-end : {count total number : ℕ} → Summing count total number → count ≤ number → total ≡ length (flat (map field (countFrom 0 count)))
+pub summing-end : {count total number : ℕ} → Summing count total number → count ≤ number → total ≡ length (flatten (map field (iota 0 count)))
 summing-end {count} {total} {number} v over = let same : number ≡ count = omega (arith, v .inside) in rw same at (v .summed)
 
 -- ---- a row's numbers in the other form
 
 module _ (columns number : ℕ) (numbers : List ℕ) where
-  pub row-back : take (columns + 1 - 1) (drop 1 numbers) ≡ movedRow true number (take (lead true + columns) numbers)
-  unfolding movedRow lead
+  pub row-back : take (columns + 1 - 1) (drop 1 numbers) ≡ convertedRow true number (take (prefixWidth true + columns) numbers)
+  unfolding convertedRow prefixWidth
   row-back = let n : columns + 1 - 1 ≡ columns = omega arith in rw n (take-drop 1 columns numbers)
 
-  pub row-forth : number ∷ take columns numbers ≡ movedRow false number (take (lead false + columns) numbers)
-  unfolding movedRow lead
+  pub row-forth : number ∷ take columns numbers ≡ convertedRow false number (take (prefixWidth false + columns) numbers)
+  unfolding convertedRow prefixWidth
   row-forth = let none : 0 + columns ≡ columns = omega arith in rw none
 
 module _ {numbered : Bool} (columns : ℕ) {long : ℕ} where
-  pub long-back : numbered ≡ true → lead numbered + columns ≤ long → columns + 1 ≤ long
-  unfolding lead
+  pub long-back : numbered ≡ true → prefixWidth numbered + columns ≤ long → columns + 1 ≤ long
+  unfolding prefixWidth
   long-back e h = let k : 1 + columns ≤ long = rw e at h in omega (arith, k)
 
-  pub long-forth : numbered ≡ false → lead numbered + columns ≤ long → columns ≤ long
-  unfolding lead
+  pub long-forth : numbered ≡ false → prefixWidth numbered + columns ≤ long → columns ≤ long
+  unfolding prefixWidth
   long-forth e h = let k : 0 + columns ≤ long = rw e at h in omega (arith, k)
 
 -- with the count's own
-pub fields-sum : (rows : ℕ) {a b : ℕ} → a ≡ length (field rows) → b ≡ length (flat (map field (countFrom 0 rows))) → a + b ≡ fieldsLength rows
+pub fields-sum : (rows : ℕ) {a b : ℕ} → a ≡ length (field rows) → b ≡ length (flatten (map field (iota 0 rows))) → a + b ≡ fieldsLength rows
 unfolding fieldsLength
 fields-sum rows e f = omega (arith, e, f)

@@ -1,3 +1,3 @@
 pub mod Lengths
-pub mod Moving
+pub mod Converting
 pub mod Answers

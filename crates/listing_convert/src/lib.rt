@@ -7,29 +7,29 @@ ghost use mathlib.Core.Option.{some};
 ghost use Prim.Native.Nat.{_+_, _≤_, _<_};
 ghost use lib.ListN.{length, take};
 ghost use lib.Dec.{ltb, eqb};
-ghost use Rattle.lists.specs.Lists.{flat, countFrom};
+ghost use Rattle.lists.specs.Lists.{flatten, iota};
 ghost use Rattle.levels_text.specs.Written.{field, textLine};
 ghost use Rattle.levels_text.specs.inner.Appending.{Appended};
-ghost use Rattle.listing_spec.specs.Listings.{headLetter, lead, movedText, ListingMoved};
+ghost use Rattle.listing_spec.specs.Listings.{headLetter, prefixWidth, convertedText, ListingConverted};
 ghost use Rattle.listing_spec.specs.inner.Checking.{listingIn};
-ghost use Rattle.listing_spec.specs.Laws.Moves.{fieldsLength};
+ghost use Rattle.listing_spec.specs.Laws.Conversions.{fieldsLength};
 ghost use Rattle.listing_parse.specs.inner.Surveys.{Listed};
-ghost use Rattle.listing_parse.specs.Laws.Steps.{rowsFrom, Awaited};
-ghost use Rattle.listing_convert.specs.inner.Moving.{movedRow, movedFrom, movedHead, movedLength};
+ghost use Rattle.listing_parse.specs.Laws.Steps.{rowsFrom, ValidRows};
+ghost use Rattle.listing_convert.specs.inner.Converting.{convertedRow, convertedFrom, convertedHead, convertedLength};
 use levels_text::MOST_NUMBERS;
 use levels_text::write::number_length;
 use levels_text::write::put_line;
 use levels_text::write::put_numbered;
 use listing_parse::Survey;
 use listing_parse::line_at;
-use listing_parse::look_through;
 use listing_parse::row_width;
-use listing_spec::MoveAnswer;
+use listing_parse::scan_text;
+use listing_spec::TextAnswer;
 
 // The bytes that all numbers below a count take as fields.
 fn numbers_length(count: u32) -> usize
     requires { ⌜ count ≤ 65536 ⌝ }
-    ensures { λ r. ⌜ r ≡ length (flat (map field (countFrom 0 count))) ⌝ }
+    ensures { λ r. ⌜ r ≡ length (flatten (map field (iota 0 count))) ⌝ }
 {
     let mut total = 0;
     let mut number = 0;
@@ -41,7 +41,7 @@ fn numbers_length(count: u32) -> usize
 }
 
 // Writes a D line in the other form: without its number, or with `number` before its cells.
-fn move_row(
+fn convert_row(
     numbered: bool,
     columns: usize,
     number: u32,
@@ -50,9 +50,9 @@ fn move_row(
     used: usize,
 ) -> usize
     requires { ⌜ columns ≤ 8 ⌝ }
-    requires { ⌜ lead numbered + columns ≤ length (now numbers) ⌝ }
-    requires { ⌜ used + length (textLine 68 (movedRow numbered number (take (lead numbered + columns) (now numbers)))) ≤ length (now output) ⌝ }
-    ensures { λ r. ⌜ Appended (now (output .entry)) used (textLine 68 (movedRow numbered number (take (lead numbered + columns) (now (numbers .entry))))) (now (output .exit)) r ⌝ }
+    requires { ⌜ prefixWidth numbered + columns ≤ length (now numbers) ⌝ }
+    requires { ⌜ used + length (textLine 68 (convertedRow numbered number (take (prefixWidth numbered + columns) (now numbers)))) ≤ length (now output) ⌝ }
+    ensures { λ r. ⌜ Appended (now (output .entry)) used (textLine 68 (convertedRow numbered number (take (prefixWidth numbered + columns) (now (numbers .entry))))) (now (output .exit)) r ⌝ }
 {
     if numbered {
         return put_line(output, used, b'D', &numbers[1..columns + 1]);
@@ -61,7 +61,7 @@ fn move_row(
 }
 
 // Writes the D lines in the other form.
-fn move_rows(
+fn convert_rows(
     numbered: bool,
     columns: usize,
     text: &[u8],
@@ -73,10 +73,10 @@ fn move_rows(
     requires { ⌜ columns ≤ 8 ⌝ }
     requires { ⌜ start ≤ length (now text) ⌝ }
     requires { ⌜ 59 ≤ length (now numbers) ⌝ }
-    requires { ⌜ Awaited numbered columns (now text) start ⌝ }
+    requires { ⌜ ValidRows numbered columns (now text) start ⌝ }
     requires { ⌜ length (rowsFrom (now text) start) ≤ 65536 ⌝ }
-    requires { ⌜ used + length (flat (map (textLine 68) (movedFrom numbered 0 (rowsFrom (now text) start)))) ≤ length (now output) ⌝ }
-    ensures { λ r. ⌜ Appended (now (output .entry)) used (flat (map (textLine 68) (movedFrom numbered 0 (rowsFrom (now (text .entry)) start)))) (now (output .exit)) r ⌝ }
+    requires { ⌜ used + length (flatten (map (textLine 68) (convertedFrom numbered 0 (rowsFrom (now text) start)))) ≤ length (now output) ⌝ }
+    ensures { λ r. ⌜ Appended (now (output .entry)) used (flatten (map (textLine 68) (convertedFrom numbered 0 (rowsFrom (now (text .entry)) start)))) (now (output .exit)) r ⌝ }
 {
     let width = row_width(numbered, columns);
     let mut end = used;
@@ -87,7 +87,7 @@ fn move_rows(
         if next == 0 {
             return end;
         }
-        end = move_row(numbered, columns, number, numbers, output, end);
+        end = convert_row(numbered, columns, number, numbers, output, end);
         number += 1;
         at = next;
     }
@@ -95,9 +95,9 @@ fn move_rows(
 }
 
 // Writes the head line in the other form.
-fn move_head(numbered: bool, s: Survey, output: &mut [u8]) -> usize
-    requires { ⌜ length (textLine (headLetter (not numbered)) (movedHead numbered s)) ≤ length (now output) ⌝ }
-    ensures { λ r. ⌜ Appended (now (output .entry)) 0 (textLine (headLetter (not numbered)) (movedHead numbered s)) (now (output .exit)) r ⌝ }
+fn convert_head(numbered: bool, s: Survey, output: &mut [u8]) -> usize
+    requires { ⌜ length (textLine (headLetter (not numbered)) (convertedHead numbered s)) ≤ length (now output) ⌝ }
+    ensures { λ r. ⌜ Appended (now (output .entry)) 0 (textLine (headLetter (not numbered)) (convertedHead numbered s)) (now (output .exit)) r ⌝ }
 {
     if numbered {
         let head = [s.columns, s.keys, s.sort, s.rule, s.generation];
@@ -108,14 +108,14 @@ fn move_head(numbered: bool, s: Survey, output: &mut [u8]) -> usize
 }
 
 // Writes the whole text in the other form.
-fn write_moved(numbered: bool, s: Survey, text: &[u8], output: &mut [u8]) -> usize
+fn write_converted(numbered: bool, s: Survey, text: &[u8], output: &mut [u8]) -> usize
     requires { ⌜ Listed numbered (now text) s ⌝ }
-    requires { ⌜ length (movedText numbered (some (listingIn (now text)))) ≤ length (now output) ⌝ }
-    ensures { λ r. ⌜ Appended (now (output .entry)) 0 (movedText numbered (some (listingIn (now (text .entry))))) (now (output .exit)) r ⌝ }
+    requires { ⌜ length (convertedText numbered (some (listingIn (now text)))) ≤ length (now output) ⌝ }
+    ensures { λ r. ⌜ Appended (now (output .entry)) 0 (convertedText numbered (some (listingIn (now (text .entry))))) (now (output .exit)) r ⌝ }
 {
-    let used = move_head(numbered, s, output);
+    let used = convert_head(numbered, s, output);
     let mut numbers = [0u32; MOST_NUMBERS];
-    move_rows(
+    convert_rows(
         numbered,
         s.columns as usize,
         text,
@@ -140,7 +140,7 @@ fn lacks_row(numbered: bool, s: Survey) -> bool
 fn lacks_room(numbered: bool, rows: u32, text: usize, output: usize) -> bool
     requires { ⌜ rows ≤ 65536 ⌝ }
     requires { ⌜ (numbered ≡ true → fieldsLength rows ≤ text) ⌝ }
-    ensures { λ r. ⌜ r ≡ ltb output (movedLength numbered rows text) ⌝ }
+    ensures { λ r. ⌜ r ≡ ltb output (convertedLength numbered rows text) ⌝ }
 {
     let fields = number_length(rows) + numbers_length(rows);
     if numbered {
@@ -153,40 +153,40 @@ fn lacks_room(numbered: bool, rows: u32, text: usize, output: usize) -> bool
 }
 
 // Converts a text that is of the form.
-fn move_found(numbered: bool, s: Survey, text: &[u8], output: &mut [u8]) -> MoveAnswer
+fn convert_found(numbered: bool, s: Survey, text: &[u8], output: &mut [u8]) -> TextAnswer
     requires { ⌜ Listed numbered (now text) s ⌝ }
-    ensures { λ r. ⌜ ListingMoved numbered (now (text .entry)) (now (output .entry)) r (now (output .exit)) ⌝ }
+    ensures { λ r. ⌜ ListingConverted numbered (now (text .entry)) (now (output .entry)) r (now (output .exit)) ⌝ }
 {
     if lacks_row(numbered, s) {
-        return MoveAnswer::Refused(17);
+        return TextAnswer::Refused(17);
     }
     if lacks_room(numbered, s.rows, text.len(), output.len()) {
-        return MoveAnswer::Refused(2);
+        return TextAnswer::Refused(2);
     }
-    MoveAnswer::Written(write_moved(numbered, s, text, output))
+    TextAnswer::Written(write_converted(numbered, s, text, output))
 }
 
 // Converts from the given form to the other.
-fn move_listing(numbered: bool, text: &[u8], output: &mut [u8]) -> MoveAnswer
-    ensures { λ r. ⌜ ListingMoved numbered (now (text .entry)) (now (output .entry)) r (now (output .exit)) ⌝ }
+fn convert_listing(numbered: bool, text: &[u8], output: &mut [u8]) -> TextAnswer
+    ensures { λ r. ⌜ ListingConverted numbered (now (text .entry)) (now (output .entry)) r (now (output .exit)) ⌝ }
 {
-    let s = look_through(numbered, text);
+    let s = scan_text(numbered, text);
     if s.is_listing {
-        return move_found(numbered, s, text, output);
+        return convert_found(numbered, s, text, output);
     }
-    MoveAnswer::Refused(11)
+    TextAnswer::Refused(11)
 }
 
 // From the old form to the new: rows are numbered from 0.
-pub fn to_numbered(text: &[u8], output: &mut [u8]) -> MoveAnswer
-    ensures { λ r. ⌜ ListingMoved false (now (text .entry)) (now (output .entry)) r (now (output .exit)) ⌝ }
+pub fn to_numbered(text: &[u8], output: &mut [u8]) -> TextAnswer
+    ensures { λ r. ⌜ ListingConverted false (now (text .entry)) (now (output .entry)) r (now (output .exit)) ⌝ }
 {
-    move_listing(false, text, output)
+    convert_listing(false, text, output)
 }
 
 // From the new form to the old.
-pub fn from_numbered(text: &[u8], output: &mut [u8]) -> MoveAnswer
-    ensures { λ r. ⌜ ListingMoved true (now (text .entry)) (now (output .entry)) r (now (output .exit)) ⌝ }
+pub fn from_numbered(text: &[u8], output: &mut [u8]) -> TextAnswer
+    ensures { λ r. ⌜ ListingConverted true (now (text .entry)) (now (output .entry)) r (now (output .exit)) ⌝ }
 {
-    move_listing(true, text, output)
+    convert_listing(true, text, output)
 }

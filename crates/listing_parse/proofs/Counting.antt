@@ -8,8 +8,8 @@ use native.Mathlib.Numerals.{add-one}
 use native.Mathlib.Omega.{arith}
 use lib.ListN.{length, drop, getD, length-drop, drop-of-length-le}
 use borrow.Author.Tests.{ne-eqb, lt-ltb}
-use Rattle.lists.specs.Laws.Keep.{split}
-use Rattle.listing_spec.specs.inner.Checking.{pieces, isNil, rowsGood, rowsIn}
+use Rattle.lists.specs.Laws.Filter.{split}
+use Rattle.listing_spec.specs.inner.Checking.{pieces, isNil, rowsGood, linesToRows}
 use Rattle.listing_spec.specs.Laws.Pieces.{joined, joined-pieces}
 use Rattle.listing_spec.specs.Laws.Texts.{good-last, good-more}
 use Rattle.listing_parse.specs.inner.Lines.{RowFound, RowAt}
@@ -20,7 +20,7 @@ pub record Counting (numbered : Bool) (columns count : ℕ) (text : List ℕ) (s
   pub few : rows ≤ 65536
   pub same : length stored ≡ length lent
   pub good : rowsGood numbered columns count 0 65536 (pieces (drop start text)) ≡ rowsGood numbered columns count least (65536 - rows) (pieces (drop at text))
-  pub counted : length (rowsIn (pieces (drop start text))) ≡ rows + length (rowsIn (pieces (drop at text)))
+  pub counted : length (linesToRows (pieces (drop start text))) ≡ rows + length (linesToRows (pieces (drop at text)))
 
 module _ (numbered : Bool) (columns count : ℕ) (text : List ℕ) (start : ℕ) (lent : List ℕ) where
   pub counting-begin : start ≤ length text → Counting numbered columns count text start lent lent start 0 0
@@ -71,5 +71,5 @@ module _ (numbered : Bool) (columns count : ℕ) (text : List ℕ) (start : ℕ)
         none-come : pieces (drop at text) ≡ [] ∷ []
         none-come = rw (drop-of-length-le text over) (unfold pieces in refl)
 
-        no-rows : length (rowsIn (pieces (drop at text))) ≡ 0
-        no-rows = rw none-come (unfold rowsIn isNil in refl)
+        no-rows : length (linesToRows (pieces (drop at text))) ≡ 0
+        no-rows = rw none-come (unfold linesToRows isNil in refl)

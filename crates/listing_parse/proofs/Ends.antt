@@ -8,8 +8,8 @@ use lib.Dec.{eqb}
 use lib.ListN.{length, take, drop, getD, length-drop}
 use lib.Seq.{take-suc, split-at, drop-drop, getD-drop, take-all}
 use borrow.Author.Tests.{ne-eqb, eq-eqb}
-use Rattle.lists.specs.Lists.{putAt, has}
-use Rattle.lists.specs.Laws.Rising.{has-append}
+use Rattle.lists.specs.Lists.{splice, elem}
+use Rattle.lists.specs.Laws.Rising.{elem-append}
 use Rattle.lists.specs.Laws.Search.{take-put}
 use Rattle.levels_text.specs.declared.Parsed.{Parsed}
 use Rattle.levels_text.specs.declared.Parsed.the-variants.{Wrong, Line}
@@ -21,21 +21,21 @@ use Rattle.listing_parse.specs.inner.Lines.{LineEnd, lineIn, LineAt}
 
 -- ---- up to the newline
 
-other-byte : (x : ℕ) → (10 ≡ x → ⊥) → (false || has 10 (x ∷ [])) ≡ false
-unfolding has
+other-byte : (x : ℕ) → (10 ≡ x → ⊥) → (false || elem 10 (x ∷ [])) ≡ false
+unfolding elem
 other-byte x ne = rw (ne-eqb 10 x ne)
 
 -- no newline up to a place
 pub record Clean (text : List ℕ) (start at : ℕ) : Type 0 where
   pub forward : start ≤ at
   pub inside : at ≤ length text
-  pub clean : has 10 (take (at - start) (drop start text)) ≡ false
+  pub clean : elem 10 (take (at - start) (drop start text)) ≡ false
 
 pub clean-begin : (text : List ℕ) (start : ℕ) → start ≤ length text → Clean text start start
 clean-begin text start inside = record { forward = omega arith; inside = inside; clean = none }
   where
-    none : has 10 (take (start - start) (drop start text)) ≡ false
-    none = let z : start - start ≡ 0 = omega arith in rw z (unfold has in refl)
+    none : elem 10 (take (start - start) (drop start text)) ≡ false
+    none = let z : start - start ≡ 0 = omega arith in rw z (unfold elem in refl)
 
 module _ {text : List ℕ} {start at : ℕ} (v : Clean text start at) where
   pub clean-more : at < length text → (getD text at 0 ≡ 10 → ⊥) → Clean text start (at + 1)
@@ -49,10 +49,10 @@ module _ {text : List ℕ} {start at : ℕ} (v : Clean text start at) where
           let less : at - start < length (drop start text) = omega (arith, v .forward) in
           rw (n, take-suc (drop start text) (at - start) 0 less, getD-drop start text (at - start) 0, m)
 
-      longer : has 10 (take (at + 1 - start) (drop start text)) ≡ false
+      longer : elem 10 (take (at + 1 - start) (drop start text)) ≡ false
       longer =
           let ne : 10 ≡ getD text at 0 → ⊥ = λ e. other (sym e) in
-          rw (one-more, has-append 10 (take (at - start) (drop start text)) (getD text at 0 ∷ []), v .clean) (other-byte (getD text at 0) ne)
+          rw (one-more, elem-append 10 (take (at - start) (drop start text)) (getD text at 0 ∷ []), v .clean) (other-byte (getD text at 0) ne)
 
   pub ended-newline : getD text at 0 ≡ 10 → LineEnd text start at
   ended-newline e = record { forward = v .forward; inside = v .inside; clean = v .clean; ended = λ h. e }
@@ -110,34 +110,34 @@ module _ (text : List ℕ) (start end : ℕ) (e : LineEnd text start end) where
         unfolding line
         line-no-line w = wrong-line (rw (read-refused line lent r stored p long w))
 
-        module _ (got count : ℕ) (told : r ≡ Line got count) where
+        module _ (got count : ℕ) (result-is : r ≡ Line got count) where
           pub line-letter : (got ≡ first → ⊥) → LineAt text start first width 0 stored
           unfolding line
           line-letter ne =
-              let other : letter line ≡ first → ⊥ = λ q. ne (read-letter line lent r stored p got count told ∙ q) in
+              let other : letter line ≡ first → ⊥ = λ q. ne (read-letter line lent r stored p got count result-is ∙ q) in
               wrong-line (rw (ne-eqb (letter line) first other, and-false (isLine line)))
 
           pub line-count : (count ≡ width → ⊥) → LineAt text start first width 0 stored
           unfolding line
           line-count ne =
-              let other : length (numbers line) ≡ width → ⊥ = λ q. ne (read-count line lent r stored p got count told ∙ q) in
+              let other : length (numbers line) ≡ width → ⊥ = λ q. ne (read-count line lent r stored p got count result-is ∙ q) in
               wrong-line (rw (ne-eqb (length (numbers line)) width other, and-false (isLine line && eqb (letter line) first)))
 
           pub line-found : got ≡ first → count ≡ width → LineAt text start first width (end + 1) stored
           unfolding line
           line-found l w =
-              let lettered : letter line ≡ first = sym (read-letter line lent r stored p got count told) ∙ l in
-              let wide : length (numbers line) ≡ width = sym (read-count line lent r stored p got count told) ∙ w in
+              let lettered : letter line ≡ first = sym (read-letter line lent r stored p got count result-is) ∙ l in
+              let wide : length (numbers line) ≡ width = sym (read-count line lent r stored p got count result-is) ∙ w in
               let same : lineIn text start (end + 1) ≡ line = line-behind in
-              let put : stored ≡ putAt lent 0 (numbers line) = read-put line lent r stored p got count told in
+              let put : stored ≡ splice lent 0 (numbers line) = read-put line lent r stored p got count result-is in
               record {
                 wrong = λ z. absurd (omega (arith, z));
                 found = λ some. record {
                   forward = omega (arith, e .forward);
                   inside = omega (arith, inside);
                   cut = rw same cut;
-                  good = tests ∙ rw (read-taken line lent r stored p got count told, eq-eqb (letter line) first lettered, eq-eqb (length (numbers line)) width wide);
+                  good = tests ∙ rw (read-taken line lent r stored p got count result-is, eq-eqb (letter line) first lettered, eq-eqb (length (numbers line)) width wide);
                   read = rw (same, put, ← wide) (take-put lent (numbers line));
-                  wide = omega (arith, w, read-fits line lent r stored p got count told);
+                  wide = omega (arith, w, read-fits line lent r stored p got count result-is);
                 };
               }

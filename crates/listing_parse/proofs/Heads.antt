@@ -1,4 +1,4 @@
--- The ways through `keeps_bounds`, `head_at` and `look_through`. Assumes nothing.
+-- The ways through `keeps_bounds`, `head_at` and `scan_text`. Assumes nothing.
 use Prim.Native.Nat.{ℕ, _≤_, _<_}
 use mathlib.Core.Path.{_≡_, refl, sym, ap, _∙_}
 use mathlib.Core.Bool.{Bool, true, false, cond, not, _&&_, and-false, false≢true}
@@ -10,7 +10,7 @@ use lib.ListN.{length, take, drop, getD, List·getD-eq-default}
 use lib.Seq.{getD-take, length-take-le, take-suc}
 use borrow.Author.Tests.{eq-eqb, ne-eqb, le-leb, lt-leb, lt-ltb, le-ltb}
 use Rattle.listing_spec.specs.Listings.{headLetter, headWidth, keepsBounds, isHead}
-use Rattle.listing_spec.specs.inner.Checking.{pieces, begins, rowsGood, rowsIn, piecesGood, listingOf, textGood, listingIn}
+use Rattle.listing_spec.specs.inner.Checking.{pieces, begins, rowsGood, linesToRows, piecesGood, listingOf, textGood, listingIn}
 use Rattle.listing_spec.specs.Laws.Texts.{bounds-columns}
 use Rattle.listing_parse.specs.declared.Survey.{Survey}
 use Rattle.listing_parse.specs.inner.Lines.{lineIn, Found, LineAt}
@@ -120,7 +120,7 @@ module _ (numbered : Bool) (text : List ℕ) {next : ℕ} {stored : List ℕ} (f
         head-same : listingIn text .head ≡ ns
         head-same = unfold listingIn listingOf in rw (cut, f .read)
 
-        rows-same : listingIn text .rows ≡ rowsIn (pieces (drop next text))
+        rows-same : listingIn text .rows ≡ linesToRows (pieces (drop next text))
         rows-same = unfold listingIn listingOf in rw cut
 
 -- ---- the whole text

@@ -4,7 +4,7 @@ ghost use mathlib.Core.Path.{_≡_};
 ghost use mathlib.Core.Bool.{false, cond};
 ghost use Prim.Native.Nat.{_+_, _≤_, _<_};
 ghost use lib.ListN.{length};
-ghost use Rattle.listing_spec.specs.Listings.{headLetter, headWidth, lead, keepsBounds};
+ghost use Rattle.listing_spec.specs.Listings.{headLetter, headWidth, prefixWidth, keepsBounds};
 ghost use Rattle.listing_spec.specs.inner.Checking.{rowFits};
 ghost use Rattle.listing_parse.specs.inner.Lines.{LineEnd, LineAt, RowAt};
 ghost use Rattle.listing_parse.specs.inner.Surveys.{Counted, HeadAt, Surveyed};
@@ -58,7 +58,7 @@ pub fn line_at(text: &[u8], start: usize, letter: u8, width: usize, numbers: &mu
 // How many numbers a D line has.
 pub fn row_width(numbered: bool, columns: usize) -> usize
     requires { ⌜ columns ≤ 8 ⌝ }
-    ensures { λ r. ⌜ r ≡ lead numbered + columns ⌝ }
+    ensures { λ r. ⌜ r ≡ prefixWidth numbered + columns ⌝ }
 {
     if numbered {
         return 1 + columns;
@@ -68,7 +68,7 @@ pub fn row_width(numbered: bool, columns: usize) -> usize
 
 // True if the first cell is not dead, and the row number is at least `least` and below the count.
 fn row_fits(numbered: bool, count: u32, least: usize, numbers: &[u32]) -> bool
-    requires { ⌜ lead numbered < length (now numbers) ⌝ }
+    requires { ⌜ prefixWidth numbered < length (now numbers) ⌝ }
     ensures { λ r. ⌜ r ≡ rowFits numbered count least (now (numbers .entry)) ⌝ }
 {
     if numbered {
@@ -232,7 +232,7 @@ fn no_listing() -> Survey
 }
 
 // Scans a whole text.
-pub fn look_through(numbered: bool, text: &[u8]) -> Survey
+pub fn scan_text(numbered: bool, text: &[u8]) -> Survey
     ensures { λ r. ⌜ Surveyed numbered (now (text .entry)) r ⌝ }
 {
     let mut numbers = [0u32; MOST_NUMBERS];

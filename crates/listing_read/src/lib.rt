@@ -4,16 +4,16 @@ ghost use mathlib.Core.Path.{_≡_};
 ghost use mathlib.Core.Bool.{true, false};
 ghost use Prim.Native.Nat.{_≤_, _<_};
 ghost use lib.ListN.{length};
-ghost use Rattle.lists.specs.Lists.{putAt, flat};
-ghost use Rattle.listing_spec.specs.Listings.{ListingRead, listingSays, numberedSays};
+ghost use Rattle.lists.specs.Lists.{splice, flatten};
+ghost use Rattle.listing_spec.specs.Listings.{ListingRead, listingView, numberedView};
 ghost use Rattle.listing_parse.specs.inner.Surveys.{Listed};
-ghost use Rattle.listing_parse.specs.Laws.Steps.{rowsFrom, Awaited};
-ghost use Rattle.listing_read.specs.inner.Outcomes.{outcomeSays};
+ghost use Rattle.listing_parse.specs.Laws.Steps.{rowsFrom, ValidRows};
+ghost use Rattle.listing_read.specs.inner.ReadResults.{readView};
 use levels_text::MOST_NUMBERS;
 use listing_parse::Survey;
 use listing_parse::line_at;
-use listing_parse::look_through;
 use listing_parse::row_width;
+use listing_parse::scan_text;
 use listing_spec::ListingAnswer;
 use listing_spec::ListingHead;
 use listing_spec::NumberedAnswer;
@@ -31,9 +31,9 @@ fn write_rows(
     requires { ⌜ columns ≤ 8 ⌝ }
     requires { ⌜ start ≤ length (now text) ⌝ }
     requires { ⌜ 59 ≤ length (now numbers) ⌝ }
-    requires { ⌜ Awaited numbered columns (now text) start ⌝ }
-    requires { ⌜ length (flat (rowsFrom (now text) start)) ≤ length (now output) ⌝ }
-    ensures { λ _. ⌜ now (output .exit) ≡ putAt (now (output .entry)) 0 (flat (rowsFrom (now (text .entry)) start)) ⌝ }
+    requires { ⌜ ValidRows numbered columns (now text) start ⌝ }
+    requires { ⌜ length (flatten (rowsFrom (now text) start)) ≤ length (now output) ⌝ }
+    ensures { λ _. ⌜ now (output .exit) ≡ splice (now (output .entry)) 0 (flatten (rowsFrom (now (text .entry)) start)) ⌝ }
 {
     let width = row_width(numbered, columns);
     let mut at = start;
@@ -50,44 +50,44 @@ fn write_rows(
 }
 
 // The result of reading, in either form.
-enum Outcome {
+enum ReadResult {
     Refused(u32),
     Found(Survey),
 }
 
 // Reads a text that is of the form.
-fn read_found(numbered: bool, s: Survey, text: &[u8], output: &mut [u32]) -> Outcome
+fn read_found(numbered: bool, s: Survey, text: &[u8], output: &mut [u32]) -> ReadResult
     requires { ⌜ Listed numbered (now text) s ⌝ }
-    ensures { λ r. ⌜ ListingRead numbered (now (text .entry)) (now (output .entry)) (outcomeSays numbered r) (now (output .exit)) ⌝ }
+    ensures { λ r. ⌜ ListingRead numbered (now (text .entry)) (now (output .entry)) (readView numbered r) (now (output .exit)) ⌝ }
 {
     let columns = s.columns as usize;
     let rows = s.rows as usize;
     let width = row_width(numbered, columns);
     if output.len() < rows * width {
-        return Outcome::Refused(2);
+        return ReadResult::Refused(2);
     }
     let mut numbers = [0u32; MOST_NUMBERS];
     write_rows(numbered, columns, text, s.start, &mut numbers, output);
-    Outcome::Found(s)
+    ReadResult::Found(s)
 }
 
-fn read(numbered: bool, text: &[u8], output: &mut [u32]) -> Outcome
-    ensures { λ r. ⌜ ListingRead numbered (now (text .entry)) (now (output .entry)) (outcomeSays numbered r) (now (output .exit)) ⌝ }
+fn read(numbered: bool, text: &[u8], output: &mut [u32]) -> ReadResult
+    ensures { λ r. ⌜ ListingRead numbered (now (text .entry)) (now (output .entry)) (readView numbered r) (now (output .exit)) ⌝ }
 {
-    let s = look_through(numbered, text);
+    let s = scan_text(numbered, text);
     if s.is_listing {
         return read_found(numbered, s, text, output);
     }
-    Outcome::Refused(11)
+    ReadResult::Refused(11)
 }
 
 // Reads a listing in the old form.
 pub fn read_listing(text: &[u8], output: &mut [u32]) -> ListingAnswer
-    ensures { λ r. ⌜ ListingRead false (now (text .entry)) (now (output .entry)) (listingSays r) (now (output .exit)) ⌝ }
+    ensures { λ r. ⌜ ListingRead false (now (text .entry)) (now (output .entry)) (listingView r) (now (output .exit)) ⌝ }
 {
     match read(false, text, output) {
-        Outcome::Refused(number) => ListingAnswer::Refused(number),
-        Outcome::Found(s) => ListingAnswer::Listing(ListingHead {
+        ReadResult::Refused(number) => ListingAnswer::Refused(number),
+        ReadResult::Found(s) => ListingAnswer::Listing(ListingHead {
             columns: s.columns,
             keys: s.keys,
             sort: s.sort,
@@ -100,11 +100,11 @@ pub fn read_listing(text: &[u8], output: &mut [u32]) -> ListingAnswer
 
 // Reads a listing in the new form.
 pub fn read_numbered(text: &[u8], output: &mut [u32]) -> NumberedAnswer
-    ensures { λ r. ⌜ ListingRead true (now (text .entry)) (now (output .entry)) (numberedSays r) (now (output .exit)) ⌝ }
+    ensures { λ r. ⌜ ListingRead true (now (text .entry)) (now (output .entry)) (numberedView r) (now (output .exit)) ⌝ }
 {
     match read(true, text, output) {
-        Outcome::Refused(number) => NumberedAnswer::Refused(number),
-        Outcome::Found(s) => NumberedAnswer::Listing(NumberedHead {
+        ReadResult::Refused(number) => NumberedAnswer::Refused(number),
+        ReadResult::Found(s) => NumberedAnswer::Listing(NumberedHead {
             columns: s.columns,
             keys: s.keys,
             sort: s.sort,

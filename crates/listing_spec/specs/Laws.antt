@@ -3,6 +3,6 @@ pub mod Decimals
 pub mod Lines
 pub mod Pieces
 pub mod Texts
-pub mod Moves
+pub mod Conversions
 pub mod Determined
 pub mod Restored

@@ -16,15 +16,15 @@ use mathlib.Core.List.{List, [], _∷_, _++_, map}
 use mathlib.Core.Option.{Option, none, some}
 use lib.ListN.{length, take, drop, getD}
 use lib.Dec.{leb, ltb, eqb}
-use Rattle.lists.specs.Lists.{putAt, every, flat, countFrom, rising, has}
-use Rattle.refusals.specs.Refusals.{rung, first, Reply, refused, accepted, reply}
+use Rattle.lists.specs.Lists.{splice, all, flatten, iota, rising, elem}
+use Rattle.refusals.specs.Refusals.{check, firstRefusal, Reply, refused, accepted, reply}
 use Rattle.levels_text.specs.Written.{textLine}
 use Rattle.listing_spec.specs.declared.ListingAnswer.{ListingAnswer}
 use Rattle.listing_spec.specs.declared.ListingAnswer.the-variants.{Refused as ReadRefused, Listing as Read}
 use Rattle.listing_spec.specs.declared.NumberedAnswer.{NumberedAnswer}
 use Rattle.listing_spec.specs.declared.NumberedAnswer.the-variants.{Refused as NumberedRefused, Listing as NumberedRead}
-use Rattle.listing_spec.specs.declared.MoveAnswer.{MoveAnswer}
-use Rattle.listing_spec.specs.declared.MoveAnswer.the-variants.{Refused as MoveRefused, Written as MoveWritten}
+use Rattle.listing_spec.specs.declared.TextAnswer.{TextAnswer}
+use Rattle.listing_spec.specs.declared.TextAnswer.the-variants.{Refused as MoveRefused, Written as MoveWritten}
 
 -- a listing: the numbers of its head line, and those of each D line
 pub record Listing : Type 0 where
@@ -40,16 +40,16 @@ unfoldable pub headWidth : Bool → ℕ
 headWidth numbered = cond numbered 6 5
 
 -- how many numbers come before a row's cells: "each D line has the row number as its first field after D"
-unfoldable pub lead : Bool → ℕ
-lead numbered = cond numbered 1 0
+unfoldable pub prefixWidth : Bool → ℕ
+prefixWidth numbered = cond numbered 1 0
 
 -- the text of a listing: "each line ends in one newline" (D is 68)
 unfoldable pub listingText : Bool → Listing → List ℕ
-listingText numbered l = textLine (headLetter numbered) (l .head) ++ flat (map (textLine 68) (l .rows))
+listingText numbered l = textLine (headLetter numbered) (l .head) ++ flatten (map (textLine 68) (l .rows))
 
 -- "all fields are decimals": the numbers that fields can have. They are written as `levels` reads them (law `decimal-back`).
 unfoldable pub areNumbers : List ℕ → Bool
-areNumbers ns = every (λ n. leb n 4294967295) ns
+areNumbers ns = all (λ n. leb n 4294967295) ns
 
 -- "the head's numbers keep test 1's bounds": 1 to 8 columns, 1 to that many keys, a sort column, rules 0 to 3
 unfoldable pub keepsBounds : ℕ → ℕ → ℕ → ℕ → Bool
@@ -66,7 +66,7 @@ isHead numbered ns =
 -- "each D line has one cell for each column, its first cell is not 4294967295"
 unfoldable pub isRow : Bool → ℕ → List ℕ → Bool
 isRow numbered columns ns =
-    eqb (length ns) (lead numbered + columns) && not (eqb (getD ns (lead numbered) 0) 4294967295)
+    eqb (length ns) (prefixWidth numbered + columns) && not (eqb (getD ns (prefixWidth numbered) 0) 4294967295)
 
 -- the row numbers of a listing in the new form
 unfoldable pub rowNumbers : List (List ℕ) → List ℕ
@@ -74,58 +74,58 @@ rowNumbers rows = map (λ ns. getD ns 0 0) rows
 
 -- "Numbers rise strictly and are below the count"
 unfoldable pub areNumbered : ℕ → List (List ℕ) → Bool
-areNumbered count rows = rising (rowNumbers rows) && every (λ n. ltb n count) (rowNumbers rows)
+areNumbered count rows = rising (rowNumbers rows) && all (λ n. ltb n count) (rowNumbers rows)
 
 -- a listing of a form: "rows .. at most 65,536"
 unfoldable pub isListing : Bool → Listing → Bool
 isListing numbered l =
     areNumbers (l .head)
-    && every areNumbers (l .rows)
+    && all areNumbers (l .rows)
     && isHead numbered (l .head)
     && leb (length (l .rows)) 65536
-    && every (isRow numbered (getD (l .head) 0 0)) (l .rows)
+    && all (isRow numbered (getD (l .head) 0 0)) (l .rows)
     && cond numbered (areNumbered (getD (l .head) 5 0) (l .rows)) true
 
 -- the listing of the given form that has this text, if there is one
-pub data Shows (numbered : Bool) (text : List ℕ) : Option Listing → Type 0 where
-  shows : (l : Listing) → isListing numbered l ≡ true → text ≡ listingText numbered l → Shows numbered text (some l)
-  shows-none : ((l : Listing) → isListing numbered l ≡ true → text ≡ listingText numbered l → ⊥) → Shows numbered text none
+pub data ParsesAs (numbered : Bool) (text : List ℕ) : Option Listing → Type 0 where
+  parses : (l : Listing) → isListing numbered l ≡ true → text ≡ listingText numbered l → ParsesAs numbered text (some l)
+  parses-none : ((l : Listing) → isListing numbered l ≡ true → text ≡ listingText numbered l → ⊥) → ParsesAs numbered text none
 
 -- ---- readers
 
 -- "write each row's cells in turn, in the new form after its number"
-unfoldable pub cellsIn : Option Listing → List ℕ
-cellsIn none = []
-cellsIn (some l) = flat (l .rows)
+unfoldable pub listingCells : Option Listing → List ℕ
+listingCells none = []
+listingCells (some l) = flatten (l .rows)
 
 -- "11, a text not of the form named, .. then 2, an output shorter than what is to be written"
 unfoldable pub readRefusal : Option Listing → ℕ → ℕ
 readRefusal none output = 11
-readRefusal (some l) output = first (rung (ltb output (length (flat (l .rows)))) 2 ∷ [])
+readRefusal (some l) output = firstRefusal (check (ltb output (length (flatten (l .rows)))) 2 ∷ [])
 
 -- "give the head's numbers"; the number of listed rows is added, so that the caller finds the end of the cells
-unfoldable pub told : Option Listing → List ℕ
-told none = []
-told (some l) = l .head ++ (length (l .rows) ∷ [])
+unfoldable pub readWords : Option Listing → List ℕ
+readWords none = []
+readWords (some l) = l .head ++ (length (l .rows) ∷ [])
 
 -- the reply that an answer represents
-unfoldable pub listingSays : ListingAnswer → Reply (List ℕ)
-listingSays (ReadRefused n) = refused n
-listingSays (Read h) =
+unfoldable pub listingView : ListingAnswer → Reply (List ℕ)
+listingView (ReadRefused n) = refused n
+listingView (Read h) =
     accepted (h .columns ∷ h .keys ∷ h .sort ∷ h .rule ∷ h .generation ∷ h .listed ∷ [])
 
-unfoldable pub numberedSays : NumberedAnswer → Reply (List ℕ)
-numberedSays (NumberedRefused n) = refused n
-numberedSays (NumberedRead h) =
+unfoldable pub numberedView : NumberedAnswer → Reply (List ℕ)
+numberedView (NumberedRefused n) = refused n
+numberedView (NumberedRead h) =
     accepted (h .columns ∷ h .keys ∷ h .sort ∷ h .rule ∷ h .generation ∷ h .count ∷ h .listed ∷ [])
 
 -- The contract of both readers: the cells are at the start of the output, and nothing changes past them; on refusal nothing changes
 -- at all.
-pub record ListingRead (numbered : Bool) (text output : List ℕ) (says : Reply (List ℕ)) (output′ : List ℕ) : Type 0 where
+pub record ListingRead (numbered : Bool) (text output : List ℕ) (view : Reply (List ℕ)) (output′ : List ℕ) : Type 0 where
   pub listing : Option Listing
-  pub shown : Shows numbered text listing
-  pub answers : says ≡ reply (readRefusal listing (length output)) (told listing)
-  pub written : readRefusal listing (length output) ≡ 0 → output′ ≡ putAt output 0 (cellsIn listing)
+  pub shown : ParsesAs numbered text listing
+  pub answers : view ≡ reply (readRefusal listing (length output)) (readWords listing)
+  pub written : readRefusal listing (length output) ≡ 0 → output′ ≡ splice output 0 (listingCells listing)
   pub unchanged : 0 < readRefusal listing (length output) → output′ ≡ output
 
 -- ---- conversions
@@ -144,44 +144,44 @@ fromNumbered l = record { head = take 5 (l .head); rows = map (drop 1) (l .rows)
 
 -- "some number below the count has no row"
 unfoldable pub lacksRow : Listing → Bool
-lacksRow l = not (every (λ n. has n (rowNumbers (l .rows))) (countFrom 0 (getD (l .head) 5 0)))
+lacksRow l = not (all (λ n. elem n (rowNumbers (l .rows))) (iota 0 (getD (l .head) 5 0)))
 
 -- the text of a listing in the other form
-unfoldable pub movedText : Bool → Option Listing → List ℕ
-movedText numbered none = []
-movedText numbered (some l) = cond numbered (listingText false (fromNumbered l)) (listingText true (toNumbered l))
+unfoldable pub convertedText : Bool → Option Listing → List ℕ
+convertedText numbered none = []
+convertedText numbered (some l) = cond numbered (listingText false (fromNumbered l)) (listingText true (toNumbered l))
 
 -- "After 11, a text not of the form named, comes 17, given on the way to the old form exactly when some number below the count has
 -- no row, then 2, an output shorter than what is to be written"
-unfoldable pub moveRefusal : Bool → Option Listing → ℕ → ℕ
-moveRefusal numbered none output = 11
-moveRefusal numbered (some l) output =
-    first (rung (numbered && lacksRow l) 17 ∷ rung (ltb output (length (movedText numbered (some l)))) 2 ∷ [])
+unfoldable pub convertRefusal : Bool → Option Listing → ℕ → ℕ
+convertRefusal numbered none output = 11
+convertRefusal numbered (some l) output =
+    firstRefusal (check (numbered && lacksRow l) 17 ∷ check (ltb output (length (convertedText numbered (some l)))) 2 ∷ [])
 
 -- the reply that an answer represents: how many bytes were written, so that the caller finds the end of the text
-unfoldable pub moveSays : MoveAnswer → Reply ℕ
-moveSays (MoveRefused n) = refused n
-moveSays (MoveWritten bytes) = accepted bytes
+unfoldable pub textView : TextAnswer → Reply ℕ
+textView (MoveRefused n) = refused n
+textView (MoveWritten bytes) = accepted bytes
 
 -- The contract of a conversion from this form to the other: the text is at the start of the output, its length is the answer, and
 -- nothing changes past it; on refusal nothing changes at all.
-pub record ListingMoved (numbered : Bool) (text output : List ℕ) (answer : MoveAnswer) (output′ : List ℕ) : Type 0 where
+pub record ListingConverted (numbered : Bool) (text output : List ℕ) (answer : TextAnswer) (output′ : List ℕ) : Type 0 where
   pub listing : Option Listing
-  pub shown : Shows numbered text listing
-  pub answers : moveSays answer ≡ reply (moveRefusal numbered listing (length output)) (length (movedText numbered listing))
-  pub written : moveRefusal numbered listing (length output) ≡ 0 → output′ ≡ putAt output 0 (movedText numbered listing)
-  pub unchanged : 0 < moveRefusal numbered listing (length output) → output′ ≡ output
+  pub shown : ParsesAs numbered text listing
+  pub answers : textView answer ≡ reply (convertRefusal numbered listing (length output)) (length (convertedText numbered listing))
+  pub written : convertRefusal numbered listing (length output) ≡ 0 → output′ ≡ splice output 0 (convertedText numbered listing)
+  pub unchanged : 0 < convertRefusal numbered listing (length output) → output′ ≡ output
 
 -- The contract of a conversion back: the text is at the start of the output. It is refused only with 2, and exactly if the output
 -- is shorter than the text.
-pub record Restored (text output : List ℕ) (answer : MoveAnswer) (output′ : List ℕ) : Type 0 where
-  pub answers : moveSays answer ≡ reply (first (rung (ltb (length output) (length text)) 2 ∷ [])) (length text)
-  pub written : length text ≤ length output → output′ ≡ putAt output 0 text
+pub record Restored (text output : List ℕ) (answer : TextAnswer) (output′ : List ℕ) : Type 0 where
+  pub answers : textView answer ≡ reply (firstRefusal (check (ltb (length output) (length text)) 2 ∷ [])) (length text)
+  pub written : length text ≤ length output → output′ ≡ splice output 0 text
   pub unchanged : length output < length text → output′ ≡ output
 
 -- "coming back restores the text exactly", if the text was in the old form; "New to old and again to new restores it too wherever
 -- it is accepted". A text is converted to the other form, and the result is converted back: the result is the text again.
 abbrev pub RestoresText : Bool → Type 0
 RestoresText numbered =
-    (text output output′ again again′ : List ℕ) (bytes : ℕ) (answer : MoveAnswer) → ListingMoved numbered text output (MoveWritten bytes) output′
-    → ListingMoved (not numbered) (take bytes output′) again answer again′ → Restored text again answer again′
+    (text output output′ again again′ : List ℕ) (bytes : ℕ) (answer : TextAnswer) → ListingConverted numbered text output (MoveWritten bytes) output′
+    → ListingConverted (not numbered) (take bytes output′) again answer again′ → Restored text again answer again′

@@ -32,7 +32,7 @@ pub enum NumberedAnswer {
 }
 
 // The number of a refusal, or how many bytes were written.
-pub enum MoveAnswer {
+pub enum TextAnswer {
     Refused(u32),
     Written(usize),
 }

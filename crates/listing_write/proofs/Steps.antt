@@ -9,8 +9,8 @@ use native.Mathlib.Omega.{arith}
 use lib.ListN.{length, take, drop, getD, length-append, length-take}
 use lib.Seq.{take-suc, take-all, drop-drop}
 use borrow.Author.Tests.{lt-ltb, le-ltb}
-use Rattle.lists.specs.Lists.{flat}
-use Rattle.refusals.specs.Refusals.{first, reply}
+use Rattle.lists.specs.Lists.{flatten}
+use Rattle.refusals.specs.Refusals.{firstRefusal, reply}
 use Rattle.refusals.specs.Laws.Replies.{reply-refused}
 use Rattle.constraints.specs.Constraints.{isLive}
 use Rattle.table.specs.declared.Header.{Header}
@@ -18,8 +18,8 @@ use Rattle.table.specs.Refusing.{outside, rowsShort}
 use Rattle.levels_text.specs.Written.{field, textLine}
 use Rattle.levels_text.specs.Laws.Decimals.{fields-more, length-fields, length-line, length-numbered}
 use Rattle.levels_text.specs.inner.Appending.{Appended, appended-none, appended-then, appended-put}
-use Rattle.listing_spec.specs.declared.MoveAnswer.the-variants.{Refused, Written}
-use Rattle.listing_spec.specs.Listings.{headLetter, moveSays}
+use Rattle.listing_spec.specs.declared.TextAnswer.the-variants.{Refused, Written}
+use Rattle.listing_spec.specs.Listings.{headLetter, textView}
 use Rattle.listing_write.specs.Writing.{headNumbers, storedText, writeRefusal, ListingWritten}
 use Rattle.listing_write.specs.inner.Lines.{headLine, rowLine, rowLines, Stored}
 use Rattle.listing_write.specs.Laws.Lines.{stored-lines}
@@ -30,10 +30,10 @@ use Rattle.listing_write.specs.Laws.Lengths.{row-numbered, row-live, row
 -- the first i are counted
 pub record Counting (numbers : List ℕ) (total i : ℕ) : Type 0 where
   pub inside : i ≤ length numbers
-  pub counted : total ≡ length (flat (map field (take i numbers)))
+  pub counted : total ≡ length (flatten (map field (take i numbers)))
 
 pub counting-begin : (numbers : List ℕ) → Counting numbers 0 0
-unfolding flat
+unfolding flatten
 counting-begin numbers = record { inside = omega arith; counted = refl }
 
 module _ {numbers : List ℕ} {total i : ℕ} (v : Counting numbers total i) where
@@ -43,30 +43,30 @@ module _ {numbers : List ℕ} {total i : ℕ} (v : Counting numbers total i) whe
   pub counting-again : {next : ℕ} → i < length numbers → next ≡ length (field (getD numbers i 0)) → Counting numbers (total + next) (i + 1)
   counting-again {next} less e = record { inside = omega arith; counted = omega (arith, v .counted, e, longer) }
     where
-      longer : length (flat (map field (take (i + 1) numbers))) ≡ length (flat (map field (take i numbers))) + length (field (getD numbers i 0))
-      longer = rw (add-one, take-suc numbers i 0 less, fields-more (take i numbers) (getD numbers i 0)) (length-append (flat (map field (take i numbers))) (field (getD numbers i 0)))
+      longer : length (flatten (map field (take (i + 1) numbers))) ≡ length (flatten (map field (take i numbers))) + length (field (getD numbers i 0))
+      longer = rw (add-one, take-suc numbers i 0 less, fields-more (take i numbers) (getD numbers i 0)) (length-append (flatten (map field (take i numbers))) (field (getD numbers i 0)))
 
-  pub counting-end : length numbers ≤ i → total ≡ length (flat (map field numbers))
+  pub counting-end : length numbers ≤ i → total ≡ length (flatten (map field numbers))
   counting-end all = rw (take-all i numbers all) at (v .counted)
 
 -- ---- the head line
 
 module _ (h : Header) {total : ℕ} where
-  pub head-numbered : {numbered : Bool} → numbered ≡ true → total ≡ length (flat (map field (h .columns ∷ h .keys ∷ h .sort ∷ h .rule ∷ h .generation ∷ h .rows ∷ []))) → total + 2 ≡ length (headLine numbered h)
+  pub head-numbered : {numbered : Bool} → numbered ≡ true → total ≡ length (flatten (map field (h .columns ∷ h .keys ∷ h .sort ∷ h .rule ∷ h .generation ∷ h .rows ∷ []))) → total + 2 ≡ length (headLine numbered h)
   unfolding headLine headLetter headNumbers
   head-numbered e f = rw e (omega (arith, f, length-line 85 (h .columns ∷ h .keys ∷ h .sort ∷ h .rule ∷ h .generation ∷ h .rows ∷ [])))
 
-  pub head-plain : {numbered : Bool} → numbered ≡ false → total ≡ length (flat (map field (h .columns ∷ h .keys ∷ h .sort ∷ h .rule ∷ h .generation ∷ []))) → total + 2 ≡ length (headLine numbered h)
+  pub head-plain : {numbered : Bool} → numbered ≡ false → total ≡ length (flatten (map field (h .columns ∷ h .keys ∷ h .sort ∷ h .rule ∷ h .generation ∷ []))) → total + 2 ≡ length (headLine numbered h)
   unfolding headLine headLetter headNumbers
   head-plain e f = rw e (omega (arith, f, length-line 84 (h .columns ∷ h .keys ∷ h .sort ∷ h .rule ∷ h .generation ∷ [])))
 
 -- ---- one row
 
 module _ (number : ℕ) (row : List ℕ) (live : isLive row ≡ true) where
-  pub bytes-numbered : {numbered : Bool} {cells own : ℕ} → numbered ≡ true → cells ≡ length (flat (map field row)) → own ≡ length (field number) → cells + 2 + own ≡ length (rowLine numbered number row)
+  pub bytes-numbered : {numbered : Bool} {cells own : ℕ} → numbered ≡ true → cells ≡ length (flatten (map field row)) → own ≡ length (field number) → cells + 2 + own ≡ length (rowLine numbered number row)
   bytes-numbered e f g = rw (e, row-numbered number row live) (omega (arith, f, g, length-numbered 68 number row))
 
-  pub bytes-live : {numbered : Bool} {cells : ℕ} → numbered ≡ false → cells ≡ length (flat (map field row)) → cells + 2 ≡ length (rowLine numbered number row)
+  pub bytes-live : {numbered : Bool} {cells : ℕ} → numbered ≡ false → cells ≡ length (flatten (map field row)) → cells + 2 ≡ length (rowLine numbered number row)
   bytes-live e f = rw (e, row-live number row live) (omega (arith, f, length-line 68 row))
 
   module _ (used : ℕ) {long : ℕ} where
@@ -229,28 +229,28 @@ module _ (numbered : Bool) (h : Header) (rows : List ℕ) where
 module _ (numbered : Bool) (h : Header) (rows output : List ℕ) where
   refused-with : (n : ℕ) → 0 < n → writeRefusal numbered h rows (length output) ≡ n → ListingWritten numbered h rows output (Refused n) output
   refused-with n more e = record {
-    answers = reply-refused (moveSays (Refused n)) (writeRefusal numbered h rows (length output)) n (length (storedText numbered h rows)) (unfold moveSays in refl) (sym e) (λ z. omega (arith, more, z));
+    answers = reply-refused (textView (Refused n)) (writeRefusal numbered h rows (length output)) n (length (storedText numbered h rows)) (unfold textView in refl) (sym e) (λ z. omega (arith, more, z));
     written = λ zero. absurd (omega (arith, zero, e, more));
     unchanged = λ some. refl;
   }
 
   pub refused-outside : outside h ≡ true → ListingWritten numbered h rows output (Refused 1) output
-  refused-outside e = refused-with 1 (omega arith) (unfold writeRefusal first in rw e)
+  refused-outside e = refused-with 1 (omega arith) (unfold writeRefusal firstRefusal in rw e)
 
   module _ (inside : outside h ≡ false) where
     pub refused-rows : rowsShort h (length rows) ≡ true → ListingWritten numbered h rows output (Refused 2) output
-    refused-rows e = refused-with 2 (omega arith) (unfold writeRefusal first in rw (inside, e))
+    refused-rows e = refused-with 2 (omega arith) (unfold writeRefusal firstRefusal in rw (inside, e))
 
     module _ (long : rowsShort h (length rows) ≡ false) where
       pub refused-output : length output < length (storedText numbered h rows) → ListingWritten numbered h rows output (Refused 2) output
-      refused-output less = refused-with 2 (omega arith) (unfold writeRefusal first in rw (inside, long, lt-ltb (length output) (length (storedText numbered h rows)) less))
+      refused-output less = refused-with 2 (omega arith) (unfold writeRefusal firstRefusal in rw (inside, long, lt-ltb (length output) (length (storedText numbered h rows)) less))
 
       pub written-all : length (storedText numbered h rows) ≤ length output → {output′ : List ℕ} {end : ℕ} → Appended output 0 (storedText numbered h rows) output′ end → ListingWritten numbered h rows output (Written end) output′
       written-all fits {output′} {end} a =
-          let none : writeRefusal numbered h rows (length output) ≡ 0 = unfold writeRefusal first in rw (inside, long, le-ltb (length output) (length (storedText numbered h rows)) fits) in
+          let none : writeRefusal numbered h rows (length output) ≡ 0 = unfold writeRefusal firstRefusal in rw (inside, long, le-ltb (length output) (length (storedText numbered h rows)) fits) in
           let n : end ≡ length (storedText numbered h rows) = omega (arith, a .counted) in
           record {
-            answers = rw (none, n) (unfold moveSays reply in refl);
+            answers = rw (none, n) (unfold textView reply in refl);
             written = λ zero. appended-put a;
             unchanged = λ more. absurd (omega (arith, more, none));
           }

@@ -7,16 +7,16 @@ use mathlib.Core.Bool.{Bool, true, false, cond}
 use mathlib.Core.List.{List, [], _∷_, map}
 use lib.ListN.{length}
 use lib.Dec.{ltb}
-use Rattle.lists.specs.Lists.{putAt}
-use Rattle.refusals.specs.Refusals.{rung, first, reply}
+use Rattle.lists.specs.Lists.{splice}
+use Rattle.refusals.specs.Refusals.{check, firstRefusal, reply}
 use Rattle.plain_table.specs.Staged.{Opening}
 use Rattle.plain_table.specs.Plain.{Row, Numbered, liveFrom}
 use Rattle.table.specs.declared.Header.{Header}
 use Rattle.table.specs.Numbers.{openingOf}
 use Rattle.table.specs.Refusing.{outside, rowsShort}
 use Rattle.table.specs.Stores.{rowsIn}
-use Rattle.listing_spec.specs.declared.MoveAnswer.{MoveAnswer}
-use Rattle.listing_spec.specs.Listings.{Listing, listingText, moveSays}
+use Rattle.listing_spec.specs.declared.TextAnswer.{TextAnswer}
+use Rattle.listing_spec.specs.Listings.{Listing, listingText, textView}
 
 -- the numbers of the head line: "(columns, keys, sort, rule, generation)", in the new form "with the row count added as a last field"
 unfoldable pub headNumbers : Bool → Opening → ℕ → ℕ → List ℕ
@@ -42,15 +42,15 @@ storedText numbered h rows = listingText numbered (storedListing numbered h rows
 -- 1, header numbers outside their bounds; 2, a row store shorter than needed; 2 again, an output shorter than the text
 unfoldable pub writeRefusal : Bool → Header → List ℕ → ℕ → ℕ
 writeRefusal numbered h rows output =
-    first
-    (rung (outside h) 1
-    ∷ rung (rowsShort h (length rows)) 2
-    ∷ rung (ltb output (length (storedText numbered h rows))) 2
+    firstRefusal
+    (check (outside h) 1
+    ∷ check (rowsShort h (length rows)) 2
+    ∷ check (ltb output (length (storedText numbered h rows))) 2
     ∷ [])
 
 -- The contract of writing a listing: the text is at the start of the output, its length is the answer, and nothing changes past it;
 -- on refusal nothing changes at all.
-pub record ListingWritten (numbered : Bool) (h : Header) (rows output : List ℕ) (answer : MoveAnswer) (output′ : List ℕ) : Type 0 where
-  pub answers : moveSays answer ≡ reply (writeRefusal numbered h rows (length output)) (length (storedText numbered h rows))
-  pub written : writeRefusal numbered h rows (length output) ≡ 0 → output′ ≡ putAt output 0 (storedText numbered h rows)
+pub record ListingWritten (numbered : Bool) (h : Header) (rows output : List ℕ) (answer : TextAnswer) (output′ : List ℕ) : Type 0 where
+  pub answers : textView answer ≡ reply (writeRefusal numbered h rows (length output)) (length (storedText numbered h rows))
+  pub written : writeRefusal numbered h rows (length output) ≡ 0 → output′ ≡ splice output 0 (storedText numbered h rows)
   pub unchanged : 0 < writeRefusal numbered h rows (length output) → output′ ≡ output

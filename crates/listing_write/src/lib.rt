@@ -4,7 +4,7 @@ ghost use mathlib.Core.Path.{_≡_};
 ghost use mathlib.Core.List.{map};
 ghost use Prim.Native.Nat.{_+_, _*_, _≤_};
 ghost use lib.ListN.{length};
-ghost use Rattle.lists.specs.Lists.{flat};
+ghost use Rattle.lists.specs.Lists.{flatten};
 ghost use Rattle.levels_text.specs.Written.{field};
 ghost use Rattle.levels_text.specs.inner.Appending.{Appended};
 ghost use Rattle.listing_write.specs.Writing.{storedText, ListingWritten};
@@ -12,7 +12,7 @@ ghost use Rattle.listing_write.specs.inner.Lines.{headLine, rowLine, row
 use levels_text::write::number_length;
 use levels_text::write::put_line;
 use levels_text::write::put_numbered;
-use listing_spec::MoveAnswer;
+use listing_spec::TextAnswer;
 use table::Header;
 use table::refusing::is_outside;
 use table::refusing::is_rows_short;
@@ -25,7 +25,7 @@ const TOO_SHORT: u32 = 2;
 // The bytes that numbers take, with a comma before each.
 fn numbers_length(numbers: &[u32]) -> usize
     requires { ⌜ length (now numbers) ≤ 8 ⌝ }
-    ensures { λ r. ⌜ r ≡ length (flat (map field (now (numbers .entry)))) ⌝ }
+    ensures { λ r. ⌜ r ≡ length (flatten (map field (now (numbers .entry)))) ⌝ }
 {
     let mut total = 0;
     let mut i = 0;
@@ -154,17 +154,17 @@ fn put_text(numbered: bool, h: Header, rows: &[u32], text: &mut [u8]) -> usize
 }
 
 // Writes a listing of the table in `rows` to the start of `output`, in the new form if `numbered`. Returns the bytes written.
-pub fn write_listing(h: Header, rows: &[u32], numbered: bool, output: &mut [u8]) -> MoveAnswer
+pub fn write_listing(h: Header, rows: &[u32], numbered: bool, output: &mut [u8]) -> TextAnswer
     ensures { λ r. ⌜ ListingWritten numbered h (now (rows .entry)) (now (output .entry)) r (now (output .exit)) ⌝ }
 {
     if is_outside(h) {
-        return MoveAnswer::Refused(OUTSIDE);
+        return TextAnswer::Refused(OUTSIDE);
     }
     if is_rows_short(h, rows.len()) {
-        return MoveAnswer::Refused(TOO_SHORT);
+        return TextAnswer::Refused(TOO_SHORT);
     }
     if output.len() < text_length(numbered, h, rows) {
-        return MoveAnswer::Refused(TOO_SHORT);
+        return TextAnswer::Refused(TOO_SHORT);
     }
-    MoveAnswer::Written(put_text(numbered, h, rows, output))
+    TextAnswer::Written(put_text(numbered, h, rows, output))
 }

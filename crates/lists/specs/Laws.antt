@@ -1,7 +1,7 @@
 -- Laws of the definitions of Lists.antt.
 pub mod Parts
-pub mod Keep
-pub mod Every
+pub mod Filter
+pub mod All
 pub mod Rising
 pub mod Rows
 pub mod Search

@@ -8,13 +8,13 @@ use lib.Dec.{leb, ltb, eqb}
 
 module _ {A : Type 0} where
   -- l with w written from position `at` on: the contents of a store after w is written, if w fits there
-  unfoldable pub putAt : List A → ℕ → List A → List A
-  putAt l at w = take at l ++ (w ++ drop (at + length w) l)
+  unfoldable pub splice : List A → ℕ → List A → List A
+  splice l at w = take at l ++ (w ++ drop (at + length w) l)
 
   -- the elements that pass a test, in order
-  unfoldable pub keep : (A → Bool) → List A → List A
-  keep test [] = []
-  keep test (x ∷ xs) = cond (test x) (x ∷ keep test xs) (keep test xs)
+  unfoldable pub filter : (A → Bool) → List A → List A
+  filter test [] = []
+  filter test (x ∷ xs) = cond (test x) (x ∷ filter test xs) (filter test xs)
 
   -- the number of elements that pass a test
   unfoldable pub count : (A → Bool) → List A → ℕ
@@ -22,9 +22,9 @@ module _ {A : Type 0} where
   count test (x ∷ xs) = cond (test x) (suc (count test xs)) (count test xs)
 
   -- all elements pass a test
-  unfoldable pub every : (A → Bool) → List A → Bool
-  every test [] = true
-  every test (x ∷ xs) = test x && every test xs
+  unfoldable pub all : (A → Bool) → List A → Bool
+  all test [] = true
+  all test (x ∷ xs) = test x && all test xs
 
   -- at least one element passes a test
   unfoldable pub any : (A → Bool) → List A → Bool
@@ -32,9 +32,9 @@ module _ {A : Type 0} where
   any test (x ∷ xs) = test x || any test xs
 
   -- the first element that passes a test, if there is one
-  unfoldable pub firstOf : (A → Bool) → List A → Option A
-  firstOf test [] = none
-  firstOf test (x ∷ xs) = cond (test x) (some x) (firstOf test xs)
+  unfoldable pub find : (A → Bool) → List A → Option A
+  find test [] = none
+  find test (x ∷ xs) = cond (test x) (some x) (find test xs)
 
   -- row i of a store of rows of width w
   unfoldable pub rowAt : ℕ → ℕ → List A → List A
@@ -46,14 +46,14 @@ module _ {A : Type 0} where
   rowsOf w (suc n) store = take w store ∷ rowsOf w n (drop w store)
 
   -- concatenation
-  unfoldable pub flat : List (List A) → List A
-  flat [] = []
-  flat (row ∷ rows) = row ++ flat rows
+  unfoldable pub flatten : List (List A) → List A
+  flatten [] = []
+  flatten (row ∷ rows) = row ++ flatten rows
 
 -- the n consecutive numbers from s on
-unfoldable pub countFrom : ℕ → ℕ → List ℕ
-countFrom s zero = []
-countFrom s (suc n) = s ∷ countFrom (suc s) n
+unfoldable pub iota : ℕ → ℕ → List ℕ
+iota s zero = []
+iota s (suc n) = s ∷ iota (suc s) n
 
 -- each number is above the one before, and the first is above x
 unfoldable pub above : ℕ → List ℕ → Bool
@@ -66,9 +66,9 @@ rising [] = true
 rising (x ∷ xs) = above x xs
 
 -- x is a member
-unfoldable pub has : ℕ → List ℕ → Bool
-has x [] = false
-has x (y ∷ ys) = eqb x y || has x ys
+unfoldable pub elem : ℕ → List ℕ → Bool
+elem x [] = false
+elem x (y ∷ ys) = eqb x y || elem x ys
 
 -- a ≤ x < b
 unfoldable pub within : ℕ → ℕ → ℕ → Bool

@@ -8,25 +8,25 @@ use native.Mathlib.Omega.{arith}
 use lib.Dec.{ltb}
 use lib.ListN.{length}
 use borrow.Author.Tests.{ltb-true, ltb-false, lt-ltb, le-ltb, eq-eqb, ne-eqb, eqb-false, not-true}
-use Rattle.lists.specs.Laws.Keep.{split, and-right}
-use Rattle.refusals.specs.Laws.Replies.{verdict-refused, verdict-accepted}
-use Rattle.key_index.specs.declared.Keyed.{Keyed}
+use Rattle.lists.specs.Laws.Filter.{split, and-right}
+use Rattle.refusals.specs.Laws.Replies.{outcome-refused, outcome-accepted}
+use Rattle.key_index.specs.declared.IndexShape.{IndexShape}
 use Rattle.key_index.specs.inner.Index.{Fits}
-use Rattle.plain_table.specs.Staged.{due}
+use Rattle.plain_table.specs.Staged.{compactionDue}
 use Rattle.plain_table.specs.Plain.{live as liveCount, compactsAfter, Plain, applied, unstaged, dead}
 use Rattle.table.specs.declared.Header.{Header}
 use Rattle.table.specs.declared.Merge.{Merge}
-use Rattle.merge_insert.specs.declared.Passed.{Passed}
+use Rattle.merge_insert.specs.declared.MergeProgress.{MergeProgress}
 use Rattle.table.specs.declared.MergeAnswer.the-variants.{Refused as MergeRefused, Merged}
-use Rattle.table.specs.Numbers.{mergeSays}
+use Rattle.table.specs.Numbers.{mergeView}
 use Rattle.table.specs.Refusing.{mergeRefusal}
-use Rattle.table.specs.Promises.{stores, body, compactionWords, lengths, Represents, withPending, Merging}
+use Rattle.table.specs.Contracts.{stores, body, compactionWords, lengths, Represents, withPending, Merging}
 use Rattle.merge_pending.specs.inner.Becoming.{withCounts, withDead, Ready}
 use Rattle.merge_insert.specs.inner.Insertions.{Insertions}
 use Rattle.merge_remove.specs.inner.Removals.{Removable, Removals}
 use Rattle.table_compact.specs.inner.Compaction.{Lendable, Compaction}
 use Rattle.merge.specs.inner.Parts.{Applying, finishedAs, Finishing}
-use Rattle.table.specs.Laws.Refusals.{inside-whole, Mergeable, merge-accepted}
+use Rattle.table.specs.Laws.Refusals.{inside-full-shape, Mergeable, merge-accepted}
 use Rattle.table.specs.Laws.Opening.{unstaged-represents}
 use Rattle.merge_pending.specs.Laws.Steps.{steps-refl}
 use Rattle.merge.specs.Laws.Merging.{passes-table, stopped-not, due-not, due-compacts, compacted-rows, compacted-store, compacted-generation, merged-table}
@@ -35,18 +35,18 @@ use Rattle.merge.specs.Laws.Merging.{passes-table, stopped-not, due-not,
 
 module _ (dead rows generation : ℕ) where
   -- at the last generation none is
-  pub due-last : generation ≡ 4294967295 → false ≡ due dead rows generation
-  unfolding due
+  pub due-last : generation ≡ 4294967295 → false ≡ compactionDue dead rows generation
+  unfolding compactionDue
   due-last e = elim (split (ltb (max 16 (rows / 2)) dead)) [ inl q ↦ rw (q, eq-eqb generation 4294967295 e) | inr q ↦ rw q ]
 
   -- nor with 16 dead rows or fewer
-  pub due-few : dead ≤ 16 → false ≡ due dead rows generation
-  unfolding due
+  pub due-few : dead ≤ 16 → false ≡ compactionDue dead rows generation
+  unfolding compactionDue
   due-few h = rw (le-ltb (max 16 (rows / 2)) dead (omega arith))
 
   -- else one is with more than half the rows dead
-  pub due-half : (generation ≡ 4294967295 → ⊥) → 16 < dead → ltb (rows / 2) dead ≡ due dead rows generation
-  unfolding due
+  pub due-half : (generation ≡ 4294967295 → ⊥) → 16 < dead → ltb (rows / 2) dead ≡ compactionDue dead rows generation
+  unfolding compactionDue
   due-half e h =
       rw (ne-eqb generation 4294967295 e)
       (elim (split (ltb (rows / 2) dead)) [
@@ -55,14 +55,14 @@ module _ (dead rows generation : ℕ) where
       ])
 
   -- where one is, a generation is left
-  pub due-left : due dead rows generation ≡ true → generation ≤ 4294967295 → generation < 4294967295
-  unfolding due
+  pub due-left : compactionDue dead rows generation ≡ true → generation ≤ 4294967295 → generation < 4294967295
+  unfolding compactionDue
   due-left e h = omega (arith, eqb-false generation 4294967295 (not-true _ (and-right (ltb (max 16 (rows / 2)) dead) _ e)))
 
 -- ---- the passes
 
 -- stores of the same lengths
-fits-kept : {t : Keyed} (rows keys rows₁ keys₁ : List ℕ) → Fits t rows keys → length rows₁ ≡ length rows → length keys₁ ≡ length keys → Fits t rows₁ keys₁
+fits-kept : {t : IndexShape} (rows keys rows₁ keys₁ : List ℕ) → Fits t rows keys → length rows₁ ≡ length rows → length keys₁ ≡ length keys → Fits t rows₁ keys₁
 fits-kept rows keys rows₁ keys₁ f a b = omega arith
 
 module _ (h : Header) (rows keys sorts pending : List ℕ) (ready : Ready h rows keys sorts pending) (few-dead : h .dead ≤ h .rows) (few-words : h .pending ≤ 4294967295)
@@ -99,7 +99,7 @@ module _ (h : Header) (rows keys sorts pending : List ℕ) (ready : Ready h rows
         })
 
     -- all three
-    pub passed : (m : Passed) (rows₃ keys₃ sorts₃ : List ℕ) → Insertions h₂ rows₂ keys₂ sorts pending m rows₃ keys₃ sorts₃ → Applying h rows keys sorts pending m rows₃ keys₃ sorts₃
+    pub passed : (m : MergeProgress) (rows₃ keys₃ sorts₃ : List ℕ) → Insertions h₂ rows₂ keys₂ sorts pending m rows₃ keys₃ sorts₃ → Applying h rows keys sorts pending m rows₃ keys₃ sorts₃
     passed m rows₃ keys₃ sorts₃ i =
         let n : h₁ .capacity ≡ h .capacity = ap (λ (x : Header). x .capacity) (by-key .header) in
         let k : h₂ .capacity ≡ h .capacity = ap (λ (x : Header). x .capacity) without in
@@ -120,7 +120,7 @@ pub lendable-emptied : {h : Header} {rows keys sorts live base : List ℕ} → L
 lendable-emptied l =
     record { fits = l .fits; sort-column = l .sort-column; sorts-long = l .sorts-long; live-long = l .live-long; base-long = l .base-long }
 
-module _ (m : Passed) (rows keys sorts live base : List ℕ) where
+module _ (m : MergeProgress) (rows keys sorts live base : List ℕ) where
   finish-same : ((pending : List ℕ) (p : Plain) → Represents p (stores (m .header) rows keys sorts pending) → compactsAfter (m .status) p ≡ false)
       → Finishing m rows keys sorts live base (finishedAs m (withPending (m .header) 0) 0 0) rows keys sorts live base
   finish-same same =
@@ -145,12 +145,12 @@ module _ (m : Passed) (rows keys sorts live base : List ℕ) where
   finish-stopped stopped = finish-same (λ pending p r. stopped-not (m .status) p stopped)
 
   -- no compaction is due
-  pub finish-kept : m .status ≡ 0 → due (m .header .dead) (m .header .rows) (m .header .generation) ≡ false
+  pub finish-kept : m .status ≡ 0 → compactionDue (m .header .dead) (m .header .rows) (m .header .generation) ≡ false
       → Finishing m rows keys sorts live base (finishedAs m (withPending (m .header) 0) 0 0) rows keys sorts live base
   finish-kept went d = finish-same (λ pending p r. due-not (m .status) p went (rw (r .shown .header) at d))
 
   -- one is
-  pub finish-compacted : m .status ≡ 0 → due (m .header .dead) (m .header .rows) (m .header .generation) ≡ true
+  pub finish-compacted : m .status ≡ 0 → compactionDue (m .header .dead) (m .header .rows) (m .header .generation) ≡ true
       → (h′ : Header) (rows′ keys′ sorts′ live′ base′ : List ℕ) → Compaction (withPending (m .header) 0) rows keys sorts live base h′ rows′ keys′ sorts′ live′ base′
       → Finishing m rows keys sorts live base (finishedAs m h′ (h′ .rows) (m .header .dead)) rows′ keys′ sorts′ live′ base′
   finish-compacted went d h′ rows′ keys′ sorts′ live′ base′ c =
@@ -177,10 +177,10 @@ module _ (h : Header) (rows keys sorts pending live base : List ℕ) where
   -- a refused merge
   pub merge-refused : (n : ℕ) → n ≡ mergeRefusal h (lengths rows keys sorts pending live base) → (n ≡ 0 → ⊥)
       → Merging (stores h rows keys sorts pending) (compactionWords live base) (MergeRefused n) (body rows keys sorts) (compactionWords live base)
-  unfolding mergeSays
+  unfolding mergeView
   merge-refused n e some =
       record {
-        refusal = verdict-refused (mergeSays (MergeRefused n)) _ n refl e some;
+        refusal = outcome-refused (mergeView (MergeRefused n)) _ n refl e some;
         unchanged = λ k. (refl, refl);
         past = refl;
         words-past = (refl, refl);
@@ -196,7 +196,7 @@ module _ (h : Header) (rows keys sorts pending live base : List ℕ) where
     merge-ready =
         let a = mergeable in (
           record {
-            fits = inside-whole h rows keys (a .inside) (a .long .rows-long) (a .long .keys-long);
+            fits = inside-full-shape h rows keys (a .inside) (a .long .rows-long) (a .long .keys-long);
             sort-column = a .inside .bounds .sort-column;
             rule-known = a .inside .bounds .rule-known;
             entries-fit = a .inside .entries-fit;
@@ -207,7 +207,7 @@ module _ (h : Header) (rows keys sorts pending live base : List ℕ) where
           a .inside .dead-fit,
         )
 
-    module _ (m : Passed) (rows₁ keys₁ sorts₁ : List ℕ) (applying : Applying h rows keys sorts pending m rows₁ keys₁ sorts₁) where
+    module _ (m : MergeProgress) (rows₁ keys₁ sorts₁ : List ℕ) (applying : Applying h rows keys sorts pending m rows₁ keys₁ sorts₁) where
       -- what the step after them requires
       pub merge-lendable : length rows₁ ≡ length rows → length keys₁ ≡ length keys → length sorts₁ ≡ length sorts → Lendable (m .header) rows₁ keys₁ sorts₁ live base
       merge-lendable a b c =
@@ -236,12 +236,12 @@ module _ (h : Header) (rows keys sorts pending live base : List ℕ) where
       -- a merge is done
       pub merge-done : (r : Merge) (rows′ keys′ sorts′ live′ base′ : List ℕ) → Finishing m rows₁ keys₁ sorts₁ live base r rows′ keys′ sorts′ live′ base′
           → Merging (stores h rows keys sorts pending) (compactionWords live base) (Merged r) (body rows′ keys′ sorts′) (compactionWords live′ base′)
-      unfolding mergeSays
+      unfolding mergeView
       merge-done r rows′ keys′ sorts′ live′ base′ f =
           let n : m .header .capacity ≡ h .capacity = ap (λ (x : Header). x .capacity) (applying .counts) in
           let e = sym number ∙ taken in
           record {
-            refusal = verdict-accepted (mergeSays (Merged r)) _ r refl e;
+            refusal = outcome-accepted (mergeView (Merged r)) _ r refl e;
             unchanged = λ k. absurd (omega (arith, e));
             past = (rw n at (f .past)) ∙ applying .past;
             words-past = rw n at (f .words-past);

@@ -3,11 +3,11 @@
 ghost use Prim.Native.Nat.{_≤_};
 ghost use Rattle.merge_pending.specs.inner.Becoming.{Ready};
 ghost use mathlib.Core.Path.{_≡_};
-ghost use Rattle.plain_table.specs.Staged.{due};
-ghost use Rattle.table.specs.Promises.{stores, body, compactionWords, Merging};
+ghost use Rattle.plain_table.specs.Staged.{compactionDue};
+ghost use Rattle.table.specs.Contracts.{stores, body, compactionWords, Merging};
 ghost use Rattle.table_compact.specs.inner.Compaction.{Lendable};
 ghost use Rattle.merge.specs.inner.Parts.{Applying, Finishing};
-use merge_insert::Passed;
+use merge_insert::MergeProgress;
 use merge_insert::insert_all;
 use merge_remove::remove_all;
 use table::Header;
@@ -22,7 +22,7 @@ use table_compact::compact_rows;
 
 // Whether there are enough dead rows for a compaction, and the generation can still rise.
 fn is_due(h: Header) -> bool
-    ensures { λ r. ⌜ r ≡ due (h .dead) (h .rows) (h .generation) ⌝ }
+    ensures { λ r. ⌜ r ≡ compactionDue (h .dead) (h .rows) (h .generation) ⌝ }
 {
     if h.generation == LAST_GENERATION {
         return false;
@@ -40,7 +40,7 @@ fn apply_pending(
     keys: &mut [u32],
     sorts: &mut [u32],
     pending: &[u32],
-) -> Passed
+) -> MergeProgress
     requires { ⌜ Ready h (now rows) (now keys) (now sorts) (now pending) × (h .dead ≤ h .rows) ⌝ }
     ensures { λ r. ⌜ Applying h (now (rows .entry)) (now (keys .entry)) (now (sorts .entry)) (now (pending .entry)) r (now (rows .exit)) (now (keys .exit)) (now (sorts .exit)) ⌝ }
 {
@@ -52,7 +52,7 @@ fn apply_pending(
 // Empties pending and, unless the merge stopped, drops dead rows if that is due. The rows that a compaction keeps were live, and
 // those that it drops were dead.
 fn finish(
-    m: Passed,
+    m: MergeProgress,
     rows: &mut [u32],
     keys: &mut [u32],
     sorts: &mut [u32],

@@ -7,25 +7,25 @@ use mathlib.Core.List.{List}
 use native.Mathlib.Nat.{add-zero}
 use native.Mathlib.Omega.{arith}
 use lib.ListN.{length, getD, set}
-use Rattle.lists.specs.Lists.{putAt}
-use Rattle.key_index.specs.declared.Keyed.{Keyed}
+use Rattle.lists.specs.Lists.{splice}
+use Rattle.key_index.specs.declared.IndexShape.{IndexShape}
 use Rattle.key_index.specs.Slots.{slots}
 use Rattle.key_index.specs.inner.Ring.{tagged}
 use Rattle.key_index.specs.inner.Index.{Fits, PutIs}
 use Rattle.key_index.specs.Laws.Index.{replace-tail}
 use Rattle.key_index.specs.Laws.Places.{fits-stores}
-use Rattle.key_index.specs.Laws.Rooms.{past-room, fits-room}
-use Rattle.key_rebuild.specs.inner.Growth.{Rebuilt}
+use Rattle.key_index.specs.Laws.SizeClasses.{past-sizeClass, fits-fewer}
+use Rattle.key_rebuild.specs.inner.Rebuilding.{Rebuilt}
 use Rattle.table.specs.declared.Header.{Header}
 use Rattle.merge_append.specs.declared.Insertion.{Insertion}
 use Rattle.merge_append.specs.declared.Admission.{Admission}
 use Rattle.merge_append.specs.declared.Admission.the-variants.{Stop, Entries}
-use Rattle.table.specs.Sound.{keyedOf}
-use Rattle.table.specs.Promises.{SlotsPast}
-use Rattle.table.specs.Laws.Refusals.{whole-fits}
-use Rattle.table.specs.inner.Whole.{wholeOf}
+use Rattle.table.specs.Sound.{indexShapeOf}
+use Rattle.table.specs.Contracts.{SlotsPast}
+use Rattle.table.specs.Laws.Refusals.{full-shape-fits}
+use Rattle.table.specs.inner.FullIndexShape.{fullIndexShapeOf}
 use Rattle.merge_append.specs.Laws.Places.{Placed, placed}
-use Rattle.merge_append.specs.inner.Appending.{grownTo, Stops, Entered, AdmissionIs, outgrown, Leading, Rebuildable, RebuiltGrown, Growable, Stayed, Grew, NewIs, Replaced, ReplaceIs}
+use Rattle.merge_append.specs.inner.Appending.{grownTo, Stops, Entered, AdmissionIs, outgrown, KeysGrown, Rebuildable, RebuiltGrown, Growable, Stayed, Grew, NewIs, Replaced, ReplaceIs}
 
 -- ---- admissions
 
@@ -38,8 +38,8 @@ module _ (h : Header) (sorts : List ℕ) (value : ℕ) (sorts′ : List ℕ) (r 
 
 -- what a row that has entered finds: its place, slots for its number, and counts that can grow
 pub record Entering (h : Header) (rows keys cells : List ℕ) : Type 0 where
-  pub fits : Fits (wholeOf h) rows keys
-  pub slots-fit : Fits (keyedOf h) rows keys
+  pub fits : Fits (fullIndexShapeOf h) rows keys
+  pub slots-fit : Fits (indexShapeOf h) rows keys
   pub room : h .rows < h .capacity
   pub place : Placed h rows (h .rows)
   pub dead-fits : h .dead + 1 ≤ 4294967295
@@ -49,7 +49,7 @@ pub entering : {h : Header} {rows keys sorts cells : List ℕ} → Growable h ro
 entering {h} {rows} {keys} g room =
     record {
       fits = g .fits;
-      slots-fit = whole-fits h rows keys (g .fits);
+      slots-fit = full-shape-fits h rows keys (g .fits);
       room = room;
       place = placed h rows keys (g .fits) (h .rows) room;
       dead-fits = omega (arith, g .dead-fits);
@@ -65,23 +65,23 @@ rebuilds {h} {rows} {keys} e rows′ same died k =
     record { fits = fits-stores (e .fits) rows′ keys same refl; place = e .room; dead-fits = omega (arith, e .dead-fits) }
 
 pub rebuildable : (h : Header) (rows keys : List ℕ) (died entries value : ℕ) → Rebuildable h rows keys died → (n : Header) → n ≡ grownTo h (h .dead + died) entries value
-    → (t : Keyed) → t ≡ keyedOf n → Fits t rows keys
+    → (t : IndexShape) → t ≡ indexShapeOf n → Fits t rows keys
 rebuildable h rows keys died entries value b n e t k =
     let h′ = grownTo h (h .dead + died) entries value in
-    rw (k, e) (whole-fits h′ rows keys (fits-room (wholeOf h) (wholeOf h′) rows keys (b .fits) refl refl (b .fits .some) (omega (arith, b .place)) (omega arith)))
+    rw (k, e) (full-shape-fits h′ rows keys (fits-fewer (fullIndexShapeOf h) (fullIndexShapeOf h′) rows keys (b .fits) refl refl (b .fits .some) (omega (arith, b .place)) (omega arith)))
 
 pub rebuilt-grown : (h : Header) (rows keys keys′ : List ℕ) (died entries value : ℕ) (n : Header) → n ≡ grownTo h (h .dead + died) entries value
-    → (t : Keyed) → t ≡ keyedOf n → Rebuilt t rows keys keys′ → (Rebuilt (keyedOf (grownTo h (h .dead + died) entries value)) rows keys keys′)
+    → (t : IndexShape) → t ≡ indexShapeOf n → Rebuilt t rows keys keys′ → (Rebuilt (indexShapeOf (grownTo h (h .dead + died) entries value)) rows keys keys′)
 rebuilt-grown h rows keys keys′ died entries value n e t k r = rw (k, e) at r
 
 module _ (h h′ : Header) (rows′ keys : List ℕ) {Entry : Type 0} (keys′ : List ℕ) (same : length keys′ ≡ length keys) where
   -- it is rebuilt
-  led-rebuilt : outgrown h ≡ true → h′ .capacity ≡ h .capacity → Rebuilt (keyedOf h′) rows′ keys keys′ → Leading h h′ rows′ keys Entry keys′
+  led-rebuilt : outgrown h ≡ true → h′ .capacity ≡ h .capacity → Rebuilt (indexShapeOf h′) rows′ keys keys′ → KeysGrown h h′ rows′ keys Entry keys′
   led-rebuilt e c r =
-      record { more = λ _. r .sound; stepped = λ f. absurd (false≢true (sym f ∙ e)); past = rw c at (past-room (h′ .capacity) (h′ .rows) keys keys′ (r .rest)); same = same }
+      record { more = λ _. r .sound; stepped = λ f. absurd (false≢true (sym f ∙ e)); past = rw c at (past-sizeClass (h′ .capacity) (h′ .rows) keys keys′ (r .rest)); same = same }
 
   -- the row steps in
-  led-stepped : outgrown h ≡ false → Entry → SlotsPast (h .capacity) keys keys′ → Leading h h′ rows′ keys Entry keys′
+  led-stepped : outgrown h ≡ false → Entry → SlotsPast (h .capacity) keys keys′ → KeysGrown h h′ rows′ keys Entry keys′
   led-stepped e entry past = record { more = λ f. absurd (false≢true (sym e ∙ f)); stepped = λ _. entry; past = past; same = same }
 
 -- ---- the answers
@@ -100,32 +100,32 @@ module _ (h : Header) (rows keys sorts cells : List ℕ) where
         (rw m at entered, e ∙ ap (λ (k : ℕ). grownTo h dead k (getD cells (h .sort) 0)) m)
 
     -- a new key's row appended
-    module _ (rows-is : rows′ ≡ putAt rows (h .rows * h .columns) cells) where
+    module _ (rows-is : rows′ ≡ splice rows (h .rows * h .columns) cells) where
       grew : (h′ : Header) → h′ ≡ grownTo h (h .dead + 0) n (getD cells (h .sort) 0)
-          → Leading h h′ rows′ keys ((r : Bool) × PutIs (slots (keyedOf h)) keys hash (h .rows) r keys′) keys′ → Grew h rows keys sorts cells hash h′ rows′ keys′ sorts′
+          → KeysGrown h h′ rows′ keys ((r : Bool) × PutIs (slots (indexShapeOf h)) keys hash (h .rows) r keys′) keys′ → Grew h rows keys sorts cells hash h′ rows′ keys′ sorts′
       grew h′ e led =
           let k = counted (h .dead) h′ (rw add-zero at e) in record { entered = k .0; header = k .1; rows-after = rows-is; keys-after = led }
 
-      pub grew-stepped : outgrown h ≡ false → (t : Keyed) → t ≡ keyedOf h → (r : Bool) → PutIs (slots t) keys hash (h .rows) r keys′
+      pub grew-stepped : outgrown h ≡ false → (t : IndexShape) → t ≡ indexShapeOf h → (r : Bool) → PutIs (slots t) keys hash (h .rows) r keys′
           → (h′ : Header) → h′ ≡ grownTo h (h .dead + 0) n (getD cells (h .sort) 0) → Grew h rows keys sorts cells hash h′ rows′ keys′ sorts′
       grew-stepped o t keyed-is r put-is h′ e =
-          let p : PutIs (slots (keyedOf h)) keys hash (h .rows) r keys′ = rw keyed-is at put-is in
-          grew h′ e (led-stepped h h′ rows′ keys keys′ same o (r, p) (past-room (h .capacity) (h .rows) keys keys′ (p .tail)))
+          let p : PutIs (slots (indexShapeOf h)) keys hash (h .rows) r keys′ = rw keyed-is at put-is in
+          grew h′ e (led-stepped h h′ rows′ keys keys′ same o (r, p) (past-sizeClass (h .capacity) (h .rows) keys keys′ (p .tail)))
 
       pub grew-rebuilt : outgrown h ≡ true → (r : Insertion) → RebuiltGrown h rows′ keys 0 n (getD cells (h .sort) 0) r keys′ → NewIs h rows keys sorts cells hash rows′ keys′ sorts′ r
       grew-rebuilt o r g = rw (g .answer) (grew _ refl (led-rebuilt h _ rows′ keys keys′ same o refl (g .rebuilt)))
 
     -- a known key's
-    module _ (old slot : ℕ) (rows-is : rows′ ≡ putAt (set rows (old * h .columns) 4294967295) (h .rows * h .columns) cells) where
+    module _ (old slot : ℕ) (rows-is : rows′ ≡ splice (set rows (old * h .columns) 4294967295) (h .rows * h .columns) cells) where
       replaced : (h′ : Header) → h′ ≡ grownTo h (h .dead + 1) n (getD cells (h .sort) 0)
-          → Leading h h′ rows′ keys (keys′ ≡ set keys slot (tagged hash (h .rows))) keys′ → Replaced h rows keys sorts cells hash old slot h′ rows′ keys′ sorts′
+          → KeysGrown h h′ rows′ keys (keys′ ≡ set keys slot (tagged hash (h .rows))) keys′ → Replaced h rows keys sorts cells hash old slot h′ rows′ keys′ sorts′
       replaced h′ e led =
           let k = counted (h .dead + 1) h′ e in record { entered = k .0; header = k .1; rows-after = rows-is; keys-after = led }
 
-      pub replaced-stepped : outgrown h ≡ false → slot < slots (keyedOf h) → keys′ ≡ set keys slot (tagged hash (h .rows))
+      pub replaced-stepped : outgrown h ≡ false → slot < slots (indexShapeOf h) → keys′ ≡ set keys slot (tagged hash (h .rows))
           → (h′ : Header) → h′ ≡ grownTo h (h .dead + 1) n (getD cells (h .sort) 0) → Replaced h rows keys sorts cells hash old slot h′ rows′ keys′ sorts′
       replaced-stepped o below keys-is h′ e =
-          replaced h′ e (led-stepped h h′ rows′ keys keys′ same o keys-is (past-room (h .capacity) (h .rows) keys keys′ (replace-tail (slots (keyedOf h)) slot _ keys keys′ below keys-is)))
+          replaced h′ e (led-stepped h h′ rows′ keys keys′ same o keys-is (past-sizeClass (h .capacity) (h .rows) keys keys′ (replace-tail (slots (indexShapeOf h)) slot _ keys keys′ below keys-is)))
 
       pub replaced-rebuilt : outgrown h ≡ true → (r : Insertion) → RebuiltGrown h rows′ keys 1 n (getD cells (h .sort) 0) r keys′
           → ReplaceIs h rows keys sorts cells hash old slot rows′ keys′ sorts′ r

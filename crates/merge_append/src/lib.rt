@@ -4,16 +4,16 @@ ghost use mathlib.Core.Path.{_≡_};
 ghost use Prim.Native.Nat.{_≤_, _+_, _<_};
 ghost use Rattle.key_index.specs.Slots.{slots};
 ghost use Rattle.plain_table.specs.Plain.{below};
-ghost use Rattle.table.specs.Numbers.{largestSays};
-ghost use Rattle.table.specs.Sound.{keyedOf};
+ghost use Rattle.table.specs.Numbers.{largestView};
+ghost use Rattle.table.specs.Sound.{indexShapeOf};
 ghost use Rattle.merge_append.specs.inner.Appending.{Enterable, AdmissionIs, grownTo, outgrown, Rebuildable, RebuiltGrown, Growable, NewIs, ReplaceIs};
 use table::Header;
 use table::Largest;
-use table::keyed;
+use table::index_shape;
 
 // The result of an insert of a merge: no change, a row appended, or the merge stopped with a number.
 pub enum Insertion {
-    Kept,
+    Unchanged,
     Appended(Header),
     Stopped(u32),
 }
@@ -26,7 +26,7 @@ enum Admission {
 
 // Whether a sort value is below the largest one appended.
 pub fn is_old(h: Header, value: u32) -> bool
-    ensures { λ r. ⌜ r ≡ below value (largestSays (h .largest)) ⌝ }
+    ensures { λ r. ⌜ r ≡ below value (largestView (h .largest)) ⌝ }
 {
     let largest = h.largest;
     match largest {
@@ -69,7 +69,8 @@ fn is_outgrown(h: Header) -> bool
     requires { ⌜ h .rows < 65536 ⌝ }
     ensures { λ r. ⌜ r ≡ outgrown h ⌝ }
 {
-    key_index::room_for(h.capacity, h.rows + 1) != key_index::room_for(h.capacity, h.rows)
+    key_index::size_class_for(h.capacity, h.rows + 1)
+        != key_index::size_class_for(h.capacity, h.rows)
 }
 
 // Rebuilds the key store after a row that needs more slots was written.
@@ -85,7 +86,7 @@ fn rebuild_grown(
     ensures { λ r. ⌜ RebuiltGrown h (now (rows .entry)) (now (keys .entry)) died entries value r (now (keys .exit)) ⌝ }
 {
     let n = grown(h, died, entries, value);
-    key_rebuild::rebuild(keyed(n), rows, keys);
+    key_rebuild::rebuild(index_shape(n), rows, keys);
     Insertion::Appended(n)
 }
 
@@ -109,7 +110,7 @@ pub fn insert_new(
             if is_outgrown(h) {
                 return rebuild_grown(h, rows, keys, 0, entries, value);
             }
-            key_index::put(keyed(h), keys, hash, h.rows);
+            key_index::put(index_shape(h), keys, hash, h.rows);
             Insertion::Appended(grown(h, 0, entries, value))
         }
     }
@@ -126,7 +127,7 @@ pub fn replace_row(
     old: u32,
     slot: u32,
 ) -> Insertion
-    requires { ⌜ Growable h (now rows) (now keys) (now sorts) (now cells) × (old < h .rows) × (slot < slots (keyedOf h)) ⌝ }
+    requires { ⌜ Growable h (now rows) (now keys) (now sorts) (now cells) × (old < h .rows) × (slot < slots (indexShapeOf h)) ⌝ }
     ensures { λ r. ⌜ ReplaceIs h (now (rows .entry)) (now (keys .entry)) (now (sorts .entry)) (now (cells .entry)) hash old slot (now (rows .exit)) (now (keys .exit)) (now (sorts .exit)) r ⌝ }
 {
     let value = cells[h.sort as usize];

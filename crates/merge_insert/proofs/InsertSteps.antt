@@ -9,27 +9,27 @@ use native.Mathlib.Omega.{arith}
 use lib.ListN.{length, take, drop, getD, length-take, length-drop}
 use lib.Seq.{take-take, take-all, getD-take, getD-drop}
 use borrow.Author.Tests.{le-leb, lt-leb, not-true, not-false}
-use Rattle.lists.specs.Lists.{putAt, rowAt, same}
-use Rattle.lists.specs.Laws.Parts.{part-width, part-putAt}
+use Rattle.lists.specs.Lists.{splice, rowAt, same}
+use Rattle.lists.specs.Laws.Parts.{part-width, part-splice}
 use Rattle.lists.specs.Laws.Rows.{row-in}
 use Rattle.cells.specs.Cells.{isDead}
 use Rattle.merge_rules.specs.Rules.{changesFrom, madeFrom, survivor}
 use Rattle.merge_rules.specs.Laws.Rules.{survivor-length, survivor-old}
-use Rattle.key_index.specs.declared.Keyed.{Keyed}
+use Rattle.key_index.specs.declared.IndexShape.{IndexShape}
 use Rattle.key_index.specs.declared.Found.{Found}
 use Rattle.key_index.specs.declared.Found.the-variants.{None, At}
 use Rattle.key_index.specs.Slots.{slots}
 use Rattle.key_index.specs.inner.Index.{Fits, FoundIs}
 use Rattle.table.specs.declared.Header.{Header}
 use Rattle.merge_append.specs.declared.Insertion.{Insertion}
-use Rattle.merge_append.specs.declared.Insertion.the-variants.{Kept, Appended, Stopped}
-use Rattle.table.specs.Sound.{keyedOf}
-use Rattle.table.specs.Laws.Refusals.{whole-fits}
+use Rattle.merge_append.specs.declared.Insertion.the-variants.{Unchanged, Appended, Stopped}
+use Rattle.table.specs.Sound.{indexShapeOf}
+use Rattle.table.specs.Laws.Refusals.{full-shape-fits}
 use Rattle.merge_pending.specs.inner.Becoming.{Ready}
 use Rattle.merge_insert.specs.inner.Inserting.{Inserting}
 use Rattle.merge_append.specs.Laws.Places.{placed}
 use Rattle.merge_append.specs.inner.Appending.{Growable, NewIs, ReplaceIs}
-use Rattle.merge_insert.specs.inner.Ruling.{Changes, rowMade, Makeable, MadeIs, KeptOld, KnownIs}
+use Rattle.merge_insert.specs.inner.Ruling.{Changes, rowMade, Makeable, MadeIs, UnchangedOld, KnownIs}
 use Rattle.merge_insert.specs.Laws.Inserts.{length-made, skip-inserts, new-inserts, known-inserts}
 
 -- ---- the row made
@@ -72,9 +72,9 @@ module _ (h : Header) (rows pending out : List ℕ) (old from : ℕ) where
       pub survivor-kept : b ≡ true → MadeIs h rows pending out old from false out
       survivor-kept q = record { answer = sym (not-true _ (sym unchanged ∙ q)); row = λ t. absurd (false≢true t) }
 
-      pub survivor-made : b ≡ false → h .rule ≤ 1 → (out′ : List ℕ) → out′ ≡ putAt out 0 row → MadeIs h rows pending out old from true out′
+      pub survivor-made : b ≡ false → h .rule ≤ 1 → (out′ : List ℕ) → out′ ≡ splice out 0 row → MadeIs h rows pending out old from true out′
       unfolding rowMade rowAt
-      survivor-made q l out′ k = record { answer = sym (not-false _ (sym unchanged ∙ q)); row = λ t. rw (le-leb _ _ l) (k ∙ ap (putAt out 0) e) }
+      survivor-made q l out′ k = record { answer = sym (not-false _ (sym unchanged ∙ q)); row = λ t. rw (le-leb _ _ l) (k ∙ ap (splice out 0) e) }
 
   module _ (b : Bool)
       (e : b
@@ -90,7 +90,7 @@ module _ (h : Header) (rows pending out : List ℕ) (old from : ℕ) where
     -- the rule makes a third
     pub made-third : b ≡ true → 1 < h .rule → (out′ : List ℕ)
         → out′
-        ≡ putAt out 0
+        ≡ splice out 0
         (madeFrom (h .rule) (h .keys) (h .sort) 0 (take (old * h .columns + h .columns - old * h .columns) (drop (old * h .columns) rows)) (take (from + h .columns - from) (drop from pending)))
         → MadeIs h rows pending out old from true out′
     unfolding rowMade rowAt
@@ -100,7 +100,7 @@ module _ (h : Header) (rows pending out : List ℕ) (old from : ℕ) where
           row = λ t.
               rw (lt-leb _ _ l)
               (k
-              ∙ ap (putAt out 0)
+              ∙ ap (splice out 0)
               (ap₂ (madeFrom (h .rule) (h .keys) (h .sort) 0) (part-width rows (old * h .columns) (h .columns)) (part-width pending from (h .columns))));
         }
 
@@ -121,7 +121,7 @@ module _ (h : Header) (rows keys sorts pending : List ℕ) (old from : ℕ) (rea
 
   module _ (out : List ℕ) (n : length out ≡ 8) (b : Bool) (out′ : List ℕ) (m : MadeIs h rows pending out old from b out′) where
     -- the old row is kept
-    pub kept-old : b ≡ false → KeptOld h rows keys sorts (take (h .columns) (drop from pending)) old rows keys sorts
+    pub kept-old : b ≡ false → UnchangedOld h rows keys sorts (take (h .columns) (drop from pending)) old rows keys sorts
     kept-old q = record { unchanged = sym (m .answer) ∙ q; same-rows = refl; same-keys = refl; same-sorts = refl }
 
     -- the row made, as it is lent on
@@ -133,13 +133,13 @@ module _ (h : Header) (rows keys sorts pending : List ℕ) (old from : ℕ) (rea
         let c : length (take (h .columns) (drop from pending)) ≡ h .columns = simp (length-take, length-drop) (omega (arith, at .new-in)) in
         let w : length row ≡ h .columns = length-made h _ _ (a ∙ sym c) ∙ a in
         let z : h .columns - 0 ≡ length row = omega arith in
-        ap₂ (λ (k : ℕ) (l : List ℕ). take k (drop 0 l)) z (m .row q) ∙ part-putAt out row 0 (omega (arith, at .few-columns))
+        ap₂ (λ (k : ℕ) (l : List ℕ). take k (drop 0 l)) z (m .row q) ∙ part-splice out row 0 (omega (arith, at .few-columns))
 
     -- it is appended and the old row dies, or the merge stops
     pub known-of : b ≡ true → (hash slot : ℕ) (rows′ keys′ sorts′ : List ℕ) (r : Insertion)
         → ReplaceIs h rows keys sorts (take (h .columns - 0) (drop 0 out′)) hash old slot rows′ keys′ sorts′ r
         → KnownIs h rows keys sorts (take (h .columns) (drop from pending)) hash old slot rows′ keys′ sorts′ r
-    known-of q hash slot rows′ keys′ sorts′ Kept g = absurd g
+    known-of q hash slot rows′ keys′ sorts′ Unchanged g = absurd g
     known-of q hash slot rows′ keys′ sorts′ (Appended h′) g = (sym (m .answer) ∙ q, rw (made-cells q) at g)
     known-of q hash slot rows′ keys′ sorts′ (Stopped k) g = (sym (m .answer) ∙ q, rw (made-cells q) at g)
 
@@ -155,15 +155,15 @@ module _ (h : Header) (rows keys sorts pending : List ℕ) (from hash : ℕ) (re
 
   -- a dead first cell
   pub inserts-skipped : (b : Bool) → b ≡ isDead (getD pending from 0) → b ≡ true
-      → Inserting h rows keys sorts (take (h .columns) (drop from pending)) hash Kept rows keys sorts
+      → Inserting h rows keys sorts (take (h .columns) (drop from pending)) hash Unchanged rows keys sorts
   inserts-skipped b e q = skip-inserts h rows keys sorts (take (h .columns) (drop from pending)) hash (ap isDead first-cell ∙ sym e ∙ q)
 
   -- the key can be looked up
-  pub findable : (t : Keyed) → t ≡ keyedOf h → Fits t rows keys × (length (take (from + h .keys - from) (drop from pending)) ≡ t .keys)
+  pub findable : (t : IndexShape) → t ≡ indexShapeOf h → Fits t rows keys × (length (take (from + h .keys - from) (drop from pending)) ≡ t .keys)
   findable t e =
       let n : length (take (from + h .keys - from) (drop from pending)) ≡ h .keys =
       simp (length-take, length-drop) (omega (arith, ready .pending-fits, ready .fits .most-keys)) in
-      rw e (whole-fits h rows keys (ready .fits), n)
+      rw e (full-shape-fits h rows keys (ready .fits), n)
 
   -- a row can be appended
   pub growable : Growable h rows keys sorts (take (from + h .columns - from) (drop from pending))
@@ -177,8 +177,8 @@ module _ (h : Header) (rows keys sorts pending : List ℕ) (from hash : ℕ) (re
         width = ap length (part-width pending from (h .columns)) ∙ wide;
       }
 
-  module _ (t : Keyed) (keyed-is : t ≡ keyedOf h) (f : Found) (found : FoundIs t rows keys (take (from + h .keys - from) (drop from pending)) hash f) where
-    looked-up : FoundIs (keyedOf h) rows keys (take (h .keys) (take (h .columns) (drop from pending))) hash f
+  module _ (t : IndexShape) (keyed-is : t ≡ indexShapeOf h) (f : Found) (found : FoundIs t rows keys (take (from + h .keys - from) (drop from pending)) hash f) where
+    looked-up : FoundIs (indexShapeOf h) rows keys (take (h .keys) (take (h .columns) (drop from pending))) hash f
     looked-up =
         let k = part-width pending from (h .keys) ∙ sym (take-take (h .keys) (h .columns) (drop from pending) (ready .fits .most-keys)) in
         rw (keyed-is, k) at found
@@ -187,7 +187,7 @@ module _ (h : Header) (rows keys sorts pending : List ℕ) (from hash : ℕ) (re
     pub found-row : (old slot : ℕ) → f ≡ At old slot → old < h .rows
     found-row old slot e = looked-up .row-in old slot e
 
-    pub found-slot : (old slot : ℕ) → f ≡ At old slot → slot < slots (keyedOf h)
+    pub found-slot : (old slot : ℕ) → f ≡ At old slot → slot < slots (indexShapeOf h)
     found-slot old slot e = looked-up .slot-in old slot e
 
     module _ (b : Bool) (e : b ≡ isDead (getD pending from 0)) (q : b ≡ false) (rows′ keys′ sorts′ : List ℕ) where
@@ -202,7 +202,7 @@ module _ (h : Header) (rows keys sorts pending : List ℕ) (from hash : ℕ) (re
         where
           rewidth : (r : Insertion) → NewIs h rows keys sorts (take (from + h .columns - from) (drop from pending)) hash rows′ keys′ sorts′ r
               → NewIs h rows keys sorts (take (h .columns) (drop from pending)) hash rows′ keys′ sorts′ r
-          rewidth Kept k = k
+          rewidth Unchanged k = k
           rewidth (Appended h′) k = rw (part-width pending from (h .columns)) at k
           rewidth (Stopped n) k = rw (part-width pending from (h .columns)) at k
 

@@ -9,19 +9,19 @@ use native.Mathlib.Numerals.{add-one}
 use native.Mathlib.Omega.{arith}
 use lib.ListN.{length, take, drop, getD}
 use borrow.Author.Tests.{ne-eqb}
-use Rattle.lists.specs.Lists.{keep}
+use Rattle.lists.specs.Lists.{filter}
 use Rattle.refusals.specs.Refusals.{refused, accepted}
 use Rattle.plain_table.specs.Staged.{Staged, insert, removeKey, removeRow, wordsOf, inserts}
 use Rattle.plain_table.specs.Plain.{Inserted, inserted, insertAll, Plain, insertion}
 use Rattle.table.specs.declared.Header.{Header}
-use Rattle.merge_insert.specs.declared.Passed.{Passed}
+use Rattle.merge_insert.specs.declared.MergeProgress.{MergeProgress}
 use Rattle.merge_append.specs.declared.Insertion.{Insertion}
-use Rattle.merge_append.specs.declared.Insertion.the-variants.{Kept, Appended, Stopped}
+use Rattle.merge_append.specs.declared.Insertion.the-variants.{Unchanged, Appended, Stopped}
 use Rattle.table.specs.Numbers.{openingOf}
-use Rattle.table.specs.Promises.{Stores, stores, Represents, SlotsPast}
-use Rattle.merge_pending.specs.inner.Becoming.{Becomes, Recounted, Ready, Waiting, kindOf, RecordLength, ofKind, Left, NextRecord}
+use Rattle.table.specs.Contracts.{Stores, stores, Represents, SlotsPast}
+use Rattle.merge_pending.specs.inner.Becoming.{Becomes, Recounted, Ready, Waiting, kindOf, RecordLength, ofKind, Remaining, NextRecord}
 use Rattle.merge_insert.specs.inner.Insertions.{hasAdded, InsertedTable, Insertions, FirstInsert, InsertNext, InsertGoes, InsertedNext}
-use Rattle.merge_insert.specs.inner.Inserting.{Comes, Inserting}
+use Rattle.merge_insert.specs.inner.Inserting.{InsertAgrees, Inserting}
 use Rattle.merge_pending.specs.Laws.Steps.{steps-refl, steps-then, waiting-start, words-some, waiting-next, waiting-kind, waiting-hash, waiting-cells, recounted-refl, recounted-capacity, recounted-then, recounted-waiting}
 use Rattle.merge_pending.proofs.PassRecords.{Next, record-long}
 
@@ -43,10 +43,10 @@ goes-stopped : (cells : List ℕ) (rest : List Staged) (place : ℕ) (added : Bo
 unfolding insertAll inserts
 goes-stopped cells rest place added p n e = rw e
 
-abbrev passed : Header → ℕ → ℕ → ℕ → Passed
+abbrev passed : Header → ℕ → ℕ → ℕ → MergeProgress
 passed h status place added = record { header = h; status = status; place = place; added = added }
 
-module _ {m : Passed} {rows keys sorts pending : List ℕ} {at : ℕ} (a : InsertNext m rows keys sorts pending at) where
+module _ {m : MergeProgress} {rows keys sorts pending : List ℕ} {at : ℕ} (a : InsertNext m rows keys sorts pending at) where
   abbrev Before : Stores
   Before = stores (m .header) rows keys sorts pending
 
@@ -65,18 +65,18 @@ module _ {m : Passed} {rows keys sorts pending : List ℕ} {at : ℕ} (a : Inser
 
   module _ {one : Insertion} {rows′ keys′ sorts′ : List ℕ} (k : getD pending at 0 ≡ 0)
       (i : Inserting (m .header) rows keys sorts (take (m .header .columns) (drop (at + 2) pending)) (getD pending (at + 1) 0) one rows′ keys′ sorts′) where
-    abbrev Goes : Passed → Staged → List Staged → Plain → Type 0
+    abbrev Goes : MergeProgress → Staged → List Staged → Plain → Type 0
     Goes r s rest p = InsertGoes m r s rest p Before (stores (r .header) rows′ keys′ sorts′ pending)
 
     -- the result of the insert at this place
     comes : {cells : List ℕ} {rest : List Staged} → Next (m .header) pending at (insert cells) rest → (p : Plain) → Represents p Before
-        → Comes p cells Before rows′ keys′ sorts′ one
+        → InsertAgrees p cells Before rows′ keys′ sorts′ one
     comes {cells} w p t =
         let j : Inserting (m .header) rows keys sorts cells (getD pending (at + 1) 0) one rows′ keys′ sorts′ = rw (waiting-cells w) at i in
         j .table (waiting-hash w) pending p t
 
     -- the record here is an insert
-    an-insert : (r : Passed) → ((cells : List ℕ) (rest : List Staged) → Next (m .header) pending at (insert cells) rest → (p : Plain) → Represents p Before → Goes r (insert cells) rest p)
+    an-insert : (r : MergeProgress) → ((cells : List ℕ) (rest : List Staged) → Next (m .header) pending at (insert cells) rest → (p : Plain) → Represents p Before → Goes r (insert cells) rest p)
         → (s : Staged) (rest : List Staged) → Next (m .header) pending at s rest → (p : Plain) → Represents p Before → Goes r s rest p
     an-insert r f (insert cells) rest w p t = f cells rest w p t
     an-insert r f (removeKey key) rest w p t = let e : getD pending at 0 ≡ 1 = unfold kindOf in waiting-kind w in absurd (omega arith)
@@ -86,7 +86,7 @@ module _ {m : Passed} {rows keys sorts pending : List ℕ} {at : ℕ} (a : Inser
     same-steps f p t = let u = i .unchanged f in rw (u .0, u .1, u .2) (steps-refl t)
 
     -- it is kept
-    pub inserted-kept : one ≡ Kept → InsertedNext m rows keys sorts pending at (passed (m .header) 0 (m .place + 1) (m .added)) rows′ keys′ sorts′
+    pub inserted-kept : one ≡ Unchanged → InsertedNext m rows keys sorts pending at (passed (m .header) 0 (m .place + 1) (m .added)) rows′ keys′ sorts′
     inserted-kept e =
         record {
           past = i .past;
@@ -154,15 +154,15 @@ pub first-here : {h : Header} {pending : List ℕ} → FirstInsert h pending 0
 first-here = record { inside = omega arith; left = λ records w. record { left = records; same = refl; waiting = w } }
 
 -- it is a removal, and is passed over
-removal-first : (first : Staged) (rest : List Staged) → (kindOf first ≡ 0 → ⊥) → keep (ofKind 0) (first ∷ rest) ≡ keep (ofKind 0) rest
-unfolding keep
+removal-first : (first : Staged) (rest : List Staged) → (kindOf first ≡ 0 → ⊥) → filter (ofKind 0) (first ∷ rest) ≡ filter (ofKind 0) rest
+unfolding filter
 removal-first first rest ne = rw (ne-eqb (kindOf first) 0 ne)
 
 pub first-later : {h : Header} {pending : List ℕ} {words next : ℕ} → RecordLength h pending 0 words → (words ≡ 0 → ⊥) → (getD pending 0 0 ≡ 0 → ⊥)
     → NextRecord h pending 0 words 0 next → FirstInsert h pending next
 first-later {h} {pending} {words} {next} l there other passes = record { inside = passes .inside; left = left }
   where
-    left : (records : List Staged) → Waiting (openingOf h) pending (h .pending) 0 records → Left h pending 0 next records
+    left : (records : List Staged) → Waiting (openingOf h) pending (h .pending) 0 records → Remaining h pending 0 next records
     left [] w = absurd (there (l .none w))
     left (first ∷ rest) w =
         let x = passes .rest first rest w in
@@ -170,20 +170,20 @@ first-later {h} {pending} {words} {next} l there other passes = record { inside 
         record { left = x .left; same = e ∙ x .same; waiting = x .waiting }
 
 -- removals make no difference
-inserts-wanted : (records : List Staged) → inserts records ≡ inserts (keep (ofKind 0) records)
-unfolding inserts keep kindOf
+inserts-wanted : (records : List Staged) → inserts records ≡ inserts (filter (ofKind 0) records)
+unfolding inserts filter kindOf
 inserts-wanted [] = refl
 inserts-wanted (insert cells ∷ rest) = ap (λ (l : List (List ℕ)). cells ∷ l) (inserts-wanted rest)
 inserts-wanted (removeKey key ∷ rest) = inserts-wanted rest
 inserts-wanted (removeRow row key ∷ rest) = inserts-wanted rest
 
-inserts-left : {h : Header} {pending : List ℕ} {at : ℕ} {records : List Staged} (l : Left h pending 0 at records) → inserts records ≡ inserts (l .left)
+inserts-left : {h : Header} {pending : List ℕ} {at : ℕ} {records : List Staged} (l : Remaining h pending 0 at records) → inserts records ≡ inserts (l .left)
 inserts-left {h} {pending} {at} {records} l = inserts-wanted records ∙ ap inserts (l .same) ∙ sym (inserts-wanted (l .left))
 
 -- ---- the loop over the inserts
 
 -- the result of the inserts so far, and the remaining records
-pub record Inserts (at : ℕ) (m : Passed) (p : Plain) (s s′ : Stores) : Type 0 where
+pub record Inserts (at : ℕ) (m : MergeProgress) (p : Plain) (s s′ : Stores) : Type 0 where
   pub now : Plain
   pub rest : List Staged
   pub waiting : Waiting (openingOf (s .header)) (s .pending) (s .header .pending) at rest
@@ -191,7 +191,7 @@ pub record Inserts (at : ℕ) (m : Passed) (p : Plain) (s s′ : Stores) : Type 
   pub steps : Becomes p now s s′
 
 -- the loop's invariant
-pub record Filling (h : Header) (rows keys sorts pending rows′ keys′ sorts′ : List ℕ) (m : Passed) (at words : ℕ) : Type 0 where
+pub record Filling (h : Header) (rows keys sorts pending rows′ keys′ sorts′ : List ℕ) (m : MergeProgress) (at words : ℕ) : Type 0 where
   pub here : RecordLength h pending at words
   pub inside : at ≤ h .pending
   pub going : m .status ≡ 0
@@ -243,7 +243,7 @@ module _ {h : Header} {rows keys sorts pending : List ℕ} (a : Ready h rows key
             record { now = p; rest = x .left; waiting = x .waiting; same = same; steps = steps-refl t };
       }
 
-  module _ {rows′ keys′ sorts′ : List ℕ} {m : Passed} {at words : ℕ} (v : Filling h rows keys sorts pending rows′ keys′ sorts′ m at words) where
+  module _ {rows′ keys′ sorts′ : List ℕ} {m : MergeProgress} {at words : ℕ} (v : Filling h rows keys sorts pending rows′ keys′ sorts′ m at words) where
     module _ (some : words ≡ 0 → ⊥) where
       pub filling-long : 3 ≤ words
       filling-long = record-long (v .here) (a .fits .some-columns) (a .fits .some-keys) (omega arith)
@@ -267,7 +267,7 @@ module _ {h : Header} {rows keys sorts pending : List ℕ} (a : Ready h rows key
           wide : m .header .columns ≡ h .columns
           wide = ap (λ (x : Header). x .columns) (v .header .counts)
 
-      module _ {r : Passed} {rows″ keys″ sorts″ : List ℕ} (one : InsertedNext m rows′ keys′ sorts′ pending at r rows″ keys″ sorts″) where
+      module _ {r : MergeProgress} {rows″ keys″ sorts″ : List ℕ} (one : InsertedNext m rows′ keys′ sorts′ pending at r rows″ keys″ sorts″) where
         header-then : Recounted h (r .header)
         header-then = recounted-then (v .header) (one .header)
 
@@ -275,7 +275,7 @@ module _ {h : Header} {rows keys sorts pending : List ℕ} (a : Ready h rows key
         past-then = rw (recounted-capacity (v .header)) at (one .past) ∙ v .past
 
         -- the turn of a table's next record
-        pub record Turn (p : Plain) : Type 0 where
+        pub record Iteration (p : Plain) : Type 0 where
           pub rest : List Staged
           pub next : Plain
           pub waiting : Waiting (openingOf h) pending (h .pending) (at + words) rest
@@ -283,10 +283,10 @@ module _ {h : Header} {rows keys sorts pending : List ℕ} (a : Ready h rows key
           pub goes-on : r .status ≡ 0 → insertAll (inserts (p .staged)) 0 false p ≡ insertAll (inserts rest) (r .place) (hasAdded r) next
           pub stops : (r .status ≡ 0 → ⊥) → insertAll (inserts (p .staged)) 0 false p ≡ inserted next (r .status) (r .place) (hasAdded r)
 
-        turn : (p : Plain) → Represents p Start → Turn p
-        turn p t = go (v .table p t .rest) refl
+        iteration : (p : Plain) → Represents p Start → Iteration p
+        iteration p t = go (v .table p t .rest) refl
           where
-            go : (l : List Staged) → v .table p t .rest ≡ l → Turn p
+            go : (l : List Staged) → v .table p t .rest ≡ l → Iteration p
             go [] e = absurd (some (v .here .none (rw e at (v .table p t .waiting))))
             go (first ∷ rest) e =
                 let g = v .table p t in
@@ -319,7 +319,7 @@ module _ {h : Header} {rows keys sorts pending : List ℕ} (a : Ready h rows key
               sorts-same = same-sorts ∙ v .sorts-same;
               past = past-then;
               table = λ p t.
-                  let x = turn p t in
+                  let x = iteration p t in
                   record { now = x .next; rest = x .rest; waiting = x .waiting; same = x .goes-on z; steps = x .steps };
             }
 
@@ -330,7 +330,7 @@ module _ {h : Header} {rows keys sorts pending : List ℕ} (a : Ready h rows key
               past = past-then;
               header = header-then;
               table = λ p t.
-                  let x = turn p t in
+                  let x = iteration p t in
                   let q = x .stops f in
                   record {
                     steps = rw q (x .steps);

@@ -15,7 +15,7 @@ mod row; // row.rt: one insert
 // The result of the passes over the pending records: the answer of a merge, before the compaction that may follow. `added` is 1 if
 // a row was appended. It is not a bool, because a struct with a bool is copied byte by byte, and this one is copied in each
 // iteration of a loop.
-pub struct Passed {
+pub struct MergeProgress {
     pub header: Header,
     pub status: u32,
     pub place: u32,
@@ -41,13 +41,13 @@ fn first_place(h: Header, pending: &[u32]) -> u32
 // Applies the record at a place if it is an insert. Takes the result of the inserts before it, and returns the result that includes
 // it: `place` is that of the next insert, unless this insert stops the merge.
 fn insert_next(
-    m: Passed,
+    m: MergeProgress,
     rows: &mut [u32],
     keys: &mut [u32],
     sorts: &mut [u32],
     pending: &[u32],
     at: u32,
-) -> Passed
+) -> MergeProgress
     requires { ⌜ InsertNext m (now rows) (now keys) (now sorts) (now pending) at ⌝ }
     ensures { λ r. ⌜ InsertedNext m (now (rows .entry)) (now (keys .entry)) (now (sorts .entry)) (now (pending .entry)) at r (now (rows .exit)) (now (keys .exit)) (now (sorts .exit)) ⌝ }
 {
@@ -60,7 +60,7 @@ fn insert_next(
     let one = insert_row(n, rows, keys, sorts, pending, at + 2, hash);
     let mut r = m;
     match one {
-        Insertion::Kept => {
+        Insertion::Unchanged => {
             r.status = 0;
             r.place = m.place + 1;
             r
@@ -86,11 +86,11 @@ pub fn insert_all(
     keys: &mut [u32],
     sorts: &mut [u32],
     pending: &[u32],
-) -> Passed
+) -> MergeProgress
     requires { ⌜ Ready h (now rows) (now keys) (now sorts) (now pending) ⌝ }
     ensures { λ r. ⌜ Insertions h (now (rows .entry)) (now (keys .entry)) (now (sorts .entry)) (now (pending .entry)) r (now (rows .exit)) (now (keys .exit)) (now (sorts .exit)) ⌝ }
 {
-    let mut done = Passed {
+    let mut done = MergeProgress {
         header: h,
         status: 0,
         place: 0,

@@ -2,7 +2,7 @@
 // appended, and the old row dies.
 ghost use Prim.Native.Nat.{_≤_, _+_, _<_};
 ghost use Rattle.key_index.specs.Slots.{slots};
-ghost use Rattle.table.specs.Sound.{keyedOf};
+ghost use Rattle.table.specs.Sound.{indexShapeOf};
 ghost use Rattle.merge_pending.specs.inner.Becoming.{Ready};
 ghost use lib.ListN.{take, drop};
 ghost use Rattle.merge_insert.specs.inner.Inserting.{Inserting};
@@ -12,7 +12,7 @@ use merge_append::Insertion;
 use merge_append::insert_new;
 use merge_append::replace_row;
 use table::Header;
-use table::keyed;
+use table::index_shape;
 
 // Writes the row that the rule makes of an old row and the new cells to the start of `out`. Returns false if the old row is kept.
 // For rules 0 and 1 the row made is the surviving row, a part of one of the two stores. Its cells behind the key equal the old
@@ -70,12 +70,12 @@ fn insert_known(
     old: u32,
     slot: u32,
 ) -> Insertion
-    requires { ⌜ Ready h (now rows) (now keys) (now sorts) (now pending) × (from + h .columns ≤ h .pending) × (old < h .rows) × (slot < slots (keyedOf h)) ⌝ }
+    requires { ⌜ Ready h (now rows) (now keys) (now sorts) (now pending) × (from + h .columns ≤ h .pending) × (old < h .rows) × (slot < slots (indexShapeOf h)) ⌝ }
     ensures { λ r. ⌜ KnownIs h (now (rows .entry)) (now (keys .entry)) (now (sorts .entry)) (take (h .columns) (drop from (now (pending .entry)))) hash old slot (now (rows .exit)) (now (keys .exit)) (now (sorts .exit)) r ⌝ }
 {
     let mut row = [0u32; 8];
     if !make_row(h, rows, old, pending, from, &mut row) {
-        return Insertion::Kept;
+        return Insertion::Unchanged;
     }
     let width = h.columns as usize;
     replace_row(h, rows, keys, sorts, &row[0..width], hash, old, slot)
@@ -96,10 +96,10 @@ pub fn insert_row(
 {
     let at = from as usize;
     if cells::is_stale(pending[at]) {
-        return Insertion::Kept;
+        return Insertion::Unchanged;
     }
     let key = &pending[at..at + h.keys as usize];
-    match key_index::look_up(keyed(h), rows, keys, key, hash) {
+    match key_index::look_up(index_shape(h), rows, keys, key, hash) {
         Found::None => {
             let end = at + h.columns as usize;
             insert_new(h, rows, keys, sorts, &pending[at..end], hash)

@@ -7,11 +7,11 @@ use mathlib.Core.List.{List, [], _∷_}
 use native.Mathlib.Omega.{arith}
 use lib.ListN.{getD}
 use borrow.Author.Tests.{ne-eqb}
-use Rattle.lists.specs.Lists.{keep}
+use Rattle.lists.specs.Lists.{filter}
 use Rattle.plain_table.specs.Staged.{Staged, insert, removeKey, removeRow, wordsOf, wordsAll}
 use Rattle.table.specs.declared.Header.{Header}
 use Rattle.table.specs.Numbers.{openingOf}
-use Rattle.merge_pending.specs.inner.Becoming.{Waiting, kindOf, RecordLength, ofKind, Left, RunPassed, CanPass, NextRecord}
+use Rattle.merge_pending.specs.inner.Becoming.{Waiting, kindOf, RecordLength, ofKind, Remaining, RunSkipped, CanSkip, NextRecord}
 use Rattle.merge_pending.specs.Laws.Steps.{words-some, waiting-inside, waiting-kind, waiting-next}
 
 most-kind : (r : Staged) → kindOf r ≤ 2
@@ -95,16 +95,16 @@ record-long {h} {pending} {at} {n} l a b z = go (getD pending at 0) refl
 -- ---- a run of records of one kind
 
 -- nothing is passed over yet
-pub run-begin : {h : Header} {pending : List ℕ} {from kind words : ℕ} → from ≤ h .pending → RunPassed h pending from kind words from
+pub run-begin : {h : Header} {pending : List ℕ} {from kind words : ℕ} → from ≤ h .pending → RunSkipped h pending from kind words from
 run-begin i = record { on = omega arith; inside = i; rest = λ of-kind wanted ne records w. record { left = records; same = refl; waiting = w } }
 
-passed-other : (wanted : ℕ) (r : Staged) (rest : List Staged) → ofKind wanted r ≡ false → keep (ofKind wanted) (r ∷ rest) ≡ keep (ofKind wanted) rest
-unfolding keep
-passed-other wanted r rest e = rw e refl
+skipped-other : (wanted : ℕ) (r : Staged) (rest : List Staged) → ofKind wanted r ≡ false → filter (ofKind wanted) (r ∷ rest) ≡ filter (ofKind wanted) rest
+unfolding filter
+skipped-other wanted r rest e = rw e refl
 
 -- one more record of the kind
-pub run-again : {h : Header} {pending : List ℕ} {from kind words at : ℕ} → 0 < words → RunPassed h pending from kind words at → getD pending at 0 ≡ kind
-    → words ≤ h .pending - at → RunPassed h pending from kind words (at + words)
+pub run-again : {h : Header} {pending : List ℕ} {from kind words at : ℕ} → 0 < words → RunSkipped h pending from kind words at → getD pending at 0 ≡ kind
+    → words ≤ h .pending - at → RunSkipped h pending from kind words (at + words)
 run-again {h} {pending} {from} {kind} {words} {at} some v e room =
     record {
       on = omega (arith, v .on);
@@ -113,20 +113,20 @@ run-again {h} {pending} {from} {kind} {words} {at} some v e room =
     }
   where
     on : ((r : Staged) → kindOf r ≡ kind → wordsOf (openingOf h) r ≡ words) → (wanted : ℕ) → (kind ≡ wanted → ⊥)
-        → (records : List Staged) → Left h pending wanted at records → Left h pending wanted (at + words) records
+        → (records : List Staged) → Remaining h pending wanted at records → Remaining h pending wanted (at + words) records
     on of-kind wanted ne records l = go (l .left) (l .same) (l .waiting)
       where
-        go : (left : List Staged) → keep (ofKind wanted) records ≡ keep (ofKind wanted) left → Waiting (openingOf h) pending (h .pending) at left
-            → Left h pending wanted (at + words) records
+        go : (left : List Staged) → filter (ofKind wanted) records ≡ filter (ofKind wanted) left → Waiting (openingOf h) pending (h .pending) at left
+            → Remaining h pending wanted (at + words) records
         go [] same w = let z : at + 0 ≡ h .pending = unfold wordsAll in w .counted in absurd (omega arith)
         go (r ∷ rest) same w =
             let k : kindOf r ≡ kind = sym (waiting-kind w) ∙ e in
             let other : ofKind wanted r ≡ false = ne-eqb _ _ (λ q. ne (sym k ∙ q)) in
-            record { left = rest; same = same ∙ passed-other wanted r rest other; waiting = rw (← (of-kind r k)) (waiting-next w) }
+            record { left = rest; same = same ∙ skipped-other wanted r rest other; waiting = rw (← (of-kind r k)) (waiting-next w) }
 
 -- ---- the record at a place is passed
 
-module _ {h : Header} {pending : List ℕ} {at words : ℕ} (a : CanPass h pending at words) where
+module _ {h : Header} {pending : List ℕ} {at words : ℕ} (a : CanSkip h pending at words) where
   -- the other records are behind it
   behind : (first : Staged) (rest : List Staged) → Next h pending at first rest → Waiting (openingOf h) pending (h .pending) (at + words) rest
   behind first rest w = rw (a .here .next first rest w) (waiting-next w)
@@ -139,8 +139,8 @@ module _ {h : Header} {pending : List ℕ} {at words : ℕ} (a : CanPass h pendi
   same-words (removeRow row key) e = sym (a .here .of-row (a .some) (sym e))
 
   -- it is wanted itself
-  pub passed-one : {wanted : ℕ} → NextRecord h pending at words wanted (at + words)
-  passed-one =
+  pub skipped-one : {wanted : ℕ} → NextRecord h pending at words wanted (at + words)
+  skipped-one =
       record {
         on = omega arith;
         inside = a .here .inside (a .some);
@@ -148,8 +148,8 @@ module _ {h : Header} {pending : List ℕ} {at words : ℕ} (a : CanPass h pendi
       }
 
   -- it is not
-  pub passed-run : {wanted next : ℕ} → (getD pending at 0 ≡ wanted → ⊥) → RunPassed h pending (at + words) (getD pending at 0) words next → NextRecord h pending at words wanted next
-  passed-run {wanted} ne v =
+  pub skipped-run : {wanted next : ℕ} → (getD pending at 0 ≡ wanted → ⊥) → RunSkipped h pending (at + words) (getD pending at 0) words next → NextRecord h pending at words wanted next
+  skipped-run {wanted} ne v =
       record {
         on = v .on;
         inside = v .inside;

@@ -2,7 +2,7 @@
 // are tested before it is read.
 ghost use Prim.Native.Nat.{_≤_, _<_};
 ghost use lib.ListN.{length};
-ghost use Rattle.merge_pending.specs.inner.Becoming.{RecordLength, RunPassed, CanPass, NextRecord};
+ghost use Rattle.merge_pending.specs.inner.Becoming.{RecordLength, RunSkipped, CanSkip, NextRecord};
 use table::Header;
 use table::INSERT;
 use table::REMOVE_ROW;
@@ -32,7 +32,7 @@ pub fn record_length(h: Header, pending: &[u32], at: u32) -> u32
 // The place after a run of records of one kind, each of `words` words.
 fn after_run(h: Header, pending: &[u32], from: u32, kind: u32, words: u32) -> u32
     requires { ⌜ (h .pending ≤ length (now pending)) × (from ≤ h .pending) × (0 < words) ⌝ }
-    ensures { λ r. ⌜ RunPassed h (now (pending .entry)) from kind words r ⌝ }
+    ensures { λ r. ⌜ RunSkipped h (now (pending .entry)) from kind words r ⌝ }
 {
     let mut at = from;
     while words <= h.pending - at {
@@ -47,7 +47,7 @@ fn after_run(h: Header, pending: &[u32], from: u32, kind: u32, words: u32) -> u3
 // The place where a pass that looks for records of one kind continues after the record at `at`: behind that record and, if it is of
 // another kind, behind all records of its kind that follow it.
 pub fn next_record(h: Header, pending: &[u32], at: u32, words: u32, wanted: u32) -> u32
-    requires { ⌜ CanPass h (now pending) at words ⌝ }
+    requires { ⌜ CanSkip h (now pending) at words ⌝ }
     ensures { λ r. ⌜ NextRecord h (now (pending .entry)) at words wanted r ⌝ }
 {
     let kind = pending[at as usize];

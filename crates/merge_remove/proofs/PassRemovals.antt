@@ -11,16 +11,16 @@ use lib.Dec.{eqb}
 use lib.ListN.{length, take, drop, getD}
 use borrow.Author.Tests.{eq-eqb, ne-eqb}
 use mathlib.Core.Logic.{inl, inr}
-use Rattle.lists.specs.Lists.{keep}
-use Rattle.lists.specs.Laws.Keep.{split}
+use Rattle.lists.specs.Lists.{filter}
+use Rattle.lists.specs.Laws.Filter.{split}
 use Rattle.key_index.specs.inner.Index.{Fits}
 use Rattle.plain_table.specs.Staged.{Staged, insert, removeKey, removeRow}
 use Rattle.plain_table.specs.Plain.{Plain}
 use Rattle.table.specs.declared.Header.{Header}
 use Rattle.table.specs.Numbers.{openingOf}
-use Rattle.table.specs.inner.Whole.{wholeOf}
-use Rattle.table.specs.Promises.{Stores, stores, Represents, SlotsPast}
-use Rattle.merge_pending.specs.inner.Becoming.{Becomes, withDead, Waiting, kindOf, RecordLength, ofKind, Left, CanPass, NextRecord}
+use Rattle.table.specs.inner.FullIndexShape.{fullIndexShapeOf}
+use Rattle.table.specs.Contracts.{Stores, stores, Represents, SlotsPast}
+use Rattle.merge_pending.specs.inner.Becoming.{Becomes, withDead, Waiting, kindOf, RecordLength, ofKind, Remaining, CanSkip, NextRecord}
 use Rattle.merge_remove.specs.inner.Removals.{removed, removedAll, died, removalOf, Removal, RemovalAt, Removed, Removable, Removals, RemovalNext, RemovedNext}
 use Rattle.merge_pending.specs.Laws.Steps.{steps-refl, steps-then, waiting-start, words-some, waiting-kind, waiting-hash, waiting-key, waiting-row, waiting-row-key}
 use Rattle.merge_pending.proofs.PassRecords.{Next, record-long}
@@ -83,20 +83,20 @@ removed-other {h} {rows} {keys} {pending} {at} {kind} ne =
     }
 
 -- the records of other kinds make no difference
-removed-wanted : (kind : ℕ) (records : List Staged) (p : Plain) → removedAll kind records p ≡ removedAll kind (keep (ofKind kind) records) p
-unfolding removedAll keep
+removed-wanted : (kind : ℕ) (records : List Staged) (p : Plain) → removedAll kind records p ≡ removedAll kind (filter (ofKind kind) records) p
+unfolding removedAll filter
 removed-wanted kind [] p = refl
 removed-wanted kind (r ∷ rs) p =
     elim (split (ofKind kind r)) [
       | inl e ↦
           let made : cond (eqb (kindOf r) kind) (removed r p) p ≡ removed r p = rw e refl in
-          let kept : removedAll kind (cond (ofKind kind r) (r ∷ keep (ofKind kind) rs) (keep (ofKind kind) rs)) p ≡ removedAll kind (keep (ofKind kind) rs) (removed r p) =
-          rw e (ap (removedAll kind (keep (ofKind kind) rs)) made) in
+          let kept : removedAll kind (cond (ofKind kind r) (r ∷ filter (ofKind kind) rs) (filter (ofKind kind) rs)) p ≡ removedAll kind (filter (ofKind kind) rs) (removed r p) =
+          rw e (ap (removedAll kind (filter (ofKind kind) rs)) made) in
           ap (removedAll kind rs) made ∙ removed-wanted kind rs (removed r p) ∙ sym kept
       | inr e ↦ rw e (removed-wanted kind rs p)
     ]
 
-removed-left : {h : Header} {pending : List ℕ} {kind at : ℕ} {records : List Staged} (l : Left h pending kind at records) (p : Plain)
+removed-left : {h : Header} {pending : List ℕ} {kind at : ℕ} {records : List Staged} (l : Remaining h pending kind at records) (p : Plain)
     → removedAll kind records p ≡ removedAll kind (l .left) p
 removed-left {h} {pending} {kind} {at} {records} l p =
     removed-wanted kind records p ∙ ap (λ (rs : List Staged). removedAll kind rs p) (l .same) ∙ sym (removed-wanted kind (l .left) p)
@@ -116,7 +116,7 @@ pub record Removing (h : Header) (rows keys pending : List ℕ) (kind : ℕ) (ro
   pub here : RecordLength h pending at words
   pub inside : at ≤ h .pending
   pub few : 3 * dead ≤ 3 * h .dead + at
-  pub fits : Fits (wholeOf h) rows′ keys′
+  pub fits : Fits (fullIndexShapeOf h) rows′ keys′
   pub rows-same : length rows′ ≡ length rows
   pub keys-same : length keys′ ≡ length keys
   pub past : SlotsPast (h .capacity) keys keys′
@@ -167,7 +167,7 @@ module _ {h : Header} {rows keys pending : List ℕ} {kind : ℕ} (a : Removable
                   let two : getD pending at 0 ≡ 2 = omega (arith, a .some-kind, a .most-kind) in
                   omega (arith, v .here .of-row (omega arith) two, removing-inside, a .pending-fits)
 
-      pub removing-passes : CanPass h pending at words
+      pub removing-passes : CanSkip h pending at words
       removing-passes = record { here = v .here; some = omega arith; fits = a .pending-fits }
 
       -- once more

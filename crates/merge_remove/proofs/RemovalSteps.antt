@@ -10,27 +10,27 @@ use native.Mathlib.Omega.{arith}
 use lib.Dec.{eqb}
 use lib.ListN.{length}
 use borrow.Author.Tests.{eqb-true, eqb-false, eq-eqb, ne-eqb, not-true, not-false}
-use Rattle.lists.specs.Laws.Keep.{split}
+use Rattle.lists.specs.Laws.Filter.{split}
 use Rattle.lists.specs.Laws.Rows.{row-in}
-use Rattle.cells.specs.Cells.{compact, keyHash}
+use Rattle.cells.specs.Cells.{compactHash, keyHash}
 use Rattle.constraints.specs.Laws.Rows.{live-first}
 use Rattle.row_buffer.specs.inner.Rows.{Staled}
-use Rattle.key_index.specs.declared.Keyed.{Keyed}
+use Rattle.key_index.specs.declared.IndexShape.{IndexShape}
 use Rattle.key_index.specs.declared.Found.{Found}
 use Rattle.key_index.specs.declared.Found.the-variants.{None, At}
 use Rattle.key_index.specs.Slots.{LiveAt, keyAt, slots, KeysSound}
 use Rattle.key_index.specs.inner.Index.{Fits, FoundAt, FoundIs}
 use Rattle.key_index.specs.Laws.Index.{rows-in}
 use Rattle.key_index.specs.Laws.Places.{row-inside}
-use Rattle.key_index.specs.Laws.Rooms.{past-room}
-use Rattle.key_remove.specs.inner.Gaps.{TakenOut}
+use Rattle.key_index.specs.Laws.SizeClasses.{past-sizeClass}
+use Rattle.key_remove.specs.inner.BackwardShift.{RowRemoved}
 use Rattle.plain_table.specs.Staged.{removeKey, removeRow}
 use Rattle.plain_table.specs.Plain.{Plain}
 use Rattle.table.specs.declared.Header.{Header}
-use Rattle.table.specs.Sound.{keyedOf}
-use Rattle.table.specs.inner.Whole.{wholeOf}
-use Rattle.table.specs.Promises.{stores, Represents, SlotsPast}
-use Rattle.table.specs.Laws.Refusals.{whole-fits}
+use Rattle.table.specs.Sound.{indexShapeOf}
+use Rattle.table.specs.inner.FullIndexShape.{fullIndexShapeOf}
+use Rattle.table.specs.Contracts.{stores, Represents, SlotsPast}
+use Rattle.table.specs.Laws.Refusals.{full-shape-fits}
 use Rattle.merge_pending.specs.inner.Becoming.{Becomes, withDead, hashOf}
 use Rattle.merge_remove.specs.inner.Removals.{Kills, removalOf, spared, Removal, died, removed}
 use Rattle.table.specs.Laws.Shown.{in-live}
@@ -40,18 +40,18 @@ use Rattle.merge_pending.specs.Laws.Dying.{dying, dying-steps, withoutKey-none,
 -- ---- a row is taken out and marked
 
 -- its first cell is within the store
-pub first-cell : (t : Keyed) (rows keys : List ℕ) (row : ℕ) → Fits t rows keys → row < t .rows → (row * t .columns < length rows) × (row * t .columns < 524288)
+pub first-cell : (t : IndexShape) (rows keys : List ℕ) (row : ℕ) → Fits t rows keys → row < t .rows → (row * t .columns < length rows) × (row * t .columns < 524288)
 first-cell t rows keys row f h =
     let i = row-inside t rows row (rows-in t rows keys f) h in (omega (arith, i, f .some-columns), omega (arith, i, f .some-columns))
 
-pub killed : (t : Keyed) (rows keys : List ℕ) (row slot : ℕ) (was : Bool) (rows′ keys′ : List ℕ) → Fits t rows keys
-    → TakenOut t rows keys slot keys′ → Staled rows (row * t .columns) was rows′ → Kills t rows keys row slot (not was) rows′ keys′
+pub killed : (t : IndexShape) (rows keys : List ℕ) (row slot : ℕ) (was : Bool) (rows′ keys′ : List ℕ) → Fits t rows keys
+    → RowRemoved t rows keys slot keys′ → Staled rows (row * t .columns) was rows′ → Kills t rows keys row slot (not was) rows′ keys′
 killed t rows keys row slot was rows′ keys′ f taken staled =
     record {
       marks = staled .cells;
       was-live = ap not (staled .before) ∙ sym (live-first (t .columns) row rows (f .some-columns));
       past = taken .rest;
-      keyed = λ sound live word. rw (staled .cells) (taken .sound sound row live word);
+      keys-sound = λ sound live word. rw (staled .cells) (taken .sound sound row live word);
     }
 
 -- ---- a removal
@@ -66,12 +66,12 @@ unfolding spared
 spared-row kind row found e = rw (ne-eqb kind 1 e)
 
 -- what a lookup requires, and a kill of the row that it finds
-pub find-fits : {t : Keyed} (h : Header) {rows keys : List ℕ} {n : ℕ} → t ≡ keyedOf h → (Fits (wholeOf h) rows keys) × (n ≡ h .keys) → (Fits t rows keys) × (n ≡ t .keys)
-find-fits h {rows = rows} {keys = keys} e f = rw e (whole-fits h rows keys (f .0), f .1)
+pub find-fits : {t : IndexShape} (h : Header) {rows keys : List ℕ} {n : ℕ} → t ≡ indexShapeOf h → (Fits (fullIndexShapeOf h) rows keys) × (n ≡ h .keys) → (Fits t rows keys) × (n ≡ t .keys)
+find-fits h {rows = rows} {keys = keys} e f = rw e (full-shape-fits h rows keys (f .0), f .1)
 
-pub kill-fits : {t : Keyed} (h : Header) {rows keys key : List ℕ} {hash : ℕ} {found : Found} (row slot : ℕ) → t ≡ keyedOf h → Fits (wholeOf h) rows keys
+pub kill-fits : {t : IndexShape} (h : Header) {rows keys key : List ℕ} {hash : ℕ} {found : Found} (row slot : ℕ) → t ≡ indexShapeOf h → Fits (fullIndexShapeOf h) rows keys
     → FoundIs t rows keys key hash found → found ≡ At row slot → (Fits t rows keys) × (row < t .rows) × (slot < slots t)
-kill-fits h {rows = rows} {keys = keys} row slot e f finds q = (rw e (whole-fits h rows keys f), finds .row-in row slot q, finds .slot-in row slot q)
+kill-fits h {rows = rows} {keys = keys} row slot e f finds q = (rw e (full-shape-fits h rows keys f), finds .row-in row slot q, finds .slot-in row slot q)
 
 -- nothing changes
 unchanged : {p p′ : Plain} (h : Header) {rows keys sorts pending : List ℕ} (dead : ℕ) → p′ ≡ p → Represents p (stores (withDead h dead) rows keys sorts pending)
@@ -79,9 +79,9 @@ unchanged : {p p′ : Plain} (h : Header) {rows keys sorts pending : List ℕ} (
 unfolding died
 unchanged h dead e r = rw (e, add-zero dead) (steps-refl r)
 
-module _ (h : Header) (rows keys key : List ℕ) (hash : ℕ) (t : Keyed) (numbers : t ≡ keyedOf h) (found : Found) (finds : FoundIs t rows keys key hash found) where
+module _ (h : Header) (rows keys key : List ℕ) (hash : ℕ) (t : IndexShape) (numbers : t ≡ indexShapeOf h) (found : Found) (finds : FoundIs t rows keys key hash found) where
   -- the key has no live row
-  nowhere : found ≡ None → hash ≡ compact (keyHash key) → KeysSound (keyedOf h) rows keys → (i : ℕ) → LiveAt (keyedOf h) rows i → keyAt (keyedOf h) rows i ≡ key → ⊥
+  nowhere : found ≡ None → hash ≡ compactHash (keyHash key) → KeysSound (indexShapeOf h) rows keys → (i : ℕ) → LiveAt (indexShapeOf h) rows i → keyAt (indexShapeOf h) rows i ≡ key → ⊥
   nowhere q e sound = (rw numbers at finds) .none e sound q
 
   key-absent : found ≡ None → Removal h rows keys (removeKey key) hash false rows keys
@@ -89,7 +89,7 @@ module _ (h : Header) (rows keys key : List ℕ) (hash : ℕ) (t : Keyed) (numbe
   key-absent q =
       record {
         past = refl;
-        table = λ e dead sorts pending p r. unchanged h dead (withoutKey-none r key (nowhere q e (r .keyed))) r;
+        table = λ e dead sorts pending p r. unchanged h dead (withoutKey-none r key (nowhere q e (r .keys-sound))) r;
       }
 
   row-absent : (row : ℕ) → found ≡ None → Removal h rows keys (removeRow row key) hash false rows keys
@@ -97,7 +97,7 @@ module _ (h : Header) (rows keys key : List ℕ) (hash : ℕ) (t : Keyed) (numbe
   row-absent row q =
       record {
         past = refl;
-        table = λ e dead sorts pending p r. unchanged h dead (withoutRow-none r key (nowhere q e (r .keyed)) row) r;
+        table = λ e dead sorts pending p r. unchanged h dead (withoutRow-none r key (nowhere q e (r .keys-sound)) row) r;
       }
 
   -- whichever kind it is
@@ -106,7 +106,7 @@ module _ (h : Header) (rows keys key : List ℕ) (hash : ℕ) (t : Keyed) (numbe
   absent kind row q = elim (split (eqb kind 1)) [ inl e ↦ rw e (key-absent q) | inr e ↦ rw e (row-absent row q) ]
 
   module _ (at slot : ℕ) (is : found ≡ At at slot) where
-    somewhere : hash ≡ compact (keyHash key) → KeysSound (keyedOf h) rows keys → FoundAt (keyedOf h) rows keys key at slot
+    somewhere : hash ≡ compactHash (keyHash key) → KeysSound (indexShapeOf h) rows keys → FoundAt (indexShapeOf h) rows keys key at slot
     somewhere e sound = (rw numbers at finds) .at e sound at slot is
 
     -- it is another row
@@ -116,7 +116,7 @@ module _ (h : Header) (rows keys key : List ℕ) (hash : ℕ) (t : Keyed) (numbe
         record {
           past = refl;
           table = λ e dead sorts pending p r.
-              let f = somewhere e (r .keyed) in
+              let f = somewhere e (r .keys-sound) in
               unchanged h dead (withoutRow-other r key at row (f .live) (f .key-is) ne) r;
         }
 
@@ -130,18 +130,18 @@ module _ (h : Header) (rows keys key : List ℕ) (hash : ℕ) (t : Keyed) (numbe
 
     module _ (r : Bool) (rows′ keys′ : List ℕ) (long : 2 * h .capacity ≤ length keys′) (kills : Kills t rows keys at slot r rows′ keys′) where
       -- the live row of the key dies
-      dead-now : {p : Plain} (dead : ℕ) (sorts pending : List ℕ) → hash ≡ compact (keyHash key) → Represents p (stores (withDead h dead) rows keys sorts pending)
+      dead-now : {p : Plain} (dead : ℕ) (sorts pending : List ℕ) → hash ≡ compactHash (keyHash key) → Represents p (stores (withDead h dead) rows keys sorts pending)
           → Becomes p (dying p at) (stores (withDead h dead) rows keys sorts pending) (stores (withDead h (dead + died r)) rows′ keys′ sorts pending)
       unfolding died
       dead-now dead sorts pending e s =
-          let k : Kills (keyedOf h) rows keys at slot r rows′ keys′ = rw numbers at kills in
-          let f = somewhere e (s .keyed) in
+          let k : Kills (indexShapeOf h) rows keys at slot r rows′ keys′ = rw numbers at kills in
+          let f = somewhere e (s .keys-sound) in
           let lives : r ≡ true = k .was-live ∙ f .live .1 in
-          let sound : KeysSound (keyedOf h) rows′ keys′ = k .keyed (s .keyed) (f .live) (rw (f .key-is) (f .word-is)) in
+          let sound : KeysSound (indexShapeOf h) rows′ keys′ = k .keys-sound (s .keys-sound) (f .live) (rw (f .key-is) (f .word-is)) in
           rw (lives, k .marks) (dying-steps s at (in-live s at (f .live)) keys′ long (rw (k .marks) at sound))
 
       past-all : SlotsPast (h .capacity) keys keys′
-      past-all = past-room (h .capacity) (h .rows) keys keys′ (rw numbers at (kills .past))
+      past-all = past-sizeClass (h .capacity) (h .rows) keys keys′ (rw numbers at (kills .past))
 
       key-dead : Removal h rows keys (removeKey key) hash r rows′ keys′
       unfolding removed hashOf
@@ -149,7 +149,7 @@ module _ (h : Header) (rows keys key : List ℕ) (hash : ℕ) (t : Keyed) (numbe
           record {
             past = past-all;
             table = λ e dead sorts pending p s.
-                let f = somewhere e (s .keyed) in
+                let f = somewhere e (s .keys-sound) in
                 rw (withoutKey-one s key at (f .live) (f .key-is)) (dead-now dead sorts pending e s);
           }
 
@@ -159,7 +159,7 @@ module _ (h : Header) (rows keys key : List ℕ) (hash : ℕ) (t : Keyed) (numbe
           record {
             past = past-all;
             table = λ e dead sorts pending p s.
-                let f = somewhere e (s .keyed) in
+                let f = somewhere e (s .keys-sound) in
                 rw (withoutRow-one s key at (f .live) (f .key-is)) (dead-now dead sorts pending e s);
           }
 

@@ -5,22 +5,22 @@ ghost use Prim.Native.Nat.{_<_};
 ghost use lib.ListN.{length};
 ghost use Rattle.key_index.specs.inner.Index.{Fits};
 ghost use Rattle.key_index.specs.Slots.{slots};
-ghost use Rattle.table.specs.inner.Whole.{wholeOf};
+ghost use Rattle.table.specs.inner.FullIndexShape.{fullIndexShapeOf};
 ghost use Rattle.merge_remove.specs.inner.Removals.{Kills, removalOf, spared, Removal, RemovalAt, Removed, Removable, Removals, RemovalNext, RemovedNext};
 use key_index::Found;
-use key_index::Keyed;
+use key_index::IndexShape;
 use merge_pending::next_record;
 use merge_pending::record_length;
 use table::Header;
 use table::REMOVE_KEY;
-use table::keyed;
+use table::index_shape;
 
 // Deletes the row in a slot from the key store and marks it dead. Returns whether it was live.
-fn kill(t: Keyed, rows: &mut [u32], keys: &mut [u32], row: u32, slot: u32) -> bool
+fn kill(t: IndexShape, rows: &mut [u32], keys: &mut [u32], row: u32, slot: u32) -> bool
     requires { ⌜ Fits t (now rows) (now keys) × (row < t .rows) × (slot < slots t) ⌝ }
     ensures { λ r. ⌜ Kills t (now (rows .entry)) (now (keys .entry)) row slot r (now (rows .exit)) (now (keys .exit)) ⌝ }
 {
-    key_remove::take_out(t, rows, keys, slot);
+    key_remove::remove_row(t, rows, keys, slot);
     let at = (row * t.columns) as usize;
     !row_buffer::set_stale(rows, at)
 }
@@ -45,10 +45,10 @@ fn remove_one(
     key: &[u32],
     hash: u32,
 ) -> bool
-    requires { ⌜ Fits (wholeOf h) (now rows) (now keys) × (length (now key) ≡ h .keys) ⌝ }
+    requires { ⌜ Fits (fullIndexShapeOf h) (now rows) (now keys) × (length (now key) ≡ h .keys) ⌝ }
     ensures { λ r. ⌜ Removal h (now (rows .entry)) (now (keys .entry)) (removalOf kind row (now (key .entry))) hash r (now (rows .exit)) (now (keys .exit)) ⌝ }
 {
-    let t = keyed(h);
+    let t = index_shape(h);
     let found = key_index::find(t, rows, keys, key, hash);
     match found {
         Found::None => false,
@@ -64,7 +64,7 @@ fn remove_one(
 // Applies the removal at a place of the pending store, of kind 1 or 2. Its key follows the hash and, in a removal by row, the row
 // number. Returns whether a row died.
 fn remove_record(h: Header, rows: &mut [u32], keys: &mut [u32], pending: &[u32], at: u32) -> bool
-    requires { ⌜ Fits (wholeOf h) (now rows) (now keys) × RemovalAt h (now pending) at ⌝ }
+    requires { ⌜ Fits (fullIndexShapeOf h) (now rows) (now keys) × RemovalAt h (now pending) at ⌝ }
     ensures { λ r. ⌜ Removed h (now (rows .entry)) (now (keys .entry)) (now (pending .entry)) at r (now (rows .exit)) (now (keys .exit)) ⌝ }
 {
     let place = at as usize;

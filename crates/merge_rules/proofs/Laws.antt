@@ -13,7 +13,7 @@ use lib.Dec.{eqb}
 use lib.ListN.{length, take, drop, getD, set, drop-of-length-le}
 use lib.Seq.{drop-cons, take-length}
 use borrow.Author.Tests.{eq-eqb, ne-eqb}
-use Rattle.lists.specs.Lists.{putAt}
+use Rattle.lists.specs.Lists.{splice}
 use Rattle.lists.specs.Laws.Parts.{copy-step, part-width}
 use Rattle.merge_rules.specs.Rules.{ruledColumn, taken, madeCell, madeFrom, changesFrom, survivor}
 use Rattle.merge_rules.specs.Laws.Rules.{made-length, made-at}
@@ -87,8 +87,8 @@ module _ (rule keys sort : ℕ) (old new out : List ℕ) (n : length old ≡ len
       let m : i < length (madeFrom rule keys sort 0 old new) = omega (arith, made-length rule keys sort old new n) in
       ap₂ (λ (d : List ℕ) (v : ℕ). set d i v) e (q ∙ sym (made-at rule keys sort old new i h p)) ∙ copy-step (madeFrom rule keys sort 0 old new) out i 0 m k
 
-  pub make-end : (i : ℕ) → i ≡ length old → take i (madeFrom rule keys sort 0 old new) ++ drop i out ≡ putAt out 0 (madeFrom rule keys sort 0 old new)
-  unfolding putAt
+  pub make-end : (i : ℕ) → i ≡ length old → take i (madeFrom rule keys sort 0 old new) ++ drop i out ≡ splice out 0 (madeFrom rule keys sort 0 old new)
+  unfolding splice
   make-end i e =
       let m : i ≡ length (madeFrom rule keys sort 0 old new) = omega (arith, made-length rule keys sort old new n) in
       rw (m, take-length (madeFrom rule keys sort 0 old new), zero-add (length (madeFrom rule keys sort 0 old new)))

@@ -6,7 +6,7 @@ ghost use mathlib.Core.Bool.{not, _&&_};
 ghost use lib.ListN.{length, take, drop};
 ghost use lib.Dec.{eqb};
 ghost use lib.Signed.{ltZ};
-ghost use Rattle.lists.specs.Lists.{putAt};
+ghost use Rattle.lists.specs.Lists.{splice};
 ghost use Rattle.merge_rules.specs.Rules as rules;
 
 // Whether the rule decides the cell of this column: it is neither a key column nor the sort column.
@@ -109,7 +109,7 @@ pub fn changes(rule: u32, keys: u32, sort: u32, old: &[u32], new: &[u32]) -> boo
 // Writes the row that the rule makes to the start of `out`.
 pub fn make(rule: u32, keys: u32, sort: u32, old: &[u32], new: &[u32], out: &mut [u32])
     requires { ⌜ (length (now old) ≡ length (now new)) × (length (now old) ≤ length (now out)) ⌝ }
-    ensures { λ _. ⌜ now (out .exit) ≡ putAt (now (out .entry)) 0 (rules.madeFrom rule keys sort 0 (now (old .entry)) (now (new .entry))) ⌝ }
+    ensures { λ _. ⌜ now (out .exit) ≡ splice (now (out .entry)) 0 (rules.madeFrom rule keys sort 0 (now (old .entry)) (now (new .entry))) ⌝ }
 {
     let mut i = 0;
     while i < old.len() {

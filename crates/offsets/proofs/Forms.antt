@@ -15,7 +15,7 @@ use Rattle.offsets.specs.Subsets.{list, wellFormed, size, endOf}
 use Rattle.offsets.specs.Laws.Subsets.{dense-is, sparse-is}
 use Rattle.offsets.specs.Laws.Forms.{size-range as range-size, size-list as list-size}
 use Rattle.offsets.specs.Answers.{subsetOf}
-use Rattle.offsets.specs.inner.Writing.{bounds, boundsSays}
+use Rattle.offsets.specs.inner.Writing.{bounds, boundsView}
 
 module _ (head : SubsetHead) (ids : List ℕ) where
   pub formed-range : head .dense ≡ true → leb (head .start) (head .end) ≡ wellFormed (subsetOf head ids)
@@ -32,9 +32,9 @@ module _ (head : SubsetHead) (ids : List ℕ) where
 
 -- ---- size and ends, by kind
 
-said-ends : (start end : ℕ) → boundsSays (Ends start end) ≡ some (record { start = start; end = end })
-unfolding boundsSays
-said-ends start end = refl
+boundsView-ends : (start end : ℕ) → boundsView (Ends start end) ≡ some (record { start = start; end = end })
+unfolding boundsView
+boundsView-ends start end = refl
 
 bounds-cons : (x : ℕ) (xs : List ℕ) → some (record { start = x; end = getD (x ∷ xs) (length xs) 0 + 1 }) ≡ bounds (list (x ∷ xs))
 unfolding bounds endOf
@@ -47,24 +47,24 @@ module _ (head : SubsetHead) (ids : List ℕ) where
   pub size-list : head .dense ≡ false → length ids ≡ size (subsetOf head ids)
   size-list e = rw (sparse-is head ids e, list-size ids)
 
-  pub bounds-range : head .dense ≡ true → boundsSays (Ends (head .start) (head .end)) ≡ bounds (subsetOf head ids)
-  unfolding bounds boundsSays
+  pub bounds-range : head .dense ≡ true → boundsView (Ends (head .start) (head .end)) ≡ bounds (subsetOf head ids)
+  unfolding bounds boundsView
   bounds-range e = rw (dense-is head ids e)
 
-  pub bounds-none : head .dense ≡ false → length ids ≡ 0 → boundsSays None ≡ bounds (subsetOf head ids)
+  pub bounds-none : head .dense ≡ false → length ids ≡ 0 → boundsView None ≡ bounds (subsetOf head ids)
   bounds-none e h = rw (sparse-is head ids e) (go ids h)
     where
-      go : (l : List ℕ) → length l ≡ 0 → boundsSays None ≡ bounds (list l)
-      go [] h = unfold bounds boundsSays in refl
+      go : (l : List ℕ) → length l ≡ 0 → boundsView None ≡ bounds (list l)
+      go [] h = unfold bounds boundsView in refl
       go (x ∷ xs) h = absurd (omega arith)
 
-  pub bounds-list : head .dense ≡ false → (length ids ≡ 0 → ⊥) → boundsSays (Ends (getD ids 0 0) (getD ids (length ids - 1) 0 + 1)) ≡ bounds (subsetOf head ids)
+  pub bounds-list : head .dense ≡ false → (length ids ≡ 0 → ⊥) → boundsView (Ends (getD ids 0 0) (getD ids (length ids - 1) 0 + 1)) ≡ bounds (subsetOf head ids)
   bounds-list e h = rw (sparse-is head ids e) (go ids h)
     where
-      go : (l : List ℕ) → (length l ≡ 0 → ⊥) → boundsSays (Ends (getD l 0 0) (getD l (length l - 1) 0 + 1)) ≡ bounds (list l)
+      go : (l : List ℕ) → (length l ≡ 0 → ⊥) → boundsView (Ends (getD l 0 0) (getD l (length l - 1) 0 + 1)) ≡ bounds (list l)
       go [] h = absurd (h refl)
       go (x ∷ xs) h =
           let k : suc (length xs) - 1 ≡ length xs = omega arith in
-          said-ends x (getD (x ∷ xs) (suc (length xs) - 1) 0 + 1)
+          boundsView-ends x (getD (x ∷ xs) (suc (length xs) - 1) 0 + 1)
           ∙ ap (λ (n : ℕ). some (record { start = x; end = n + 1 })) (ap (λ (i : ℕ). getD (x ∷ xs) i 0) k)
           ∙ bounds-cons x xs

@@ -10,10 +10,10 @@ use lib.ListN.{length, take, drop, getD, length-drop}
 use lib.Seq.{take-all, length-take-le, drop-drop, getD-drop}
 use borrow.Author.Tests.{leb-true, lt-ltb}
 use Rattle.lists.specs.Lists.{rising}
-use Rattle.lists.specs.Laws.Keep.{split, and-left, and-right}
+use Rattle.lists.specs.Laws.Filter.{split, and-left, and-right}
 use Rattle.lists.specs.Laws.Parts.{part-to-end}
 use Rattle.lists.specs.Laws.Rising.{bool-ext, rising-take, rising-drop, rising-take-one, rising-take-more, rising-past}
-use Rattle.offsets.specs.inner.Rising.{Onward}
+use Rattle.offsets.specs.inner.Rising.{RisesUpTo}
 
 -- whether a block's ids before position i rise
 pub record Tested (ids : List ℕ) (rises : Bool) (i : ℕ) : Type 0 where
@@ -103,7 +103,7 @@ module _ (ids : List ℕ) (last : ℕ) (rises : Bool) (i : ℕ) (long : length i
 
 -- ---- block by block
 
-pub onward-begin : (ids : List ℕ) → Onward ids 0
+pub onward-begin : (ids : List ℕ) → RisesUpTo ids 0
 onward-begin ids = record { in-list = omega arith; same = refl }
 
 -- a block and the id after it
@@ -112,13 +112,13 @@ block-length ids at n h =
     let z : at + n + 1 - at ≡ n + 1 = omega arith in
     rw z (length-take-le (n + 1) (drop at ids) (simp length-drop (omega arith)))
 
-pub onward-more : (ids : List ℕ) (at n : ℕ) → Onward ids at → n < length ids - at → rising (take (at + n + 1 - at) (drop at ids)) ≡ true → Onward ids (at + n)
+pub onward-more : (ids : List ℕ) (at n : ℕ) → RisesUpTo ids at → n < length ids - at → rising (take (at + n + 1 - at) (drop at ids)) ≡ true → RisesUpTo ids (at + n)
 onward-more ids at n s more up =
     let z : at + n + 1 - at ≡ n + 1 = omega arith in
     let h : n < length (drop at ids) = simp length-drop more in
     record { in-list = omega arith; same = s .same ∙ rising-past n (drop at ids) h (rw z at up) ∙ ap rising (drop-drop n at ids) }
 
-pub onward-fall : (ids : List ℕ) (at n : ℕ) → Onward ids at → (rises : Bool) → rises ≡ rising (take (at + n + 1 - at) (drop at ids)) → rises ≡ false → false ≡ rising ids
+pub onward-fall : (ids : List ℕ) (at n : ℕ) → RisesUpTo ids at → (rises : Bool) → rises ≡ rising (take (at + n + 1 - at) (drop at ids)) → rises ≡ false → false ≡ rising ids
 onward-fall ids at n s rises tested e =
     elim (split (rising ids)) [
       | inl q ↦ sym e ∙ tested ∙ rising-take (at + n + 1 - at) (drop at ids) (sym (s .same) ∙ q) ∙ sym q
@@ -126,7 +126,7 @@ onward-fall ids at n s rises tested e =
     ]
 
 -- the last part, which may begin before the position
-pub onward-last : (ids : List ℕ) (at m : ℕ) → Onward ids at → m ≤ at → rising (take (length ids - m) (drop m ids)) ≡ rising ids
+pub onward-last : (ids : List ℕ) (at m : ℕ) → RisesUpTo ids at → m ≤ at → rising (take (length ids - m) (drop m ids)) ≡ rising ids
 onward-last ids at m s h =
     let z : m + (at - m) ≡ at = omega arith in
     ap rising (part-to-end ids m)

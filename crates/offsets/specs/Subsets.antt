@@ -5,7 +5,7 @@ use mathlib.Core.Bool.{Bool, cond, _&&_}
 use mathlib.Core.List.{List, [], _∷_}
 use lib.ListN.{length, getD}
 use lib.Dec.{leb}
-use Rattle.lists.specs.Lists.{keep, every, countFrom, rising, has, within, same}
+use Rattle.lists.specs.Lists.{filter, all, iota, rising, elem, within, same}
 
 -- "A dense range start..end (end not included), or a strictly rising list of at most 65,536 u32 ids"
 pub data Subset : Type 0 where
@@ -18,7 +18,7 @@ wellFormed (list ids) = rising ids && leb (length ids) 65536
 
 -- the ids, which rise if the subset is well-formed
 unfoldable pub members : Subset → List ℕ
-members (range start end) = countFrom start (end - start)
+members (range start end) = iota start (end - start)
 members (list ids) = ids
 
 unfoldable pub size : Subset → ℕ
@@ -39,21 +39,21 @@ listOrNothing (x ∷ xs) = list (x ∷ xs)
 -- even an empty one"
 unfoldable pub intersect : Subset → Subset → Subset
 intersect (range a b) (range c d) = range (max a c) (max (max a c) (min b d))
-intersect (range a b) (list ids) = listOrNothing (keep (within a b) ids)
-intersect (list ids) (range a b) = list (keep (within a b) ids)
-intersect (list ids) (list others) = list (keep (λ id. has id others) ids)
+intersect (range a b) (list ids) = listOrNothing (filter (within a b) ids)
+intersect (list ids) (range a b) = list (filter (within a b) ids)
+intersect (list ids) (list others) = list (filter (λ id. elem id others) ids)
 
 -- the kept ids of a range: "keeps a range while kept ids are neighbours, and 0..0 if none is"
 unfoldable pub shaped : List ℕ → Subset
 shaped [] = range 0 0
 shaped (x ∷ xs) =
     let n = length (x ∷ xs) in
-    cond (same (x ∷ xs) (countFrom x n)) (range x (x + n)) (list (x ∷ xs))
+    cond (same (x ∷ xs) (iota x n)) (range x (x + n)) (list (x ∷ xs))
 
 unfoldable pub retain : (ℕ → Bool) → Subset → Subset
-retain test (range start end) = shaped (keep test (countFrom start (end - start)))
-retain test (list ids) = list (keep test ids)
+retain test (range start end) = shaped (filter test (iota start (end - start)))
+retain test (list ids) = list (filter test ids)
 
 -- "a range stays only if all of it is kept, else a list"
 unfoldable pub narrowed : (ℕ → Bool) → Subset → Subset
-narrowed test subset = cond (every test (members subset)) subset (list (keep test (members subset)))
+narrowed test subset = cond (all test (members subset)) subset (list (filter test (members subset)))

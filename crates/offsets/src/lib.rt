@@ -9,9 +9,9 @@ ghost use Rattle.lists.specs.Lists.{rising};
 ghost use Rattle.offsets.specs.Subsets as subsets;
 ghost use Rattle.offsets.specs.Subsets.{wellFormed};
 ghost use Rattle.offsets.specs.Answers.{subsetOf};
-ghost use Rattle.offsets.specs.inner.Rising.{Onward};
+ghost use Rattle.offsets.specs.inner.Rising.{RisesUpTo};
 ghost use Rattle.offsets.specs.inner.Writing as ends;
-ghost use Rattle.offsets.specs.inner.Writing.{boundsSays};
+ghost use Rattle.offsets.specs.inner.Writing.{boundsView};
 
 // A borrowed subset's kind and two ends. Its list of ids is passed beside it. A dense subset ignores the list, a sparse one the
 // ends.
@@ -74,7 +74,7 @@ fn rises_by_small_steps(ids: &[u32]) -> bool
 
 // A position up to which the ids rise by small steps. Tests block by block, each block from the last id of the one before.
 fn past_small_steps(ids: &[u32]) -> usize
-    ensures { λ r. ⌜ Onward (now (ids .entry)) r ⌝ }
+    ensures { λ r. ⌜ RisesUpTo (now (ids .entry)) r ⌝ }
 {
     let mut at = 0;
     while BLOCK < ids.len() - at {
@@ -164,7 +164,7 @@ fn wide(id: u32) -> u64
 
 // The ends of a subset; an empty list has none.
 pub fn bounds(head: SubsetHead, ids: &[u32]) -> BoundsAnswer
-    ensures { λ r. ⌜ boundsSays r ≡ ends.bounds (subsetOf head (now (ids .entry))) ⌝ }
+    ensures { λ r. ⌜ boundsView r ≡ ends.bounds (subsetOf head (now (ids .entry))) ⌝ }
 {
     if head.dense {
         return BoundsAnswer::Ends(wide(head.start), wide(head.end));

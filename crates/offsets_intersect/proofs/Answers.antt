@@ -7,9 +7,9 @@ use native.Mathlib.Omega.{arith}
 use lib.Dec.{leb}
 use lib.ListN.{length}
 use borrow.Author.Tests.{lt-leb, le-leb}
-use Rattle.lists.specs.Lists.{keep, within}
-use Rattle.lists.specs.Laws.Parts.{putAt-nil}
-use Rattle.lists.specs.Laws.Keep.{and-left, and-right, length-keep, count-le}
+use Rattle.lists.specs.Lists.{filter, within}
+use Rattle.lists.specs.Laws.Parts.{splice-nil}
+use Rattle.lists.specs.Laws.Filter.{and-left, and-right, length-filter, count-le}
 use Rattle.refusals.specs.Refusals.{refused, accepted, reply}
 use Rattle.offsets.specs.declared.SubsetHead.{SubsetHead}
 use Rattle.offsets.specs.declared.SubsetAnswer.{SubsetAnswer}
@@ -25,7 +25,7 @@ use Rattle.offsets.specs.Laws.Subsets.{dense-is, sparse-is, answered-range, ans
 
 pub answered-none : (ids output : List ℕ) (n : ℕ) (output′ : List ℕ) → Wrote output ids n output′ → n ≡ 0 → Answered (accepted (listOrNothing ids)) output (Range 0 0) output′
 unfolding listOrNothing
-answered-none [] output n output′ w e = rw (w .cells ∙ putAt-nil output 0) (answered-range 0 0 output)
+answered-none [] output n output′ w e = rw (w .cells ∙ splice-nil output 0) (answered-range 0 0 output)
 answered-none (x ∷ xs) output n output′ w e = absurd (let k = w .number in omega arith)
 
 pub answered-some : (ids output : List ℕ) (n : ℕ) (output′ : List ℕ) → Wrote output ids n output′ → (n ≡ 0 → ⊥) → Answered (accepted (listOrNothing ids)) output (Ids n) output′
@@ -34,8 +34,8 @@ answered-some [] output n output′ w e = absurd (e (w .number))
 answered-some (x ∷ xs) output n output′ w e = answered-list (x ∷ xs) output n output′ w
 
 -- the number of kept ids of a short list fits a u32
-pub wrote-few : (test : ℕ → Bool) (ids output : List ℕ) (n : ℕ) (output′ : List ℕ) → Wrote output (keep test ids) n output′ → n ≤ length ids
-wrote-few test ids output n output′ w = let a = length-keep test ids in let b = count-le test ids in let c = w .number in omega arith
+pub wrote-few : (test : ℕ → Bool) (ids output : List ℕ) (n : ℕ) (output′ : List ℕ) → Wrote output (filter test ids) n output′ → n ≤ length ids
+wrote-few test ids output n output′ w = let a = length-filter test ids in let b = count-le test ids in let c = w .number in omega arith
 
 pub wrote-few-common : (ids others output : List ℕ) (n : ℕ) (output′ : List ℕ) → Wrote output (common ids others) n output′ → n ≤ length ids
 unfolding common
@@ -59,31 +59,31 @@ unfolding intersectReply reply
 replied a b n e = rw e
 
 -- two ranges: one that starts above its end is refused, as is the other; else the reply is their range
-formed-said : (a b : ℕ) → leb a b ≡ wellFormed (range a b)
+formed-answer : (a b : ℕ) → leb a b ≡ wellFormed (range a b)
 unfolding wellFormed
-formed-said a b = refl
+formed-answer a b = refl
 
 no-room : (a b c d n : ℕ) → roomNeeded (range a b) (range c d) ≤ n
 unfolding roomNeeded
 no-room a b c d n = omega arith
 
-intersect-said : (a b c d : ℕ) → intersect (range a b) (range c d) ≡ range (max a c) (max (max a c) (min b d))
+intersect-answer : (a b c d : ℕ) → intersect (range a b) (range c d) ≡ range (max a c) (max (max a c) (min b d))
 unfolding intersect
-intersect-said a b c d = refl
+intersect-answer a b c d = refl
 
 module _ (a b c d : ℕ) (output : List ℕ) where
   pub ranges-first : b < a → Answered (intersectReply (range a b) (range c d) (length output)) output (Refused 4) output
-  ranges-first h = answered-refused _ _ _ output 4 (refusal-first _ _ _ (rw (← formed-said a b) (lt-leb a b h))) (λ e. omega arith)
+  ranges-first h = answered-refused _ _ _ output 4 (refusal-first _ _ _ (rw (← formed-answer a b) (lt-leb a b h))) (λ e. omega arith)
 
   pub ranges-second : a ≤ b → d < c → Answered (intersectReply (range a b) (range c d) (length output)) output (Refused 4) output
   ranges-second h i =
-      answered-refused _ _ _ output 4 (refusal-second _ _ _ (rw (← formed-said a b) (le-leb a b h)) (rw (← formed-said c d) (lt-leb c d i))) (λ e. omega arith)
+      answered-refused _ _ _ output 4 (refusal-second _ _ _ (rw (← formed-answer a b) (le-leb a b h)) (rw (← formed-answer c d) (lt-leb c d i))) (λ e. omega arith)
 
   pub ranges-answered : a ≤ b → c ≤ d
       → Answered (intersectReply (range a b) (range c d) (length output)) output (Range (max a c) (max (max a c) (min b d))) output
   ranges-answered h i =
-      let e = refusal-none (range a b) (range c d) (length output) (rw (← formed-said a b) (le-leb a b h)) (rw (← formed-said c d) (le-leb c d i)) (no-room a b c d (length output)) in
-      rw (replied (range a b) (range c d) (length output) (sym e), intersect-said a b c d) (answered-range _ _ output)
+      let e = refusal-none (range a b) (range c d) (length output) (rw (← formed-answer a b) (le-leb a b h)) (rw (← formed-answer c d) (le-leb c d i)) (no-room a b c d (length output)) in
+      rw (replied (range a b) (range c d) (length output) (sym e), intersect-answer a b c d) (answered-range _ _ output)
 
 -- ---- by kind: the output length needed, the preconditions, and the reply
 
@@ -139,12 +139,12 @@ module _ (f g : SubsetHead) (ids others output : List ℕ) (e : intersectRefusal
       (fitting-of ids output (searchable-of f ids p (can .formed)) (rw (room-list f g ids others p) (can .fits)), searchable-of g others q (can .formed-other))
 
   module _ (r : SubsetAnswer) (output′ : List ℕ) where
-    pub as-range-list : f .dense ≡ true → g .dense ≡ false → Answered (accepted (listOrNothing (keep (within (f .start) (f .end)) others))) output r output′
+    pub as-range-list : f .dense ≡ true → g .dense ≡ false → Answered (accepted (listOrNothing (filter (within (f .start) (f .end)) others))) output r output′
         → Answered (intersectReply (subsetOf f ids) (subsetOf g others) (length output)) output r output′
     unfolding intersect
     as-range-list p q w = rw (replied _ _ _ e, dense-is f ids p, sparse-is g others q) w
 
-    pub as-list-range : f .dense ≡ false → g .dense ≡ true → Answered (accepted (list (keep (within (g .start) (g .end)) ids))) output r output′
+    pub as-list-range : f .dense ≡ false → g .dense ≡ true → Answered (accepted (list (filter (within (g .start) (g .end)) ids))) output r output′
         → Answered (intersectReply (subsetOf f ids) (subsetOf g others) (length output)) output r output′
     unfolding intersect
     as-list-range p q w = rw (replied _ _ _ e, sparse-is f ids p, dense-is g others q) w

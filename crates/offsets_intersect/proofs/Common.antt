@@ -9,12 +9,12 @@ use native.Mathlib.Numerals.{add-one}
 use native.Mathlib.Omega.{arith}
 use lib.ListN.{length, take, drop, getD, set, length-append, length-drop, length-set}
 use lib.Seq.{take-suc, take-all, length-take-le}
-use Rattle.lists.specs.Lists.{putAt, keep, rising, has, within}
+use Rattle.lists.specs.Lists.{splice, filter, rising, elem, within}
 use Rattle.lists.specs.inner.Searching.{firstNotBelow}
-use Rattle.lists.specs.Laws.Parts.{putAt-nil}
-use Rattle.lists.specs.Laws.Keep.{split, keep-step, keep-skip}
-use Rattle.lists.specs.Laws.Rising.{rising-at, keep-has-comm}
-use Rattle.lists.specs.Laws.Search.{notBelow-le, notBelow-past, notBelow-upto, notBelow-mono, has-notBelow, has-not-notBelow, has-in-notBelow, keep-within-places, keep-stop, put-more}
+use Rattle.lists.specs.Laws.Parts.{splice-nil}
+use Rattle.lists.specs.Laws.Filter.{split, filter-step, filter-skip}
+use Rattle.lists.specs.Laws.Rising.{rising-at, filter-elem-comm}
+use Rattle.lists.specs.Laws.Search.{notBelow-le, notBelow-past, notBelow-upto, notBelow-mono, elem-notBelow, elem-not-notBelow, elem-in-notBelow, filter-within-places, filter-stop, put-more}
 use Rattle.offsets_search.specs.declared.Scan.the-variants.{Hit, Next}
 use Rattle.offsets_search.specs.inner.Search.{scanPlace, scan, Scanned}
 use Rattle.offsets_intersect.specs.inner.Common.{Fitting, Searchable, common}
@@ -25,10 +25,10 @@ use Rattle.offsets.specs.inner.Writing.{Wrote}
 pub record Copied (ids output₀ output : List ℕ) (i : ℕ) : Type 0 where
   pub at : i ≤ length ids
   pub same : length output ≡ length output₀
-  pub cells : output ≡ putAt output₀ 0 (take i ids)
+  pub cells : output ≡ splice output₀ 0 (take i ids)
 
 pub copied-begin : (ids output₀ : List ℕ) → Copied ids output₀ output₀ 0
-copied-begin ids output₀ = record { at = omega arith; same = refl; cells = sym (putAt-nil output₀ 0) }
+copied-begin ids output₀ = record { at = omega arith; same = refl; cells = sym (splice-nil output₀ 0) }
 
 pub copied-more : (ids output₀ output : List ℕ) (i : ℕ) → length ids ≤ length output₀ → Copied ids output₀ output i → i < length ids
     → Copied ids output₀ (set output i (getD ids i 0)) (i + 1)
@@ -39,36 +39,36 @@ copied-more ids output₀ output i h s k =
       cells =
           ap (λ (l : List ℕ). set l i (getD ids i 0)) (s .cells)
           ∙ put-more output₀ (take i ids) i (getD ids i 0) (sym (length-take-le i ids (omega arith))) (omega arith)
-          ∙ ap (putAt output₀ 0) (sym (take-suc ids i 0 k) ∙ ap (λ (j : ℕ). take j ids) (sym (add-one i)));
+          ∙ ap (splice output₀ 0) (sym (take-suc ids i 0 k) ∙ ap (λ (j : ℕ). take j ids) (sym (add-one i)));
     }
 
-pub copied-end : (ids output₀ output : List ℕ) (i : ℕ) → Copied ids output₀ output i → length ids ≤ i → output ≡ putAt output₀ 0 ids
-copied-end ids output₀ output i s h = s .cells ∙ ap (putAt output₀ 0) (take-all i ids h)
+pub copied-end : (ids output₀ output : List ℕ) (i : ℕ) → Copied ids output₀ output i → length ids ≤ i → output ≡ splice output₀ 0 ids
+copied-end ids output₀ output i s h = s .cells ∙ ap (splice output₀ 0) (take-all i ids h)
 
 -- ---- ids within a range
 
 pub wrote-within : (ids output : List ℕ) (start end low high : ℕ) (output′ : List ℕ) → rising ids ≡ true → start ≤ end → low ≡ firstNotBelow start ids → high ≡ firstNotBelow end ids
-    → output′ ≡ putAt output 0 (take (high - low) (drop low ids)) → Wrote output (keep (within start end) ids) (high - low) output′
+    → output′ ≡ splice output 0 (take (high - low) (drop low ids)) → Wrote output (filter (within start end) ids) (high - low) output′
 wrote-within ids output start end low high output′ e h p q r =
-    let k : keep (within start end) ids ≡ take (high - low) (drop low ids) = rw (p, q) (keep-within-places ids start end e h) in
+    let k : filter (within start end) ids ≡ take (high - low) (drop low ids) = rw (p, q) (filter-within-places ids start end e h) in
     let n : length (take (high - low) (drop low ids)) ≡ high - low =
     length-take-le (high - low) (drop low ids) (let a = notBelow-le end ids in simp length-drop (omega arith)) in
-    record { number = sym n ∙ ap length (sym k); cells = r ∙ ap (putAt output 0) (sym k) }
+    record { number = sym n ∙ ap length (sym k); cells = r ∙ ap (splice output 0) (sym k) }
 
 -- ---- what two lists have in common
 
 module _ (ids others : List ℕ) (i : ℕ) (h : i < length ids) where
-  common-more : has (getD ids i 0) others ≡ true → common (take (i + 1) ids) others ≡ common (take i ids) others ++ (getD ids i 0 ∷ [])
+  common-more : elem (getD ids i 0) others ≡ true → common (take (i + 1) ids) others ≡ common (take i ids) others ++ (getD ids i 0 ∷ [])
   unfolding common
-  common-more e = keep-step (λ id. has id others) ids i 0 h e
+  common-more e = filter-step (λ id. elem id others) ids i 0 h e
 
-  common-skip : has (getD ids i 0) others ≡ false → common (take (i + 1) ids) others ≡ common (take i ids) others
+  common-skip : elem (getD ids i 0) others ≡ false → common (take (i + 1) ids) others ≡ common (take i ids) others
   unfolding common
-  common-skip e = keep-skip (λ id. has id others) ids i 0 h e
+  common-skip e = filter-skip (λ id. elem id others) ids i 0 h e
 
-common-stop : (ids others : List ℕ) (i : ℕ) → ((k : ℕ) → i ≤ k → k < length ids → has (getD ids k 0) others ≡ false) → common (take i ids) others ≡ common ids others
+common-stop : (ids others : List ℕ) (i : ℕ) → ((k : ℕ) → i ≤ k → k < length ids → elem (getD ids k 0) others ≡ false) → common (take i ids) others ≡ common ids others
 unfolding common
-common-stop ids others i f = keep-stop (λ id. has id others) 0 ids i f
+common-stop ids others i f = filter-stop (λ id. elem id others) 0 ids i f
 
 -- the ids before position i are processed; the others before position o are below the remaining ids
 pub record Meets (ids others output₀ output : List ℕ) (i o n : ℕ) : Type 0 where
@@ -77,7 +77,7 @@ pub record Meets (ids others output₀ output : List ℕ) (i o n : ℕ) : Type 0
   pub past : i < length ids → o ≤ firstNotBelow (getD ids i 0) others
   pub same : length output ≡ length output₀
   pub number : n ≡ length (common (take i ids) others)
-  pub cells : output ≡ putAt output₀ 0 (common (take i ids) others)
+  pub cells : output ≡ splice output₀ 0 (common (take i ids) others)
 
 pub meets-begin : (ids others output₀ : List ℕ) → Meets ids others output₀ output₀ 0 0 0
 meets-begin ids others output₀ =
@@ -86,8 +86,8 @@ meets-begin ids others output₀ =
       few = omega arith;
       past = λ h. omega arith;
       same = refl;
-      number = unfold common keep in refl;
-      cells = unfold common keep in sym (putAt-nil output₀ 0);
+      number = unfold common filter in refl;
+      cells = unfold common filter in sym (splice-nil output₀ 0);
     }
 
 module _ (ids others output₀ output : List ℕ) (i o n : ℕ) (f : Fitting ids output₀) (g : Searchable others) (s : Meets ids others output₀ output i o n) (h : i < length ids) where
@@ -108,7 +108,7 @@ module _ (ids others output₀ output : List ℕ) (i o n : ℕ) (f : Fitting ids
   -- this id is one of the others
   hit : (p : ℕ) → p < length others → getD others p 0 ≡ getD ids i 0 → Meets ids others output₀ (set output n (getD ids i 0)) (i + 1) (p + 1) (n + 1)
   hit p k q =
-      let e : has (getD ids i 0) others ≡ true = has-notBelow (getD ids i 0) others p k q in
+      let e : elem (getD ids i 0) others ≡ true = elem-notBelow (getD ids i 0) others p k q in
       let m = common-more ids others i h e in
       record {
         at = omega arith;
@@ -119,11 +119,11 @@ module _ (ids others output₀ output : List ℕ) (i o n : ℕ) (f : Fitting ids
         cells =
             ap (λ (l : List ℕ). set l n (getD ids i 0)) (s .cells)
             ∙ put-more output₀ (common (take i ids) others) n (getD ids i 0) (s .number) (omega (arith, s .few, f .fits))
-            ∙ ap (putAt output₀ 0) (sym m);
+            ∙ ap (splice output₀ 0) (sym m);
       }
 
   -- it is not
-  miss : (p : ℕ) → has (getD ids i 0) others ≡ false → p ≤ firstNotBelow (getD ids i 0) others → Meets ids others output₀ output (i + 1) p n
+  miss : (p : ℕ) → elem (getD ids i 0) others ≡ false → p ≤ firstNotBelow (getD ids i 0) others → Meets ids others output₀ output (i + 1) p n
   miss p e k =
       let m = common-skip ids others i h e in
       record {
@@ -132,7 +132,7 @@ module _ (ids others output₀ output : List ℕ) (i o n : ℕ) (f : Fitting ids
         past = later p k;
         same = s .same;
         number = s .number ∙ ap length (sym m);
-        cells = s .cells ∙ ap (putAt output₀ 0) (sym m);
+        cells = s .cells ∙ ap (splice output₀ 0) (sym m);
       }
 
   -- the scan's two ways round
@@ -141,11 +141,11 @@ module _ (ids others output₀ output : List ℕ) (i o n : ℕ) (f : Fitting ids
   scan-hit p r =
       let t = getD ids i 0 in
       let z : Hit p ≡ scan t others = r .finds (g .up) (s .past h) in
-      elim (split (has t others)) [
+      elim (split (elem t others)) [
         | inl e ↦
             let y : Hit p ≡ Hit (firstNotBelow t others) = rw e at z in
             let x : p ≡ firstNotBelow t others = ap scanPlace y in
-            let a = has-in-notBelow t others (g .up) e in
+            let a = elem-in-notBelow t others (g .up) e in
             hit p (rw x (a .0)) (rw x (a .1))
         | inr e ↦ let y : Hit p ≡ Next (firstNotBelow t others) = rw e at z in absurd (let w : _≡_ {A = ℕ} 0 1 = cc in omega arith)
       ]
@@ -155,7 +155,7 @@ module _ (ids others output₀ output : List ℕ) (i o n : ℕ) (f : Fitting ids
   scan-miss p r =
       let t = getD ids i 0 in
       let z : Next p ≡ scan t others = r .finds (g .up) (s .past h) in
-      elim (split (has t others)) [
+      elim (split (elem t others)) [
         | inl e ↦ let y : Next p ≡ Hit (firstNotBelow t others) = rw e at z in absurd (let w : _≡_ {A = ℕ} 0 1 = cc in omega arith)
         | inr e ↦
             let y : Next p ≡ Next (firstNotBelow t others) = rw e at z in
@@ -167,7 +167,7 @@ module _ (ids others output₀ output : List ℕ) (i o n : ℕ) (f : Fitting ids
   pub spent : length others ≤ o → Wrote output₀ (common ids others) n output
   spent k =
       let e = common-stop ids others i none in
-      record { number = s .number ∙ ap length e; cells = s .cells ∙ ap (putAt output₀ 0) e }
+      record { number = s .number ∙ ap length e; cells = s .cells ∙ ap (splice output₀ 0) e }
     where
       grows : (j : ℕ) → i ≤ j → j < length ids → firstNotBelow (getD ids i 0) others ≤ firstNotBelow (getD ids j 0) others
       grows j a b =
@@ -176,24 +176,24 @@ module _ (ids others output₀ output : List ℕ) (i o n : ℕ) (f : Fitting ids
             | no c ↦ let e : i ≡ j = omega arith in rw e (omega arith)
           ]
 
-      none : (j : ℕ) → i ≤ j → j < length ids → has (getD ids j 0) others ≡ false
-      none j a b = has-not-notBelow (getD ids j 0) others (g .up) (λ m r. let c = grows j a b in let d = s .past h in omega arith)
+      none : (j : ℕ) → i ≤ j → j < length ids → elem (getD ids j 0) others ≡ false
+      none j a b = elem-not-notBelow (getD ids j 0) others (g .up) (λ m r. let c = grows j a b in let d = s .past h in omega arith)
 
 pub meets-end : (ids others output₀ output : List ℕ) (i o n : ℕ) → Meets ids others output₀ output i o n → length ids ≤ i → Wrote output₀ (common ids others) n output
 meets-end ids others output₀ output i o n s h =
     let e : take i ids ≡ ids = take-all i ids h in
-    record { number = s .number ∙ ap (λ (l : List ℕ). length (common l others)) e; cells = s .cells ∙ ap (λ (l : List ℕ). putAt output₀ 0 (common l others)) e }
+    record { number = s .number ∙ ap (λ (l : List ℕ). length (common l others)) e; cells = s .cells ∙ ap (λ (l : List ℕ). splice output₀ 0 (common l others)) e }
 
 -- ---- the linear merge, with the two current ids
 
-pub record Walking (ids others output₀ output : List ℕ) (i o n id other : ℕ) : Type 0 where
+pub record MergeInvariant (ids others output₀ output : List ℕ) (i o n id other : ℕ) : Type 0 where
   pub meets : Meets ids others output₀ output i o n
   pub more : i < length ids
   pub others-more : o < length others
   pub here : id ≡ getD ids i 0
   pub there : other ≡ getD others o 0
 
-module _ (ids others output₀ output : List ℕ) (i o n id other : ℕ) (f : Fitting ids output₀) (g : Searchable others) (w : Walking ids others output₀ output i o n id other) where
+module _ (ids others output₀ output : List ℕ) (i o n id other : ℕ) (f : Fitting ids output₀) (g : Searchable others) (w : MergeInvariant ids others output₀ output i o n id other) where
   s : Meets ids others output₀ output i o n
   s = w .meets
 
@@ -221,12 +221,12 @@ module _ (ids others output₀ output : List ℕ) (i o n id other : ℕ) (f : Fi
         let p : firstNotBelow (getD ids i 0) others ≡ o = omega arith in
         rw (e, k)
         (miss ids others output₀ output i o n f g s (w .more) o
-        (has-not-notBelow (getD ids i 0) others (g .up) (λ m r. d (w .here ∙ sym (rw p at r) ∙ sym (w .there)))) a)
+        (elem-not-notBelow (getD ids i 0) others (g .up) (λ m r. d (w .here ∙ sym (rw p at r) ∙ sym (w .there)))) a)
 
 -- from either side
 pub common-comm : (ids others : List ℕ) → rising ids ≡ true → rising others ≡ true → common ids others ≡ common others ids
 unfolding common
-common-comm ids others e f = keep-has-comm ids others e f
+common-comm ids others e f = filter-elem-comm ids others e f
 
 pub wrote-turned : (ids others output : List ℕ) (n : ℕ) (output′ : List ℕ) → rising ids ≡ true → rising others ≡ true → Wrote output (common others ids) n output′
     → Wrote output (common ids others) n output′

@@ -1,4 +1,4 @@
-pub mod Alike
+pub mod Similar
 pub mod Answers
 pub mod Common
 pub mod Passing

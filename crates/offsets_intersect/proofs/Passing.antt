@@ -11,14 +11,14 @@ use lib.Dec.{eqb}
 use lib.ListN.{length, take, drop, getD, set, length-take, length-drop, length-set, take-append-drop, drop-of-length-le}
 use lib.Seq.{length-take-le, drop-cons, drop-drop, getD-take, getD-drop}
 use borrow.Author.Tests.{not-true, eqb-false}
-use Rattle.lists.specs.Lists.{putAt, keep, rising, has}
-use Rattle.lists.specs.Laws.Parts.{putAt-alike, set-putAt, front-putAt, drop-putAt}
-use Rattle.lists.specs.Laws.Keep.{split, and-left, and-right, keep-append, keep-yes}
-use Rattle.lists.specs.Laws.Rising.{rising-at, rising-drop, has-at}
-use Rattle.lists.specs.Laws.Search.{has-notBelow, keep-nothing}
+use Rattle.lists.specs.Lists.{splice, filter, rising, elem}
+use Rattle.lists.specs.Laws.Parts.{splice-alike, set-splice, front-splice, drop-splice}
+use Rattle.lists.specs.Laws.Filter.{split, and-left, and-right, filter-append, filter-yes}
+use Rattle.lists.specs.Laws.Rising.{rising-at, rising-drop, elem-at}
+use Rattle.lists.specs.Laws.Search.{elem-notBelow, filter-nothing}
 use Rattle.offsets.specs.inner.Writing.{Wrote}
 use Rattle.offsets_intersect.specs.inner.Common.{common}
-use Rattle.offsets_intersect.specs.inner.Blocks.{Lacks, Apart, ApartAt, Passed, Went}
+use Rattle.offsets_intersect.specs.inner.Blocks.{Lacks, Apart, ApartAt, SkippedTo, MergedTo}
 use Rattle.offsets_intersect.proofs.Common.{common-comm}
 
 -- ---- ids that the others lack
@@ -26,7 +26,7 @@ use Rattle.offsets_intersect.proofs.Common.{common-comm}
 module _ (ids others : List ℕ) (i o k : ℕ) where
   -- k ids, none of them one of the others from position o on
   pass-ids : i + k ≤ length ids → o ≤ length others
-      → ((j m : ℕ) → j < k → o ≤ m → m < length others → getD ids (i + j) 0 ≡ getD others m 0 → ⊥) → Passed ids others i o (i + k) o
+      → ((j m : ℕ) → j < k → o ≤ m → m < length others → getD ids (i + j) 0 ≡ getD others m 0 → ⊥) → SkippedTo ids others i o (i + k) o
   unfolding common
   pass-ids h r f =
       record {
@@ -35,38 +35,38 @@ module _ (ids others : List ℕ) (i o k : ℕ) where
         within = h;
         others-within = r;
         rest =
-            ap (keep among) (sym (drop-drop k i ids))
+            ap (filter among) (sym (drop-drop k i ids))
             ∙ sym
-            (ap (keep among) (sym (take-append-drop k (drop i ids)))
-            ∙ keep-append among (take k (drop i ids)) (drop k (drop i ids))
-            ∙ ap (λ (l : List ℕ). l ++ keep among (drop k (drop i ids))) none);
+            (ap (filter among) (sym (take-append-drop k (drop i ids)))
+            ∙ filter-append among (take k (drop i ids)) (drop k (drop i ids))
+            ∙ ap (λ (l : List ℕ). l ++ filter among (drop k (drop i ids))) none);
       }
     where
       among : ℕ → Bool
-      among id = has id (drop o others)
+      among id = elem id (drop o others)
 
       lacks : (j : ℕ) → j < k → among (getD ids (i + j) 0) ≡ false
       lacks j a =
           elim (split (among (getD ids (i + j) 0))) [
             | inl q ↦
-                let t = has-at (getD ids (i + j) 0) (drop o others) q in
+                let t = elem-at (getD ids (i + j) 0) (drop o others) q in
                 let n = length-drop o others in
                 absurd (f j (o + t .0) a (omega arith) (omega (arith, t .1)) (sym (t .2) ∙ getD-drop o others (t .0) 0))
             | inr q ↦ q
           ]
 
-      none : keep among (take k (drop i ids)) ≡ []
+      none : filter among (take k (drop i ids)) ≡ []
       none =
-          keep-nothing among 0 (take k (drop i ids))
+          filter-nothing among 0 (take k (drop i ids))
           (λ j a.
           let b : j < k = (let n = length-take k (drop i ids) in omega arith) in
           rw (getD-take k (drop i ids) j 0 b, getD-drop i ids j 0) (lacks j b))
 
 module _ {ids others : List ℕ} {i o : ℕ} where
-  pub passed-none : i ≤ length ids → o ≤ length others → Passed ids others i o i o
+  pub passed-none : i ≤ length ids → o ≤ length others → SkippedTo ids others i o i o
   passed-none h k = record { on = omega arith; others-on = omega arith; within = h; others-within = k; rest = refl }
 
-  pub passed-on : {i′ o′ i″ o″ : ℕ} → Passed ids others i o i′ o′ → Passed ids others i′ o′ i″ o″ → Passed ids others i o i″ o″
+  pub passed-on : {i′ o′ i″ o″ : ℕ} → SkippedTo ids others i o i′ o′ → SkippedTo ids others i′ o′ i″ o″ → SkippedTo ids others i o i″ o″
   passed-on p r =
       record {
         on = omega (arith, p .on, r .on);
@@ -80,7 +80,7 @@ module _ {ids others : List ℕ} {i o : ℕ} where
   pub apart-turned : {k : ℕ} → ApartAt ids others i o k → ApartAt others ids o i k
   apart-turned a = record { room = a .others-room; others-room = a .room; apart = λ j m h r e. a .apart m j r h (sym e) }
 
-  pub passed-turned : {i′ o′ : ℕ} → rising ids ≡ true → rising others ≡ true → Passed others ids o i o′ i′ → Passed ids others i o i′ o′
+  pub passed-turned : {i′ o′ : ℕ} → rising ids ≡ true → rising others ≡ true → SkippedTo others ids o i o′ i′ → SkippedTo ids others i o i′ o′
   passed-turned {i′} {o′} e f p =
       record {
         on = p .others-on;
@@ -101,7 +101,7 @@ rising-upto l e i j h k =
     ]
 
 -- an id below the other
-pass-id : (ids others : List ℕ) (i o : ℕ) → rising others ≡ true → i < length ids → o < length others → getD ids i 0 < getD others o 0 → Passed ids others i o (i + 1) o
+pass-id : (ids others : List ℕ) (i o : ℕ) → rising others ≡ true → i < length ids → o < length others → getD ids i 0 < getD others o 0 → SkippedTo ids others i o (i + 1) o
 pass-id ids others i o f h k q =
     pass-ids ids others i o 1 (omega arith) (omega arith)
     (λ j m a b c r.
@@ -112,7 +112,7 @@ pass-id ids others i o f h k q =
 
 -- two blocks that are apart: the one that ends first
 pub pass-block : {ids others : List ℕ} {i o k : ℕ} → rising ids ≡ true → rising others ≡ true → ApartAt ids others i o k → 1 ≤ k
-    → getD ids (i + k - 1) 0 ≤ getD others (o + k - 1) 0 → Passed ids others i o (i + k) o
+    → getD ids (i + k - 1) 0 ≤ getD others (o + k - 1) 0 → SkippedTo ids others i o (i + k) o
 pass-block {ids} {others} {i} {o} {k} e f a h q = pass-ids ids others i o k (a .room) (omega (arith, a .others-room)) differ
   where
     differ : (j m : ℕ) → j < k → o ≤ m → m < length others → getD ids (i + j) 0 ≡ getD others m 0 → ⊥
@@ -130,8 +130,8 @@ pass-block {ids} {others} {i} {o} {k} e f a h q = pass-ids ids others i o k (a .
 -- ---- merging in step
 
 module _ (ids others output : List ℕ) (i o n : ℕ) where
-  pub went-none : i ≤ length ids → o ≤ length others → Went ids others output output i o n i o n
-  went-none h k =
+  pub mergedTo-none : i ≤ length ids → o ≤ length others → MergedTo ids others output output i o n i o n
+  mergedTo-none h k =
       record {
         on = omega arith;
         others-on = omega arith;
@@ -144,9 +144,9 @@ module _ (ids others output : List ℕ) (i o n : ℕ) where
         kept = refl;
       }
 
-module _ {ids others output output′ : List ℕ} {i o n i′ o′ n′ : ℕ} (w : Went ids others output output′ i o n i′ o′ n′) where
-  pub went-passed : {i″ o″ : ℕ} → Passed ids others i′ o′ i″ o″ → Went ids others output output′ i o n i″ o″ n′
-  went-passed p =
+module _ {ids others output output′ : List ℕ} {i o n i′ o′ n′ : ℕ} (w : MergedTo ids others output output′ i o n i′ o′ n′) where
+  pub mergedTo-passed : {i″ o″ : ℕ} → SkippedTo ids others i′ o′ i″ o″ → MergedTo ids others output output′ i o n i″ o″ n′
+  mergedTo-passed p =
       record {
         on = omega (arith, w .on, p .on);
         others-on = omega (arith, w .others-on, p .others-on);
@@ -159,8 +159,8 @@ module _ {ids others output output′ : List ℕ} {i o n i′ o′ n′ : ℕ} (
         kept = w .kept;
       }
 
-  pub went-on : {output″ : List ℕ} {i″ o″ n″ : ℕ} → Went ids others output′ output″ i′ o′ n′ i″ o″ n″ → Went ids others output output″ i o n i″ o″ n″
-  went-on {n″ = n″} v =
+  pub mergedTo-on : {output″ : List ℕ} {i″ o″ n″ : ℕ} → MergedTo ids others output′ output″ i′ o′ n′ i″ o″ n″ → MergedTo ids others output output″ i o n i″ o″ n″
+  mergedTo-on {n″ = n″} v =
       let e : n′ + (n″ - n′) ≡ n″ = omega (arith, v .more) in
       let k : drop n″ output′ ≡ drop n″ output =
       ap (λ (m : ℕ). drop m output′) (sym e)
@@ -183,7 +183,7 @@ module _ {ids others output output′ : List ℕ} {i o n i′ o′ n′ : ℕ} (
 -- both lists have the id
 module _ (ids others : List ℕ) (e : rising ids ≡ true) (f : rising others ≡ true) (i o : ℕ) (h : i < length ids) (k : o < length others) (q : getD ids i 0 ≡ getD others o 0) where
   -- the other is none of the ids that are left
-  pass-equal : Passed ids others (i + 1) o (i + 1) (o + 1)
+  pass-equal : SkippedTo ids others (i + 1) o (i + 1) (o + 1)
   pass-equal =
       passed-turned e f
       (pass-ids others ids o (i + 1) 1 (omega arith) (omega arith)
@@ -196,21 +196,21 @@ module _ (ids others : List ℕ) (e : rising ids ≡ true) (f : rising others �
   common-both : common (drop i ids) (drop o others) ≡ getD ids i 0 ∷ common (drop (i + 1) ids) (drop (o + 1) others)
   unfolding common
   common-both =
-      ap (keep (λ id. has id (drop o others))) (drop-cons ids i 0 h)
-      ∙ keep-yes (λ id. has id (drop o others)) (getD ids i 0) (drop (suc i) ids) found
+      ap (filter (λ id. elem id (drop o others))) (drop-cons ids i 0 h)
+      ∙ filter-yes (λ id. elem id (drop o others)) (getD ids i 0) (drop (suc i) ids) found
       ∙ ap (λ (l : List ℕ). getD ids i 0 ∷ l) (rw (← add-one i) (sym (pass-equal .rest)))
     where
-      found : has (getD ids i 0) (drop o others) ≡ true
+      found : elem (getD ids i 0) (drop o others) ≡ true
       found =
           let n = length-drop o others in
           let z : o + 0 ≡ o = omega arith in
-          has-notBelow (getD ids i 0) (drop o others) 0 (omega arith) (getD-drop o others 0 0 ∙ ap (λ (p : ℕ). getD others p 0) z ∙ sym q)
+          elem-notBelow (getD ids i 0) (drop o others) 0 (omega arith) (getD-drop o others 0 0 ∙ ap (λ (p : ℕ). getD others p 0) z ∙ sym q)
 
-  went-both : (output : List ℕ) (n : ℕ) → n < length output → Went ids others output (set output n (getD ids i 0)) i o n (i + 1) (o + 1) (n + 1)
-  went-both output n r =
+  mergedTo-both : (output : List ℕ) (n : ℕ) → n < length output → MergedTo ids others output (set output n (getD ids i 0)) i o n (i + 1) (o + 1) (n + 1)
+  mergedTo-both output n r =
       let x = getD ids i 0 in
-      let s : set output n x ≡ putAt output n (x ∷ []) = set-putAt output n x r in
-      let t : take (n + 1) (set output n x) ≡ take n output ++ (x ∷ []) = rw s (front-putAt output (x ∷ []) n (omega arith)) in
+      let s : set output n x ≡ splice output n (x ∷ []) = set-splice output n x r in
+      let t : take (n + 1) (set output n x) ≡ take n output ++ (x ∷ []) = rw s (front-splice output (x ∷ []) n (omega arith)) in
       record {
         on = omega arith;
         others-on = omega arith;
@@ -220,28 +220,28 @@ module _ (ids others : List ℕ) (e : rising ids ≡ true) (f : rising others �
         few = omega arith;
         same = simp length-set;
         rest = rw (t, common-both) (append-assoc (take n output) (x ∷ []) _);
-        kept = rw s (drop-putAt output (x ∷ []) n (omega arith) (n + 1) (omega arith));
+        kept = rw s (drop-splice output (x ∷ []) n (omega arith) (n + 1) (omega arith));
       }
 
 -- one list is used up
-module _ {ids others output output′ : List ℕ} {i o n : ℕ} (w : Went ids others output output′ 0 0 0 i o n) where
+module _ {ids others output output′ : List ℕ} {i o n : ℕ} (w : MergedTo ids others output output′ 0 0 0 i o n) where
   wrote : n ≤ length output′ → common (drop i ids) (drop o others) ≡ [] → Wrote output (common ids others) n output′
   wrote h z =
       let r : take n output′ ≡ common ids others = sym (append-nil (take n output′)) ∙ ap (λ (l : List ℕ). take n output′ ++ l) (sym z) ∙ w .rest in
       record {
         number = sym (length-take-le n output′ h) ∙ ap length r;
-        cells = sym (putAt-alike output output′ n h (sym (w .kept))) ∙ ap (putAt output 0) r;
+        cells = sym (splice-alike output output′ n h (sym (w .kept))) ∙ ap (splice output 0) r;
       }
 
-  pub went-end : length ids ≤ length output → length ids ≤ i → Wrote output (common ids others) n output′
-  unfolding common keep
-  went-end h k = wrote (omega (arith, w .few, w .within, w .same)) (rw (drop-of-length-le ids {i = i} k))
+  pub mergedTo-end : length ids ≤ length output → length ids ≤ i → Wrote output (common ids others) n output′
+  unfolding common filter
+  mergedTo-end h k = wrote (omega (arith, w .few, w .within, w .same)) (rw (drop-of-length-le ids {i = i} k))
 
-  pub went-others-end : length ids ≤ length output → length others ≤ o → Wrote output (common ids others) n output′
+  pub mergedTo-others-end : length ids ≤ length output → length others ≤ o → Wrote output (common ids others) n output′
   unfolding common
-  went-others-end h k =
+  mergedTo-others-end h k =
       wrote (omega (arith, w .few, w .within, w .same))
-      (rw (drop-of-length-le others {i = o} k) (keep-nothing (λ id. has id []) 0 (drop i ids) (λ j a. unfold has in refl)))
+      (rw (drop-of-length-le others {i = o} k) (filter-nothing (λ id. elem id []) 0 (drop i ids) (λ j a. unfold elem in refl)))
 
 -- ---- the test of a block
 
@@ -298,7 +298,7 @@ pub record Pace (ids others output₀ output : List ℕ) (i₀ o₀ n₀ i o n s
   pub others-up : rising others ≡ true
   pub fits : length ids ≤ length output₀
   pub begun : n₀ ≤ i₀
-  pub went : Went ids others output₀ output i₀ o₀ n₀ i o n
+  pub mergedTo : MergedTo ids others output₀ output i₀ o₀ n₀ i o n
   pub more : i < length ids
   pub others-more : o < length others
   pub short : stop ≤ length ids
@@ -306,25 +306,25 @@ pub record Pace (ids others output₀ output : List ℕ) (i₀ o₀ n₀ i o n s
   pub there : other ≡ getD others o 0
 
 module _ {ids others output₀ output : List ℕ} {i₀ o₀ n₀ i o n stop id other : ℕ} (w : Pace ids others output₀ output i₀ o₀ n₀ i o n stop id other) where
-  pub past-other : other < id → Went ids others output₀ output i₀ o₀ n₀ i (o + 1) n
-  past-other q = went-passed (w .went) (passed-turned (w .up) (w .others-up) (pass-id others ids o i (w .up) (w .others-more) (w .more) (omega (arith, q, w .here, w .there))))
+  pub past-other : other < id → MergedTo ids others output₀ output i₀ o₀ n₀ i (o + 1) n
+  past-other q = mergedTo-passed (w .mergedTo) (passed-turned (w .up) (w .others-up) (pass-id others ids o i (w .up) (w .others-more) (w .more) (omega (arith, q, w .here, w .there))))
 
-  pub past-id : id ≤ other → (id ≡ other → ⊥) → Went ids others output₀ output i₀ o₀ n₀ (i + 1) o n
+  pub past-id : id ≤ other → (id ≡ other → ⊥) → MergedTo ids others output₀ output i₀ o₀ n₀ (i + 1) o n
   past-id q d =
       let z : id < other = omega arith in
-      went-passed (w .went) (pass-id ids others i o (w .others-up) (w .more) (w .others-more) (omega (arith, z, w .here, w .there)))
+      mergedTo-passed (w .mergedTo) (pass-id ids others i o (w .others-up) (w .more) (w .others-more) (omega (arith, z, w .here, w .there)))
 
-  pub past-both : id ≡ other → Went ids others output₀ (set output n id) i₀ o₀ n₀ (i + 1) (o + 1) (n + 1)
+  pub past-both : id ≡ other → MergedTo ids others output₀ (set output n id) i₀ o₀ n₀ (i + 1) (o + 1) (n + 1)
   past-both q =
-      let r : n < length output = omega (arith, w .went .few, w .went .same, w .more, w .fits, w .begun) in
+      let r : n < length output = omega (arith, w .mergedTo .few, w .mergedTo .same, w .more, w .fits, w .begun) in
       rw (w .here)
-      (went-on (w .went) (went-both ids others (w .up) (w .others-up) i o (w .more) (w .others-more) (sym (w .here) ∙ q ∙ w .there) output n r))
+      (mergedTo-on (w .mergedTo) (mergedTo-both ids others (w .up) (w .others-up) i o (w .more) (w .others-more) (sym (w .here) ∙ q ∙ w .there) output n r))
 
-  module _ {output′ : List ℕ} {i′ o′ n′ : ℕ} (v : Went ids others output₀ output′ i₀ o₀ n₀ i′ o′ n′) where
+  module _ {output′ : List ℕ} {i′ o′ n′ : ℕ} (v : MergedTo ids others output₀ output′ i₀ o₀ n₀ i′ o′ n′) where
     pub pace-on : {stop′ id′ other′ : ℕ} → i′ < length ids → o′ < length others → stop′ ≤ length ids → id′ ≡ getD ids i′ 0 → other′ ≡ getD others o′ 0
         → Pace ids others output₀ output′ i₀ o₀ n₀ i′ o′ n′ stop′ id′ other′
     pace-on h k m p q =
-        record { up = w .up; others-up = w .others-up; fits = w .fits; begun = w .begun; went = v; more = h; others-more = k; short = m; here = p; there = q }
+        record { up = w .up; others-up = w .others-up; fits = w .fits; begun = w .begun; mergedTo = v; more = h; others-more = k; short = m; here = p; there = q }
 
-    pub pace-end : i + o < i′ + o′ → Went ids others output₀ output′ i₀ o₀ n₀ i′ o′ n′ × (i₀ + o₀ < i′ + o′)
-    pace-end h = (v, omega (arith, h, w .went .on, w .went .others-on))
+    pub pace-end : i + o < i′ + o′ → MergedTo ids others output₀ output′ i₀ o₀ n₀ i′ o′ n′ × (i₀ + o₀ < i′ + o′)
+    pace-end h = (v, omega (arith, h, w .mergedTo .on, w .mergedTo .others-on))

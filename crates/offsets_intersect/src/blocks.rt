@@ -5,17 +5,17 @@ ghost use mathlib.Core.Bool.{true};
 ghost use Prim.Native.Nat.{_+_, _≤_, _<_};
 ghost use lib.ListN.{length};
 ghost use Rattle.offsets.specs.inner.Writing.{Wrote};
-ghost use Rattle.offsets_intersect.specs.inner.Common.{Fitting, Searchable, common, alike};
-ghost use Rattle.offsets_intersect.specs.inner.Blocks.{Lacks, Apart, ApartAt, Passed, Went};
+ghost use Rattle.offsets_intersect.specs.inner.Common.{Fitting, Searchable, common, similar};
+ghost use Rattle.offsets_intersect.specs.inner.Blocks.{Lacks, Apart, ApartAt, SkippedTo, MergedTo};
 
 // The number of ids of a block.
 const BLOCK: usize = 4;
 
 // After this many consecutive ids that the other list lacks, the merge switches to blocks.
-const GAP: usize = 16;
+const MAX_MISSES: usize = 16;
 
 // The progress of a merge: positions in both lists, and the number of ids written.
-struct Walk {
+struct MergeCursor {
     i: usize,
     o: usize,
     n: usize,
@@ -59,9 +59,9 @@ fn are_blocks_apart(ids: &[u32], others: &[u32], i: usize, o: usize) -> bool
 
 // Skips blocks that have no id in common: of two such blocks, the one that ends first. It has one branch for four ids. With random
 // ids a merge spends its time on mispredicted branches.
-fn skip_apart(ids: &[u32], others: &[u32], from: Walk) -> Walk
+fn skip_apart(ids: &[u32], others: &[u32], from: MergeCursor) -> MergeCursor
     requires { ⌜ Searchable (now ids) × Searchable (now others) × (from .i ≤ length (now ids)) × (from .o ≤ length (now others)) ⌝ }
-    ensures { λ r. ⌜ Passed (now (ids .entry)) (now (others .entry)) (from .i) (from .o) (r .i) (r .o) × (r .n ≡ from .n) ⌝ }
+    ensures { λ r. ⌜ SkippedTo (now (ids .entry)) (now (others .entry)) (from .i) (from .o) (r .i) (r .o) × (r .n ≡ from .n) ⌝ }
 {
     let mut i = from.i;
     let mut o = from.o;
@@ -72,7 +72,7 @@ fn skip_apart(ids: &[u32], others: &[u32], from: Walk) -> Walk
             o += BLOCK;
         }
     }
-    Walk { i, o, n: from.n }
+    MergeCursor { i, o, n: from.n }
 }
 
 // The position at which the merge stops if it finds no common id from `i` on.
@@ -80,15 +80,15 @@ fn stop_from(i: usize, end: usize) -> usize
     requires { ⌜ (i < end) × (end ≤ 65536) ⌝ }
     ensures { λ r. ⌜ (i < r) × (r ≤ end) ⌝ }
 {
-    let far = i + GAP;
+    let far = i + MAX_MISSES;
     if end < far { end } else { far }
 }
 
 // Merges in step from two positions inside the lists. Stops at the end of a list, or after many consecutive ids that the other list
 // lacks.
-fn walk_on(ids: &[u32], others: &[u32], output: &mut [u32], from: Walk) -> Walk
+fn merge_some(ids: &[u32], others: &[u32], output: &mut [u32], from: MergeCursor) -> MergeCursor
     requires { ⌜ Fitting (now ids) (now output) × Searchable (now others) × (from .i < length (now ids)) × (from .o < length (now others)) × (from .n ≤ from .i) ⌝ }
-    ensures { λ r. ⌜ Went (now (ids .entry)) (now (others .entry)) (now (output .entry)) (now (output .exit)) (from .i) (from .o) (from .n) (r .i) (r .o) (r .n) × (from .i + from .o < r .i + r .o) ⌝ }
+    ensures { λ r. ⌜ MergedTo (now (ids .entry)) (now (others .entry)) (now (output .entry)) (now (output .exit)) (from .i) (from .o) (from .n) (r .i) (r .o) (r .n) × (from .i + from .o < r .i + r .o) ⌝ }
 {
     let mut i = from.i;
     let mut o = from.o;
@@ -100,7 +100,7 @@ fn walk_on(ids: &[u32], others: &[u32], output: &mut [u32], from: Walk) -> Walk
         if other < id {
             o += 1;
             if others.len() <= o {
-                return Walk { i, o, n };
+                return MergeCursor { i, o, n };
             }
             other = others[o];
         } else if id == other {
@@ -109,10 +109,10 @@ fn walk_on(ids: &[u32], others: &[u32], output: &mut [u32], from: Walk) -> Walk
             i += 1;
             o += 1;
             if ids.len() <= i {
-                return Walk { i, o, n };
+                return MergeCursor { i, o, n };
             }
             if others.len() <= o {
-                return Walk { i, o, n };
+                return MergeCursor { i, o, n };
             }
             stop = stop_from(i, ids.len());
             id = ids[i];
@@ -120,7 +120,7 @@ fn walk_on(ids: &[u32], others: &[u32], output: &mut [u32], from: Walk) -> Walk
         } else {
             i += 1;
             if stop <= i {
-                return Walk { i, o, n };
+                return MergeCursor { i, o, n };
             }
             id = ids[i];
         }
@@ -128,13 +128,13 @@ fn walk_on(ids: &[u32], others: &[u32], output: &mut [u32], from: Walk) -> Walk
 }
 
 // Writes the ids that the other list has too. Alternates between merging in step and skipping blocks.
-pub fn walk_long(ids: &[u32], others: &[u32], output: &mut [u32]) -> usize
-    requires { ⌜ Fitting (now ids) (now output) × Searchable (now others) × (alike (length (now ids)) (length (now others)) ≡ true) ⌝ }
+pub fn merge_long(ids: &[u32], others: &[u32], output: &mut [u32]) -> usize
+    requires { ⌜ Fitting (now ids) (now output) × Searchable (now others) × (similar (length (now ids)) (length (now others)) ≡ true) ⌝ }
     ensures { λ r. ⌜ Wrote (now (output .entry)) (common (now (ids .entry)) (now (others .entry))) r (now (output .exit)) ⌝ }
 {
-    let mut walk = Walk { i: 0, o: 0, n: 0 };
+    let mut walk = MergeCursor { i: 0, o: 0, n: 0 };
     while walk.i < ids.len() && walk.o < others.len() {
-        let walked = walk_on(ids, others, output, walk);
+        let walked = merge_some(ids, others, output, walk);
         walk = skip_apart(ids, others, walked);
     }
     walk.n

@@ -5,12 +5,12 @@ ghost use mathlib.Core.Bool.{true};
 ghost use Prim.Native.Nat.{ℕ, _≤_, min, max};
 ghost use mathlib.Core.List.{List};
 ghost use lib.ListN.{length};
-ghost use Rattle.lists.specs.Lists.{putAt, keep, within};
+ghost use Rattle.lists.specs.Lists.{splice, filter, within};
 ghost use Rattle.refusals.specs.Refusals.{accepted};
 ghost use Rattle.offsets.specs.Subsets.{range, list, listOrNothing};
 ghost use Rattle.offsets.specs.Answers.{subsetOf, Answered, roomNeeded, intersectRefusal, intersectReply};
 ghost use Rattle.offsets.specs.inner.Writing.{Wrote};
-ghost use Rattle.offsets_intersect.specs.inner.Common.{Fitting, Searchable, common, alike, BothShort, MuchLonger};
+ghost use Rattle.offsets_intersect.specs.inner.Common.{Fitting, Searchable, common, similar, BothShort, MuchLonger};
 use offsets::SubsetAnswer;
 use offsets::SubsetHead;
 use offsets::is_well_formed;
@@ -27,7 +27,7 @@ const SHORT: usize = 16;
 // Writes the ids to the start of the output.
 fn write_ids(output: &mut [u32], ids: &[u32])
     requires { ⌜ length (now ids) ≤ length (now output) ⌝ }
-    ensures { λ _. ⌜ now (output .exit) ≡ putAt (now (output .entry)) 0 (now (ids .entry)) ⌝ }
+    ensures { λ _. ⌜ now (output .exit) ≡ splice (now (output .entry)) 0 (now (ids .entry)) ⌝ }
 {
     let mut i = 0;
     while i < ids.len() {
@@ -39,7 +39,7 @@ fn write_ids(output: &mut [u32], ids: &[u32])
 // Writes the ids of a list that are in a range: the part between two positions.
 fn keep_within(ids: &[u32], start: u32, end: u32, output: &mut [u32]) -> usize
     requires { ⌜ Fitting (now ids) (now output) × (start ≤ end) ⌝ }
-    ensures { λ r. ⌜ Wrote (now (output .entry)) (keep (within start end) (now (ids .entry))) r (now (output .exit)) ⌝ }
+    ensures { λ r. ⌜ Wrote (now (output .entry)) (filter (within start end) (now (ids .entry))) r (now (output .exit)) ⌝ }
 {
     let low = binary_search_by_id(ids, start);
     let high = binary_search_from(ids, low, end);
@@ -51,7 +51,7 @@ fn keep_within(ids: &[u32], start: u32, end: u32, output: &mut [u32]) -> usize
 
 // Writes the ids that the other list has too, by a linear merge. Keeps the two current ids in variables and reads one id an
 // iteration. A loop that reads both again takes half as long again where its code is badly aligned.
-fn walk_in_step(ids: &[u32], others: &[u32], output: &mut [u32]) -> usize
+fn merge_in_step(ids: &[u32], others: &[u32], output: &mut [u32]) -> usize
     requires { ⌜ Fitting (now ids) (now output) × Searchable (now others) × BothShort (length (now ids)) (length (now others)) ⌝ }
     ensures { λ r. ⌜ Wrote (now (output .entry)) (common (now (ids .entry)) (now (others .entry))) r (now (output .exit)) ⌝ }
 {
@@ -118,22 +118,22 @@ fn gallop_along(ids: &[u32], others: &[u32], output: &mut [u32]) -> usize
 }
 
 // Whether two lists are of similar length.
-fn are_alike(a: usize, b: usize) -> bool
+fn are_similar(a: usize, b: usize) -> bool
     requires { ⌜ a ≤ 65536 ⌝ }
-    ensures { λ r. ⌜ r ≡ alike a b ⌝ }
+    ensures { λ r. ⌜ r ≡ similar a b ⌝ }
 {
     (a <= 16 && b <= 16) || (a / 4 <= b && b <= a * 4)
 }
 
 // Intersects lists of similar length, short or long.
-fn walk_alike(ids: &[u32], others: &[u32], output: &mut [u32]) -> usize
-    requires { ⌜ Fitting (now ids) (now output) × Searchable (now others) × (alike (length (now ids)) (length (now others)) ≡ true) ⌝ }
+fn merge_similar(ids: &[u32], others: &[u32], output: &mut [u32]) -> usize
+    requires { ⌜ Fitting (now ids) (now output) × Searchable (now others) × (similar (length (now ids)) (length (now others)) ≡ true) ⌝ }
     ensures { λ r. ⌜ Wrote (now (output .entry)) (common (now (ids .entry)) (now (others .entry))) r (now (output .exit)) ⌝ }
 {
     if ids.len() <= SHORT && others.len() <= SHORT {
-        return walk_in_step(ids, others, output);
+        return merge_in_step(ids, others, output);
     }
-    blocks::walk_long(ids, others, output)
+    blocks::merge_long(ids, others, output)
 }
 
 // Writes the ids that both lists have: by a linear merge, or by searching the longer list for the ids of the shorter one.
@@ -141,8 +141,8 @@ fn keep_common(ids: &[u32], others: &[u32], output: &mut [u32]) -> usize
     requires { ⌜ Fitting (now ids) (now output) × Searchable (now others) ⌝ }
     ensures { λ r. ⌜ Wrote (now (output .entry)) (common (now (ids .entry)) (now (others .entry))) r (now (output .exit)) ⌝ }
 {
-    if are_alike(ids.len(), others.len()) {
-        return walk_alike(ids, others, output);
+    if are_similar(ids.len(), others.len()) {
+        return merge_similar(ids, others, output);
     }
     if others.len() < ids.len() {
         return gallop_along(others, ids, output);
@@ -180,7 +180,7 @@ pub fn intersect_ranges(a: u32, b: u32, c: u32, d: u32) -> SubsetAnswer
 // A range with a list gives a list, or 0..0 if they have no id in common.
 fn intersect_range_list(start: u32, end: u32, ids: &[u32], output: &mut [u32]) -> SubsetAnswer
     requires { ⌜ Fitting (now ids) (now output) × (start ≤ end) ⌝ }
-    ensures { λ r. ⌜ Answered (accepted (listOrNothing (keep (within start end) (now (ids .entry))))) (now (output .entry)) r (now (output .exit)) ⌝ }
+    ensures { λ r. ⌜ Answered (accepted (listOrNothing (filter (within start end) (now (ids .entry))))) (now (output .entry)) r (now (output .exit)) ⌝ }
 {
     let n = keep_within(ids, start, end, output);
     if n == 0 {
@@ -192,7 +192,7 @@ fn intersect_range_list(start: u32, end: u32, ids: &[u32], output: &mut [u32]) -
 // A list with a range gives a list, even an empty one.
 fn intersect_list_range(ids: &[u32], start: u32, end: u32, output: &mut [u32]) -> SubsetAnswer
     requires { ⌜ Fitting (now ids) (now output) × (start ≤ end) ⌝ }
-    ensures { λ r. ⌜ Answered (accepted (list (keep (within start end) (now (ids .entry))))) (now (output .entry)) r (now (output .exit)) ⌝ }
+    ensures { λ r. ⌜ Answered (accepted (list (filter (within start end) (now (ids .entry))))) (now (output .entry)) r (now (output .exit)) ⌝ }
 {
     let n = keep_within(ids, start, end, output);
     SubsetAnswer::List(n as u32)

@@ -8,28 +8,28 @@ use native.Mathlib.Decide.{ℕ-discrete}
 use native.Mathlib.Omega.{arith}
 use lib.ListN.{length, getD, set, length-set, length-append, List·getD-append}
 use lib.Seq.{getD-at}
-use Rattle.lists.specs.Lists.{putAt, countFrom, rising}
-use Rattle.lists.specs.Laws.Parts.{putAt-nil, length-putAt}
-use Rattle.lists.specs.Laws.Rising.{length-countFrom, getD-countFrom, countFrom-snoc, rising-at, rising-gap}
+use Rattle.lists.specs.Lists.{splice, iota, rising}
+use Rattle.lists.specs.Laws.Parts.{splice-nil, length-splice}
+use Rattle.lists.specs.Laws.Rising.{length-iota, getD-iota, iota-snoc, rising-at, rising-gap}
 use Rattle.lists.specs.Laws.Search.{put-more}
 use Rattle.refusals.specs.Refusals.{accepted}
-use Rattle.offsets_retain.specs.declared.Growing.{Growing}
+use Rattle.offsets_retain.specs.declared.RetainBuilder.{RetainBuilder}
 use Rattle.offsets.specs.declared.SubsetAnswer.the-variants.{Range, List as Ids}
 use Rattle.offsets.specs.Subsets.{range, list, shaped}
 use Rattle.offsets.specs.Answers.{Answered}
-use Rattle.offsets_retain.specs.inner.Growing.{pushed, Grows, NextId, CanAdd, Adds, GrowthBegins, GrowthEnds}
-use Rattle.offsets.specs.Laws.Subsets.{answered-range, answered-list, shaped-list, shaped-countFrom}
+use Rattle.offsets_retain.specs.inner.RetainBuilder.{pushed, Builds, NextId, CanAdd, Adds, BuilderBegins, BuilderEnds}
+use Rattle.offsets.specs.Laws.Subsets.{answered-range, answered-list, shaped-list, shaped-iota}
 
 -- ---- neighbouring ids
 
 pub record Filled (output₀ output : List ℕ) (start count i : ℕ) : Type 0 where
   pub upto : i ≤ count
   pub same : length output ≡ length output₀
-  pub cells : output ≡ putAt output₀ 0 (countFrom start i)
+  pub cells : output ≡ splice output₀ 0 (iota start i)
 
 pub filled-begin : (output₀ : List ℕ) (start count : ℕ) → Filled output₀ output₀ start count 0
-unfolding countFrom
-filled-begin output₀ start count = record { upto = omega arith; same = refl; cells = sym (putAt-nil output₀ 0) }
+unfolding iota
+filled-begin output₀ start count = record { upto = omega arith; same = refl; cells = sym (splice-nil output₀ 0) }
 
 pub filled-more : (output₀ output : List ℕ) (start count i : ℕ) → count ≤ length output₀ → Filled output₀ output start count i → i < count → Filled output₀ (set output i (start + i)) start count (i + 1)
 filled-more output₀ output start count i h s k =
@@ -38,12 +38,12 @@ filled-more output₀ output start count i h s k =
       same = simp length-set (s .same);
       cells =
           ap (λ (l : List ℕ). set l i (start + i)) (s .cells)
-          ∙ put-more output₀ (countFrom start i) i (start + i) (sym (length-countFrom start i)) (omega arith)
-          ∙ ap (putAt output₀ 0) (sym (countFrom-snoc start i));
+          ∙ put-more output₀ (iota start i) i (start + i) (sym (length-iota start i)) (omega arith)
+          ∙ ap (splice output₀ 0) (sym (iota-snoc start i));
     }
 
-pub filled-end : (output₀ output : List ℕ) (start count i : ℕ) → Filled output₀ output start count i → count ≤ i → output ≡ putAt output₀ 0 (countFrom start count)
-filled-end output₀ output start count i s h = let e : i ≡ count = omega (arith, s .upto) in s .cells ∙ ap (λ (k : ℕ). putAt output₀ 0 (countFrom start k)) e
+pub filled-end : (output₀ output : List ℕ) (start count i : ℕ) → Filled output₀ output start count i → count ≤ i → output ≡ splice output₀ 0 (iota start count)
+filled-end output₀ output start count i s h = let e : i ≡ count = omega (arith, s .upto) in s .cells ∙ ap (λ (k : ℕ). splice output₀ 0 (iota start k)) e
 
 -- ---- what the next id is known by
 
@@ -82,8 +82,8 @@ shaped-nil = refl
 
 -- ---- the states
 
-pub begun : GrowthBegins (record { start = 0; count = 0; written = 0 })
-unfolding rising countFrom
+pub begun : BuilderBegins (record { start = 0; count = 0; written = 0 })
+unfolding rising iota
 begun =
     record {
       nothing = refl;
@@ -98,18 +98,18 @@ begun =
     }
 
 -- the kept ids while the answer is a range
-module _ (output₀ output : List ℕ) (g : Growing) (kept : List ℕ) (s : Grows output₀ output g kept) (d : g .written ≡ 0) where
+module _ (output₀ output : List ℕ) (g : RetainBuilder) (kept : List ℕ) (s : Builds output₀ output g kept) (d : g .written ≡ 0) where
   first-is : 0 < g .count → getD kept 0 0 ≡ g .start
-  first-is h = ap (λ (l : List ℕ). getD l 0 0) (s .as-range d .ids) ∙ getD-countFrom (g .start) (g .count) 0 0 h ∙ add-zero (g .start)
+  first-is h = ap (λ (l : List ℕ). getD l 0 0) (s .as-range d .ids) ∙ getD-iota (g .start) (g .count) 0 0 h ∙ add-zero (g .start)
 
   top-below : (id : ℕ) → rising (kept ++ (id ∷ [])) ≡ true → 0 < g .count → g .start + g .count ≤ id
   top-below id e h =
-      let top = getD-countFrom (g .start) (g .count) (g .count - 1) 0 (omega arith) in
+      let top = getD-iota (g .start) (g .count) (g .count - 1) 0 (omega arith) in
       let is : getD kept (g .count - 1) 0 ≡ g .start + (g .count - 1) = ap (λ (l : List ℕ). getD l (g .count - 1) 0) (s .as-range d .ids) ∙ top in
       let below = kept-below kept id e (g .count - 1) (omega (arith, s .number)) in
       omega arith
 
-module _ (output : List ℕ) (g : Growing) (id : ℕ) where
+module _ (output : List ℕ) (g : RetainBuilder) (id : ℕ) where
   -- what the code may rely on
   pub record Sure : Type 0 where
     pub few : g .count < 4294967295
@@ -128,13 +128,13 @@ module _ (output : List ℕ) (g : Growing) (id : ℕ) where
 
   -- the first id
   pub adds-first : g .written ≡ 0 → g .count ≡ 0 → Adds output g id (record { start = id; count = 1; written = g .written }) output
-  unfolding countFrom
+  unfolding iota
   adds-first d z =
       record {
         one-more = omega arith;
         adds = λ output₀ kept s n.
             let r = s .as-range d in
-            let none : kept ≡ [] = r .ids ∙ ap (countFrom (g .start)) z in
+            let none : kept ≡ [] = r .ids ∙ ap (iota (g .start)) z in
             record {
               up = n .up;
               same = s .same;
@@ -151,7 +151,7 @@ module _ (output : List ℕ) (g : Growing) (id : ℕ) where
         one-more = refl;
         adds = λ output₀ kept s n.
             let r = s .as-range d in
-            let ids : kept ++ (id ∷ []) ≡ countFrom (g .start) (g .count + 1) = rw (r .ids, ← z) (sym (countFrom-snoc (g .start) (g .count))) in
+            let ids : kept ++ (id ∷ []) ≡ iota (g .start) (g .count + 1) = rw (r .ids, ← z) (sym (iota-snoc (g .start) (g .count))) in
             record {
               up = n .up;
               same = s .same;
@@ -162,16 +162,16 @@ module _ (output : List ℕ) (g : Growing) (id : ℕ) where
       }
 
   -- an id that is not consecutive: the range is written out, and the id after it
-  pub adds-gap : (filled : List ℕ) → g .written ≡ 0 → (g .count ≡ 0 → ⊥) → (g .start + g .count ≡ id → ⊥) → filled ≡ putAt output 0 (countFrom (g .start) (g .count))
+  pub adds-gap : (filled : List ℕ) → g .written ≡ 0 → (g .count ≡ 0 → ⊥) → (g .start + g .count ≡ id → ⊥) → filled ≡ splice output 0 (iota (g .start) (g .count))
       → Adds output g id (pushed g) (set filled (g .count) id)
   unfolding pushed
   adds-gap filled d p q f = record { one-more = refl; adds = added }
     where
-      added : (output₀ kept : List ℕ) → Grows output₀ output g kept → NextId output₀ kept id
-          → Grows output₀ (set filled (g .count) id) (pushed g) (kept ++ (id ∷ []))
+      added : (output₀ kept : List ℕ) → Builds output₀ output g kept → NextId output₀ kept id
+          → Builds output₀ (set filled (g .count) id) (pushed g) (kept ++ (id ∷ []))
       added output₀ kept s n =
           let r = s .as-range d in
-          let cells : filled ≡ putAt output₀ 0 kept = rw (r .ids, ← r .unwritten) f in
+          let cells : filled ≡ splice output₀ 0 kept = rw (r .ids, ← r .unwritten) f in
           let put = put-more output₀ kept (g .count) id (s .number) (omega (arith, n .room (omega (arith, s .number, p)), s .number)) in
           let some : 0 < g .count = omega (arith, p) in
           let top = top-below output₀ output g kept s d id (n .up) some in
@@ -187,9 +187,9 @@ module _ (output : List ℕ) (g : Growing) (id : ℕ) where
                 };
           }
         where
-          length-of : (output₀ kept : List ℕ) → filled ≡ putAt output₀ 0 kept → set (putAt output₀ 0 kept) (g .count) id ≡ putAt output₀ 0 (kept ++ (id ∷ [])) → length (kept ++ (id ∷ [])) ≤ length output₀
+          length-of : (output₀ kept : List ℕ) → filled ≡ splice output₀ 0 kept → set (splice output₀ 0 kept) (g .count) id ≡ splice output₀ 0 (kept ++ (id ∷ [])) → length (kept ++ (id ∷ [])) ≤ length output₀
               → length (set filled (g .count) id) ≡ length output₀
-          length-of output₀ kept c w l = ap (λ (m : List ℕ). length (set m (g .count) id)) c ∙ ap length w ∙ length-putAt output₀ (kept ++ (id ∷ [])) 0 (omega (arith, l))
+          length-of output₀ kept c w l = ap (λ (m : List ℕ). length (set m (g .count) id)) c ∙ ap length w ∙ length-splice output₀ (kept ++ (id ∷ [])) 0 (omega (arith, l))
 
   -- the list grows
   pub adds-more : (g .written ≡ 0 → ⊥) → Adds output g id (pushed g) (set output (g .count) id)
@@ -220,7 +220,7 @@ module _ (output : List ℕ) (g : Growing) (id : ℕ) where
 
 -- ---- the answer
 
-pub ended-range : (g : Growing) → g .written ≡ 0 → GrowthEnds g (Range (g .start) (g .start + g .count))
+pub ended-range : (g : RetainBuilder) → g .written ≡ 0 → BuilderEnds g (Range (g .start) (g .start + g .count))
 ended-range g d =
     record {
       ends = λ output₀ output kept s.
@@ -228,22 +228,22 @@ ended-range g d =
           let e : shaped kept ≡ range (g .start) (g .start + g .count) =
           ap shaped (r .ids)
           ∙ elim (ℕ-discrete (g .count) 0) [
-            | yes q ↦ unfold countFrom in ap (λ (k : ℕ). shaped (countFrom (g .start) k)) q ∙ shaped-nil ∙ ap₂ range (sym (r .none q)) (omega (arith, r .none q))
-            | no q ↦ shaped-countFrom (g .start) (g .count) (omega (arith, q))
+            | yes q ↦ unfold iota in ap (λ (k : ℕ). shaped (iota (g .start) k)) q ∙ shaped-nil ∙ ap₂ range (sym (r .none q)) (omega (arith, r .none q))
+            | no q ↦ shaped-iota (g .start) (g .count) (omega (arith, q))
           ] in
           rw (e, r .unwritten) (answered-range (g .start) (g .start + g .count) output₀);
     }
 
-pub ended-list : (g : Growing) → (g .written ≡ 0 → ⊥) → GrowthEnds g (Ids (g .count))
+pub ended-list : (g : RetainBuilder) → (g .written ≡ 0 → ⊥) → BuilderEnds g (Ids (g .count))
 ended-list g d = record { ends = ended }
   where
-    ended : (output₀ output kept : List ℕ) → Grows output₀ output g kept → Answered (accepted (shaped kept)) output₀ (Ids (g .count)) output
+    ended : (output₀ output kept : List ℕ) → Builds output₀ output g kept → Answered (accepted (shaped kept)) output₀ (Ids (g .count)) output
     ended output₀ output [] s = absurd (d (s .as-list d .wrote .number))
     ended output₀ output (x ∷ xs) s =
         let r = s .as-list d in
         let k : suc (length xs) - 1 ≡ length xs = omega arith in
         let gap : x + suc (length xs) ≤ getD (x ∷ xs) (length xs) 0 = rw k at (r .gap) in
-        let apart : (x ∷ xs) ≡ countFrom x (suc (length xs)) → ⊥ =
-        λ q. let last : getD (x ∷ xs) (length xs) 0 ≡ x + length xs = rw q (getD-countFrom x (suc (length xs)) (length xs) 0 (omega arith)) in omega arith in
+        let apart : (x ∷ xs) ≡ iota x (suc (length xs)) → ⊥ =
+        λ q. let last : getD (x ∷ xs) (length xs) 0 ≡ x + length xs = rw q (getD-iota x (suc (length xs)) (length xs) 0 (omega arith)) in omega arith in
         let e : shaped (x ∷ xs) ≡ list (x ∷ xs) = shaped-list x xs apart in
         rw e (answered-list (x ∷ xs) output₀ (g .count) output (record { number = s .number; cells = r .wrote .cells }))

@@ -3,23 +3,23 @@
 ghost use mathlib.Core.Path.{_≡_};
 ghost use Prim.Native.Nat.{_+_, _≤_, _<_};
 ghost use lib.ListN.{length, set};
-ghost use Rattle.lists.specs.Lists.{putAt, countFrom};
-ghost use Rattle.offsets_retain.specs.inner.Growing.{pushed, CanAdd, Adds, GrowthBegins, GrowthEnds};
+ghost use Rattle.lists.specs.Lists.{splice, iota};
+ghost use Rattle.offsets_retain.specs.inner.RetainBuilder.{pushed, CanAdd, Adds, BuilderBegins, BuilderEnds};
 use offsets::SubsetAnswer;
 
 // The answer of `retain` over a range while it is built: the first kept id, the number of kept ids, and the number of ids written.
 // No id is written while they are consecutive; afterwards all of them are. It has only numbers, which a loop holds in registers.
-pub struct Growing {
+pub struct RetainBuilder {
     pub start: u32,
     pub count: u32,
     pub written: u32,
 }
 
 // The initial state: nothing is kept.
-pub fn empty() -> Growing
-    ensures { λ r. ⌜ GrowthBegins r ⌝ }
+pub fn empty() -> RetainBuilder
+    ensures { λ r. ⌜ BuilderBegins r ⌝ }
 {
-    Growing {
+    RetainBuilder {
         start: 0,
         count: 0,
         written: 0,
@@ -29,7 +29,7 @@ pub fn empty() -> Growing
 // Writes consecutive ids to the start of the output.
 pub fn fill_from_dense(output: &mut [u32], start: u32, count: u32)
     requires { ⌜ (start + count < 4294967296) × (count ≤ length (now output)) ⌝ }
-    ensures { λ _. ⌜ now (output .exit) ≡ putAt (now (output .entry)) 0 (countFrom start count) ⌝ }
+    ensures { λ _. ⌜ now (output .exit) ≡ splice (now (output .entry)) 0 (iota start count) ⌝ }
 {
     let mut i = 0;
     while i < count {
@@ -40,7 +40,7 @@ pub fn fill_from_dense(output: &mut [u32], start: u32, count: u32)
 }
 
 // Appends an id to the output. All others are written already.
-fn push_id(g: Growing, output: &mut [u32], id: u32) -> Growing
+fn push_id(g: RetainBuilder, output: &mut [u32], id: u32) -> RetainBuilder
     requires { ⌜ (g .count < length (now output)) × (g .count < 4294967295) ⌝ }
     ensures { λ r. ⌜ (r ≡ pushed g) × (now (output .exit) ≡ set (now (output .entry)) (g .count) id) ⌝ }
 {
@@ -53,7 +53,7 @@ fn push_id(g: Growing, output: &mut [u32], id: u32) -> Growing
 }
 
 // Adds a kept id, which is above the others.
-pub fn add_row_sorted(g: Growing, output: &mut [u32], id: u32) -> Growing
+pub fn add_row_sorted(g: RetainBuilder, output: &mut [u32], id: u32) -> RetainBuilder
     requires { ⌜ CanAdd (now output) g id ⌝ }
     ensures { λ r. ⌜ Adds (now (output .entry)) g id r (now (output .exit)) ⌝ }
 {
@@ -75,9 +75,9 @@ pub fn add_row_sorted(g: Growing, output: &mut [u32], id: u32) -> Growing
 }
 
 // The answer, once all kept ids are added.
-pub fn grown(g: Growing) -> SubsetAnswer
+pub fn finish_retain(g: RetainBuilder) -> SubsetAnswer
     requires { ⌜ (g .written ≡ 0 → g .start + g .count < 4294967296) ⌝ }
-    ensures { λ r. ⌜ GrowthEnds g r ⌝ }
+    ensures { λ r. ⌜ BuilderEnds g r ⌝ }
 {
     if g.written == 0 {
         return SubsetAnswer::Range(g.start, g.start + g.count);

@@ -6,9 +6,9 @@ use mathlib.Core.List.{List}
 use native.Mathlib.Decide.{decLt}
 use native.Mathlib.Omega.{arith}
 use lib.ListN.{length, getD}
-use Rattle.lists.specs.Lists.{rising, has}
+use Rattle.lists.specs.Lists.{rising, elem}
 use Rattle.lists.specs.inner.Searching.{firstNotBelow}
-use Rattle.lists.specs.Laws.Search.{notBelow-le, notBelow-past, notBelow-upto, notBelow-at, has-notBelow, has-not-notBelow}
+use Rattle.lists.specs.Laws.Search.{notBelow-le, notBelow-past, notBelow-upto, notBelow-at, elem-notBelow, elem-not-notBelow}
 use Rattle.offsets_search.specs.declared.Scan.{Scan}
 use Rattle.offsets_search.specs.declared.Scan.the-variants.{Hit, Next}
 use Rattle.offsets_search.specs.Laws.Strides.{stride-bound}
@@ -115,12 +115,12 @@ module _ (ids : List ℕ) (target low left step : ℕ) (s : Strides ids target l
 
 scan-hit : (ids : List ℕ) (target p : ℕ) → rising ids ≡ true → p < length ids → getD ids p 0 ≡ target → Hit p ≡ scan target ids
 unfolding scan
-scan-hit ids target p e h k = rw (has-notBelow target ids p h k) (ap Hit (sym (notBelow-at target ids e p h k)))
+scan-hit ids target p e h k = rw (elem-notBelow target ids p h k) (ap Hit (sym (notBelow-at target ids e p h k)))
 
 scan-miss : (ids : List ℕ) (target p : ℕ) → rising ids ≡ true → p ≡ firstNotBelow target ids → (p < length ids → getD ids p 0 ≡ target → ⊥) → Next p ≡ scan target ids
 unfolding scan
 scan-miss ids target p e q f =
-    let n : has target ids ≡ false = has-not-notBelow target ids e (rw q at f) in
+    let n : elem target ids ≡ false = elem-not-notBelow target ids e (rw q at f) in
     rw n (ap Next q)
 
 pub at-end : (ids : List ℕ) (at target : ℕ) → at ≤ length ids → length ids ≤ at → ScannedAt ids at target (Next at)

@@ -29,22 +29,22 @@ unfoldable pub mergeAppends : Plain → List (List ℕ)
 mergeAppends p = insertsAppend (inserts (p .staged)) (removed p)
 
 -- a number of a merge, computed from the plain table before it; 0 for any other call
-unfoldable pub ofMerge : (Plain → ℕ) → Plain → Call → ℕ
-ofMerge number p (staging r) = 0
-ofMerge number p merging = number p
-ofMerge number p compacting = 0
-ofMerge number p clearing = 0
-ofMerge number p (refreshing r index) = 0
-ofMerge number p (feeding rs) = 0
+unfoldable pub mergeCount : (Plain → ℕ) → Plain → Call → ℕ
+mergeCount number p (staging r) = 0
+mergeCount number p merging = number p
+mergeCount number p compacting = 0
+mergeCount number p clearing = 0
+mergeCount number p (refreshing r index) = 0
+mergeCount number p (feeding rs) = 0
 
 -- the same with the lengths of the stores; 0 too if the call is refused
-unfoldable pub ofAccepted : (Plain → ℕ) → Plain → LentCall → ℕ
-ofAccepted number p c = cond (eqb (refusal p (c .lengths) (c .call)) 0) (ofMerge number p (c .call)) 0
+unfoldable pub acceptedMergeCount : (Plain → ℕ) → Plain → LentCall → ℕ
+acceptedMergeCount number p c = cond (eqb (refusal p (c .lengths) (c .call)) 0) (mergeCount number p (c .call)) 0
 
 -- (change 9) the sum of such numbers over the calls
-unfoldable pub overMerges : (Plain → ℕ) → Plain → List LentCall → ℕ
-overMerges number p [] = 0
-overMerges number p (c ∷ cs) = ofAccepted number p c + overMerges number (after p (c .lengths) (c .call)) cs
+unfoldable pub sumOverMerges : (Plain → ℕ) → Plain → List LentCall → ℕ
+sumOverMerges number p [] = 0
+sumOverMerges number p (c ∷ cs) = acceptedMergeCount number p c + sumOverMerges number (after p (c .lengths) (c .call)) cs
 
 -- "The rows appended are taken from the definition of each merge's steps": their number
 abbrev pub mergeAdds : Plain → ℕ

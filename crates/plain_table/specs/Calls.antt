@@ -6,11 +6,11 @@ use mathlib.Core.List.{List, [], _∷_, _++_}
 use lib.Dec.{ltb, eqb}
 use lib.ListN.{length}
 use Rattle.lists.specs.Lists.{any}
-use Rattle.refusals.specs.Refusals.{rung, first}
+use Rattle.refusals.specs.Refusals.{check, firstRefusal}
 use Rattle.plain_table.specs.Staged.{Staged, wordsAll}
 use Rattle.plain_table.specs.Plain.{Plain, with, stage, merged, compacted, cleared}
-use Rattle.plain_table.specs.Refusing.{Lengths, wrongWidth, stageLadder, mergeLadder, compactLadder, clearLadder}
-use Rattle.plain_table.specs.Refreshing.{Refresh, mentioning, refreshed, refreshLadder}
+use Rattle.plain_table.specs.Refusing.{Lengths, wrongWidth, stageChecks, mergeChecks, compactChecks, clearChecks}
+use Rattle.plain_table.specs.Refreshing.{Refresh, mentioning, refreshed, refreshChecks}
 
 pub data Call : Type 0 where
   staging : Staged → Call
@@ -37,13 +37,13 @@ stageAll p rs = with p (p .generation) (p .rows) (p .staged ++ rs) (p .largest)
 -- The number of the first refusal that applies, 0 if none. On a table that was opened, test 1 is only "pending words used above the
 -- pending store".
 unfoldable pub refusal : Plain → Lengths → Call → ℕ
-refusal p l (staging r) = stageLadder (ltb (l .pending) (used p)) (p .opening) (length (p .rows)) (used p) (l .pending) r
-refusal p l merging = mergeLadder (ltb (l .pending) (used p)) (p .opening) l
-refusal p l compacting = compactLadder false (p .opening) (p .generation) l
-refusal p l clearing = clearLadder false (p .opening) (p .generation) (length (p .rows)) (l .keys)
+refusal p l (staging r) = stageChecks (ltb (l .pending) (used p)) (p .opening) (length (p .rows)) (used p) (l .pending) r
+refusal p l merging = mergeChecks (ltb (l .pending) (used p)) (p .opening) l
+refusal p l compacting = compactChecks false (p .opening) (p .generation) l
+refusal p l clearing = clearChecks false (p .opening) (p .generation) (length (p .rows)) (l .keys)
 refusal p l (refreshing r index) =
-    refreshLadder (ltb (l .pending) (used p)) (p .opening) (p .largest) r (l .rows) index (used p) (l .pending) (wordsAll (p .opening) (recordsOf p r))
-refusal p l (feeding rs) = first (rung (any (wrongWidth (p .opening)) rs) 3 ∷ [])
+    refreshChecks (ltb (l .pending) (used p)) (p .opening) (p .largest) r (l .rows) index (used p) (l .pending) (wordsAll (p .opening) (recordsOf p r))
+refusal p l (feeding rs) = firstRefusal (check (any (wrongWidth (p .opening)) rs) 3 ∷ [])
 
 -- the table after an accepted call
 unfoldable pub done : Plain → Call → Plain

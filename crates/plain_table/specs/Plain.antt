@@ -5,10 +5,10 @@ use mathlib.Core.List.{List, [], _∷_, _++_, map, foldl}
 use mathlib.Core.Option.{Option, none, some}
 use lib.ListN.{length, take, getD}
 use lib.Dec.{leb, ltb, eqb}
-use Rattle.lists.specs.Lists.{keep, count, firstOf}
-use Rattle.refusals.specs.Refusals.{rung, first, Reply, refused, accepted, reply}
+use Rattle.lists.specs.Lists.{filter, count, find}
+use Rattle.refusals.specs.Refusals.{check, firstRefusal, Reply, refused, accepted, reply}
 use Rattle.merge_rules.specs.Rules.{ruled}
-use Rattle.plain_table.specs.Staged.{Opening, Staged, insert, removeKey, removeRow, inserts, hasKey, skipped, due}
+use Rattle.plain_table.specs.Staged.{Opening, Staged, insert, removeKey, removeRow, inserts, hasKey, skipped, compactionDue}
 
 -- "rows live or dead": "dead rows keep their cells until compaction drops them"
 pub record Row : Type 0 where
@@ -50,7 +50,7 @@ liveRows p = liveFrom 0 (p .rows)
 
 -- "a key .. its one live row", if there is one
 unfoldable pub lookup : Plain → List ℕ → Option Numbered
-lookup p key = firstOf (λ row. hasKey (p .opening .keys) key (row .cells)) (liveRows p)
+lookup p key = find (λ row. hasKey (p .opening .keys) key (row .cells)) (liveRows p)
 
 unfoldable pub live : Plain → ℕ
 live p = count (λ row. row .live) (p .rows)
@@ -106,9 +106,9 @@ below value (some largest) = ltb value largest
 -- "8, row count equals capacity, tested before 9", which (change 7) "is now given for a sort value below that kept value"
 unfoldable pub stop : List ℕ → Plain → ℕ
 stop cells p =
-    first
-    (rung (leb (p .opening .capacity) (length (p .rows))) 8
-    ∷ rung (below (getD cells (p .opening .sort) 0) (p .largest)) 9
+    firstRefusal
+    (check (leb (p .opening .capacity) (length (p .rows))) 8
+    ∷ check (below (getD cells (p .opening .sort) 0) (p .largest)) 9
     ∷ [])
 
 -- the largest value after this one is appended
@@ -129,16 +129,16 @@ unfoldable pub append : List ℕ → Plain → List Row → Reply (Option Plain)
 append cells p rows = reply (stop cells p) (some (withRow p rows cells))
 
 -- "A new key is appended. A known key goes through the rule; a row so made is appended and the old row dies"
-unfoldable pub put : List ℕ → Option Numbered → Plain → Reply (Option Plain)
-put cells none p = append cells p (p .rows)
-put cells (some old) p =
+unfoldable pub upsert : List ℕ → Option Numbered → Plain → Reply (Option Plain)
+upsert cells none p = append cells p (p .rows)
+upsert cells (some old) p =
     elim (ruled (p .opening .rule) (p .opening .keys) (p .opening .sort) (old .cells) cells) [
       | none ↦ accepted none
       | some row ↦ append row p (killIf (liveWithKey (p .opening .keys) (take (p .opening .keys) cells)) (p .rows))
     ]
 
 unfoldable pub insertion : List ℕ → Plain → Reply (Option Plain)
-insertion cells p = cond (skipped cells) (accepted none) (put cells (lookup p (take (p .opening .keys) cells)) p)
+insertion cells p = cond (skipped cells) (accepted none) (upsert cells (lookup p (take (p .opening .keys) cells)) p)
 
 -- the result of a merge's inserts: the table, the stop's number and place ("both 0 if not stopped"), and "*added*: a row was
 -- appended"
@@ -152,15 +152,15 @@ abbrev pub inserted : Plain → ℕ → ℕ → Bool → Inserted
 inserted p status place added = record { table = p; status = status; place = place; added = added }
 
 -- continues with the remaining inserts, or stops the merge at this place
-abbrev pub goOn : Reply (Option Plain) → ℕ → Bool → Plain → (Bool → Plain → Inserted) → Inserted
-goOn (refused number) place added p rest = inserted p number place added
-goOn (accepted none) place added p rest = rest added p
-goOn (accepted (some p′)) place added p rest = rest true p′
+abbrev pub continueInserts : Reply (Option Plain) → ℕ → Bool → Plain → (Bool → Plain → Inserted) → Inserted
+continueInserts (refused number) place added p rest = inserted p number place added
+continueInserts (accepted none) place added p rest = rest added p
+continueInserts (accepted (some p′)) place added p rest = rest true p′
 
 -- the inserts from this place on, counted "among all staged inserts from 0", until one must be appended and cannot be
 unfoldable pub insertAll : List (List ℕ) → ℕ → Bool → Plain → Inserted
 insertAll [] place added p = inserted p 0 0 added
-insertAll (cells ∷ rest) place added p = goOn (insertion cells p) place added p (insertAll rest (suc place))
+insertAll (cells ∷ rest) place added p = continueInserts (insertion cells p) place added p (insertAll rest (suc place))
 
 -- ".. then inserts"
 unfoldable pub applied : Plain → Inserted
@@ -168,14 +168,14 @@ applied p = insertAll (inserts (p .staged)) 0 false (removed p)
 
 -- Compaction: "drops them and the others close up in order", "the generation rises by one"
 unfoldable pub compacted : Plain → Plain
-compacted p = with p (p .generation + 1) (keep (λ row. row .live) (p .rows)) (p .staged) (p .largest)
+compacted p = with p (p .generation + 1) (filter (λ row. row .live) (p .rows)) (p .staged) (p .largest)
 
 unfoldable pub unstaged : Plain → Plain
 unstaged p = with p (p .generation) (p .rows) [] (p .largest)
 
 -- whether a merge compacts if its inserts have this status and leave this table: if it stopped, "no compaction follows"
 unfoldable pub compactsAfter : ℕ → Plain → Bool
-compactsAfter status p = eqb status 0 && due (dead p) (length (p .rows)) (p .generation)
+compactsAfter status p = eqb status 0 && compactionDue (dead p) (length (p .rows)) (p .generation)
 
 -- the result of a merge: stopped or not, "pending is emptied"
 unfoldable pub merged : Plain → Inserted

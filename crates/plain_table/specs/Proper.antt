@@ -6,7 +6,7 @@ use mathlib.Core.List.{[]}
 use mathlib.Core.Option.{Option, none, some}
 use lib.ListN.{length, take, getD}
 use lib.Dec.{leb, eqb}
-use Rattle.lists.specs.Lists.{every}
+use Rattle.lists.specs.Lists.{all}
 use Rattle.cells.specs.Cells.{isDead}
 use Rattle.plain_table.specs.Staged.{openable}
 use Rattle.plain_table.specs.Refusing.{wrongWidth}
@@ -28,14 +28,14 @@ pub record Proper (p : Plain) : Type 0 where
   pub numbers : openable (p .opening) ≡ true
   pub generation-fits : p .generation ≤ 4294967295
   pub rows-fit : length (p .rows) ≤ p .opening .capacity
-  pub widths : every (λ row. eqb (length (row .cells)) (p .opening .columns)) (p .rows) ≡ true
+  pub widths : all (λ row. eqb (length (row .cells)) (p .opening .columns)) (p .rows) ≡ true
   -- the first cell of a live row is not the dead mark
-  pub live-first : every (λ row. not (row .live) || not (isDead (getD (row .cells) 0 0))) (p .rows) ≡ true
+  pub live-first : all (λ row. not (row .live) || not (isDead (getD (row .cells) 0 0))) (p .rows) ≡ true
   -- live rows have different keys
   pub keys-differ : (i j : ℕ) → rowOf p i .live ≡ true → rowOf p j .live ≡ true
       → take (p .opening .keys) (rowOf p i .cells) ≡ take (p .opening .keys) (rowOf p j .cells) → i ≡ j
   -- sort cells never fall, those of dead rows included
   pub sorted : (i j : ℕ) → i ≤ j → j < length (p .rows) → sortCell p (rowOf p i) ≤ sortCell p (rowOf p j)
   -- no sort cell exceeds the largest value appended, and there is one wherever there are rows
-  pub largest-kept : every (λ row. atMost (sortCell p row) (p .largest)) (p .rows) ≡ true
-  pub staged-whole : every (λ r. not (wrongWidth (p .opening) r)) (p .staged) ≡ true
+  pub largest-kept : all (λ row. atMost (sortCell p row) (p .largest)) (p .rows) ≡ true
+  pub staged-whole : all (λ r. not (wrongWidth (p .opening) r)) (p .staged) ≡ true

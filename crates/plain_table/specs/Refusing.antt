@@ -7,7 +7,7 @@ use mathlib.Core.Bool.{Bool, false, not, _&&_, _||_}
 use mathlib.Core.List.{[], _∷_}
 use lib.ListN.{length}
 use lib.Dec.{leb, ltb, eqb}
-use Rattle.refusals.specs.Refusals.{rung, first}
+use Rattle.refusals.specs.Refusals.{check, firstRefusal}
 use Rattle.plain_table.specs.Staged.{Opening, openable, Staged, insert, removeKey, removeRow, wordsOf}
 
 -- the lengths of the stores that a call is lent
@@ -46,28 +46,28 @@ overfull used pending words = ltb pending (used + words) || ltb 4294967295 (used
 
 -- *Open*: 1, 2
 unfoldable pub openRefusal : Opening → Lengths → ℕ
-openRefusal o l = first (rung (not (openable o)) 1 ∷ rung (storesShort o l) 2 ∷ [])
+openRefusal o l = firstRefusal (check (not (openable o)) 1 ∷ check (storesShort o l) 2 ∷ [])
 
 -- *Stage*: 1, 3, 5, 7
-unfoldable pub stageLadder : Bool → Opening → ℕ → ℕ → ℕ → Staged → ℕ
-stageLadder outside o count used pending r =
-    first
-    (rung outside 1
-    ∷ rung (wrongWidth o r) 3
-    ∷ rung (noSuchRow count r) 5
-    ∷ rung (overfull used pending (wordsOf o r)) 7
+unfoldable pub stageChecks : Bool → Opening → ℕ → ℕ → ℕ → Staged → ℕ
+stageChecks outside o count used pending r =
+    firstRefusal
+    (check outside 1
+    ∷ check (wrongWidth o r) 3
+    ∷ check (noSuchRow count r) 5
+    ∷ check (overfull used pending (wordsOf o r)) 7
     ∷ [])
 
 -- *Merge*: 1, 2
-unfoldable pub mergeLadder : Bool → Opening → Lengths → ℕ
-mergeLadder outside o l = first (rung outside 1 ∷ rung (storesShort o l || wordsShort o l) 2 ∷ [])
+unfoldable pub mergeChecks : Bool → Opening → Lengths → ℕ
+mergeChecks outside o l = firstRefusal (check outside 1 ∷ check (storesShort o l || wordsShort o l) 2 ∷ [])
 
 -- *Compact*: 1, 2, 10
-unfoldable pub compactLadder : Bool → Opening → ℕ → Lengths → ℕ
-compactLadder outside o generation l =
-    first (rung outside 1 ∷ rung (storesShort o l || wordsShort o l) 2 ∷ rung (eqb generation 4294967295) 10 ∷ [])
+unfoldable pub compactChecks : Bool → Opening → ℕ → Lengths → ℕ
+compactChecks outside o generation l =
+    firstRefusal (check outside 1 ∷ check (storesShort o l || wordsShort o l) 2 ∷ check (eqb generation 4294967295) 10 ∷ [])
 
 -- *Clear*: 1, 2, 10 "only if there are rows"
-unfoldable pub clearLadder : Bool → Opening → ℕ → ℕ → ℕ → ℕ
-clearLadder outside o generation rows keys =
-    first (rung outside 1 ∷ rung (ltb keys (2 * o .capacity)) 2 ∷ rung (eqb generation 4294967295 && ltb 0 rows) 10 ∷ [])
+unfoldable pub clearChecks : Bool → Opening → ℕ → ℕ → ℕ → ℕ
+clearChecks outside o generation rows keys =
+    firstRefusal (check outside 1 ∷ check (ltb keys (2 * o .capacity)) 2 ∷ check (eqb generation 4294967295 && ltb 0 rows) 10 ∷ [])

@@ -60,5 +60,5 @@ unfoldable pub skipped : List ℕ → Bool
 skipped cells = isDead (getD cells 0 0)
 
 -- "if dead rows outnumber the larger of 16 and half the row count (rounded down)", and not at the last generation
-unfoldable pub due : ℕ → ℕ → ℕ → Bool
-due dead rows generation = ltb (max 16 (rows / 2)) dead && not (eqb generation 4294967295)
+unfoldable pub compactionDue : ℕ → ℕ → ℕ → Bool
+compactionDue dead rows generation = ltb (max 16 (rows / 2)) dead && not (eqb generation 4294967295)

@@ -1,2 +1,2 @@
-pub mod Ladder
+pub mod Checks
 pub mod Steps

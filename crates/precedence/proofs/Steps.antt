@@ -12,16 +12,16 @@ use lib.Dec.{leb}
 use lib.ListN.{length, take, drop, getD, set, length-set, drop-of-length-le}
 use lib.Seq.{length-take-le, drop-cons, take-set-lt}
 use borrow.Author.Tests.{eq-eqb, ne-eqb}
-use Rattle.lists.specs.Lists.{putAt, rowAt}
-use Rattle.lists.specs.Laws.Keep.{split}
-use Rattle.lists.specs.Laws.Parts.{length-putAt}
+use Rattle.lists.specs.Lists.{splice, rowAt}
+use Rattle.lists.specs.Laws.Filter.{split}
+use Rattle.lists.specs.Laws.Parts.{length-splice}
 use Rattle.lists.specs.Laws.Rising.{same-refl, same-eq}
 use Rattle.lists.specs.Laws.Rows.{row-in, length-rowAt, getD-rowAt}
 use Rattle.lists.specs.Laws.Search.{take-put}
-use Rattle.cells.specs.Cells.{isDead, compact, keyHash}
+use Rattle.cells.specs.Cells.{isDead, compactHash, keyHash}
 use Rattle.constraints.specs.Constraints.{isLive}
 use Rattle.row_buffer.specs.Laws.Rows.{key-row}
-use Rattle.key_index.specs.declared.Keyed.{Keyed}
+use Rattle.key_index.specs.declared.IndexShape.{IndexShape}
 use Rattle.key_index.specs.declared.Found.{Found}
 use Rattle.key_index.specs.declared.Found.the-variants.{None, At}
 use Rattle.key_index.specs.Slots.{LiveAt, keyAt}
@@ -32,9 +32,9 @@ use Rattle.plain_table.specs.Laws.Rows.{noRow, live-below}
 use Rattle.table.specs.declared.Header.{Header}
 use Rattle.table.specs.Numbers.{openingOf}
 use Rattle.table.specs.Stores.{rowsIn}
-use Rattle.table.specs.Sound.{keyedOf, KeysDiffer}
-use Rattle.table.specs.Promises.{ofRows}
-use Rattle.table.specs.Laws.Live.{told, length-rowsIn, getD-rowsIn}
+use Rattle.table.specs.Sound.{indexShapeOf, KeysDiffer}
+use Rattle.table.specs.Contracts.{ofRows}
+use Rattle.table.specs.Laws.Live.{rowOfCells, length-rowsIn, getD-rowsIn}
 use Rattle.precedence.specs.Precedence.{Pair, pairsOf, precedes, meetsPair, firstFailing, failingPair, Failure, failureAmong, precedenceFailure}
 use Rattle.precedence.specs.inner.Checking.{Tested, filedBy, OnTable, rowFiled, rowMeets, rowFailing, PlaceIs}
 use Rattle.precedence.specs.Laws.Scan.{anyLive, any-live, none-live, any-same, key-replaced, length-pairsOf, getD-pairsOf, fails-here, fails-later, failure-here, failure-later, failure-dead}
@@ -42,7 +42,7 @@ use Rattle.precedence.specs.Laws.Scan.{anyLive, any-live, none-live, any
 -- ---- rows in their store
 
 -- a row is within the store, at places that fit into a u32
-pub record RowLies (h : Header) (rows : List ℕ) (row : ℕ) : Type 0 where
+pub record RowInStore (h : Header) (rows : List ℕ) (row : ℕ) : Type 0 where
   pub inside : row * h .columns + h .columns ≤ length rows
   pub few : row * h .columns + h .columns ≤ 524288
   pub key-narrow : h .keys ≤ h .columns
@@ -51,10 +51,10 @@ pub record RowLies (h : Header) (rows : List ℕ) (row : ℕ) : Type 0 where
   pub some-columns : 1 ≤ h .columns
 
 module _ (h : Header) (rows keys : List ℕ) (t : Tested h rows keys) where
-  pub row-lies : (row : ℕ) → row < h .rows → RowLies h rows row
-  row-lies row below =
+  pub row-in-store : (row : ℕ) → row < h .rows → RowInStore h rows row
+  row-in-store row below =
       let f = t .fits in
-      let room = keyedOf h .room in
+      let room = indexShapeOf h .room in
       let a = row-in row room (h .columns) (omega (arith, f .count)) in
       let b = mul-le-mul (f .most) (f .most-columns) in
       record {
@@ -67,15 +67,15 @@ module _ (h : Header) (rows keys : List ℕ) (t : Tested h rows keys) where
       }
 
   wide-row : (row : ℕ) → row < h .rows → length (rowAt (h .columns) row rows) ≡ h .columns
-  wide-row row below = length-rowAt (h .columns) row rows (rw (add-one row, suc-mul) (omega (arith, row-lies row below)))
+  wide-row row below = length-rowAt (h .columns) row rows (rw (add-one row, suc-mul) (omega (arith, row-in-store row below)))
 
 module _ (h : Header) (rows : List ℕ) where
-  live-there : (i : ℕ) → getD (rowsIn h rows) i noRow .live ≡ true → LiveAt (keyedOf h) rows i
+  live-there : (i : ℕ) → getD (rowsIn h rows) i noRow .live ≡ true → LiveAt (indexShapeOf h) rows i
   live-there i e =
       let k : i < h .rows = omega (arith, live-below (rowsIn h rows) i e, length-rowsIn h rows) in
       (k, rw (getD-rowsIn h rows i k) at e)
 
-  there-live : (i : ℕ) → LiveAt (keyedOf h) rows i → getD (rowsIn h rows) i noRow .live ≡ true
+  there-live : (i : ℕ) → LiveAt (indexShapeOf h) rows i → getD (rowsIn h rows) i noRow .live ≡ true
   there-live i l = rw (getD-rowsIn h rows i (l .0)) (l .1)
 
   cells-there : (i : ℕ) → i < h .rows → getD (rowsIn h rows) i noRow .cells ≡ rowAt (h .columns) i rows
@@ -91,7 +91,7 @@ module _ (h : Header) (rows key : List ℕ) (latest : ℕ) where
   unfolding filedBy liveRows
   filed-scan = refl
 
-  not-filed : ((i : ℕ) → LiveAt (keyedOf h) rows i → keyAt (keyedOf h) rows i ≡ key → ⊥) → false ≡ filedBy h rows key latest
+  not-filed : ((i : ℕ) → LiveAt (indexShapeOf h) rows i → keyAt (indexShapeOf h) rows i ≡ key → ⊥) → false ≡ filedBy h rows key latest
   unfolding hasKey
   not-filed f =
       sym (filed-scan ∙ none-live filed 0 (rowsIn h rows) (λ i e.
@@ -99,7 +99,7 @@ module _ (h : Header) (rows key : List ℕ) (latest : ℕ) where
       rw (cells-there h rows i (l .0)) (elim (split (hasKey (h .keys) key (rowAt (h .columns) i rows))) [ inl q ↦ absurd (f i l (same-eq _ _ q)) | inr q ↦ rw q ])))
 
   -- by the key's one live row
-  filed-at : KeysDiffer h rows → (row : ℕ) → LiveAt (keyedOf h) rows row → keyAt (keyedOf h) rows row ≡ key
+  filed-at : KeysDiffer h rows → (row : ℕ) → LiveAt (indexShapeOf h) rows row → keyAt (indexShapeOf h) rows row ≡ key
       → leb (getD (rowAt (h .columns) row rows) (h .sort) 0) latest ≡ filedBy h rows key latest
   unfolding hasKey
   filed-at differ row l e =
@@ -113,14 +113,14 @@ module _ (h : Header) (rows key : List ℕ) (latest : ℕ) where
             ])))
       ]
 
-module _ (h : Header) (rows keys key : List ℕ) (t : Keyed) (hash : ℕ) (found : Found) (e : t ≡ keyedOf h) (f : FoundIs t rows keys key hash found) where
-  found-is : FoundIs (keyedOf h) rows keys key hash found
+module _ (h : Header) (rows keys key : List ℕ) (t : IndexShape) (hash : ℕ) (found : Found) (e : t ≡ indexShapeOf h) (f : FoundIs t rows keys key hash found) where
+  found-is : FoundIs (indexShapeOf h) rows keys key hash found
   found-is = rw e at f
 
-  pub found-lies : Tested h rows keys → (row slot : ℕ) → found ≡ At row slot → RowLies h rows row
-  found-lies tested row slot q = row-lies h rows keys tested row (found-is .row-in row slot q)
+  pub found-in-store : Tested h rows keys → (row slot : ℕ) → found ≡ At row slot → RowInStore h rows row
+  found-in-store tested row slot q = row-in-store h rows keys tested row (found-is .row-in row slot q)
 
-  module _ (hashed : hash ≡ compact (keyHash key)) (latest : ℕ) where
+  module _ (hashed : hash ≡ compactHash (keyHash key)) (latest : ℕ) where
     pub found-none : found ≡ None → OnTable h rows keys (false ≡ filedBy h rows key latest)
     found-none q sound differ = not-filed h rows key latest (found-is .none hashed sound q)
 
@@ -130,8 +130,8 @@ module _ (h : Header) (rows keys key : List ℕ) (t : Keyed) (hash : ℕ) (found
         let a = found-is .at hashed sound row slot q in
         rw (← getD-rowAt (h .columns) row rows (h .sort) 0 (tested .sort-there)) (filed-at h rows key latest differ row (a .live) (a .key-is))
 
-pub asks : (h : Header) (rows keys key : List ℕ) (t : Keyed) → t ≡ keyedOf h → Tested h rows keys → length key ≡ h .keys → Fits t rows keys × (length key ≡ t .keys)
-asks h rows keys key t e tested width = rw e (tested .fits, width)
+pub lookup-pre : (h : Header) (rows keys key : List ℕ) (t : IndexShape) → t ≡ indexShapeOf h → Tested h rows keys → length key ≡ h .keys → Fits t rows keys × (length key ≡ t .keys)
+lookup-pre h rows keys key t e tested width = rw e (tested .fits, width)
 
 -- ---- `is_row_filed`
 
@@ -141,8 +141,8 @@ module _ (h : Header) (rows keys : List ℕ) (t : Tested h rows keys) (column ro
   keyWith = set (take (h .keys) (rowAt (h .columns) row rows)) column value
 
   -- as it is made in an array
-  module _ (array written : List ℕ) (w : written ≡ putAt array 0 (take (row * h .columns + h .keys - row * h .columns) (drop (row * h .columns) rows))) where
-    made : written ≡ putAt array 0 (take (h .keys) (rowAt (h .columns) row rows))
+  module _ (array written : List ℕ) (w : written ≡ splice array 0 (take (row * h .columns + h .keys - row * h .columns) (drop (row * h .columns) rows))) where
+    made : written ≡ splice array 0 (take (h .keys) (rowAt (h .columns) row rows))
     made =
         let e : row * h .columns + h .keys - row * h .columns ≡ h .keys = omega arith in
         w ∙ rw (e, key-row (h .columns) row (h .keys) rows (t .fits .most-keys))
@@ -152,16 +152,16 @@ module _ (h : Header) (rows keys : List ℕ) (t : Tested h rows keys) (column ro
 
     pub key-fits : length array ≡ 8 → h .keys ≤ length (set written column value)
     key-fits long =
-        let l = length-putAt array (take (h .keys) (rowAt (h .columns) row rows)) 0 (omega (arith, key-width, row-lies h rows keys t row below)) in
-        omega (arith, length-set written column value, ap length made, row-lies h rows keys t row below)
+        let l = length-splice array (take (h .keys) (rowAt (h .columns) row rows)) 0 (omega (arith, key-width, row-in-store h rows keys t row below)) in
+        omega (arith, length-set written column value, ap length made, row-in-store h rows keys t row below)
 
     pub key-made : take (h .keys - 0) (set written column value) ≡ keyWith
     key-made =
         let key = take (h .keys) (rowAt (h .columns) row rows) in
         let e : h .keys - 0 ≡ h .keys = omega arith in
         rw (e, made)
-        (take-set-lt (h .keys) (putAt array 0 key) column value k
-        ∙ ap (λ (l : List ℕ). set l column value) (ap (λ (n : ℕ). take n (putAt array 0 key)) (sym key-width) ∙ take-put array key))
+        (take-set-lt (h .keys) (splice array 0 key) column value k
+        ∙ ap (λ (l : List ℕ). set l column value) (ap (λ (n : ℕ). take n (splice array 0 key)) (sym key-width) ∙ take-put array key))
 
   pub filed-row : (r : Bool) (key : List ℕ) (latest : ℕ) → key ≡ keyWith → latest ≡ getD rows (row * h .columns + h .sort) 0
       → OnTable h rows keys (r ≡ filedBy h rows key latest) → OnTable h rows keys (r ≡ rowFiled h rows column row value)
@@ -255,7 +255,7 @@ module _ (h : Header) (rows : List ℕ) (column : ℕ) (pairs : List ℕ) where
   rows-begin = refl
 
   module _ (row : ℕ) (k : row < h .rows) where
-    next-row : drop row (rowsIn h rows) ≡ told (rowAt (h .columns) row rows) ∷ drop (suc row) (rowsIn h rows)
+    next-row : drop row (rowsIn h rows) ≡ rowOfCells (rowAt (h .columns) row rows) ∷ drop (suc row) (rowsIn h rows)
     next-row =
         drop-cons (rowsIn h rows) row noRow (omega (arith, length-rowsIn h rows)) ∙ ap (λ (x : Row). x ∷ drop (suc row) (rowsIn h rows)) (getD-rowsIn h rows row k)
 
@@ -273,15 +273,15 @@ module _ (h : Header) (rows : List ℕ) (column : ℕ) (pairs : List ℕ) where
     unfolding fromRow
     row-fails place e =
         let f = failing-live place e in
-        rw next-row (failure-here (ofRows h rows) column (pairsOf pairs) row (told (rowAt (h .columns) row rows)) (drop (suc row) (rowsIn h rows)) place (f .0) (f .1))
+        rw next-row (failure-here (ofRows h rows) column (pairsOf pairs) row (rowOfCells (rowAt (h .columns) row rows)) (drop (suc row) (rowsIn h rows)) place (f .0) (f .1))
 
     pub row-meets : rowFailing h rows column pairs row ≡ none → fromRow row ≡ fromRow (row + 1)
     unfolding fromRow rowFailing
     row-meets e =
         rw (next-row, add-one row)
         (elim (split (isLive (rowAt (h .columns) row rows))) [
-          | inl l ↦ failure-later (ofRows h rows) column (pairsOf pairs) row (told (rowAt (h .columns) row rows)) (drop (suc row) (rowsIn h rows)) l (rw l at e)
-          | inr l ↦ failure-dead (ofRows h rows) column (pairsOf pairs) row (told (rowAt (h .columns) row rows)) (drop (suc row) (rowsIn h rows)) l
+          | inl l ↦ failure-later (ofRows h rows) column (pairsOf pairs) row (rowOfCells (rowAt (h .columns) row rows)) (drop (suc row) (rowsIn h rows)) l (rw l at e)
+          | inr l ↦ failure-dead (ofRows h rows) column (pairsOf pairs) row (rowOfCells (rowAt (h .columns) row rows)) (drop (suc row) (rowsIn h rows)) l
         ])
 
   pub rows-end : (row : ℕ) → h .rows ≤ row → fromRow row ≡ none

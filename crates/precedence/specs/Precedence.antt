@@ -8,14 +8,14 @@ use mathlib.Core.Option.{Option, none, some}
 use lib.ListN.{length, take, drop, getD}
 use lib.Dec.{leb, ltb, eqb}
 use Rattle.lists.specs.Lists.{any, same}
-use Rattle.refusals.specs.Refusals.{rung, first, Reply, refused, accepted, reply, verdict}
+use Rattle.refusals.specs.Refusals.{check, firstRefusal, Reply, refused, accepted, reply, outcome}
 use Rattle.key_index.specs.Slots.{KeysSound}
 use Rattle.plain_table.specs.Staged.{Opening}
 use Rattle.plain_table.specs.Plain.{Plain, Numbered, liveRows}
 use Rattle.table.specs.declared.Header.{Header}
 use Rattle.table.specs.Refusing.{outside, rowsShort, pairsShort}
-use Rattle.table.specs.Sound.{keyedOf, KeysDiffer}
-use Rattle.table.specs.Promises.{ofRows}
+use Rattle.table.specs.Sound.{indexShapeOf, KeysDiffer}
+use Rattle.table.specs.Contracts.{ofRows}
 use Rattle.precedence.specs.declared.PrecedenceAnswer.{PrecedenceAnswer}
 use Rattle.precedence.specs.declared.PrecedenceAnswer.the-variants.{Refused, Met, Fails}
 
@@ -82,22 +82,22 @@ precedenceFailure p column pairs = failureAmong p column pairs (liveRows p)
 -- store and the key store (`pairsShort`: two words for each row of the capacity). An odd number of words is no number of pairs
 unfoldable pub precedenceRefusal : Header → ℕ → ℕ → ℕ → ℕ → ℕ
 precedenceRefusal h rows keys column words =
-    first
-    (rung (outside h) 1
-    ∷ rung (rowsShort h rows || pairsShort h keys) 2
-    ∷ rung (leb (h .keys) column) 6
-    ∷ rung (not (eqb (words % 2) 0) || ltb (words / 2) 1 || ltb 16 (words / 2)) 14
+    firstRefusal
+    (check (outside h) 1
+    ∷ check (rowsShort h rows || pairsShort h keys) 2
+    ∷ check (leb (h .keys) column) 6
+    ∷ check (not (eqb (words % 2) 0) || ltb (words / 2) 1 || ltb 16 (words / 2)) 14
     ∷ [])
 
 -- the answer as a reply
-unfoldable pub precedenceSays : PrecedenceAnswer → Reply (Option Failure)
-precedenceSays (Refused n) = refused n
-precedenceSays Met = accepted none
-precedenceSays (Fails row place) = accepted (some (record { row = row; place = place }))
+unfoldable pub precedenceView : PrecedenceAnswer → Reply (Option Failure)
+precedenceView (Refused n) = refused n
+precedenceView Met = accepted none
+precedenceView (Fails row place) = accepted (some (record { row = row; place = place }))
 
 -- Contract of the check. It uses the lent rows and keys only, and its answer is that for a plain table of these rows, provided that
 -- the key store is sound and live keys differ.
 pub record PrecedenceChecked (h : Header) (rows keys : List ℕ) (column : ℕ) (pairs : List ℕ) (answer : PrecedenceAnswer) : Type 0 where
-  pub refusal : verdict (precedenceSays answer) ≡ reply (precedenceRefusal h (length rows) (length keys) column (length pairs)) tt
-  pub table : precedenceRefusal h (length rows) (length keys) column (length pairs) ≡ 0 → KeysSound (keyedOf h) rows keys → KeysDiffer h rows
-      → precedenceSays answer ≡ accepted (precedenceFailure (ofRows h rows) column (pairsOf pairs))
+  pub refusal : outcome (precedenceView answer) ≡ reply (precedenceRefusal h (length rows) (length keys) column (length pairs)) tt
+  pub table : precedenceRefusal h (length rows) (length keys) column (length pairs) ≡ 0 → KeysSound (indexShapeOf h) rows keys → KeysDiffer h rows
+      → precedenceView answer ≡ accepted (precedenceFailure (ofRows h rows) column (pairsOf pairs))

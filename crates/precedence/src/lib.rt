@@ -7,7 +7,7 @@ ghost use Rattle.precedence.specs.Precedence.{precedenceRefusal, Precede
 ghost use Rattle.precedence.specs.inner.Checking.{Tested, OnTable, filedBy, rowFiled, rowMeets, rowFailing, PlaceIs};
 use key_index::Found;
 use table::Header;
-use table::keyed;
+use table::index_shape;
 use table::refusing::lookup_refusal;
 
 // Every row meets its pairs; or the lowest row that does not, and the place of the first pair that it fails.
@@ -48,7 +48,7 @@ fn is_filed_by(h: Header, rows: &[u32], keys: &[u32], key: &[u32], latest: u32) 
     requires { ⌜ Tested h (now rows) (now keys) × (length (now key) ≡ h .keys) ⌝ }
     ensures { λ r. ⌜ OnTable h (now (rows .entry)) (now (keys .entry)) (r ≡ filedBy h (now (rows .entry)) (now (key .entry)) latest) ⌝ }
 {
-    let found = key_index::look_up(keyed(h), rows, keys, key, cells::compact_hash(key));
+    let found = key_index::look_up(index_shape(h), rows, keys, key, cells::compact_hash(key));
     match found {
         Found::None => false,
         Found::At(row, slot) => {

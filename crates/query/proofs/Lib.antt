@@ -1,1 +1,1 @@
-pub mod AskSteps
+pub mod ScanCall

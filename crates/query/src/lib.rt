@@ -4,12 +4,12 @@ ghost use Rattle.query_spec.specs.Queries.{RefinedOne, RefinedList, Matched, Pa
 use constraints::Constraint;
 use offsets::SubsetAnswer;
 use offsets::SubsetHead;
-use query_loop::ask;
-use query_scan::Question;
-use query_scan::ask_one;
+use query_loop::scan;
+use query_scan::QueryKind;
 use query_scan::close_match;
 use query_scan::close_page;
 use query_scan::close_refine;
+use query_scan::scan_one;
 use query_scan::write_found;
 use query_spec::MatchAnswer;
 use query_spec::PageAnswer;
@@ -29,12 +29,12 @@ pub fn refine_one(
 ) -> SubsetAnswer
     ensures { λ r. ⌜ RefinedOne h (now (rows .entry)) (subsetOf head (now (ids .entry))) c (now (out .entry)) r (now (out .exit)) ⌝ }
 {
-    let done = ask_one(h, rows, head, ids, c, out);
+    let done = scan_one(h, rows, head, ids, c, out);
     if done.refused != 0 {
         return SubsetAnswer::Refused(done.refused);
     }
     if head.dense {
-        return offsets_retain::grown(done.found);
+        return offsets_retain::finish_retain(done.found);
     }
     let count = write_found(done.found, out);
     SubsetAnswer::List(count)
@@ -51,7 +51,7 @@ pub fn refine_ref(
 ) -> SubsetAnswer
     ensures { λ r. ⌜ RefinedList h (now (rows .entry)) (subsetOf head (now (ids .entry))) (now (conditions .entry)) (now (out .entry)) r (now (out .exit)) ⌝ }
 {
-    let done = ask(Question::Refine, h, rows, head, ids, conditions, out);
+    let done = scan(QueryKind::Refine, h, rows, head, ids, conditions, out);
     close_refine(head, done, out)
 }
 
@@ -66,7 +66,7 @@ pub fn contains_match(
     ensures { λ r. ⌜ Matched h (now (rows .entry)) (subsetOf head (now (ids .entry))) (now (conditions .entry)) r ⌝ }
 {
     let mut none = [0u32; 0];
-    let done = ask(Question::Match, h, rows, head, ids, conditions, &mut none);
+    let done = scan(QueryKind::Match, h, rows, head, ids, conditions, &mut none);
     close_match(done)
 }
 
@@ -83,8 +83,8 @@ pub fn read_page(
 ) -> PageAnswer
     ensures { λ r. ⌜ PageRead h (now (rows .entry)) (subsetOf head (now (ids .entry))) start n (now (conditions .entry)) (now (out .entry)) r (now (out .exit)) ⌝ }
 {
-    let done = ask(
-        Question::Page(start, n),
+    let done = scan(
+        QueryKind::Page(start, n),
         h,
         rows,
         head,

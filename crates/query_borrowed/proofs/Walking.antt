@@ -132,9 +132,9 @@ module _ {M : Type 1} (𝓤 : URA M) (H : Heap 𝓤) (A : Atoms 𝓤) (W : Given
           (prop (tripleOf 𝓤 H A S (closing 𝓤 H A T c) .post y v))
       ends = updating ! $ at-once ! $ show ! Result r $ move ! (0 ∷ 2 ∷ []) $ join ! $ frame ! $ show ! Last ws $ frame ! $ done !
 
-      pub ends-saying : ent 𝓤 (emp 𝓤) (c (y .0 .0) (y .0 .3) .ensures (y .1) r (atExit T (y .0 .0) (y .0 .3) ws))
+      pub ends-ensuring : ent 𝓤 (emp 𝓤) (c (y .0 .0) (y .0 .3) .ensures (y .1) r (atExit T (y .0 .0) (y .0 .3) ws))
           → Seq (Go {0}) W (raw (alive 𝓤 H A S (y .0 .0) (y .0 .1)) ∷ ‵ (lasts T (y .0 .0) (y .0 .3) ws) ∷ ‵ (typeAt (S .result) (y .0 .0) .own r (v ∷ [])) ∷ []) (prop (tripleOf 𝓤 H A S (closing 𝓤 H A T c) .post y v))
-      ends-saying said = use0 W (raw (c (y .0 .0) (y .0 .3) .ensures (y .1) r (atExit T (y .0 .0) (y .0 .3) ws))) said $ move ! (1 ∷ 2 ∷ 3 ∷ 0 ∷ []) $ ends
+      ends-ensuring said = use0 W (raw (c (y .0 .0) (y .0 .3) .ensures (y .1) r (atExit T (y .0 .0) (y .0 .3) ws))) said $ move ! (1 ∷ 2 ∷ 3 ∷ 0 ∷ []) $ ends
 
 module _ {M : Type 1} {𝓤 : URA M} {H : Heap 𝓤} {A : Atoms 𝓤} {K : Type 0} {W : Given 𝓤 H A} {E : List (Ty × ℕ)} {hs : List (Option Val)} {Γ : List (Item 𝓤)} {C : Calls 𝓤 H} {Λ : Loops 𝓤 H} {q : Post 𝓤 H} {rest : Body} where
   pub answers : K → FmC 𝓤 H (W .laws) C → (T : Ended) (c : Clauses 𝓤 T) {f : Name} {xs : List Operand} {j : ℕ} → Triple 𝓤 (C f) (tripleOf 𝓤 H A (T .signature) (closing 𝓤 H A T c))

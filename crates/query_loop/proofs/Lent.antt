@@ -18,13 +18,13 @@ use Rattle.offsets.proofs.SubsetHead.Laws as DT′
 use Rattle.table.specs.declared.Header.{Header}
 use Rattle.table.proofs.Header as HT
 use Rattle.table.proofs.Header.Laws as HT′
-use Rattle.query_scan.specs.declared.Sweep.{Sweep}
-use Rattle.query_scan.specs.declared.Question.{Question}
-use Rattle.query_scan.proofs.Sweep as ST
-use Rattle.query_scan.proofs.Sweep.Laws as ST′
+use Rattle.query_scan.specs.declared.Scan.{Scan}
+use Rattle.query_scan.specs.declared.QueryKind.{QueryKind}
+use Rattle.query_scan.proofs.Scan as ST
+use Rattle.query_scan.proofs.Scan.Laws as ST′
 use Rattle.query_scan.specs.declared.Test.{Test}
-use Rattle.query_scan.proofs.Question as QT
-use Rattle.query_scan.proofs.Question.Laws as QT′
+use Rattle.query_scan.proofs.QueryKind as QT
+use Rattle.query_scan.proofs.QueryKind.Laws as QT′
 use Rattle.query_scan.proofs.Test as TT
 use Rattle.query_scan.proofs.Test.Laws as TT′
 use Rattle.query_loop.proofs.Walking.{Value, enum-value, own, struct-value, twice}
@@ -36,11 +36,11 @@ headers = struct-value HT.the-type HT′.the-laws HT′.the-plain (λ x f. refl)
 abbrev pub heads : Value
 heads = struct-value DT.the-type DT′.the-laws DT′.the-plain (λ x f. refl)
 
-abbrev pub sweeps : Value
-sweeps = struct-value ST.the-type ST′.the-laws ST′.the-plain (λ x f. refl)
+abbrev pub scans : Value
+scans = struct-value ST.the-type ST′.the-laws ST′.the-plain (λ x f. refl)
 
-abbrev pub questions : Value
-questions = enum-value QT.the-type QT′.the-laws QT′.the-plain tt (λ x f. refl)
+abbrev pub query-kinds : Value
+query-kinds = enum-value QT.the-type QT′.the-laws QT′.the-plain tt (λ x f. refl)
 
 abbrev pub tests : Value
 tests = enum-value TT.the-type TT′.the-laws TT′.the-plain tt (λ x f. refl)
@@ -68,11 +68,11 @@ lent-of κs qs a conditions = record { κ₀ = κs .0; κ₁ = κs .1 .0; κ₂ 
 abbrev pub slice-val : {X : Type 0} → RefT (List X) → Val
 slice-val x = sliceVal (x .ptr) (length (x .now))
 
-abbrev pub question-val : Question → Val
-question-val question = EL.val QT.the-type QT′.the-laws question
+abbrev pub query-val : QueryKind → Val
+query-val query = EL.val QT.the-type QT′.the-laws query
 
-abbrev pub sweep-val : Sweep → Val
-sweep-val s = ST′.lowered s
+abbrev pub scan-val : Scan → Val
+scan-val s = ST′.lowered s
 
 abbrev pub header-val : Header → Val
 header-val h = LL.val HT.the-type HT′.the-laws h

@@ -2,5 +2,5 @@ pub mod Again
 pub mod Lent
 pub mod LentArray
 pub mod Prelude
-pub mod WalkSteps
+pub mod LoopSteps
 pub mod Walking

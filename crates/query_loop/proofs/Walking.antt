@@ -77,18 +77,18 @@ module _ {M : Type 1} (𝓤 : URA M) (H : Heap 𝓤) (A : Atoms 𝓤) where
   tokens-are (suc n) κs qs = ap (sep 𝓤 (A .lft (κs .0) (qs .0))) (tokens-are n (κs .1) (qs .1))
 
   module _ (T : Ended) (c : Clauses 𝓤 T) where
-    abbrev pub Asked : Contract 𝓤
-    Asked = tripleOf 𝓤 H A (T .signature) (closing 𝓤 H A T c)
+    abbrev pub Callee : Contract 𝓤
+    Callee = tripleOf 𝓤 H A (T .signature) (closing 𝓤 H A T c)
 
     abbrev pub Cites : Calls 𝓤 H → Name → Type 1
-    Cites C f = Triple 𝓤 (C f) Asked
+    Cites C f = Triple 𝓤 (C f) Callee
 
     -- what the contract ensures for a result and for last values
-    abbrev pub Ensures : (y : Asked .Ghost) → Res (T .signature) (y .0 .0) → Lasts T (y .0 .0) (y .0 .3) → SProp 𝓤
+    abbrev pub Ensures : (y : Callee .Ghost) → Res (T .signature) (y .0 .0) → Lasts T (y .0 .0) (y .0 .3) → SProp 𝓤
     Ensures y r ws = c (y .0 .0) (y .0 .3) .ensures (y .1) r (atExit T (y .0 .0) (y .0 .3) ws)
 
     -- and what a caller has after it
-    abbrev pub Back : (y : Asked .Ghost) → Val → Res (T .signature) (y .0 .0) → Lasts T (y .0 .0) (y .0 .3) → List (Item 𝓤) → List (Item 𝓤)
+    abbrev pub Back : (y : Callee .Ghost) → Val → Res (T .signature) (y .0 .0) → Lasts T (y .0 .0) (y .0 .3) → List (Item 𝓤) → List (Item 𝓤)
     Back y w r ws Γ = Tokens (T .signature .lifetimes) (y .0 .0) (y .0 .1) ∷ ‵ (typeAt (T .signature .result) (y .0 .0) .own r (w ∷ [])) ∷ ‵ (lasts T (y .0 .0) (y .0 .3) ws) ∷ Γ
 
 module _ {M : Type 1} {𝓤 : URA M} {H : Heap 𝓤} {A : Atoms 𝓤} {K : Type 0} {W : Given 𝓤 H A} {Γ : List (Item 𝓤)} where
@@ -102,22 +102,22 @@ module _ {M : Type 1} {𝓤 : URA M} {H : Heap 𝓤} {A : Atoms 𝓤} {K : Type 
   pub bool-lands : {C : Calls 𝓤 H} {Λ : Loops 𝓤 H} {E : Env 𝓤 H} {d : Place} {rest : Body} {q : Post 𝓤 H} → K → (r : Bool) (w : Val) {v : Bool} → r ≡ v → Step K W Γ (lands C Λ E d (vbool v) rest q) (‵ (bool .own r (w ∷ [])) ∷ Γ) (lands C Λ E d w rest q)
   bool-lands {C = C} {Λ = Λ} {E = E} {d = d} {rest = rest} {q = q} t r w e = step (λ s. facts t bool (Is bool) (shows 𝓤 H A bool) r (w ∷ []) (λ is. regoal t (λ (u : Val). lands C Λ E d u rest q) (ap only is ∙ ap vbool e) refl $ s))
 
-  module _ (T : Ended) (c : Clauses 𝓤 T) (y : Asked 𝓤 H A T c .Ghost) (φ : Res (T .signature) (y .0 .0) → Lasts T (y .0 .0) (y .0 .3) → Type 0)
+  module _ (T : Ended) (c : Clauses 𝓤 T) (y : Callee 𝓤 H A T c .Ghost) (φ : Res (T .signature) (y .0 .0) → Lasts T (y .0 .0) (y .0 .3) → Type 0)
       (said : (r : Res (T .signature) (y .0 .0)) (ws : Lasts T (y .0 .0) (y .0 .3)) → ent 𝓤 (Ensures 𝓤 H A T c y r ws) (fact 𝓤 (φ r ws))) where
-    answers : {G : Goal 𝓤 H} → K → Soaks G → (w : Val) → ((r : Res (T .signature) (y .0 .0)) (ws : Lasts T (y .0 .0) (y .0 .3)) → φ r ws → Seq K W (Back 𝓤 H A T c y w r ws Γ) G) → Seq K W (raw (Asked 𝓤 H A T c .post y w) ∷ Γ) G
+    answers : {G : Goal 𝓤 H} → K → Soaks G → (w : Val) → ((r : Res (T .signature) (y .0 .0)) (ws : Lasts T (y .0 .0) (y .0 .3)) → φ r ws → Seq K W (Back 𝓤 H A T c y w r ws Γ) G) → Seq K W (raw (Callee 𝓤 H A T c .post y w) ∷ Γ) G
     answers t z w k =
         use1 W (later (some (λ (r : Res (T .signature) (y .0 .0)). (raw (toks 𝓤 A (T .signature .lifetimes) (y .0 .0) (y .0 .1)) ⊛ ‵ (typeAt (T .signature .result) (y .0 .0) .own r (w ∷ [])))
         ⊛ some (λ (ws : Lasts T (y .0 .0) (y .0 .3)). ‵ (lasts T (y .0 .0) (y .0 .3) ws) ⊛ raw (Ensures 𝓤 H A T c y r ws))))) (id⊢ 𝓤 _) $ await t z $ pick t (λ r. split t $ move t (1 ∷ []) $ pick t (λ ws. split t $ move t (1 ∷ []) $
         use1 W (raw (fact 𝓤 (φ r ws))) (said r ws) $ heard t (φ r ws) (λ e. move t (1 ∷ []) $ split t $ recast W (Tokens 𝓤 H A (T .signature .lifetimes) (y .0 .0) (y .0 .1)) (tokens-are 𝓤 H A (T .signature .lifetimes) (y .0 .0) (y .0 .1)) $ k r ws e)))
 
     module _ {E : Env 𝓤 H} {C : Calls 𝓤 H} {Λ : Loops 𝓤 H} {q : Post 𝓤 H} {d : Place} {f : Name} {xs : List Operand} where
-      pub calls : K → FmC 𝓤 H (W .laws) C → {rest : Body} → Cites 𝓤 H A T c C f → Opds K W (raw (Asked 𝓤 H A T c .pre y) ∷ Γ) E xs (Asked 𝓤 H A T c .args y)
-          → ((w : Val) (r : Res (T .signature) (y .0 .0)) (ws : Lasts T (y .0 .0) (y .0 .3)) → φ r ws → Seq K W (Back 𝓤 H A T c y w r ws Γ) (lands C Λ E d w rest q)) → Seq K W (raw (Asked 𝓤 H A T c .pre y) ∷ Γ) (runs C Λ E (seq (call f xs d) rest) q)
-      calls t fm known os k = calls-at t fm (Asked 𝓤 H A T c) known y os (λ w. answers t tt w (k w))
+      pub calls : K → FmC 𝓤 H (W .laws) C → {rest : Body} → Cites 𝓤 H A T c C f → Opds K W (raw (Callee 𝓤 H A T c .pre y) ∷ Γ) E xs (Callee 𝓤 H A T c .args y)
+          → ((w : Val) (r : Res (T .signature) (y .0 .0)) (ws : Lasts T (y .0 .0) (y .0 .3)) → φ r ws → Seq K W (Back 𝓤 H A T c y w r ws Γ) (lands C Λ E d w rest q)) → Seq K W (raw (Callee 𝓤 H A T c .pre y) ∷ Γ) (runs C Λ E (seq (call f xs d) rest) q)
+      calls t fm known os k = calls-at t fm (Callee 𝓤 H A T c) known y os (λ w. answers t tt w (k w))
 
-      pub calls-last : K → FmC 𝓤 H (W .laws) C → Cites 𝓤 H A T c C f → Opds K W (raw (Asked 𝓤 H A T c .pre y) ∷ Γ) E xs (Asked 𝓤 H A T c .args y)
-          → ((w : Val) (r : Res (T .signature) (y .0 .0)) (ws : Lasts T (y .0 .0) (y .0 .3)) → φ r ws → Seq K W (Back 𝓤 H A T c y w r ws Γ) (settles E d w q)) → Seq K W (raw (Asked 𝓤 H A T c .pre y) ∷ Γ) (runs C Λ E (call f xs d) q)
-      calls-last t fm known os k = calls-at-last t fm (Asked 𝓤 H A T c) known y os (λ w. answers t tt w (k w))
+      pub calls-last : K → FmC 𝓤 H (W .laws) C → Cites 𝓤 H A T c C f → Opds K W (raw (Callee 𝓤 H A T c .pre y) ∷ Γ) E xs (Callee 𝓤 H A T c .args y)
+          → ((w : Val) (r : Res (T .signature) (y .0 .0)) (ws : Lasts T (y .0 .0) (y .0 .3)) → φ r ws → Seq K W (Back 𝓤 H A T c y w r ws Γ) (settles E d w q)) → Seq K W (raw (Callee 𝓤 H A T c .pre y) ∷ Γ) (runs C Λ E (call f xs d) q)
+      calls-last t fm known os k = calls-at-last t fm (Callee 𝓤 H A T c) known y os (λ w. answers t tt w (k w))
 
 -- a type of plain values: one machine value for each, which is owned for nothing if it is in range
 pub record Value : Type 3 where
@@ -215,10 +215,10 @@ module _ (T : Ended) (ps : AllPassed (T .signature .params) (T .kept)) where
         → ((κs : Lfts (T .signature .lifetimes)) (qs : Shares (T .signature .lifetimes)) (bounds : AllOutlive (T .signature .lifetimes) (T .signature .outlives) κs) (a : Args (T .signature) κs) (g : c κs a .ghost)
         → Are (typesAt (T .signature .params) κs) (Ises (typesAt (T .signature .params) κs)) a (passed-vals κs a)
         → ent 𝓤 (sep 𝓤 (onEntry 𝓤 H (𝓖 .A) (T .signature) κs qs a (passed-vals κs a)) (c κs a .requires g)) (run (flat (typesAt (T .signature .params) κs) (passed-vals κs a)) (Walked 𝓤 H (𝓖 .A) c .post ((κs, qs, bounds, a, passed-vals κs a), g))))
-        → Triple 𝓤 (𝓡 .run (names f)) (Asked 𝓤 H (𝓖 .A) T c)
+        → Triple 𝓤 (𝓡 .run (names f)) (Callee 𝓤 H (𝓖 .A) T c)
     unfolding tablesOf
     walk-runs closed walk =
         let W : Given 𝓤 H (𝓖 .A) = givenOf 𝓤 H 𝓜 𝓖 in
-        entered 𝓤 H (Asked 𝓤 H (𝓖 .A) T c) (tables 𝓤 H 𝓜 𝓡 names .C) (tables 𝓤 H 𝓜 𝓡 names .Λ) f e closed
+        entered 𝓤 H (Callee 𝓤 H (𝓖 .A) T c) (tables 𝓤 H 𝓜 𝓡 names .C) (tables 𝓤 H 𝓜 𝓡 names .Λ) f e closed
         (walk-meets 𝓤 H (𝓖 .A) T (stays (T .signature .params) (T .kept) ps) W (all-go (T .signature .params) (T .kept) ps 𝓤 H (𝓖 .A) W) c run (WpFn-mono 𝓤 H (W .laws) (tablesOf 𝓤 H 𝓜 (tables 𝓤 H 𝓜 𝓡 names)) e)
         (walked 𝓤 H (𝓖 .A) T (stays (T .signature .params) (T .kept) ps) c run (spells (T .signature .params) (T .kept) ps) (all-tell (T .signature .params) (T .kept) ps) walk))

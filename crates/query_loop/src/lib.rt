@@ -3,14 +3,14 @@
 ghost use mathlib.Core.Path.{_≡_};
 ghost use lib.ListN.{length};
 ghost use Rattle.offsets.specs.Answers.{subsetOf};
-ghost use Rattle.query_scan.specs.inner.Sweeping.{RowNeeded, allPass, SweepAnswered};
+ghost use Rattle.query_scan.specs.inner.Scanning.{RowNeeded, allPass, ScanAnswered};
 use constraints::Constraint;
 use offsets::SubsetHead;
-use query_scan::Question;
-use query_scan::Sweep;
+use query_scan::QueryKind;
+use query_scan::Scan;
 use query_scan::Test;
+use query_scan::begin;
 use query_scan::can_pass;
-use query_scan::opening;
 use query_scan::passes_test;
 use query_scan::step;
 use table::Header;
@@ -30,19 +30,19 @@ pub fn all_pass(test: Test, h: Header, rows: &[u32], conditions: &[Constraint]) 
 }
 
 // Runs a query: refused, or its places scanned, each by all conditions.
-pub fn ask(
-    question: Question,
+pub fn scan(
+    query: QueryKind,
     h: Header,
     rows: &[u32],
     head: SubsetHead,
     ids: &[u32],
     conditions: &[Constraint],
     out: &mut [u32],
-) -> Sweep
-    ensures { λ r. ⌜ SweepAnswered question h (now (rows .entry)) (subsetOf head (now (ids .entry))) (now (conditions .entry)) (now (out .entry)) r (now (out .exit)) ⌝ }
+) -> Scan
+    ensures { λ r. ⌜ ScanAnswered query h (now (rows .entry)) (subsetOf head (now (ids .entry))) (now (conditions .entry)) (now (out .entry)) r (now (out .exit)) ⌝ }
 {
     let known = all_pass(Test::Known, h, rows, conditions);
-    let mut at = opening(question, h, rows.len(), head, ids, known, out.len());
+    let mut at = begin(query, h, rows.len(), head, ids, known, out.len());
     while at.next < at.end {
         let hit = all_pass(Test::Row(at.id), h, rows, conditions);
         at = step(h, rows, head, ids, at, hit, out);

@@ -9,18 +9,18 @@ use native.Mathlib.Omega.{arith}
 use lib.Dec.{eqb}
 use lib.ListN.{length, getD}
 use borrow.Author.Tests.{eqb-true, eq-eqb}
-use Rattle.lists.specs.Lists.{keep, every}
-use Rattle.lists.specs.Laws.Keep.{split, and-left, and-right, keep-every, keep-length-every, length-keep, count-le}
+use Rattle.lists.specs.Lists.{filter, all}
+use Rattle.lists.specs.Laws.Filter.{split, and-left, and-right, filter-all, filter-length-all, length-filter, count-le}
 use Rattle.refusals.specs.Refusals.{refused, accepted, reply}
 use Rattle.refusals.specs.Laws.Replies.{reply-refused, reply-accepted}
 use Rattle.offsets.specs.declared.SubsetHead.{SubsetHead}
-use Rattle.offsets_retain.specs.declared.Growing.{Growing}
+use Rattle.offsets_retain.specs.declared.RetainBuilder.{RetainBuilder}
 use Rattle.offsets.specs.declared.SubsetAnswer.{SubsetAnswer}
 use Rattle.offsets.specs.declared.SubsetAnswer.the-variants.{Refused, Range, List as Ids}
 use Rattle.offsets.specs.Subsets.{Subset, range, list, members, size, retain, narrowed}
 use Rattle.offsets.specs.Answers.{subsetOf, Answered}
 use Rattle.offsets.specs.inner.Writing.{Wrote}
-use Rattle.offsets_retain.specs.inner.Growing.{Grows, GrowthEnds}
+use Rattle.offsets_retain.specs.inner.RetainBuilder.{Builds, BuilderEnds}
 use Rattle.offsets.specs.Laws.Subsets.{dense-is, sparse-is, formed-order, length-members, answered-range, answered-list}
 use Rattle.offsets.specs.Laws.Forms.{length-range, getD-range, narrowed-all, narrowed-some, narrowed-list}
 use Rattle.offsets.specs.Laws.Answers.{answered-refused as refused-answered}
@@ -29,11 +29,11 @@ use Rattle.constraints.specs.declared.Constraint.{Constraint}
 use Rattle.constraints.specs.Constraints.{known}
 use Rattle.table.specs.declared.Header.{Header}
 use Rattle.query_spec.specs.Queries.{matches, refineRefusal, visited, refineOneReply, refineListReply, RefinedOne, RefinedList}
-use Rattle.query_spec.specs.inner.Tests.{Askable, RefineRefused, MatchRefused, PageRefused}
-use Rattle.query_scan.specs.declared.Sweep.{Sweep}
-use Rattle.query_scan.specs.declared.Question.{Question}
-use Rattle.query_scan.specs.declared.Question.the-variants.{Refine, Match, Page}
-use Rattle.query_scan.specs.inner.Sweeping.{upTo, places, firstPlace, roomAsked, refusalOf, BeginsAt, Finished, SweepBegins, SweepAnswered, CanWrite, Writes, whole, CanClose, RefineClosed}
+use Rattle.query_spec.specs.inner.Tests.{Queryable, RefineRefused, MatchRefused, PageRefused}
+use Rattle.query_scan.specs.declared.Scan.{Scan}
+use Rattle.query_scan.specs.declared.QueryKind.{QueryKind}
+use Rattle.query_scan.specs.declared.QueryKind.the-variants.{Refine, Match, Page}
+use Rattle.query_scan.specs.inner.Scanning.{upTo, places, firstPlace, roomRequired, refusalOf, BeginsAt, Finished, ScanStarts, ScanAnswered, CanWrite, Writes, whole, CanClose, RefineClosed}
 use Rattle.query_scan.specs.Visits.{idsVisited}
 use Rattle.query_scan.proofs.Visits.{upTo-nil, upTo-all, upTo-first, visited-none, length-visited, visited-all, visited-end}
 
@@ -51,17 +51,17 @@ module _ (number : ℕ) (value : Subset) (output : List ℕ) where
 
 -- ---- the beginning
 
-module _ (question : Question) (h : Header) (rows : ℕ) (subset : Subset) (knows : Bool) (output number : ℕ)
-    (numbered : (conditions : List Constraint) → knows ≡ every (known (h .columns)) conditions → number ≡ refusalOf question h rows subset conditions output) (s : Sweep) where
+module _ (query : QueryKind) (h : Header) (rows : ℕ) (subset : Subset) (knows : Bool) (output number : ℕ)
+    (numbered : (conditions : List Constraint) → knows ≡ all (known (h .columns)) conditions → number ≡ refusalOf query h rows subset conditions output) (s : Scan) where
   -- a refused query has no places
-  opened-refused : (number ≡ 0 → ⊥) → BeginsAt subset number 0 0 0 s → SweepBegins question h rows subset knows output s
+  opened-refused : (number ≡ 0 → ⊥) → BeginsAt subset number 0 0 0 s → ScanStarts query h rows subset knows output s
   opened-refused n p =
       record {
         number-is = λ conditions k. p .refused-is ∙ numbered conditions k;
-        askable = λ z. absurd (n (sym (p .refused-is) ∙ z));
-        sweepable = λ output₀ l.
+        queryable = λ z. absurd (n (sym (p .refused-is) ∙ z));
+        can-start = λ output₀ l.
             record {
-              askable = λ q. absurd (omega (arith, p .next-is, p .end-is, q));
+              queryable = λ q. absurd (omega (arith, p .next-is, p .end-is, q));
               order = omega (arith, p .next-is, p .end-is);
               within = omega (arith, p .end-is);
               wants = λ q. absurd (omega (arith, p .next-is, p .end-is, q));
@@ -76,17 +76,17 @@ module _ (question : Question) (h : Header) (rows : ℕ) (subset : Subset) (know
         no-places = λ _. p .next-is ∙ sym (p .end-is);
       }
 
-  module _ (z : number ≡ 0) (a : Askable h rows subset) (next end most : ℕ) (p : BeginsAt subset 0 next end most s) where
-    opened-over : next ≤ end → end ≤ size subset → (next < end → 0 < most) → (1 < most → end - next ≤ output) → next ≡ firstPlace question
-        → ((test : ℕ → Bool) → upTo most test (visited subset next (end - next)) ≡ idsVisited question test subset) → roomAsked question subset ≤ output → SweepBegins question h rows subset knows output s
+  module _ (z : number ≡ 0) (a : Queryable h rows subset) (next end most : ℕ) (p : BeginsAt subset 0 next end most s) where
+    opened-over : next ≤ end → end ≤ size subset → (next < end → 0 < most) → (1 < most → end - next ≤ output) → next ≡ firstPlace query
+        → ((test : ℕ → Bool) → upTo most test (visited subset next (end - next)) ≡ idsVisited query test subset) → roomRequired query subset ≤ output → ScanStarts query h rows subset knows output s
     unfolding places
     opened-over o w m r f v u =
         record {
           number-is = λ conditions k. p .refused-is ∙ sym z ∙ numbered conditions k;
-          askable = λ _. a;
-          sweepable = λ output₀ l.
+          queryable = λ _. a;
+          can-start = λ output₀ l.
               record {
-                askable = λ _. a;
+                queryable = λ _. a;
                 order = omega (arith, p .next-is, p .end-is, o);
                 within = omega (arith, p .end-is, w);
                 wants = λ q. rw (p .most-is) (m (omega (arith, p .next-is, p .end-is, q)));
@@ -104,54 +104,54 @@ module _ (question : Question) (h : Header) (rows : ℕ) (subset : Subset) (know
 all-places : (subset : Subset) → visited subset 0 (size subset - 0) ≡ members subset
 all-places subset = let k : size subset - 0 ≡ size subset = omega arith in ap (visited subset 0) k ∙ visited-all subset
 
-module _ (h : Header) (rows : ℕ) (subset : Subset) (knows : Bool) (s : Sweep) where
-  pub refine-stopped : (output number : ℕ) → RefineRefused h rows subset knows output number → (number ≡ 0 → ⊥) → BeginsAt subset number 0 0 0 s → SweepBegins Refine h rows subset knows output s
+module _ (h : Header) (rows : ℕ) (subset : Subset) (knows : Bool) (s : Scan) where
+  pub refine-stopped : (output number : ℕ) → RefineRefused h rows subset knows output number → (number ≡ 0 → ⊥) → BeginsAt subset number 0 0 0 s → ScanStarts Refine h rows subset knows output s
   unfolding refusalOf
   refine-stopped output number r n p = opened-refused Refine h rows subset knows output number (r .number-is) s n p
 
-  pub match-stopped : (number : ℕ) → MatchRefused h rows subset knows number → (number ≡ 0 → ⊥) → BeginsAt subset number 0 0 0 s → (output : ℕ) → SweepBegins Match h rows subset knows output s
+  pub match-stopped : (number : ℕ) → MatchRefused h rows subset knows number → (number ≡ 0 → ⊥) → BeginsAt subset number 0 0 0 s → (output : ℕ) → ScanStarts Match h rows subset knows output s
   unfolding refusalOf
   match-stopped number r n p output = opened-refused Match h rows subset knows output number (r .number-is) s n p
 
-  pub page-stopped : (start n output number : ℕ) → PageRefused h rows subset start n knows output number → (number ≡ 0 → ⊥) → BeginsAt subset number 0 0 0 s → SweepBegins (Page start n) h rows subset knows output s
+  pub page-stopped : (start n output number : ℕ) → PageRefused h rows subset start n knows output number → (number ≡ 0 → ⊥) → BeginsAt subset number 0 0 0 s → ScanStarts (Page start n) h rows subset knows output s
   unfolding refusalOf
   page-stopped start n output number r m p = opened-refused (Page start n) h rows subset knows output number (r .number-is) s m p
 
-  pub refine-opened : (output number : ℕ) → RefineRefused h rows subset knows output number → number ≡ 0 → BeginsAt subset 0 0 (size subset) (size subset) s → SweepBegins Refine h rows subset knows output s
-  unfolding refusalOf idsVisited firstPlace roomAsked
+  pub refine-opened : (output number : ℕ) → RefineRefused h rows subset knows output number → number ≡ 0 → BeginsAt subset 0 0 (size subset) (size subset) s → ScanStarts Refine h rows subset knows output s
+  unfolding refusalOf idsVisited firstPlace roomRequired
   refine-opened output number r z p =
-      opened-over Refine h rows subset knows output number (r .number-is) s z (r .askable z) 0 (size subset) (size subset) p (omega arith) (omega arith) (λ q. q) (λ _. omega (arith, r .room z)) refl
+      opened-over Refine h rows subset knows output number (r .number-is) s z (r .queryable z) 0 (size subset) (size subset) p (omega arith) (omega arith) (λ q. q) (λ _. omega (arith, r .room z)) refl
       (λ test. rw (all-places subset) (upTo-all test (size subset) (members subset) (omega (arith, length-members subset)))) (r .room z)
 
-  pub match-opened : (number : ℕ) → MatchRefused h rows subset knows number → number ≡ 0 → BeginsAt subset 0 0 (size subset) 1 s → (output : ℕ) → SweepBegins Match h rows subset knows output s
-  unfolding refusalOf idsVisited firstPlace roomAsked
+  pub match-opened : (number : ℕ) → MatchRefused h rows subset knows number → number ≡ 0 → BeginsAt subset 0 0 (size subset) 1 s → (output : ℕ) → ScanStarts Match h rows subset knows output s
+  unfolding refusalOf idsVisited firstPlace roomRequired
   match-opened number r z p output =
-      opened-over Match h rows subset knows output number (r .number-is) s z (r .askable z) 0 (size subset) 1 p (omega arith) (omega arith) (λ _. omega arith) (λ q. absurd (omega (arith, q))) refl
+      opened-over Match h rows subset knows output number (r .number-is) s z (r .queryable z) 0 (size subset) 1 p (omega arith) (omega arith) (λ _. omega arith) (λ q. absurd (omega (arith, q))) refl
       (λ test. rw (all-places subset) (upTo-first test (members subset))) (omega arith)
 
   pub page-opened : (start n output number : ℕ) → PageRefused h rows subset start n knows output number → number ≡ 0
-      → BeginsAt subset 0 start (start + min n (size subset - start)) (min n (size subset - start)) s → SweepBegins (Page start n) h rows subset knows output s
-  unfolding refusalOf idsVisited firstPlace roomAsked
+      → BeginsAt subset 0 start (start + min n (size subset - start)) (min n (size subset - start)) s → ScanStarts (Page start n) h rows subset knows output s
+  unfolding refusalOf idsVisited firstPlace roomRequired
   page-opened start n output number r z p =
       let few = min n (size subset - start) in
       let k : start + few - start ≡ few = omega arith in
-      opened-over (Page start n) h rows subset knows output number (r .number-is) s z (r .askable z) start (start + few) few p (omega arith) (omega (arith, r .within z)) (λ q. omega (arith, q)) (λ _. omega (arith, r .room z)) refl
+      opened-over (Page start n) h rows subset knows output number (r .number-is) s z (r .queryable z) start (start + few) few p (omega arith) (omega (arith, r .within z)) (λ q. omega (arith, q)) (λ _. omega (arith, r .room z)) refl
       (λ test. rw k (upTo-all test few (visited subset start few) (omega (arith, length-visited subset start few (omega (arith, r .within z)))) ∙ visited-end subset start n)) (r .room z)
 
 -- ---- all places
 
 -- nothing is written while nothing is visited
-nothing-kept : (test : ℕ → Bool) (ids output output′ : List ℕ) (g : Growing) → ids ≡ [] → Grows output output′ g (keep test ids) → output′ ≡ output
-unfolding keep
+nothing-kept : (test : ℕ → Bool) (ids output output′ : List ℕ) (g : RetainBuilder) → ids ≡ [] → Builds output output′ g (filter test ids) → output′ ≡ output
+unfolding filter
 nothing-kept test ids output output′ g e w =
     elim (ℕ-discrete (g .written) 0) [
       | yes z ↦ w .as-range z .unwritten
-      | no n ↦ absurd (n (w .as-list n .wrote .number ∙ ap (λ (l : List ℕ). length (keep test l)) e))
+      | no n ↦ absurd (n (w .as-list n .wrote .number ∙ ap (λ (l : List ℕ). length (filter test l)) e))
     ]
 
 -- a query over its places, or refused
-module _ (question : Question) (h : Header) (rows : List ℕ) (subset : Subset) (conditions : List Constraint) (knows : Bool) (output : List ℕ) (s : Sweep) (k : knows ≡ every (known (h .columns)) conditions)
-    (o : SweepBegins question h (length rows) subset knows (length output) s) (s′ : Sweep) (output′ : List ℕ) (f : Finished h rows subset (matches h rows conditions) s output s′ output′) where
+module _ (query : QueryKind) (h : Header) (rows : List ℕ) (subset : Subset) (conditions : List Constraint) (knows : Bool) (output : List ℕ) (s : Scan) (k : knows ≡ all (known (h .columns)) conditions)
+    (o : ScanStarts query h (length rows) subset knows (length output) s) (s′ : Scan) (output′ : List ℕ) (f : Finished h rows subset (matches h rows conditions) s output s′ output′) where
   abbrev wanted : ℕ → Bool
   wanted = matches h rows conditions
 
@@ -164,13 +164,13 @@ module _ (question : Question) (h : Header) (rows : List ℕ) (subset : Subset) 
       let e : visited subset (s .next) (s .end - s .next) ≡ [] = visited-none subset (s .next) (s .end - s .next) (omega (arith, o .no-places (λ z. n (f .refused-is ∙ z)))) in
       ap (upTo (s .most) wanted) e ∙ upTo-nil wanted (s .most)
 
-  pub asked-all : SweepAnswered question h rows subset conditions output s′ output′
-  asked-all =
+  pub scanned-all : ScanAnswered query h rows subset conditions output s′ output′
+  scanned-all =
       record {
         number-is = f .refused-is ∙ o .number-is conditions k;
-        askable = λ z. o .askable (was z);
+        queryable = λ z. o .queryable (was z);
         in-room = λ z. o .in-room (was z);
-        within = λ z. let w = o .sweepable output refl in omega (arith, w .order, w .within, o .first-is (was z));
+        within = λ z. let w = o .can-start output refl in omega (arith, w .order, w .within, o .first-is (was z));
         grows = λ z. rw (← o .visits-is (was z) wanted) (f .grows);
         counted = λ z.
             record {
@@ -182,40 +182,40 @@ module _ (question : Question) (h : Header) (rows : List ℕ) (subset : Subset) 
 
 -- ---- refine
 
-module _ (h : Header) (rows : List ℕ) (subset : Subset) (conditions : List Constraint) (output : List ℕ) (s : Sweep) (output′ : List ℕ) (a : SweepAnswered Refine h rows subset conditions output s output′) (z : s .refused ≡ 0) where
+module _ (h : Header) (rows : List ℕ) (subset : Subset) (conditions : List Constraint) (output : List ℕ) (s : Scan) (output′ : List ℕ) (a : ScanAnswered Refine h rows subset conditions output s output′) (z : s .refused ≡ 0) where
   abbrev test : ℕ → Bool
   test = matches h rows conditions
 
-  pub kept-all : Grows output output′ (s .found) (keep test (members subset))
+  pub kept-all : Builds output output′ (s .found) (filter test (members subset))
   unfolding idsVisited
   kept-all = a .grows z
 
   pub can-write : CanWrite output′ (s .found)
-  unfolding roomAsked
-  can-write = record { output₀ = output; kept = _; grows = kept-all; room = omega (arith, length-keep test (members subset), count-le test (members subset), length-members subset, a .in-room z) }
+  unfolding roomRequired
+  can-write = record { output₀ = output; kept = _; grows = kept-all; room = omega (arith, length-filter test (members subset), count-le test (members subset), length-members subset, a .in-room z) }
 
 -- ---- refine by one
 
 module _ (head : SubsetHead) (ids : List ℕ) (test : ℕ → Bool) (output output′ : List ℕ) where
-  pub retained-range : (g : Growing) (answer : SubsetAnswer) → head .dense ≡ true → Grows output output′ g (keep test (members (subsetOf head ids))) → GrowthEnds g answer
+  pub retained-range : (g : RetainBuilder) (answer : SubsetAnswer) → head .dense ≡ true → Builds output output′ g (filter test (members (subsetOf head ids))) → BuilderEnds g answer
       → Answered (accepted (retain test (subsetOf head ids))) output answer output′
   retained-range g answer e grows ends = rw (dense-is head ids e) (grown-retains test (head .start) (head .end) (rw (dense-is head ids e) at grows) ends)
 
-  pub retained-list : (n : ℕ) → head .dense ≡ false → Wrote output (keep test (members (subsetOf head ids))) n output′ → Answered (accepted (retain test (subsetOf head ids))) output (Ids n) output′
+  pub retained-list : (n : ℕ) → head .dense ≡ false → Wrote output (filter test (members (subsetOf head ids))) n output′ → Answered (accepted (retain test (subsetOf head ids))) output (Ids n) output′
   retained-list n e w = rw (sparse-is head ids e) (listed-retains test ids (rw (sparse-is head ids e) at w))
 
-module _ (h : Header) (rows : List ℕ) (subset : Subset) (c : Constraint) (knows : Bool) (output : List ℕ) (s : Sweep)
-    (k : knows ≡ known (h .columns) c) (o : SweepBegins Refine h (length rows) subset knows (length output) s) where
-  one-known : knows ≡ every (known (h .columns)) (c ∷ [])
-  unfolding every
+module _ (h : Header) (rows : List ℕ) (subset : Subset) (c : Constraint) (knows : Bool) (output : List ℕ) (s : Scan)
+    (k : knows ≡ known (h .columns) c) (o : ScanStarts Refine h (length rows) subset knows (length output) s) where
+  one-known : knows ≡ all (known (h .columns)) (c ∷ [])
+  unfolding all
   one-known = k ∙ sym (and-true (known (h .columns) c))
 
-  pub one-asked : (s′ : Sweep) (output′ : List ℕ) → Finished h rows subset (matches h rows (c ∷ [])) s output s′ output′ → SweepAnswered Refine h rows subset (c ∷ []) output s′ output′
-  one-asked s′ output′ f = asked-all Refine h rows subset (c ∷ []) knows output s one-known o s′ output′ f
+  pub one-scanned : (s′ : Scan) (output′ : List ℕ) → Finished h rows subset (matches h rows (c ∷ [])) s output s′ output′ → ScanAnswered Refine h rows subset (c ∷ []) output s′ output′
+  one-scanned s′ output′ f = scanned-all Refine h rows subset (c ∷ []) knows output s one-known o s′ output′ f
 
 -- and what it answers
-module _ (h : Header) (rows : List ℕ) (subset : Subset) (c : Constraint) (output : List ℕ) (s : Sweep) (output′ : List ℕ)
-    (a : SweepAnswered Refine h rows subset (c ∷ []) output s output′) where
+module _ (h : Header) (rows : List ℕ) (subset : Subset) (c : Constraint) (output : List ℕ) (s : Scan) (output′ : List ℕ)
+    (a : ScanAnswered Refine h rows subset (c ∷ []) output s output′) where
   one-number : s .refused ≡ refineRefusal h (length rows) subset (c ∷ []) (length output)
   unfolding refusalOf
   one-number = a .number-is
@@ -231,7 +231,7 @@ module _ (h : Header) (rows : List ℕ) (subset : Subset) (c : Constraint) (outp
 
 -- ---- refine by a list
 
-module _ (head : SubsetHead) (g : Growing) where
+module _ (head : SubsetHead) (g : RetainBuilder) where
   pub whole-list : head .dense ≡ false → false ≡ whole head g
   unfolding whole
   whole-list e = rw e
@@ -255,25 +255,25 @@ module _ (test : ℕ → Bool) (a b : ℕ) where
   abbrev ids-of : List ℕ
   ids-of = members (range a b)
 
-  module _ (output₀ output : List ℕ) (g : Growing) (grows : Grows output₀ output g (keep test ids-of)) where
-    all-kept : g .count ≡ b - a → every test ids-of ≡ true
-    all-kept n = keep-length-every test ids-of (sym (grows .number) ∙ n ∙ sym (length-range a b))
+  module _ (output₀ output : List ℕ) (g : RetainBuilder) (grows : Builds output₀ output g (filter test ids-of)) where
+    all-kept : g .count ≡ b - a → all test ids-of ≡ true
+    all-kept n = filter-length-all test ids-of (sym (grows .number) ∙ n ∙ sym (length-range a b))
 
-    not-all : (g .count ≡ b - a → ⊥) → every test ids-of ≡ false
+    not-all : (g .count ≡ b - a → ⊥) → all test ids-of ≡ false
     not-all f =
-        elim (split (every test ids-of)) [
-          | inl q ↦ absurd (f (grows .number ∙ ap length (keep-every test ids-of q) ∙ length-range a b))
+        elim (split (all test ids-of)) [
+          | inl q ↦ absurd (f (grows .number ∙ ap length (filter-all test ids-of q) ∙ length-range a b))
           | inr q ↦ q
         ]
 
     -- where all is kept the ids are neighbours, and nothing is written
-    all-unwritten : every test ids-of ≡ true → output ≡ output₀
+    all-unwritten : all test ids-of ≡ true → output ≡ output₀
     all-unwritten q =
         elim (ℕ-discrete (g .written) 0) [
           | yes e ↦ grows .as-range e .unwritten
           | no e ↦ absurd
               (let l = grows .as-list e in
-              let k : keep test ids-of ≡ ids-of = keep-every test ids-of q in
+              let k : filter test ids-of ≡ ids-of = filter-all test ids-of q in
               let n : length ids-of ≡ b - a = length-range a b in
               let some : g .written ≡ length ids-of = rw k at (l .wrote .number) in
               let gap : getD ids-of 0 0 + length ids-of ≤ getD ids-of (length ids-of - 1) 0 = rw k at (l .gap) in
@@ -282,7 +282,7 @@ module _ (test : ℕ → Bool) (a b : ℕ) where
               omega (arith, e))
         ]
 
-module _ (head : SubsetHead) (s : Sweep) (output : List ℕ) where
+module _ (head : SubsetHead) (s : Scan) (output : List ℕ) where
   pub closed-refused : (s .refused ≡ 0 → ⊥) → RefineClosed head s output (Refused (s .refused)) output
   closed-refused n = record { refuses = λ _. (refl, refl); narrows = λ z. absurd (n z) }
 
@@ -293,8 +293,8 @@ module _ (head : SubsetHead) (s : Sweep) (output : List ℕ) where
         narrows = λ _ ids test output₀ _ grows.
             let d = dense-is head ids (whole-range head (s .found) e) in
             let k = rw d at grows in
-            let all = all-kept test (head .start) (head .end) output₀ output (s .found) k (whole-count head (s .found) e) in
-            rw (d, narrowed-all test (head .start) (head .end) all, all-unwritten test (head .start) (head .end) output₀ output (s .found) k all) (answered-range (head .start) (head .end) output₀);
+            let all-hold = all-kept test (head .start) (head .end) output₀ output (s .found) k (whole-count head (s .found) e) in
+            rw (d, narrowed-all test (head .start) (head .end) all-hold, all-unwritten test (head .start) (head .end) output₀ output (s .found) k all-hold) (answered-range (head .start) (head .end) output₀);
       }
 
   pub closed-list : (n : ℕ) (output′ : List ℕ) → s .refused ≡ 0 → whole head (s .found) ≡ false → Writes output (s .found) n output′ → RefineClosed head s output (Ids n) output′
@@ -312,16 +312,16 @@ module _ (head : SubsetHead) (s : Sweep) (output : List ℕ) where
             ];
       }
     where
-      listed : (ids : List ℕ) (test : ℕ → Bool) (output₀ : List ℕ) → Grows output₀ output (s .found) (keep test (members (list ids))) → Answered (accepted (narrowed test (list ids))) output₀ (Ids n) output′
+      listed : (ids : List ℕ) (test : ℕ → Bool) (output₀ : List ℕ) → Builds output₀ output (s .found) (filter test (members (list ids))) → Answered (accepted (narrowed test (list ids))) output₀ (Ids n) output′
       listed ids test output₀ grows = rw (narrowed-list test ids) (answered-list _ output₀ n output′ (w .writes output₀ _ grows))
 
-module _ (h : Header) (rows : List ℕ) (head : SubsetHead) (ids : List ℕ) (conditions : List Constraint) (output : List ℕ) (s : Sweep) (output′ : List ℕ)
-    (a : SweepAnswered Refine h rows (subsetOf head ids) conditions output s output′) where
+module _ (h : Header) (rows : List ℕ) (head : SubsetHead) (ids : List ℕ) (conditions : List Constraint) (output : List ℕ) (s : Scan) (output′ : List ℕ)
+    (a : ScanAnswered Refine h rows (subsetOf head ids) conditions output s output′) where
   -- what the end of a refine by a list requires
   pub can-close : s .refused ≡ 0 → CanClose head s output′
   can-close z =
       record {
-        order = λ d. formed-order (head .start) (head .end) (rw (dense-is head ids d) at (a .askable z .formed));
+        order = λ d. formed-order (head .start) (head .end) (rw (dense-is head ids d) at (a .queryable z .formed));
         can-write = can-write h rows (subsetOf head ids) conditions output s output′ a z;
       }
 
@@ -332,7 +332,7 @@ module _ (h : Header) (rows : List ℕ) (head : SubsetHead) (ids : List ℕ) (co
       record {
         answered =
             elim (ℕ-discrete (s .refused) 0) [
-              | yes z ↦ answered-accepted _ _ output answer output″ (sym (a .number-is) ∙ z) (c .narrows z ids (matches h rows conditions) output (a .askable z .formed) (kept-all h rows (subsetOf head ids) conditions output s output′ a z))
+              | yes z ↦ answered-accepted _ _ output answer output″ (sym (a .number-is) ∙ z) (c .narrows z ids (matches h rows conditions) output (a .queryable z .formed) (kept-all h rows (subsetOf head ids) conditions output s output′ a z))
               | no n ↦ let r = c .refuses n in rw (r .0, r .1, a .unwritten n) (answered-refused _ _ output (s .refused) (a .number-is) n)
             ];
       }

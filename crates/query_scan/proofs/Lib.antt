@@ -1,5 +1,5 @@
 pub mod AnswerSteps
 pub mod MatchSteps
 pub mod PageSteps
-pub mod SweepSteps
+pub mod ScanSteps
 pub mod Visits

@@ -14,35 +14,35 @@ use Rattle.constraints.specs.declared.Constraint.{Constraint}
 use Rattle.table.specs.declared.Header.{Header}
 use Rattle.query_spec.specs.declared.MatchAnswer.{MatchAnswer}
 use Rattle.query_spec.specs.declared.MatchAnswer.the-variants.{Refused as MatchIsRefused, Match as Matches}
-use Rattle.query_scan.specs.declared.Sweep.{Sweep}
-use Rattle.query_scan.specs.declared.Question.the-variants.{Match}
-use Rattle.query_spec.specs.Queries.{matches, matchRefusal, matchSays, Matched}
-use Rattle.query_scan.specs.inner.Sweeping.{refusalOf, SweepAnswered, MatchClosed}
+use Rattle.query_scan.specs.declared.Scan.{Scan}
+use Rattle.query_scan.specs.declared.QueryKind.the-variants.{Match}
+use Rattle.query_spec.specs.Queries.{matches, matchRefusal, matchView, Matched}
+use Rattle.query_scan.specs.inner.Scanning.{refusalOf, ScanAnswered, MatchClosed}
 use Rattle.query_scan.specs.Visits.{idsVisited}
-use Rattle.query_scan.proofs.Visits.{first-tells}
+use Rattle.query_scan.proofs.Visits.{first-decides}
 
-module _ (s : Sweep) where
+module _ (s : Scan) where
   pub match-refused : (s .refused ≡ 0 → ⊥) → MatchClosed s (MatchIsRefused (s .refused))
-  match-refused n = record { refuses = λ _. refl; tells = λ z. absurd (n z) }
+  match-refused n = record { refuses = λ _. refl; answer-is = λ z. absurd (n z) }
 
-  pub match-told : s .refused ≡ 0 → MatchClosed s (Matches (not (eqb (s .found .count) 0)))
-  match-told z = record { refuses = λ n. absurd (n z); tells = λ _. refl }
+  pub match-found : s .refused ≡ 0 → MatchClosed s (Matches (not (eqb (s .found .count) 0)))
+  match-found z = record { refuses = λ n. absurd (n z); answer-is = λ _. refl }
 
-module _ (h : Header) (rows : List ℕ) (subset : Subset) (conditions : List Constraint) (output : List ℕ) (s : Sweep) (output′ : List ℕ) (a : SweepAnswered Match h rows subset conditions output s output′) where
+module _ (h : Header) (rows : List ℕ) (subset : Subset) (conditions : List Constraint) (output : List ℕ) (s : Scan) (output′ : List ℕ) (a : ScanAnswered Match h rows subset conditions output s output′) where
   abbrev test : ℕ → Bool
   test = matches h rows conditions
 
   found : s .refused ≡ 0 → not (eqb (s .found .count) 0) ≡ any test (members subset)
   unfolding idsVisited
-  found z = ap (λ (n : ℕ). not (eqb n 0)) (a .grows z .number) ∙ first-tells test (members subset)
+  found z = ap (λ (n : ℕ). not (eqb n 0)) (a .grows z .number) ∙ first-decides test (members subset)
 
   pub match-answered : (answer : MatchAnswer) → MatchClosed s answer → Matched h rows subset conditions answer
-  unfolding matchSays refusalOf
+  unfolding matchView refusalOf
   match-answered answer c =
       record {
         answers =
             elim (ℕ-discrete (s .refused) 0) [
-              | yes z ↦ rw (c .tells z) (reply-accepted (accepted (not (eqb (s .found .count) 0))) (matchRefusal h (length rows) subset conditions) (any test (members subset)) (ap accepted (found z)) (sym (a .number-is) ∙ z))
+              | yes z ↦ rw (c .answer-is z) (reply-accepted (accepted (not (eqb (s .found .count) 0))) (matchRefusal h (length rows) subset conditions) (any test (members subset)) (ap accepted (found z)) (sym (a .number-is) ∙ z))
               | no n ↦ rw (c .refuses n) (reply-refused (refused (s .refused)) (matchRefusal h (length rows) subset conditions) (s .refused) (any test (members subset)) refl (a .number-is) n)
             ];
       }

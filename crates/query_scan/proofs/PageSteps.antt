@@ -9,21 +9,21 @@ use native.Mathlib.Omega.{arith}
 use lib.Dec.{ltb}
 use lib.ListN.{length}
 use borrow.Author.Tests.{lt-ltb, le-ltb}
-use Rattle.lists.specs.Lists.{putAt, keep}
+use Rattle.lists.specs.Lists.{splice, filter}
 use Rattle.refusals.specs.Refusals.{refused, accepted}
 use Rattle.refusals.specs.Laws.Replies.{reply-refused, reply-accepted}
 use Rattle.offsets.specs.Subsets.{Subset, size}
-use Rattle.offsets_retain.specs.inner.Growing.{Grows}
+use Rattle.offsets_retain.specs.inner.RetainBuilder.{Builds}
 use Rattle.constraints.specs.declared.Constraint.{Constraint}
 use Rattle.table.specs.declared.Header.{Header}
 use Rattle.query_spec.specs.declared.NextPlace.{NextPlace}
 use Rattle.query_spec.specs.declared.NextPlace.the-variants.{None, At}
 use Rattle.query_spec.specs.declared.PageAnswer.{PageAnswer}
 use Rattle.query_spec.specs.declared.PageAnswer.the-variants.{Refused as PageIsRefused, Page as Paged}
-use Rattle.query_scan.specs.declared.Sweep.{Sweep}
-use Rattle.query_scan.specs.declared.Question.the-variants.{Page}
-use Rattle.query_spec.specs.Queries.{matches, deadAmong, pageRefusal, visited, nextPlace, pageIds, PageReply, nextSays, pageSays, pageReply, PageRead}
-use Rattle.query_scan.specs.inner.Sweeping.{firstPlace, roomAsked, refusalOf, SweepAnswered, CanWrite, Writes, nextOf, nextAt, PageClosed}
+use Rattle.query_scan.specs.declared.Scan.{Scan}
+use Rattle.query_scan.specs.declared.QueryKind.the-variants.{Page}
+use Rattle.query_spec.specs.Queries.{matches, deadAmong, pageRefusal, visited, nextPlace, pageIds, PageReply, nextView, pageView, pageReply, PageRead}
+use Rattle.query_scan.specs.inner.Scanning.{firstPlace, roomRequired, refusalOf, ScanAnswered, CanWrite, Writes, nextOf, nextAt, PageClosed}
 use Rattle.query_scan.specs.Visits.{idsVisited}
 use Rattle.query_scan.proofs.Visits.{length-visited, visited-end, kept-few}
 
@@ -38,7 +38,7 @@ module _ (subset : Subset) (next : ℕ) where
   unfolding nextAt nextOf
   next-none l = rw (le-ltb next (size subset) l)
 
-module _ (subset : Subset) (s : Sweep) (output : List ℕ) where
+module _ (subset : Subset) (s : Scan) (output : List ℕ) where
   pub page-refused : (s .refused ≡ 0 → ⊥) → PageClosed subset s output (PageIsRefused (s .refused)) output
   page-refused m = record { refuses = λ _. (refl, refl); pages = λ z. absurd (m z) }
 
@@ -53,8 +53,8 @@ module _ (subset : Subset) (s : Sweep) (output : List ℕ) where
 
 -- ---- the answer
 
-next-back : (m : Option ℕ) → nextSays (nextOf m) ≡ m
-unfolding nextSays nextOf
+next-back : (m : Option ℕ) → nextView (nextOf m) ≡ m
+unfolding nextView nextOf
 next-back none = refl
 next-back (some place) = refl
 
@@ -69,20 +69,20 @@ next-is subset start n next l e =
           rw (a, b)
     ]
 
-module _ (h : Header) (rows : List ℕ) (subset : Subset) (start n : ℕ) (conditions : List Constraint) (output : List ℕ) (s : Sweep) (output′ : List ℕ)
-    (a : SweepAnswered (Page start n) h rows subset conditions output s output′) where
+module _ (h : Header) (rows : List ℕ) (subset : Subset) (start n : ℕ) (conditions : List Constraint) (output : List ℕ) (s : Scan) (output′ : List ℕ)
+    (a : ScanAnswered (Page start n) h rows subset conditions output s output′) where
   abbrev keeps : ℕ → Bool
   keeps = matches h rows conditions
 
-  page-kept : s .refused ≡ 0 → Grows output output′ (s .found) (keep keeps (visited subset start n))
+  page-kept : s .refused ≡ 0 → Builds output output′ (s .found) (filter keeps (visited subset start n))
   unfolding idsVisited
   page-kept z = a .grows z
 
   -- what the end of a page requires
   pub can-page : s .refused ≡ 0 → CanWrite output′ (s .found)
-  unfolding roomAsked
+  unfolding roomRequired
   can-page z =
-      let few : length (keep keeps (visited subset start n)) ≤ min n (size subset - start) = rw (← visited-end subset start n) (kept-few subset keeps start (min n (size subset - start))) in
+      let few : length (filter keeps (visited subset start n)) ≤ min n (size subset - start) = rw (← visited-end subset start n) (kept-few subset keeps start (min n (size subset - start))) in
       record { output₀ = output; kept = _; grows = page-kept z; room = omega (arith, a .in-room z) }
 
   -- and answers
@@ -97,7 +97,7 @@ module _ (h : Header) (rows : List ℕ) (subset : Subset) (start n : ℕ) (condi
       number = unfold refusalOf in a .number-is
 
       ids : List ℕ
-      ids = keep keeps (visited subset start n)
+      ids = filter keeps (visited subset start n)
 
       read : PageReply
       read = record { written = length ids; dead = deadAmong h rows (visited subset start n); next = nextPlace subset start n }
@@ -105,27 +105,27 @@ module _ (h : Header) (rows : List ℕ) (subset : Subset) (start n : ℕ) (condi
       dead-is : s .refused ≡ 0 → s .dead ≡ read .dead
       dead-is z = unfold idsVisited in a .counted z .dead
 
-      goes-on : s .refused ≡ 0 → nextSays (nextOf (nextAt subset (s .next))) ≡ nextPlace subset start n
+      goes-on : s .refused ≡ 0 → nextView (nextOf (nextAt subset (s .next))) ≡ nextPlace subset start n
       goes-on z = unfold idsVisited firstPlace in
           let l : start ≤ size subset = a .within z in
           let k : length (visited subset start n) ≡ min n (size subset - start) = rw (← visited-end subset start n) (length-visited subset start (min n (size subset - start)) (omega arith)) in
           next-back _ ∙ next-is subset start n (s .next) l (a .counted z .next ∙ ap (λ (i : ℕ). start + i) k)
 
       accepts : s .refused ≡ 0 → pageRefusal h (length rows) subset start n conditions (length output) ≡ 0 → answer ≡ Paged (record { written = length ids; dead = s .dead; next = nextOf (nextAt subset (s .next)) })
-          → output″ ≡ putAt output 0 ids → PageRead h rows subset start n conditions output answer output″
-      accepts y z p q = unfold pageReply pageIds pageSays in
+          → output″ ≡ splice output 0 ids → PageRead h rows subset start n conditions output answer output″
+      accepts y z p q = unfold pageReply pageIds pageView in
           record {
             answers =
-                ap pageSays p ∙ ap₂ (λ (d : ℕ) (m : Option ℕ). accepted (record { written = length ids; dead = d; next = m })) (dead-is y) (goes-on y)
+                ap pageView p ∙ ap₂ (λ (d : ℕ) (m : Option ℕ). accepted (record { written = length ids; dead = d; next = m })) (dead-is y) (goes-on y)
                 ∙ reply-accepted (accepted read) (pageRefusal h (length rows) subset start n conditions (length output)) read refl z;
             unchanged = λ m. absurd (omega (arith, z, m));
             written = λ _. q;
           }
 
       refuses : (m : ℕ) → m ≡ pageRefusal h (length rows) subset start n conditions (length output) → (m ≡ 0 → ⊥) → answer ≡ PageIsRefused m → output″ ≡ output → PageRead h rows subset start n conditions output answer output″
-      refuses m z l p q = unfold pageReply pageIds pageSays in
+      refuses m z l p q = unfold pageReply pageIds pageView in
           record {
-            answers = ap pageSays p ∙ reply-refused (refused m) (pageRefusal h (length rows) subset start n conditions (length output)) m read refl z l;
+            answers = ap pageView p ∙ reply-refused (refused m) (pageRefusal h (length rows) subset start n conditions (length output)) m read refl z l;
             unchanged = λ _. q;
             written = λ e. absurd (l (z ∙ e));
           }

@@ -10,14 +10,14 @@ use native.Mathlib.Omega.{arith}
 use lib.Dec.{eqb}
 use lib.ListN.{length, take, drop, getD, length-take, length-drop}
 use lib.Seq.{getD-drop, take-suc, take-all, drop-cons}
-use Rattle.lists.specs.Lists.{keep, any}
-use Rattle.lists.specs.Laws.Keep.{split, length-keep, count-le, count-append}
+use Rattle.lists.specs.Lists.{filter, any}
+use Rattle.lists.specs.Laws.Filter.{split, length-filter, count-le, count-append}
 use Rattle.offsets.specs.Subsets.{Subset, members, size}
 use Rattle.offsets.specs.Laws.Subsets.{length-members}
 use Rattle.table.specs.declared.Header.{Header}
 use Rattle.query_spec.specs.Queries.{deadAmong, visited}
 use Rattle.query_scan.specs.Visits.{upToFirst}
-use Rattle.query_scan.specs.inner.Sweeping.{upTo}
+use Rattle.query_scan.specs.inner.Scanning.{upTo}
 
 -- ---- up to the nth that passes
 
@@ -53,13 +53,13 @@ module _ (test : ℕ → Bool) where
   upTo-first (x ∷ xs) = rw (upTo-first xs)
 
   -- whether any passes is seen by the first that does
-  pub first-tells : (ids : List ℕ) → not (eqb (length (keep test (upToFirst test ids))) 0) ≡ any test ids
-  unfolding any keep upToFirst
-  first-tells [] = refl
-  first-tells (x ∷ xs) =
+  pub first-decides : (ids : List ℕ) → not (eqb (length (filter test (upToFirst test ids))) 0) ≡ any test ids
+  unfolding any filter upToFirst
+  first-decides [] = refl
+  first-decides (x ∷ xs) =
       elim (split (test x)) [
         | inl e ↦ rw e
-        | inr e ↦ rw e (first-tells xs)
+        | inr e ↦ rw e (first-decides xs)
       ]
 
 -- ---- ids from a place on
@@ -108,11 +108,11 @@ visited-first subset next end l m =
     let d : drop next (members subset) ≡ getD (members subset) next 0 ∷ drop (suc next) (members subset) = drop-cons (members subset) next 0 (omega (arith, length-members subset)) in
     rw (k, d, add-one next)
 
-pub kept-few : (subset : Subset) (test : ℕ → Bool) (start k : ℕ) → length (keep test (visited subset start k)) ≤ k
+pub kept-few : (subset : Subset) (test : ℕ → Bool) (start k : ℕ) → length (filter test (visited subset start k)) ≤ k
 unfolding visited
 kept-few subset test start k =
     let l = take k (drop start (members subset)) in
-    let a = length-keep test l in
+    let a = length-filter test l in
     let b = count-le test l in
     let c : length l ≤ k = rw (length-take k (drop start (members subset))) (omega arith) in
     omega arith

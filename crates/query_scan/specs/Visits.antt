@@ -9,9 +9,9 @@ use lib.ListN.{length}
 use Rattle.offsets.specs.Subsets.{Subset, members}
 use Rattle.table.specs.declared.Header.{Header}
 use Rattle.query_spec.specs.Queries.{deadAmong, visited}
-use Rattle.query_scan.specs.declared.Sweep.{Sweep}
-use Rattle.query_scan.specs.declared.Question.{Question}
-use Rattle.query_scan.specs.declared.Question.the-variants.{Refine, Match, Page}
+use Rattle.query_scan.specs.declared.Scan.{Scan}
+use Rattle.query_scan.specs.declared.QueryKind.{QueryKind}
+use Rattle.query_scan.specs.declared.QueryKind.the-variants.{Refine, Match, Page}
 
 -- the ids up to and including the first that passes the test; all if none does
 unfoldable pub upToFirst : (ℕ → Bool) → List ℕ → List ℕ
@@ -20,12 +20,12 @@ upToFirst test (id ∷ ids) = id ∷ cond (test id) [] (upToFirst test ids)
 
 -- a refinement visits all members, any match the members up to and including the first that matches, a page n from its start place
 -- on
-unfoldable pub idsVisited : Question → (ℕ → Bool) → Subset → List ℕ
+unfoldable pub idsVisited : QueryKind → (ℕ → Bool) → Subset → List ℕ
 idsVisited Refine test subset = members subset
 idsVisited Match test subset = upToFirst test (members subset)
 idsVisited (Page start n) test subset = visited subset start n
 
 -- a loop that started at a place has visited these ids, one at each place, and has counted those whose rows are dead
-pub record Counted (h : Header) (rows : List ℕ) (from : ℕ) (ids : List ℕ) (s : Sweep) : Type 0 where
+pub record Counted (h : Header) (rows : List ℕ) (from : ℕ) (ids : List ℕ) (s : Scan) : Type 0 where
   pub next : s .next ≡ from + length ids
   pub dead : s .dead ≡ deadAmong h rows ids

@@ -1,5 +1,5 @@
 // A scan over places of a subset, row by row, which refine, any match and page share. They differ in the places, and in the number
-// of matches that ends the scan. The ids of matching rows are collected in a `Growing`, so nothing is written while they are
+// of matches that ends the scan. The ids of matching rows are collected in a `RetainBuilder`, so nothing is written while they are
 // neighbours.
 ghost use mathlib.Core.Path.{_≡_};
 ghost use mathlib.Core.Bool.{true};
@@ -11,13 +11,13 @@ ghost use Rattle.constraints.specs.Constraints as rules;
 ghost use Rattle.offsets.specs.Answers.{subsetOf};
 ghost use Rattle.offsets.specs.Subsets as subsets;
 ghost use Rattle.offsets.specs.Subsets.{members};
-ghost use Rattle.offsets_retain.specs.inner.Growing.{CanAdd};
+ghost use Rattle.offsets_retain.specs.inner.RetainBuilder.{CanAdd};
 ghost use Rattle.query_spec.specs.Queries.{matches, deadAmong};
-ghost use Rattle.query_scan.specs.inner.Sweeping.{RowLies, RowNeeded, starts, passes, BeginsAt, CanMove, Moves, Keeps, CanStep, SweepSteps, Sweepable, Finished, SweepBegins, SweepAnswered, CanWrite, Writes, whole, CanClose, RefineClosed, nextOf, nextAt, PageClosed, MatchClosed};
+ghost use Rattle.query_scan.specs.inner.Scanning.{RowInStore, RowNeeded, starts, passes, BeginsAt, CanMove, Moves, Keeps, CanStep, ScanSteps, CanStart, Finished, ScanStarts, ScanAnswered, CanWrite, Writes, whole, CanClose, RefineClosed, nextOf, nextAt, PageClosed, MatchClosed};
 use constraints::Constraint;
 use offsets::SubsetAnswer;
 use offsets::SubsetHead;
-use offsets_retain::Growing;
+use offsets_retain::RetainBuilder;
 use query_spec::MatchAnswer;
 use query_spec::NextPlace;
 use query_spec::Page;
@@ -31,14 +31,14 @@ use table::Header;
 // The state of a scan. It continues at place `next`, whose id is `id`, up to `end` or until `most` ids are kept. `dead` is the
 // number of visited ids whose rows are dead. A refused query has its number, and no places. All fields are plain numbers, which a
 // loop holds in registers.
-pub struct Sweep {
+pub struct Scan {
     pub refused: u32,
     pub next: u32,
     pub end: u32,
     pub id: u32,
     pub most: u32,
     pub dead: u32,
-    pub found: Growing,
+    pub found: RetainBuilder,
 }
 
 // What conditions are tested for: that they are known, or that a row is live and meets them.
@@ -48,7 +48,7 @@ pub enum Test {
 }
 
 // A query over a subset. A page has its start place and the number of ids that it visits.
-pub enum Question {
+pub enum QueryKind {
     Refine,
     Match,
     Page(u32, usize),
@@ -58,7 +58,7 @@ pub enum Question {
 
 // Whether the row is live, by its first cell.
 fn is_live_at(h: Header, rows: &[u32], id: u32) -> bool
-    requires { ⌜ RowLies h (length (now rows)) id ⌝ }
+    requires { ⌜ RowInStore h (length (now rows)) id ⌝ }
     ensures { λ r. ⌜ r ≡ rules.isLive (rowAt (h .columns) id (now (rows .entry))) ⌝ }
 {
     let from = (id as usize) * (h.columns as usize);
@@ -67,7 +67,7 @@ fn is_live_at(h: Header, rows: &[u32], id: u32) -> bool
 
 // Whether the cells of the row meet the condition.
 fn is_met_at(h: Header, rows: &[u32], id: u32, c: Constraint) -> bool
-    requires { ⌜ RowLies h (length (now rows)) id ⌝ }
+    requires { ⌜ RowInStore h (length (now rows)) id ⌝ }
     ensures { λ r. ⌜ r ≡ rules.met (rowAt (h .columns) id (now (rows .entry))) c ⌝ }
 {
     let from = (id as usize) * (h.columns as usize);
@@ -78,7 +78,7 @@ fn is_met_at(h: Header, rows: &[u32], id: u32, c: Constraint) -> bool
 // Whether the row meets the condition and is live. The condition is tested first: it fails more often, and the branch is predicted
 // better.
 fn is_match(h: Header, rows: &[u32], id: u32, c: Constraint) -> bool
-    requires { ⌜ RowLies h (length (now rows)) id ⌝ }
+    requires { ⌜ RowInStore h (length (now rows)) id ⌝ }
     ensures { λ r. ⌜ r ≡ matches h (now (rows .entry)) (c ∷ []) id ⌝ }
 {
     if !is_met_at(h, rows, id, c) {
@@ -89,7 +89,7 @@ fn is_match(h: Header, rows: &[u32], id: u32, c: Constraint) -> bool
 
 // 1 for a dead row, else 0.
 fn dead_at(h: Header, rows: &[u32], id: u32) -> u32
-    requires { ⌜ RowLies h (length (now rows)) id ⌝ }
+    requires { ⌜ RowInStore h (length (now rows)) id ⌝ }
     ensures { λ r. ⌜ r ≡ deadAmong h (now (rows .entry)) (id ∷ []) ⌝ }
 {
     if is_live_at(h, rows, id) {
@@ -137,11 +137,11 @@ fn id_at(head: SubsetHead, ids: &[u32], place: u32) -> u32
 }
 
 // The state at the start of a scan. Without places it has no id.
-fn at_place(head: SubsetHead, ids: &[u32], refused: u32, next: u32, end: u32, most: u32) -> Sweep
+fn at_place(head: SubsetHead, ids: &[u32], refused: u32, next: u32, end: u32, most: u32) -> Scan
     requires { ⌜ end ≤ subsets.size (subsetOf head (now ids)) ⌝ }
     ensures { λ r. ⌜ BeginsAt (subsetOf head (now (ids .entry))) refused next end most r ⌝ }
 {
-    let mut s = Sweep {
+    let mut s = Scan {
         refused: refused,
         next: next,
         end: end,
@@ -157,7 +157,7 @@ fn at_place(head: SubsetHead, ids: &[u32], refused: u32, next: u32, end: u32, mo
 }
 
 // Keeps the id at the next place. The scan ends when the wanted number of ids is kept.
-fn keep_id(s: Sweep, out: &mut [u32]) -> Sweep
+fn keep_id(s: Scan, out: &mut [u32]) -> Scan
     requires { ⌜ (s .next < s .end) × CanAdd (now out) (s .found) (s .id) ⌝ }
     ensures { λ r. ⌜ Keeps s (now (out .entry)) r (now (out .exit)) ⌝ }
 {
@@ -171,7 +171,7 @@ fn keep_id(s: Sweep, out: &mut [u32]) -> Sweep
 }
 
 // Moves to the next place. In a range the id increases by one, whether or not that place exists.
-fn move_on(head: SubsetHead, ids: &[u32], s: Sweep) -> Sweep
+fn move_on(head: SubsetHead, ids: &[u32], s: Scan) -> Scan
     requires { ⌜ CanMove (subsetOf head (now ids)) s ⌝ }
     ensures { λ r. ⌜ Moves (subsetOf head (now (ids .entry))) s r ⌝ }
 {
@@ -193,12 +193,12 @@ pub fn step(
     rows: &[u32],
     head: SubsetHead,
     ids: &[u32],
-    s: Sweep,
+    s: Scan,
     hit: bool,
     out: &mut [u32],
-) -> Sweep
+) -> Scan
     requires { ⌜ CanStep h (length (now rows)) (subsetOf head (now ids)) s hit (now out) ⌝ }
-    ensures { λ r. ⌜ SweepSteps h (now (rows .entry)) (subsetOf head (now (ids .entry))) s hit (now (out .entry)) r (now (out .exit)) ⌝ }
+    ensures { λ r. ⌜ ScanSteps h (now (rows .entry)) (subsetOf head (now (ids .entry))) s hit (now (out .entry)) r (now (out .exit)) ⌝ }
 {
     let mut n = s;
     n.dead = s.dead + dead_at(h, rows, s.id);
@@ -216,10 +216,10 @@ fn retain(
     head: SubsetHead,
     ids: &[u32],
     c: Constraint,
-    s: Sweep,
+    s: Scan,
     out: &mut [u32],
-) -> Sweep
-    requires { ⌜ Sweepable h (length (now rows)) (subsetOf head (now ids)) s (now out) ⌝ }
+) -> Scan
+    requires { ⌜ CanStart h (length (now rows)) (subsetOf head (now ids)) s (now out) ⌝ }
     ensures { λ r. ⌜ Finished h (now (rows .entry)) (subsetOf head (now (ids .entry))) (matches h (now (rows .entry)) (c ∷ [])) s (now (out .entry)) r (now (out .exit)) ⌝ }
 {
     let mut at = s;
@@ -240,8 +240,8 @@ fn open_refine(
     ids: &[u32],
     known: bool,
     output: usize,
-) -> Sweep
-    ensures { λ r. ⌜ SweepBegins Question.Refine h rows (subsetOf head (now (ids .entry))) known output r ⌝ }
+) -> Scan
+    ensures { λ r. ⌜ ScanStarts QueryKind.Refine h rows (subsetOf head (now (ids .entry))) known output r ⌝ }
 {
     let number = refine_refusal(h, rows, head, ids, known, output);
     if number != 0 {
@@ -252,8 +252,8 @@ fn open_refine(
 }
 
 // Starts a search for a match: refused, or over all places up to the first match.
-fn open_match(h: Header, rows: usize, head: SubsetHead, ids: &[u32], known: bool) -> Sweep
-    ensures { λ r. ⌜ ((output : ℕ) → SweepBegins Question.Match h rows (subsetOf head (now (ids .entry))) known output r) ⌝ }
+fn open_match(h: Header, rows: usize, head: SubsetHead, ids: &[u32], known: bool) -> Scan
+    ensures { λ r. ⌜ ((output : ℕ) → ScanStarts QueryKind.Match h rows (subsetOf head (now (ids .entry))) known output r) ⌝ }
 {
     let number = match_refusal(h, rows, head, ids, known);
     if number != 0 {
@@ -273,8 +273,8 @@ fn open_page(
     n: usize,
     known: bool,
     output: usize,
-) -> Sweep
-    ensures { λ r. ⌜ SweepBegins (Question.Page start n) h rows (subsetOf head (now (ids .entry))) known output r ⌝ }
+) -> Scan
+    ensures { λ r. ⌜ ScanStarts (QueryKind.Page start n) h rows (subsetOf head (now (ids .entry))) known output r ⌝ }
 {
     let number = page_refusal(h, rows, head, ids, start, n, known, output);
     if number != 0 {
@@ -286,34 +286,34 @@ fn open_page(
 }
 
 // Starts a query: refused, or over its places.
-pub fn opening(
-    question: Question,
+pub fn begin(
+    query: QueryKind,
     h: Header,
     rows: usize,
     head: SubsetHead,
     ids: &[u32],
     known: bool,
     output: usize,
-) -> Sweep
-    ensures { λ r. ⌜ SweepBegins question h rows (subsetOf head (now (ids .entry))) known output r ⌝ }
+) -> Scan
+    ensures { λ r. ⌜ ScanStarts query h rows (subsetOf head (now (ids .entry))) known output r ⌝ }
 {
-    match question {
-        Question::Refine => open_refine(h, rows, head, ids, known, output),
-        Question::Match => open_match(h, rows, head, ids, known),
-        Question::Page(start, n) => open_page(h, rows, head, ids, start, n, known, output),
+    match query {
+        QueryKind::Refine => open_refine(h, rows, head, ids, known, output),
+        QueryKind::Match => open_match(h, rows, head, ids, known),
+        QueryKind::Page(start, n) => open_page(h, rows, head, ids, start, n, known, output),
     }
 }
 
 // Refine by one: refused, or all places scanned by the condition.
-pub fn ask_one(
+pub fn scan_one(
     h: Header,
     rows: &[u32],
     head: SubsetHead,
     ids: &[u32],
     c: Constraint,
     out: &mut [u32],
-) -> Sweep
-    ensures { λ r. ⌜ SweepAnswered Question.Refine h (now (rows .entry)) (subsetOf head (now (ids .entry))) (c ∷ []) (now (out .entry)) r (now (out .exit)) ⌝ }
+) -> Scan
+    ensures { λ r. ⌜ ScanAnswered QueryKind.Refine h (now (rows .entry)) (subsetOf head (now (ids .entry))) (c ∷ []) (now (out .entry)) r (now (out .exit)) ⌝ }
 {
     let known = constraints::known(c, h.columns);
     let begun = open_refine(h, rows.len(), head, ids, known, out.len());
@@ -323,7 +323,7 @@ pub fn ask_one(
 // ---- the end
 
 // Writes the ids kept to the start of the output, unless they are there already. Returns their number.
-pub fn write_found(g: Growing, out: &mut [u32]) -> u32
+pub fn write_found(g: RetainBuilder, out: &mut [u32]) -> u32
     requires { ⌜ CanWrite (now out) g ⌝ }
     ensures { λ r. ⌜ Writes (now (out .entry)) g r (now (out .exit)) ⌝ }
 {
@@ -334,7 +334,7 @@ pub fn write_found(g: Growing, out: &mut [u32]) -> u32
 }
 
 // Whether the ids kept are all ids of a range.
-fn is_whole(head: SubsetHead, g: Growing) -> bool
+fn is_whole(head: SubsetHead, g: RetainBuilder) -> bool
     requires { ⌜ (head .dense ≡ true → head .start ≤ head .end) ⌝ }
     ensures { λ r. ⌜ r ≡ whole head g ⌝ }
 {
@@ -345,7 +345,7 @@ fn is_whole(head: SubsetHead, g: Growing) -> bool
 }
 
 // Ends a refine by a list: refused, the unchanged range, or a list.
-pub fn close_refine(head: SubsetHead, s: Sweep, out: &mut [u32]) -> SubsetAnswer
+pub fn close_refine(head: SubsetHead, s: Scan, out: &mut [u32]) -> SubsetAnswer
     requires { ⌜ (s .refused ≡ 0 → CanClose head s (now out)) ⌝ }
     ensures { λ r. ⌜ RefineClosed head s (now (out .entry)) r (now (out .exit)) ⌝ }
 {
@@ -369,7 +369,7 @@ fn next_place(head: SubsetHead, ids: &[u32], next: u32) -> NextPlace
 }
 
 // Ends a page: writes its ids.
-pub fn close_page(head: SubsetHead, ids: &[u32], s: Sweep, out: &mut [u32]) -> PageAnswer
+pub fn close_page(head: SubsetHead, ids: &[u32], s: Scan, out: &mut [u32]) -> PageAnswer
     requires { ⌜ (s .refused ≡ 0 → CanWrite (now out) (s .found)) ⌝ }
     ensures { λ r. ⌜ PageClosed (subsetOf head (now (ids .entry))) s (now (out .entry)) r (now (out .exit)) ⌝ }
 {
@@ -386,7 +386,7 @@ pub fn close_page(head: SubsetHead, ids: &[u32], s: Sweep, out: &mut [u32]) -> P
 }
 
 // Ends a search for a match: refused, or whether there is one.
-pub fn close_match(s: Sweep) -> MatchAnswer
+pub fn close_match(s: Scan) -> MatchAnswer
     ensures { λ r. ⌜ MatchClosed s r ⌝ }
 {
     if s.refused != 0 {

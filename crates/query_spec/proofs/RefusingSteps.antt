@@ -7,24 +7,24 @@ use mathlib.Core.List.{List, [], _∷_}
 use native.Mathlib.Omega.{arith}
 use lib.Dec.{ltb}
 use borrow.Author.Tests.{lt-ltb, le-ltb}
-use Rattle.lists.specs.Lists.{every}
-use Rattle.lists.specs.Laws.Keep.{split}
-use Rattle.refusals.specs.Refusals.{Rung, rung, first}
+use Rattle.lists.specs.Lists.{all}
+use Rattle.lists.specs.Laws.Filter.{split}
+use Rattle.refusals.specs.Refusals.{Check, check, firstRefusal}
 use Rattle.offsets.specs.declared.BoundsAnswer.{BoundsAnswer}
 use Rattle.offsets.specs.declared.BoundsAnswer.the-variants.{None, Ends}
 use Rattle.offsets.specs.Subsets.{Subset, wellFormed, size}
 use Rattle.offsets.specs.Laws.Forms.{end-none, end-some}
-use Rattle.offsets.specs.inner.Writing.{bounds, boundsSays}
+use Rattle.offsets.specs.inner.Writing.{bounds, boundsView}
 use Rattle.constraints.specs.declared.Constraint.{Constraint}
 use Rattle.constraints.specs.Constraints.{known}
 use Rattle.table.specs.declared.Header.{Header}
 use Rattle.table.specs.Refusing.{outside, rowsShort}
-use Rattle.query_spec.specs.Queries.{pastRows, tests, refineRefusal, matchRefusal, pageRefusal}
-use Rattle.query_spec.specs.inner.Tests.{Askable, subsetRefusal, RefineRefused, MatchRefused, PageRefused}
+use Rattle.query_spec.specs.Queries.{pastRows, queryChecks, refineRefusal, matchRefusal, pageRefusal}
+use Rattle.query_spec.specs.inner.Tests.{Queryable, subsetRefusal, RefineRefused, MatchRefused, PageRefused}
 
 -- ---- test 5
 
-module _ (h : Header) (subset : Subset) (r : BoundsAnswer) (e : boundsSays r ≡ bounds subset) where
+module _ (h : Header) (subset : Subset) (r : BoundsAnswer) (e : boundsView r ≡ bounds subset) where
   pub past-none : r ≡ None → false ≡ pastRows h subset
   unfolding pastRows
   past-none q = sym (le-ltb (h .rows) 0 (omega arith)) ∙ ap (ltb (h .rows)) (sym (end-none subset r e q))
@@ -37,27 +37,27 @@ module _ (h : Header) (subset : Subset) (r : BoundsAnswer) (e : boundsSays r ≡
 
 module _ (h : Header) (rows : ℕ) (subset : Subset) where
   pub refused-outside : outside h ≡ true → 1 ≡ subsetRefusal h rows subset
-  unfolding subsetRefusal first
+  unfolding subsetRefusal firstRefusal
   refused-outside a = rw a
 
   pub refused-rows : outside h ≡ false → rowsShort h rows ≡ true → 2 ≡ subsetRefusal h rows subset
-  unfolding subsetRefusal first
+  unfolding subsetRefusal firstRefusal
   refused-rows a b = rw (a, b)
 
   pub refused-form : outside h ≡ false → rowsShort h rows ≡ false → wellFormed subset ≡ false → 4 ≡ subsetRefusal h rows subset
-  unfolding subsetRefusal first
+  unfolding subsetRefusal firstRefusal
   refused-form a b c = rw (a, b, c)
 
   pub refused-past : outside h ≡ false → rowsShort h rows ≡ false → wellFormed subset ≡ true → pastRows h subset ≡ true → 5 ≡ subsetRefusal h rows subset
-  unfolding subsetRefusal first
+  unfolding subsetRefusal firstRefusal
   refused-past a b c d = rw (a, b, c, d)
 
   pub refused-not : outside h ≡ false → rowsShort h rows ≡ false → wellFormed subset ≡ true → pastRows h subset ≡ false → 0 ≡ subsetRefusal h rows subset
-  unfolding subsetRefusal first
+  unfolding subsetRefusal firstRefusal
   refused-not a b c d = rw (a, b, c, d)
 
-  pub askable-of : subsetRefusal h rows subset ≡ 0 → Askable h rows subset
-  askable-of e =
+  pub queryable-of : subsetRefusal h rows subset ≡ 0 → Queryable h rows subset
+  queryable-of e =
       elim (split (outside h)) [
         | inl a ↦ absurd (let z = refused-outside a in omega arith)
         | inr a ↦ elim (split (rowsShort h rows)) [
@@ -73,9 +73,9 @@ module _ (h : Header) (rows : ℕ) (subset : Subset) where
       ]
 
   -- if one of them applies, no later test matters; a query may extend test 5
-  refused-early : (beyond : Bool) (rest : List Rung) → (pastRows h subset ≡ true → beyond ≡ true) → (subsetRefusal h rows subset ≡ 0 → ⊥)
-      → subsetRefusal h rows subset ≡ first (rung (outside h) 1 ∷ rung (rowsShort h rows) 2 ∷ rung (not (wellFormed subset)) 4 ∷ rung beyond 5 ∷ rest)
-  unfolding subsetRefusal first
+  refused-early : (beyond : Bool) (rest : List Check) → (pastRows h subset ≡ true → beyond ≡ true) → (subsetRefusal h rows subset ≡ 0 → ⊥)
+      → subsetRefusal h rows subset ≡ firstRefusal (check (outside h) 1 ∷ check (rowsShort h rows) 2 ∷ check (not (wellFormed subset)) 4 ∷ check beyond 5 ∷ rest)
+  unfolding subsetRefusal firstRefusal
   refused-early beyond rest wide n =
       elim (split (outside h)) [
         | inl a ↦ rw a
@@ -96,84 +96,84 @@ module _ (h : Header) (rows : ℕ) (subset : Subset) where
   module _ (output : ℕ) where
     module _ (conditions : List Constraint) where
       refine-shared : (subsetRefusal h rows subset ≡ 0 → ⊥) → subsetRefusal h rows subset ≡ refineRefusal h rows subset conditions output
-      unfolding refineRefusal tests
+      unfolding refineRefusal queryChecks
       refine-shared n = refused-early (pastRows h subset) _ (λ d. d) n
 
-      refine-rest : (knows : Bool) → Askable h rows subset → knows ≡ every (known (h .columns)) conditions
-          → refineRefusal h rows subset conditions output ≡ first (rung (not knows) 6 ∷ rung (ltb output (size subset)) 2 ∷ [])
-      unfolding refineRefusal first tests
+      refine-rest : (knows : Bool) → Queryable h rows subset → knows ≡ all (known (h .columns)) conditions
+          → refineRefusal h rows subset conditions output ≡ firstRefusal (check (not knows) 6 ∷ check (ltb output (size subset)) 2 ∷ [])
+      unfolding refineRefusal firstRefusal queryChecks
       refine-rest knows a k = rw (a .inside, a .long, a .formed, a .below, k)
 
     pub refine-early : (knows : Bool) (number : ℕ) → number ≡ subsetRefusal h rows subset → (number ≡ 0 → ⊥) → RefineRefused h rows subset knows output number
     refine-early knows number e n =
         record {
           number-is = λ conditions k. e ∙ refine-shared conditions (λ z. n (e ∙ z));
-          askable = λ z. absurd (n z);
+          queryable = λ z. absurd (n z);
           room = λ z. absurd (n z);
         }
 
     module _ (knows : Bool) (e : subsetRefusal h rows subset ≡ 0) where
       pub refine-unknown : knows ≡ false → RefineRefused h rows subset knows output 6
-      unfolding first
+      unfolding firstRefusal
       refine-unknown f =
           record {
-            number-is = λ conditions k. sym (refine-rest conditions knows (askable-of e) k ∙ rw f);
-            askable = λ z. absurd (omega arith);
+            number-is = λ conditions k. sym (refine-rest conditions knows (queryable-of e) k ∙ rw f);
+            queryable = λ z. absurd (omega arith);
             room = λ z. absurd (omega arith);
           }
 
       pub refine-narrow : knows ≡ true → output < size subset → RefineRefused h rows subset knows output 2
-      unfolding first
+      unfolding firstRefusal
       refine-narrow f n =
           record {
-            number-is = λ conditions k. sym (refine-rest conditions knows (askable-of e) k ∙ rw (f, lt-ltb output (size subset) n));
-            askable = λ z. absurd (omega arith);
+            number-is = λ conditions k. sym (refine-rest conditions knows (queryable-of e) k ∙ rw (f, lt-ltb output (size subset) n));
+            queryable = λ z. absurd (omega arith);
             room = λ z. absurd (omega arith);
           }
 
       pub refine-allowed : knows ≡ true → size subset ≤ output → RefineRefused h rows subset knows output 0
-      unfolding first
+      unfolding firstRefusal
       refine-allowed f n =
           record {
-            number-is = λ conditions k. sym (refine-rest conditions knows (askable-of e) k ∙ rw (f, le-ltb output (size subset) n));
-            askable = λ z. askable-of e;
+            number-is = λ conditions k. sym (refine-rest conditions knows (queryable-of e) k ∙ rw (f, le-ltb output (size subset) n));
+            queryable = λ z. queryable-of e;
             room = λ z. n;
           }
 
   -- ---- any match
 
   match-shared : (conditions : List Constraint) → (subsetRefusal h rows subset ≡ 0 → ⊥) → subsetRefusal h rows subset ≡ matchRefusal h rows subset conditions
-  unfolding matchRefusal tests
+  unfolding matchRefusal queryChecks
   match-shared conditions n = refused-early (pastRows h subset) _ (λ d. d) n
 
-  match-rest : (conditions : List Constraint) (knows : Bool) → Askable h rows subset → knows ≡ every (known (h .columns)) conditions
-      → matchRefusal h rows subset conditions ≡ first (rung (not knows) 6 ∷ [])
-  unfolding matchRefusal first tests
+  match-rest : (conditions : List Constraint) (knows : Bool) → Queryable h rows subset → knows ≡ all (known (h .columns)) conditions
+      → matchRefusal h rows subset conditions ≡ firstRefusal (check (not knows) 6 ∷ [])
+  unfolding matchRefusal firstRefusal queryChecks
   match-rest conditions knows a k = rw (a .inside, a .long, a .formed, a .below, k)
 
   module _ (knows : Bool) where
     pub match-early : (number : ℕ) → number ≡ subsetRefusal h rows subset → (number ≡ 0 → ⊥) → MatchRefused h rows subset knows number
-    match-early number e n = record { number-is = λ conditions k. e ∙ match-shared conditions (λ z. n (e ∙ z)); askable = λ z. absurd (n z) }
+    match-early number e n = record { number-is = λ conditions k. e ∙ match-shared conditions (λ z. n (e ∙ z)); queryable = λ z. absurd (n z) }
 
     pub match-unknown : subsetRefusal h rows subset ≡ 0 → knows ≡ false → MatchRefused h rows subset knows 6
-    unfolding first
-    match-unknown e f = record { number-is = λ conditions k. sym (match-rest conditions knows (askable-of e) k ∙ rw f); askable = λ z. absurd (omega arith) }
+    unfolding firstRefusal
+    match-unknown e f = record { number-is = λ conditions k. sym (match-rest conditions knows (queryable-of e) k ∙ rw f); queryable = λ z. absurd (omega arith) }
 
     pub match-allowed : subsetRefusal h rows subset ≡ 0 → knows ≡ true → MatchRefused h rows subset knows 0
-    unfolding first
-    match-allowed e f = record { number-is = λ conditions k. sym (match-rest conditions knows (askable-of e) k ∙ rw f); askable = λ z. askable-of e }
+    unfolding firstRefusal
+    match-allowed e f = record { number-is = λ conditions k. sym (match-rest conditions knows (queryable-of e) k ∙ rw f); queryable = λ z. queryable-of e }
 
   -- ---- page
 
   module _ (start n output : ℕ) where
     module _ (conditions : List Constraint) where
       page-shared : (subsetRefusal h rows subset ≡ 0 → ⊥) → subsetRefusal h rows subset ≡ pageRefusal h rows subset start n conditions output
-      unfolding pageRefusal tests
+      unfolding pageRefusal queryChecks
       page-shared m = refused-early (pastRows h subset || ltb (size subset) start) _ (λ d. rw d) m
 
-      page-rest : (knows : Bool) → Askable h rows subset → knows ≡ every (known (h .columns)) conditions
-          → pageRefusal h rows subset start n conditions output ≡ first (rung (ltb (size subset) start) 5 ∷ rung (not knows) 6 ∷ rung (ltb output (min n (size subset - start))) 2 ∷ [])
-      unfolding pageRefusal first tests
+      page-rest : (knows : Bool) → Queryable h rows subset → knows ≡ all (known (h .columns)) conditions
+          → pageRefusal h rows subset start n conditions output ≡ firstRefusal (check (ltb (size subset) start) 5 ∷ check (not knows) 6 ∷ check (ltb output (min n (size subset - start))) 2 ∷ [])
+      unfolding pageRefusal firstRefusal queryChecks
       page-rest knows a k = rw (a .inside, a .long, a .formed, a .below, k)
 
     module _ (knows : Bool) where
@@ -181,49 +181,49 @@ module _ (h : Header) (rows : ℕ) (subset : Subset) where
       page-early number e m =
           record {
             number-is = λ conditions k. e ∙ page-shared conditions (λ z. m (e ∙ z));
-            askable = λ z. absurd (m z);
+            queryable = λ z. absurd (m z);
             within = λ z. absurd (m z);
             room = λ z. absurd (m z);
           }
 
       module _ (e : subsetRefusal h rows subset ≡ 0) where
         pub page-beyond : size subset < start → PageRefused h rows subset start n knows output 5
-        unfolding first
+        unfolding firstRefusal
         page-beyond l =
             record {
-              number-is = λ conditions k. sym (page-rest conditions knows (askable-of e) k ∙ rw (lt-ltb (size subset) start l));
-              askable = λ z. absurd (omega arith);
+              number-is = λ conditions k. sym (page-rest conditions knows (queryable-of e) k ∙ rw (lt-ltb (size subset) start l));
+              queryable = λ z. absurd (omega arith);
               within = λ z. absurd (omega arith);
               room = λ z. absurd (omega arith);
             }
 
         module _ (l : start ≤ size subset) where
           pub page-unknown : knows ≡ false → PageRefused h rows subset start n knows output 6
-          unfolding first
+          unfolding firstRefusal
           page-unknown f =
               record {
-                number-is = λ conditions k. sym (page-rest conditions knows (askable-of e) k ∙ rw (le-ltb (size subset) start l, f));
-                askable = λ z. absurd (omega arith);
+                number-is = λ conditions k. sym (page-rest conditions knows (queryable-of e) k ∙ rw (le-ltb (size subset) start l, f));
+                queryable = λ z. absurd (omega arith);
                 within = λ z. absurd (omega arith);
                 room = λ z. absurd (omega arith);
               }
 
           pub page-narrow : knows ≡ true → output < min n (size subset - start) → PageRefused h rows subset start n knows output 2
-          unfolding first
+          unfolding firstRefusal
           page-narrow f m =
               record {
-                number-is = λ conditions k. sym (page-rest conditions knows (askable-of e) k ∙ rw (le-ltb (size subset) start l, f, lt-ltb output (min n (size subset - start)) m));
-                askable = λ z. absurd (omega arith);
+                number-is = λ conditions k. sym (page-rest conditions knows (queryable-of e) k ∙ rw (le-ltb (size subset) start l, f, lt-ltb output (min n (size subset - start)) m));
+                queryable = λ z. absurd (omega arith);
                 within = λ z. absurd (omega arith);
                 room = λ z. absurd (omega arith);
               }
 
           pub page-allowed : knows ≡ true → min n (size subset - start) ≤ output → PageRefused h rows subset start n knows output 0
-          unfolding first
+          unfolding firstRefusal
           page-allowed f m =
               record {
-                number-is = λ conditions k. sym (page-rest conditions knows (askable-of e) k ∙ rw (le-ltb (size subset) start l, f, le-ltb output (min n (size subset - start)) m));
-                askable = λ z. askable-of e;
+                number-is = λ conditions k. sym (page-rest conditions knows (queryable-of e) k ∙ rw (le-ltb (size subset) start l, f, le-ltb output (min n (size subset - start)) m));
+                queryable = λ z. queryable-of e;
                 within = λ z. l;
                 room = λ z. m;
               }

@@ -7,8 +7,8 @@ use mathlib.Core.List.{List, [], _∷_, _++_}
 use mathlib.Core.Option.{Option, none, some}
 use lib.ListN.{length, take, drop}
 use lib.Dec.{ltb}
-use Rattle.lists.specs.Lists.{putAt, keep, count, every, any, rowAt}
-use Rattle.refusals.specs.Refusals.{Rung, rung, first, Reply, refused, accepted, reply}
+use Rattle.lists.specs.Lists.{splice, filter, count, all, any, rowAt}
+use Rattle.refusals.specs.Refusals.{Check, check, firstRefusal, Reply, refused, accepted, reply}
 use Rattle.offsets.specs.declared.SubsetAnswer.{SubsetAnswer}
 use Rattle.offsets.specs.Subsets.{Subset, wellFormed, members, size, endOf, retain, narrowed}
 use Rattle.offsets.specs.Answers.{Answered}
@@ -36,30 +36,30 @@ unfoldable pub pastRows : Header → Subset → Bool
 pastRows h subset = ltb (h .rows) (endOf subset)
 
 -- the checks that all queries share, 1, 2, 4, 5 and 6; `beyond` is test 5 of the query
-unfoldable pub tests : Header → ℕ → Subset → Bool → List Constraint → List Rung
-tests h rows subset beyond conditions =
-    rung (outside h) 1
-    ∷ rung (rowsShort h rows) 2
-    ∷ rung (not (wellFormed subset)) 4
-    ∷ rung beyond 5
-    ∷ rung (not (every (known (h .columns)) conditions)) 6
+unfoldable pub queryChecks : Header → ℕ → Subset → Bool → List Constraint → List Check
+queryChecks h rows subset beyond conditions =
+    check (outside h) 1
+    ∷ check (rowsShort h rows) 2
+    ∷ check (not (wellFormed subset)) 4
+    ∷ check beyond 5
+    ∷ check (not (all (known (h .columns)) conditions)) 6
     ∷ []
 
 -- *Refine by one, by a list*: "2 again, output shorter than the subset"
 unfoldable pub refineRefusal : Header → ℕ → Subset → List Constraint → ℕ → ℕ
 refineRefusal h rows subset conditions output =
-    first (tests h rows subset (pastRows h subset) conditions ++ (rung (ltb output (size subset)) 2 ∷ []))
+    firstRefusal (queryChecks h rows subset (pastRows h subset) conditions ++ (check (ltb output (size subset)) 2 ∷ []))
 
 -- "any match has none"
 unfoldable pub matchRefusal : Header → ℕ → Subset → List Constraint → ℕ
-matchRefusal h rows subset conditions = first (tests h rows subset (pastRows h subset) conditions)
+matchRefusal h rows subset conditions = firstRefusal (queryChecks h rows subset (pastRows h subset) conditions)
 
 -- *Page*: 5 "also start place above the subset's size", "2 again, output shorter than the smaller of n and what remains"
 unfoldable pub pageRefusal : Header → ℕ → Subset → ℕ → ℕ → List Constraint → ℕ → ℕ
 pageRefusal h rows subset start n conditions output =
-    first
-    (tests h rows subset (pastRows h subset || ltb (size subset) start) conditions
-    ++ (rung (ltb output (min n (size subset - start))) 2 ∷ []))
+    firstRefusal
+    (queryChecks h rows subset (pastRows h subset || ltb (size subset) start) conditions
+    ++ (check (ltb output (min n (size subset - start))) 2 ∷ []))
 
 -- refine by one is `retain`, refine by a list is `narrowed`
 unfoldable pub refineOneReply : Header → List ℕ → Subset → Constraint → ℕ → Reply Subset
@@ -76,7 +76,7 @@ visited subset start n = take n (drop start (members subset))
 
 -- .. writes the live matching ones"
 unfoldable pub pageIds : Header → List ℕ → Subset → ℕ → ℕ → List Constraint → List ℕ
-pageIds h rows subset start n conditions = keep (matches h rows conditions) (visited subset start n)
+pageIds h rows subset start n conditions = filter (matches h rows conditions) (visited subset start n)
 
 -- "the next place or *none*. n = 0 gives the start place back unless nothing remains"
 unfoldable pub nextPlace : Subset → ℕ → ℕ → Option ℕ
@@ -99,17 +99,17 @@ pageReply h rows subset start n conditions output =
     })
 
 -- the views of the answers
-unfoldable pub matchSays : MatchAnswer → Reply Bool
-matchSays (MatchRefused n) = refused n
-matchSays (Match answer) = accepted answer
+unfoldable pub matchView : MatchAnswer → Reply Bool
+matchView (MatchRefused n) = refused n
+matchView (Match answer) = accepted answer
 
-unfoldable pub nextSays : NextPlace → Option ℕ
-nextSays None = none
-nextSays (At place) = some place
+unfoldable pub nextView : NextPlace → Option ℕ
+nextView None = none
+nextView (At place) = some place
 
-unfoldable pub pageSays : PageAnswer → Reply PageReply
-pageSays (PageRefused n) = refused n
-pageSays (Paged page) = accepted (record { written = page .written; dead = page .dead; next = nextSays (page .next) })
+unfoldable pub pageView : PageAnswer → Reply PageReply
+pageView (PageRefused n) = refused n
+pageView (Paged page) = accepted (record { written = page .written; dead = page .dead; next = nextView (page .next) })
 
 -- the contracts
 
@@ -120,10 +120,10 @@ pub record RefinedList (h : Header) (rows : List ℕ) (subset : Subset) (conditi
   pub answered : Answered (refineListReply h rows subset conditions (length output)) output answer output′
 
 pub record Matched (h : Header) (rows : List ℕ) (subset : Subset) (conditions : List Constraint) (answer : MatchAnswer) : Type 0 where
-  pub answers : matchSays answer ≡ reply (matchRefusal h (length rows) subset conditions) (any (matches h rows conditions) (members subset))
+  pub answers : matchView answer ≡ reply (matchRefusal h (length rows) subset conditions) (any (matches h rows conditions) (members subset))
 
 pub record PageRead (h : Header) (rows : List ℕ) (subset : Subset) (start n : ℕ) (conditions : List Constraint) (output : List ℕ) (answer : PageAnswer) (output′ : List ℕ) : Type 0 where
-  pub answers : pageSays answer ≡ pageReply h rows subset start n conditions (length output)
+  pub answers : pageView answer ≡ pageReply h rows subset start n conditions (length output)
   pub unchanged : 0 < pageRefusal h (length rows) subset start n conditions (length output) → output′ ≡ output
   pub written : pageRefusal h (length rows) subset start n conditions (length output) ≡ 0
-      → output′ ≡ putAt output 0 (pageIds h rows subset start n conditions)
+      → output′ ≡ splice output 0 (pageIds h rows subset start n conditions)

@@ -11,12 +11,12 @@ use native.Mathlib.Omega.{arith}
 use lib.Dec.{leb, ltb, eqb}
 use lib.ListN.{length, take, drop, getD}
 use borrow.Author.Tests.{leb-true, ltb-true, eqb-true, le-leb, lt-ltb}
-use Rattle.lists.specs.Lists.{keep, same, rowAt, countFrom}
-use Rattle.lists.specs.Laws.Every.{and-both, or-right}
-use Rattle.lists.specs.Laws.Keep.{split, and-left, and-right}
+use Rattle.lists.specs.Lists.{filter, same, rowAt, iota}
+use Rattle.lists.specs.Laws.All.{and-both, or-right}
+use Rattle.lists.specs.Laws.Filter.{split, and-left, and-right}
 use Rattle.constraints.specs.Constraints.{isLive}
-use Rattle.row_buffer.specs.Ranks.{setBelow, marks, countTo}
-use Rattle.row_buffer.specs.Laws.Rows.{below-marks}
+use Rattle.row_buffer.specs.Ranks.{setBelow, bitmapWord, countTo}
+use Rattle.row_buffer.specs.Laws.Rows.{below-bitmapWord}
 use Rattle.bitmap.specs.inner.Bitmaps.{Bitmap, Marked}
 use Rattle.bitmap.specs.Laws.Bitmaps.{marked-then, marked-weaker, marked-few, count-none}
 use Rattle.plain_table.specs.Plain.{Row, Numbered, liveFrom, liveRows}
@@ -26,14 +26,14 @@ use Rattle.table.specs.declared.Header.{Header}
 use Rattle.table.specs.Numbers.{openingOf}
 use Rattle.table.specs.Refusing.{outside}
 use Rattle.table.specs.Stores.{rowsIn}
-use Rattle.table.specs.Laws.Live.{told, length-rowsIn, getD-rowsIn}
+use Rattle.table.specs.Laws.Live.{rowOfCells, length-rowsIn, getD-rowsIn}
 use Rattle.table.specs.Laws.Refusals.{outside-inside}
 use Rattle.refresh_spec.specs.Index.{rowsSeen, IndexSound}
 use Rattle.refresh_spec.specs.Refreshes.{recordsFound}
 use Rattle.refresh_spec.specs.inner.Finding.{mentionsAt, mentionsBelow, mentionsFrom, Lendable, usable, ListedMarked}
 use Rattle.refresh_scan.specs.inner.Scanning.{Scannable}
 use Rattle.refresh_index.specs.Laws.Using.{usable-index}
-use Rattle.refresh.specs.inner.Finding.{Found}
+use Rattle.refresh.specs.inner.Finding.{RowsFound}
 use Rattle.refresh.specs.inner.Staging.{numbered, markedRows}
 
 -- ---- one pass or two
@@ -54,13 +54,13 @@ module _ (h : Header) (rows index columns values : List ℕ) where
   unfolding mentionsBelow
   below-at seen i e = and-right (ltb i seen) _ e
 
-  pub found-afresh : {words words′ : List ℕ} {count : ℕ} → Marked (mentionsFrom h rows columns values 0) (mentionsFrom h rows columns values 0) words words′ count
-      → Found h rows index columns values words words′ count
-  found-afresh m needed only = marked-weaker (from-at 0) (λ i e. from-of 0 i (omega arith) (only i e .1)) m
+  pub found-restarted : {words words′ : List ℕ} {count : ℕ} → Marked (mentionsFrom h rows columns values 0) (mentionsFrom h rows columns values 0) words words′ count
+      → RowsFound h rows index columns values words words′ count
+  found-restarted m needed only = marked-weaker (from-at 0) (λ i e. from-of 0 i (omega arith) (only i e .1)) m
 
   pub found-both : {words words′ words″ : List ℕ} {listed more : ℕ} → Lendable h rows columns index → usable h columns index ≡ true → ListedMarked h rows index columns values words words′ listed
       → Marked (mentionsFrom h rows columns values (rowsSeen index)) (mentionsFrom h rows columns values (rowsSeen index)) words′ words″ more
-      → Found h rows index columns values words words″ (listed + more)
+      → RowsFound h rows index columns values words words″ (listed + more)
   unfolding mentionsBelow
   found-both lent u l m needed only =
       let seen = rowsSeen index in
@@ -96,11 +96,11 @@ module _ (h : Header) (rows index columns values : List ℕ) where
 
 -- ---- the bitmap after that
 
-marks-alike : (f g : ℕ → Bool) (n : ℕ) → marks f n ≡ marks g n → (k : ℕ) → k < n → f k ≡ g k
+marks-alike : (f g : ℕ → Bool) (n : ℕ) → bitmapWord f n ≡ bitmapWord g n → (k : ℕ) → k < n → f k ≡ g k
 unfolding countTo
 marks-alike f g n e k h =
-    let a : countTo f k ≡ countTo g k = sym (below-marks f k n (omega arith)) ∙ ap (λ (w : ℕ). setBelow w k) e ∙ below-marks g k n (omega arith) in
-    let b : countTo f (suc k) ≡ countTo g (suc k) = sym (below-marks f (suc k) n h) ∙ ap (λ (w : ℕ). setBelow w (suc k)) e ∙ below-marks g (suc k) n h in
+    let a : countTo f k ≡ countTo g k = sym (below-bitmapWord f k n (omega arith)) ∙ ap (λ (w : ℕ). setBelow w k) e ∙ below-bitmapWord g k n (omega arith) in
+    let b : countTo f (suc k) ≡ countTo g (suc k) = sym (below-bitmapWord f (suc k) n h) ∙ ap (λ (w : ℕ). setBelow w (suc k)) e ∙ below-bitmapWord g (suc k) n h in
     elim (split (f k)) [
       | inl p ↦ elim (split (g k)) [ inl q ↦ p ∙ sym q | inr q ↦ absurd (let z : countTo f k + 1 ≡ countTo g k + 0 = rw (p, q) at b in omega arith) ]
       | inr p ↦ elim (split (g k)) [ inl q ↦ absurd (let z : countTo f k + 0 ≡ countTo g k + 1 = rw (p, q) at b in omega arith) | inr q ↦ p ∙ sym q ]
@@ -127,7 +127,7 @@ unfolding mentionsAt
 there-below h rows columns values i e = ltb-true _ _ (and-left (ltb i (h .rows)) _ (and-left _ _ e))
 
 pub found-rows : {h : Header} {rows index columns values words words′ : List ℕ} {count : ℕ} → outside h ≡ false → Bitmap words (λ i. false)
-    → Found h rows index columns values words words′ count → FoundRows h rows index columns values words′ count
+    → RowsFound h rows index columns values words words′ count → FoundRows h rows index columns values words′ count
 found-rows {h} {rows} {index} {columns} {values} inside b f =
     let n = outside-inside h inside in
     let a = f (λ i. false) (λ i e. absurd (false≢true e)) .adds (λ i. false) b in
@@ -166,18 +166,18 @@ module _ (h : Header) (rows : List ℕ) (r : Refresh) (test : ℕ → Bool) (men
   unfolding found mentionsAt
   left-out i k t a m = rw (t, lt-ltb i (h .rows) k, a, m)
 
-  found-from : (s : ℕ) (l : List Row) → ((i : ℕ) → i < length l → getD l i noRow ≡ told (rowAt (h .columns) (s + i) rows)) → s + length l ≤ h .rows
-      → keep (λ row. found (row .number)) (keep mentioned (liveFrom s l)) ≡ map (numbered h rows) (keep test (countFrom s (length l)))
-  unfolding keep liveFrom countFrom
+  found-from : (s : ℕ) (l : List Row) → ((i : ℕ) → i < length l → getD l i noRow ≡ rowOfCells (rowAt (h .columns) (s + i) rows)) → s + length l ≤ h .rows
+      → filter (λ row. found (row .number)) (filter mentioned (liveFrom s l)) ≡ map (numbered h rows) (filter test (iota s (length l)))
+  unfolding filter liveFrom iota
   found-from s [] f k = refl
-  found-from s (row ∷ l) f k = go (f 0 (omega arith)) (found-from (suc s) l (λ i b. f (suc i) (omega arith) ∙ ap (λ (j : ℕ). told (rowAt (h .columns) j rows)) (omega arith)) (omega arith))
+  found-from s (row ∷ l) f k = go (f 0 (omega arith)) (found-from (suc s) l (λ i b. f (suc i) (omega arith) ∙ ap (λ (j : ℕ). rowOfCells (rowAt (h .columns) j rows)) (omega arith)) (omega arith))
     where
-      go : row ≡ told (rowAt (h .columns) (s + 0) rows)
-          → keep (λ row. found (row .number)) (keep mentioned (liveFrom (suc s) l)) ≡ map (numbered h rows) (keep test (countFrom (suc s) (length l)))
-          → keep (λ row. found (row .number)) (keep mentioned (liveFrom s (row ∷ l))) ≡ map (numbered h rows) (keep test (countFrom s (length (row ∷ l))))
+      go : row ≡ rowOfCells (rowAt (h .columns) (s + 0) rows)
+          → filter (λ row. found (row .number)) (filter mentioned (liveFrom (suc s) l)) ≡ map (numbered h rows) (filter test (iota (suc s) (length l)))
+          → filter (λ row. found (row .number)) (filter mentioned (liveFrom s (row ∷ l))) ≡ map (numbered h rows) (filter test (iota s (length (row ∷ l))))
       go e rest =
           let c = rowAt (h .columns) s rows in
-          let q : row ≡ told c = e ∙ ap (λ (j : ℕ). told (rowAt (h .columns) j rows)) (add-zero s) in
+          let q : row ≡ rowOfCells c = e ∙ ap (λ (j : ℕ). rowOfCells (rowAt (h .columns) j rows)) (add-zero s) in
           elim (split (test s)) [
             | inl t ↦ let p = at-parts s (mention s t) in rw (q, p .0, p .1, marked-found s t, t, rest)
             | inr t ↦ elim (split (isLive c)) [
@@ -195,5 +195,5 @@ module _ (h : Header) (rows : List ℕ) (r : Refresh) (test : ℕ → Bool) (men
   records-found =
       let n = length-rowsIn h rows in
       ap (refreshed (openingOf h) (r .stamp))
-      (found-from 0 (rowsIn h rows) (λ i b. getD-rowsIn h rows i (omega arith) ∙ ap (λ (j : ℕ). told (rowAt (h .columns) j rows)) (omega arith)) (omega arith)
-      ∙ ap (λ (k : ℕ). map (numbered h rows) (keep test (countFrom 0 k))) n)
+      (found-from 0 (rowsIn h rows) (λ i b. getD-rowsIn h rows i (omega arith) ∙ ap (λ (j : ℕ). rowOfCells (rowAt (h .columns) j rows)) (omega arith)) (omega arith)
+      ∙ ap (λ (k : ℕ). map (numbered h rows) (filter test (iota 0 k))) n)

@@ -10,10 +10,10 @@ use native.Mathlib.Omega.{arith}
 use lib.Dec.{ltb}
 use lib.ListN.{length, replicate}
 use borrow.Author.Tests.{ltb-false, lt-ltb}
-use Rattle.lists.specs.Lists.{putAt, flat}
-use Rattle.lists.specs.Laws.Every.{or-right, or-no-left, or-no-right}
-use Rattle.lists.specs.Laws.Keep.{split}
-use Rattle.refusals.specs.Refusals.{rung, first, accepted}
+use Rattle.lists.specs.Lists.{splice, flatten}
+use Rattle.lists.specs.Laws.All.{or-right, or-no-left, or-no-right}
+use Rattle.lists.specs.Laws.Filter.{split}
+use Rattle.refusals.specs.Refusals.{check, firstRefusal, accepted}
 use Rattle.refusals.specs.Laws.Replies.{reply-refused, reply-accepted}
 use Rattle.row_buffer.specs.Ranks.{countTo}
 use Rattle.bitmap.specs.Laws.Bitmaps.{bitmap-none, countTo-le}
@@ -24,17 +24,17 @@ use Rattle.plain_table.specs.Refreshing.{Refresh, refreshed}
 use Rattle.table.specs.declared.Header.{Header}
 use Rattle.table.specs.Numbers.{openingOf}
 use Rattle.table.specs.Stores.{recordWords}
-use Rattle.table.specs.Promises.{withPending}
+use Rattle.table.specs.Contracts.{withPending}
 use Rattle.table.specs.Laws.Refusals.{outside-inside}
 use Rattle.refresh_spec.specs.declared.Refreshed.{Refreshed}
 use Rattle.refresh_spec.specs.declared.RefreshAnswer.the-variants.{Refused, Refreshed as RefreshDone}
 use Rattle.refresh_spec.specs.Index.{IndexSound}
-use Rattle.refresh_spec.specs.Refreshes.{refreshSays, refreshRefusal, recordsFound, answered, Refreshing}
+use Rattle.refresh_spec.specs.Refreshes.{refreshView, refreshRefusal, recordsFound, answered, Refreshing}
 use Rattle.refresh_spec.specs.inner.Finding.{mentionsAt, Lendable, CaughtUp}
-use Rattle.refresh.specs.inner.Testing.{ladder}
-use Rattle.refresh.specs.inner.Finding.{Found}
+use Rattle.refresh.specs.inner.Testing.{earlyRefusal}
+use Rattle.refresh.specs.inner.Finding.{RowsFound}
 use Rattle.refresh.specs.inner.Staging.{markedRows, rowsWords, rowWords, Stageable, AllWritten}
-use Rattle.refresh.proofs.TestSteps.{turned-away, Passed, only-seven, lendable}
+use Rattle.refresh.proofs.TestSteps.{refused-before-seven, Passed, only-seven, lendable}
 use Rattle.refresh.proofs.FindSteps.{FoundRows, found-rows, there-below, found, records-found}
 use Rattle.refresh_index.specs.Laws.Using.{usable-index}
 use Rattle.refresh.proofs.StageSteps.{length-marked, all-marked, words-of, length-refreshed}
@@ -60,7 +60,7 @@ module _ (h : Header) (rows pending index : List ℕ) (r : Refresh) where
       record {
         found = found;
         all-found = all;
-        answers = reply-refused (refreshSays (Refused n)) _ n _ (unfold refreshSays in refl) e some;
+        answers = reply-refused (refreshView (Refused n)) _ n _ (unfold refreshView in refl) e some;
         unchanged = λ k. (refl, refl);
         staged = λ z. absurd (some (e ∙ z));
         written = λ z. absurd (some (e ∙ z));
@@ -70,12 +70,12 @@ module _ (h : Header) (rows pending index : List ℕ) (r : Refresh) where
       }
 
   -- by the tests before 7
-  pub refused-early : (n : ℕ) → n ≡ ladder h (length rows) (length pending) (length index) (r .columns) (r .stamp) → (n ≡ 0 → ⊥)
+  pub refused-early : (n : ℕ) → n ≡ earlyRefusal h (length rows) (length pending) (length index) (r .columns) (r .stamp) → (n ≡ 0 → ⊥)
       → Refreshing h rows pending index r (Refused n) pending index
   refused-early n e some =
-      refused-as n (λ row. true) (λ sound row. refl) (e ∙ turned-away h (length rows) (length pending) (length index) r _ (λ z. some (e ∙ z))) some
+      refused-as n (λ row. true) (λ sound row. refl) (e ∙ refused-before-seven h (length rows) (length pending) (length index) r _ (λ z. some (e ∙ z))) some
 
-  module _ (p : Passed h (length rows) (length pending) (length index) r) {words : List ℕ} {count : ℕ} (marks : Found h rows index (r .columns) (r .values) (replicate 1024 0) words count) where
+  module _ (p : Passed h (length rows) (length pending) (length index) r) {words : List ℕ} {count : ℕ} (marks : RowsFound h rows index (r .columns) (r .values) (replicate 1024 0) words count) where
     lent : Lendable h rows (r .columns) index
     lent = lendable h rows (length pending) index r p
 
@@ -131,14 +131,14 @@ module _ (h : Header) (rows pending index : List ℕ) (r : Refresh) where
       | inr m ↦ or-right (f .test row) _ (rw m)
     ]
 
-    seven : number records ≡ first (rung (overfull (h .pending) (length pending) (count * (h .keys + 3) + count * (h .columns + 2))) 7 ∷ [])
+    seven : number records ≡ firstRefusal (check (overfull (h .pending) (length pending) (count * (h .keys + 3) + count * (h .columns + 2))) 7 ∷ [])
     seven = only-seven h (length rows) (length pending) (length index) r p records ∙ rw records-words
 
     -- the records do not fit
     pub refused-full : overfull (h .pending) (length pending) (count * (h .keys + 3) + count * (h .columns + 2)) ≡ true
         → Refreshing h rows pending index r (Refused 7) pending index
     refused-full full =
-        refused-as 7 (found h rows r (f .test) (f .mention)) all-found (sym (seven ∙ unfold first in rw full)) (λ z. omega arith)
+        refused-as 7 (found h rows r (f .test) (f .mention)) all-found (sym (seven ∙ unfold firstRefusal in rw full)) (λ z. omega arith)
 
     -- the records fit
     module _ (free : overfull (h .pending) (length pending) (count * (h .keys + 3) + count * (h .columns + 2)) ≡ false) where
@@ -170,18 +170,18 @@ module _ (h : Header) (rows pending index : List ℕ) (r : Refresh) where
 
       pub done : {used : ℕ} {pending′ index′ : List ℕ} → CaughtUp h rows (r .columns) index index′ → AllWritten h rows pending words (r .stamp) used pending′
           → Refreshing h rows pending index r (RefreshDone (record { header = withPending h used; staged = ltb 0 count })) pending′ index′
-      unfolding stageable rowsWords refreshSays
+      unfolding stageable rowsWords refreshView
       done {used} up all =
           let w = all .on stageable in
-          let none : number records ≡ 0 = seven ∙ unfold first in rw free in
+          let none : number records ≡ 0 = seven ∙ unfold firstRefusal in rw free in
           let u : used ≡ h .pending + wordsAll (openingOf h) records = w .words-used ∙ ap (λ (k : ℕ). h .pending + k) (total ∙ sym records-words) in
           let a : _≡_ {A = Refreshed} (record { header = withPending h used; staged = ltb 0 count }) (answered h records) = rw (u, some-staged) in
           record {
             found = found h rows r (f .test) (f .mention);
             all-found = all-found;
-            answers = reply-accepted (refreshSays (RefreshDone _)) _ (answered h records) (ap accepted a) none;
+            answers = reply-accepted (refreshView (RefreshDone _)) _ (answered h records) (ap accepted a) none;
             unchanged = λ k. absurd (omega (arith, none));
-            staged = λ z. w .words ∙ ap (λ (rs : List Staged). putAt pending (h .pending) (flat (map (recordWords (h .keys)) rs))) (sym records-are);
+            staged = λ z. w .words ∙ ap (λ (rs : List Staged). splice pending (h .pending) (flatten (map (recordWords (h .keys)) rs))) (sym records-are);
             written = λ z. up .written;
             current = λ z sound. up .current (λ u. usable-index lent u sound);
             past = up .past;

@@ -12,14 +12,14 @@ use lib.Bits.{bitAnd}
 use lib.Count.{trailingZeros}
 use lib.ListN.{length, getD, length-append}
 use borrow.Author.Tests.{eq-eqb}
-use Rattle.lists.specs.Lists.{putAt, keep, every, flat, countFrom}
-use Rattle.lists.specs.Laws.Every.{every-snoc}
-use Rattle.lists.specs.Laws.Keep.{split, keep-append}
-use Rattle.lists.specs.Laws.Parts.{putAt-nil, putAt-then, length-putAt}
-use Rattle.lists.specs.Laws.Rising.{countFrom-snoc}
-use Rattle.lists.specs.Laws.Rows.{flat-append}
-use Rattle.bitmap.specs.Laws.Lowest.{onward, onward-all, Next, next-mark, no-more}
-use Rattle.row_buffer.specs.Ranks.{marks, countTo}
+use Rattle.lists.specs.Lists.{splice, filter, all, flatten, iota}
+use Rattle.lists.specs.Laws.All.{all-snoc}
+use Rattle.lists.specs.Laws.Filter.{split, filter-append}
+use Rattle.lists.specs.Laws.Parts.{splice-nil, splice-then, length-splice}
+use Rattle.lists.specs.Laws.Rising.{iota-snoc}
+use Rattle.lists.specs.Laws.Rows.{flatten-append}
+use Rattle.bitmap.specs.Laws.Lowest.{onward, onward-all, Next, next-bit, no-more}
+use Rattle.row_buffer.specs.Ranks.{bitmapWord, countTo}
 use Rattle.plain_table.specs.Staged.{Staged, wordsOf, wordsAll}
 use Rattle.plain_table.specs.Plain.{Numbered}
 use Rattle.plain_table.specs.Refreshing.{restamping, refreshed}
@@ -29,25 +29,25 @@ use Rattle.table.specs.Numbers.{openingOf}
 use Rattle.table.specs.Stores.{recordWords}
 use Rattle.table.specs.Laws.Pending.{length-records}
 use Rattle.table.specs.Laws.Refusals.{outside-inside}
-use Rattle.refresh.specs.inner.Staging.{Lying, numbered, markedRows, rowsWords, rowWords, Room, Written, Block, BlockWritten, Stageable}
+use Rattle.refresh.specs.inner.Staging.{RowInStore, numbered, markedRows, rowsWords, rowWords, RecordsFit, Written, Block, BlockWritten, Stageable}
 use Rattle.refresh.proofs.WriteSteps.{here-wide}
 
 -- ---- marked rows
 
 module _ (h : Header) (rows : List ℕ) (test : ℕ → Bool) where
   -- one row more: marked, or not
-  marked-next : (n : ℕ) → markedRows h rows test (suc n) ≡ markedRows h rows test n ++ map (numbered h rows) (keep test (n ∷ []))
+  marked-next : (n : ℕ) → markedRows h rows test (suc n) ≡ markedRows h rows test n ++ map (numbered h rows) (filter test (n ∷ []))
   unfolding markedRows
   marked-next n =
-      let e : countFrom 0 (suc n) ≡ countFrom 0 n ++ (n ∷ []) = rw (← add-one n) (countFrom-snoc 0 n ∙ rw zero-add) in
-      rw (e, keep-append test (countFrom 0 n) (n ∷ [])) (map-append (numbered h rows) (keep test (countFrom 0 n)) (keep test (n ∷ [])))
+      let e : iota 0 (suc n) ≡ iota 0 n ++ (n ∷ []) = rw (← add-one n) (iota-snoc 0 n ∙ rw zero-add) in
+      rw (e, filter-append test (iota 0 n) (n ∷ [])) (map-append (numbered h rows) (filter test (iota 0 n)) (filter test (n ∷ [])))
 
   marked-yes : (n : ℕ) → test n ≡ true → markedRows h rows test (suc n) ≡ markedRows h rows test n ++ (numbered h rows n ∷ [])
-  unfolding keep
+  unfolding filter
   marked-yes n e = marked-next n ∙ rw e
 
   marked-no : (n : ℕ) → test n ≡ false → markedRows h rows test (suc n) ≡ markedRows h rows test n
-  unfolding keep
+  unfolding filter
   marked-no n e = marked-next n ∙ rw e (append-nil (markedRows h rows test n))
 
   count-yes : (n : ℕ) → test n ≡ true → countTo test (suc n) ≡ countTo test n + 1
@@ -61,7 +61,7 @@ module _ (h : Header) (rows : List ℕ) (test : ℕ → Bool) where
   -- as many as are counted
   pub length-marked : (n : ℕ) → length (markedRows h rows test n) ≡ countTo test n
   unfolding markedRows
-  length-marked zero = unfold keep countFrom countTo in refl
+  length-marked zero = unfold filter iota countTo in refl
   length-marked (suc n) =
       let k = length-marked n in
       elim (split (test n)) [
@@ -100,20 +100,20 @@ module _ (h : Header) (stamp : ℕ) where
   unfolding rowsWords refreshed
   words-append xs ys =
       let o = openingOf h in
-      let e : flat (map (restamping o stamp) (xs ++ ys)) ≡ flat (map (restamping o stamp) xs) ++ flat (map (restamping o stamp) ys) =
-      ap flat (map-append (restamping o stamp) xs ys) ∙ flat-append (map (restamping o stamp) xs) (map (restamping o stamp) ys) in
-      ap (λ (rs : List Staged). flat (map (recordWords (h .keys)) rs)) e
-      ∙ ap flat (map-append (recordWords (h .keys)) (refreshed o stamp xs) (refreshed o stamp ys))
-      ∙ flat-append (map (recordWords (h .keys)) (refreshed o stamp xs)) (map (recordWords (h .keys)) (refreshed o stamp ys))
+      let e : flatten (map (restamping o stamp) (xs ++ ys)) ≡ flatten (map (restamping o stamp) xs) ++ flatten (map (restamping o stamp) ys) =
+      ap flatten (map-append (restamping o stamp) xs ys) ∙ flatten-append (map (restamping o stamp) xs) (map (restamping o stamp) ys) in
+      ap (λ (rs : List Staged). flatten (map (recordWords (h .keys)) rs)) e
+      ∙ ap flatten (map-append (recordWords (h .keys)) (refreshed o stamp xs) (refreshed o stamp ys))
+      ∙ flatten-append (map (recordWords (h .keys)) (refreshed o stamp xs)) (map (recordWords (h .keys)) (refreshed o stamp ys))
 
   pub words-of : (rows : List Numbered) → wordsAll (openingOf h) (refreshed (openingOf h) stamp rows) ≡ length rows * rowWords h
-  unfolding refreshed restamping flat wordsAll wordsOf
+  unfolding refreshed restamping flatten wordsAll wordsOf
   words-of [] = omega arith
   words-of (row ∷ rows) = let k = words-of rows in omega arith
 
   -- two records to a row
   pub length-refreshed : (rows : List Numbered) → length (refreshed (openingOf h) stamp rows) ≡ 2 * length rows
-  unfolding refreshed restamping flat
+  unfolding refreshed restamping flatten
   length-refreshed [] = refl
   length-refreshed (row ∷ rows) = let k = length-refreshed rows in omega arith
 
@@ -123,9 +123,9 @@ module _ (h : Header) (stamp : ℕ) where
 
 -- ---- rows written one after another
 
-module _ {h : Header} {rows pending : List ℕ} {test : ℕ → Bool} (room : Room h rows pending test) where
-  pub row-lies : (i : ℕ) → test i ≡ true → Lying h rows i
-  row-lies i e = record { inside = room .inside; rows-long = room .rows-long; row-below = room .rows-only i e }
+module _ {h : Header} {rows pending : List ℕ} {test : ℕ → Bool} (room : RecordsFit h rows pending test) where
+  pub row-in-store : (i : ℕ) → test i ≡ true → RowInStore h rows i
+  row-in-store i e = record { inside = room .inside; rows-long = room .rows-long; row-below = room .rows-only i e }
 
   count-most : (n : ℕ) → countTo test n ≤ countTo test (h .rows)
   count-most n = elim (decLt n (h .rows)) [
@@ -137,11 +137,11 @@ module _ {h : Header} {rows pending : List ℕ} {test : ℕ → Bool} (room : Ro
   words-fit n = let k = mul-le-mul-right (rowWords h) (count-most n) in (omega (arith, room .free), omega (arith, room .counted))
 
   marked-wide : (n : ℕ) → Wide (openingOf h) (markedRows h rows test n)
-  marked-wide zero = unfold markedRows keep countFrom every in refl
+  marked-wide zero = unfold markedRows filter iota all in refl
   marked-wide (suc n) =
       let k = marked-wide n in
       elim (split (test n)) [
-        | inl e ↦ rw (marked-yes h rows test n e) (every-snoc _ (markedRows h rows test n) (numbered h rows n) k (eq-eqb _ _ (here-wide (row-lies n e))))
+        | inl e ↦ rw (marked-yes h rows test n e) (all-snoc _ (markedRows h rows test n) (numbered h rows n) k (eq-eqb _ _ (here-wide (row-in-store n e))))
         | inr e ↦ rw (marked-no h rows test n e) k
       ]
 
@@ -154,13 +154,13 @@ module _ {h : Header} {rows pending : List ℕ} {test : ℕ → Bool} (room : Ro
   written-begin =
       record {
         words-used = unfold countTo in omega arith;
-        words = unfold rowsWords markedRows keep countFrom refreshed flat in sym (putAt-nil pending (h .pending));
+        words = unfold rowsWords markedRows filter iota refreshed flatten in sym (splice-nil pending (h .pending));
       }
 
   module _ {stamp : ℕ} {pending′ : List ℕ} {used n : ℕ} (w : Written h rows pending test stamp pending′ used n) where
     pub written-length : length pending′ ≡ length pending
     written-length =
-        ap length (w .words) ∙ length-putAt pending (rowsWords h stamp (markedRows h rows test n)) (h .pending) (omega (arith, length-written stamp n, words-fit n .0))
+        ap length (w .words) ∙ length-splice pending (rowsWords h stamp (markedRows h rows test n)) (h .pending) (omega (arith, length-written stamp n, words-fit n .0))
 
     pub written-skip : (k : ℕ) → ((i : ℕ) → n ≤ i → i < n + k → test i ≡ false) → Written h rows pending test stamp pending′ used (n + k)
     written-skip k f =
@@ -181,7 +181,7 @@ module _ {h : Header} {rows pending : List ℕ} {test : ℕ → Bool} (room : Ro
       one-fits =
           (omega (arith, more, words-fit (suc n) .0, w .words-used, written-length), omega (arith, more, words-fit (suc n) .1, w .words-used))
 
-      pub written-more : {pending″ : List ℕ} → pending″ ≡ putAt pending′ used (rowsWords h stamp (numbered h rows n ∷ []))
+      pub written-more : {pending″ : List ℕ} → pending″ ≡ splice pending′ used (rowsWords h stamp (numbered h rows n ∷ []))
           → Written h rows pending test stamp pending″ (used + rowWords h) (n + 1)
       written-more {pending″} q =
           let v = rowsWords h stamp (markedRows h rows test n) in
@@ -194,9 +194,9 @@ module _ {h : Header} {rows pending : List ℕ} {test : ℕ → Bool} (room : Ro
             words-used = omega (arith, more, w .words-used);
             words =
                 q
-                ∙ ap₂ (λ (l : List ℕ) (at : ℕ). putAt l at m) (w .words) here
-                ∙ putAt-then pending v m (h .pending) (omega (arith, words-fit (suc n) .0, sym (length-append v m) ∙ ap length (sym both) ∙ length-written stamp (suc n)))
-                ∙ ap (putAt pending (h .pending)) (sym both);
+                ∙ ap₂ (λ (l : List ℕ) (at : ℕ). splice l at m) (w .words) here
+                ∙ splice-then pending v m (h .pending) (omega (arith, words-fit (suc n) .0, sym (length-append v m) ∙ ap length (sym both) ∙ length-written stamp (suc n)))
+                ∙ ap (splice pending (h .pending)) (sym both);
           })
 
 -- ---- the rows of a bitmap word
@@ -209,7 +209,7 @@ module _ {h : Header} {rows pending : List ℕ} {before first marked stamp : ℕ
   pub record Going (pending′ : List ℕ) (used word : ℕ) : Type 0 where
     pub place : ℕ
     pub few : place ≤ 64
-    pub others : word ≡ marks (onward lives place) 64
+    pub others : word ≡ bitmapWord (onward lives place) 64
     pub written : Written h rows (b .pending₀) (b .test) stamp pending′ used (first + place)
 
   pub going-begin : Going pending before marked
@@ -236,7 +236,7 @@ module _ {h : Header} {rows pending : List ℕ} {before first marked stamp : ℕ
       bit = trailingZeros 64 word
 
       next : Next lives (s .place) 64 word bit
-      next = next-mark lives (s .place) 64 word (s .others) (omega arith) some
+      next = next-bit lives (s .place) 64 word (s .others) (omega arith) some
 
       at-row : Written h rows (b .pending₀) (b .test) stamp pending′ used (first + bit)
       at-row = passed bit (next .after) (next .none)
@@ -246,13 +246,13 @@ module _ {h : Header} {rows pending : List ℕ} {before first marked stamp : ℕ
           let i = outside-inside h (b .room .inside) in
           omega (arith, b .room .rows-only (first + bit) (next .set), i .rows-fit, i .bounds .capacity-few)
 
-      pub going-row : Lying h rows (first + bit) × (used + rowWords h ≤ length pending′)
-      going-row = (row-lies (b .room) (first + bit) (next .set), one-fits (b .room) at-row (next .set) .0)
+      pub going-row : RowInStore h rows (first + bit) × (used + rowWords h ≤ length pending′)
+      going-row = (row-in-store (b .room) (first + bit) (next .set), one-fits (b .room) at-row (next .set) .0)
 
       pub used-few : used + rowWords h ≤ 4294967295
       used-few = one-fits (b .room) at-row (next .set) .1
 
-      pub going-on : {pending″ : List ℕ} → pending″ ≡ putAt pending′ used (rowsWords h stamp (numbered h rows (first + bit) ∷ []))
+      pub going-on : {pending″ : List ℕ} → pending″ ≡ splice pending′ used (rowsWords h stamp (numbered h rows (first + bit) ∷ []))
           → Going pending″ (used + rowWords h) (bitAnd word (word - 1))
       going-on q =
           let e : first + bit + 1 ≡ first + (bit + 1) = omega arith in
@@ -267,26 +267,26 @@ module _ {h : Header} {rows pending : List ℕ} {before first marked stamp : ℕ
 
 module _ {h : Header} {rows pending words : List ℕ} (stamp : ℕ) (s : Stageable h rows pending words) where
   -- what holds at the loop's head
-  pub record Turn (pending′ : List ℕ) (used first : ℕ) : Type 0 where
+  pub record Iteration (pending′ : List ℕ) (used first : ℕ) : Type 0 where
     pub aligned : first % 64 ≡ 0
     pub written : Written h rows pending (s .test) stamp pending′ used first
 
-  pub turn-begin : Turn pending (h .pending) 0
-  turn-begin = record { aligned = omega arith; written = written-begin (s .room) }
+  pub iteration-begin : Iteration pending (h .pending) 0
+  iteration-begin = record { aligned = omega arith; written = written-begin (s .room) }
 
-  module _ {pending′ : List ℕ} {used first : ℕ} (t : Turn pending′ used first) where
-    pub turn-length : length pending′ ≡ length pending
-    turn-length = written-length (s .room) (t .written)
+  module _ {pending′ : List ℕ} {used first : ℕ} (t : Iteration pending′ used first) where
+    pub iteration-length : length pending′ ≡ length pending
+    iteration-length = written-length (s .room) (t .written)
 
-    pub turn-end : h .rows ≤ first → Written h rows pending (s .test) stamp pending′ used (h .rows)
-    turn-end = written-all (s .room) (t .written)
+    pub iteration-end : h .rows ≤ first → Written h rows pending (s .test) stamp pending′ used (h .rows)
+    iteration-end = written-all (s .room) (t .written)
 
     module _ (more : first < h .rows) where
       pub word-below : first < 65536
       word-below = let i = outside-inside h (s .room .inside) in omega (arith, i .rows-fit, i .bounds .capacity-few)
 
-      pub turn-block : Block h rows pending′ used first (getD words (first / 64) 0) stamp
-      turn-block =
+      pub iteration-block : Block h rows pending′ used first (getD words (first / 64) 0) stamp
+      iteration-block =
           let e : 64 * (first / 64) ≡ first = omega (arith, t .aligned) in
           record {
             pending₀ = pending;
@@ -296,6 +296,6 @@ module _ {h : Header} {rows pending words : List ℕ} (stamp : ℕ) (s : Stageab
             written = t .written;
           }
 
-      pub turn-on : {pending″ : List ℕ} {r : ℕ} → BlockWritten h rows pending′ used first (getD words (first / 64) 0) stamp r pending″ → Turn pending″ r (first + 64)
-      unfolding turn-block
-      turn-on w = record { aligned = omega (arith, t .aligned); written = w .on turn-block }
+      pub iteration-on : {pending″ : List ℕ} {r : ℕ} → BlockWritten h rows pending′ used first (getD words (first / 64) 0) stamp r pending″ → Iteration pending″ r (first + 64)
+      unfolding iteration-block
+      iteration-on w = record { aligned = omega (arith, t .aligned); written = w .on iteration-block }

@@ -11,69 +11,69 @@ use lib.Dec.{ltb}
 use lib.ListN.{length, take, getD}
 use lib.Seq.{take-all, take-suc}
 use borrow.Author.Tests.{ltb-true, ltb-false, lt-ltb, not-false}
-use Rattle.lists.specs.Lists.{every}
-use Rattle.lists.specs.Laws.Every.{or-no-left, every-more}
-use Rattle.lists.specs.Laws.Keep.{split, every-getD}
-use Rattle.refusals.specs.Refusals.{Rung, rung, first}
+use Rattle.lists.specs.Lists.{all}
+use Rattle.lists.specs.Laws.All.{or-no-left, all-more}
+use Rattle.lists.specs.Laws.Filter.{split, all-getD}
+use Rattle.refusals.specs.Refusals.{Check, check, firstRefusal}
 use Rattle.plain_table.specs.Staged.{Staged, wordsAll}
 use Rattle.plain_table.specs.Plain.{below}
 use Rattle.plain_table.specs.Refusing.{overfull}
-use Rattle.plain_table.specs.Refreshing.{Refresh, indexShort, refreshLadder}
-use Rattle.plain_table.specs.Laws.Calls.{first-no, first-rest}
+use Rattle.plain_table.specs.Refreshing.{Refresh, indexShort, refreshChecks}
+use Rattle.plain_table.specs.Laws.Calls.{firstRefusal-no, firstRefusal-rest}
 use Rattle.table.specs.declared.Header.{Header}
-use Rattle.table.specs.Numbers.{openingOf, largestSays}
+use Rattle.table.specs.Numbers.{openingOf, largestView}
 use Rattle.table.specs.Refusing.{outside, pendingOutside, rowsShort}
 use Rattle.table.specs.Laws.Refusals.{outside-inside, rows-long-of}
 use Rattle.refresh_spec.specs.Refreshes.{refreshRefusal}
 use Rattle.refresh_spec.specs.inner.Finding.{Lendable}
-use Rattle.refresh.specs.inner.Testing.{ladder}
+use Rattle.refresh.specs.inner.Testing.{earlyRefusal}
 
 -- the words that an index store needs fit a u32
 pub index-fits : (h : Header) (columns : ℕ) → outside h ≡ false → columns ≤ 8 → h .capacity * columns ≤ 524288
 index-fits h columns inside few = omega (arith, mul-le-mul (outside-inside h inside .bounds .capacity-few) few)
 
 -- checks that refuse do so before any others
-first-some : (rungs more : List Rung) → (first rungs ≡ 0 → ⊥) → first rungs ≡ first (rungs ++ more)
-unfolding first
+first-some : (checks more : List Check) → (firstRefusal checks ≡ 0 → ⊥) → firstRefusal checks ≡ firstRefusal (checks ++ more)
+unfolding firstRefusal
 first-some [] more some = absurd (some refl)
-first-some (rung true n ∷ rungs) more some = refl
-first-some (rung false n ∷ rungs) more some = first-some rungs more some
+first-some (check true n ∷ checks) more some = refl
+first-some (check false n ∷ checks) more some = first-some checks more some
 
 module _ (h : Header) (rows pending index : ℕ) (r : Refresh) where
   -- refused before 7, whatever would be staged
-  pub turned-away : (records : List Staged) → (ladder h rows pending index (r .columns) (r .stamp) ≡ 0 → ⊥)
-      → ladder h rows pending index (r .columns) (r .stamp) ≡ refreshRefusal h rows pending index r records
-  unfolding ladder refreshRefusal refreshLadder rowsShort
-  turned-away records some = first-some _ (rung (overfull (h .pending) pending (wordsAll (openingOf h) records)) 7 ∷ []) some
+  pub refused-before-seven : (records : List Staged) → (earlyRefusal h rows pending index (r .columns) (r .stamp) ≡ 0 → ⊥)
+      → earlyRefusal h rows pending index (r .columns) (r .stamp) ≡ refreshRefusal h rows pending index r records
+  unfolding earlyRefusal refreshRefusal refreshChecks rowsShort
+  refused-before-seven records some = first-some _ (check (overfull (h .pending) pending (wordsAll (openingOf h) records)) 7 ∷ []) some
 
   -- the tests, passed
   pub record Passed : Type 0 where
     pub inside : pendingOutside h pending ≡ false
     pub rows-long : rowsShort h rows ≡ false
     pub columns-few : ltb 8 (length (r .columns)) ≡ false
-    pub columns-there : not (every (λ column. ltb column (h .columns)) (r .columns)) ≡ false
+    pub columns-there : not (all (λ column. ltb column (h .columns)) (r .columns)) ≡ false
     pub index-long : indexShort (openingOf h) (r .columns) index ≡ false
-    pub stamp-new : below (r .stamp) (largestSays (h .largest)) ≡ false
+    pub stamp-new : below (r .stamp) (largestView (h .largest)) ≡ false
 
-  pub passed : ladder h rows pending index (r .columns) (r .stamp) ≡ 0 → Passed
-  unfolding ladder
+  pub passed : earlyRefusal h rows pending index (r .columns) (r .stamp) ≡ 0 → Passed
+  unfolding earlyRefusal
   passed e =
-      let b = first-rest _ 0 _ e in
-      let c = first-rest _ 1 _ b in
-      let d = first-rest _ 11 _ c in
-      let f = first-rest _ 5 _ d in
+      let b = firstRefusal-rest _ 0 _ e in
+      let c = firstRefusal-rest _ 1 _ b in
+      let d = firstRefusal-rest _ 11 _ c in
+      let f = firstRefusal-rest _ 5 _ d in
       record {
-        inside = first-no _ 0 _ e;
-        rows-long = first-no _ 1 _ b;
-        columns-few = first-no _ 11 _ c;
-        columns-there = first-no _ 5 _ d;
-        index-long = first-no _ 1 _ f;
-        stamp-new = first-no _ 8 _ (first-rest _ 1 _ f);
+        inside = firstRefusal-no _ 0 _ e;
+        rows-long = firstRefusal-no _ 1 _ b;
+        columns-few = firstRefusal-no _ 11 _ c;
+        columns-there = firstRefusal-no _ 5 _ d;
+        index-long = firstRefusal-no _ 1 _ f;
+        stamp-new = firstRefusal-no _ 8 _ (firstRefusal-rest _ 1 _ f);
       }
 
   -- 7 is left
-  pub only-seven : Passed → (records : List Staged) → refreshRefusal h rows pending index r records ≡ first (rung (overfull (h .pending) pending (wordsAll (openingOf h) records)) 7 ∷ [])
-  unfolding refreshRefusal refreshLadder rowsShort first
+  pub only-seven : Passed → (records : List Staged) → refreshRefusal h rows pending index r records ≡ firstRefusal (check (overfull (h .pending) pending (wordsAll (openingOf h) records)) 7 ∷ [])
+  unfolding refreshRefusal refreshChecks rowsShort firstRefusal
   only-seven p records = rw (p .inside, p .rows-long, p .columns-few, p .columns-there, p .index-long, p .stamp-new)
 
 -- what is lent is enough
@@ -92,23 +92,23 @@ lendable h rows pending index r p =
 
 -- the first i of them are there
 unfoldable pub there : ℕ → List ℕ → ℕ → Bool
-there wide columns i = every (λ column. ltb column wide) (take i columns)
+there wide columns i = all (λ column. ltb column wide) (take i columns)
 
 module _ (wide : ℕ) (columns : List ℕ) where
   pub there-begin : there wide columns 0 ≡ true
-  unfolding there every
+  unfolding there all
   there-begin = refl
 
   pub there-more : (i : ℕ) → i < length columns → there wide columns i ≡ true → getD columns i 0 < wide → there wide columns (i + 1) ≡ true
   unfolding there
-  there-more i less e k = rw (add-one, take-suc columns i 0 less, every-more (λ (column : ℕ). ltb column wide) (take i columns) (getD columns i 0), e, lt-ltb (getD columns i 0) wide k)
+  there-more i less e k = rw (add-one, take-suc columns i 0 less, all-more (λ (column : ℕ). ltb column wide) (take i columns) (getD columns i 0), e, lt-ltb (getD columns i 0) wide k)
 
-  pub there-end : (i : ℕ) → length columns ≤ i → there wide columns i ≡ every (λ column. ltb column wide) columns
+  pub there-end : (i : ℕ) → length columns ≤ i → there wide columns i ≡ all (λ column. ltb column wide) columns
   unfolding there
-  there-end i past = ap (every (λ column. ltb column wide)) (take-all i columns past)
+  there-end i past = ap (all (λ column. ltb column wide)) (take-all i columns past)
 
-  pub there-not : (i : ℕ) → i < length columns → wide ≤ getD columns i 0 → false ≡ every (λ column. ltb column wide) columns
-  there-not i less past = elim (split (every (λ (column : ℕ). ltb column wide) columns)) [
-    | inl e ↦ absurd (omega (arith, ltb-true (getD columns i 0) wide (every-getD (λ (column : ℕ). ltb column wide) columns e i less 0)))
+  pub there-not : (i : ℕ) → i < length columns → wide ≤ getD columns i 0 → false ≡ all (λ column. ltb column wide) columns
+  there-not i less past = elim (split (all (λ (column : ℕ). ltb column wide) columns)) [
+    | inl e ↦ absurd (omega (arith, ltb-true (getD columns i 0) wide (all-getD (λ (column : ℕ). ltb column wide) columns e i less 0)))
     | inr e ↦ sym e
   ]

@@ -7,11 +7,11 @@ use native.Mathlib.Numerals.{add-one}
 use native.Mathlib.Omega.{arith}
 use lib.ListN.{length, take, drop, set, length-set}
 use lib.Seq.{length-take-le, take-take, take-set-lt}
-use Rattle.lists.specs.Lists.{putAt, rowAt, flat}
-use Rattle.lists.specs.Laws.Parts.{part-width, length-putAt, putAt-then}
+use Rattle.lists.specs.Lists.{splice, rowAt, flatten}
+use Rattle.lists.specs.Laws.Parts.{part-width, length-splice, splice-then}
 use Rattle.lists.specs.Laws.Rows.{length-rowAt}
 use Rattle.lists.specs.Laws.Search.{take-put}
-use Rattle.cells.specs.Cells.{compact, keyHash}
+use Rattle.cells.specs.Cells.{compactHash, keyHash}
 use Rattle.row_buffer.specs.Laws.Rows.{key-row}
 use Rattle.key_index.specs.Laws.Places.{Inside, inside}
 use Rattle.plain_table.specs.Staged.{insert, removeRow}
@@ -19,9 +19,9 @@ use Rattle.plain_table.specs.Refreshing.{restamping, refreshed}
 use Rattle.table.specs.declared.Header.{Header}
 use Rattle.table.specs.Stores.{recordWords}
 use Rattle.table.specs.Laws.Refusals.{outside-inside}
-use Rattle.refresh.specs.inner.Staging.{Lying, numbered, rowsWords, rowWords}
+use Rattle.refresh.specs.inner.Staging.{RowInStore, numbered, rowsWords, rowWords}
 
-module _ {h : Header} {rows : List ℕ} {row : ℕ} (l : Lying h rows row) where
+module _ {h : Header} {rows : List ℕ} {row : ℕ} (l : RowInStore h rows row) where
   -- where a row is, and its numbers
   pub record Within : Type 0 where
     pub place : Inside rows (h .columns) row
@@ -45,7 +45,7 @@ module _ {h : Header} {rows : List ℕ} {row : ℕ} (l : Lying h rows row) where
   pub here-wide : length here ≡ h .columns
   here-wide = length-rowAt (h .columns) row rows (rw (add-one row, suc-mul) (within .place .in-store))
 
-  pub removal-words : (hash : ℕ) → hash ≡ compact (keyHash (take (row * h .columns + h .keys - row * h .columns) (drop (row * h .columns) rows)))
+  pub removal-words : (hash : ℕ) → hash ≡ compactHash (keyHash (take (row * h .columns + h .keys - row * h .columns) (drop (row * h .columns) rows)))
       → _≡_ {A = List ℕ} (2 ∷ hash ∷ row ∷ take (row * h .columns + h .keys - row * h .columns) (drop (row * h .columns) rows)) (recordWords (h .keys) (removeRow row (take (h .keys) here)))
   unfolding recordWords
   removal-words hash e =
@@ -59,13 +59,13 @@ module _ {h : Header} {rows : List ℕ} {row : ℕ} (l : Lying h rows row) where
   part-fits = rw (part-width rows (row * h .columns) (h .columns)) (omega (arith, here-wide, within))
 
   -- the row written into an array and restamped there
-  module _ (array written : List ℕ) (stamp : ℕ) (long : length array ≡ 8) (made : written ≡ putAt array 0 (take (row * h .columns + h .columns - row * h .columns) (drop (row * h .columns) rows))) where
-    row-made : written ≡ putAt array 0 here
+  module _ (array written : List ℕ) (stamp : ℕ) (long : length array ≡ 8) (made : written ≡ splice array 0 (take (row * h .columns + h .columns - row * h .columns) (drop (row * h .columns) rows))) where
+    row-made : written ≡ splice array 0 here
     unfolding rowAt
-    row-made = made ∙ ap (putAt array 0) (part-width rows (row * h .columns) (h .columns))
+    row-made = made ∙ ap (splice array 0) (part-width rows (row * h .columns) (h .columns))
 
     pub cells-fit : h .columns ≤ length (set written (h .sort) stamp)
-    cells-fit = omega (arith, length-set written (h .sort) stamp, ap length row-made, length-putAt array here 0 (omega (arith, here-wide, within)), within)
+    cells-fit = omega (arith, length-set written (h .sort) stamp, ap length row-made, length-splice array here 0 (omega (arith, here-wide, within)), within)
 
     pub key-fits : h .keys ≤ length (set written (h .sort) stamp)
     key-fits = omega (arith, cells-fit, within)
@@ -73,10 +73,10 @@ module _ {h : Header} {rows : List ℕ} {row : ℕ} (l : Lying h rows row) where
     pub cells-restamped : take (h .columns) (set written (h .sort) stamp) ≡ set here (h .sort) stamp
     cells-restamped =
         rw row-made
-        (take-set-lt (h .columns) (putAt array 0 here) (h .sort) stamp (within .sort-there)
-        ∙ ap (λ (x : List ℕ). set x (h .sort) stamp) (ap (λ (n : ℕ). take n (putAt array 0 here)) (sym here-wide) ∙ take-put array here))
+        (take-set-lt (h .columns) (splice array 0 here) (h .sort) stamp (within .sort-there)
+        ∙ ap (λ (x : List ℕ). set x (h .sort) stamp) (ap (λ (n : ℕ). take n (splice array 0 here)) (sym here-wide) ∙ take-put array here))
 
-    pub restamped-words : (hash : ℕ) → hash ≡ compact (keyHash (take (h .keys) (set written (h .sort) stamp)))
+    pub restamped-words : (hash : ℕ) → hash ≡ compactHash (keyHash (take (h .keys) (set written (h .sort) stamp)))
         → _≡_ {A = List ℕ} (0 ∷ hash ∷ take (h .columns - 0) (set written (h .sort) stamp)) (recordWords (h .keys) (insert (set here (h .sort) stamp)))
     unfolding recordWords
     restamped-words hash e =
@@ -87,13 +87,13 @@ module _ {h : Header} {rows : List ℕ} {row : ℕ} (l : Lying h rows row) where
 
   -- both, one after the other
   pub both-words : (stamp : ℕ) (pending : List ℕ) (at : ℕ) → at + rowWords h ≤ length pending
-      → putAt (putAt pending at (recordWords (h .keys) (removeRow row (take (h .keys) here)))) (at + (h .keys + 3)) (recordWords (h .keys) (insert (set here (h .sort) stamp)))
-      ≡ putAt pending at (rowsWords h stamp (numbered h rows row ∷ []))
-  unfolding rowsWords refreshed restamping flat recordWords
+      → splice (splice pending at (recordWords (h .keys) (removeRow row (take (h .keys) here)))) (at + (h .keys + 3)) (recordWords (h .keys) (insert (set here (h .sort) stamp)))
+      ≡ splice pending at (rowsWords h stamp (numbered h rows row ∷ []))
+  unfolding rowsWords refreshed restamping flatten recordWords
   both-words stamp pending at fits =
       let k : length (take (h .keys) here) ≡ h .keys = length-take-le (h .keys) here (omega (arith, here-wide, within)) in
       let n : length (set here (h .sort) stamp) ≡ h .columns = length-set here (h .sort) stamp ∙ here-wide in
-      let v : List ℕ = 2 ∷ compact (keyHash (take (h .keys) here)) ∷ row ∷ take (h .keys) here in
-      let w : List ℕ = 0 ∷ compact (keyHash (take (h .keys) (set here (h .sort) stamp))) ∷ set here (h .sort) stamp in
+      let v : List ℕ = 2 ∷ compactHash (keyHash (take (h .keys) here)) ∷ row ∷ take (h .keys) here in
+      let w : List ℕ = 0 ∷ compactHash (keyHash (take (h .keys) (set here (h .sort) stamp))) ∷ set here (h .sort) stamp in
       let e : at + (h .keys + 3) ≡ at + length v = omega arith in
-      ap (λ (i : ℕ). putAt (putAt pending at v) i w) e ∙ putAt-then pending v w at (omega arith) ∙ ap (λ (x : List ℕ). putAt pending at (v ++ x)) (sym (append-nil w))
+      ap (λ (i : ℕ). splice (splice pending at v) i w) e ∙ splice-then pending v w at (omega arith) ∙ ap (λ (x : List ℕ). splice pending at (v ++ x)) (sym (append-nil w))

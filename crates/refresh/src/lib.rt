@@ -7,7 +7,7 @@ ghost use mathlib.Core.List.{[], _∷_};
 ghost use Prim.Native.Nat.{_+_, _≤_};
 ghost use lib.Dec.{ltb};
 ghost use lib.ListN.{length, take, set};
-ghost use Rattle.lists.specs.Lists.{putAt, every, rowAt};
+ghost use Rattle.lists.specs.Lists.{splice, all, rowAt};
 ghost use Rattle.plain_table.specs.Staged.{insert, removeRow};
 ghost use Rattle.plain_table.specs.Refreshing.{indexShort};
 ghost use Rattle.table.specs.Numbers.{openingOf};
@@ -16,9 +16,9 @@ ghost use Rattle.table.specs.Stores.{recordWords};
 ghost use Rattle.bitmap.specs.inner.Bitmaps.{Bitmap};
 ghost use Rattle.refresh_spec.specs.Refreshes.{Refreshing};
 ghost use Rattle.refresh_spec.specs.inner.Finding.{Lendable, usable};
-ghost use Rattle.refresh.specs.inner.Testing.{ladder};
-ghost use Rattle.refresh.specs.inner.Finding.{Found};
-ghost use Rattle.refresh.specs.inner.Staging.{Lying, rowWords, rowsWords, numbered, Block, BlockWritten, Stageable, AllWritten};
+ghost use Rattle.refresh.specs.inner.Testing.{earlyRefusal};
+ghost use Rattle.refresh.specs.inner.Finding.{RowsFound};
+ghost use Rattle.refresh.specs.inner.Staging.{RowInStore, rowWords, rowsWords, numbered, Block, BlockWritten, Stageable, AllWritten};
 use bitmap::WORDS;
 use refresh_index::ROWS_SEEN;
 use refresh_index::catch_up;
@@ -37,7 +37,7 @@ const MOST_COLUMNS: usize = 8;
 
 // Whether every column named is one of the table's.
 fn are_columns_there(h: Header, columns: &[u32]) -> bool
-    ensures { λ r. ⌜ r ≡ every (λ column. ltb column (h .columns)) (now (columns .entry)) ⌝ }
+    ensures { λ r. ⌜ r ≡ all (λ column. ltb column (h .columns)) (now (columns .entry)) ⌝ }
 {
     let mut i = 0;
     while i < columns.len() {
@@ -67,7 +67,7 @@ fn refresh_refusal(
     columns: &[u32],
     stamp: u32,
 ) -> u32
-    ensures { λ r. ⌜ r ≡ ladder h rows pending index (now (columns .entry)) stamp ⌝ }
+    ensures { λ r. ⌜ r ≡ earlyRefusal h rows pending index (now (columns .entry)) stamp ⌝ }
 {
     if is_pending_outside(h, pending) {
         return 1;
@@ -102,7 +102,7 @@ fn mark_mentioning(
     words: &mut [u64],
 ) -> u32
     requires { ⌜ Lendable h (now rows) (now columns) (now index) × («goes_on» ≡ usable h (now columns) (now index)) × Bitmap (now words) (λ i. false) ⌝ }
-    ensures { λ r. ⌜ Found h (now (rows .entry)) (now (index .entry)) (now (columns .entry)) (now (values .entry)) (now (words .entry)) (now (words .exit)) r ⌝ }
+    ensures { λ r. ⌜ RowsFound h (now (rows .entry)) (now (index .entry)) (now (columns .entry)) (now (values .entry)) (now (words .entry)) (now (words .exit)) r ⌝ }
 {
     if !goes_on {
         return mark_unlisted(h, rows, 0, columns, values, words);
@@ -114,8 +114,8 @@ fn mark_mentioning(
 
 // Writes the removal of a row.
 fn write_removal(h: Header, rows: &[u32], pending: &mut [u32], at: usize, row: u32)
-    requires { ⌜ Lying h (now rows) row × (at + (h .keys + 3) ≤ length (now pending)) ⌝ }
-    ensures { λ _. ⌜ now (pending .exit) ≡ putAt (now (pending .entry)) at (recordWords (h .keys) (removeRow row (take (h .keys) (rowAt (h .columns) row (now (rows .entry)))))) ⌝ }
+    requires { ⌜ RowInStore h (now rows) row × (at + (h .keys + 3) ≤ length (now pending)) ⌝ }
+    ensures { λ _. ⌜ now (pending .exit) ≡ splice (now (pending .entry)) at (recordWords (h .keys) (removeRow row (take (h .keys) (rowAt (h .columns) row (now (rows .entry)))))) ⌝ }
 {
     let from = (row * h.columns) as usize;
     let end = from + h.keys as usize;
@@ -126,8 +126,8 @@ fn write_removal(h: Header, rows: &[u32], pending: &mut [u32], at: usize, row: u
 
 // Writes the insert of a row with the stamp as its sort cell. If the sort column is a key column, the key changes.
 fn write_restamped(h: Header, rows: &[u32], pending: &mut [u32], at: usize, row: u32, stamp: u32)
-    requires { ⌜ Lying h (now rows) row × (at + (h .columns + 2) ≤ length (now pending)) ⌝ }
-    ensures { λ _. ⌜ now (pending .exit) ≡ putAt (now (pending .entry)) at (recordWords (h .keys) (insert (set (rowAt (h .columns) row (now (rows .entry))) (h .sort) stamp))) ⌝ }
+    requires { ⌜ RowInStore h (now rows) row × (at + (h .columns + 2) ≤ length (now pending)) ⌝ }
+    ensures { λ _. ⌜ now (pending .exit) ≡ splice (now (pending .entry)) at (recordWords (h .keys) (insert (set (rowAt (h .columns) row (now (rows .entry))) (h .sort) stamp))) ⌝ }
 {
     let from = (row * h.columns) as usize;
     let width = h.columns as usize;
@@ -140,8 +140,8 @@ fn write_restamped(h: Header, rows: &[u32], pending: &mut [u32], at: usize, row:
 
 // Writes both records of a row.
 fn write_row(h: Header, rows: &[u32], pending: &mut [u32], at: usize, row: u32, stamp: u32)
-    requires { ⌜ Lying h (now rows) row × (at + rowWords h ≤ length (now pending)) ⌝ }
-    ensures { λ _. ⌜ now (pending .exit) ≡ putAt (now (pending .entry)) at (rowsWords h stamp (numbered h (now (rows .entry)) row ∷ [])) ⌝ }
+    requires { ⌜ RowInStore h (now rows) row × (at + rowWords h ≤ length (now pending)) ⌝ }
+    ensures { λ _. ⌜ now (pending .exit) ≡ splice (now (pending .entry)) at (rowsWords h stamp (numbered h (now (rows .entry)) row ∷ [])) ⌝ }
 {
     write_removal(h, rows, pending, at, row);
     write_restamped(h, rows, pending, at + (h.keys + 3) as usize, row, stamp);

@@ -9,7 +9,7 @@ use lib.ListN.{length, getD}
 use Rattle.table.specs.declared.Header.{Header}
 use Rattle.refresh_spec.specs.Index.{rowsSeen, entriesUnder, IndexOf}
 use Rattle.refresh_spec.specs.inner.Finding.{Lendable, usable, CaughtUp}
-use Rattle.refresh_spec.specs.Laws.Places.{entry-lies}
+use Rattle.refresh_spec.specs.Laws.Places.{entry-in-range}
 use Rattle.refresh_spec.specs.Laws.Lookup.{column-is}
 use Rattle.refresh_index.specs.inner.Entries.{cellNamed, entryLive, entryValue, headsAt, Listed, Fillable, Filled, Emptied}
 use Rattle.refresh_index.specs.Laws.Using.{Usable, usable-is}
@@ -21,7 +21,7 @@ module _ (h : Header) (rows columns index : List ℕ) where
   listed-of i u =
       record {
         each = λ entry k live.
-            let l = entry-lies (rowsSeen index) (length columns) entry k in
+            let l = entry-in-range (rowsSeen index) (length columns) entry k in
             rw (u .named .count, column-is columns index (u .named .names) _ (l .place-there), div-add-mod' entry (length columns)) at (i .listed (entry / length columns) (entry % length columns) (l .row-there) live (rw (u .named .count) (l .place-there)));
       }
 
@@ -54,9 +54,9 @@ module _ (h : Header) (rows columns index : List ℕ) where
         let s = small h (length columns) (l .inside) (l .columns-few) in
         record { lendable = l; enough = omega arith; room = omega arith }
 
-    pub caught-afresh : usable h columns index ≡ false → (index₁ index₂ : List ℕ) → length index₂ ≡ length index → Emptied index (headsAt h columns) (2 * (h .rows * length columns)) index₁
+    pub caught-restarted : usable h columns index ≡ false → (index₁ index₂ : List ℕ) → length index₂ ≡ length index → Emptied index (headsAt h columns) (2 * (h .rows * length columns)) index₁
         → Filled h rows columns (2 * (h .rows * length columns)) 0 index₁ index₂ → CaughtUp h rows columns index index₂
-    caught-afresh stale index₁ index₂ same e f =
+    caught-restarted stale index₁ index₂ same e f =
         record {
           length-same = same;
           written = f .written;

@@ -8,8 +8,8 @@ use native.Mathlib.Numerals.{add-one}
 use native.Mathlib.Omega.{arith}
 use lib.ListN.{length, drop, getD, set}
 use lib.Seq.{getD-set-same, getD-set-other, drop-set-lt}
-use Rattle.lists.specs.Lists.{has}
-use Rattle.lists.specs.Laws.Rising.{has-here}
+use Rattle.lists.specs.Lists.{elem}
+use Rattle.lists.specs.Laws.Rising.{elem-here}
 use Rattle.table.specs.declared.Header.{Header}
 use Rattle.refresh_spec.specs.Index.{bucketOf, chain}
 use Rattle.refresh_index.specs.inner.Entries.{cellNamed, entryValue, headsAt, pushed, Listed, Fillable, Pushed, Emptied}
@@ -57,8 +57,8 @@ module _ (h : Header) (rows columns : List ℕ) (buckets : ℕ) where
       }
     where
       own : (e : ℕ) → e ≡ n → let index′ = pushed index (headsAt h columns + bucketOf buckets (entryValue h rows columns n)) n in
-          has e (chain index′ (suc n) (getD index′ (headsAt h columns + bucketOf buckets (entryValue h rows columns e)) 0)) ≡ true
-      own e p = rw (p, pushed-own index (headsAt h columns + bucketOf buckets (entryValue h rows columns n)) n (omega arith) inside) (has-here n n _ refl)
+          elem e (chain index′ (suc n) (getD index′ (headsAt h columns + bucketOf buckets (entryValue h rows columns e)) 0)) ≡ true
+      own e p = rw (p, pushed-own index (headsAt h columns + bucketOf buckets (entryValue h rows columns n)) n (omega arith) inside) (elem-here n n _ refl)
 
   -- the entry of a row and a place fits
   pub record Pushable (row place : ℕ) (index : List ℕ) : Type 0 where

@@ -6,8 +6,8 @@ use mathlib.Core.List.{List, [], _∷_}
 use native.Mathlib.Omega.{arith}
 use lib.ListN.{length, take, drop, getD}
 use lib.Seq.{getD-set-same, getD-set-other, take-set-le, drop-set-lt}
-use Rattle.lists.specs.Lists.{putAt, has, rowAt}
-use Rattle.lists.specs.Laws.Parts.{take-drop, length-putAt, drop-putAt, part-putAt, getD-putAt-after}
+use Rattle.lists.specs.Lists.{splice, elem, rowAt}
+use Rattle.lists.specs.Laws.Parts.{take-drop, length-splice, drop-splice, part-splice, getD-splice-after}
 use Rattle.constraints.specs.Constraints.{isLive}
 use Rattle.table.specs.declared.Header.{Header}
 use Rattle.refresh_spec.specs.Index.{isNew, generationSeen, rowsSeen, columnsNamed, namedIn, bucketOf, chain, entriesUnder, IndexOf, Current}
@@ -24,58 +24,58 @@ module _ (h : Header) (columns : List ℕ) (buckets : ℕ) (index : List ℕ) (l
   unfolding words
   words-fit = omega arith
 
-  columns-fit : 4 + length columns ≤ length (putAt index 0 words)
-  columns-fit = omega (arith, length-putAt index words 0 words-fit)
+  columns-fit : 4 + length columns ≤ length (splice index 0 words)
+  columns-fit = omega (arith, length-splice index words 0 words-fit)
 
   front-written : isNew (fronted h columns buckets index) ≡ false
-  unfolding isNew fronted putAt
+  unfolding isNew fronted splice
   front-written = refl
 
   front-generation : generationSeen (fronted h columns buckets index) ≡ h .generation
-  unfolding fronted putAt generationSeen
+  unfolding fronted splice generationSeen
   front-generation = refl
 
   front-rows : rowsSeen (fronted h columns buckets index) ≡ h .rows
-  unfolding fronted putAt rowsSeen
+  unfolding fronted splice rowsSeen
   front-rows = refl
 
   front-count : columnsNamed (fronted h columns buckets index) ≡ length columns
-  unfolding fronted putAt columnsNamed
+  unfolding fronted splice columnsNamed
   front-count = refl
 
   front-names : take (length columns) (drop 4 (fronted h columns buckets index)) ≡ columns
   unfolding fronted words
   front-names =
       take-drop 4 (length columns) (fronted h columns buckets index)
-      ∙ ap (drop 4) (take-set-le (4 + length columns) (putAt (putAt index 0 words) 4 columns) 12 buckets (omega arith))
-      ∙ sym (take-drop 4 (length columns) (putAt (putAt index 0 words) 4 columns))
-      ∙ part-putAt (putAt index 0 words) columns 4 columns-fit
+      ∙ ap (drop 4) (take-set-le (4 + length columns) (splice (splice index 0 words) 4 columns) 12 buckets (omega arith))
+      ∙ sym (take-drop 4 (length columns) (splice (splice index 0 words) 4 columns))
+      ∙ part-splice (splice index 0 words) columns 4 columns-fit
 
   front-buckets : getD (fronted h columns buckets index) 12 0 ≡ buckets
   unfolding fronted words
   front-buckets =
-      getD-set-same (putAt (putAt index 0 words) 4 columns) 12 buckets 0
-      (omega (arith, length-putAt (putAt index 0 words) columns 4 columns-fit, length-putAt index words 0 words-fit))
+      getD-set-same (splice (splice index 0 words) 4 columns) 12 buckets 0
+      (omega (arith, length-splice (splice index 0 words) columns 4 columns-fit, length-splice index words 0 words-fit))
 
   -- words from the entries' on are as they were
   front-after : (at : ℕ) → 16 ≤ at → getD (fronted h columns buckets index) at 0 ≡ getD index at 0
   unfolding fronted words
   front-after at h =
-      getD-set-other (putAt (putAt index 0 words) 4 columns) 12 at buckets 0 (omega arith)
-      ∙ getD-putAt-after (putAt index 0 words) columns 4 columns-fit at 0 (omega arith)
-      ∙ getD-putAt-after index words 0 words-fit at 0 (omega arith)
+      getD-set-other (splice (splice index 0 words) 4 columns) 12 at buckets 0 (omega arith)
+      ∙ getD-splice-after (splice index 0 words) columns 4 columns-fit at 0 (omega arith)
+      ∙ getD-splice-after index words 0 words-fit at 0 (omega arith)
 
   front-past : (n : ℕ) → 16 ≤ n → drop n (fronted h columns buckets index) ≡ drop n index
   unfolding fronted words
   front-past n h =
-      drop-set-lt n (putAt (putAt index 0 words) 4 columns) 12 buckets (omega arith)
-      ∙ drop-putAt (putAt index 0 words) columns 4 columns-fit n (omega arith)
-      ∙ drop-putAt index words 0 words-fit n (omega arith)
+      drop-set-lt n (splice (splice index 0 words) 4 columns) 12 buckets (omega arith)
+      ∙ drop-splice (splice index 0 words) columns 4 columns-fit n (omega arith)
+      ∙ drop-splice index words 0 words-fit n (omega arith)
 
   -- so an index of all rows
   module _ (rows : List ℕ) (room : buckets ≤ 2 * (h .capacity * length columns)) (l : Listed h rows columns buckets (h .rows * length columns) index) where
     entry-listed : (row place : ℕ) → row < h .rows → place < length columns → isLive (rowAt (h .columns) row rows) ≡ true
-        → has (row * length columns + place) (chain index (h .rows * length columns) (getD index (headsAt h columns + bucketOf buckets (cellNamed h rows columns row place)) 0)) ≡ true
+        → elem (row * length columns + place) (chain index (h .rows * length columns) (getD index (headsAt h columns + bucketOf buckets (cellNamed h rows columns row place)) 0)) ≡ true
     unfolding entryLive entryValue
     entry-listed row place r p live =
         let e = entry-in (h .rows) (length columns) row place r p in

@@ -5,8 +5,8 @@ use mathlib.Core.Logic.{inl, inr}
 use mathlib.Core.Bool.{Bool, true, false, not, _&&_, _||_, false≢true}
 use mathlib.Core.List.{List}
 use lib.ListN.{length, getD}
-use Rattle.lists.specs.Laws.Keep.{split}
-use Rattle.lists.specs.Laws.Every.{or-right}
+use Rattle.lists.specs.Laws.Filter.{split}
+use Rattle.lists.specs.Laws.All.{or-right}
 use Rattle.bitmap.specs.inner.Bitmaps.{Marked}
 use Rattle.bitmap.specs.Laws.Bitmaps.{bitmap-of, marked-none, marked-then, marked-weaker, marked-few}
 

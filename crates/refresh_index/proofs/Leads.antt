@@ -6,7 +6,7 @@ use mathlib.Core.List.{List}
 use lib.Dec.{eqb}
 use lib.ListN.{getD}
 use borrow.Author.Tests.{eq-eqb, ne-eqb}
-use Rattle.lists.specs.Laws.Keep.{and-right}
+use Rattle.lists.specs.Laws.Filter.{and-right}
 use Rattle.cells.specs.Cells.{isDead}
 use Rattle.constraints.specs.Laws.Rows.{live-first}
 use Rattle.table.specs.declared.Header.{Header}

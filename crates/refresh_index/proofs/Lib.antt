@@ -4,4 +4,4 @@ pub mod Fronts
 pub mod Catches
 pub mod Goings
 pub mod Leads
-pub mod Walks
+pub mod ChainSteps

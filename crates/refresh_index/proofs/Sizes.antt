@@ -7,7 +7,7 @@ use native.Mathlib.Nat.{mul-le-mul, mul-le-mul-right}
 use native.Mathlib.Omega.{arith}
 use lib.ListN.{length, getD}
 use borrow.Author.Tests.{ltb-true}
-use Rattle.lists.specs.Laws.Keep.{every-getD}
+use Rattle.lists.specs.Laws.Filter.{all-getD}
 use Rattle.key_index.specs.Laws.Places.{Inside, inside}
 use Rattle.table.specs.declared.Header.{Header}
 use Rattle.table.specs.Refusing.{outside}
@@ -54,4 +54,4 @@ pub cell-in : {h : Header} {rows columns : List ℕ} → Readable h rows columns
     → Inside rows (h .columns) row × (getD columns place 0 < h .columns)
 cell-in {h} {rows} {columns} n row place r p =
     let i = outside-inside h (n .inside) in
-    (inside rows (h .columns) (h .capacity) row (i .bounds .capacity-few) (i .bounds .columns-few) (n .rows-long) (omega (arith, i .rows-fit)), ltb-true _ _ (every-getD _ columns (n .columns-there) place p 0))
+    (inside rows (h .columns) (h .capacity) row (i .bounds .capacity-few) (i .bounds .columns-few) (n .rows-long) (omega (arith, i .rows-fit)), ltb-true _ _ (all-getD _ columns (n .columns-there) place p 0))

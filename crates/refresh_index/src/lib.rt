@@ -21,7 +21,7 @@ pub const ROWS_SEEN: usize = 2;
 const BUCKETS: usize = 12;
 
 // An odd number near the golden section of 2^32: values at equal distances fall into buckets far apart.
-const SPREAD: u64 = 0x9e37_79b9;
+const HASH_MULTIPLIER: u64 = 0x9e37_79b9;
 
 // Whether a refresh by these columns can continue with the store: it is of this generation and these columns, has seen no more rows
 // than there are, and has enough buckets for all of them.
@@ -56,7 +56,7 @@ fn bucket_of(buckets: u32, value: u32) -> usize
     requires { ⌜ 0 < buckets ⌝ }
     ensures { λ r. ⌜ (r ≡ bucketOf buckets value) × (r < buckets) ⌝ }
 {
-    let hash = value as u64 * SPREAD % 0x1_0000_0000;
+    let hash = value as u64 * HASH_MULTIPLIER % 0x1_0000_0000;
     key_index::home_slot(buckets, hash as u32) as usize
 }
 

@@ -1,3 +1,3 @@
 pub mod Links
 pub mod Mentions
-pub mod Marks
+pub mod BitmapSteps

@@ -11,9 +11,9 @@ use lib.Dec.{eqb}
 use lib.ListN.{length, take, getD, set, replicate, length-set, length-replicate, getD-replicate}
 use lib.Seq.{take-suc, take-length, getD-set-same, getD-set-other}
 use borrow.Author.Tests.{eqb-true, eqb-false}
-use Rattle.lists.specs.Lists.{has}
-use Rattle.lists.specs.Laws.Keep.{split}
-use Rattle.lists.specs.Laws.Rising.{has-append, has-there, has-of}
+use Rattle.lists.specs.Lists.{elem}
+use Rattle.lists.specs.Laws.Filter.{split}
+use Rattle.lists.specs.Laws.Rising.{elem-append, elem-there, elem-of}
 use Rattle.refresh_spec.specs.Index.{bucketOf}
 use Rattle.refresh_scan.specs.inner.Scanning.{linkTo, Linked}
 
@@ -39,17 +39,17 @@ module _ (values : List ℕ) where
   ]
 
   -- a value other than this one more
-  has-past : (value n : ℕ) → n < length values → (getD values n 0 ≡ value → ⊥) → has value (take (n + 1) values) ≡ has value (take n values)
+  has-past : (value n : ℕ) → n < length values → (getD values n 0 ≡ value → ⊥) → elem value (take (n + 1) values) ≡ elem value (take n values)
   has-past value n h ne =
-      rw (add-one n, take-suc values n 0 h, has-append value (take n values) (getD values n 0 ∷ []), has-there value (getD values n 0) [] (λ e. ne (sym e)))
-      (none (has value (take n values)))
+      rw (add-one n, take-suc values n 0 h, elem-append value (take n values) (getD values n 0 ∷ []), elem-there value (getD values n 0) [] (λ e. ne (sym e)))
+      (none (elem value (take n values)))
     where
-      none : (b : Bool) → (b || has value []) ≡ b
+      none : (b : Bool) → (b || elem value []) ≡ b
       none true = refl
-      none false = unfold has in refl
+      none false = unfold elem in refl
 
   -- no value of a bucket is behind the link
-  has-linked : (value n : ℕ) → n ≤ length values → has value (take n values) ≡ has value (take (linkTo values (bucketOf 4096 value) n) values)
+  has-linked : (value n : ℕ) → n ≤ length values → elem value (take n values) ≡ elem value (take (linkTo values (bucketOf 4096 value) n) values)
   unfolding linkTo
   has-linked value zero h = refl
   has-linked value (suc n) h = elim (split (eqb (bucketOf 4096 (getD values n 0)) (bucketOf 4096 value))) [
@@ -101,14 +101,14 @@ module _ (values links : List ℕ) (n : ℕ) (l : Linked values n links) (h : n 
 -- ---- the turns of `is_among`
 
 -- What holds at the loop's head: the values below the link decide, and those of them in the value's bucket are linked from there.
-pub record Walking (values : List ℕ) (value link : ℕ) : Type 0 where
+pub record LinkScan (values : List ℕ) (value link : ℕ) : Type 0 where
   pub inside : link ≤ length values
   pub in-bucket : 0 < link → bucketOf 4096 (getD values (link - 1) 0) ≡ bucketOf 4096 value
-  pub decides : has value values ≡ has value (take link values)
+  pub decides : elem value values ≡ elem value (take link values)
 
 module _ (values links : List ℕ) (value : ℕ) (l : Linked values (length values) links) where
-  walking : (link n : ℕ) → n ≤ length values → link ≡ linkTo values (bucketOf 4096 value) n → has value values ≡ has value (take n values) → Walking values value link
-  walking link n h e d =
+  link-scan : (link n : ℕ) → n ≤ length values → link ≡ linkTo values (bucketOf 4096 value) n → elem value values ≡ elem value (take n values) → LinkScan values value link
+  link-scan link n h e d =
       rw e
       (record {
         inside = omega (arith, linkTo-le values (bucketOf 4096 value) n);
@@ -116,24 +116,24 @@ module _ (values links : List ℕ) (value : ℕ) (l : Linked values (length valu
         decides = d ∙ has-linked values value n h;
       })
 
-  pub walking-begin : (place : ℕ) → place ≡ 1024 + bucketOf 4096 value → Walking values value (getD links place 0)
-  walking-begin place e = walking _ (length values) (omega arith) (rw e (l .last (bucketOf 4096 value) (bucket-in value))) (rw (take-length values))
+  pub link-scan-begin : (place : ℕ) → place ≡ 1024 + bucketOf 4096 value → LinkScan values value (getD links place 0)
+  link-scan-begin place e = link-scan _ (length values) (omega arith) (rw e (l .last (bucketOf 4096 value) (bucket-in value))) (rw (take-length values))
 
-  module _ (link : ℕ) (w : Walking values value link) where
-    pub walking-end : link ≡ 0 → false ≡ has value values
-    unfolding has
-    walking-end z = sym (w .decides ∙ rw z)
+  module _ (link : ℕ) (w : LinkScan values value link) where
+    pub link-scan-end : link ≡ 0 → false ≡ elem value values
+    unfolding elem
+    link-scan-end z = sym (w .decides ∙ rw z)
 
     module _ (some : link ≡ 0 → ⊥) where
-      pub walking-found : getD values (link - 1) 0 ≡ value → true ≡ has value values
-      walking-found e = sym (rw e at (has-of values (link - 1) (omega (arith, w .inside))))
+      pub link-scan-found : getD values (link - 1) 0 ≡ value → true ≡ elem value values
+      link-scan-found e = sym (rw e at (elem-of values (link - 1) (omega (arith, w .inside))))
 
-      pub walking-less : getD links (link - 1) 0 < link
-      walking-less = omega (arith, l .before (link - 1) (omega (arith, w .inside)), linkTo-le values (bucketOf 4096 (getD values (link - 1) 0)) (link - 1))
+      pub link-scan-less : getD links (link - 1) 0 < link
+      link-scan-less = omega (arith, l .before (link - 1) (omega (arith, w .inside)), linkTo-le values (bucketOf 4096 (getD values (link - 1) 0)) (link - 1))
 
-      pub walking-on : (getD values (link - 1) 0 ≡ value → ⊥) → Walking values value (getD links (link - 1) 0)
-      walking-on ne =
+      pub link-scan-on : (getD values (link - 1) 0 ≡ value → ⊥) → LinkScan values value (getD links (link - 1) 0)
+      link-scan-on ne =
           let p : link ≡ link - 1 + 1 = omega arith in
-          walking _ (link - 1) (omega (arith, w .inside))
+          link-scan _ (link - 1) (omega (arith, w .inside))
           (rw (← w .in-bucket (omega arith)) (l .before (link - 1) (omega (arith, w .inside))))
-          (w .decides ∙ ap (λ (n : ℕ). has value (take n values)) p ∙ has-past values value (link - 1) (omega (arith, w .inside)) ne)
+          (w .decides ∙ ap (λ (n : ℕ). elem value (take n values)) p ∙ has-past values value (link - 1) (omega (arith, w .inside)) ne)

@@ -6,7 +6,7 @@ ghost use mathlib.Core.Bool.{true};
 ghost use Prim.Native.Nat.{_+_, _≤_, _<_, min};
 ghost use lib.Dec.{ltb};
 ghost use lib.ListN.{length};
-ghost use Rattle.lists.specs.Lists.{every, has};
+ghost use Rattle.lists.specs.Lists.{all, elem};
 ghost use Rattle.plain_table.specs.Refreshing.{mentions};
 ghost use Rattle.bitmap.specs.inner.Bitmaps.{Marked};
 ghost use Rattle.refresh_spec.specs.Index.{bucketOf};
@@ -46,7 +46,7 @@ fn link_values(values: &[u32], links: &mut [u32])
 // Whether a value is in a part.
 fn is_among(values: &[u32], links: &[u32], value: u32) -> bool
     requires { ⌜ Linked (now values) (length (now values)) (now links) ⌝ }
-    ensures { λ r. ⌜ r ≡ has value (now (values .entry)) ⌝ }
+    ensures { λ r. ⌜ r ≡ elem value (now (values .entry)) ⌝ }
 {
     let mut link = links[bucket_place(value)] as usize;
     while link != 0 {
@@ -61,7 +61,7 @@ fn is_among(values: &[u32], links: &[u32], value: u32) -> bool
 
 // Whether a row has a value of a part in one of the columns.
 fn mentions_one(row: &[u32], columns: &[u32], values: &[u32], links: &[u32]) -> bool
-    requires { ⌜ (every (λ column. ltb column (length (now row))) (now columns) ≡ true) × Linked (now values) (length (now values)) (now links) ⌝ }
+    requires { ⌜ (all (λ column. ltb column (length (now row))) (now columns) ≡ true) × Linked (now values) (length (now values)) (now links) ⌝ }
     ensures { λ r. ⌜ r ≡ mentions (now (columns .entry)) (now (values .entry)) (now (row .entry)) ⌝ }
 {
     let mut i = 0;

@@ -18,7 +18,7 @@ use mathlib.Core.Bool.{Bool, true, false, cond, not, _&&_, _||_}
 use mathlib.Core.List.{List, [], _∷_}
 use lib.ListN.{length, take, drop, getD}
 use lib.Dec.{eqb}
-use Rattle.lists.specs.Lists.{keep, any, has, same, rowAt, countFrom}
+use Rattle.lists.specs.Lists.{filter, any, elem, same, rowAt, iota}
 use Rattle.constraints.specs.Constraints.{isLive}
 use Rattle.plain_table.specs.Refreshing.{indexShort}
 use Rattle.table.specs.declared.Header.{Header}
@@ -72,14 +72,14 @@ leads h rows columns value entries i = any (λ entry. leadsTo h rows columns val
 -- "An index from value to rising row numbers": a lookup returns the rows seen that an entry in the value's bucket leads to
 unfoldable pub lookedUp : Header → List ℕ → List ℕ → ℕ → List ℕ
 lookedUp h rows index value =
-    keep (leads h rows (namedIn index) value (entriesUnder (h .capacity) index value)) (countFrom 0 (rowsSeen index))
+    filter (leads h rows (namedIn index) value (entriesUnder (h .capacity) index value)) (iota 0 (rowsSeen index))
 
 -- "such an index of the version last seen": each live row of those seen has an entry under its value in each named column
 pub record IndexOf (h : Header) (rows index : List ℕ) : Type 0 where
   pub seen : rowsSeen index ≤ h .rows
   pub buckets-few : getD index 12 0 ≤ 2 * (h .capacity * columnsNamed index)
   pub listed : (row place : ℕ) → row < rowsSeen index → isLive (rowAt (h .columns) row rows) ≡ true → place < columnsNamed index
-      → has (row * columnsNamed index + place) (entriesUnder (h .capacity) index (getD (rowAt (h .columns) row rows) (columnNamed index place) 0)) ≡ true
+      → elem (row * columnsNamed index + place) (entriesUnder (h .capacity) index (getD (rowAt (h .columns) row rows) (columnNamed index place) 0)) ≡ true
 
 -- "starts afresh if the generation or the columns differ, or if its first word is 0"
 unfoldable pub startsAfresh : Header → List ℕ → List ℕ → Bool

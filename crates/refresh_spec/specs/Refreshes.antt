@@ -5,32 +5,32 @@ use mathlib.Core.Bool.{Bool, true, false}
 use mathlib.Core.List.{List, [], map}
 use lib.ListN.{length, drop}
 use lib.Dec.{ltb}
-use Rattle.lists.specs.Lists.{putAt, keep, flat}
+use Rattle.lists.specs.Lists.{splice, filter, flatten}
 use Rattle.refusals.specs.Refusals.{Reply, refused, accepted, reply}
 use Rattle.plain_table.specs.Staged.{Staged, wordsAll}
-use Rattle.plain_table.specs.Refreshing.{Refresh, mentioning, refreshed, refreshLadder}
+use Rattle.plain_table.specs.Refreshing.{Refresh, mentioning, refreshed, refreshChecks}
 use Rattle.table.specs.declared.Header.{Header}
-use Rattle.table.specs.Numbers.{openingOf, largestSays}
+use Rattle.table.specs.Numbers.{openingOf, largestView}
 use Rattle.table.specs.Refusing.{pendingOutside}
 use Rattle.table.specs.Stores.{recordWords}
-use Rattle.table.specs.Promises.{withPending, ofRows}
+use Rattle.table.specs.Contracts.{withPending, ofRows}
 use Rattle.refresh_spec.specs.declared.Refreshed.{Refreshed}
 use Rattle.refresh_spec.specs.declared.RefreshAnswer.{RefreshAnswer}
 use Rattle.refresh_spec.specs.declared.RefreshAnswer.the-variants.{Refused as RefreshRefused, Refreshed as RefreshDone}
 use Rattle.refresh_spec.specs.Index.{isNew, IndexSound, Current}
 
-unfoldable pub refreshSays : RefreshAnswer → Reply Refreshed
-refreshSays (RefreshRefused n) = refused n
-refreshSays (RefreshDone a) = accepted a
+unfoldable pub refreshView : RefreshAnswer → Reply Refreshed
+refreshView (RefreshRefused n) = refused n
+refreshView (RefreshDone a) = accepted a
 
 -- the checks of the plain table, with this table's test 1
 unfoldable pub refreshRefusal : Header → ℕ → ℕ → ℕ → Refresh → List Staged → ℕ
 refreshRefusal h rows pending index r records =
-    refreshLadder (pendingOutside h pending) (openingOf h) (largestSays (h .largest)) r rows index (h .pending) pending (wordsAll (openingOf h) records)
+    refreshChecks (pendingOutside h pending) (openingOf h) (largestView (h .largest)) r rows index (h .pending) pending (wordsAll (openingOf h) records)
 
 -- the records of the rows that are found, among the live rows that mention a value
 unfoldable pub recordsFound : Header → List ℕ → Refresh → (ℕ → Bool) → List Staged
-recordsFound h rows r found = refreshed (openingOf h) (r .stamp) (keep (λ row. found (row .number)) (mentioning r (ofRows h rows)))
+recordsFound h rows r found = refreshed (openingOf h) (r .stamp) (filter (λ row. found (row .number)) (mentioning r (ofRows h rows)))
 
 -- "The answer is yes exactly if a row was staged"
 abbrev pub answered : Header → List Staged → Refreshed
@@ -52,12 +52,12 @@ headerRefreshed h (accepted a) = a .header
 pub record Refreshing (h : Header) (rows pending index : List ℕ) (r : Refresh) (answer : RefreshAnswer) (pending′ index′ : List ℕ) : Type 0 where
   pub found : ℕ → Bool
   pub all-found : IndexSound h rows (r .columns) index → (row : ℕ) → found row ≡ true
-  pub answers : refreshSays answer
+  pub answers : refreshView answer
       ≡ reply (refreshRefusal h (length rows) (length pending) (length index) r (recordsFound h rows r found)) (answered h (recordsFound h rows r found))
   pub unchanged : 0 < refreshRefusal h (length rows) (length pending) (length index) r (recordsFound h rows r found)
       → (pending′ ≡ pending) × (index′ ≡ index)
   pub staged : refreshRefusal h (length rows) (length pending) (length index) r (recordsFound h rows r found) ≡ 0
-      → pending′ ≡ putAt pending (h .pending) (flat (map (recordWords (h .keys)) (recordsFound h rows r found)))
+      → pending′ ≡ splice pending (h .pending) (flatten (map (recordWords (h .keys)) (recordsFound h rows r found)))
   pub written : refreshRefusal h (length rows) (length pending) (length index) r (recordsFound h rows r found) ≡ 0 → isNew index′ ≡ false
   pub current : refreshRefusal h (length rows) (length pending) (length index) r (recordsFound h rows r found) ≡ 0 → IndexSound h rows (r .columns) index
       → Current h rows (r .columns) index′

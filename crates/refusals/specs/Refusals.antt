@@ -5,13 +5,13 @@ use mathlib.Core.Bool.{Bool, cond}
 use mathlib.Core.List.{List, [], _∷_}
 
 -- a check: whether it applies, and its number
-pub data Rung : Type 0 where
-  rung : Bool → ℕ → Rung
+pub data Check : Type 0 where
+  check : Bool → ℕ → Check
 
 -- the number of the first check that applies, 0 if none does
-unfoldable pub first : List Rung → ℕ
-first [] = 0
-first (rung applies number ∷ rungs) = cond applies number (first rungs)
+unfoldable pub firstRefusal : List Check → ℕ
+firstRefusal [] = 0
+firstRefusal (check applies number ∷ rungs) = cond applies number (firstRefusal rungs)
 
 -- the reply of an operation: the number of its refusal, or a value
 pub data Reply (A : Type 0) : Type 0 where
@@ -24,6 +24,6 @@ reply zero value = accepted value
 reply (suc n) value = refused (suc n)
 
 -- whether a reply is refused, and with which number; forgets its value (`Unit {0}` is the type that has only `tt`)
-unfoldable pub verdict : {A : Type 0} → Reply A → Reply (Unit {0})
-verdict (refused n) = refused n
-verdict (accepted value) = accepted tt
+unfoldable pub outcome : {A : Type 0} → Reply A → Reply (Unit {0})
+outcome (refused n) = refused n
+outcome (accepted value) = accepted tt

@@ -8,7 +8,7 @@ use lib.ListN.{length, take, drop, getD}
 use Rattle.replay_frames.specs.inner.Lengths.{FrameLength}
 use Rattle.replay_frames.specs.Laws.Frames.{framed-end, framed-next}
 use Rattle.plain_table.specs.Refusing.{Lengths}
-use Rattle.table.specs.Promises.{Stores, CompactionWords}
+use Rattle.table.specs.Contracts.{Stores, CompactionWords}
 use Rattle.replay_calls.specs.Encoding.{requestOf, decoded}
 use Rattle.replay_calls.specs.inner.Making.{Made}
 use Rattle.replay_calls.specs.Laws.Making.{none-made, made-then}

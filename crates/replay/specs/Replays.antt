@@ -5,15 +5,15 @@ use mathlib.Core.Path.{_≡_}
 use mathlib.Core.Bool.{false}
 use mathlib.Core.List.{List, []}
 use Rattle.lists.specs.Lists.{any}
-use Rattle.refusals.specs.Refusals.{accepted, reply, verdict}
+use Rattle.refusals.specs.Refusals.{accepted, reply, outcome}
 use Rattle.plain_table.specs.Staged.{Opening}
 use Rattle.plain_table.specs.Refusing.{openRefusal}
 use Rattle.plain_table.specs.Calls.{Call, LentCall}
 use Rattle.table.specs.declared.Header.{Header}
 use Rattle.table.specs.declared.TableAnswer.{TableAnswer}
 use Rattle.table.specs.declared.TableAnswer.the-variants.{Table}
-use Rattle.table.specs.Numbers.{tableSays}
-use Rattle.table.specs.Promises.{Stores, Body, stores, joined, CompactionWords, lengths, SlotsPast, WordsPast, Opened}
+use Rattle.table.specs.Numbers.{tableView}
+use Rattle.table.specs.Contracts.{Stores, Body, stores, joined, CompactionWords, lengths, SlotsPast, WordsPast, Opened}
 use Rattle.replay_calls.specs.Lending.{lentAll}
 use Rattle.replay_calls.specs.Requests.{Request, isRefresh, IndexPast, ServedAll}
 
@@ -32,15 +32,15 @@ module _ (o : Opening) (generation : ℕ) (requests : List Request) (b : Body) (
 
   pub record Replayed (answer : TableAnswer) (b′ : Body) (pending′ : List ℕ) (w′ : CompactionWords) (index′ : List ℕ) : Type 0 where
     -- if the opening is refused, no request is executed and nothing changes; otherwise all are executed
-    pub refusal : verdict (tableSays answer) ≡ reply (openRefusal o (lengths (b .rows) (b .keys) (b .sorts) pending [] [])) tt
+    pub refusal : outcome (tableView answer) ≡ reply (openRefusal o (lengths (b .rows) (b .keys) (b .sorts) pending [] [])) tt
     pub unchanged : 0 < openRefusal o (lengths (b .rows) (b .keys) (b .sorts) pending [] []) → (b′ ≡ b) × (pending′ ≡ pending) × (w′ ≡ w) × (index′ ≡ index)
-    pub calls-made : (h : Header) → tableSays answer ≡ accepted h → MadeFrom (joined h b′ pending′) index′
+    pub calls-made : (h : Header) → tableView answer ≡ accepted h → MadeFrom (joined h b′ pending′) index′
     -- Slots and compaction words past those needed are never written. While the generation is the opening's, nothing was compacted,
     -- and no compaction word is written either. After a compaction or a clear that emptied rows, the compaction words needed are
     -- unspecified.
     pub slots-past : SlotsPast (o .capacity) (b .keys) (b′ .keys)
     pub words-past : WordsPast (o .capacity) w w′
-    pub words-kept : (h : Header) → tableSays answer ≡ accepted h → h .generation ≡ generation → w′ ≡ w
+    pub words-kept : (h : Header) → tableView answer ≡ accepted h → h .generation ≡ generation → w′ ≡ w
     -- the index store: words past those that a refresh may need are never written, and without a refresh none is
     pub index-past : IndexPast (o .capacity) index index′
     pub index-kept : any isRefresh requests ≡ false → index′ ≡ index

@@ -1,6 +1,6 @@
 // Lists of requests, decoded from words and executed one after another on lent stores, starting with the opening: the claim about
 // histories holds for running code.
-ghost use Rattle.table.specs.Promises.{stores, body, compactionWords, lengths};
+ghost use Rattle.table.specs.Contracts.{stores, body, compactionWords, lengths};
 ghost use Rattle.replay_calls.specs.Encoding.{decoded};
 ghost use Rattle.replay_calls.specs.inner.Making.{Made};
 ghost use Rattle.replay.specs.Replays.{Replayed};

@@ -8,10 +8,10 @@ use lib.ListN.{length, drop}
 use Rattle.plain_table.specs.Refusing.{Lengths}
 use Rattle.plain_table.specs.Refreshing.{Refresh}
 use Rattle.plain_table.specs.Calls.{Call, refreshing, feeding}
-use Rattle.table.specs.Promises.{Stores, bodyOf, joined}
+use Rattle.table.specs.Contracts.{Stores, bodyOf, joined}
 use Rattle.refresh_spec.specs.declared.RefreshAnswer.{RefreshAnswer}
 use Rattle.refresh_spec.specs.Index.{IndexSound}
-use Rattle.refresh_spec.specs.Refreshes.{refreshSays, recordsFound, recordsStaged, headerRefreshed, Refreshing}
+use Rattle.refresh_spec.specs.Refreshes.{refreshView, recordsFound, recordsStaged, headerRefreshed, Refreshing}
 use Rattle.history.specs.Histories.{Called}
 use Rattle.replay_calls.specs.Lending.{lentTo}
 
@@ -31,7 +31,7 @@ requested index (refresh r) = refreshing r index
 
 -- the stores after a refresh
 abbrev pub refreshedStores : Stores → RefreshAnswer → List ℕ → Stores
-refreshedStores s answer pending′ = joined (headerRefreshed (s .header) (refreshSays answer)) (bodyOf s) pending′
+refreshedStores s answer pending′ = joined (headerRefreshed (s .header) (refreshView answer)) (bodyOf s) pending′
 
 -- "16 words plus 3 for each row of the capacity and named column", of at most eight columns: words past these are never written
 abbrev pub IndexPast : ℕ → List ℕ → List ℕ → Type 0
@@ -48,8 +48,8 @@ pub data Served (l : Lengths) (s : Stores) (index : List ℕ) : Request → Call
   -- "Over such an unsound index store, and nowhere else, it is fed the records that the call staged"
   refreshed-unsound : (r : Refresh) (answer : RefreshAnswer) (pending′ index′ : List ℕ) (m : Refreshing (s .header) (s .rows) (s .pending) index r answer pending′ index′)
       → (IndexSound (s .header) (s .rows) (r .columns) index → ⊥)
-      → Called s (lentTo l (feeding (recordsStaged (refreshSays answer) (recordsFound (s .header) (s .rows) r (m .found))))) (refreshedStores s answer pending′)
-      → Served l s index (refresh r) (feeding (recordsStaged (refreshSays answer) (recordsFound (s .header) (s .rows) r (m .found)))) (refreshedStores s answer pending′) index′
+      → Called s (lentTo l (feeding (recordsStaged (refreshView answer) (recordsFound (s .header) (s .rows) r (m .found))))) (refreshedStores s answer pending′)
+      → Served l s index (refresh r) (feeding (recordsStaged (refreshView answer) (recordsFound (s .header) (s .rows) r (m .found)))) (refreshedStores s answer pending′) index′
 
 -- the requests one after another, in order
 pub data ServedAll (l : Lengths) : Stores → List ℕ → List Request → List Call → Stores → List ℕ → Type 0 where

@@ -1,9 +1,9 @@
 // Executes one request, encoded in words, by its entry point on lent stores.
 ghost use mathlib.Core.Path.{_≡_};
 ghost use Prim.Native.Nat.{_≤_};
-ghost use Rattle.table.specs.Numbers.{tableSays, mergeSays};
-ghost use Rattle.table.specs.Promises.{headerAfter, headerMerged, stores, compactionWords, lengths};
-ghost use Rattle.refresh_spec.specs.Refreshes.{refreshSays, headerRefreshed};
+ghost use Rattle.table.specs.Numbers.{tableView, mergeView};
+ghost use Rattle.table.specs.Contracts.{headerAfter, headerMerged, stores, compactionWords, lengths};
+ghost use Rattle.refresh_spec.specs.Refreshes.{refreshView, headerRefreshed};
 ghost use Rattle.replay_calls.specs.Encoding.{refreshIn, requestOf};
 ghost use Rattle.replay_calls.specs.inner.Making.{Made, MadeOnPending, MadeOnIndex};
 use merge::merge;
@@ -20,7 +20,7 @@ use table_stage::stage_remove_row;
 
 // The header after a call. A refused call leaves it unchanged.
 fn header_after(h: Header, answer: TableAnswer) -> Header
-    ensures { λ r. ⌜ r ≡ headerAfter h (tableSays answer) ⌝ }
+    ensures { λ r. ⌜ r ≡ headerAfter h (tableView answer) ⌝ }
 {
     match answer {
         TableAnswer::Refused(_) => h,
@@ -29,7 +29,7 @@ fn header_after(h: Header, answer: TableAnswer) -> Header
 }
 
 fn header_merged(h: Header, answer: MergeAnswer) -> Header
-    ensures { λ r. ⌜ r ≡ headerMerged h (mergeSays answer) ⌝ }
+    ensures { λ r. ⌜ r ≡ headerMerged h (mergeView answer) ⌝ }
 {
     match answer {
         MergeAnswer::Refused(_) => h,
@@ -38,7 +38,7 @@ fn header_merged(h: Header, answer: MergeAnswer) -> Header
 }
 
 fn header_refreshed(h: Header, answer: RefreshAnswer) -> Header
-    ensures { λ r. ⌜ r ≡ headerRefreshed h (refreshSays answer) ⌝ }
+    ensures { λ r. ⌜ r ≡ headerRefreshed h (refreshView answer) ⌝ }
 {
     match answer {
         RefreshAnswer::Refused(_) => h,

@@ -1,1 +1,1 @@
-pub mod PuttingSteps
+pub mod ExecutingSteps

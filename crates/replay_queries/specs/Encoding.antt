@@ -8,14 +8,14 @@ use lib.Dec.{eqb, leb}
 use Rattle.replay_frames.specs.Frames.{framed}
 use Rattle.offsets.specs.Subsets.{range, list}
 use Rattle.constraints.specs.Encoding.{conditionIn, conditionsIn}
-use Rattle.history.specs.Runs.{Question, refineOne, refineList, intersectWith, intersectRange}
+use Rattle.history.specs.Runs.{Query, refineOne, refineList, intersectWith, intersectRange}
 
 -- a query if there are this many words, or none
-unfoldable pub ofWords : ℕ → List ℕ → Question → List Question
-ofWords n words question = cond (eqb (length words) n) (question ∷ []) []
+unfoldable pub ofWords : ℕ → List ℕ → Query → List Query
+ofWords n words query = cond (eqb (length words) n) (query ∷ []) []
 
 -- refining by a list of conditions, three words each, at most 16 of them
-unfoldable pub listOf : List ℕ → List Question
+unfoldable pub listOf : List ℕ → List Query
 listOf words =
     cond
     (eqb (length words / 3 * 3) (length words) && leb (length words / 3) 16)
@@ -24,8 +24,8 @@ listOf words =
 
 -- the query of a kind and its words: kind 0 refines by a condition of three words, kind 1 by a list of them; kind 2 intersects with
 -- these ids, kind 3 with the range of two words, kind 4 with the sort-column range of a condition of three words
-unfoldable pub questionOf : ℕ → List ℕ → List Question
-questionOf kind words =
+unfoldable pub queryOf : ℕ → List ℕ → List Query
+queryOf kind words =
     cond (eqb kind 0)
     (ofWords 3 words (refineOne (conditionIn words 0)))
     (cond (eqb kind 1)
@@ -37,5 +37,5 @@ questionOf kind words =
     (cond (eqb kind 4) (ofWords 3 words (intersectRange (conditionIn words 0))) []))))
 
 -- the queries of a list of words
-abbrev pub questionsIn : List ℕ → List Question
-questionsIn words = framed questionOf words
+abbrev pub queriesIn : List ℕ → List Query
+queriesIn words = framed queryOf words

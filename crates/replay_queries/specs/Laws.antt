@@ -1,3 +1,3 @@
 -- What follows from the definitions.
 pub mod Encoding
-pub mod Putting
+pub mod Executing

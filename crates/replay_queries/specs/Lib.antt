@@ -1,4 +1,4 @@
 pub mod Encoding
-pub mod Leaving
+pub mod Outcomes
 pub mod inner
 pub mod Laws

@@ -3,8 +3,8 @@ ghost use mathlib.Core.Path.{_≡_};
 ghost use mathlib.Core.Bool.{_||_};
 ghost use Prim.Native.Nat.{_<_};
 ghost use Rattle.offsets.specs.Answers.{subsetOf};
-ghost use Rattle.replay_queries.specs.Encoding.{questionOf};
-ghost use Rattle.replay_queries.specs.inner.Putting.{counted, leftBy, Put, ListPut, RangePut};
+ghost use Rattle.replay_queries.specs.Encoding.{queryOf};
+ghost use Rattle.replay_queries.specs.inner.Executing.{counted, applyAnswer, Executed, ListExecuted, RangeExecuted};
 use constraints::Constraint;
 use constraints::decode::read_condition;
 use constraints::decode::read_conditions;
@@ -39,7 +39,7 @@ fn count_one(l: RunAnswer) -> RunAnswer
     n
 }
 
-fn either(a: bool, b: bool) -> bool
+fn is_either(a: bool, b: bool) -> bool
     ensures { λ r. ⌜ r ≡ (a || b) ⌝ }
 {
     if a {
@@ -49,11 +49,11 @@ fn either(a: bool, b: bool) -> bool
 }
 
 // The ids left after the answer to a query that refines or intersects. `place` is the list that its output went to.
-fn left_by(l: RunAnswer, place: u32, refines: bool, answer: SubsetAnswer) -> RunAnswer
+fn apply_answer(l: RunAnswer, place: u32, refines: bool, answer: SubsetAnswer) -> RunAnswer
     requires { ⌜ l .taken < 18446744073709551615 ⌝ }
-    ensures { λ r. ⌜ r ≡ leftBy l place refines answer ⌝ }
+    ensures { λ r. ⌜ r ≡ applyAnswer l place refines answer ⌝ }
 {
-    let refined = either(refines, l.refined);
+    let refined = is_either(refines, l.refined);
     match answer {
         SubsetAnswer::Refused(_) => count_one(l),
         SubsetAnswer::Range(start, end) => RunAnswer {
@@ -78,7 +78,7 @@ fn left_by(l: RunAnswer, place: u32, refines: bool, answer: SubsetAnswer) -> Run
 }
 
 // Intersects the ids left with the sort-column range of a condition. Without a range the step has no effect, like a refused one.
-fn put_range(
+fn execute_range(
     h: Header,
     sorts: &[u32],
     c: Constraint,
@@ -89,7 +89,7 @@ fn put_range(
     out: &mut [u32],
 ) -> RunAnswer
     requires { ⌜ l .taken < 18446744073709551615 ⌝ }
-    ensures { λ r. ⌜ RangePut h (now (sorts .entry)) (subsetOf head (now (ids .entry))) c l place (now (out .entry)) r (now (out .exit)) ⌝ }
+    ensures { λ r. ⌜ RangeExecuted h (now (sorts .entry)) (subsetOf head (now (ids .entry))) c l place (now (out .entry)) r (now (out .exit)) ⌝ }
 {
     let found = fast_subset(h, sorts, c);
     match found {
@@ -101,13 +101,13 @@ fn put_range(
                 start: start,
                 end: end,
             };
-            left_by(l, place, false, intersect(head, ids, range, ids, out))
+            apply_answer(l, place, false, intersect(head, ids, range, ids, out))
         }
     }
 }
 
 // Refines the ids left by a list of at most 16 conditions. Words that are no such list are skipped.
-fn put_list(
+fn execute_list(
     h: Header,
     rows: &[u32],
     cells: &[u32],
@@ -118,7 +118,7 @@ fn put_list(
     out: &mut [u32],
 ) -> RunAnswer
     requires { ⌜ l .taken < 18446744073709551615 ⌝ }
-    ensures { λ r. ⌜ ListPut h (now (rows .entry)) (subsetOf head (now (ids .entry))) (now (cells .entry)) l place (now (out .entry)) r (now (out .exit)) ⌝ }
+    ensures { λ r. ⌜ ListExecuted h (now (rows .entry)) (subsetOf head (now (ids .entry))) (now (cells .entry)) l place (now (out .entry)) r (now (out .exit)) ⌝ }
 {
     let count = cells.len() / 3;
     if count * 3 != cells.len() {
@@ -128,7 +128,7 @@ fn put_list(
         return l;
     }
     let conditions = read_conditions(cells, count);
-    left_by(
+    apply_answer(
         l,
         place,
         true,
@@ -137,7 +137,7 @@ fn put_list(
 }
 
 // Runs one query on the ids left and writes its output to the list of this place. Words that are no query are skipped.
-pub fn put(
+pub fn execute(
     h: Header,
     rows: &[u32],
     sorts: &[u32],
@@ -150,10 +150,10 @@ pub fn put(
     out: &mut [u32],
 ) -> RunAnswer
     requires { ⌜ l .taken < 18446744073709551615 ⌝ }
-    ensures { λ r. ⌜ Put h (now (rows .entry)) (now (sorts .entry)) (subsetOf head (now (ids .entry))) (questionOf kind (now (cells .entry))) l place (now (out .entry)) r (now (out .exit)) ⌝ }
+    ensures { λ r. ⌜ Executed h (now (rows .entry)) (now (sorts .entry)) (subsetOf head (now (ids .entry))) (queryOf kind (now (cells .entry))) l place (now (out .entry)) r (now (out .exit)) ⌝ }
 {
     if kind == 1 {
-        return put_list(h, rows, cells, l, head, ids, place, out);
+        return execute_list(h, rows, cells, l, head, ids, place, out);
     }
     if kind == 2 {
         let listed = SubsetHead {
@@ -161,7 +161,7 @@ pub fn put(
             start: 0,
             end: 0,
         };
-        return left_by(l, place, false, intersect(head, ids, listed, cells, out));
+        return apply_answer(l, place, false, intersect(head, ids, listed, cells, out));
     }
     if kind == 3 {
         if cells.len() != 2 {
@@ -172,17 +172,17 @@ pub fn put(
             start: cells[0],
             end: cells[1],
         };
-        return left_by(l, place, false, intersect(head, ids, range, ids, out));
+        return apply_answer(l, place, false, intersect(head, ids, range, ids, out));
     }
     if cells.len() != 3 {
         return l;
     }
     let c = read_condition(cells, 0);
     if kind == 0 {
-        return left_by(l, place, true, refine_one(h, rows, head, ids, c, out));
+        return apply_answer(l, place, true, refine_one(h, rows, head, ids, c, out));
     }
     if kind == 4 {
-        return put_range(h, sorts, c, l, head, ids, place, out);
+        return execute_range(h, sorts, c, l, head, ids, place, out);
     }
     l
 }

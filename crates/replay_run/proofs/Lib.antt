@@ -1,1 +1,1 @@
-pub mod AskingSteps
+pub mod RunSteps

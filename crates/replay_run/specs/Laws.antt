@@ -1,4 +1,4 @@
 -- What follows from the definitions.
-pub mod Putting
+pub mod Executing
 pub mod Claimed
 pub mod Determined

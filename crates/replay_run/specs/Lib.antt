@@ -1,3 +1,3 @@
-pub mod Asking
+pub mod RunQueries
 pub mod inner
 pub mod Laws

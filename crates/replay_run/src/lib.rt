@@ -3,17 +3,17 @@ ghost use mathlib.Core.Path.{_≡_};
 ghost use Prim.Native.Nat.{_≤_, _<_, min};
 ghost use lib.ListN.{length};
 ghost use Rattle.offsets.specs.Answers.{subsetOf};
-ghost use Rattle.replay_queries.specs.Encoding.{questionOf, questionsIn};
-ghost use Rattle.replay_run.specs.Asking.{RunMade};
-ghost use Rattle.replay_run.specs.inner.Putting.{QuestionsPut, QuestionPut};
+ghost use Rattle.replay_queries.specs.Encoding.{queryOf, queriesIn};
+ghost use Rattle.replay_run.specs.RunQueries.{RunMade};
+ghost use Rattle.replay_run.specs.inner.Executing.{QueriesExecuted, QueryExecuted};
 use offsets::SubsetHead;
 use replay_frames::frame_length;
 use replay_queries::RunAnswer;
-use replay_queries::put;
+use replay_queries::execute;
 use table::Header;
 
 // Runs one query on the ids left. Its output goes to the lent list that does not have them.
-fn put_question(
+fn execute_query(
     h: Header,
     rows: &[u32],
     sorts: &[u32],
@@ -25,7 +25,7 @@ fn put_question(
     second: &mut [u32],
 ) -> RunAnswer
     requires { ⌜ (l .count ≤ length (now first)) × (length (now second) ≡ length (now first)) × (l .taken < 18446744073709551615) ⌝ }
-    ensures { λ r. ⌜ QuestionPut h (now (rows .entry)) (now (sorts .entry)) (now (ids .entry)) (questionOf kind (now (cells .entry))) l (now (first .entry)) (now (second .entry)) r (now (first .exit)) (now (second .exit)) ⌝ }
+    ensures { λ r. ⌜ QueryExecuted h (now (rows .entry)) (now (sorts .entry)) (now (ids .entry)) (queryOf kind (now (cells .entry))) l (now (first .entry)) (now (second .entry)) r (now (first .exit)) (now (second .exit)) ⌝ }
 {
     let head = SubsetHead {
         dense: l.dense,
@@ -34,7 +34,7 @@ fn put_question(
     };
     let count = l.count as usize;
     if l.place == 1 {
-        return put(
+        return execute(
             h,
             rows,
             sorts,
@@ -48,7 +48,7 @@ fn put_question(
         );
     }
     if l.place == 2 {
-        return put(
+        return execute(
             h,
             rows,
             sorts,
@@ -61,40 +61,40 @@ fn put_question(
             first,
         );
     }
-    put(h, rows, sorts, kind, cells, l, head, ids, 1, first)
+    execute(h, rows, sorts, kind, cells, l, head, ids, 1, first)
 }
 
 // Runs all queries, in order, each on the ids that the last accepted one left, in two lists of one length.
-fn ask_within(
+fn run_queries_within(
     h: Header,
     rows: &[u32],
     sorts: &[u32],
     l: RunAnswer,
     ids: &[u32],
-    questions: &[u32],
+    queries: &[u32],
     first: &mut [u32],
     second: &mut [u32],
 ) -> RunAnswer
     requires { ⌜ (l .count ≡ 0) × (l .taken ≡ 0) × (length (now second) ≡ length (now first)) ⌝ }
-    ensures { λ r. ⌜ QuestionsPut h (now (rows .entry)) (now (sorts .entry)) (now (ids .entry)) (questionsIn (now (questions .entry))) l (now (first .entry)) (now (second .entry)) r (now (first .exit)) (now (second .exit)) ⌝ }
+    ensures { λ r. ⌜ QueriesExecuted h (now (rows .entry)) (now (sorts .entry)) (now (ids .entry)) (queriesIn (now (queries .entry))) l (now (first .entry)) (now (second .entry)) r (now (first .exit)) (now (second .exit)) ⌝ }
 {
     let mut n = l;
     let mut at: usize = 0;
-    let mut words = frame_length(questions, at);
+    let mut words = frame_length(queries, at);
     while words != 0 {
-        n = put_question(
+        n = execute_query(
             h,
             rows,
             sorts,
-            questions[at],
-            &questions[at + 2..at + words],
+            queries[at],
+            &queries[at + 2..at + words],
             n,
             ids,
             first,
             second,
         );
         at += words;
-        words = frame_length(questions, at);
+        words = frame_length(queries, at);
     }
     n
 }
@@ -109,17 +109,17 @@ fn smaller(a: usize, b: usize) -> usize
 }
 
 // Runs all queries. Both lists are used up to the length of the shorter, so it does not matter which one is lent first.
-pub fn ask(
+pub fn run_queries(
     h: Header,
     rows: &[u32],
     sorts: &[u32],
     head: SubsetHead,
     ids: &[u32],
-    questions: &[u32],
+    queries: &[u32],
     first: &mut [u32],
     second: &mut [u32],
 ) -> RunAnswer
-    ensures { λ r. ⌜ RunMade h (now (rows .entry)) (now (sorts .entry)) (subsetOf head (now (ids .entry))) (now (ids .entry)) (questionsIn (now (questions .entry))) (now (first .entry)) (now (second .entry)) r (now (first .exit)) (now (second .exit)) ⌝ }
+    ensures { λ r. ⌜ RunMade h (now (rows .entry)) (now (sorts .entry)) (subsetOf head (now (ids .entry))) (now (ids .entry)) (queriesIn (now (queries .entry))) (now (first .entry)) (now (second .entry)) r (now (first .exit)) (now (second .exit)) ⌝ }
 {
     let l = RunAnswer {
         dense: head.dense,
@@ -131,13 +131,13 @@ pub fn ask(
         taken: 0,
     };
     let room = smaller(first.len(), second.len());
-    ask_within(
+    run_queries_within(
         h,
         rows,
         sorts,
         l,
         ids,
-        questions,
+        queries,
         &mut first[..room],
         &mut second[..room],
     )

@@ -14,7 +14,7 @@ use lib.ListN.{length, take, drop, getD, set, length-take, length-drop, take-app
 use lib.Seq.{drop-cons, drop-drop, length-take-le, getD-append-add, getD-drop}
 use borrow.Author.Tests.{eq-eqb, ne-eqb}
 use borrow.Rule.Slice.PartMut.{putMid}
-use Rattle.lists.specs.Lists.{putAt, same}
+use Rattle.lists.specs.Lists.{splice, same}
 use Rattle.lists.specs.Laws.Parts.{put-part, part-to-end, copy-step}
 use Rattle.row_buffer.specs.Ranks.{setBelow}
 use Rattle.row_buffer.specs.Laws.Rows.{ones-below}
@@ -39,7 +39,7 @@ down-step l gap i h =
 
 -- a row moved inside the borrowed part, stated for the whole store
 pub moved-part : (l : List ℕ) (to from width : ℕ) → to ≤ from → from + width ≤ length l
-    → putMid to (length l - to) l (down (take (length l - to) (drop to l)) (from - to) width) ≡ putAt l to (take width (drop from l))
+    → putMid to (length l - to) l (down (take (length l - to) (drop to l)) (from - to) width) ≡ splice l to (take width (drop from l))
 moved-part l to from width h k =
     let e : to + (from - to) ≡ from = omega arith in
     let w : length (take width (drop from l)) ≡ width = simp (length-take, length-drop) (omega arith) in
@@ -49,8 +49,8 @@ moved-part l to from width h k =
     ∙ put-part l (take width (drop from l)) to
 
 -- a row moved to its own position
-pub moved-nowhere : (l : List ℕ) (to from width : ℕ) → to ≡ from → from + width ≤ length l → l ≡ putAt l to (take width (drop from l))
-unfolding putAt
+pub moved-nowhere : (l : List ℕ) (to from width : ℕ) → to ≡ from → from + width ≤ length l → l ≡ splice l to (take width (drop from l))
+unfolding splice
 moved-nowhere l to from width e k =
     let w : length (take width (drop to l)) ≡ width = simp (length-take, length-drop) (omega arith) in
     rw (← e, w, ← drop-drop width to l, take-append-drop width (drop to l)) (sym (take-append-drop to l))

@@ -13,9 +13,9 @@ setBelow word zero = 0
 setBelow word (suc bit) = setBelow word bit + word / 2 ^ bit % 2
 
 -- the bitmap word of the positions below n that pass f
-unfoldable pub marks : (ℕ → Bool) → ℕ → ℕ
-marks f zero = 0
-marks f (suc n) = marks f n + cond (f n) (2 ^ n) 0
+unfoldable pub bitmapWord : (ℕ → Bool) → ℕ → ℕ
+bitmapWord f zero = 0
+bitmapWord f (suc n) = bitmapWord f n + cond (f n) (2 ^ n) 0
 
 -- the number of positions below n that pass f
 unfoldable pub countTo : (ℕ → Bool) → ℕ → ℕ
@@ -31,7 +31,7 @@ module _ {A : Type 0} where
 
   -- the bitmap word of the n rows from row `start` on
   unfoldable pub liveWord : (A → Bool) → List A → ℕ → ℕ → ℕ
-  liveWord live rows start n = marks (λ bit. liveAt live rows (start + bit)) n
+  liveWord live rows start n = bitmapWord (λ bit. liveAt live rows (start + bit)) n
 
   -- the new number of row i, if it is live: the number of live rows before it
   unfoldable pub newNumber : (A → Bool) → List A → ℕ → ℕ

@@ -5,7 +5,7 @@ ghost use mathlib.Core.Path.{_≡_};
 ghost use Prim.Native.Nat.{_+_, _^_, _≤_, _<_};
 ghost use mathlib.Core.List.{_++_};
 ghost use lib.ListN.{length, take, drop, getD};
-ghost use Rattle.lists.specs.Lists.{putAt, same};
+ghost use Rattle.lists.specs.Lists.{splice, same};
 ghost use Rattle.cells.specs.Cells.{isDead};
 ghost use Rattle.row_buffer.specs.inner.Rows.{Staled};
 ghost use Rattle.row_buffer.specs.Ranks.{setBelow};
@@ -43,7 +43,7 @@ fn copy_row(part: &mut [u32], row: &[u32])
 // Writes a row into the store.
 pub fn write_row(rows: &mut [u32], at: usize, row: &[u32])
     requires { ⌜ at + length (now row) ≤ length (now rows) ⌝ }
-    ensures { λ _. ⌜ now (rows .exit) ≡ putAt (now (rows .entry)) at (now (row .entry)) ⌝ }
+    ensures { λ _. ⌜ now (rows .exit) ≡ splice (now (rows .entry)) at (now (row .entry)) ⌝ }
 {
     copy_row(&mut rows[at..], row);
 }
@@ -64,7 +64,7 @@ fn move_row(part: &mut [u32], gap: usize, width: usize)
 // Moves a row down to a position at or below its own. Does nothing if the two are equal.
 pub fn move_down(rows: &mut [u32], to: usize, from: usize, width: usize)
     requires { ⌜ (to ≤ from) × (from + width ≤ length (now rows)) ⌝ }
-    ensures { λ _. ⌜ now (rows .exit) ≡ putAt (now (rows .entry)) to (take width (drop from (now (rows .entry)))) ⌝ }
+    ensures { λ _. ⌜ now (rows .exit) ≡ splice (now (rows .entry)) to (take width (drop from (now (rows .entry)))) ⌝ }
 {
     if to == from {
         return;
@@ -109,7 +109,7 @@ pub fn rank(live: u64, base: u32, bit: u32) -> u32
 }
 
 // Sets one more bit, above those that are set.
-pub fn add_mark(word: u64, bit: u32) -> u64
+pub fn set_bit(word: u64, bit: u32) -> u64
     requires { ⌜ (bit < 64) × (word < 2 ^ bit) ⌝ }
     ensures { λ r. ⌜ r ≡ word + 2 ^ bit ⌝ }
 {

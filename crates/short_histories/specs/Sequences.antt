@@ -7,8 +7,8 @@ use mathlib.Core.List.{List, [], _∷_, _++_, map}
 use mathlib.Core.Option.{Option, none, some}
 use lib.ListN.{length, getD}
 use lib.Dec.{leb, ltb}
-use Rattle.lists.specs.Lists.{putAt, every, flat, countFrom, same}
-use Rattle.refusals.specs.Refusals.{rung, first, Reply, refused, accepted, reply}
+use Rattle.lists.specs.Lists.{splice, all, flatten, iota, same}
+use Rattle.refusals.specs.Refusals.{check, firstRefusal, Reply, refused, accepted, reply}
 use Rattle.plain_table.specs.Staged.{Opening, insert, removeKey}
 use Rattle.plain_table.specs.Calls.{Call, staging, merging}
 use Rattle.short_histories.specs.declared.StepAnswer.{StepAnswer}
@@ -49,7 +49,7 @@ stepCall step = getD steps step merging
 -- the sequences of n steps, "in the order of their first differing step": those that begin with step 0, with step 1, and so on
 unfoldable pub sequences : ℕ → List (List ℕ)
 sequences zero = [] ∷ []
-sequences (suc n) = flat (map (λ step. map (λ rest. step ∷ rest) (sequences n)) (countFrom 0 7))
+sequences (suc n) = flatten (map (λ step. map (λ rest. step ∷ rest) (sequences n)) (iota 0 7))
 
 -- those of 0 to n steps, "shorter before longer"
 unfoldable pub sequencesTo : ℕ → List (List ℕ)
@@ -82,19 +82,19 @@ nextAfter sequence =
 
 -- no "length above 6 or an unknown step"
 unfoldable pub known : List ℕ → Bool
-known sequence = leb (length sequence) 6 && every (λ step. ltb step 7) sequence
+known sequence = leb (length sequence) 6 && all (λ step. ltb step 7) sequence
 
 -- "15, .. an unknown step"
 unfoldable pub stepRefusal : ℕ → ℕ
-stepRefusal step = first (rung (leb 7 step) 15 ∷ [])
+stepRefusal step = firstRefusal (check (leb 7 step) 15 ∷ [])
 
 unfoldable pub positionRefusal : List ℕ → ℕ
-positionRefusal sequence = first (rung (not (known sequence)) 15 ∷ [])
+positionRefusal sequence = firstRefusal (check (not (known sequence)) 15 ∷ [])
 
 -- "16, a position past the last", then 2, an output shorter than what is to be written
 unfoldable pub sequenceRefusal : ℕ → ℕ → ℕ
 sequenceRefusal position output =
-    first (rung (leb (length shortHistories) position) 16 ∷ rung (ltb output (length (sequenceAt position))) 2 ∷ [])
+    firstRefusal (check (leb (length shortHistories) position) 16 ∷ check (ltb output (length (sequenceAt position))) 2 ∷ [])
 
 -- the steps of the sequence found, none if there is no sequence
 unfoldable pub stepsOf : Option (List ℕ) → List ℕ
@@ -103,25 +103,25 @@ stepsOf (some sequence) = sequence
 
 unfoldable pub nextRefusal : List ℕ → ℕ → ℕ
 nextRefusal sequence output =
-    first (rung (not (known sequence)) 15 ∷ rung (ltb output (length (stepsOf (nextAfter sequence)))) 2 ∷ [])
+    firstRefusal (check (not (known sequence)) 15 ∷ check (ltb output (length (stepsOf (nextAfter sequence)))) 2 ∷ [])
 
 -- ---- answers
 
-unfoldable pub stepSays : StepAnswer → Reply Call
-stepSays (StepRefused n) = refused n
-stepSays (Insert key stamp third) = accepted (staging (insert (key ∷ stamp ∷ third ∷ [])))
-stepSays (Remove key) = accepted (staging (removeKey (key ∷ [])))
-stepSays Merge = accepted merging
+unfoldable pub stepView : StepAnswer → Reply Call
+stepView (StepRefused n) = refused n
+stepView (Insert key stamp third) = accepted (staging (insert (key ∷ stamp ∷ third ∷ [])))
+stepView (Remove key) = accepted (staging (removeKey (key ∷ [])))
+stepView Merge = accepted merging
 
-unfoldable pub positionSays : PositionAnswer → Reply ℕ
-positionSays (PositionRefused n) = refused n
-positionSays (Position position) = accepted position
+unfoldable pub positionView : PositionAnswer → Reply ℕ
+positionView (PositionRefused n) = refused n
+positionView (Position position) = accepted position
 
 -- the number of steps written, if a sequence was written
-unfoldable pub sequenceSays : SequenceAnswer → Reply (Option ℕ)
-sequenceSays (SequenceRefused n) = refused n
-sequenceSays NoSequence = accepted none
-sequenceSays (Written n) = accepted (some n)
+unfoldable pub sequenceView : SequenceAnswer → Reply (Option ℕ)
+sequenceView (SequenceRefused n) = refused n
+sequenceView NoSequence = accepted none
+sequenceView (Written n) = accepted (some n)
 
 unfoldable pub lengthOf : Option (List ℕ) → Option ℕ
 lengthOf none = none
@@ -129,20 +129,20 @@ lengthOf (some sequence) = some (length sequence)
 
 -- ---- contracts
 
-abbrev pub StepTold : ℕ → StepAnswer → Type 0
-StepTold step answer = stepSays answer ≡ reply (stepRefusal step) (stepCall step)
+abbrev pub StepAnswered : ℕ → StepAnswer → Type 0
+StepAnswered step answer = stepView answer ≡ reply (stepRefusal step) (stepCall step)
 
-abbrev pub PositionTold : List ℕ → PositionAnswer → Type 0
-PositionTold sequence answer = positionSays answer ≡ reply (positionRefusal sequence) (positionOf sequence)
+abbrev pub PositionAnswered : List ℕ → PositionAnswer → Type 0
+PositionAnswered sequence answer = positionView answer ≡ reply (positionRefusal sequence) (positionOf sequence)
 
 -- The sequence found is at the start of the output, and nothing is changed past it; on refusal nothing is changed at all.
-pub record SequenceTold (refusal : ℕ) (found : Option (List ℕ)) (output : List ℕ) (answer : SequenceAnswer) (output′ : List ℕ) : Type 0 where
-  pub answers : sequenceSays answer ≡ reply refusal (lengthOf found)
-  pub written : refusal ≡ 0 → output′ ≡ putAt output 0 (stepsOf found)
+pub record SequenceAnswered (refusal : ℕ) (found : Option (List ℕ)) (output : List ℕ) (answer : SequenceAnswer) (output′ : List ℕ) : Type 0 where
+  pub answers : sequenceView answer ≡ reply refusal (lengthOf found)
+  pub written : refusal ≡ 0 → output′ ≡ splice output 0 (stepsOf found)
   pub unchanged : 0 < refusal → output′ ≡ output
 
 abbrev pub SequenceFound : ℕ → List ℕ → SequenceAnswer → List ℕ → Type 0
-SequenceFound position output = SequenceTold (sequenceRefusal position (length output)) (some (sequenceAt position)) output
+SequenceFound position output = SequenceAnswered (sequenceRefusal position (length output)) (some (sequenceAt position)) output
 
 abbrev pub NextFound : List ℕ → List ℕ → SequenceAnswer → List ℕ → Type 0
-NextFound sequence output = SequenceTold (nextRefusal sequence (length output)) (nextAfter sequence) output
+NextFound sequence output = SequenceAnswered (nextRefusal sequence (length output)) (nextAfter sequence) output

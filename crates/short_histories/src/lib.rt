@@ -5,8 +5,8 @@ ghost use mathlib.Core.Path.{_≡_};
 ghost use mathlib.Core.Bool.{true};
 ghost use Prim.Native.Nat.{_≤_, _<_};
 ghost use lib.ListN.{length};
-ghost use Rattle.lists.specs.Lists.{putAt};
-ghost use Rattle.short_histories.specs.Sequences.{sequenceAt, positionOf, known, StepTold, PositionTold, SequenceFound, NextFound};
+ghost use Rattle.lists.specs.Lists.{splice};
+ghost use Rattle.short_histories.specs.Sequences.{sequenceAt, positionOf, known, StepAnswered, PositionAnswered, SequenceFound, NextFound};
 
 // The number of sequences: 1 + 7 + 49 + ... + 117649.
 const SEQUENCES: u32 = 137257;
@@ -37,7 +37,7 @@ pub enum SequenceAnswer {
 
 // The call of a step.
 pub fn step_at(step: u32) -> StepAnswer
-    ensures { λ r. ⌜ StepTold step r ⌝ }
+    ensures { λ r. ⌜ StepAnswered step r ⌝ }
 {
     match step {
         0 => StepAnswer::Insert(0, 0, 0),
@@ -99,7 +99,7 @@ fn length_at(position: u32) -> usize
 // Writes the sequence at a position, its last step first.
 fn write_sequence(position: u32, steps: usize, output: &mut [u32])
     requires { ⌜ (position < 137257) × (steps ≡ length (sequenceAt position)) × (steps ≤ length (now output)) ⌝ }
-    ensures { λ _. ⌜ now (output .exit) ≡ putAt (now (output .entry)) 0 (sequenceAt position) ⌝ }
+    ensures { λ _. ⌜ now (output .exit) ≡ splice (now (output .entry)) 0 (sequenceAt position) ⌝ }
 {
     let mut at = steps;
     let mut rest = position;
@@ -112,7 +112,7 @@ fn write_sequence(position: u32, steps: usize, output: &mut [u32])
 
 // Returns the position of a sequence, or its refusal.
 pub fn position_of(sequence: &[u32]) -> PositionAnswer
-    ensures { λ r. ⌜ PositionTold (now (sequence .entry)) r ⌝ }
+    ensures { λ r. ⌜ PositionAnswered (now (sequence .entry)) r ⌝ }
 {
     if !is_known(sequence) {
         return PositionAnswer::Refused(15);

@@ -11,8 +11,8 @@ use lib.ListN.{length, drop, getD, length-drop, drop-of-length-le}
 use lib.Seq.{drop-cons}
 use lib.Dec.{eqb, ltb}
 use borrow.Author.Tests.{ltb-true, ltb-false, le-leb, lt-leb}
-use Rattle.lists.specs.Lists.{every, countFrom}
-use Rattle.lists.specs.Laws.Keep.{split}
+use Rattle.lists.specs.Lists.{all, iota}
+use Rattle.lists.specs.Laws.Filter.{split}
 use Rattle.lists.specs.Laws.Rows.{getD-rowAt}
 use Rattle.cells.specs.Cells.{isDead}
 use Rattle.constraints.specs.Constraints.{isLive}
@@ -222,14 +222,14 @@ module _ (store : List ℕ) (columns sort rows : ℕ) (sorts : List ℕ) (n : �
     pub few : i ≤ rows
     pub inside : at ≤ n
     pub later : (j : ℕ) → i ≤ j → valueAt j (entriesOf n sorts) ≡ valueAt j (drop at (entriesOf n sorts))
-    pub cells : cellsSound store columns sort rows (entriesOf n sorts) ≡ every passes (countFrom i (rows - i))
+    pub cells : cellsSound store columns sort rows (entriesOf n sorts) ≡ all passes (iota i (rows - i))
 
   pub rest-begins : Rest 0 0
   unfolding cellsSound
   rest-begins = record { few = omega arith; inside = omega arith; later = λ j h. refl; cells = rw sub-zero }
 
-  each : (i : ℕ) → i < rows → every passes (countFrom i (rows - i)) ≡ (passes i && every passes (countFrom (i + 1) (rows - (i + 1))))
-  unfolding every countFrom
+  each : (i : ℕ) → i < rows → all passes (iota i (rows - i)) ≡ (passes i && all passes (iota (i + 1) (rows - (i + 1))))
+  unfolding all iota
   each i h = let z : rows - i ≡ suc (rows - (i + 1)) = omega arith in rw (z, add-one i)
 
   module _ (at i : ℕ) (s : Rest at i) (h : i < rows) (next value : ℕ) (a : Advanced sorts n at i next) (e : value ≡ headValue (drop next (entriesOf n sorts))) where
@@ -249,5 +249,5 @@ module _ (store : List ℕ) (columns sort rows : ℕ) (sorts : List ℕ) (n : �
         }
 
   pub rest-ends : (at i : ℕ) → Rest at i → rows ≤ i → true ≡ cellsSound store columns sort rows (entriesOf n sorts)
-  unfolding every countFrom
+  unfolding all iota
   rest-ends at i s h = let z : rows - i ≡ 0 = omega arith in sym (s .cells ∙ rw z)

@@ -16,10 +16,10 @@ use Rattle.sort_entries.specs.Laws.Stores.{length-entriesOf}
 use Rattle.sort_entries.specs.Laws.Sound.{valueOf, value-word, row-word, sound-climb, sound-facts, firstRow-drop, firstRow-past}
 use Rattle.sort_entries.specs.Laws.Positions.{Position, found, absent, rangeAt, fast-range-at}
 use Rattle.sort_entries.specs.Laws.Ranges.{place-found, place-absent}
-use Rattle.sort_entries.specs.declared.Standing.the-variants.{Found, Absent}
-use Rattle.sort_entries.specs.declared.Standing.{Standing}
+use Rattle.sort_entries.specs.declared.SearchResult.the-variants.{Found, Absent}
+use Rattle.sort_entries.specs.declared.SearchResult.{SearchResult}
 use Rattle.sort_entries.specs.declared.Range.{Range}
-use Rattle.sort_entries.specs.inner.Search.{Stands, Ranged, standsAt, rangeOf}
+use Rattle.sort_entries.specs.inner.Search.{SearchResultIs, Ranged, positionFound, rangeOf}
 
 -- ---- the row of the entry at a position
 
@@ -55,17 +55,17 @@ module _ (store : List ℕ) (n rows v at : ℕ) (l : Bracketed store 2 0 n v at 
             omega arith
       ]
 
-  pub stands-found : (first next : ℕ) → first ≡ firstRow (drop at (entriesOf n store)) rows → next ≡ firstRow (drop (at + 1) (entriesOf n store)) rows
-      → at < n → getD store (2 * at) 0 ≡ v → Stands store n rows v (Found first next)
-  stands-found first next p q h e =
+  pub search-found : (first next : ℕ) → first ≡ firstRow (drop at (entriesOf n store)) rows → next ≡ firstRow (drop (at + 1) (entriesOf n store)) rows
+      → at < n → getD store (2 * at) 0 ≡ v → SearchResultIs store n rows v (Found first next)
+  search-found first next p q h e =
       record {
         is = λ s.
             let k : at < length (entriesOf n store) = rw (length-entriesOf n store) h in
             ap₂ found p q ∙ sym (place-found v (entriesOf n store) rows at inside (before s) k (value-word store n at h ∙ e));
       }
 
-  pub stands-absent : (first : ℕ) → first ≡ firstRow (drop at (entriesOf n store)) rows → (at < n → getD store (2 * at) 0 ≡ v → ⊥) → Stands store n rows v (Absent first)
-  stands-absent first p ne =
+  pub search-absent : (first : ℕ) → first ≡ firstRow (drop at (entriesOf n store)) rows → (at < n → getD store (2 * at) 0 ≡ v → ⊥) → SearchResultIs store n rows v (Absent first)
+  search-absent first p ne =
       record {
         is = λ s. ap absent p ∙ sym (place-absent v (entriesOf n store) rows at inside (before s) over);
       }
@@ -91,10 +91,10 @@ absent-rest kind g rows a b =
 
 -- ---- the fast range
 
-pub ranged : (store : List ℕ) (n rows kind v : ℕ) (s t : Standing) (r : Range) → Stands store n rows v s → s ≡ t → rangeOf r ≡ rangeAt kind (standsAt t) rows → Ranged store n rows kind v r
+pub ranged : (store : List ℕ) (n rows kind v : ℕ) (s t : SearchResult) (r : Range) → SearchResultIs store n rows v s → s ≡ t → rangeOf r ≡ rangeAt kind (positionFound t) rows → Ranged store n rows kind v r
 ranged store n rows kind v s t r p q e =
     record {
       is = λ sound.
-          e ∙ ap (λ (x : Standing). rangeAt kind (standsAt x) rows) (sym q) ∙ ap (λ (x : Position). rangeAt kind x rows) (p .is sound)
+          e ∙ ap (λ (x : SearchResult). rangeAt kind (positionFound x) rows) (sym q) ∙ ap (λ (x : Position). rangeAt kind x rows) (p .is sound)
           ∙ sym (fast-range-at kind v (entriesOf n store) rows (sound-climb (entriesOf n store) rows sound));
     }

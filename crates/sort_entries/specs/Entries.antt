@@ -4,7 +4,7 @@ use mathlib.Core.Bool.{Bool, true, cond, _&&_}
 use mathlib.Core.List.{List, [], _∷_, _++_, map}
 use lib.ListN.{drop, getD}
 use lib.Dec.{leb, ltb, eqb}
-use Rattle.lists.specs.Lists.{keep, every, any, rising}
+use Rattle.lists.specs.Lists.{filter, all, any, rising}
 use Rattle.offsets.specs.Subsets.{Subset, range}
 
 -- "Pairs of value and first row"
@@ -25,14 +25,14 @@ entryWords [] = []
 entryWords (e ∷ es) = e .value ∷ e .row ∷ entryWords es
 
 -- there is no entry, or the last entry's value passes the test
-unfoldable pub last : (ℕ → Bool) → List Entry → Bool
-last test [] = true
-last test (e ∷ []) = test (e .value)
-last test (e ∷ (f ∷ es)) = last test (f ∷ es)
+unfoldable pub lastPasses : (ℕ → Bool) → List Entry → Bool
+lastPasses test [] = true
+lastPasses test (e ∷ []) = test (e .value)
+lastPasses test (e ∷ (f ∷ es)) = lastPasses test (f ∷ es)
 
 -- the entries after a row with this sort value is appended: one more exactly if the value rises
 unfoldable pub push : ℕ → ℕ → List Entry → List Entry
-push value row es = cond (last (λ v. ltb v value) es) (es ++ (entry value row ∷ [])) es
+push value row es = cond (lastPasses (λ v. ltb v value) es) (es ++ (entry value row ∷ [])) es
 
 -- the entries after rows with these sort values, numbered from `row`, are appended one after another
 unfoldable pub pushAll : ℕ → List ℕ → List Entry → List Entry
@@ -54,8 +54,8 @@ firstRow (e ∷ es) rows = e .row
 -- "Without such an entry" both are the paper's g, and equal gives 0..0.
 unfoldable pub fastRange : ℕ → ℕ → List Entry → ℕ → Subset
 fastRange kind v es rows =
-    let f = firstRow (keep (λ e. leb v (e .value)) es) rows in
-    let b = firstRow (keep (λ e. ltb v (e .value)) es) rows in
+    let f = firstRow (filter (λ e. leb v (e .value)) es) rows in
+    let b = firstRow (filter (λ e. ltb v (e .value)) es) rows in
     cond (eqb kind 1) (cond (any (λ e. eqb (e .value) v) es) (range f b) (range 0 0))
     (cond (eqb kind 2) (range 0 f) (cond (eqb kind 3) (range b rows) (cond (eqb kind 4) (range 0 b) (range f rows))))
 
@@ -71,5 +71,5 @@ unfoldable pub entriesSound : List Entry → ℕ → Bool
 entriesSound es rows =
     rising (map (λ e. e .value) es)
     && rising (map (λ e. e .row) es)
-    && every (λ e. ltb (e .row) rows) es
+    && all (λ e. ltb (e .row) rows) es
     && eqb (firstRow es rows) 0

@@ -4,14 +4,14 @@ ghost use Prim.Native.Nat.{_≤_, _<_};
 ghost use lib.ListN.{drop};
 ghost use Rattle.sort_entries.specs.Entries.{entriesOf, firstRow, entriesSound};
 ghost use Rattle.sort_entries.specs.Laws.Positions.{rangeAt};
-ghost use Rattle.sort_entries.specs.inner.Append.{Room, Append};
-ghost use Rattle.sort_entries.specs.inner.Search.{Held, Stands, Ranged, standsAt, rangeOf};
+ghost use Rattle.sort_entries.specs.inner.Append.{EntryFits, Append};
+ghost use Rattle.sort_entries.specs.inner.Search.{EntriesFit, SearchResultIs, Ranged, positionFound, rangeOf};
 ghost use Rattle.sort_entries.specs.inner.Checks.{Decides, Follows, Advanced, headValue, Cells, cellSound, cellsSound};
 use offsets_search::binary_search_cells;
 
 // Appends the entry of a row that is appended, or kept by a compaction, if its value rises. Returns the new number of entries.
 pub fn append_entry(sorts: &mut [u32], entries: u32, value: u32, row: u32) -> u32
-    requires { ⌜ Room (now sorts) entries ⌝ }
+    requires { ⌜ EntryFits (now sorts) entries ⌝ }
     ensures { λ r. ⌜ Append (now (sorts .entry)) entries value row r (now (sorts .exit)) ⌝ }
 {
     let at = (2 * entries) as usize;
@@ -28,7 +28,7 @@ pub fn append_entry(sorts: &mut [u32], entries: u32, value: u32, row: u32) -> u3
 
 // The position of a value among the entries. `Found`: an entry has the value; the fields are its row and the next entry's row.
 // `Absent`: no entry has it; the field is the row of the first entry above it. The row of a missing entry is the row count.
-pub enum Standing {
+pub enum SearchResult {
     Found(u32, u32),
     Absent(u32),
 }
@@ -41,7 +41,7 @@ pub struct Range {
 
 // The row of the entry at a position, or the row count if there is none.
 fn row_from(sorts: &[u32], entries: u32, rows: u32, at: u32) -> u32
-    requires { ⌜ Held (now sorts) entries ⌝ }
+    requires { ⌜ EntriesFit (now sorts) entries ⌝ }
     ensures { λ r. ⌜ r ≡ firstRow (drop at (entriesOf entries (now (sorts .entry)))) rows ⌝ }
 {
     if entries <= at {
@@ -52,9 +52,9 @@ fn row_from(sorts: &[u32], entries: u32, rows: u32, at: u32) -> u32
 }
 
 // The position of a value among the entries: `binary_search_sort_val`.
-fn stand(sorts: &[u32], entries: u32, rows: u32, value: u32) -> Standing
-    requires { ⌜ Held (now sorts) entries ⌝ }
-    ensures { λ r. ⌜ Stands (now (sorts .entry)) entries rows value r ⌝ }
+fn binary_search_sort_val(sorts: &[u32], entries: u32, rows: u32, value: u32) -> SearchResult
+    requires { ⌜ EntriesFit (now sorts) entries ⌝ }
+    ensures { λ r. ⌜ SearchResultIs (now (sorts .entry)) entries rows value r ⌝ }
 {
     let at = binary_search_cells(sorts, 2, 0, entries, value);
     let first = row_from(sorts, entries, rows, at);
@@ -62,15 +62,15 @@ fn stand(sorts: &[u32], entries: u32, rows: u32, value: u32) -> Standing
         let word = (2 * at) as usize;
         if sorts[word] == value {
             let next = row_from(sorts, entries, rows, at + 1);
-            return Standing::Found(first, next);
+            return SearchResult::Found(first, next);
         }
     }
-    Standing::Absent(first)
+    SearchResult::Absent(first)
 }
 
 // The range of a condition kind, if the rows from `first` to `next` have the value.
 fn range_found(kind: u32, first: u32, next: u32, rows: u32) -> Range
-    ensures { λ r. ⌜ rangeOf r ≡ rangeAt kind (standsAt (Standing.Found first next)) rows ⌝ }
+    ensures { λ r. ⌜ rangeOf r ≡ rangeAt kind (positionFound (SearchResult.Found first next)) rows ⌝ }
 {
     match kind {
         1 => Range {
@@ -98,7 +98,7 @@ fn range_found(kind: u32, first: u32, next: u32, rows: u32) -> Range
 
 // The range of a condition kind, if no row has the value and those from `above` on have higher ones.
 fn range_absent(kind: u32, above: u32, rows: u32) -> Range
-    ensures { λ r. ⌜ rangeOf r ≡ rangeAt kind (standsAt (Standing.Absent above)) rows ⌝ }
+    ensures { λ r. ⌜ rangeOf r ≡ rangeAt kind (positionFound (SearchResult.Absent above)) rows ⌝ }
 {
     match kind {
         1 => Range { start: 0, end: 0 },
@@ -115,19 +115,19 @@ fn range_absent(kind: u32, above: u32, rows: u32) -> Range
 
 // `fast_subset` on the sort column, for kinds 1 to 5: equal, less, greater, at most, at least.
 pub fn fast_range(sorts: &[u32], entries: u32, rows: u32, kind: u32, value: u32) -> Range
-    requires { ⌜ Held (now sorts) entries ⌝ }
+    requires { ⌜ EntriesFit (now sorts) entries ⌝ }
     ensures { λ r. ⌜ Ranged (now (sorts .entry)) entries rows kind value r ⌝ }
 {
-    let standing = stand(sorts, entries, rows, value);
+    let standing = binary_search_sort_val(sorts, entries, rows, value);
     match standing {
-        Standing::Found(first, next) => range_found(kind, first, next, rows),
-        Standing::Absent(above) => range_absent(kind, above, rows),
+        SearchResult::Found(first, next) => range_found(kind, first, next, rows),
+        SearchResult::Absent(above) => range_absent(kind, above, rows),
     }
 }
 
 // Whether the entry at a position is below the row count and above the entry before it, by value and by row.
 fn entry_sound(sorts: &[u32], entries: u32, rows: u32, i: u32) -> bool
-    requires { ⌜ Held (now sorts) entries ⌝ }
+    requires { ⌜ EntriesFit (now sorts) entries ⌝ }
     requires { ⌜ i < entries ⌝ }
     ensures { λ r. ⌜ Decides (Follows (now (sorts .entry)) rows i) r ⌝ }
 {
@@ -150,7 +150,7 @@ fn entry_sound(sorts: &[u32], entries: u32, rows: u32, i: u32) -> bool
 
 // Whether the entries rise, are below the row count and begin at row 0 if there is a row. One pass.
 pub fn entries_sound(sorts: &[u32], entries: u32, rows: u32) -> bool
-    requires { ⌜ Held (now sorts) entries ⌝ }
+    requires { ⌜ EntriesFit (now sorts) entries ⌝ }
     ensures { λ r. ⌜ r ≡ entriesSound (entriesOf entries (now (sorts .entry))) rows ⌝ }
 {
     if row_from(sorts, entries, rows, 0) != 0 {
@@ -168,7 +168,7 @@ pub fn entries_sound(sorts: &[u32], entries: u32, rows: u32) -> bool
 
 // The position of the entry that applies to a row, searched from that of an earlier row.
 fn advance(sorts: &[u32], entries: u32, from: u32, row: u32) -> u32
-    requires { ⌜ Held (now sorts) entries ⌝ }
+    requires { ⌜ EntriesFit (now sorts) entries ⌝ }
     requires { ⌜ from ≤ entries ⌝ }
     ensures { λ r. ⌜ Advanced (now (sorts .entry)) entries from row r ⌝ }
 {
@@ -185,7 +185,7 @@ fn advance(sorts: &[u32], entries: u32, from: u32, row: u32) -> u32
 
 // The value of the entry at a position, 0 past the last.
 fn value_from(sorts: &[u32], entries: u32, at: u32) -> u32
-    requires { ⌜ Held (now sorts) entries ⌝ }
+    requires { ⌜ EntriesFit (now sorts) entries ⌝ }
     ensures { λ r. ⌜ r ≡ headValue (drop at (entriesOf entries (now (sorts .entry)))) ⌝ }
 {
     if entries <= at {
@@ -220,7 +220,7 @@ pub fn sort_cells_sound(
     entries: u32,
 ) -> bool
     requires { ⌜ Cells (now store) columns sort rows ⌝ }
-    requires { ⌜ Held (now sorts) entries ⌝ }
+    requires { ⌜ EntriesFit (now sorts) entries ⌝ }
     ensures { λ r. ⌜ r ≡ cellsSound (now (store .entry)) columns sort rows (entriesOf entries (now (sorts .entry))) ⌝ }
 {
     let mut at: u32 = 0;

@@ -8,27 +8,27 @@ use native.Mathlib.Nat.{mul-le-mul}
 use native.Mathlib.Omega.{arith}
 use lib.Dec.{leb, ltb}
 use borrow.Author.Tests.{leb-true, leb-false, lt-ltb, le-ltb, le-leb, lt-leb, eq-eqb, ne-eqb}
-use Rattle.lists.specs.Laws.Keep.{split}
-use Rattle.lists.specs.Laws.Every.{or-no-left}
-use Rattle.refusals.specs.Refusals.{Rung, rung, first}
+use Rattle.lists.specs.Laws.Filter.{split}
+use Rattle.lists.specs.Laws.All.{or-no-left}
+use Rattle.refusals.specs.Refusals.{Check, check, firstRefusal}
 use Rattle.constraints.specs.declared.Constraint.{Constraint}
 use Rattle.constraints.specs.Constraints.{known}
 use Rattle.plain_table.specs.Staged.{Opening, openable}
-use Rattle.plain_table.specs.Refusing.{Lengths, storesShort, wordsShort, openRefusal, compactLadder, mergeLadder, clearLadder}
-use Rattle.plain_table.specs.Laws.Calls.{first-no, first-rest}
+use Rattle.plain_table.specs.Refusing.{Lengths, storesShort, wordsShort, openRefusal, compactChecks, mergeChecks, clearChecks}
+use Rattle.plain_table.specs.Laws.Calls.{firstRefusal-no, firstRefusal-rest}
 use Rattle.plain_table.specs.Laws.Proper.{Bounds, openable-bounds}
 use Rattle.table.specs.declared.Header.{Header}
 use Rattle.table.specs.Numbers.{openingOf}
-use Rattle.table.specs.Refusing.{outside, pendingOutside, rowsShort, pairsShort, mergeRefusal, compactRefusal, clearRefusal, lookupRefusal, cellRefusal, fastRefusal, versionRefusal, sinceRefusal, notedRefusal, soundRefusal, lookupTests}
+use Rattle.table.specs.Refusing.{outside, pendingOutside, rowsShort, pairsShort, mergeRefusal, compactRefusal, clearRefusal, lookupRefusal, cellRefusal, fastRefusal, versionRefusal, sinceRefusal, notedRefusal, soundRefusal, lookupChecks}
 use Rattle.table.specs.Laws.Refusals.{Inside, outside-inside}
 
 not-leb : (a b : ℕ) → ltb b a ≡ not (leb a b)
 not-leb a b = elim (split (leb a b)) [ inl e ↦ rw (e, le-ltb b a (leb-true a b e)) | inr e ↦ rw (e, lt-ltb b a (leb-false a b e)) ]
 
 -- adds a fourth check to a list of three: what the three refuse is refused with the same number
-module _ (a b c : Bool) (rest : List Rung) where
-  three-some : (first (rung a 1 ∷ rung b 2 ∷ rung c 3 ∷ []) ≡ 0 → ⊥) → first (rung a 1 ∷ rung b 2 ∷ rung c 3 ∷ []) ≡ first (rung a 1 ∷ rung b 2 ∷ rung c 3 ∷ rest)
-  unfolding first
+module _ (a b c : Bool) (rest : List Check) where
+  three-some : (firstRefusal (check a 1 ∷ check b 2 ∷ check c 3 ∷ []) ≡ 0 → ⊥) → firstRefusal (check a 1 ∷ check b 2 ∷ check c 3 ∷ []) ≡ firstRefusal (check a 1 ∷ check b 2 ∷ check c 3 ∷ rest)
+  unfolding firstRefusal
   three-some some =
       elim (split a) [
         | inl p ↦ rw p
@@ -38,16 +38,16 @@ module _ (a b c : Bool) (rest : List Rung) where
         ]
       ]
 
-  three-past : a ≡ false → b ≡ false → c ≡ false → first (rung a 1 ∷ rung b 2 ∷ rung c 3 ∷ rest) ≡ first rest
-  unfolding first
+  three-past : a ≡ false → b ≡ false → c ≡ false → firstRefusal (check a 1 ∷ check b 2 ∷ check c 3 ∷ rest) ≡ firstRefusal rest
+  unfolding firstRefusal
   three-past p q r = rw (p, q, r)
 
   -- otherwise the added check decides
-  three-none : first (rung a 1 ∷ rung b 2 ∷ rung c 3 ∷ []) ≡ 0 → first (rung a 1 ∷ rung b 2 ∷ rung c 3 ∷ rest) ≡ first rest
+  three-none : firstRefusal (check a 1 ∷ check b 2 ∷ check c 3 ∷ []) ≡ 0 → firstRefusal (check a 1 ∷ check b 2 ∷ check c 3 ∷ rest) ≡ firstRefusal rest
   three-none e =
-      let u = first-rest a 0 _ e in
-      let v = first-rest b 1 _ u in
-      three-past (first-no a 0 _ e) (first-no b 1 _ u) (first-no c 2 _ v)
+      let u = firstRefusal-rest a 0 _ e in
+      let v = firstRefusal-rest b 1 _ u in
+      three-past (firstRefusal-no a 0 _ e) (firstRefusal-no b 1 _ u) (firstRefusal-no c 2 _ v)
 
 -- ---- test 1
 
@@ -117,7 +117,7 @@ module _ (h : Header) where
   pairs-short store = refl
 
   pub sound-outside : (rows keys sorts pending : ℕ) → pendingOutside h pending ≡ true → 1 ≡ soundRefusal h rows keys sorts pending
-  unfolding soundRefusal first
+  unfolding soundRefusal firstRefusal
   sound-outside rows keys sorts pending e = rw e
 
   module _ (l : Lengths) where
@@ -145,31 +145,31 @@ module _ (h : Header) where
         ]
 
     pub open-outside : (h .rows ≡ 0) × (h .dead ≡ 0) × (h .entries ≡ 0) → outside h ≡ true → 1 ≡ openRefusal (openingOf h) l
-    unfolding openRefusal first
+    unfolding openRefusal firstRefusal
     open-outside empty e = rw (sym (opening-alone empty) ∙ e)
 
     pub open-short : (h .rows ≡ 0) × (h .dead ≡ 0) × (h .entries ≡ 0) → outside h ≡ false → storesShort (openingOf h) l ≡ true → 2 ≡ openRefusal (openingOf h) l
-    unfolding openRefusal first
+    unfolding openRefusal firstRefusal
     open-short empty e s = rw (sym (opening-alone empty) ∙ e, s)
 
     pub open-none : (h .rows ≡ 0) × (h .dead ≡ 0) × (h .entries ≡ 0) → outside h ≡ false → storesShort (openingOf h) l ≡ false → 0 ≡ openRefusal (openingOf h) l
-    unfolding openRefusal first
+    unfolding openRefusal firstRefusal
     open-none empty e s = rw (sym (opening-alone empty) ∙ e, s)
 
     -- ---- the soundness check
 
     pub sound-short : pendingOutside h (l .pending) ≡ false → storesShort (openingOf h) l ≡ true → 2 ≡ soundRefusal h (l .rows) (l .keys) (l .sorts) (l .pending)
-    unfolding soundRefusal first
+    unfolding soundRefusal firstRefusal
     sound-short e s = rw (e, sym stores-tests ∙ s)
 
     pub sound-none : pendingOutside h (l .pending) ≡ false → storesShort (openingOf h) l ≡ false → 0 ≡ soundRefusal h (l .rows) (l .keys) (l .sorts) (l .pending)
-    unfolding soundRefusal first
+    unfolding soundRefusal firstRefusal
     sound-none e s = rw (e, sym stores-tests ∙ s)
 
     -- if nothing is refused
     sound-clear : soundRefusal h (l .rows) (l .keys) (l .sorts) (l .pending) ≡ 0 → (pendingOutside h (l .pending) ≡ false) × (storesShort (openingOf h) l ≡ false)
     unfolding soundRefusal
-    sound-clear e = (first-no _ 0 _ e, stores-tests ∙ first-no _ 1 _ (first-rest _ 0 _ e))
+    sound-clear e = (firstRefusal-no _ 0 _ e, stores-tests ∙ firstRefusal-no _ 1 _ (firstRefusal-rest _ 0 _ e))
 
     pub sound-inside : soundRefusal h (l .rows) (l .keys) (l .sorts) (l .pending) ≡ 0 → outside h ≡ false
     sound-inside e = inside-alone (l .pending) (sound-clear e .0)
@@ -177,11 +177,11 @@ module _ (h : Header) where
     -- ---- *Merge*
 
     merge-outside : pendingOutside h (l .pending) ≡ true → 1 ≡ mergeRefusal h l
-    unfolding mergeRefusal first mergeLadder
+    unfolding mergeRefusal firstRefusal mergeChecks
     merge-outside e = rw e
 
     merge-stores : pendingOutside h (l .pending) ≡ false → storesShort (openingOf h) l ≡ true → 2 ≡ mergeRefusal h l
-    unfolding mergeRefusal first mergeLadder
+    unfolding mergeRefusal firstRefusal mergeChecks
     merge-stores e s = rw (e, s)
 
     -- what the soundness check refuses is refused with the same number
@@ -193,155 +193,155 @@ module _ (h : Header) where
         ]
 
     pub merge-words : soundRefusal h (l .rows) (l .keys) (l .sorts) (l .pending) ≡ 0 → wordsShort (openingOf h) l ≡ true → 2 ≡ mergeRefusal h l
-    unfolding mergeRefusal first mergeLadder
+    unfolding mergeRefusal firstRefusal mergeChecks
     merge-words e w = let c = sound-clear e in rw (c .0, c .1, w)
 
     pub merge-none : soundRefusal h (l .rows) (l .keys) (l .sorts) (l .pending) ≡ 0 → wordsShort (openingOf h) l ≡ false → 0 ≡ mergeRefusal h l
-    unfolding mergeRefusal first mergeLadder
+    unfolding mergeRefusal firstRefusal mergeChecks
     merge-none e w = let c = sound-clear e in rw (c .0, c .1, w)
 
     -- ---- *Compact*
 
     pub compact-outside : outside h ≡ true → 1 ≡ compactRefusal h l
-    unfolding compactRefusal first compactLadder
+    unfolding compactRefusal firstRefusal compactChecks
     compact-outside e = rw e
 
     pub compact-stores : outside h ≡ false → storesShort (openingOf h) l ≡ true → 2 ≡ compactRefusal h l
-    unfolding compactRefusal first compactLadder
+    unfolding compactRefusal firstRefusal compactChecks
     compact-stores e s = rw (e, s)
 
     module _ (e : outside h ≡ false) (s : storesShort (openingOf h) l ≡ false) where
       pub compact-words : wordsShort (openingOf h) l ≡ true → 2 ≡ compactRefusal h l
-      unfolding compactRefusal first compactLadder
+      unfolding compactRefusal firstRefusal compactChecks
       compact-words w = rw (e, s, w)
 
       pub compact-last : wordsShort (openingOf h) l ≡ false → h .generation ≡ 4294967295 → 10 ≡ compactRefusal h l
-      unfolding compactRefusal first compactLadder
+      unfolding compactRefusal firstRefusal compactChecks
       compact-last w g = rw (e, s, w, eq-eqb _ _ g)
 
       pub compact-none : wordsShort (openingOf h) l ≡ false → (h .generation ≡ 4294967295 → ⊥) → 0 ≡ compactRefusal h l
-      unfolding compactRefusal first compactLadder
+      unfolding compactRefusal firstRefusal compactChecks
       compact-none w g = rw (e, s, w, ne-eqb _ _ g)
 
   -- ---- *Clear*
 
   module _ (keys : ℕ) where
     pub clear-outside : outside h ≡ true → 1 ≡ clearRefusal h keys
-    unfolding clearRefusal first clearLadder pairsShort
+    unfolding clearRefusal firstRefusal clearChecks pairsShort
     clear-outside e = rw e
 
     pub clear-short : outside h ≡ false → pairsShort h keys ≡ true → 2 ≡ clearRefusal h keys
-    unfolding clearRefusal first clearLadder pairsShort
+    unfolding clearRefusal firstRefusal clearChecks pairsShort
     clear-short e s = rw (e, s)
 
     module _ (e : outside h ≡ false) (s : pairsShort h keys ≡ false) where
       pub clear-early : (h .generation ≡ 4294967295 → ⊥) → 0 ≡ clearRefusal h keys
-      unfolding clearRefusal first clearLadder pairsShort
+      unfolding clearRefusal firstRefusal clearChecks pairsShort
       clear-early g = rw (e, s, ne-eqb _ _ g)
 
       pub clear-empty : h .generation ≡ 4294967295 → h .rows ≡ 0 → 0 ≡ clearRefusal h keys
-      unfolding clearRefusal first clearLadder pairsShort
+      unfolding clearRefusal firstRefusal clearChecks pairsShort
       clear-empty g n = rw (e, s, eq-eqb _ _ g, le-ltb 0 (h .rows) (omega arith))
 
       pub clear-last : h .generation ≡ 4294967295 → (h .rows ≡ 0 → ⊥) → 10 ≡ clearRefusal h keys
-      unfolding clearRefusal first clearLadder pairsShort
+      unfolding clearRefusal firstRefusal clearChecks pairsShort
       clear-last g n = rw (e, s, eq-eqb _ _ g, lt-ltb 0 (h .rows) (omega arith))
 
   -- ---- *Key lookup*, *one cell*
 
   module _ (rows keys cells : ℕ) where
     pub lookup-outside : outside h ≡ true → 1 ≡ lookupRefusal h rows keys cells
-    unfolding lookupRefusal first lookupTests
+    unfolding lookupRefusal firstRefusal lookupChecks
     lookup-outside e = rw e
 
     pub lookup-rows : outside h ≡ false → rowsShort h rows ≡ true → 2 ≡ lookupRefusal h rows keys cells
-    unfolding lookupRefusal first lookupTests
+    unfolding lookupRefusal firstRefusal lookupChecks
     lookup-rows e r = rw (e, r)
 
     module _ (e : outside h ≡ false) (r : rowsShort h rows ≡ false) where
       pub lookup-keys : pairsShort h keys ≡ true → 2 ≡ lookupRefusal h rows keys cells
-      unfolding lookupRefusal first lookupTests
+      unfolding lookupRefusal firstRefusal lookupChecks
       lookup-keys k = rw (e, r, k)
 
       pub lookup-width : pairsShort h keys ≡ false → (cells ≡ h .keys → ⊥) → 3 ≡ lookupRefusal h rows keys cells
-      unfolding lookupRefusal first lookupTests
+      unfolding lookupRefusal firstRefusal lookupChecks
       lookup-width k n = rw (e, r, k, ne-eqb _ _ n)
 
       pub lookup-none : pairsShort h keys ≡ false → cells ≡ h .keys → 0 ≡ lookupRefusal h rows keys cells
-      unfolding lookupRefusal first lookupTests
+      unfolding lookupRefusal firstRefusal lookupChecks
       lookup-none k n = rw (e, r, k, eq-eqb _ _ n)
 
     module _ (column : ℕ) where
       pub cell-lookup : (lookupRefusal h rows keys cells ≡ 0 → ⊥) → lookupRefusal h rows keys cells ≡ cellRefusal h rows keys cells column
-      unfolding lookupRefusal cellRefusal lookupTests
+      unfolding lookupRefusal cellRefusal lookupChecks
       cell-lookup some = three-some _ _ _ _ some
 
-      cell-rest : lookupRefusal h rows keys cells ≡ 0 → cellRefusal h rows keys cells column ≡ first (rung (leb (h .columns) column) 6 ∷ [])
-      unfolding lookupRefusal cellRefusal lookupTests
+      cell-rest : lookupRefusal h rows keys cells ≡ 0 → cellRefusal h rows keys cells column ≡ firstRefusal (check (leb (h .columns) column) 6 ∷ [])
+      unfolding lookupRefusal cellRefusal lookupChecks
       cell-rest e = three-none _ _ _ _ e
 
       pub cell-above : lookupRefusal h rows keys cells ≡ 0 → h .columns ≤ column → 6 ≡ cellRefusal h rows keys cells column
-      unfolding first
+      unfolding firstRefusal
       cell-above e k = rw (cell-rest e, le-leb _ _ k)
 
       pub cell-none : lookupRefusal h rows keys cells ≡ 0 → column < h .columns → 0 ≡ cellRefusal h rows keys cells column
-      unfolding first
+      unfolding firstRefusal
       cell-none e k = rw (cell-rest e, lt-leb _ _ k)
 
   -- ---- *Fast range*
 
   module _ (sorts : ℕ) (c : Constraint) where
     pub fast-outside : outside h ≡ true → 1 ≡ fastRefusal h sorts c
-    unfolding fastRefusal first
+    unfolding fastRefusal firstRefusal
     fast-outside e = rw e
 
     pub fast-short : outside h ≡ false → pairsShort h sorts ≡ true → 2 ≡ fastRefusal h sorts c
-    unfolding fastRefusal first
+    unfolding fastRefusal firstRefusal
     fast-short e s = rw (e, s)
 
     pub fast-unknown : outside h ≡ false → pairsShort h sorts ≡ false → known (h .columns) c ≡ false → 6 ≡ fastRefusal h sorts c
-    unfolding fastRefusal first
+    unfolding fastRefusal firstRefusal
     fast-unknown e s k = rw (e, s, k)
 
     pub fast-none : outside h ≡ false → pairsShort h sorts ≡ false → known (h .columns) c ≡ true → 0 ≡ fastRefusal h sorts c
-    unfolding fastRefusal first
+    unfolding fastRefusal firstRefusal
     fast-none e s k = rw (e, s, k)
 
   -- ---- *Version*, *Rows since*
 
   pub version-outside : outside h ≡ true → 1 ≡ versionRefusal h
-  unfolding versionRefusal first
+  unfolding versionRefusal firstRefusal
   version-outside e = rw e
 
   pub version-none : outside h ≡ false → 0 ≡ versionRefusal h
-  unfolding versionRefusal first
+  unfolding versionRefusal firstRefusal
   version-none e = rw e
 
   pub since-outside : (row : ℕ) → outside h ≡ true → 1 ≡ sinceRefusal h row
-  unfolding sinceRefusal first
+  unfolding sinceRefusal firstRefusal
   since-outside row e = rw e
 
   pub since-above : (row : ℕ) → outside h ≡ false → h .rows < row → 5 ≡ sinceRefusal h row
-  unfolding sinceRefusal first
+  unfolding sinceRefusal firstRefusal
   since-above row e k = rw (e, lt-ltb _ _ k)
 
   pub since-none : (row : ℕ) → outside h ≡ false → row ≤ h .rows → 0 ≡ sinceRefusal h row
-  unfolding sinceRefusal first
+  unfolding sinceRefusal firstRefusal
   since-none row e k = rw (e, le-ltb _ _ k)
 
   module _ (generation count : ℕ) where
     pub noted-outside : outside h ≡ true → 1 ≡ notedRefusal h generation count
-    unfolding notedRefusal first
+    unfolding notedRefusal firstRefusal
     noted-outside e = rw e
 
     pub noted-other : outside h ≡ false → (generation ≡ h .generation → ⊥) → 18 ≡ notedRefusal h generation count
-    unfolding notedRefusal first
+    unfolding notedRefusal firstRefusal
     noted-other e other = rw (e, ne-eqb _ _ other)
 
     pub noted-above : outside h ≡ false → generation ≡ h .generation → h .rows < count → 18 ≡ notedRefusal h generation count
-    unfolding notedRefusal first
+    unfolding notedRefusal firstRefusal
     noted-above e is k = rw (e, eq-eqb _ _ is, lt-ltb _ _ k)
 
     pub noted-none : outside h ≡ false → generation ≡ h .generation → count ≤ h .rows → 0 ≡ notedRefusal h generation count
-    unfolding notedRefusal first
+    unfolding notedRefusal firstRefusal
     noted-none e is k = rw (e, eq-eqb _ _ is, le-ltb _ _ k)

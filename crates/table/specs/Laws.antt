@@ -2,7 +2,7 @@
 pub mod Stored
 pub mod Shown
 pub mod Pending
-pub mod Ladders
+pub mod Checks
 pub mod Staging
 pub mod Sound
 pub mod Live

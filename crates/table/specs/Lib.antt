@@ -2,6 +2,6 @@ pub mod Numbers
 pub mod Refusing
 pub mod Stores
 pub mod Sound
-pub mod Promises
+pub mod Contracts
 pub mod inner
 pub mod Laws

@@ -31,9 +31,9 @@ openingOf h =
     record { columns = h .columns; keys = h .keys; sort = h .sort; rule = h .rule; capacity = h .capacity }
 
 -- the largest sort value appended, "and whether there is one": read from a header, and as a header has it
-unfoldable pub largestSays : Largest → Option ℕ
-largestSays NoLargest = none
-largestSays (Value v) = some v
+unfoldable pub largestView : Largest → Option ℕ
+largestView NoLargest = none
+largestView (Value v) = some v
 
 unfoldable pub largestOf : Option ℕ → Largest
 largestOf none = NoLargest
@@ -56,33 +56,33 @@ header o rows dead entries pending generation largest =
       largest = largest;
     }
 
-unfoldable pub tableSays : TableAnswer → Reply Header
-tableSays (TableRefused n) = refused n
-tableSays (Table h) = accepted h
+unfoldable pub tableView : TableAnswer → Reply Header
+tableView (TableRefused n) = refused n
+tableView (Table h) = accepted h
 
-unfoldable pub mergeSays : MergeAnswer → Reply Merge
-mergeSays (MergeRefused n) = refused n
-mergeSays (Merged m) = accepted m
+unfoldable pub mergeView : MergeAnswer → Reply Merge
+mergeView (MergeRefused n) = refused n
+mergeView (Merged m) = accepted m
 
-unfoldable pub rowSays : RowAnswer → Reply (Option ℕ)
-rowSays (RowRefused n) = refused n
-rowSays NoRow = accepted none
-rowSays (Row number) = accepted (some number)
+unfoldable pub rowView : RowAnswer → Reply (Option ℕ)
+rowView (RowRefused n) = refused n
+rowView NoRow = accepted none
+rowView (Row number) = accepted (some number)
 
-unfoldable pub cellSays : CellAnswer → Reply (Option ℕ)
-cellSays (CellRefused n) = refused n
-cellSays NoCell = accepted none
-cellSays (Cell cell) = accepted (some cell)
+unfoldable pub cellView : CellAnswer → Reply (Option ℕ)
+cellView (CellRefused n) = refused n
+cellView NoCell = accepted none
+cellView (Cell cell) = accepted (some cell)
 
-unfoldable pub rangeSays : RangeAnswer → Reply (Option Subset)
-rangeSays (RangeRefused n) = refused n
-rangeSays NoRange = accepted none
-rangeSays (Range start end) = accepted (some (range start end))
+unfoldable pub rangeView : RangeAnswer → Reply (Option Subset)
+rangeView (RangeRefused n) = refused n
+rangeView NoRange = accepted none
+rangeView (Range start end) = accepted (some (range start end))
 
-unfoldable pub versionSays : VersionAnswer → Reply Version
-versionSays (VersionRefused n) = refused n
-versionSays (Versioned v) = accepted v
+unfoldable pub versionView : VersionAnswer → Reply Version
+versionView (VersionRefused n) = refused n
+versionView (Versioned v) = accepted v
 
-unfoldable pub soundSays : SoundAnswer → Reply Bool
-soundSays (SoundRefused n) = refused n
-soundSays (Sound answer) = accepted answer
+unfoldable pub soundView : SoundAnswer → Reply Bool
+soundView (SoundRefused n) = refused n
+soundView (Sound answer) = accepted answer

@@ -4,11 +4,11 @@ use Prim.Native.Nat.{ℕ, _*_}
 use mathlib.Core.Bool.{Bool, not, _&&_, _||_}
 use mathlib.Core.List.{List, [], _∷_, _++_}
 use lib.Dec.{leb, ltb, eqb}
-use Rattle.refusals.specs.Refusals.{Rung, rung, first}
+use Rattle.refusals.specs.Refusals.{Check, check, firstRefusal}
 use Rattle.constraints.specs.declared.Constraint.{Constraint}
 use Rattle.constraints.specs.Constraints.{known}
 use Rattle.plain_table.specs.Staged.{openable, Staged}
-use Rattle.plain_table.specs.Refusing.{Lengths, stageLadder, mergeLadder, compactLadder, clearLadder}
+use Rattle.plain_table.specs.Refusing.{Lengths, stageChecks, mergeChecks, compactChecks, clearChecks}
 use Rattle.table.specs.declared.Header.{Header}
 use Rattle.table.specs.Numbers.{openingOf}
 
@@ -33,48 +33,48 @@ pairsShort h store = ltb store (2 * h .capacity)
 -- The calls that change a table use the checks of the plain table, with this test 1.
 
 unfoldable pub stageRefusal : Header → ℕ → Staged → ℕ
-stageRefusal h pending r = stageLadder (pendingOutside h pending) (openingOf h) (h .rows) (h .pending) pending r
+stageRefusal h pending r = stageChecks (pendingOutside h pending) (openingOf h) (h .rows) (h .pending) pending r
 
 unfoldable pub mergeRefusal : Header → Lengths → ℕ
-mergeRefusal h l = mergeLadder (pendingOutside h (l .pending)) (openingOf h) l
+mergeRefusal h l = mergeChecks (pendingOutside h (l .pending)) (openingOf h) l
 
 unfoldable pub compactRefusal : Header → Lengths → ℕ
-compactRefusal h l = compactLadder (outside h) (openingOf h) (h .generation) l
+compactRefusal h l = compactChecks (outside h) (openingOf h) (h .generation) l
 
 unfoldable pub clearRefusal : Header → ℕ → ℕ
-clearRefusal h keys = clearLadder (outside h) (openingOf h) (h .generation) (h .rows) keys
+clearRefusal h keys = clearChecks (outside h) (openingOf h) (h .generation) (h .rows) keys
 
 -- *Key lookup*: 1, 2, 3
-unfoldable pub lookupTests : Header → ℕ → ℕ → ℕ → List Rung
-lookupTests h rows keys cells =
-    rung (outside h) 1 ∷ rung (rowsShort h rows || pairsShort h keys) 2 ∷ rung (not (eqb cells (h .keys))) 3 ∷ []
+unfoldable pub lookupChecks : Header → ℕ → ℕ → ℕ → List Check
+lookupChecks h rows keys cells =
+    check (outside h) 1 ∷ check (rowsShort h rows || pairsShort h keys) 2 ∷ check (not (eqb cells (h .keys))) 3 ∷ []
 
 unfoldable pub lookupRefusal : Header → ℕ → ℕ → ℕ → ℕ
-lookupRefusal h rows keys cells = first (lookupTests h rows keys cells)
+lookupRefusal h rows keys cells = firstRefusal (lookupChecks h rows keys cells)
 
 -- *one cell*: the same, and 6
 unfoldable pub cellRefusal : Header → ℕ → ℕ → ℕ → ℕ → ℕ
-cellRefusal h rows keys cells column = first (lookupTests h rows keys cells ++ (rung (leb (h .columns) column) 6 ∷ []))
+cellRefusal h rows keys cells column = firstRefusal (lookupChecks h rows keys cells ++ (check (leb (h .columns) column) 6 ∷ []))
 
 -- *Fast range*: 1, 2, 6
 unfoldable pub fastRefusal : Header → ℕ → Constraint → ℕ
 fastRefusal h sorts c =
-    first (rung (outside h) 1 ∷ rung (pairsShort h sorts) 2 ∷ rung (not (known (h .columns) c)) 6 ∷ [])
+    firstRefusal (check (outside h) 1 ∷ check (pairsShort h sorts) 2 ∷ check (not (known (h .columns) c)) 6 ∷ [])
 
 -- *Version*: 1
 unfoldable pub versionRefusal : Header → ℕ
-versionRefusal h = first (rung (outside h) 1 ∷ [])
+versionRefusal h = firstRefusal (check (outside h) 1 ∷ [])
 
 -- *Rows since*: 1, 5 "above the row count"
 unfoldable pub sinceRefusal : Header → ℕ → ℕ
-sinceRefusal h row = first (rung (outside h) 1 ∷ rung (ltb (h .rows) row) 5 ∷ [])
+sinceRefusal h row = firstRefusal (check (outside h) 1 ∷ check (ltb (h .rows) row) 5 ∷ [])
 
 -- *the rows since a noted version*: 1, 18 "another generation or a noted count above the row count"
 unfoldable pub notedRefusal : Header → ℕ → ℕ → ℕ
 notedRefusal h generation count =
-    first (rung (outside h) 1 ∷ rung (not (eqb generation (h .generation)) || ltb (h .rows) count) 18 ∷ [])
+    firstRefusal (check (outside h) 1 ∷ check (not (eqb generation (h .generation)) || ltb (h .rows) count) 18 ∷ [])
 
 -- the soundness check: 1, 2
 unfoldable pub soundRefusal : Header → ℕ → ℕ → ℕ → ℕ → ℕ
 soundRefusal h rows keys sorts pending =
-    first (rung (pendingOutside h pending) 1 ∷ rung (rowsShort h rows || pairsShort h keys || pairsShort h sorts) 2 ∷ [])
+    firstRefusal (check (pendingOutside h pending) 1 ∷ check (rowsShort h rows || pairsShort h keys || pairsShort h sorts) 2 ∷ [])

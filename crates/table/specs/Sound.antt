@@ -5,25 +5,25 @@ use mathlib.Core.Path.{_≡_}
 use mathlib.Core.Bool.{true, not}
 use mathlib.Core.List.{List}
 use lib.ListN.{length, getD}
-use Rattle.lists.specs.Lists.{every, count, rowAt, rowsOf}
+use Rattle.lists.specs.Lists.{all, count, rowAt, rowsOf}
 use Rattle.constraints.specs.Constraints.{isLive}
-use Rattle.key_index.specs.declared.Keyed.{Keyed}
-use Rattle.key_index.specs.Slots.{LiveAt, keyAt, roomFor, KeysSound}
+use Rattle.key_index.specs.declared.IndexShape.{IndexShape}
+use Rattle.key_index.specs.Slots.{LiveAt, keyAt, sizeClassFor, KeysSound}
 use Rattle.sort_entries.specs.Entries.{entriesOf, entriesSound, valueAt}
 use Rattle.plain_table.specs.Staged.{Staged, wordsAll}
 use Rattle.plain_table.specs.Proper.{atMost}
 use Rattle.table.specs.declared.Header.{Header}
-use Rattle.table.specs.Numbers.{openingOf, largestSays}
+use Rattle.table.specs.Numbers.{openingOf, largestView}
 use Rattle.table.specs.Refusing.{soundRefusal}
 use Rattle.table.specs.Stores.{Holds}
 
-abbrev pub keyedOf : Header → Keyed
-keyedOf h = record { columns = h .columns; keys = h .keys; room = roomFor (h .capacity) (h .rows); rows = h .rows }
+abbrev pub indexShapeOf : Header → IndexShape
+indexShapeOf h = record { columns = h .columns; keys = h .keys; room = sizeClassFor (h .capacity) (h .rows); rows = h .rows }
 
 -- "live keys differ"
 abbrev pub KeysDiffer : Header → List ℕ → Type 0
-KeysDiffer h rows = (i j : ℕ) → LiveAt (keyedOf h) rows i → LiveAt (keyedOf h) rows j
-    → keyAt (keyedOf h) rows i ≡ keyAt (keyedOf h) rows j → i ≡ j
+KeysDiffer h rows = (i j : ℕ) → LiveAt (indexShapeOf h) rows i → LiveAt (indexShapeOf h) rows j
+    → keyAt (indexShapeOf h) rows i ≡ keyAt (indexShapeOf h) rows j → i ≡ j
 
 -- The part of soundness that is about the contents of a table: everything but the lengths of its stores and the key store.
 pub record SoundContents (h : Header) (rows sorts pending : List ℕ) (staged : List Staged) : Type 0 where
@@ -33,10 +33,10 @@ pub record SoundContents (h : Header) (rows sorts pending : List ℕ) (staged : 
   -- "sort entries rise strictly, lie below the row count and begin at row 0 where there is a row"
   pub entries-rise : entriesSound (entriesOf (h .entries) sorts) (h .rows) ≡ true
   -- "each live sort cell is the value of the last entry at or below its row"
-  pub sorted : (i : ℕ) → LiveAt (keyedOf h) rows i
+  pub sorted : (i : ℕ) → LiveAt (indexShapeOf h) rows i
       → getD (rowAt (h .columns) i rows) (h .sort) 0 ≡ valueAt i (entriesOf (h .entries) sorts)
   -- change 7: "no sort entry exceeds it, and .. there is one wherever there are sort entries"
-  pub largest-kept : every (λ e. atMost (e .value) (largestSays (h .largest))) (entriesOf (h .entries) sorts) ≡ true
+  pub largest-kept : all (λ e. atMost (e .value) (largestView (h .largest))) (entriesOf (h .entries) sorts) ≡ true
   -- "pending records are whole"
   pub pending-counted : h .pending ≡ wordsAll (openingOf h) staged
   pub pending-whole : Holds (openingOf h) pending staged
@@ -47,4 +47,4 @@ pub record Sound (h : Header) (rows keys sorts pending : List ℕ) (staged : Lis
   pub tested : soundRefusal h (length rows) (length keys) (length sorts) (length pending) ≡ 0
   pub contents : SoundContents h rows sorts pending staged
   -- "the key store leads to exactly the live rows"
-  pub keyed : KeysSound (keyedOf h) rows keys
+  pub keys-sound : KeysSound (indexShapeOf h) rows keys

@@ -5,8 +5,8 @@ use mathlib.Core.Path.{_≡_}
 use mathlib.Core.Bool.{true, cond, not}
 use mathlib.Core.List.{List, [], _∷_, map}
 use lib.ListN.{length, take, getD, set}
-use Rattle.lists.specs.Lists.{putAt, every, rowAt, rowsOf, flat}
-use Rattle.cells.specs.Cells.{compact, keyHash}
+use Rattle.lists.specs.Lists.{splice, all, rowAt, rowsOf, flatten}
+use Rattle.cells.specs.Cells.{compactHash, keyHash}
 use Rattle.constraints.specs.Constraints.{isLive}
 use Rattle.sort_entries.specs.Entries.{Entry, entriesOf, entryWords, rebuilt}
 use Rattle.plain_table.specs.Staged.{Opening, Staged, insert, removeKey, removeRow, wordsAll}
@@ -41,23 +41,23 @@ stored (row ∷ rows) (old ∷ before) = cond (row .live) (row .cells) (marked o
 
 -- the row store that shows p, given its contents before: cells past the rows of p are unchanged
 unfoldable pub rowStore : Plain → List (List ℕ) → List ℕ → List ℕ
-rowStore p before store = putAt store 0 (flat (stored (p .rows) before))
+rowStore p before store = splice store 0 (flatten (stored (p .rows) before))
 
 -- the same for the sort-entry store
 unfoldable pub sortStore : Plain → List ℕ → List ℕ
-sortStore p store = putAt store 0 (entryWords (entries p))
+sortStore p store = splice store 0 (entryWords (entries p))
 
 -- The words of a staged record in the pending store: its kind, the compact hash of its key, its row number if it has one, its
 -- cells. The layout is our choice; "columns plus 2, keys plus 2, keys plus 3" is the paper's.
 unfoldable pub recordWords : ℕ → Staged → List ℕ
-recordWords keys (insert cells) = 0 ∷ compact (keyHash (take keys cells)) ∷ cells
-recordWords keys (removeKey key) = 1 ∷ compact (keyHash key) ∷ key
-recordWords keys (removeRow row key) = 2 ∷ compact (keyHash key) ∷ row ∷ key
+recordWords keys (insert cells) = 0 ∷ compactHash (keyHash (take keys cells)) ∷ cells
+recordWords keys (removeKey key) = 1 ∷ compactHash (keyHash key) ∷ key
+recordWords keys (removeRow row key) = 2 ∷ compactHash (keyHash key) ∷ row ∷ key
 
 -- "it holds the staged records whole and in order"
 pub record Holds (o : Opening) (pending : List ℕ) (staged : List Staged) : Type 0 where
-  pub whole : every (λ r. not (wrongWidth o r)) staged ≡ true
-  pub in-order : take (wordsAll o staged) pending ≡ flat (map (recordWords (o .keys)) staged)
+  pub whole : all (λ r. not (wrongWidth o r)) staged ≡ true
+  pub in-order : take (wordsAll o staged) pending ≡ flatten (map (recordWords (o .keys)) staged)
 
 -- the rows of a table, read from its header and row store
 unfoldable pub rowsIn : Header → List ℕ → List Row

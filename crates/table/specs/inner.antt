@@ -1,3 +1,3 @@
 -- Contracts of functions that no user calls.
 pub mod Lent
-pub mod Whole
+pub mod FullIndexShape

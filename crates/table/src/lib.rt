@@ -1,8 +1,8 @@
 // The table: `SortedWritesTable` of table/mod.rs, over lent stores. This crate has the types that its definitions use, and the
 // refusals of each operation; the operations are in crates above.
 ghost use mathlib.Core.Path.{_≡_};
-ghost use Rattle.table.specs.Sound.{keyedOf};
-use key_index::Keyed;
+ghost use Rattle.table.specs.Sound.{indexShapeOf};
+use key_index::IndexShape;
 
 pub mod refusing; // refusing.rt: the refusals of each operation
 
@@ -105,13 +105,13 @@ pub enum SoundAnswer {
 }
 
 // The numbers that the key index uses.
-pub fn keyed(h: Header) -> Keyed
-    ensures { λ r. ⌜ r ≡ keyedOf h ⌝ }
+pub fn index_shape(h: Header) -> IndexShape
+    ensures { λ r. ⌜ r ≡ indexShapeOf h ⌝ }
 {
-    Keyed {
+    IndexShape {
         columns: h.columns,
         keys: h.keys,
-        room: key_index::room_for(h.capacity, h.rows),
+        room: key_index::size_class_for(h.capacity, h.rows),
         rows: h.rows,
     }
 }

@@ -12,16 +12,16 @@ use lib.Dec.{leb, eqb}
 use lib.ListN.{length, take, drop, getD, length-drop}
 use lib.Seq.{getD-drop, drop-drop}
 use borrow.Author.Tests.{ne-eqb, le-leb, leb-true}
-use Rattle.refusals.specs.Refusals.{reply, verdict}
-use Rattle.refusals.specs.Laws.Replies.{verdict-refused}
-use Rattle.lists.specs.Lists.{every, count, rowAt, rowsOf}
-use Rattle.lists.specs.Laws.Keep.{count-append, count-le}
+use Rattle.refusals.specs.Refusals.{reply, outcome}
+use Rattle.refusals.specs.Laws.Replies.{outcome-refused}
+use Rattle.lists.specs.Lists.{all, count, rowAt, rowsOf}
+use Rattle.lists.specs.Laws.Filter.{count-append, count-le}
 use Rattle.lists.specs.Laws.Rows.{length-rowsOf, rowsOf-snoc}
-use Rattle.cells.specs.Cells.{isDead, compact, keyHash}
+use Rattle.cells.specs.Cells.{isDead, compactHash, keyHash}
 use Rattle.constraints.specs.Constraints.{isLive}
 use Rattle.constraints.specs.Laws.Rows.{live-first}
 use Rattle.key_index.specs.Laws.Places.{key-part}
-use Rattle.key_index.specs.declared.Keyed.{Keyed}
+use Rattle.key_index.specs.declared.IndexShape.{IndexShape}
 use Rattle.key_index.specs.declared.Found.{Found}
 use Rattle.key_index.specs.declared.Found.the-variants.{None, At}
 use Rattle.key_index.specs.Slots.{LiveAt, keyAt, KeysSound}
@@ -31,17 +31,17 @@ use Rattle.sort_entries.specs.inner.Checks.{Decides, decides-yes, decides-no, c
 use Rattle.sort_entries.specs.Laws.Cells.{cells-live, cells-of}
 use Rattle.sort_entries.specs.Laws.Stores.{last-entriesOf, last-none}
 use Rattle.sort_entries.specs.Laws.Sound.{sound-climb}
-use Rattle.sort_entries.specs.Laws.Tests.{last-every}
+use Rattle.sort_entries.specs.Laws.Tests.{last-all}
 use Rattle.plain_table.specs.Proper.{atMost}
 use Rattle.plain_table.specs.Staged.{Opening, Staged, insert, removeKey, removeRow, wordsOf}
 use Rattle.table.specs.declared.Header.{Header}
 use Rattle.table.specs.declared.Largest.the-variants.{None as NoLargest, Value}
 use Rattle.table.specs.declared.SoundAnswer.the-variants.{Refused, Sound as IsSound}
-use Rattle.table.specs.Numbers.{openingOf, largestSays, soundSays}
+use Rattle.table.specs.Numbers.{openingOf, largestView, soundView}
 use Rattle.table.specs.Refusing.{soundRefusal}
-use Rattle.table.specs.Sound.{keyedOf}
-use Rattle.table.specs.Promises.{Checked}
-use Rattle.table_check.specs.inner.Checks.{deadRows, lastKept, RowsSound, IndexSound, OwnIs, kindWords, keyPlace, keyWords, Begins, RecordRead, HoldsFrom, PendingWhole, SoundStores}
+use Rattle.table.specs.Sound.{indexShapeOf}
+use Rattle.table.specs.Contracts.{Checked}
+use Rattle.table_check.specs.inner.Checks.{deadRows, lastKept, RowsSound, KeyStoreSound, OwnIs, kindWords, keyPlace, keyWords, Begins, RecordRead, HoldsFrom, PendingWhole, SoundStores}
 use Rattle.table_check.specs.Laws.Checks.{parts-sound, sound-rows, sound-index, sound-whole, own-dead, own-none, own-at, begins-words, begins-hash, words-begin, holds-cons, holds-head, holds-tail, holds-none, holds-some, holds-pending, pending-holds}
 
 -- ---- rows
@@ -73,28 +73,28 @@ lower-kept no-value a b h e = absurd (false≢true e)
 lower-kept (a-value n) a b h e = le-leb a n (omega (arith, leb-true b n e))
 
 kept-last : (h : Header) (sorts : List ℕ) → true ≡ entriesSound (entriesOf (h .entries) sorts) (h .rows)
-    → lastKept h sorts ≡ every (λ e. atMost (e .value) (largestSays (h .largest))) (entriesOf (h .entries) sorts)
+    → lastKept h sorts ≡ all (λ e. atMost (e .value) (largestView (h .largest))) (entriesOf (h .entries) sorts)
 kept-last h sorts e =
-    last-every (λ v. atMost v (largestSays (h .largest))) (lower-kept (largestSays (h .largest))) (entriesOf (h .entries) sorts) (h .rows)
+    last-all (λ v. atMost v (largestView (h .largest))) (lower-kept (largestView (h .largest))) (entriesOf (h .entries) sorts) (h .rows)
     (sound-climb (entriesOf (h .entries) sorts) (h .rows) (sym e))
 
 -- the answers of `largest_sound`
 module _ (h : Header) (sorts : List ℕ) where
   pub largest-empty : h .entries ≡ 0 → true ≡ lastKept h sorts
-  largest-empty e = sym (last-none (λ v. atMost v (largestSays (h .largest))) (h .entries) sorts e)
+  largest-empty e = sym (last-none (λ v. atMost v (largestView (h .largest))) (h .entries) sorts e)
 
-  last-here : (h .entries ≡ 0 → ⊥) → lastKept h sorts ≡ atMost (getD sorts (2 * h .entries - 2) 0) (largestSays (h .largest))
+  last-here : (h .entries ≡ 0 → ⊥) → lastKept h sorts ≡ atMost (getD sorts (2 * h .entries - 2) 0) (largestView (h .largest))
   last-here ne =
       let e : 2 * h .entries - 2 ≡ 2 * (h .entries - 1) = omega arith in
-      rw e (last-entriesOf (λ v. atMost v (largestSays (h .largest))) (h .entries) sorts (omega arith))
+      rw e (last-entriesOf (λ v. atMost v (largestView (h .largest))) (h .entries) sorts (omega arith))
 
   pub largest-missing : (h .entries ≡ 0 → ⊥) → h .largest ≡ NoLargest → false ≡ lastKept h sorts
-  unfolding atMost largestSays
+  unfolding atMost largestView
   largest-missing ne e = sym (last-here ne ∙ rw e)
 
   pub largest-compared : (h .entries ≡ 0 → ⊥) → (v : ℕ) → h .largest ≡ Value v
       → leb (getD sorts (2 * h .entries - 2) 0) v ≡ lastKept h sorts
-  unfolding atMost largestSays
+  unfolding atMost largestView
   largest-compared ne v e = sym (last-here ne ∙ rw e)
 
 -- the answers of `rows_sound`
@@ -109,10 +109,10 @@ module _ (h : Header) (rows sorts : List ℕ) where
       → false ≡ lastKept h sorts → Decides (RowsSound h rows sorts) false
   rows-exceeding e f = decides-no (λ s. false≢true (f ∙ kept-last h sorts e ∙ s .largest-kept))
 
-  pub rows-told : h .dead ≡ deadRows h rows → true ≡ entriesSound (entriesOf (h .entries) sorts) (h .rows)
+  pub rows-decided : h .dead ≡ deadRows h rows → true ≡ entriesSound (entriesOf (h .entries) sorts) (h .rows)
       → true ≡ lastKept h sorts
       → (r : Bool) → r ≡ cellsSound rows (h .columns) (h .sort) (h .rows) (entriesOf (h .entries) sorts) → Decides (RowsSound h rows sorts) r
-  rows-told d e m r f =
+  rows-decided d e m r f =
       record {
         yes = λ q.
             record {
@@ -128,18 +128,18 @@ module _ (h : Header) (rows sorts : List ℕ) where
 -- ---- keys
 
 -- the answers of `finds_itself`, after the row's key is looked up
-module _ (t : Keyed) (rows keys : List ℕ) (row : ℕ) (fits : Fits t rows keys) (sound : KeysSound t rows keys) (below : row < t .rows) where
+module _ (t : IndexShape) (rows keys : List ℕ) (row : ℕ) (fits : Fits t rows keys) (sound : KeysSound t rows keys) (below : row < t .rows) where
   abbrev lent : List ℕ
   lent = take (row * t .columns + t .keys - row * t .columns) (drop (row * t .columns) rows)
 
   pub itself-dead : isDead (getD rows (row * t .columns) 0) ≡ true → OwnIs t rows keys row true
   itself-dead e = own-dead t rows keys row (live-first (t .columns) row rows (fits .some-columns) ∙ ap not e)
 
-  module _ (first : isDead (getD rows (row * t .columns) 0) ≡ false) (hash : ℕ) (r : Found) (h : hash ≡ compact (keyHash lent)) (f : FoundIs t rows keys lent hash r) where
+  module _ (first : isDead (getD rows (row * t .columns) 0) ≡ false) (hash : ℕ) (r : Found) (h : hash ≡ compactHash (keyHash lent)) (f : FoundIs t rows keys lent hash r) where
     live : LiveAt t rows row
     live = (below, live-first (t .columns) row rows (fits .some-columns) ∙ ap not first)
 
-    found : FoundIs t rows keys (keyAt t rows row) (compact (keyHash (keyAt t rows row))) r
+    found : FoundIs t rows keys (keyAt t rows row) (compactHash (keyHash (keyAt t rows row))) r
     found = rw (← key-part t rows row (fits .most-keys), ← h) f
 
     pub itself-none : r ≡ None → OwnIs t rows keys row false
@@ -148,13 +148,13 @@ module _ (t : Keyed) (rows keys : List ℕ) (row : ℕ) (fits : Fits t rows keys
     pub itself-at : (i slot : ℕ) → r ≡ At i slot → OwnIs t rows keys row (eqb i row)
     itself-at i slot e = own-at t rows keys row live sound i slot (rw e at found)
 
--- the answers of `index_sound`
-module _ (t : Keyed) (rows keys : List ℕ) where
-  pub index-astray : (KeysSound t rows keys → ⊥) → Decides (IndexSound t rows keys) false
-  index-astray f = decides-no (λ s. f (s .keyed))
+-- the answers of `key_store_sound`
+module _ (t : IndexShape) (rows keys : List ℕ) where
+  pub index-astray : (KeysSound t rows keys → ⊥) → Decides (KeyStoreSound t rows keys) false
+  index-astray f = decides-no (λ s. f (s .keys-sound))
 
-  pub index-told : KeysSound t rows keys → (r : Bool) → Decides (KeysDiffer t rows) r → Decides (IndexSound t rows keys) r
-  index-told k r d = record { yes = λ q. record { keyed = k; keys-differ = d .yes q }; no = λ q s. d .no q (s .keys-differ) }
+  pub key-store-decided : KeysSound t rows keys → (r : Bool) → Decides (KeysDiffer t rows) r → Decides (KeyStoreSound t rows keys) r
+  key-store-decided k r d = record { yes = λ q. record { keys-sound = k; keys-differ = d .yes q }; no = λ q s. d .no q (s .keys-differ) }
 
 -- ---- pending records
 
@@ -201,8 +201,8 @@ module _ (o : Opening) (pending : List ℕ) (end at words : ℕ) (kind : words �
       record { yes = λ k. absurd (omega arith); no = λ _ r b k. let n = words-are r b in omega arith }
 
   module _ (narrow : o .keys ≤ o .columns) (place hash : ℕ) (p : place ≡ keyPlace (getD pending at 0))
-      (h : hash ≡ compact (keyHash (take (at + place + o .keys - (at + place)) (drop (at + place) pending)))) where
-    key-hash : hash ≡ compact (keyHash (keyWords o (drop at pending)))
+      (h : hash ≡ compactHash (keyHash (take (at + place + o .keys - (at + place)) (drop (at + place) pending)))) where
+    key-hash : hash ≡ compactHash (keyHash (keyWords o (drop at pending)))
     unfolding keyWords
     key-hash =
         let n : at + place + o .keys - (at + place) ≡ o .keys = omega arith in
@@ -224,11 +224,11 @@ module _ (o : Opening) (pending : List ℕ) (end at words : ℕ) (kind : words �
 -- what holds at the loop's head of `pending_whole`: records fill the words from here on exactly if they fill all words
 pub record Reached (o : Opening) (pending : List ℕ) (end at : ℕ) : Type 0 where
   pub inside : at ≤ end
-  pub back : (staged : List Staged) → HoldsFrom o pending end at staged → (all : List Staged) × HoldsFrom o pending end 0 all
-  pub on : (all : List Staged) → HoldsFrom o pending end 0 all → (staged : List Staged) × HoldsFrom o pending end at staged
+  pub back : (staged : List Staged) → HoldsFrom o pending end at staged → (all-hold : List Staged) × HoldsFrom o pending end 0 all-hold
+  pub on : (all-hold : List Staged) → HoldsFrom o pending end 0 all-hold → (staged : List Staged) × HoldsFrom o pending end at staged
 
 pub reach-start : (o : Opening) (pending : List ℕ) (end : ℕ) → Reached o pending end 0
-reach-start o pending end = record { inside = omega arith; back = λ staged s. (staged, s); on = λ all s. (all, s) }
+reach-start o pending end = record { inside = omega arith; back = λ staged s. (staged, s); on = λ all-hold s. (all-hold, s) }
 
 module _ (o : Opening) (pending : List ℕ) (end at : ℕ) (reached : Reached o pending end at) where
   pub reach-on : (words : ℕ) → RecordRead o pending end at words → (words ≡ 0 → ⊥) → Reached o pending end (at + words)
@@ -236,7 +236,7 @@ module _ (o : Opening) (pending : List ℕ) (end at : ℕ) (reached : Reached o 
       record {
         inside = r .3;
         back = λ staged s. reached .back (r .0 ∷ staged) (holds-cons o pending end at (r .0) staged (r .1) (rw (r .2) s));
-        on = λ all s. let g = reached .on all s in rest (g .0) (g .1);
+        on = λ all-hold s. let g = reached .on all-hold s in rest (g .0) (g .1);
       }
     where
       r : (q : Staged) × Begins o (drop at pending) q × (wordsOf o q ≡ words) × (at + words ≤ end)
@@ -270,13 +270,13 @@ module _ (h : Header) (rows keys sorts pending : List ℕ) where
   pub stores-rows : (RowsSound h rows sorts → ⊥) → Decides (SoundStores h rows keys sorts pending) false
   stores-rows f = decides-no (λ s. f (sound-rows h rows keys sorts pending (s .0) (s .1)))
 
-  module _ (t : Keyed) (e : t ≡ keyedOf h) where
-    pub stores-index : (IndexSound t rows keys → ⊥) → Decides (SoundStores h rows keys sorts pending) false
+  module _ (t : IndexShape) (e : t ≡ indexShapeOf h) where
+    pub stores-index : (KeyStoreSound t rows keys → ⊥) → Decides (SoundStores h rows keys sorts pending) false
     stores-index f = decides-no (λ s. f (rw e (sound-index h rows keys sorts pending (s .0) (s .1))))
 
-    pub stores-told : soundRefusal h (length rows) (length keys) (length sorts) (length pending) ≡ 0 → RowsSound h rows sorts → IndexSound t rows keys
+    pub stores-decided : soundRefusal h (length rows) (length keys) (length sorts) (length pending) ≡ 0 → RowsSound h rows sorts → KeyStoreSound t rows keys
         → (r : Bool) → Decides (PendingWhole h pending) r → Decides (SoundStores h rows keys sorts pending) r
-    stores-told tested a b r w =
+    stores-decided tested a b r w =
         record {
           yes = λ q. let p = w .yes q in (p .0, parts-sound h rows keys sorts pending (p .0) tested a (rw e at b) (p .1));
           no = λ q s. w .no q (s .0, sound-whole h rows keys sorts pending (s .0) (s .1));
@@ -284,17 +284,17 @@ module _ (h : Header) (rows keys sorts pending : List ℕ) where
 
   -- a refusal, and an answer
   pub checked-refused : (n : ℕ) → n ≡ soundRefusal h (length rows) (length keys) (length sorts) (length pending) → (n ≡ 0 → ⊥) → Checked h rows keys sorts pending (Refused n)
-  unfolding soundSays verdict
+  unfolding soundView outcome
   checked-refused n e some =
       record {
-        refusal = verdict-refused (soundSays (Refused n)) _ n refl e some;
+        refusal = outcome-refused (soundView (Refused n)) _ n refl e some;
         sound = λ q. absurd (let z : _≡_ {A = ℕ} 0 1 = cc in omega arith);
         unsound = λ q. absurd (let z : _≡_ {A = ℕ} 0 1 = cc in omega arith);
       }
 
   pub checked-answered : (n : ℕ) → n ≡ soundRefusal h (length rows) (length keys) (length sorts) (length pending) → n ≡ 0 → (r : Bool)
       → Decides (SoundStores h rows keys sorts pending) r → Checked h rows keys sorts pending (IsSound r)
-  unfolding soundSays verdict reply
+  unfolding soundView outcome reply
   checked-answered n e z r w =
       record {
         refusal = rw (sym e ∙ z);

@@ -6,14 +6,14 @@ ghost use Prim.Native.Nat.{_<_, _≤_};
 ghost use lib.ListN.{length};
 ghost use Rattle.key_index.specs.Slots.{KeysSound};
 ghost use Rattle.key_index.specs.inner.Index.{Fits, KeysDiffer};
-ghost use Rattle.sort_entries.specs.inner.Search.{Held};
+ghost use Rattle.sort_entries.specs.inner.Search.{EntriesFit};
 ghost use Rattle.sort_entries.specs.inner.Checks.{Decides, Cells};
 ghost use Rattle.table.specs.Numbers.{openingOf};
 ghost use Rattle.table.specs.Refusing.{soundRefusal};
-ghost use Rattle.table.specs.Promises.{Checked};
-ghost use Rattle.table_check.specs.inner.Checks.{deadRows, lastKept, RowsSound, IndexSound, OwnIs, PendingIn, kindWords, keyPlace, RecordRead, PendingWhole, SoundStores};
+ghost use Rattle.table.specs.Contracts.{Checked};
+ghost use Rattle.table_check.specs.inner.Checks.{deadRows, lastKept, RowsSound, KeyStoreSound, OwnIs, PendingIn, kindWords, keyPlace, RecordRead, PendingWhole, SoundStores};
 use key_index::Found;
-use key_index::Keyed;
+use key_index::IndexShape;
 use table::Header;
 use table::INSERT;
 use table::Largest;
@@ -43,7 +43,7 @@ fn dead_rows(h: Header, rows: &[u32]) -> u32
 
 // Whether the value of the last sort entry is at most the largest value appended. If the entries rise, this holds for all entries.
 fn largest_sound(h: Header, sorts: &[u32]) -> bool
-    requires { ⌜ Held (now sorts) (h .entries) ⌝ }
+    requires { ⌜ EntriesFit (now sorts) (h .entries) ⌝ }
     ensures { λ r. ⌜ r ≡ lastKept h (now (sorts .entry)) ⌝ }
 {
     if h.entries == 0 {
@@ -62,7 +62,7 @@ fn largest_sound(h: Header, sorts: &[u32]) -> bool
 // Whether the dead count, the sort entries, the largest value and the live sort cells are sound.
 pub fn rows_sound(h: Header, rows: &[u32], sorts: &[u32]) -> bool
     requires { ⌜ Cells (now rows) (h .columns) (h .sort) (h .rows) ⌝ }
-    requires { ⌜ Held (now sorts) (h .entries) ⌝ }
+    requires { ⌜ EntriesFit (now sorts) (h .entries) ⌝ }
     ensures { λ r. ⌜ Decides (RowsSound h (now (rows .entry)) (now (sorts .entry))) r ⌝ }
 {
     if h.dead != dead_rows(h, rows) {
@@ -78,7 +78,7 @@ pub fn rows_sound(h: Header, rows: &[u32], sorts: &[u32]) -> bool
 }
 
 // Whether a row is dead or found by its key. If two live rows have the same key, a lookup finds the first of them in the key store.
-fn finds_itself(t: Keyed, rows: &[u32], keys: &[u32], row: u32) -> bool
+fn finds_itself(t: IndexShape, rows: &[u32], keys: &[u32], row: u32) -> bool
     requires { ⌜ (Fits t (now rows) (now keys)) × (KeysSound t (now rows) (now keys)) × (row < t .rows) ⌝ }
     ensures { λ r. ⌜ OwnIs t (now (rows .entry)) (now (keys .entry)) row r ⌝ }
 {
@@ -96,7 +96,7 @@ fn finds_itself(t: Keyed, rows: &[u32], keys: &[u32], row: u32) -> bool
 }
 
 // Whether the keys of live rows differ, given a sound key store.
-pub fn keys_differ(t: Keyed, rows: &[u32], keys: &[u32]) -> bool
+pub fn keys_differ(t: IndexShape, rows: &[u32], keys: &[u32]) -> bool
     requires { ⌜ (Fits t (now rows) (now keys)) × (KeysSound t (now rows) (now keys)) ⌝ }
     ensures { λ r. ⌜ Decides (KeysDiffer t (now (rows .entry))) r ⌝ }
 {
@@ -111,9 +111,9 @@ pub fn keys_differ(t: Keyed, rows: &[u32], keys: &[u32]) -> bool
 }
 
 // Whether the key store refers to exactly the live rows, and their keys differ.
-fn index_sound(t: Keyed, rows: &[u32], keys: &[u32]) -> bool
+fn key_store_sound(t: IndexShape, rows: &[u32], keys: &[u32]) -> bool
     requires { ⌜ Fits t (now rows) (now keys) ⌝ }
-    ensures { λ r. ⌜ Decides (IndexSound t (now (rows .entry)) (now (keys .entry))) r ⌝ }
+    ensures { λ r. ⌜ Decides (KeyStoreSound t (now (rows .entry)) (now (keys .entry))) r ⌝ }
 {
     if !key_check::keys_sound(t, rows, keys) {
         return false;
@@ -194,8 +194,8 @@ fn stores_sound(h: Header, rows: &[u32], keys: &[u32], sorts: &[u32], pending: &
     if !rows_sound(h, rows, sorts) {
         return false;
     }
-    let t = table::keyed(h);
-    if !index_sound(t, rows, keys) {
+    let t = table::index_shape(h);
+    if !key_store_sound(t, rows, keys) {
         return false;
     }
     pending_whole(h, pending)

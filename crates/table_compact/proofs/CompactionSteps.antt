@@ -9,10 +9,10 @@ use lib.Bits.{bitAnd}
 use lib.Count.{trailingZeros}
 use lib.ListN.{length, take, drop, getD, set, length-take, length-drop, length-set, length-append}
 use lib.Seq.{drop-set-lt}
-use Rattle.lists.specs.Lists.{putAt, keep, rowAt, rowsOf, flat}
+use Rattle.lists.specs.Lists.{splice, filter, rowAt, rowsOf, flatten}
 use Rattle.lists.specs.inner.Searching.{mapFront}
-use Rattle.lists.specs.Laws.Parts.{putAt-nil, getD-putAt-in}
-use Rattle.lists.specs.Laws.Keep.{length-keep}
+use Rattle.lists.specs.Laws.Parts.{splice-nil, getD-splice-in}
+use Rattle.lists.specs.Laws.Filter.{length-filter}
 use Rattle.lists.specs.Laws.Rows.{row-in}
 use Rattle.cells.specs.Cells.{isDead}
 use Rattle.constraints.specs.Constraints.{isLive}
@@ -20,38 +20,38 @@ use Rattle.constraints.specs.Laws.Rows.{live-first}
 use Rattle.sort_entries.specs.Entries.{Entry, entryWords, push, pushAll, rebuilt}
 use Rattle.sort_entries.specs.inner.Append.{Append}
 use Rattle.sort_entries.specs.Laws.Push.{push-few}
-use Rattle.row_buffer.specs.Ranks.{liveAt, liveWord, marks, newNumber}
+use Rattle.row_buffer.specs.Ranks.{liveAt, liveWord, bitmapWord, newNumber}
 use Rattle.bitmap.specs.inner.Marking.{Spaced, otherAt}
-use Rattle.bitmap.specs.Laws.Lowest.{marks-same, onward, onward-all, Next, next-mark, no-more}
-use Rattle.key_index.specs.declared.Keyed.{Keyed}
+use Rattle.bitmap.specs.Laws.Lowest.{bitmapWord-same, onward, onward-all, Next, next-bit, no-more}
+use Rattle.key_index.specs.declared.IndexShape.{IndexShape}
 use Rattle.key_index.specs.Slots.{slots}
 use Rattle.key_index.specs.inner.Index.{Fits}
 use Rattle.key_index.specs.Laws.Index.{rows-in}
 use Rattle.key_index.specs.Laws.Places.{Inside, row-inside, fits-stores}
-use Rattle.key_index.specs.Laws.Rooms.{room-most, fits-room}
-use Rattle.key_rebuild.specs.inner.Growth.{Rebuilt}
+use Rattle.key_index.specs.Laws.SizeClasses.{sizeClass-most, fits-fewer}
+use Rattle.key_rebuild.specs.inner.Rebuilding.{Rebuilt}
 use Rattle.key_renumber.specs.inner.Renumbering.{renumbered, Ranked}
 use Rattle.key_renumber.specs.Laws.Renumbering.{below-number, live-among}
-use Rattle.refusals.specs.Laws.Replies.{verdict-refused, verdict-accepted}
+use Rattle.refusals.specs.Laws.Replies.{outcome-refused, outcome-accepted}
 use Rattle.table.specs.declared.Header.{Header}
 use Rattle.table.specs.declared.TableAnswer.the-variants.{Refused as TableRefused, Table}
-use Rattle.table_compact.specs.declared.Kept.{Kept}
-use Rattle.table.specs.Numbers.{tableSays}
+use Rattle.table_compact.specs.declared.KeptCounts.{KeptCounts}
+use Rattle.table.specs.Numbers.{tableView}
 use Rattle.table.specs.Refusing.{compactRefusal}
-use Rattle.table.specs.Sound.{keyedOf}
-use Rattle.table.specs.inner.Whole.{wholeOf}
-use Rattle.table.specs.Promises.{body, compactionWords, PastNeeded, lengths, Compacting}
-use Rattle.table.specs.Laws.Refusals.{inside-whole, whole-fits, compact-accepted}
-use Rattle.table_compact.specs.inner.Compaction.{Lendable, Leading, Compaction}
+use Rattle.table.specs.Sound.{indexShapeOf}
+use Rattle.table.specs.inner.FullIndexShape.{fullIndexShapeOf}
+use Rattle.table.specs.Contracts.{body, compactionWords, PastNeeded, lengths, Compacting}
+use Rattle.table.specs.Laws.Refusals.{inside-full-shape, full-shape-fits, compact-accepted}
+use Rattle.table_compact.specs.inner.Compaction.{Lendable, KeysUpdated, Compaction}
 use Rattle.table_compact.specs.inner.ClosingUp.{Movable, Closable, Keepable, RowKept, Closing, blockWord, Block, BlockKept, Closed, liveStored, entriesFor, closedHeader}
 use Rattle.table_compact.specs.Laws.Compaction.{length-live, live-one, live-skip, later-row, close-one, entries-one, rebuild-one, Words, words-begin, words-next, words-number, compaction}
 
 -- ---- a row is kept
 
-module _ {h : Header} {rows sorts : List ℕ} {row : ℕ} {kept : Kept} (k : Keepable h rows sorts row kept) where
+module _ {h : Header} {rows sorts : List ℕ} {row : ℕ} {kept : KeptCounts} (k : Keepable h rows sorts row kept) where
   -- the row, and the place that it moves to
   pub from-place : Inside rows (h .columns) row
-  from-place = row-inside (wholeOf h) rows row (k .within) (k .row-below)
+  from-place = row-inside (fullIndexShapeOf h) rows row (k .within) (k .row-below)
 
   pub to-place : kept .rows * h .columns ≤ row * h .columns
   to-place = mul-le-mul-right (h .columns) (k .moves-down)
@@ -60,7 +60,7 @@ module _ {h : Header} {rows sorts : List ℕ} {row : ℕ} {kept : Kept} (k : Kee
   wide = simp (length-take, length-drop) (omega (arith, from-place .in-store))
 
   pub row-kept : (r : ℕ) (rows′ sorts′ : List ℕ)
-      → rows′ ≡ putAt rows (kept .rows * h .columns) (take (h .columns) (drop (row * h .columns) rows))
+      → rows′ ≡ splice rows (kept .rows * h .columns) (take (h .columns) (drop (row * h .columns) rows))
       → Append sorts (kept .entries) (getD rows′ (kept .rows * h .columns + h .sort) 0) (kept .rows) r sorts′
       → RowKept h rows sorts row kept r rows′ sorts′
   unfolding rowAt
@@ -68,14 +68,14 @@ module _ {h : Header} {rows sorts : List ℕ} {row : ℕ} {kept : Kept} (k : Kee
       let cells = take (h .columns) (drop (row * h .columns) rows) in
       let fits : kept .rows * h .columns + length cells ≤ length rows = omega (arith, wide, to-place, from-place .in-store) in
       let cell : getD rows′ (kept .rows * h .columns + h .sort) 0 ≡ getD cells (h .sort) 0 =
-      rw m (getD-putAt-in rows cells (kept .rows * h .columns) fits (h .sort) 0 (omega (arith, wide, k .sort-column))) in
+      rw m (getD-splice-in rows cells (kept .rows * h .columns) fits (h .sort) 0 (omega (arith, wide, k .sort-column))) in
       record { moved = m; recorded = rw cell at b }
 
 -- ---- rows close up
 
 module _ {h : Header} {rows₀ sorts₀ : List ℕ} where
   pub close-begin : Closing h rows₀ sorts₀ rows₀ sorts₀ (record { rows = 0; entries = 0 }) 0
-  unfolding liveStored entriesFor rowsOf keep flat rebuilt pushAll entryWords
+  unfolding liveStored entriesFor rowsOf filter flatten rebuilt pushAll entryWords
   close-begin =
       record {
         row-in = omega arith;
@@ -84,12 +84,12 @@ module _ {h : Header} {rows₀ sorts₀ : List ℕ} where
         rows-same = refl;
         sorts-same = refl;
         counted = refl;
-        closed = sym (putAt-nil rows₀ 0);
+        closed = sym (splice-nil rows₀ 0);
         entered = refl;
-        recorded = sym (putAt-nil sorts₀ 0);
+        recorded = sym (splice-nil sorts₀ 0);
       }
 
-  module _ {rows sorts : List ℕ} {kept : Kept} {row : ℕ} (s : Closing h rows₀ sorts₀ rows sorts kept row) where
+  module _ {rows sorts : List ℕ} {kept : KeptCounts} {row : ℕ} (s : Closing h rows₀ sorts₀ rows sorts kept row) where
     -- dead ones are passed
     pub close-skip : (to : ℕ) → row ≤ to → to ≤ h .rows → ((i : ℕ) → row ≤ i → i < to → isLive (rowAt (h .columns) i rows₀) ≡ false)
         → Closing h rows₀ sorts₀ rows sorts kept to
@@ -104,15 +104,15 @@ module _ {h : Header} {rows₀ sorts₀ : List ℕ} where
           rows-same = s .rows-same;
           sorts-same = s .sorts-same;
           counted = s .counted ∙ ap length same;
-          closed = s .closed ∙ ap (λ (l : List (List ℕ)). putAt rows₀ 0 (flat l)) same;
+          closed = s .closed ∙ ap (λ (l : List (List ℕ)). splice rows₀ 0 (flatten l)) same;
           entered = s .entered ∙ ap (λ (l : List (List ℕ)). length (entriesFor (h .sort) l)) same;
-          recorded = s .recorded ∙ ap (λ (l : List (List ℕ)). putAt sorts₀ 0 (entryWords (entriesFor (h .sort) l))) same;
+          recorded = s .recorded ∙ ap (λ (l : List (List ℕ)). splice sorts₀ 0 (entryWords (entriesFor (h .sort) l))) same;
         }
 
     module _ (m : Movable h rows₀ sorts₀) where
       -- a later row is unchanged
       pub later-same : (i : ℕ) → row ≤ i → i < h .rows → rowAt (h .columns) i rows ≡ rowAt (h .columns) i rows₀
-      later-same i low more = rw (s .closed) (later-row (h .columns) row i rows₀ low (row-inside (wholeOf h) rows₀ i (m .within) more .in-store))
+      later-same i low more = rw (s .closed) (later-row (h .columns) row i rows₀ low (row-inside (fullIndexShapeOf h) rows₀ i (m .within) more .in-store))
 
       module _ (more : row < h .rows) where
         -- the row can be kept
@@ -152,17 +152,17 @@ module _ {h : Header} {rows₀ sorts₀ : List ℕ} where
           entries-grown : push cell (kept .rows) (entriesFor (h .sort) lv) ≡ entriesFor (h .sort) (liveStored (h .columns) (row + 1) rows₀)
           entries-grown = rw (grown, s .counted) (sym (entries-one (h .sort) lv (rowAt (h .columns) row rows₀)))
 
-          entries-after : (r ≡ length (push cell (kept .rows) (entriesFor (h .sort) lv))) × (sorts′ ≡ putAt sorts₀ 0 (entryWords (push cell (kept .rows) (entriesFor (h .sort) lv))))
+          entries-after : (r ≡ length (push cell (kept .rows) (entriesFor (h .sort) lv))) × (sorts′ ≡ splice sorts₀ 0 (entryWords (push cell (kept .rows) (entriesFor (h .sort) lv))))
           entries-after =
               let fits : 2 * length (entriesFor (h .sort) lv) + 2 ≤ length sorts₀ = omega (arith, s .entered, s .entries-few, s .kept-few, more, m .within .count, m .sorts-long) in
               rebuild-one sorts₀ (entriesFor (h .sort) lv) fits cell (kept .rows) (kept .entries) r sorts′ (s .entered) (rw (s .recorded, next-same) at (k .recorded))
 
-          rows-after : rows′ ≡ putAt rows₀ 0 (flat (liveStored (h .columns) (row + 1) rows₀))
+          rows-after : rows′ ≡ splice rows₀ 0 (flatten (liveStored (h .columns) (row + 1) rows₀))
           rows-after =
               k .moved
-              ∙ ap₂ (λ (l m : List ℕ). putAt l (kept .rows * h .columns) m) (s .closed) next-same
-              ∙ ap (λ (n : ℕ). putAt (putAt rows₀ 0 (flat lv)) (n * h .columns) (rowAt (h .columns) row rows₀)) (s .counted)
-              ∙ close-one (h .columns) row rows₀ (row-inside (wholeOf h) rows₀ row (m .within) more .in-store) lives
+              ∙ ap₂ (λ (l m : List ℕ). splice l (kept .rows * h .columns) m) (s .closed) next-same
+              ∙ ap (λ (n : ℕ). splice (splice rows₀ 0 (flatten lv)) (n * h .columns) (rowAt (h .columns) row rows₀)) (s .counted)
+              ∙ close-one (h .columns) row rows₀ (row-inside (fullIndexShapeOf h) rows₀ row (m .within) more .in-store) lives
 
           pub close-kept : length rows′ ≡ length rows → length sorts′ ≡ length sorts
               → Closing h rows₀ sorts₀ rows′ sorts′ (record { rows = kept .rows + 1; entries = r }) (row + 1)
@@ -176,23 +176,23 @@ module _ {h : Header} {rows₀ sorts₀ : List ℕ} where
                 counted = ap (λ (n : ℕ). n + 1) (s .counted) ∙ sym (ap length grown ∙ length-append lv (rowAt (h .columns) row rows₀ ∷ []));
                 closed = rows-after;
                 entered = entries-after .0 ∙ ap length entries-grown;
-                recorded = entries-after .1 ∙ ap (λ (l : List Entry). putAt sorts₀ 0 (entryWords l)) entries-grown;
+                recorded = entries-after .1 ∙ ap (λ (l : List Entry). splice sorts₀ 0 (entryWords l)) entries-grown;
               }
 
 -- ---- the rows of a bitmap word
 
-module _ {h : Header} {rows sorts : List ℕ} {first live : ℕ} {before : Kept} (b : Block h rows sorts first live before) where
+module _ {h : Header} {rows sorts : List ℕ} {first live : ℕ} {before : KeptCounts} (b : Block h rows sorts first live before) where
   abbrev lives : ℕ → Bool
   lives bit = liveAt isLive (rowsOf (h .columns) (h .rows) (b .rows₀)) (first + bit)
 
   lives-row : (bit : ℕ) → bit < b .count → lives bit ≡ isLive (rowAt (h .columns) (first + bit) (b .rows₀))
-  lives-row bit k = live-among (keyedOf h) (b .rows₀) (h .rows) (first + bit) (omega (arith, b .inside))
+  lives-row bit k = live-among (indexShapeOf h) (b .rows₀) (h .rows) (first + bit) (omega (arith, b .inside))
 
   -- what holds at the loop's head: the rows before `place` have closed up, and the word has the others
-  pub record Going (rows′ sorts′ : List ℕ) (kept : Kept) (word : ℕ) : Type 0 where
+  pub record Going (rows′ sorts′ : List ℕ) (kept : KeptCounts) (word : ℕ) : Type 0 where
     pub place : ℕ
     pub few : place ≤ b .count
-    pub others : word ≡ marks (onward lives place) (b .count)
+    pub others : word ≡ bitmapWord (onward lives place) (b .count)
     pub closing : Closing h (b .rows₀) (b .sorts₀) rows′ sorts′ kept (first + place)
 
   pub going-begin : Going rows sorts before live
@@ -205,7 +205,7 @@ module _ {h : Header} {rows sorts : List ℕ} {first live : ℕ} {before : Kept}
         closing = rw add-zero (b .closing);
       }
 
-  module _ {rows′ sorts′ : List ℕ} {kept : Kept} {word : ℕ} (s : Going rows′ sorts′ kept word) where
+  module _ {rows′ sorts′ : List ℕ} {kept : KeptCounts} {word : ℕ} (s : Going rows′ sorts′ kept word) where
     pub going-lengths : (length rows′ ≡ length rows) × (length sorts′ ≡ length sorts)
     going-lengths = (s .closing .rows-same ∙ sym (b .closing .rows-same), s .closing .sorts-same ∙ sym (b .closing .sorts-same))
 
@@ -225,7 +225,7 @@ module _ {h : Header} {rows sorts : List ℕ} {first live : ℕ} {before : Kept}
       bit = trailingZeros 64 word
 
       next : Next lives (s .place) (b .count) word bit
-      next = next-mark lives (s .place) (b .count) word (s .others) (b .few) some
+      next = next-bit lives (s .place) (b .count) word (s .others) (b .few) some
 
       pub row-in-block : first + bit < h .rows
       row-in-block = omega (arith, next .below, b .inside)
@@ -251,7 +251,7 @@ module _ {h : Header} {rows sorts : List ℕ} {first live : ℕ} {before : Kept}
 
 module _ (h : Header) (rows₀ sorts₀ live₀ base₀ : List ℕ) where
   -- what holds at the loop's head
-  pub record Turn (rows sorts live base : List ℕ) (kept : Kept) (next : ℕ) : Type 0 where
+  pub record Iteration (rows sorts live base : List ℕ) (kept : KeptCounts) (next : ℕ) : Type 0 where
     pub closing : Closing h rows₀ sorts₀ rows sorts kept next
     pub aligned : next < h .rows → next % 64 ≡ 0
     pub live-same : length live ≡ length live₀
@@ -259,8 +259,8 @@ module _ (h : Header) (rows₀ sorts₀ live₀ base₀ : List ℕ) where
     pub numbered : Words (rowsOf (h .columns) (h .rows) rows₀) (h .rows) next live base
     pub words-past : PastNeeded (h .capacity) live₀ live × PastNeeded (h .capacity) base₀ base
 
-  pub turn-begin : Turn rows₀ sorts₀ live₀ base₀ (record { rows = 0; entries = 0 }) 0
-  turn-begin =
+  pub iteration-begin : Iteration rows₀ sorts₀ live₀ base₀ (record { rows = 0; entries = 0 }) 0
+  iteration-begin =
       record {
         closing = close-begin;
         aligned = λ _. omega arith;
@@ -274,9 +274,9 @@ module _ {h : Header} {rows₀ sorts₀ live₀ base₀ : List ℕ} (c : Closabl
   -- the number of the next live row, as the words encode it
   number-next : (row : ℕ) → row ≤ h .rows → length (liveStored (h .columns) row rows₀) ≡ newNumber isLive (rowsOf (h .columns) (h .rows) rows₀) row
   unfolding liveStored
-  number-next row k = length-keep isLive (rowsOf (h .columns) row rows₀) ∙ below-number (keyedOf h) rows₀ (h .rows) row k
+  number-next row k = length-filter isLive (rowsOf (h .columns) row rows₀) ∙ below-number (indexShapeOf h) rows₀ (h .rows) row k
 
-  module _ {rows sorts live base : List ℕ} {kept : Kept} {first : ℕ} (s : Turn h rows₀ sorts₀ live₀ base₀ rows sorts live base kept first) (more : first < h .rows)
+  module _ {rows sorts live base : List ℕ} {kept : KeptCounts} {first : ℕ} (s : Iteration h rows₀ sorts₀ live₀ base₀ rows sorts live base kept first) (more : first < h .rows)
       (count : ℕ) (e : count ≡ min 64 (h .rows - first)) where
     -- the words of the block are there
     pub words-in : (first / 64 < length live) × (first / 64 < length base)
@@ -285,7 +285,7 @@ module _ {h : Header} {rows₀ sorts₀ live₀ base₀ : List ℕ} (c : Closabl
 
     -- so are its cells
     pub cells-in : Inside rows (h .columns) first
-    cells-in = let i = row-inside (wholeOf h) rows₀ first (c .movable .within) more in record { in-store = rw (s .closing .rows-same) (i .in-store); small = i .small }
+    cells-in = let i = row-inside (fullIndexShapeOf h) rows₀ first (c .movable .within) more in record { in-store = rw (s .closing .rows-same) (i .in-store); small = i .small }
 
     pub spaced : Spaced rows (first * h .columns) (h .columns) count
     spaced =
@@ -298,17 +298,17 @@ module _ {h : Header} {rows₀ sorts₀ live₀ base₀ : List ℕ} (c : Closabl
         }
 
     -- the word is the bitmap of the live ones of these rows
-    word-marks : (word : ℕ) → word ≡ marks (otherAt rows (first * h .columns) (h .columns) 4294967295) count → word ≡ blockWord h rows₀ first count
+    word-marks : (word : ℕ) → word ≡ bitmapWord (otherAt rows (first * h .columns) (h .columns) 4294967295) count → word ≡ blockWord h rows₀ first count
     unfolding liveWord otherAt isDead
-    word-marks word q = q ∙ marks-same _ _ count (λ k b.
+    word-marks word q = q ∙ bitmapWord-same _ _ count (λ k b.
         let i : first + k < h .rows = omega arith in
         let d : first * h .columns + k * h .columns ≡ (first + k) * h .columns = sym (add-mul first k (h .columns)) in
         rw d
         (sym (live-first (h .columns) (first + k) rows (omega (arith, c .movable .sort-column)))
         ∙ ap isLive (later-same (s .closing) (c .movable) (first + k) (omega arith) i)
-        ∙ sym (live-among (keyedOf h) rows₀ (h .rows) (first + k) i)))
+        ∙ sym (live-among (indexShapeOf h) rows₀ (h .rows) (first + k) i)))
 
-    module _ (word : ℕ) (q : word ≡ marks (otherAt rows (first * h .columns) (h .columns) 4294967295) count) where
+    module _ (word : ℕ) (q : word ≡ bitmapWord (otherAt rows (first * h .columns) (h .columns) 4294967295) count) where
       pub the-block : Block h rows sorts first word kept
       the-block =
           record {
@@ -322,10 +322,10 @@ module _ {h : Header} {rows₀ sorts₀ live₀ base₀ : List ℕ} (c : Closabl
             closing = s .closing;
           }
 
-      pub turn-on : {rows′ sorts′ : List ℕ} {r : Kept} → BlockKept h rows sorts first word kept r rows′ sorts′
-          → Turn h rows₀ sorts₀ live₀ base₀ rows′ sorts′ (set live (first / 64) word) (set base (first / 64) (kept .rows)) r (first + count)
+      pub iteration-on : {rows′ sorts′ : List ℕ} {r : KeptCounts} → BlockKept h rows sorts first word kept r rows′ sorts′
+          → Iteration h rows₀ sorts₀ live₀ base₀ rows′ sorts′ (set live (first / 64) word) (set base (first / 64) (kept .rows)) r (first + count)
       unfolding the-block
-      turn-on k =
+      iteration-on k =
           let needed : first / 64 < (h .capacity + 63) / 64 = omega (arith, c .movable .within .count) in
           record {
             closing = k .on the-block;
@@ -338,7 +338,7 @@ module _ {h : Header} {rows₀ sorts₀ live₀ base₀ : List ℕ} (c : Closabl
           }
 
   -- all rows are done
-  pub close-end : {rows sorts live base : List ℕ} {kept : Kept} {next : ℕ} → Turn h rows₀ sorts₀ live₀ base₀ rows sorts live base kept next → h .rows ≤ next
+  pub close-end : {rows sorts live base : List ℕ} {kept : KeptCounts} {next : ℕ} → Iteration h rows₀ sorts₀ live₀ base₀ rows sorts live base kept next → h .rows ≤ next
       → Closed h rows₀ sorts₀ live₀ base₀ kept rows sorts live base
   close-end {rows} {sorts} {live} {base} {kept} {next} s k =
       let e : next ≡ h .rows = omega (arith, s .closing .row-in) in
@@ -349,7 +349,7 @@ module _ {h : Header} {rows₀ sorts₀ live₀ base₀ : List ℕ} (c : Closabl
         sorts-after = rw e at (s .closing .recorded);
         numbered = λ i l.
             words-number (rowsOf (h .columns) (h .rows) rows₀) (h .rows) live base (rw e at (s .numbered)) i (l .0)
-            ∙ sym (below-number (keyedOf h) rows₀ (h .rows) i (omega (arith, l .0)));
+            ∙ sym (below-number (indexShapeOf h) rows₀ (h .rows) i (omega (arith, l .0)));
         words-past = s .words-past;
       }
 
@@ -360,48 +360,48 @@ module _ {h : Header} {rows keys sorts live base : List ℕ} (lent : Lendable h 
   pub closable : Closable h rows sorts live base
   closable =
       record {
-        movable = record { within = rows-in (wholeOf h) rows keys (lent .fits); sort-column = lent .sort-column; sorts-long = lent .sorts-long };
+        movable = record { within = rows-in (fullIndexShapeOf h) rows keys (lent .fits); sort-column = lent .sort-column; sorts-long = lent .sorts-long };
         live-long = lent .live-long;
         base-long = lent .base-long;
       }
 
   -- and for the key store to lead to them
-  pub can-lead : {kept : Kept} {rows′ keys′ sorts′ live′ base′ : List ℕ} → Closed h rows sorts live base kept rows′ sorts′ live′ base′ → length rows′ ≡ length rows
+  pub can-lead : {kept : KeptCounts} {rows′ keys′ sorts′ live′ base′ : List ℕ} → Closed h rows sorts live base kept rows′ sorts′ live′ base′ → length rows′ ≡ length rows
       → length keys′ ≡ length keys → length live′ ≡ length live → length base′ ≡ length base
-      → (Ranked (keyedOf h) live′ base′) × (slots (keyedOf h) ≤ length keys′) × (Fits (keyedOf (closedHeader h kept)) rows′ keys′)
+      → (Ranked (indexShapeOf h) live′ base′) × (slots (indexShapeOf h) ≤ length keys′) × (Fits (indexShapeOf (closedHeader h kept)) rows′ keys′)
   unfolding liveStored
   can-lead {kept} {rows′} {keys′} c er ek el eb =
       let w = lent .fits in
-      let f = whole-fits h rows keys w in
-      let most = room-most (h .capacity) (h .rows) in
+      let f = full-shape-fits h rows keys w in
+      let most = sizeClass-most (h .capacity) (h .rows) in
       let few : kept .rows ≤ h .rows = omega (arith, c .rows-counted, length-live (h .columns) (h .rows) rows) in (
-        record { room = f .most; count = f .count; marks = omega (arith, lent .live-long); firsts = omega (arith, lent .base-long) },
+        record { room = f .most; count = f .count; bitmapWord = omega (arith, lent .live-long); firsts = omega (arith, lent .base-long) },
         rw ek (f .long),
-        whole-fits (closedHeader h kept) rows′ keys′ (fits-stores (fits-room (wholeOf h) (wholeOf (closedHeader h kept)) rows keys w refl refl (w .some) (omega (arith, w .count)) (omega arith)) rows′ keys′ er ek),
+        full-shape-fits (closedHeader h kept) rows′ keys′ (fits-stores (fits-fewer (fullIndexShapeOf h) (fullIndexShapeOf (closedHeader h kept)) rows keys w refl refl (w .some) (omega (arith, w .count)) (omega arith)) rows′ keys′ er ek),
       )
 
-  pub compact-end : {kept : Kept} {rows′ keys′ sorts′ live′ base′ : List ℕ} → h .generation < 4294967295 → Closed h rows sorts live base kept rows′ sorts′ live′ base′
-      → Leading h (closedHeader h kept) rows′ keys live′ base′ keys′ → length keys′ ≡ length keys
+  pub compact-end : {kept : KeptCounts} {rows′ keys′ sorts′ live′ base′ : List ℕ} → h .generation < 4294967295 → Closed h rows sorts live base kept rows′ sorts′ live′ base′
+      → KeysUpdated h (closedHeader h kept) rows′ keys live′ base′ keys′ → length keys′ ≡ length keys
       → Compaction h rows keys sorts live base (closedHeader h kept) rows′ keys′ sorts′ live′ base′
   compact-end {kept} {rows′} {keys′} {sorts′} {live′} {base′} g c led same = compaction h rows keys sorts live base lent kept rows′ sorts′ live′ base′ c keys′ same led g
 
 -- ---- the key store
 
-module _ {t : Keyed} (u : Keyed) (e : t ≡ u) where
+module _ {t : IndexShape} (u : IndexShape) (e : t ≡ u) where
   pub lead-fits : {rows keys : List ℕ} → Fits u rows keys → Fits t rows keys
   lead-fits f = rw e f
 
   pub lead-ranked : {live base : List ℕ} {n : ℕ} → Ranked u live base → slots u ≤ n → (Ranked t live base) × (slots t ≤ n)
   lead-ranked r long = rw e (r, long)
 
-module _ (h n : Header) {rows keys live base keys′ : List ℕ} (t : Keyed) (e : t ≡ keyedOf h) (u : Keyed) (f : u ≡ keyedOf n) where
+module _ (h n : Header) {rows keys live base keys′ : List ℕ} (t : IndexShape) (e : t ≡ indexShapeOf h) (u : IndexShape) (f : u ≡ indexShapeOf n) where
   -- with another number of slots
-  pub led-anew : (u .room ≡ t .room → ⊥) → Rebuilt u rows keys keys′ → Leading h n rows keys live base keys′
-  led-anew ne r = record { numbers = λ q. absurd ((rw (e, f) at ne) q); anew = λ _. rw f at r }
+  pub led-rebuilt : (u .room ≡ t .room → ⊥) → Rebuilt u rows keys keys′ → KeysUpdated h n rows keys live base keys′
+  led-rebuilt ne r = record { numbers = λ q. absurd ((rw (e, f) at ne) q); rebuilt-keys = λ _. rw f at r }
 
   -- in the same
-  pub led-renumbered : u .room ≡ t .room → keys′ ≡ mapFront (renumbered t live base) (slots t) keys → Leading h n rows keys live base keys′
-  led-renumbered q r = record { numbers = λ _. rw e at r; anew = λ ne. absurd (ne (rw (e, f) at q)) }
+  pub led-renumbered : u .room ≡ t .room → keys′ ≡ mapFront (renumbered t live base) (slots t) keys → KeysUpdated h n rows keys live base keys′
+  led-renumbered q r = record { numbers = λ _. rw e at r; rebuilt-keys = λ ne. absurd (ne (rw (e, f) at q)) }
 
 -- ---- the entry point
 
@@ -409,10 +409,10 @@ module _ (h : Header) (rows keys sorts live base : List ℕ) where
   -- a refused compaction
   pub compact-refused : (n : ℕ) → n ≡ compactRefusal h (lengths rows keys sorts [] live base) → (n ≡ 0 → ⊥)
       → Compacting h (body rows keys sorts) (compactionWords live base) (TableRefused n) (body rows keys sorts) (compactionWords live base)
-  unfolding tableSays
+  unfolding tableView
   compact-refused n e some =
       record {
-        refusal = verdict-refused (tableSays (TableRefused n)) _ n refl e some;
+        refusal = outcome-refused (tableView (TableRefused n)) _ n refl e some;
         unchanged = λ k. (refl, refl);
         past = refl;
         words-past = (refl, refl);
@@ -425,7 +425,7 @@ module _ (h : Header) (rows keys sorts live base : List ℕ) where
     compact-lendable g =
         let k = compact-accepted h (lengths rows keys sorts [] live base) (sym number ∙ taken) in (
           record {
-            fits = inside-whole h rows keys (k .inside) (k .long .rows-long) (k .long .keys-long);
+            fits = inside-full-shape h rows keys (k .inside) (k .long .rows-long) (k .long .keys-long);
             sort-column = k .inside .bounds .sort-column;
             sorts-long = k .long .sorts-long;
             live-long = k .words .live-long;
@@ -437,18 +437,18 @@ module _ (h : Header) (rows keys sorts live base : List ℕ) where
     -- it is done
     pub compact-done : (h′ : Header) (rows′ keys′ sorts′ live′ base′ : List ℕ) → Compaction h rows keys sorts live base h′ rows′ keys′ sorts′ live′ base′
         → Compacting h (body rows keys sorts) (compactionWords live base) (Table h′) (body rows′ keys′ sorts′) (compactionWords live′ base′)
-    unfolding tableSays
+    unfolding tableView
     compact-done h′ rows′ keys′ sorts′ live′ base′ c =
         let e = sym number ∙ taken in
         record {
-          refusal = verdict-accepted (tableSays (Table h′)) _ h′ refl e;
+          refusal = outcome-accepted (tableView (Table h′)) _ h′ refl e;
           unchanged = λ k. absurd (omega (arith, e));
           past = c .past;
           words-past = c .words-past;
           table = λ z pending p r.
               let k = c .table pending p r in
               record {
-                answers = ap (λ (x : Header). tableSays (Table x)) (k .header);
+                answers = ap (λ (x : Header). tableView (Table x)) (k .header);
                 rows-after = k .rows-after;
                 sorts-after = k .sorts-after;
                 represents = rw (k .header) at (k .represents);

@@ -6,24 +6,24 @@ ghost use lib.ListN.{length};
 ghost use Rattle.key_index.specs.Slots.{slots};
 ghost use Rattle.key_index.specs.inner.Index.{Fits};
 ghost use Rattle.key_renumber.specs.inner.Renumbering.{Ranked};
-ghost use Rattle.table.specs.Sound.{keyedOf};
-ghost use Rattle.table.specs.Promises.{body, compactionWords, Compacting};
-ghost use Rattle.table_compact.specs.inner.Compaction.{Lendable, Leading, Compaction};
+ghost use Rattle.table.specs.Sound.{indexShapeOf};
+ghost use Rattle.table.specs.Contracts.{body, compactionWords, Compacting};
+ghost use Rattle.table_compact.specs.inner.Compaction.{Lendable, KeysUpdated, Compaction};
 ghost use Rattle.table_compact.specs.inner.ClosingUp.{Keepable, RowKept, Block, BlockKept, Closable, Closed};
 use table::Header;
 use table::Lent;
 use table::TableAnswer;
-use table::keyed;
+use table::index_shape;
 use table::refusing::compact_refusal;
 
 // The numbers of rows and of sort entries that a compaction has kept so far.
-pub struct Kept {
+pub struct KeptCounts {
     pub rows: u32,
     pub entries: u32,
 }
 
 // Moves a live row down and records it in the sort entries. Returns the number of sort entries.
-fn keep_row(h: Header, rows: &mut [u32], sorts: &mut [u32], row: u32, kept: Kept) -> u32
+fn keep_row(h: Header, rows: &mut [u32], sorts: &mut [u32], row: u32, kept: KeptCounts) -> u32
     requires { ⌜ Keepable h (now rows) (now sorts) row kept ⌝ }
     ensures { λ r. ⌜ RowKept h (now (rows .entry)) (now (sorts .entry)) row kept r (now (rows .exit)) (now (sorts .exit)) ⌝ }
 {
@@ -42,8 +42,8 @@ fn keep_block(
     sorts: &mut [u32],
     first: u32,
     live: u64,
-    before: Kept,
-) -> Kept
+    before: KeptCounts,
+) -> KeptCounts
     requires { ⌜ Block h (now rows) (now sorts) first live before ⌝ }
     ensures { λ r. ⌜ BlockKept h (now (rows .entry)) (now (sorts .entry)) first live before r (now (rows .exit)) (now (sorts .exit)) ⌝ }
 {
@@ -67,11 +67,11 @@ fn close_up(
     sorts: &mut [u32],
     live: &mut [u64],
     base: &mut [u32],
-) -> Kept
+) -> KeptCounts
     requires { ⌜ Closable h (now rows) (now sorts) (now live) (now base) ⌝ }
     ensures { λ r. ⌜ Closed h (now (rows .entry)) (now (sorts .entry)) (now (live .entry)) (now (base .entry)) r (now (rows .exit)) (now (sorts .exit)) (now (live .exit)) (now (base .exit)) ⌝ }
 {
-    let mut kept = Kept {
+    let mut kept = KeptCounts {
         rows: 0,
         entries: 0,
     };
@@ -81,7 +81,13 @@ fn close_up(
         let count = bitmap::word::block(h.rows - first);
         next += count;
         let from = (first * h.columns) as usize;
-        let word = bitmap::word::marks_other(rows, from, h.columns as usize, count, cells::STALE);
+        let word = bitmap::word::different_bits(
+            rows,
+            from,
+            h.columns as usize,
+            count,
+            cells::STALE,
+        );
         let at = (first / 64) as usize;
         live[at] = word;
         base[at] = kept.rows;
@@ -92,12 +98,12 @@ fn close_up(
 
 // Updates the key store for the remaining rows and header `n`: new row numbers in the same slots, or a rebuilt store if the rows
 // need fewer slots.
-fn lead(h: Header, n: Header, rows: &[u32], keys: &mut [u32], live: &[u64], base: &[u32])
-    requires { ⌜ (Ranked (keyedOf h) (now live) (now base)) × (slots (keyedOf h) ≤ length (now keys)) × (Fits (keyedOf n) (now rows) (now keys)) ⌝ }
-    ensures { λ _. ⌜ Leading h n (now (rows .entry)) (now (keys .entry)) (now (live .entry)) (now (base .entry)) (now (keys .exit)) ⌝ }
+fn update_keys(h: Header, n: Header, rows: &[u32], keys: &mut [u32], live: &[u64], base: &[u32])
+    requires { ⌜ (Ranked (indexShapeOf h) (now live) (now base)) × (slots (indexShapeOf h) ≤ length (now keys)) × (Fits (indexShapeOf n) (now rows) (now keys)) ⌝ }
+    ensures { λ _. ⌜ KeysUpdated h n (now (rows .entry)) (now (keys .entry)) (now (live .entry)) (now (base .entry)) (now (keys .exit)) ⌝ }
 {
-    let t = keyed(h);
-    let after = keyed(n);
+    let t = index_shape(h);
+    let after = index_shape(n);
     if after.room != t.room {
         key_rebuild::rebuild(after, rows, keys);
         return;
@@ -123,7 +129,7 @@ pub fn compact_rows(
     n.dead = 0;
     n.entries = kept.entries;
     n.generation = h.generation + 1;
-    lead(h, n, rows, keys, live, base);
+    update_keys(h, n, rows, keys, live, base);
     n
 }
 

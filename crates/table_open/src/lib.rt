@@ -1,5 +1,5 @@
 // Open and clear.
-ghost use Rattle.table.specs.Promises.{body, Opened, Clearing};
+ghost use Rattle.table.specs.Contracts.{body, Opened, Clearing};
 use table::Header;
 use table::Largest;
 use table::Lent;
@@ -47,7 +47,7 @@ pub fn open_table(
     if refusal != 0 {
         return TableAnswer::Refused(refusal);
     }
-    key_index::empty(key_index::room_for(capacity, 0), keys);
+    key_index::empty(key_index::size_class_for(capacity, 0), keys);
     TableAnswer::Table(h)
 }
 
@@ -64,7 +64,7 @@ pub fn clear(h: Header, keys: &mut [u32]) -> TableAnswer
     if h.rows == 0 {
         return TableAnswer::Table(n);
     }
-    key_index::empty(key_index::room_for(h.capacity, 0), keys);
+    key_index::empty(key_index::size_class_for(h.capacity, 0), keys);
     n.rows = 0;
     n.dead = 0;
     n.entries = 0;

@@ -8,14 +8,14 @@ use native.Mathlib.Omega.{arith}
 use lib.ListN.{length, getD}
 use borrow.Author.Tests.{eq-eqb, ne-eqb}
 use Rattle.lists.specs.Laws.Rows.{row-in, getD-rowAt}
-use Rattle.refusals.specs.Laws.Replies.{reply-refused, reply-accepted, verdict-refused, verdict-accepted}
-use Rattle.cells.specs.Cells.{compact, keyHash}
+use Rattle.refusals.specs.Laws.Replies.{reply-refused, reply-accepted, outcome-refused, outcome-accepted}
+use Rattle.cells.specs.Cells.{compactHash, keyHash}
 use Rattle.offsets.specs.Subsets.{range}
 use Rattle.constraints.specs.declared.Constraint.{Constraint}
 use Rattle.sort_entries.specs.declared.Range.{Range as Rows}
-use Rattle.sort_entries.specs.inner.Search.{Held, Ranged}
+use Rattle.sort_entries.specs.inner.Search.{EntriesFit, Ranged}
 use Rattle.lists.specs.Lists.{rowAt}
-use Rattle.key_index.specs.declared.Keyed.{Keyed}
+use Rattle.key_index.specs.declared.IndexShape.{IndexShape}
 use Rattle.key_index.specs.declared.Found.{Found}
 use Rattle.key_index.specs.declared.Found.the-variants.{None, At}
 use Rattle.key_index.specs.Slots.{KeysSound}
@@ -26,10 +26,10 @@ use Rattle.table.specs.declared.RowAnswer.the-variants.{Refused as RowRefused, 
 use Rattle.table.specs.declared.CellAnswer.the-variants.{Refused as CellRefused, None as NoCell, Cell}
 use Rattle.table.specs.declared.RangeAnswer.the-variants.{Refused as RangeRefused, None as NoRange, Range}
 use Rattle.table.specs.declared.VersionAnswer.the-variants.{Refused as VersionRefused, Version as Versioned}
-use Rattle.table.specs.Numbers.{rowSays, cellSays, rangeSays, versionSays}
+use Rattle.table.specs.Numbers.{rowView, cellView, rangeView, versionView}
 use Rattle.table.specs.Refusing.{lookupRefusal, cellRefusal, fastRefusal, versionRefusal, sinceRefusal, notedRefusal}
-use Rattle.table.specs.Sound.{keyedOf, KeysDiffer}
-use Rattle.table.specs.Promises.{ofRows, LookedUp, CellRead, fastSubset, RangeRead, VersionRead, RowsSince, RowsSinceVersion}
+use Rattle.table.specs.Sound.{indexShapeOf, KeysDiffer}
+use Rattle.table.specs.Contracts.{ofRows, LookedUp, CellRead, fastSubset, RangeRead, VersionRead, RowsSince, RowsSinceVersion}
 use Rattle.table.specs.Laws.Lookup.{row-read, none-read}
 use Rattle.table.specs.Laws.Refusals.{Lookable, lookup-accepted, Readable, cell-accepted, fast-accepted, inside-fits}
 
@@ -42,31 +42,31 @@ pub record CellIn (h : Header) (rows : List ℕ) (row column : ℕ) : Type 0 whe
   pub inside : row * h .columns + column < length rows
 
 module _ (h : Header) (rows keys key : List ℕ) where
-  asks : (t : Keyed) → t ≡ keyedOf h → Lookable h (length rows) (length keys) (length key) → Fits t rows keys × (length key ≡ t .keys)
-  asks t e a = rw e (inside-fits h rows keys (a .inside) (a .rows-long) (a .keys-long), a .key-width)
+  lookup-fits : (t : IndexShape) → t ≡ indexShapeOf h → Lookable h (length rows) (length keys) (length key) → Fits t rows keys × (length key ≡ t .keys)
+  lookup-fits t e a = rw e (inside-fits h rows keys (a .inside) (a .rows-long) (a .keys-long), a .key-width)
 
   -- what the lookup by hash requires
-  pub lookup-asks : (t : Keyed) (n : ℕ) → t ≡ keyedOf h → n ≡ lookupRefusal h (length rows) (length keys) (length key) → n ≡ 0 → Fits t rows keys × (length key ≡ t .keys)
-  lookup-asks t n e number zero-is = asks t e (lookup-accepted h _ _ _ (sym number ∙ zero-is))
+  pub lookup-pre : (t : IndexShape) (n : ℕ) → t ≡ indexShapeOf h → n ≡ lookupRefusal h (length rows) (length keys) (length key) → n ≡ 0 → Fits t rows keys × (length key ≡ t .keys)
+  lookup-pre t n e number zero-is = lookup-fits t e (lookup-accepted h _ _ _ (sym number ∙ zero-is))
 
-  pub cell-asks : (t : Keyed) (n column : ℕ) → t ≡ keyedOf h → n ≡ cellRefusal h (length rows) (length keys) (length key) column → n ≡ 0 → Fits t rows keys × (length key ≡ t .keys)
-  cell-asks t n column e number zero-is = asks t e (cell-accepted h _ _ _ column (sym number ∙ zero-is) .lookable)
+  pub cell-pre : (t : IndexShape) (n column : ℕ) → t ≡ indexShapeOf h → n ≡ cellRefusal h (length rows) (length keys) (length key) column → n ≡ 0 → Fits t rows keys × (length key ≡ t .keys)
+  cell-pre t n column e number zero-is = lookup-fits t e (cell-accepted h _ _ _ column (sym number ∙ zero-is) .lookable)
 
   pub row-refused : (n : ℕ) → n ≡ lookupRefusal h (length rows) (length keys) (length key) → (n ≡ 0 → ⊥) → LookedUp h rows keys key (RowRefused n)
-  unfolding rowSays
+  unfolding rowView
   row-refused n number some =
-      record { refusal = verdict-refused _ _ n refl number some; table = λ accepts. absurd (some (number ∙ accepts)) }
+      record { refusal = outcome-refused _ _ n refl number some; table = λ accepts. absurd (some (number ∙ accepts)) }
 
   pub cell-refused : (n column : ℕ) → n ≡ cellRefusal h (length rows) (length keys) (length key) column → (n ≡ 0 → ⊥) → CellRead h rows keys key column (CellRefused n)
-  unfolding cellSays
+  unfolding cellView
   cell-refused n column number some =
-      record { refusal = verdict-refused _ _ n refl number some; table = λ accepts. absurd (some (number ∙ accepts)) }
+      record { refusal = outcome-refused _ _ n refl number some; table = λ accepts. absurd (some (number ∙ accepts)) }
 
-  module _ (t : Keyed) (hash : ℕ) (found : Found) (e : t ≡ keyedOf h) (hashed : hash ≡ compact (keyHash key)) (f : FoundIs t rows keys key hash found) where
-    found-is : FoundIs (keyedOf h) rows keys key hash found
+  module _ (t : IndexShape) (hash : ℕ) (found : Found) (e : t ≡ indexShapeOf h) (hashed : hash ≡ compactHash (keyHash key)) (f : FoundIs t rows keys key hash found) where
+    found-is : FoundIs (indexShapeOf h) rows keys key hash found
     found-is = rw e at f
 
-    module _ (sound : KeysSound (keyedOf h) rows keys) (differ : KeysDiffer h rows) where
+    module _ (sound : KeysSound (indexShapeOf h) rows keys) (differ : KeysDiffer h rows) where
       none-found : found ≡ None → lookup (ofRows h rows) key ≡ none
       none-found q = none-read h rows key (found-is .none hashed sound q)
 
@@ -76,18 +76,18 @@ module _ (h : Header) (rows keys key : List ℕ) where
           row-read h rows key differ row (a .live) (a .key-is)
 
     pub row-none : (n : ℕ) → n ≡ lookupRefusal h (length rows) (length keys) (length key) → n ≡ 0 → found ≡ None → LookedUp h rows keys key NoRow
-    unfolding rowSays
+    unfolding rowView
     row-none n number zero-is q =
         record {
-          refusal = verdict-accepted _ _ none refl (sym number ∙ zero-is);
+          refusal = outcome-accepted _ _ none refl (sym number ∙ zero-is);
           table = λ accepts sound differ. rw (none-found sound differ q);
         }
 
     pub row-some : (n row slot : ℕ) → n ≡ lookupRefusal h (length rows) (length keys) (length key) → n ≡ 0 → found ≡ At row slot → LookedUp h rows keys key (Row row)
-    unfolding rowSays
+    unfolding rowView
     row-some n row slot number zero-is q =
         record {
-          refusal = verdict-accepted _ _ (one row) refl (sym number ∙ zero-is);
+          refusal = outcome-accepted _ _ (one row) refl (sym number ∙ zero-is);
           table = λ accepts sound differ. rw (row-found sound differ row slot q);
         }
 
@@ -96,10 +96,10 @@ module _ (h : Header) (rows keys key : List ℕ) where
       readable = cell-accepted h _ _ _ column (sym number ∙ zero-is)
 
       pub cell-none : found ≡ None → CellRead h rows keys key column NoCell
-      unfolding cellSays
+      unfolding cellView
       cell-none q =
           record {
-            refusal = verdict-accepted _ _ none refl (sym number ∙ zero-is);
+            refusal = outcome-accepted _ _ none refl (sym number ∙ zero-is);
             table = λ accepts sound differ. rw (none-found sound differ q);
           }
 
@@ -117,10 +117,10 @@ module _ (h : Header) (rows keys key : List ℕ) where
           }
 
       pub cell-found : (row slot : ℕ) → found ≡ At row slot → CellRead h rows keys key column (Cell (getD rows (row * h .columns + column) 0))
-      unfolding cellSays
+      unfolding cellView
       cell-found row slot q =
           record {
-            refusal = verdict-accepted _ _ (one _) refl (sym number ∙ zero-is);
+            refusal = outcome-accepted _ _ (one _) refl (sym number ∙ zero-is);
             table = λ accepts sound differ. rw (row-found sound differ row slot q, getD-rowAt (h .columns) row rows column 0 (readable .column-there));
           }
 
@@ -128,14 +128,14 @@ module _ (h : Header) (rows keys key : List ℕ) where
 
 module _ (h : Header) (sorts : List ℕ) (c : Constraint) (n : ℕ) (number : n ≡ fastRefusal h (length sorts) c) where
   pub range-refused : (n ≡ 0 → ⊥) → RangeRead h sorts c (RangeRefused n)
-  unfolding rangeSays
+  unfolding rangeView
   range-refused some =
-      record { refusal = verdict-refused _ _ n refl number some; table = λ accepts. absurd (some (number ∙ accepts)) }
+      record { refusal = outcome-refused _ _ n refl number some; table = λ accepts. absurd (some (number ∙ accepts)) }
 
   module _ (zero-is : n ≡ 0) where
     -- what the search requires
-    pub range-asks : Held sorts (h .entries)
-    range-asks =
+    pub range-pre : EntriesFit sorts (h .entries)
+    range-pre =
         let a = fast-accepted h (length sorts) c (sym number ∙ zero-is) in
         let i = a .inside in
         record {
@@ -144,23 +144,23 @@ module _ (h : Header) (sorts : List ℕ) (c : Constraint) (n : ℕ) (number : n 
         }
 
     pub range-columns : c .kind ≡ 0 → RangeRead h sorts c NoRange
-    unfolding rangeSays fastSubset
+    unfolding rangeView fastSubset
     range-columns kind =
-        record { refusal = verdict-accepted _ _ none refl (sym number ∙ zero-is); table = λ accepts sound. rw (eq-eqb _ _ kind) }
+        record { refusal = outcome-accepted _ _ none refl (sym number ∙ zero-is); table = λ accepts sound. rw (eq-eqb _ _ kind) }
 
     pub range-other : (c .kind ≡ 0 → ⊥) → (c .column ≡ h .sort → ⊥) → RangeRead h sorts c NoRange
-    unfolding rangeSays fastSubset
+    unfolding rangeView fastSubset
     range-other kind column =
         record {
-          refusal = verdict-accepted _ _ none refl (sym number ∙ zero-is);
+          refusal = outcome-accepted _ _ none refl (sym number ∙ zero-is);
           table = λ accepts sound. rw (ne-eqb _ _ kind, ne-eqb _ _ column);
         }
 
     pub range-some : (c .kind ≡ 0 → ⊥) → c .column ≡ h .sort → (r : Rows) → Ranged sorts (h .entries) (h .rows) (c .kind) (c .value) r → RangeRead h sorts c (Range (r .start) (r .end))
-    unfolding rangeSays fastSubset
+    unfolding rangeView fastSubset
     range-some kind column r ranged =
         record {
-          refusal = verdict-accepted _ _ (one (range (r .start) (r .end))) refl (sym number ∙ zero-is);
+          refusal = outcome-accepted _ _ (one (range (r .start) (r .end))) refl (sym number ∙ zero-is);
           table = λ accepts sound. rw (ne-eqb _ _ kind, eq-eqb _ _ column, ranged .is sound);
         }
 
@@ -168,25 +168,25 @@ module _ (h : Header) (sorts : List ℕ) (c : Constraint) (n : ℕ) (number : n 
 
 module _ (h : Header) (n : ℕ) where
   pub version-refused : n ≡ versionRefusal h → (n ≡ 0 → ⊥) → VersionRead h (VersionRefused n)
-  unfolding versionSays
+  unfolding versionView
   version-refused number some = record { answers = reply-refused _ _ n _ refl number some }
 
-  pub version-told : n ≡ versionRefusal h → n ≡ 0 → VersionRead h (Versioned (record { generation = h .generation; rows = h .rows }))
-  unfolding versionSays
-  version-told number zero-is = record { answers = reply-accepted _ _ _ refl (sym number ∙ zero-is) }
+  pub version-answered : n ≡ versionRefusal h → n ≡ 0 → VersionRead h (Versioned (record { generation = h .generation; rows = h .rows }))
+  unfolding versionView
+  version-answered number zero-is = record { answers = reply-accepted _ _ _ refl (sym number ∙ zero-is) }
 
   pub since-refused : (row : ℕ) → n ≡ sinceRefusal h row → (n ≡ 0 → ⊥) → RowsSince h row (RangeRefused n)
-  unfolding rangeSays
+  unfolding rangeView
   since-refused row number some = record { answers = reply-refused _ _ n _ refl number some }
 
-  pub since-told : (row : ℕ) → n ≡ sinceRefusal h row → n ≡ 0 → RowsSince h row (Range row (h .rows))
-  unfolding rangeSays
-  since-told row number zero-is = record { answers = reply-accepted _ _ _ refl (sym number ∙ zero-is) }
+  pub since-answered : (row : ℕ) → n ≡ sinceRefusal h row → n ≡ 0 → RowsSince h row (Range row (h .rows))
+  unfolding rangeView
+  since-answered row number zero-is = record { answers = reply-accepted _ _ _ refl (sym number ∙ zero-is) }
 
   pub noted-refused : (generation count : ℕ) → n ≡ notedRefusal h generation count → (n ≡ 0 → ⊥) → RowsSinceVersion h generation count (RangeRefused n)
-  unfolding rangeSays
+  unfolding rangeView
   noted-refused generation count number some = record { answers = reply-refused _ _ n _ refl number some }
 
-  pub noted-told : (generation count : ℕ) → n ≡ notedRefusal h generation count → n ≡ 0 → RowsSinceVersion h generation count (Range count (h .rows))
-  unfolding rangeSays
-  noted-told generation count number zero-is = record { answers = reply-accepted _ _ _ refl (sym number ∙ zero-is) }
+  pub noted-answered : (generation count : ℕ) → n ≡ notedRefusal h generation count → n ≡ 0 → RowsSinceVersion h generation count (Range count (h .rows))
+  unfolding rangeView
+  noted-answered generation count number zero-is = record { answers = reply-accepted _ _ _ refl (sym number ∙ zero-is) }

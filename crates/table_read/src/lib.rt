@@ -1,6 +1,6 @@
 // Reads of a table by its header and its key store or sort entries: `get_row`, `get_row_column`, `fast_subset`, `version` and
 // `updates_since` of table/mod.rs, and the rows since a noted version.
-ghost use Rattle.table.specs.Promises.{LookedUp, CellRead, RangeRead, VersionRead, RowsSince, RowsSinceVersion};
+ghost use Rattle.table.specs.Contracts.{LookedUp, CellRead, RangeRead, VersionRead, RowsSince, RowsSinceVersion};
 use constraints::Constraint;
 use key_index::Found;
 use table::CellAnswer;
@@ -9,7 +9,7 @@ use table::RangeAnswer;
 use table::RowAnswer;
 use table::Version;
 use table::VersionAnswer;
-use table::keyed;
+use table::index_shape;
 use table::refusing::cell_refusal;
 use table::refusing::fast_refusal;
 use table::refusing::lookup_refusal;
@@ -25,7 +25,7 @@ pub fn get_row(h: Header, rows: &[u32], keys: &[u32], key: &[u32]) -> RowAnswer
     if refusal != 0 {
         return RowAnswer::Refused(refusal);
     }
-    let found = key_index::find(keyed(h), rows, keys, key, cells::compact_hash(key));
+    let found = key_index::find(index_shape(h), rows, keys, key, cells::compact_hash(key));
     match found {
         Found::None => RowAnswer::None,
         Found::At(row, slot) => RowAnswer::Row(row),
@@ -40,7 +40,7 @@ pub fn get_row_column(h: Header, rows: &[u32], keys: &[u32], key: &[u32], column
     if refusal != 0 {
         return CellAnswer::Refused(refusal);
     }
-    let found = key_index::look_up(keyed(h), rows, keys, key, cells::compact_hash(key));
+    let found = key_index::look_up(index_shape(h), rows, keys, key, cells::compact_hash(key));
     match found {
         Found::None => CellAnswer::None,
         Found::At(row, slot) => {

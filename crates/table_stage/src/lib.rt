@@ -4,11 +4,11 @@ ghost use mathlib.Core.Path.{_≡_};
 ghost use Prim.Native.Nat.{_+_, _≤_};
 ghost use mathlib.Core.List.{[], _∷_};
 ghost use lib.ListN.{length};
-ghost use Rattle.lists.specs.Lists.{putAt};
+ghost use Rattle.lists.specs.Lists.{splice};
 ghost use Rattle.plain_table.specs.Staged.{insert, removeKey, removeRow};
 ghost use Rattle.plain_table.specs.Refusing.{overfull};
-ghost use Rattle.table_stage.specs.inner.Staging.{ladder};
-ghost use Rattle.table.specs.Promises.{Staging};
+ghost use Rattle.table_stage.specs.inner.Staging.{recordRefusal};
+ghost use Rattle.table.specs.Contracts.{Staging};
 use table::Header;
 use table::INSERT;
 use table::REMOVE_KEY;
@@ -31,7 +31,7 @@ pub fn is_overfull(used: u32, pending: usize, width: u32, more: u32) -> bool
 // *Stage*: returns the first refusal of a record with `cells` cells where `width` are required, and with `more` words before them.
 // `gone` is whether the record names a row that does not exist.
 fn stage_refusal(h: Header, pending: usize, cells: usize, width: u32, gone: bool, more: u32) -> u32
-    ensures { λ r. ⌜ r ≡ ladder h pending cells width gone more ⌝ }
+    ensures { λ r. ⌜ r ≡ recordRefusal h pending cells width gone more ⌝ }
 {
     if is_pending_outside(h, pending) {
         return 1;
@@ -51,7 +51,7 @@ fn stage_refusal(h: Header, pending: usize, cells: usize, width: u32, gone: bool
 // Writes the words of a record that precede its cells.
 fn write_head(pending: &mut [u32], at: usize, kind: u32, hash: u32)
     requires { ⌜ at + 2 ≤ length (now pending) ⌝ }
-    ensures { λ _. ⌜ now (pending .exit) ≡ putAt (now (pending .entry)) at (kind ∷ hash ∷ []) ⌝ }
+    ensures { λ _. ⌜ now (pending .exit) ≡ splice (now (pending .entry)) at (kind ∷ hash ∷ []) ⌝ }
 {
     pending[at] = kind;
     pending[at + 1] = hash;
@@ -60,7 +60,7 @@ fn write_head(pending: &mut [u32], at: usize, kind: u32, hash: u32)
 // Writes the words of a removal by row that precede its key.
 fn write_row_head(pending: &mut [u32], at: usize, hash: u32, row: u32)
     requires { ⌜ at + 3 ≤ length (now pending) ⌝ }
-    ensures { λ _. ⌜ now (pending .exit) ≡ putAt (now (pending .entry)) at (2 ∷ hash ∷ row ∷ []) ⌝ }
+    ensures { λ _. ⌜ now (pending .exit) ≡ splice (now (pending .entry)) at (2 ∷ hash ∷ row ∷ []) ⌝ }
 {
     pending[at] = REMOVE_ROW;
     pending[at + 1] = hash;
@@ -70,7 +70,7 @@ fn write_row_head(pending: &mut [u32], at: usize, hash: u32, row: u32)
 // Writes an insert or a removal by key.
 pub fn write_record(pending: &mut [u32], at: usize, kind: u32, hash: u32, cells: &[u32])
     requires { ⌜ at + (length (now cells) + 2) ≤ length (now pending) ⌝ }
-    ensures { λ _. ⌜ now (pending .exit) ≡ putAt (now (pending .entry)) at (kind ∷ hash ∷ now (cells .entry)) ⌝ }
+    ensures { λ _. ⌜ now (pending .exit) ≡ splice (now (pending .entry)) at (kind ∷ hash ∷ now (cells .entry)) ⌝ }
 {
     write_head(pending, at, kind, hash);
     row_buffer::write_row(pending, at + 2, cells);
@@ -79,7 +79,7 @@ pub fn write_record(pending: &mut [u32], at: usize, kind: u32, hash: u32, cells:
 // Writes a removal by row.
 pub fn write_row_record(pending: &mut [u32], at: usize, hash: u32, row: u32, key: &[u32])
     requires { ⌜ at + (length (now key) + 3) ≤ length (now pending) ⌝ }
-    ensures { λ _. ⌜ now (pending .exit) ≡ putAt (now (pending .entry)) at (2 ∷ hash ∷ row ∷ now (key .entry)) ⌝ }
+    ensures { λ _. ⌜ now (pending .exit) ≡ splice (now (pending .entry)) at (2 ∷ hash ∷ row ∷ now (key .entry)) ⌝ }
 {
     write_row_head(pending, at, hash, row);
     row_buffer::write_row(pending, at + 3, key);

@@ -4,16 +4,16 @@ ghost use mathlib.Core.Path.{_≡_};
 ghost use mathlib.Core.List.{[], _∷_};
 ghost use Prim.Native.Nat.{_+_, _≤_, _<_};
 ghost use lib.ListN.{length, take, drop};
-ghost use Rattle.lists.specs.Lists.{putAt};
+ghost use Rattle.lists.specs.Lists.{splice};
 ghost use Rattle.row_buffer.specs.Ranks.{setBelow};
-ghost use Rattle.cells.specs.Cells.{isDead, compact, probed, keyHash};
+ghost use Rattle.cells.specs.Cells.{isDead, compactHash, probed, keyHash};
 ghost use Rattle.constraints.specs.Constraints.{known, meets};
 ghost use Rattle.merge_rules.specs.Rules.{changesFrom, survivor};
 ghost use Rattle.test_probes.specs.inner.Parts.{MadeInto, Survives, Sized};
 ghost use mathlib.Core.Bool.{true};
 use constraints::Constraint;
 use key_index::Found;
-use key_index::Keyed;
+use key_index::IndexShape;
 
 #[no_mangle]
 pub extern "C" fn mouldgrey_is_stale(first: u32) -> bool
@@ -24,7 +24,7 @@ pub extern "C" fn mouldgrey_is_stale(first: u32) -> bool
 
 #[no_mangle]
 pub extern "C" fn mouldgrey_from_full(full: u64) -> u32
-    ensures { λ r. ⌜ r ≡ compact full ⌝ }
+    ensures { λ r. ⌜ r ≡ compactHash full ⌝ }
 {
     cells::from_full(full)
 }
@@ -45,7 +45,7 @@ pub extern "C" fn mouldgrey_key_hash(key: &[u32]) -> u64
 
 #[no_mangle]
 pub extern "C" fn mouldgrey_compact_hash(key: &[u32]) -> u32
-    ensures { λ r. ⌜ r ≡ compact (keyHash (now (key .entry))) ⌝ }
+    ensures { λ r. ⌜ r ≡ compactHash (keyHash (now (key .entry))) ⌝ }
 {
     cells::compact_hash(key)
 }
@@ -140,7 +140,7 @@ fn copy_survivor<'a>(
     out: &mut [u32],
 )
     requires { ⌜ (old + width ≤ length (now rows)) × (new + width ≤ length (now pending)) × (width ≤ length (now out)) × (rule ≤ 1) ⌝ }
-    ensures { λ _. ⌜ now (out .exit) ≡ putAt (now (out .entry)) 0 (survivor rule keys sort (take width (drop old (now (rows .entry)))) (take width (drop new (now (pending .entry))))) ⌝ }
+    ensures { λ _. ⌜ now (out .exit) ≡ splice (now (out .entry)) 0 (survivor rule keys sort (take width (drop old (now (rows .entry)))) (take width (drop new (now (pending .entry))))) ⌝ }
 {
     let row = merge_rules::surviving_row(rule, keys, sort, width, rows, old, pending, new);
     row_buffer::write_row(out, 0, row);
@@ -190,7 +190,7 @@ pub const UNFIT: u64 = 0xffff_ffff_ffff_ffff;
 pub const NONE: u64 = 0xffff_ffff_ffff_fffe;
 
 // True if a table's numbers are within their bounds, and its stores are long enough.
-fn fits(t: Keyed, rows: usize, store: usize) -> bool
+fn fits(t: IndexShape, rows: usize, store: usize) -> bool
     ensures { λ r. ⌜ (r ≡ true → Sized t rows store) ⌝ }
 {
     if t.columns < 1 {
@@ -234,7 +234,7 @@ pub extern "C" fn mouldgrey_find(
     store: &[u32],
     key: &[u32],
 ) -> u64 {
-    let t = Keyed {
+    let t = IndexShape {
         columns,
         keys,
         room,
@@ -268,7 +268,7 @@ pub extern "C" fn mouldgrey_put(room: u32, store: &mut [u32], key: &[u32], row: 
     if 65535 < row {
         return UNFIT;
     }
-    let t = Keyed {
+    let t = IndexShape {
         columns: 1,
         keys: 1,
         room,
@@ -306,7 +306,7 @@ pub extern "C" fn mouldgrey_take_out(
     store: &mut [u32],
     slot: u32,
 ) -> u64 {
-    let t = Keyed {
+    let t = IndexShape {
         columns,
         keys,
         room,
@@ -318,7 +318,7 @@ pub extern "C" fn mouldgrey_take_out(
     if 2 * room <= slot {
         return UNFIT;
     }
-    key_remove::take_out(t, rows, store, slot);
+    key_remove::remove_row(t, rows, store, slot);
     1
 }
 
@@ -347,7 +347,7 @@ pub extern "C" fn mouldgrey_renumber(
     if base.len() < words {
         return UNFIT;
     }
-    let t = Keyed {
+    let t = IndexShape {
         columns: 1,
         keys: 1,
         room,

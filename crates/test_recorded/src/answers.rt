@@ -1,14 +1,14 @@
 // Compares answers with those of the recorded list, and counts how many agree.
-use test_recorded_calls::lines::Said;
-use test_recorded_calls::lines::UNASKED;
-use test_recorded_calls::lines::further;
+use test_recorded_calls::lines::Answer;
+use test_recorded_calls::lines::NOT_COMPARED;
+use test_recorded_calls::lines::add_offset;
 use test_recorded_calls::lines::part;
 use test_recorded_calls::lines::read_line;
 
 // How many answers the list has, how many were compared, and how many agreed.
 pub struct Counts {
     pub answers: u64,
-    pub asked: u64,
+    pub compared: u64,
     pub agreed: u64,
 }
 
@@ -20,16 +20,16 @@ fn one_more(count: u64) -> u64 {
 }
 
 // The counts, and the offset after the answer's line.
-pub struct Judged {
+pub struct Comparison {
     pub counts: Counts,
     pub place: usize,
 }
 
-fn counted(counts: Counts, is_asked: bool, agrees: bool) -> Counts {
+fn counted(counts: Counts, is_compared: bool, agrees: bool) -> Counts {
     let mut after = counts;
     after.answers = one_more(counts.answers);
-    if is_asked {
-        after.asked = one_more(counts.asked);
+    if is_compared {
+        after.compared = one_more(counts.compared);
     }
     if agrees {
         after.agreed = one_more(counts.agreed);
@@ -38,28 +38,40 @@ fn counted(counts: Counts, is_asked: bool, agrees: bool) -> Counts {
 }
 
 // True if the numbers of an answer are those of a line.
-fn is_same(said: Said, out: &[u32], numbers: &[u32]) -> bool {
-    let first = [said.first, said.second, said.third, said.fourth, said.fifth];
-    if numbers.len() != further(said.count, said.more) {
+fn is_same(reply: Answer, out: &[u32], numbers: &[u32]) -> bool {
+    let first = [
+        reply.first,
+        reply.second,
+        reply.third,
+        reply.fourth,
+        reply.fifth,
+    ];
+    if numbers.len() != add_offset(reply.count, reply.more) {
         return false;
     }
-    if !row_buffer::same_cells(part(&first, 0, said.count), part(numbers, 0, said.count)) {
+    if !row_buffer::same_cells(part(&first, 0, reply.count), part(numbers, 0, reply.count)) {
         return false;
     }
-    let more = part(out, 0, further(0, said.more));
-    row_buffer::same_cells(more, part(numbers, said.count, numbers.len()))
+    let more = part(out, 0, add_offset(0, reply.more));
+    row_buffer::same_cells(more, part(numbers, reply.count, numbers.len()))
 }
 
 // Compares the answer with the list's line at `place`.
-pub fn judge(counts: Counts, said: Said, out: &[u32], text: &[u8], place: usize) -> Judged {
+pub fn compare(
+    counts: Counts,
+    reply: Answer,
+    out: &[u32],
+    text: &[u8],
+    place: usize,
+) -> Comparison {
     let mut numbers = [0u32; 64];
     let line = read_line(text, place, &mut numbers);
     let mut agrees = false;
-    if said.letter == line.letter {
-        agrees = is_same(said, out, part(&numbers, 0, line.count));
+    if reply.letter == line.letter {
+        agrees = is_same(reply, out, part(&numbers, 0, line.count));
     }
-    Judged {
-        counts: counted(counts, said.letter != UNASKED, agrees),
+    Comparison {
+        counts: counted(counts, reply.letter != NOT_COMPARED, agrees),
         place: line.next,
     }
 }

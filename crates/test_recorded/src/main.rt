@@ -4,13 +4,13 @@
 use answers::Counts;
 use libc::STDIN_FILENO;
 use libc::STDOUT_FILENO;
+use steps::State;
+use steps::step;
 use table::Header;
 use table::Largest;
-use turns::State;
-use turns::turn;
 
 mod answers; // answers.rt: answers compared with those of the list
-mod turns; // turns.rt: a line and its answer
+mod steps; // turns.rt: a line and its answer
 
 // The header before the first opening. Every operation refuses it.
 fn no_table() -> Header {
@@ -36,7 +36,7 @@ fn write_count(count: u64, text: &[u8]) {
 
 fn write_counts(counts: Counts) {
     write_count(counts.answers, b" recorded answers\n");
-    write_count(counts.asked, b" of them asked for here\n");
+    write_count(counts.compared, b" of them compared for here\n");
     write_count(counts.agreed, b" agreed\n");
 }
 
@@ -52,18 +52,18 @@ fn main() {
         place: 0,
         counts: Counts {
             answers: 0,
-            asked: 0,
+            compared: 0,
             agreed: 0,
         },
         is_over: false,
     };
-    let mut turns = 65536u32;
-    while turns > 0 {
-        state = turn(state, &text, &mut rows, &mut keys, &mut sorts, &mut pending);
+    let mut steps = 65536u32;
+    while steps > 0 {
+        state = step(state, &text, &mut rows, &mut keys, &mut sorts, &mut pending);
         if state.is_over {
             break;
         }
-        turns -= 1;
+        steps -= 1;
     }
     let counts = state.counts;
     write_counts(counts);

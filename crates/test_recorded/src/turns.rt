@@ -1,13 +1,13 @@
 // One step of the program `recorded`: a line of the recorded list, the call or query in it, and its answer.
 use super::answers::Counts;
-use super::answers::judge;
+use super::answers::compare;
 use table::Header;
 use test_recorded_calls::call;
 use test_recorded_calls::is_call;
-use test_recorded_calls::lines::Said;
+use test_recorded_calls::lines::Answer;
 use test_recorded_calls::lines::part;
 use test_recorded_calls::lines::read_line;
-use test_recorded_calls::queries::ask;
+use test_recorded_calls::queries::run_query;
 
 // Makes a call or query, dispatched by its letter.
 fn serve(
@@ -19,11 +19,11 @@ fn serve(
     sorts: &mut [u32],
     pending: &mut [u32],
     out: &mut [u32],
-) -> Said {
+) -> Answer {
     if is_call(letter) {
         return call(h, letter, numbers, rows, keys, sorts, pending);
     }
-    ask(h, letter, numbers, rows, keys, sorts, out)
+    run_query(h, letter, numbers, rows, keys, sorts, out)
 }
 
 // The table, the offset in the list, and the counts.
@@ -35,7 +35,7 @@ pub struct State {
 }
 
 // Processes a call or query and its answer: two lines.
-pub fn turn(
+pub fn step(
     state: State,
     text: &[u8; 65536],
     rows: &mut [u32; 512],
@@ -60,13 +60,13 @@ pub fn turn(
         };
     }
     let given = part(&numbers, 0, line.count);
-    let said = serve(header, letter, given, rows, keys, sorts, pending, &mut out);
-    let left = said.header;
-    let judged = judge(counts, said, &out, text, answer);
-    let now = judged.counts;
+    let reply = serve(header, letter, given, rows, keys, sorts, pending, &mut out);
+    let left = reply.header;
+    let comparison = compare(counts, reply, &out, text, answer);
+    let now = comparison.counts;
     State {
         header: left,
-        place: judged.place,
+        place: comparison.place,
         counts: now,
         is_over: false,
     }

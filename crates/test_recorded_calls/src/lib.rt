@@ -1,10 +1,10 @@
 // Makes the calls of the recorded list on the library. Returns each answer in the list's form.
-use lines::Said;
+use lines::Answer;
+use lines::answer_bare;
+use lines::answer_three;
 use lines::number_at;
 use lines::part;
 use lines::refused;
-use lines::tell;
-use lines::tell_three;
 use table::Header;
 use table::MergeAnswer;
 use table::TableAnswer;
@@ -13,39 +13,39 @@ pub mod lines; // lines.rt: the lines of the list
 pub mod lookups; // lookups.rt: its lookups, ranges and versions
 pub mod queries; // queries.rt: its questions
 
-fn taken(h: Header, answer: TableAnswer) -> Said {
+fn answer_table(h: Header, answer: TableAnswer) -> Answer {
     match answer {
         TableAnswer::Refused(number) => refused(h, number),
-        TableAnswer::Table(after) => tell(after, b'D'),
+        TableAnswer::Table(after) => answer_bare(after, b'D'),
     }
 }
 
 // I, R and K.
-fn stage(h: Header, letter: u8, numbers: &[u32], pending: &mut [u32]) -> Said {
+fn stage(h: Header, letter: u8, numbers: &[u32], pending: &mut [u32]) -> Answer {
     if letter == b'I' {
-        return taken(h, table_stage::stage_insert(h, pending, numbers));
+        return answer_table(h, table_stage::stage_insert(h, pending, numbers));
     }
     if letter == b'R' {
-        return taken(h, table_stage::stage_remove(h, pending, numbers));
+        return answer_table(h, table_stage::stage_remove(h, pending, numbers));
     }
     let row = number_at(numbers, 0);
     let key = part(numbers, 1, numbers.len());
-    taken(h, table_stage::stage_remove_row(h, pending, row, key))
+    answer_table(h, table_stage::stage_remove_row(h, pending, row, key))
 }
 
 fn digit_of(yes: bool) -> u32 {
     if yes { 1 } else { 0 }
 }
 
-fn merge_told(h: Header, answer: MergeAnswer) -> Said {
+fn answer_merge(h: Header, answer: MergeAnswer) -> Answer {
     match answer {
         MergeAnswer::Refused(number) => refused(h, number),
         MergeAnswer::Merged(m) => {
-            let mut said = tell_three(m.header, b'M', m.status, digit_of(m.added), m.place);
-            said.fourth = m.kept;
-            said.fifth = m.dropped;
-            said.count = 5;
-            said
+            let mut reply = answer_three(m.header, b'M', m.status, digit_of(m.added), m.place);
+            reply.fourth = m.kept;
+            reply.fifth = m.dropped;
+            reply.count = 5;
+            reply
         }
     }
 }
@@ -57,19 +57,19 @@ fn merge_pending(
     keys: &mut [u32],
     sorts: &mut [u32],
     pending: &[u32],
-) -> Said {
+) -> Answer {
     let mut live = [0u64; 1];
     let mut base = [0u32; 1];
     let answer = merge::merge(h, rows, keys, sorts, pending, &mut live, &mut base);
-    merge_told(h, answer)
+    answer_merge(h, answer)
 }
 
 // G, with compaction words for the same capacity.
-fn compact(h: Header, rows: &mut [u32], keys: &mut [u32], sorts: &mut [u32]) -> Said {
+fn compact(h: Header, rows: &mut [u32], keys: &mut [u32], sorts: &mut [u32]) -> Answer {
     let mut live = [0u64; 1];
     let mut base = [0u32; 1];
     let answer = table_compact::compact(h, rows, keys, sorts, &mut live, &mut base);
-    taken(h, answer)
+    answer_table(h, answer)
 }
 
 fn is_emptying(letter: u8) -> bool {
@@ -88,9 +88,9 @@ fn empty(
     keys: &mut [u32],
     sorts: &[u32],
     pending: &[u32],
-) -> Said {
+) -> Answer {
     if letter == b'C' {
-        return taken(h, table_open::clear(h, keys));
+        return answer_table(h, table_open::clear(h, keys));
     }
     let opened = table_open::open_table(
         number_at(numbers, 0),
@@ -104,7 +104,7 @@ fn empty(
         sorts,
         pending,
     );
-    taken(h, opened)
+    answer_table(h, opened)
 }
 
 pub fn is_call(letter: u8) -> bool {
@@ -123,7 +123,7 @@ pub fn call(
     keys: &mut [u32],
     sorts: &mut [u32],
     pending: &mut [u32],
-) -> Said {
+) -> Answer {
     if letter == b'M' {
         return merge_pending(h, rows, keys, sorts, pending);
     }

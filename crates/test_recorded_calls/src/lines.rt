@@ -3,11 +3,11 @@
 use table::Header;
 
 // The letter of an answer that is not compared: the answer to a query with a list of conditions.
-pub const UNASKED: u8 = b'?';
+pub const NOT_COMPARED: u8 = b'?';
 
 // An answer: the header after it, the letter, its first numbers (`count` of them), and how many more are at the start of the lent
 // numbers.
-pub struct Said {
+pub struct Answer {
     pub header: Header,
     pub letter: u8,
     pub count: usize,
@@ -34,7 +34,7 @@ pub fn number_at(numbers: &[u32], place: usize) -> u32 {
 }
 
 // The offset `place` + `count`; 0 if one of them is 1,000 or more. No line has that many numbers.
-pub fn further(place: usize, count: u32) -> usize {
+pub fn add_offset(place: usize, count: u32) -> usize {
     if place < 1000 {
         if count < 1000 {
             return place + count as usize;
@@ -53,8 +53,8 @@ pub fn part<'a>(numbers: &'a [u32], from: usize, to: usize) -> &'a [u32] {
     &numbers[0..0]
 }
 
-pub fn tell_three(header: Header, letter: u8, first: u32, second: u32, third: u32) -> Said {
-    Said {
+pub fn answer_three(header: Header, letter: u8, first: u32, second: u32, third: u32) -> Answer {
+    Answer {
         header,
         letter,
         count: 3,
@@ -67,26 +67,26 @@ pub fn tell_three(header: Header, letter: u8, first: u32, second: u32, third: u3
     }
 }
 
-pub fn tell_two(header: Header, letter: u8, first: u32, second: u32) -> Said {
-    let mut said = tell_three(header, letter, first, second, 0);
-    said.count = 2;
-    said
+pub fn answer_two(header: Header, letter: u8, first: u32, second: u32) -> Answer {
+    let mut reply = answer_three(header, letter, first, second, 0);
+    reply.count = 2;
+    reply
 }
 
-pub fn tell_one(header: Header, letter: u8, number: u32) -> Said {
-    let mut said = tell_three(header, letter, number, 0, 0);
-    said.count = 1;
-    said
+pub fn answer_one(header: Header, letter: u8, number: u32) -> Answer {
+    let mut reply = answer_three(header, letter, number, 0, 0);
+    reply.count = 1;
+    reply
 }
 
-pub fn tell(header: Header, letter: u8) -> Said {
-    let mut said = tell_three(header, letter, 0, 0, 0);
-    said.count = 0;
-    said
+pub fn answer_bare(header: Header, letter: u8) -> Answer {
+    let mut reply = answer_three(header, letter, 0, 0, 0);
+    reply.count = 0;
+    reply
 }
 
-pub fn refused(header: Header, number: u32) -> Said {
-    tell_one(header, b'X', number)
+pub fn refused(header: Header, number: u32) -> Answer {
+    answer_one(header, b'X', number)
 }
 
 // A decimal with one more digit. Other bytes, and digits that do not fit, are skipped.

@@ -6,10 +6,10 @@ use mathlib.Core.List.{List}
 use native.Mathlib.Nat.{mul-comm, mul-zero, div-add-mod', mod-lt, div-lt-iff-lt-mul}
 use native.Mathlib.Omega.{arith}
 use lib.ListN.{length}
-use Rattle.lists.specs.Lists.{putAt}
+use Rattle.lists.specs.Lists.{splice}
 use Rattle.refusals.specs.Laws.Replies.{reply-refused, reply-accepted}
 use Rattle.vault.specs.declared.ColumnsAnswer.the-variants.{Refused, Written}
-use Rattle.vault.specs.Columns.{columnsRefusal, columnsSays, Rearranged}
+use Rattle.vault.specs.Columns.{columnsRefusal, columnsView, Rearranged}
 use Rattle.vault.specs.inner.Filling.{Shaped, Filled, ordered, placed}
 use Rattle.vault.specs.Laws.Inverse.{multiple, toColumns-length, fromColumns-length}
 use Rattle.vault.specs.Laws.Refusals.{Accepted, accepted}
@@ -24,21 +24,21 @@ located n (suc m) at h =
 module _ (order : ℕ → List ℕ → List ℕ) (width : ℕ) (cells output : List ℕ) where
   pub rearranged-refused : (number : ℕ) → number ≡ columnsRefusal width (length cells) (length output) → (number ≡ 0 → ⊥)
       → Rearranged order width cells output (Refused number) output
-  unfolding columnsSays
+  unfolding columnsView
   rearranged-refused number e some =
       record {
-        answers = reply-refused (columnsSays (Refused number)) _ number tt refl e some;
+        answers = reply-refused (columnsView (Refused number)) _ number tt refl e some;
         written = λ none. absurd (some (e ∙ none));
         unchanged = λ h. refl;
       }
 
   -- accepted, and all places written
-  rearranged-written : (output′ : List ℕ) → columnsRefusal width (length cells) (length output) ≡ 0 → output′ ≡ putAt output 0 (order width cells)
+  rearranged-written : (output′ : List ℕ) → columnsRefusal width (length cells) (length output) ≡ 0 → output′ ≡ splice output 0 (order width cells)
       → Rearranged order width cells output Written output′
-  unfolding columnsSays
+  unfolding columnsView
   rearranged-written output′ none e =
       record {
-        answers = reply-accepted (columnsSays Written) _ tt refl none;
+        answers = reply-accepted (columnsView Written) _ tt refl none;
         written = λ h. e;
         unchanged = λ h. absurd (omega arith);
       }

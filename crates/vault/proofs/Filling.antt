@@ -9,8 +9,8 @@ use native.Mathlib.Numerals.{add-one}
 use native.Mathlib.Omega.{arith}
 use lib.ListN.{length, getD, set, length-set}
 use lib.Seq.{getD-set-same, getD-set-other, ext-getD}
-use Rattle.lists.specs.Lists.{putAt}
-use Rattle.lists.specs.Laws.Parts.{length-putAt, getD-putAt-in, getD-putAt-after}
+use Rattle.lists.specs.Lists.{splice}
+use Rattle.lists.specs.Laws.Parts.{length-splice, getD-splice-in, getD-splice-after}
 use Rattle.lists.specs.Laws.Rows.{row-in}
 use Rattle.vault.specs.Columns.{minus, plus, toColumns, fromColumns}
 use Rattle.vault.specs.inner.Filling.{cellAbove, Shaped, Within, byColumns, byRows, Filled, ordered, placed, Begun}
@@ -87,8 +87,8 @@ module _ {target : List ℕ} {place : ℕ → ℕ → ℕ} where
   -- all rows and columns: each place is that of a row and column
   pub filled-all : (rows columns : ℕ) (output output′ : List ℕ) → length target ≤ length output
       → ((at : ℕ) → at < length target → (row : ℕ) × (column : ℕ) × (row < rows) × (column < columns) × (at ≡ place row column))
-      → Filled target place 0 rows 0 columns output output′ → output′ ≡ putAt output 0 target
-  filled-all rows columns output output′ room where-is x = ext-getD 0 output′ (putAt output 0 target) (x .same ∙ sym (length-putAt output target 0 fits)) each
+      → Filled target place 0 rows 0 columns output output′ → output′ ≡ splice output 0 target
+  filled-all rows columns output output′ room where-is x = ext-getD 0 output′ (splice output 0 target) (x .same ∙ sym (length-splice output target 0 fits)) each
     where
       fits : 0 + length target ≤ length output
       fits = omega arith
@@ -96,10 +96,10 @@ module _ {target : List ℕ} {place : ℕ → ℕ → ℕ} where
       within : (at : ℕ) → at < length target → getD output′ at 0 ≡ getD target at 0
       within at h = let w = where-is at h in rw (w .4) (x .filled (w .0) (w .1) (omega arith) (w .2) (omega arith) (w .3))
 
-      each : (at : ℕ) → at < length output′ → getD output′ at 0 ≡ getD (putAt output 0 target) at 0
+      each : (at : ℕ) → at < length output′ → getD output′ at 0 ≡ getD (splice output 0 target) at 0
       each at h = elim (decLt at (length target)) [
-        | yes k ↦ within at k ∙ sym (getD-putAt-in output target 0 fits at 0 k) ∙ ap (λ (i : ℕ). getD (putAt output 0 target) i 0) (zero-add at)
-        | no k ↦ x .past at (omega arith) ∙ sym (getD-putAt-after output target 0 fits at 0 (omega arith))
+        | yes k ↦ within at k ∙ sym (getD-splice-in output target 0 fits at 0 k) ∙ ap (λ (i : ℕ). getD (splice output 0 target) i 0) (zero-add at)
+        | no k ↦ x .past at (omega arith) ∙ sym (getD-splice-after output target 0 fits at 0 (omega arith))
       ]
 
 -- ---- the cell above
@@ -173,24 +173,24 @@ still-shaped x s = record { some = s .some; whole = s .whole; room = omega (arit
 -- ---- down a column
 
 -- At the loop's test: the cell above, taken from the rows of the source; and the rows before this one filled.
-pub record Walking (source target : List ℕ) (place : ℕ → ℕ → ℕ) (width start end column : ℕ) (output output′ : List ℕ) (above row : ℕ) : Type 0 where
+pub record ColumnScan (source target : List ℕ) (place : ℕ → ℕ → ℕ) (width start end column : ℕ) (output output′ : List ℕ) (above row : ℕ) : Type 0 where
   pub after : start ≤ row
   pub before : row ≤ end
   pub cell : above ≡ cellAbove width column source row
   pub filled : Filled target place start row column (column + 1) output output′
 
-pub walk-begin : {source target : List ℕ} {place : ℕ → ℕ → ℕ} {width start end column : ℕ} {output : List ℕ} {above : ℕ} → start ≤ end → above ≡ cellAbove width column source start
-    → Walking source target place width start end column output output above start
-walk-begin h e = record { after = omega arith; before = h; cell = e; filled = filled-none }
+pub column-scan-begin : {source target : List ℕ} {place : ℕ → ℕ → ℕ} {width start end column : ℕ} {output : List ℕ} {above : ℕ} → start ≤ end → above ≡ cellAbove width column source start
+    → ColumnScan source target place width start end column output output above start
+column-scan-begin h e = record { after = omega arith; before = h; cell = e; filled = filled-none }
 
-pub walk-end : {source target : List ℕ} {place : ℕ → ℕ → ℕ} {width start end column : ℕ} {output output′ : List ℕ} {above row : ℕ}
-    → Walking source target place width start end column output output′ above row → end ≤ row → Filled target place start end column (column + 1) output output′
-walk-end x h = rows-end (x .filled) (x .before) h
+pub column-scan-end : {source target : List ℕ} {place : ℕ → ℕ → ℕ} {width start end column : ℕ} {output output′ : List ℕ} {above row : ℕ}
+    → ColumnScan source target place width start end column output output′ above row → end ≤ row → Filled target place start end column (column + 1) output output′
+column-scan-end x h = rows-end (x .filled) (x .before) h
 
 -- to column order
 abbrev pub Differencing : ℕ → ℕ → ℕ → ℕ → ℕ → List ℕ → List ℕ → List ℕ → ℕ → ℕ → Type 0
 Differencing width rows start end column cells output output′ above row =
-    Walking cells (toColumns width cells) (byColumns rows) width start end column output output′ above row
+    ColumnScan cells (toColumns width cells) (byColumns rows) width start end column output output′ above row
 
 minus-wraps : (r cell above : ℕ) → r < 2 ^ 32 → above < 2 ^ 32 → (r + above) % 2 ^ 32 ≡ cell → r ≡ minus cell above
 unfolding minus
@@ -199,7 +199,7 @@ minus-wraps r cell above h k e = omega arith
 -- back to row order
 abbrev pub Summing : ℕ → ℕ → ℕ → ℕ → List ℕ → List ℕ → List ℕ → ℕ → ℕ → Type 0
 Summing width start end column cells output output′ above row =
-    Walking (fromColumns width cells) (fromColumns width cells) (byRows width) width start end column output output′ above row
+    ColumnScan (fromColumns width cells) (fromColumns width cells) (byRows width) width start end column output output′ above row
 
 plus-wraps : (d above : ℕ) → (d + above) % 2 ^ 32 ≡ plus d above
 plus-wraps d above = unfold plus in refl
@@ -239,10 +239,10 @@ module _ {width rows start end column : ℕ} {cells output : List ℕ} (s : Shap
 -- ---- the direction
 
 module _ (back way : Bool) (e : back ≡ way) (width rows : ℕ) (cells output : List ℕ) where
-  pub asked-begun : (start : ℕ) → Begun back width rows start cells output → Begun way width rows start cells output
-  asked-begun start u = subst (λ (b : Bool). Begun b width rows start cells output) e u
+  pub direction-begun : (start : ℕ) → Begun back width rows start cells output → Begun way width rows start cells output
+  direction-begun start u = subst (λ (b : Bool). Begun b width rows start cells output) e u
 
-  pub asked-filled : (row row′ column column′ : ℕ) (output′ : List ℕ) → Filled (ordered way width cells) (placed way width rows) row row′ column column′ output output′
+  pub direction-filled : (row row′ column column′ : ℕ) (output′ : List ℕ) → Filled (ordered way width cells) (placed way width rows) row row′ column column′ output output′
       → Filled (ordered back width cells) (placed back width rows) row row′ column column′ output output′
-  asked-filled row row′ column column′ output′ x =
+  direction-filled row row′ column column′ output′ x =
       subst (λ (b : Bool). Filled (ordered b width cells) (placed b width rows) row row′ column column′ output output′) (sym e) x

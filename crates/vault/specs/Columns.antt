@@ -6,8 +6,8 @@ use mathlib.Core.Bool.{not, _||_}
 use mathlib.Core.List.{List, [], _∷_, map}
 use lib.ListN.{length, getD}
 use lib.Dec.{ltb, eqb}
-use Rattle.lists.specs.Lists.{putAt, rowsOf, flat, countFrom}
-use Rattle.refusals.specs.Refusals.{rung, first, Reply, refused, accepted, reply}
+use Rattle.lists.specs.Lists.{splice, rowsOf, flatten, iota}
+use Rattle.refusals.specs.Refusals.{check, firstRefusal, Reply, refused, accepted, reply}
 use Rattle.vault.specs.declared.ColumnsAnswer.{ColumnsAnswer}
 use Rattle.vault.specs.declared.ColumnsAnswer.the-variants.{Refused, Written}
 
@@ -43,32 +43,32 @@ column j rows = map (λ row. getD row j 0) rows
 
 -- the first n columns of rows; applied to columns, the rows
 unfoldable pub transposed : ℕ → List (List ℕ) → List (List ℕ)
-transposed n rows = map (λ j. column j rows) (countFrom 0 n)
+transposed n rows = map (λ j. column j rows) (iota 0 n)
 
 -- "a rearrangement of a list of rows: all cells of the first column, then the second, and so on"
 unfoldable pub toColumns : ℕ → List ℕ → List ℕ
-toColumns width cells = flat (map differences (transposed width (rowsOf width (length cells / width) cells)))
+toColumns width cells = flatten (map differences (transposed width (rowsOf width (length cells / width) cells)))
 
 -- "the inverse"
 unfoldable pub fromColumns : ℕ → List ℕ → List ℕ
-fromColumns width cells = flat (transposed (length cells / width) (map sums (rowsOf (length cells / width) width cells)))
+fromColumns width cells = flatten (transposed (length cells / width) (map sums (rowsOf (length cells / width) width cells)))
 
 -- "1, a width outside 1 to 8, then 13, a length that is not a multiple of the width, then 2, an output shorter than the
 -- input"
 unfoldable pub columnsRefusal : ℕ → ℕ → ℕ → ℕ
 columnsRefusal width cells output =
-    first (rung (ltb width 1 || ltb 8 width) 1 ∷ rung (not (eqb (cells % width) 0)) 13 ∷ rung (ltb output cells) 2 ∷ [])
+    firstRefusal (check (ltb width 1 || ltb 8 width) 1 ∷ check (not (eqb (cells % width) 0)) 13 ∷ check (ltb output cells) 2 ∷ [])
 
 -- the answer as a reply
-unfoldable pub columnsSays : ColumnsAnswer → Reply (Unit {0})
-columnsSays (Refused n) = refused n
-columnsSays Written = accepted tt
+unfoldable pub columnsView : ColumnsAnswer → Reply (Unit {0})
+columnsView (Refused n) = refused n
+columnsView Written = accepted tt
 
 -- Contract of either direction: the cells in the other order at the start of the output, and nothing changed past them; on refusal
 -- nothing changed at all.
 pub record Rearranged (order : ℕ → List ℕ → List ℕ) (width : ℕ) (cells output : List ℕ) (answer : ColumnsAnswer) (output′ : List ℕ) : Type 0 where
-  pub answers : columnsSays answer ≡ reply (columnsRefusal width (length cells) (length output)) tt
-  pub written : columnsRefusal width (length cells) (length output) ≡ 0 → output′ ≡ putAt output 0 (order width cells)
+  pub answers : columnsView answer ≡ reply (columnsRefusal width (length cells) (length output)) tt
+  pub written : columnsRefusal width (length cells) (length output) ≡ 0 → output′ ≡ splice output 0 (order width cells)
   pub unchanged : 0 < columnsRefusal width (length cells) (length output) → output′ ≡ output
 
 -- "Applying either after the other restores the cells for every list and every width from 1 to 8": for every width but 0 that
@@ -80,6 +80,6 @@ Restores = (width : ℕ) (cells : List ℕ) → 0 < width → length cells % wid
 -- The same for two calls: the result of the second call, on the cells that the first wrote. It is refused with no number but 2, and
 -- with 2 exactly if its output is shorter than the cells
 pub record Restored (cells output : List ℕ) (answer : ColumnsAnswer) (output′ : List ℕ) : Type 0 where
-  pub answers : columnsSays answer ≡ reply (first (rung (ltb (length output) (length cells)) 2 ∷ [])) tt
-  pub written : length cells ≤ length output → output′ ≡ putAt output 0 cells
+  pub answers : columnsView answer ≡ reply (firstRefusal (check (ltb (length output) (length cells)) 2 ∷ [])) tt
+  pub written : length cells ≤ length output → output′ ≡ splice output 0 cells
   pub unchanged : length output < length cells → output′ ≡ output

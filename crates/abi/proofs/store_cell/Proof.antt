@@ -1,6 +1,6 @@
 -- `abi::store_cell` meets its contract. Assumes nothing.
 use mathlib.Core.Path.{refl}
-use Rattle.table.specs.Numbers.{cellSays}
+use Rattle.table.specs.Numbers.{cellView}
 use Rattle.abi.specs.Encoding.{encodeOption, returned, stored}
 use Rattle.abi.specs.Laws.Encoding.{stored-as}
 use borrow.Author.Needs.{needs}
@@ -8,7 +8,7 @@ use Rattle.abi.proofs.store_cell.Statement.{statement}
 use Rattle.abi.proofs.store_cell.Tie as tie
 
 pub store-cell-spec : {M : Type 1} → statement M
-unfolding cellSays encodeOption returned stored
+unfolding cellView encodeOption returned stored
 store-cell-spec =
     tie.close
     (tie.spec

@@ -1,6 +1,6 @@
 -- `abi::store_match` meets its contract. Assumes nothing.
 use mathlib.Core.Path.{refl}
-use Rattle.query_spec.specs.Queries.{matchSays}
+use Rattle.query_spec.specs.Queries.{matchView}
 use Rattle.abi.specs.Encoding.{encodeBool, returned, stored}
 use Rattle.abi.specs.Laws.Encoding.{stored-as}
 use borrow.Author.Needs.{needs}
@@ -8,7 +8,7 @@ use Rattle.abi.proofs.store_match.Statement.{statement}
 use Rattle.abi.proofs.store_match.Tie as tie
 
 pub store-match-spec : {M : Type 1} → statement M
-unfolding matchSays encodeBool returned stored
+unfolding matchView encodeBool returned stored
 store-match-spec =
     tie.close
     (tie.spec

@@ -1,6 +1,6 @@
 -- `abi::store_merge` meets its contract. Assumes nothing.
 use mathlib.Core.Path.{refl}
-use Rattle.table.specs.Numbers.{mergeSays}
+use Rattle.table.specs.Numbers.{mergeView}
 use Rattle.abi.specs.Encoding.{encodeMerge, returned, stored}
 use Rattle.abi.specs.Laws.Encoding.{stored-as}
 use borrow.Author.Needs.{needs}
@@ -8,7 +8,7 @@ use Rattle.abi.proofs.store_merge.Statement.{statement}
 use Rattle.abi.proofs.store_merge.Tie as tie
 
 pub store-merge-spec : {M : Type 1} → statement M
-unfolding mergeSays encodeMerge returned stored
+unfolding mergeView encodeMerge returned stored
 store-merge-spec =
     tie.close
     (tie.spec

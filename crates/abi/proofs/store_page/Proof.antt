@@ -1,6 +1,6 @@
 -- `abi::store_page` meets its contract. Assumes nothing.
 use mathlib.Core.Path.{refl}
-use Rattle.query_spec.specs.Queries.{pageSays, nextSays}
+use Rattle.query_spec.specs.Queries.{pageView, nextView}
 use Rattle.abi.specs.Encoding.{encodeOption, encodePage, returned, stored}
 use Rattle.abi.specs.Laws.Encoding.{stored-as}
 use borrow.Author.Needs.{needs}
@@ -8,7 +8,7 @@ use Rattle.abi.proofs.store_page.Statement.{statement}
 use Rattle.abi.proofs.store_page.Tie as tie
 
 pub store-page-spec : {M : Type 1} → statement M
-unfolding pageSays nextSays encodeOption encodePage returned stored
+unfolding pageView nextView encodeOption encodePage returned stored
 store-page-spec =
     tie.close
     (tie.spec

@@ -1,6 +1,6 @@
 -- `abi::store_range` meets its contract. Assumes nothing.
 use mathlib.Core.Path.{refl}
-use Rattle.table.specs.Numbers.{rangeSays}
+use Rattle.table.specs.Numbers.{rangeView}
 use Rattle.abi.specs.Encoding.{encodeRange, returned, stored}
 use Rattle.abi.specs.Laws.Encoding.{stored-as}
 use borrow.Author.Needs.{needs}
@@ -8,7 +8,7 @@ use Rattle.abi.proofs.store_range.Statement.{statement}
 use Rattle.abi.proofs.store_range.Tie as tie
 
 pub store-range-spec : {M : Type 1} → statement M
-unfolding rangeSays encodeRange returned stored
+unfolding rangeView encodeRange returned stored
 store-range-spec =
     tie.close
     (tie.spec

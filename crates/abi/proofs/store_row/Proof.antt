@@ -1,6 +1,6 @@
 -- `abi::store_row` meets its contract. Assumes nothing.
 use mathlib.Core.Path.{refl}
-use Rattle.table.specs.Numbers.{rowSays}
+use Rattle.table.specs.Numbers.{rowView}
 use Rattle.abi.specs.Encoding.{encodeOption, returned, stored}
 use Rattle.abi.specs.Laws.Encoding.{stored-as}
 use borrow.Author.Needs.{needs}
@@ -8,7 +8,7 @@ use Rattle.abi.proofs.store_row.Statement.{statement}
 use Rattle.abi.proofs.store_row.Tie as tie
 
 pub store-row-spec : {M : Type 1} → statement M
-unfolding rowSays encodeOption returned stored
+unfolding rowView encodeOption returned stored
 store-row-spec =
     tie.close
     (tie.spec

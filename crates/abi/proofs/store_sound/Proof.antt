@@ -1,6 +1,6 @@
 -- `abi::store_sound` meets its contract. Assumes nothing.
 use mathlib.Core.Path.{refl}
-use Rattle.table.specs.Numbers.{soundSays}
+use Rattle.table.specs.Numbers.{soundView}
 use Rattle.abi.specs.Encoding.{encodeBool, returned, stored}
 use Rattle.abi.specs.Laws.Encoding.{stored-as}
 use borrow.Author.Needs.{needs}
@@ -8,7 +8,7 @@ use Rattle.abi.proofs.store_sound.Statement.{statement}
 use Rattle.abi.proofs.store_sound.Tie as tie
 
 pub store-sound-spec : {M : Type 1} → statement M
-unfolding soundSays encodeBool returned stored
+unfolding soundView encodeBool returned stored
 store-sound-spec =
     tie.close
     (tie.spec

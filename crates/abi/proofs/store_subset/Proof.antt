@@ -1,13 +1,13 @@
 -- `abi::store_subset` meets its contract. Assumes nothing.
 use mathlib.Core.Path.{refl}
-use Rattle.abi.specs.Encoding.{subsetSays, encodeSubset, returned, stored}
+use Rattle.abi.specs.Encoding.{subsetView, encodeSubset, returned, stored}
 use Rattle.abi.specs.Laws.Encoding.{stored-as}
 use borrow.Author.Needs.{needs}
 use Rattle.abi.proofs.store_subset.Statement.{statement}
 use Rattle.abi.proofs.store_subset.Tie as tie
 
 pub store-subset-spec : {M : Type 1} → statement M
-unfolding subsetSays encodeSubset returned stored
+unfolding subsetView encodeSubset returned stored
 store-subset-spec =
     tie.close
     (tie.spec

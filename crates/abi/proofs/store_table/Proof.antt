@@ -1,6 +1,6 @@
 -- `abi::store_table` meets its contract. Assumes nothing.
 use mathlib.Core.Path.{refl}
-use Rattle.table.specs.Numbers.{tableSays}
+use Rattle.table.specs.Numbers.{tableView}
 use Rattle.abi.specs.Encoding.{returned, stored}
 use Rattle.abi.specs.Laws.Encoding.{stored-as}
 use borrow.Author.Needs.{needs}
@@ -8,7 +8,7 @@ use Rattle.abi.proofs.store_table.Statement.{statement}
 use Rattle.abi.proofs.store_table.Tie as tie
 
 pub store-table-spec : {M : Type 1} → statement M
-unfolding tableSays returned stored
+unfolding tableView returned stored
 store-table-spec =
     tie.close
     (tie.spec

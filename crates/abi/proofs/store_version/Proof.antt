@@ -1,6 +1,6 @@
 -- `abi::store_version` meets its contract. Assumes nothing.
 use mathlib.Core.Path.{refl}
-use Rattle.table.specs.Numbers.{versionSays}
+use Rattle.table.specs.Numbers.{versionView}
 use Rattle.abi.specs.Encoding.{encodeVersion, returned, stored}
 use Rattle.abi.specs.Laws.Encoding.{stored-as}
 use borrow.Author.Needs.{needs}
@@ -8,7 +8,7 @@ use Rattle.abi.proofs.store_version.Statement.{statement}
 use Rattle.abi.proofs.store_version.Tie as tie
 
 pub store-version-spec : {M : Type 1} → statement M
-unfolding versionSays encodeVersion returned stored
+unfolding versionView encodeVersion returned stored
 store-version-spec =
     tie.close
     (tie.spec

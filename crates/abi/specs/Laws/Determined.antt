@@ -4,69 +4,69 @@
 use Prim.Native.Nat.{ℕ}
 use mathlib.Core.Path.{_≡_, sym, ap, _∙_}
 use mathlib.Core.List.{List}
-use Rattle.refusals.specs.Refusals.{Reply, refused, accepted, verdict}
+use Rattle.refusals.specs.Refusals.{Reply, refused, accepted, outcome}
 use Rattle.table.specs.declared.Header.{Header}
 use Rattle.abi.specs.Encoding.{encodeHeader, returned, stored, Answers, AnswersNumber, AnswersWithHeader}
 
-verdict-returned : {A : Type 0} (a b : Reply A) → verdict a ≡ verdict b → returned a ≡ returned b
-unfolding verdict returned
-verdict-returned (refused m) (refused n) e = cc
-verdict-returned (refused m) (accepted b) e = cc
-verdict-returned (accepted a) (refused n) e = cc
-verdict-returned (accepted a) (accepted b) e = cc
+outcome-returned : {A : Type 0} (a b : Reply A) → outcome a ≡ outcome b → returned a ≡ returned b
+unfolding outcome returned
+outcome-returned (refused m) (refused n) e = cc
+outcome-returned (refused m) (accepted b) e = cc
+outcome-returned (accepted a) (refused n) e = cc
+outcome-returned (accepted a) (accepted b) e = cc
 
 -- two outcomes, of answers that are equal as far as the library's law states
-pub record SameOutcome {R A : Type 0} (says : R → Reply A) (Same : R → R → Type 0) (r₁ r₂ : ℕ) (words₁ words₂ : List ℕ) : Type 0 where
+pub record SameOutcome {R A : Type 0} (view : R → Reply A) (Same : R → R → Type 0) (r₁ r₂ : ℕ) (words₁ words₂ : List ℕ) : Type 0 where
   pub first : R
   pub second : R
   pub same : Same first second
-  pub returns : verdict (says first) ≡ verdict (says second) → r₁ ≡ r₂
+  pub returns : outcome (view first) ≡ outcome (view second) → r₁ ≡ r₂
   pub stores : first ≡ second → words₁ ≡ words₂
 
-pub record SameNumber {R A : Type 0} (says : R → Reply A) (Same : R → R → Type 0) (r₁ r₂ : ℕ) : Type 0 where
+pub record SameNumber {R A : Type 0} (view : R → Reply A) (Same : R → R → Type 0) (r₁ r₂ : ℕ) : Type 0 where
   pub first : R
   pub second : R
   pub same : Same first second
-  pub returns : verdict (says first) ≡ verdict (says second) → r₁ ≡ r₂
+  pub returns : outcome (view first) ≡ outcome (view second) → r₁ ≡ r₂
 
-pub record SameWithHeader {R A : Type 0} (says : R → Reply A) (Same : R → R → Type 0) (r₁ r₂ : ℕ) (header₁ header₂ words₁ words₂ : List ℕ) : Type 0 where
+pub record SameWithHeader {R A : Type 0} (view : R → Reply A) (Same : R → R → Type 0) (r₁ r₂ : ℕ) (header₁ header₂ words₁ words₂ : List ℕ) : Type 0 where
   pub first : R
   pub second : R
   pub same : Same first second
-  pub returns : verdict (says first) ≡ verdict (says second) → r₁ ≡ r₂
+  pub returns : outcome (view first) ≡ outcome (view second) → r₁ ≡ r₂
   pub stores-header : first ≡ second → header₁ ≡ header₂
   pub stores : first ≡ second → words₁ ≡ words₂
 
-module _ {R A : Type 0} {says : R → Reply A} {Same : R → R → Type 0} {promise₁ promise₂ : R → Type 0} (law : (a b : R) → promise₁ a → promise₂ b → Same a b) {r₁ r₂ : ℕ} where
-  pub number-determined : AnswersNumber promise₁ says r₁ → AnswersNumber promise₂ says r₂ → SameNumber says Same r₁ r₂
+module _ {R A : Type 0} {view : R → Reply A} {Same : R → R → Type 0} {promise₁ promise₂ : R → Type 0} (law : (a b : R) → promise₁ a → promise₂ b → Same a b) {r₁ r₂ : ℕ} where
+  pub number-determined : AnswersNumber promise₁ view r₁ → AnswersNumber promise₂ view r₂ → SameNumber view Same r₁ r₂
   number-determined x y =
       record {
         first = x .answer;
         second = y .answer;
-        same = law (x .answer) (y .answer) (x .promised) (y .promised);
-        returns = λ e. x .returns ∙ verdict-returned _ _ e ∙ sym (y .returns);
+        same = law (x .answer) (y .answer) (x .contract-met) (y .contract-met);
+        returns = λ e. x .returns ∙ outcome-returned _ _ e ∙ sym (y .returns);
       }
 
-  pub answers-determined : {encode : A → List ℕ} {words words₁ words₂ : List ℕ} → Answers promise₁ says encode words r₁ words₁ → Answers promise₂ says encode words r₂ words₂
-      → SameOutcome says Same r₁ r₂ words₁ words₂
+  pub answers-determined : {encode : A → List ℕ} {words words₁ words₂ : List ℕ} → Answers promise₁ view encode words r₁ words₁ → Answers promise₂ view encode words r₂ words₂
+      → SameOutcome view Same r₁ r₂ words₁ words₂
   answers-determined {encode} {words} x y =
       record {
         first = x .answer;
         second = y .answer;
-        same = law (x .answer) (y .answer) (x .promised) (y .promised);
-        returns = λ e. x .stores .returns ∙ verdict-returned _ _ e ∙ sym (y .stores .returns);
-        stores = λ e. x .stores .stores ∙ ap (λ (a : R). stored encode words (says a)) e ∙ sym (y .stores .stores);
+        same = law (x .answer) (y .answer) (x .contract-met) (y .contract-met);
+        returns = λ e. x .stores .returns ∙ outcome-returned _ _ e ∙ sym (y .stores .returns);
+        stores = λ e. x .stores .stores ∙ ap (λ (a : R). stored encode words (view a)) e ∙ sym (y .stores .stores);
       }
 
   pub answers-with-header-determined : {headerOf : A → Header} {encode : A → List ℕ} {header words header₁ header₂ words₁ words₂ : List ℕ}
-      → AnswersWithHeader promise₁ says headerOf encode header words r₁ header₁ words₁ → AnswersWithHeader promise₂ says headerOf encode header words r₂ header₂ words₂
-      → SameWithHeader says Same r₁ r₂ header₁ header₂ words₁ words₂
+      → AnswersWithHeader promise₁ view headerOf encode header words r₁ header₁ words₁ → AnswersWithHeader promise₂ view headerOf encode header words r₂ header₂ words₂
+      → SameWithHeader view Same r₁ r₂ header₁ header₂ words₁ words₂
   answers-with-header-determined {headerOf} {encode} {header} {words} x y =
       record {
         first = x .answer;
         second = y .answer;
-        same = law (x .answer) (y .answer) (x .promised) (y .promised);
-        returns = λ e. x .stores .returns ∙ verdict-returned _ _ e ∙ sym (y .stores .returns);
-        stores-header = λ e. x .header-stored .stores ∙ ap (λ (a : R). stored (λ b. encodeHeader (headerOf b)) header (says a)) e ∙ sym (y .header-stored .stores);
-        stores = λ e. x .stores .stores ∙ ap (λ (a : R). stored encode words (says a)) e ∙ sym (y .stores .stores);
+        same = law (x .answer) (y .answer) (x .contract-met) (y .contract-met);
+        returns = λ e. x .stores .returns ∙ outcome-returned _ _ e ∙ sym (y .stores .returns);
+        stores-header = λ e. x .header-stored .stores ∙ ap (λ (a : R). stored (λ b. encodeHeader (headerOf b)) header (view a)) e ∙ sym (y .header-stored .stores);
+        stores = λ e. x .stores .stores ∙ ap (λ (a : R). stored encode words (view a)) e ∙ sym (y .stores .stores);
       }

@@ -60,11 +60,11 @@ pub subset-decoded : (s : SubsetHead) → decodeSubset (encodeSubset s) ≡ s
 subset-decoded s = dense-decoded (s .dense) (s .start) (s .end)
 
 -- what is stored for an answer, by cases of the answer
-pub stored-as : {R A : Type 0} {says : R → Reply A} {encode : A → List ℕ} {answer a : R} {words : List ℕ} {r : ℕ} {words′ : List ℕ}
-    → answer ≡ a → r ≡ returned (says a) → words′ ≡ stored encode words (says a) → Stored says encode answer words r words′
+pub stored-as : {R A : Type 0} {view : R → Reply A} {encode : A → List ℕ} {answer a : R} {words : List ℕ} {r : ℕ} {words′ : List ℕ}
+    → answer ≡ a → r ≡ returned (view a) → words′ ≡ stored encode words (view a) → Stored view encode answer words r words′
 stored-as e p q = rw e record { returns = p; stores = q }
 
 -- the contract of a C function, for this answer
-pub answers : {R A : Type 0} {promise : R → Type 0} {says : R → Reply A} {encode : A → List ℕ} {answer : R} {words : List ℕ} {r : ℕ} {words′ : List ℕ}
-    → promise answer → Stored says encode answer words r words′ → Answers promise says encode words r words′
-answers {answer = answer} p s = record { answer = answer; promised = p; stores = s }
+pub answers : {R A : Type 0} {contract : R → Type 0} {view : R → Reply A} {encode : A → List ℕ} {answer : R} {words : List ℕ} {r : ℕ} {words′ : List ℕ}
+    → contract answer → Stored view encode answer words r words′ → Answers contract view encode words r words′
+answers {answer = answer} p s = record { answer = answer; contract-met = p; stores = s }

@@ -1,6 +1,6 @@
 -- `abi_image::store_length` meets its contract. Assumes nothing.
 use mathlib.Core.Path.{refl}
-use Rattle.image_spec.specs.Contracts.{lengthSays}
+use Rattle.image_spec.specs.Contracts.{lengthView}
 use Rattle.abi.specs.Encoding.{returned, stored}
 use Rattle.abi.specs.Laws.Encoding.{stored-as}
 use Rattle.abi_image.specs.Encoding.{encodeLength}
@@ -9,7 +9,7 @@ use Rattle.abi_image.proofs.store_length.Statement.{statement}
 use Rattle.abi_image.proofs.store_length.Tie as tie
 
 pub store-length-spec : {M : Type 1} → statement M
-unfolding lengthSays encodeLength returned stored
+unfolding lengthView encodeLength returned stored
 store-length-spec =
     tie.close
     (tie.spec

@@ -16,9 +16,9 @@ use denote.Steps.{heard}
 use Rattle.constraints.proofs.Constraint as CT
 use Rattle.listing_check.proofs.CheckAnswer as AT
 use Rattle.listing_check.proofs.CheckAnswer.Laws as AT′
-use Rattle.listing_check.specs.Answers.{checkSays, AnswersChecked}
+use Rattle.listing_check.specs.Answers.{checkView, AnswersChecked}
 use Rattle.query_borrowed.proofs.Locals.{enters, leaves}
-use Rattle.query_borrowed.proofs.Walking.{URA, SProp, id⊢, Memory, Routine, Heap, Calls, Loops, WpFn, Atoms, Lfts, Fun, FmC, givenOf, Given, _$_, !, move, u32, typesAt, enum-lawful, Meets, tripleOf, Triple, cited, Knowns, reads, machine, met, ends-saying, answers, skips, pads, proved}
+use Rattle.query_borrowed.proofs.Walking.{URA, SProp, id⊢, Memory, Routine, Heap, Calls, Loops, WpFn, Atoms, Lfts, Fun, FmC, givenOf, Given, _$_, !, move, u32, typesAt, enum-lawful, Meets, tripleOf, Triple, cited, Knowns, reads, machine, met, ends-ensuring, answers, skips, pads, proved}
 use Rattle.query_borrowed.proofs.Arrays.{lent-array, FinalArray, lends-array, tokens-out, tokens-in, owns-out, owns-in}
 use Rattle.abi.specs.Encoding.{Stored}
 use Rattle.abi.specs.Laws.Encoding.{answers as answered}
@@ -55,11 +55,11 @@ module _ {M : Type 1} (𝓤 : URA M) (H : Heap 𝓤) (A : Atoms 𝓤) (W : Given
       move ! (4 ∷ 3 ∷ []) $ owns-in ! (_ ∷ _ ∷ []) $ move ! (4 ∷ []) $ tokens-in ! 1 (κs .1 .1 .1 .0, tt) (qs .1 .1 .1 .0, tt) $
       -- [the verdict's token; what the storing call requires; the locals; the check's tokens and last values]
       answers ! fm sto.ended (sto.clauses 𝓤 H A mem run) known-store (((κs .1 .1 .1 .0, tt), (qs .1 .1 .1 .0, tt), tt, (r, (z, tt)), (rv ∷ [], (ptr-vals z, tt))), tt) (id⊢ 𝓤 _) refl (uint-lawful 𝓤 H A W w32) (λ v t. t .0) tt (λ tv t zs is.
-      move ! (4 ∷ []) $ heard ! (Stored checkSays encodeFinding r (now z) t (zs .1 .0)) (λ stored. leaves ! refl tt $
+      move ! (4 ∷ []) $ heard ! (Stored checkView encodeFinding r (now z) t (zs .1 .0)) (λ stored. leaves ! refl tt $
       -- [the verdict's token and last words; the result; the check's tokens and last values]
       tokens-out ! 1 (κs .1 .1 .1 .0, tt) (qs .1 .1 .1 .0, tt) $ move ! (3 ∷ []) $ tokens-out ! 3 κs′ qs′ $ move ! (3 ∷ 0 ∷ 1 ∷ 2 ∷ []) $ tokens-in ! 4 κs qs $
       move ! (1 ∷ []) $ skips ! 1 (fsep (FinalArray u64 2 z (zs .1 .0)) ftrue) $ pads ! 3 $ keep ! (1 ∷ 0 ∷ 2 ∷ []) $
-      ends-saying 𝓤 H A W f.ended (f.clauses 𝓤 H A mem run) ((κs, qs, bounds, a, vals), g) tv t (tt, (tt, (tt, (zs .1 .0, tt))))
+      ends-ensuring 𝓤 H A W f.ended (f.clauses 𝓤 H A mem run) ((κs, qs, bounds, a, vals), g) tv t (tt, (tt, (tt, (zs .1 .0, tt))))
       (factI 𝓤 _ (emp 𝓤) (answered checked stored))))))))
 
 pub mouldgrey-check-answers-spec : {M : Type 1} → stated.statement M

@@ -1,6 +1,6 @@
 -- `abi_listing::store_check` meets its contract. Assumes nothing.
 use mathlib.Core.Path.{refl}
-use Rattle.listing_check.specs.Answers.{checkSays}
+use Rattle.listing_check.specs.Answers.{checkView}
 use Rattle.abi.specs.Encoding.{returned, stored}
 use Rattle.abi.specs.Laws.Encoding.{stored-as}
 use borrow.Author.Needs.{needs}
@@ -8,7 +8,7 @@ use Rattle.abi_listing.proofs.store_check.Statement.{statement}
 use Rattle.abi_listing.proofs.store_check.Tie as tie
 
 pub store-check-spec : {M : Type 1} → statement M
-unfolding checkSays returned stored
+unfolding checkView returned stored
 store-check-spec =
     tie.close
     (tie.spec

@@ -1,6 +1,6 @@
 -- `abi_listing::store_listing` meets its contract. Assumes nothing.
 use mathlib.Core.Path.{refl}
-use Rattle.listing_spec.specs.Listings.{listingSays}
+use Rattle.listing_spec.specs.Listings.{listingView}
 use Rattle.abi.specs.Encoding.{returned, stored}
 use Rattle.abi.specs.Laws.Encoding.{stored-as}
 use borrow.Author.Needs.{needs}
@@ -8,7 +8,7 @@ use Rattle.abi_listing.proofs.store_listing.Statement.{statement}
 use Rattle.abi_listing.proofs.store_listing.Tie as tie
 
 pub store-listing-spec : {M : Type 1} → statement M
-unfolding listingSays returned stored
+unfolding listingView returned stored
 store-listing-spec =
     tie.close
     (tie.spec

@@ -1,6 +1,6 @@
 -- `abi_listing::store_numbered` meets its contract. Assumes nothing.
 use mathlib.Core.Path.{refl}
-use Rattle.listing_spec.specs.Listings.{numberedSays}
+use Rattle.listing_spec.specs.Listings.{numberedView}
 use Rattle.abi.specs.Encoding.{returned, stored}
 use Rattle.abi.specs.Laws.Encoding.{stored-as}
 use borrow.Author.Needs.{needs}
@@ -8,7 +8,7 @@ use Rattle.abi_listing.proofs.store_numbered.Statement.{statement}
 use Rattle.abi_listing.proofs.store_numbered.Tie as tie
 
 pub store-numbered-spec : {M : Type 1} → statement M
-unfolding numberedSays returned stored
+unfolding numberedView returned stored
 store-numbered-spec =
     tie.close
     (tie.spec

@@ -1,6 +1,6 @@
 -- `abi_precedence::store_failure` meets its contract. Assumes nothing.
 use mathlib.Core.Path.{refl}
-use Rattle.precedence.specs.Precedence.{precedenceSays}
+use Rattle.precedence.specs.Precedence.{precedenceView}
 use Rattle.abi.specs.Encoding.{returned, stored}
 use Rattle.abi.specs.Laws.Encoding.{stored-as}
 use Rattle.abi_precedence.specs.Encoding.{encodeFailure}
@@ -9,7 +9,7 @@ use Rattle.abi_precedence.proofs.store_failure.Statement.{statement}
 use Rattle.abi_precedence.proofs.store_failure.Tie as tie
 
 pub store-failure-spec : {M : Type 1} → statement M
-unfolding precedenceSays encodeFailure returned stored
+unfolding precedenceView encodeFailure returned stored
 store-failure-spec =
     tie.close
     (tie.spec

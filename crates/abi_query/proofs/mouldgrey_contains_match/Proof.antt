@@ -19,10 +19,10 @@ use Rattle.table.specs.declared.Header.{Header}
 use Rattle.query_spec.specs.declared.MatchAnswer.{MatchAnswer}
 use Rattle.query_spec.proofs.MatchAnswer as AT
 use Rattle.query_spec.proofs.MatchAnswer.Laws as AT′
-use Rattle.query_spec.specs.Queries.{Matched, matchSays}
+use Rattle.query_spec.specs.Queries.{Matched, matchView}
 use Rattle.query_borrowed.proofs.SubsetRef.Laws as DT′
 use Rattle.query_borrowed.proofs.Locals.{enters, cell, copies, leaves}
-use Rattle.query_borrowed.proofs.Walking.{URA, SProp, id⊢, Memory, Routine, Heap, Calls, Loops, WpFn, Atoms, Lfts, Fun, FmC, givenOf, Given, _$_, !, move, u32, typesAt, enum-lawful, Meets, tripleOf, Triple, cited, Knowns, reads, machine, met, ends-saying, answers, skips, pads, proved}
+use Rattle.query_borrowed.proofs.Walking.{URA, SProp, id⊢, Memory, Routine, Heap, Calls, Loops, WpFn, Atoms, Lfts, Fun, FmC, givenOf, Given, _$_, !, move, u32, typesAt, enum-lawful, Meets, tripleOf, Triple, cited, Knowns, reads, machine, met, ends-ensuring, answers, skips, pads, proved}
 use Rattle.query_borrowed.proofs.Arrays.{shared-array, lent-array, FinalArray, lends-array, tokens-out, tokens-in, owns-out, owns-in}
 use Rattle.abi.specs.Encoding.{encodeBool, Stored}
 use Rattle.abi.proofs.decode_header as hdr
@@ -71,11 +71,11 @@ module _ {M : Type 1} (𝓤 : URA M) (H : Heap 𝓤) (A : Atoms 𝓤) (W : Given
       -- [the answer's token; what the storing call requires; the locals; the query's tokens and last values; the tokens of
       -- what was decoded]
       answers ! fm sto.ended (sto.clauses 𝓤 H A mem run) known-store (((κs .1 .1 .1 .1 .1 .0, tt), (qs .1 .1 .1 .1 .1 .0, tt), tt, (r, (z, tt)), (rv ∷ [], (ptr-vals z, tt))), tt) (id⊢ 𝓤 _) refl (uint-lawful 𝓤 H A W w32) (λ v t. t .0) tt (λ tv t zs is.
-      move ! (4 ∷ []) $ heard ! (Stored matchSays encodeBool r (now z) t (zs .1 .0)) (λ stored. leaves ! refl tt $
+      move ! (4 ∷ []) $ heard ! (Stored matchView encodeBool r (now z) t (zs .1 .0)) (λ stored. leaves ! refl tt $
       -- [the answer's token and last words; the result; the query's tokens and last values; the tokens of what was decoded]
       tokens-out ! 1 (κs .1 .1 .1 .1 .1 .0, tt) (qs .1 .1 .1 .1 .1 .0, tt) $ move ! (3 ∷ []) $ tokens-out ! 3 κs′ qs′ $ move ! (3 ∷ 0 ∷ 1 ∷ 7 ∷ 2 ∷ 8 ∷ []) $ tokens-in ! 6 κs qs $
       move ! (1 ∷ []) $ skips ! 1 (fsep (FinalArray u32 1 z (zs .1 .0)) ftrue) $ pads ! 5 $ keep ! (1 ∷ 0 ∷ 2 ∷ []) $
-      ends-saying 𝓤 H A W f.ended (f.clauses 𝓤 H A mem run) ((κs, qs, bounds, a, vals), g) tv t (tt, (tt, (tt, (tt, (tt, (zs .1 .0, tt))))))
+      ends-ensuring 𝓤 H A W f.ended (f.clauses 𝓤 H A mem run) ((κs, qs, bounds, a, vals), g) tv t (tt, (tt, (tt, (tt, (tt, (zs .1 .0, tt))))))
       (factI 𝓤 _ (emp 𝓤) (decoded (λ h d r. Asks h d r) header subset asked stored))))))))))
 
 pub mouldgrey-contains-match-spec : {M : Type 1} → stated.statement M

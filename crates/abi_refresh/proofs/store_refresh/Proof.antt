@@ -1,6 +1,6 @@
 -- `abi_refresh::store_refresh` meets its contract. Assumes nothing.
 use mathlib.Core.Path.{refl}
-use Rattle.refresh_spec.specs.Refreshes.{refreshSays}
+use Rattle.refresh_spec.specs.Refreshes.{refreshView}
 use Rattle.abi.specs.Encoding.{encodeBool, returned, stored}
 use Rattle.abi.specs.Laws.Encoding.{stored-as}
 use borrow.Author.Needs.{needs}
@@ -8,7 +8,7 @@ use Rattle.abi_refresh.proofs.store_refresh.Statement.{statement}
 use Rattle.abi_refresh.proofs.store_refresh.Tie as tie
 
 pub store-refresh-spec : {M : Type 1} → statement M
-unfolding refreshSays encodeBool returned stored
+unfolding refreshView encodeBool returned stored
 store-refresh-spec =
     tie.close
     (tie.spec

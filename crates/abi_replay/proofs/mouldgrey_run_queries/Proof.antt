@@ -11,4 +11,4 @@ mouldgrey-run-queries-spec =
     (tie.spec
     (λ c κs. search needs) (λ c κs. search needs) (λ c κs. search needs) (λ c κs. search needs) (λ c. search needs)
     (λ c. search needs)
-    (λ c. rw (sym (c .before .before .before .before .before .before .before .before .before .before .decode-header .ensures), sym (c .before .before .before .before .before .before .before .before .before .decode-subset .ensures)) (answers (c .before .before .before .before .before .before .ask .ensures) (c .store-run .ensures))))
+    (λ c. rw (sym (c .before .before .before .before .before .before .before .before .before .before .decode-header .ensures), sym (c .before .before .before .before .before .before .before .before .before .decode-subset .ensures)) (answers (c .before .before .before .before .before .before .run-queries .ensures) (c .store-run .ensures))))

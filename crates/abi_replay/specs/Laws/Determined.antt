@@ -9,19 +9,19 @@ use Rattle.lists.specs.Lists.{any}
 use Rattle.offsets.specs.Subsets.{Subset}
 use Rattle.table.specs.declared.Header.{Header}
 use Rattle.table.specs.declared.TableAnswer.{TableAnswer}
-use Rattle.table.specs.Numbers.{tableSays}
-use Rattle.table.specs.Promises.{Body, CompactionWords}
-use Rattle.history.specs.Runs.{Question}
+use Rattle.table.specs.Numbers.{tableView}
+use Rattle.table.specs.Contracts.{Body, CompactionWords}
+use Rattle.history.specs.Runs.{Query}
 use Rattle.replay_queries.specs.declared.RunAnswer.{RunAnswer}
 use Rattle.refresh_spec.specs.Index.{isNew}
 use Rattle.replay_calls.specs.Requests.{Request, isRefresh}
 use Rattle.replay.specs.Replays.{Replayed}
 use Rattle.replay.specs.Laws.Determined.{ReplayLeft, SameReplay, replayed-determined}
-use Rattle.replay_run.specs.Asking.{RunMade}
+use Rattle.replay_run.specs.RunQueries.{RunMade}
 use Rattle.replay_run.specs.Laws.Determined.{RunLeft, SameRun, run-made-determined}
 use Rattle.abi.specs.Encoding.{decodeOpening, openingGeneration, encodeHeader, Answers}
 use Rattle.abi.specs.Laws.Determined.{SameOutcome, answers-determined}
-use Rattle.abi_replay.specs.Encoding.{runSays, encodeRun}
+use Rattle.abi_replay.specs.Encoding.{runView, encodeRun}
 
 abbrev replayLeft : TableAnswer → Body → List ℕ → CompactionWords → List ℕ → ReplayLeft
 replayLeft answer b pending w index = record { answer = answer; body = b; pending = pending; words = w; index = index }
@@ -32,21 +32,21 @@ runLeft answer first second = record { answer = answer; first = first; second = 
 module _ (opening : List ℕ) (requests : List Request) (b : Body) (pending : List ℕ) (w : CompactionWords) (index : List ℕ) where
   abbrev Replays : List ℕ → ℕ → List ℕ → Body → List ℕ → CompactionWords → List ℕ → Type 0
   Replays header r header′ b′ pending′ w′ index′ =
-      Answers (λ a. Replayed (decodeOpening opening) (openingGeneration opening) requests b pending w index a b′ pending′ w′ index′) tableSays encodeHeader header r header′
+      Answers (λ a. Replayed (decodeOpening opening) (openingGeneration opening) requests b pending w index a b′ pending′ w′ index′) tableView encodeHeader header r header′
 
   -- over a new index store, or without refreshes
   pub replay-determined : (isNew index ≡ true) ⊎ (any isRefresh requests ≡ false) → {header header₁ header₂ : List ℕ} {r₁ r₂ : ℕ} (b₁ b₂ : Body) (pending₁ pending₂ : List ℕ) (w₁ w₂ : CompactionWords) (index₁ index₂ : List ℕ)
       → Replays header r₁ header₁ b₁ pending₁ w₁ index₁ → Replays header r₂ header₂ b₂ pending₂ w₂ index₂
-      → SameOutcome tableSays (λ x y. SameReplay (decodeOpening opening) (openingGeneration opening) requests b pending w index (replayLeft x b₁ pending₁ w₁ index₁) (replayLeft y b₂ pending₂ w₂ index₂)) r₁ r₂ header₁ header₂
+      → SameOutcome tableView (λ x y. SameReplay (decodeOpening opening) (openingGeneration opening) requests b pending w index (replayLeft x b₁ pending₁ w₁ index₁) (replayLeft y b₂ pending₂ w₂ index₂)) r₁ r₂ header₁ header₂
   replay-determined sound b₁ b₂ pending₁ pending₂ w₁ w₂ index₁ index₂ =
       answers-determined (λ x y u v. replayed-determined (decodeOpening opening) (openingGeneration opening) requests b pending w index sound (replayLeft x b₁ pending₁ w₁ index₁) (replayLeft y b₂ pending₂ w₂ index₂) u v)
 
-module _ (h : Header) (rows sorts : List ℕ) (start : Subset) (ids : List ℕ) (questions : List Question) (first second : List ℕ) where
+module _ (h : Header) (rows sorts : List ℕ) (start : Subset) (ids : List ℕ) (queries : List Query) (first second : List ℕ) where
   abbrev Runs : List ℕ → ℕ → List ℕ → List ℕ → List ℕ → Type 0
   Runs words r words′ first′ second′ =
-      Answers (λ a. RunMade h rows sorts start ids questions first second a first′ second′) runSays encodeRun words r words′
+      Answers (λ a. RunMade h rows sorts start ids queries first second a first′ second′) runView encodeRun words r words′
 
   pub run-queries-determined : {words words₁ words₂ : List ℕ} {r₁ r₂ : ℕ} (first₁ second₁ first₂ second₂ : List ℕ) → Runs words r₁ words₁ first₁ second₁ → Runs words r₂ words₂ first₂ second₂
-      → SameOutcome runSays (λ x y. SameRun h rows sorts start ids questions first second (runLeft x first₁ second₁) (runLeft y first₂ second₂)) r₁ r₂ words₁ words₂
+      → SameOutcome runView (λ x y. SameRun h rows sorts start ids queries first second (runLeft x first₁ second₁) (runLeft y first₂ second₂)) r₁ r₂ words₁ words₂
   run-queries-determined first₁ second₁ first₂ second₂ =
-      answers-determined (λ x y. run-made-determined h rows sorts start ids questions first second (runLeft x first₁ second₁) (runLeft y first₂ second₂))
+      answers-determined (λ x y. run-made-determined h rows sorts start ids queries first second (runLeft x first₁ second₁) (runLeft y first₂ second₂))

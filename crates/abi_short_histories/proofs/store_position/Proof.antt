@@ -1,6 +1,6 @@
 -- `abi_short_histories::store_position` meets its contract. Assumes nothing.
 use mathlib.Core.Path.{refl}
-use Rattle.short_histories.specs.Sequences.{positionSays}
+use Rattle.short_histories.specs.Sequences.{positionView}
 use Rattle.abi.specs.Encoding.{returned, stored}
 use Rattle.abi.specs.Laws.Encoding.{stored-as}
 use Rattle.abi_short_histories.specs.Encoding.{encodeNumber}
@@ -9,7 +9,7 @@ use Rattle.abi_short_histories.proofs.store_position.Statement.{stateme
 use Rattle.abi_short_histories.proofs.store_position.Tie as tie
 
 pub store-position-spec : {M : Type 1} → statement M
-unfolding positionSays encodeNumber returned stored
+unfolding positionView encodeNumber returned stored
 store-position-spec =
     tie.close
     (tie.spec

@@ -1,6 +1,6 @@
 -- `abi_short_histories::store_sequence` meets its contract. Assumes nothing.
 use mathlib.Core.Path.{refl}
-use Rattle.short_histories.specs.Sequences.{sequenceSays}
+use Rattle.short_histories.specs.Sequences.{sequenceView}
 use Rattle.abi.specs.Encoding.{encodeOption, returned, stored}
 use Rattle.abi.specs.Laws.Encoding.{stored-as}
 use borrow.Author.Needs.{needs}
@@ -8,7 +8,7 @@ use Rattle.abi_short_histories.proofs.store_sequence.Statement.{stateme
 use Rattle.abi_short_histories.proofs.store_sequence.Tie as tie
 
 pub store-sequence-spec : {M : Type 1} → statement M
-unfolding sequenceSays encodeOption returned stored
+unfolding sequenceView encodeOption returned stored
 store-sequence-spec =
     tie.close
     (tie.spec

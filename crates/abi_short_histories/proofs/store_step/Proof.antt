@@ -1,6 +1,6 @@
 -- `abi_short_histories::store_step` meets its contract. Assumes nothing.
 use mathlib.Core.Path.{refl}
-use Rattle.short_histories.specs.Sequences.{stepSays}
+use Rattle.short_histories.specs.Sequences.{stepView}
 use Rattle.abi.specs.Encoding.{returned, stored}
 use Rattle.abi.specs.Laws.Encoding.{stored-as}
 use Rattle.abi_short_histories.specs.Encoding.{encodeCall}
@@ -9,7 +9,7 @@ use Rattle.abi_short_histories.proofs.store_step.Statement.{statement}
 use Rattle.abi_short_histories.proofs.store_step.Tie as tie
 
 pub store-step-spec : {M : Type 1} → statement M
-unfolding stepSays encodeCall returned stored
+unfolding stepView encodeCall returned stored
 store-step-spec =
     tie.close
     (tie.spec

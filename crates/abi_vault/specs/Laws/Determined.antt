@@ -2,12 +2,12 @@
 use Prim.Native.Nat.{ℕ}
 use mathlib.Core.List.{List}
 use Rattle.refusals.specs.Laws.Determined.{Same}
-use Rattle.vault.specs.Columns.{columnsSays, Rearranged}
+use Rattle.vault.specs.Columns.{columnsView, Rearranged}
 use Rattle.vault.specs.Laws.Determined.{rearranged-determined}
 use Rattle.abi.specs.Encoding.{AnswersNumber}
 use Rattle.abi.specs.Laws.Determined.{SameNumber, number-determined}
 
 pub columns-determined : (order : ℕ → List ℕ → List ℕ) (width : ℕ) (cells output output₁ output₂ : List ℕ) {r₁ r₂ : ℕ}
-    → AnswersNumber (λ a. Rearranged order width cells output a output₁) columnsSays r₁ → AnswersNumber (λ a. Rearranged order width cells output a output₂) columnsSays r₂
-    → SameNumber columnsSays (λ x y. Same x y output₁ output₂) r₁ r₂
+    → AnswersNumber (λ a. Rearranged order width cells output a output₁) columnsView r₁ → AnswersNumber (λ a. Rearranged order width cells output a output₂) columnsView r₂
+    → SameNumber columnsView (λ x y. Same x y output₁ output₂) r₁ r₂
 columns-determined order width cells output output₁ output₂ = number-determined (λ x y. rearranged-determined)

@@ -5,14 +5,14 @@ use mathlib.Core.Bool.{true, not}
 use mathlib.Core.List.{List, []}
 use native.Mathlib.Omega.{arith}
 use lib.ListN.{length, take, drop, getD}
-use Rattle.lists.specs.Lists.{putAt, count, rowAt, rowsOf}
+use Rattle.lists.specs.Lists.{splice, count, rowAt, rowsOf}
 use Rattle.lists.specs.Laws.Rows.{getD-rowsOf, rowsOf-same}
 use Rattle.constraints.specs.Constraints.{isLive}
 use Rattle.sort_entries.specs.Entries.{Entry, entriesOf, entriesSound, valueAt}
 use Rattle.sort_entries.specs.Laws.Stores.{entriesOf-same}
 use Rattle.plain_table.specs.Staged.{Staged, wordsAll}
 use Rattle.table.specs.declared.Header.{Header}
-use Rattle.table.specs.Numbers.{openingOf, largestSays}
+use Rattle.table.specs.Numbers.{openingOf, largestView}
 use Rattle.table.specs.Sound.{SoundContents}
 
 -- the words in use are the same in other stores

@@ -7,7 +7,7 @@ use mathlib.Core.Logic.{_⊎_, inl, inr}
 use mathlib.Core.Option.{Option, none, some}
 use native.Mathlib.Omega.{arith}
 use lib.ListN.{length, getD}
-use Rattle.lists.specs.Lists.{flat}
+use Rattle.lists.specs.Lists.{flatten}
 use Rattle.refusals.specs.Refusals.{Reply, refused, accepted}
 use Rattle.crc32.specs.Crc.{register, crc32, bytesOf, wordBytes}
 use Rattle.crc32.specs.Bytes.{Below}
@@ -16,7 +16,7 @@ use Rattle.crc32.specs.Laws.Damage.{damage-shows, residue-of-crc}
 use Rattle.table.specs.declared.Header.{Header}
 use Rattle.table.specs.declared.TableAnswer.{TableAnswer}
 use Rattle.table.specs.declared.TableAnswer.the-variants.{Table}
-use Rattle.table.specs.Numbers.{tableSays}
+use Rattle.table.specs.Numbers.{tableView}
 use Rattle.image_spec.specs.Image.{Image, imageBody, imageWords, isImage, Reads, reads, reads-none}
 use Rattle.image_spec.specs.Contracts.{checkReply, ImageChecked}
 use Rattle.archive.specs.Archive.{Damaged}
@@ -35,7 +35,7 @@ below-second (x ∷ a) b h = below-second a b (λ k. h (suc k))
 -- ---- images
 
 one : (w : ℕ) → bytesOf (w ∷ []) ≡ wordBytes w
-unfolding bytesOf wordBytes flat
+unfolding bytesOf wordBytes flatten
 one w = refl
 
 -- the register over a whole image is a constant
@@ -78,8 +78,8 @@ damaged-none words words′ i e d j f =
 
 pub damage-refused : (words words′ : List ℕ) (h : Header) (answer : TableAnswer)
     → ImageChecked words (Table h) → Damaged (bytesOf words) (bytesOf words′) → ImageChecked words′ answer
-    → tableSays answer ≡ refused 19
-unfolding checkReply tableSays
+    → tableView answer ≡ refused 19
+unfolding checkReply tableView
 damage-refused words words′ h answer m d m′ =
     elim (read-cases words′ (m′ .decoded .image) (m′ .decoded .reads)) [
       | inl e ↦ m′ .answers ∙ ap (λ (o : Option Image). checkReply o (m′ .decoded .sound)) e

@@ -11,24 +11,24 @@ use lib.ListN.{length, take, drop, getD}
 use lib.Seq.{take-at}
 use lib.Dec.{ltb, eqb}
 use borrow.Author.Tests.{ltb-false, le-leb}
-use Rattle.lists.specs.Lists.{putAt, rowAt, every}
-use Rattle.lists.specs.Laws.Keep.{split}
-use Rattle.lists.specs.Laws.Parts.{length-putAt}
-use Rattle.lists.specs.Laws.Every.{or-no-left, or-no-right}
-use Rattle.refusals.specs.Refusals.{rung, first, Reply, refused, accepted, reply, verdict}
+use Rattle.lists.specs.Lists.{splice, rowAt, all}
+use Rattle.lists.specs.Laws.Filter.{split}
+use Rattle.lists.specs.Laws.Parts.{length-splice}
+use Rattle.lists.specs.Laws.All.{or-no-left, or-no-right}
+use Rattle.refusals.specs.Refusals.{check, firstRefusal, Reply, refused, accepted, reply, outcome}
 use Rattle.plain_table.specs.Staged.{Opening, openable, wordsAll}
 use Rattle.plain_table.specs.Refusing.{storesShort}
 use Rattle.plain_table.specs.Plain.{Plain, dead}
 use Rattle.plain_table.specs.Proper.{rowOf}
-use Rattle.plain_table.specs.Laws.Calls.{first-no, first-rest}
+use Rattle.plain_table.specs.Laws.Calls.{firstRefusal-no, firstRefusal-rest}
 use Rattle.plain_table.specs.Laws.Proper.{bounds-openable}
 use Rattle.table.specs.declared.Header.{Header}
 use Rattle.table.specs.declared.TableAnswer.{TableAnswer}
 use Rattle.table.specs.declared.TableAnswer.the-variants.{Table}
-use Rattle.table.specs.Numbers.{openingOf, tableSays}
+use Rattle.table.specs.Numbers.{openingOf, tableView}
 use Rattle.table.specs.Refusing.{outside}
 use Rattle.table.specs.Stores.{entries, headerOf, RowShown}
-use Rattle.table.specs.Promises.{Stores, Body, joined, lengths, Represents}
+use Rattle.table.specs.Contracts.{Stores, Body, joined, lengths, Represents}
 use Rattle.table.specs.Laws.Shown.{LongEnough, stores-long}
 use Rattle.table.specs.Laws.Refusals.{Inside, outside-inside}
 use Rattle.image_spec.specs.Image.{Image, SoundImage}
@@ -40,13 +40,13 @@ use Rattle.archive.specs.Laws.Resized.{SameShape, all-words-same, all-wi
 use Rattle.archive.specs.Laws.Saved.{savedImage, saved-parts, saved-reads, saved-sound}
 
 -- the front of a store over which a list is put
-pub front-put : (l w : List ℕ) (n : ℕ) → length w ≡ n → take n (putAt l 0 w) ≡ w
-unfolding putAt
+pub front-put : (l w : List ℕ) (n : ℕ) → length w ≡ n → take n (splice l 0 w) ≡ w
+unfolding splice
 front-put l w n e = take-at w _ n e
 
 -- a verdict that is accepted
-pub accepted-none : {A : Type 0} (a : A) (n : ℕ) → verdict (accepted a) ≡ reply n tt → n ≡ 0
-unfolding verdict reply
+pub accepted-none : {A : Type 0} (a : A) (n : ℕ) → outcome (accepted a) ≡ reply n tt → n ≡ 0
+unfolding outcome reply
 accepted-none a zero e = refl
 accepted-none a (suc n) e = absurd (let z : _≡_ {A = ℕ} 0 1 = cc in omega arith)
 
@@ -65,32 +65,32 @@ module _ {p : Plain} {s : Stores} (r : Represents p s) {words : List ℕ} (saved
   short = storesShort (openingOf after) (lengths (b .rows) (b .keys) (b .sorts) pending [] []) || ltb (length pending) (s .header .pending)
 
   abbrev left-number : ℕ
-  left-number = first (rung (outside after) 1 ∷ rung short 2 ∷ [])
+  left-number = firstRefusal (check (outside after) 1 ∷ check short 2 ∷ [])
 
   number-is : readRefusal (m .decoded .image) (m .decoded .sound) capacity b pending ≡ left-number
-  unfolding readRefusal first
+  unfolding readRefusal firstRefusal
   number-is = rw (image-is, sound-is)
 
-  pub refusal-is : verdict (tableSays answer) ≡ reply left-number tt
+  pub refusal-is : outcome (tableView answer) ≡ reply left-number tt
   refusal-is = rw (← number-is) (m .refusal)
 
   module _ (h : Header) (e : answer ≡ Table h) where
     none-left : left-number ≡ 0
-    unfolding tableSays
+    unfolding tableView
     none-left = accepted-none h left-number (rw e at refusal-is)
 
     loaded : Loaded (savedImage r saved) capacity b pending answer b′ pending′
     loaded = m .loaded (savedImage r saved) image-is (number-is ∙ none-left)
 
     header-is : h ≡ after
-    unfolding tableSays
+    unfolding tableView
     header-is = let q : _≡_ {A = Reply Header} (accepted h) (accepted after) = (rw e at (loaded .answers)) in cc
 
     inside : Inside after
-    inside = outside-inside after (first-no _ _ _ none-left)
+    inside = outside-inside after (firstRefusal-no _ _ _ none-left)
 
     not-short : short ≡ false
-    not-short = first-no _ _ _ (first-rest _ _ _ none-left)
+    not-short = firstRefusal-no _ _ _ (firstRefusal-rest _ _ _ none-left)
 
     same : SameInUse (s .header) (s .rows) (s .sorts) (s .pending) (b′ .rows) (b′ .sorts) pending′
     same =
@@ -110,9 +110,9 @@ module _ {p : Plain} {s : Stores} (r : Represents p s) {words : List ℕ} (saved
         let l = stores-long (openingOf after) (lengths (b .rows) (b .keys) (b .sorts) pending [] []) long in
         let fit = mul-le-mul-right (s .header .columns) (inside .rows-fit) in
         let rows : length (b′ .rows) ≡ length (b .rows) =
-        rw (loaded .rows-after) (length-putAt (b .rows) _ 0 (omega (arith, parts .rows-counted, l .rows-long, fit))) in
+        rw (loaded .rows-after) (length-splice (b .rows) _ 0 (omega (arith, parts .rows-counted, l .rows-long, fit))) in
         let sorts : length (b′ .sorts) ≡ length (b .sorts) =
-        rw (loaded .sorts-after) (length-putAt (b .sorts) _ 0 (omega (arith, parts .sorts-counted, l .sorts-long, inside .rows-fit, inside .entries-fit))) in
+        rw (loaded .sorts-after) (length-splice (b .sorts) _ 0 (omega (arith, parts .sorts-counted, l .sorts-long, inside .rows-fit, inside .entries-fit))) in
         rw (rows, sorts, loaded .slots) long
 
     shape : SameShape (p .opening) (resized p capacity .opening)
@@ -168,5 +168,5 @@ module _ {p : Plain} {s : Stores} (r : Represents p s) {words : List ℕ} (saved
                       in-order = rw (← all-words-same shape (p .staged)) ((rw used at (same .pending-same)) ∙ r .shown .pending-held .in-order);
                     };
               };
-          keyed = rw header-is (loaded .keyed);
+          keys-sound = rw header-is (loaded .keys-sound);
         }

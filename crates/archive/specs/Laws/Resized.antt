@@ -3,7 +3,7 @@ use Prim.Native.Nat.{ℕ, zero, suc, _+_}
 use mathlib.Core.Path.{_≡_, refl, ap, ap₂, _∙_}
 use mathlib.Core.Bool.{Bool, not, _&&_}
 use mathlib.Core.List.{List, [], _∷_}
-use Rattle.lists.specs.Lists.{every}
+use Rattle.lists.specs.Lists.{all}
 use Rattle.plain_table.specs.Staged.{Opening, Staged, insert, removeKey, removeRow, wordsOf, wordsAll}
 use Rattle.plain_table.specs.Refusing.{wrongWidth}
 use Rattle.plain_table.specs.Plain.{Plain}
@@ -32,7 +32,7 @@ module _ {o o′ : Opening} (same : SameShape o o′) where
   width-same (removeKey key) = rw (same .keys)
   width-same (removeRow row key) = rw (same .keys)
 
-  pub all-widths-same : (rs : List Staged) → every (λ r. not (wrongWidth o r)) rs ≡ every (λ r. not (wrongWidth o′ r)) rs
-  unfolding every
+  pub all-widths-same : (rs : List Staged) → all (λ r. not (wrongWidth o r)) rs ≡ all (λ r. not (wrongWidth o′ r)) rs
+  unfolding all
   all-widths-same [] = refl
   all-widths-same (r ∷ rs) = ap₂ (λ (a b : Bool). not a && b) (width-same r) (all-widths-same rs)

@@ -9,22 +9,22 @@ use native.Mathlib.Omega.{arith}
 use lib.ListN.{length, take, drop, length-append}
 use lib.Seq.{length-take-le, take-take, take-at}
 use borrow.Author.Tests.{ltb-false, le-leb, eq-eqb}
-use Rattle.lists.specs.Lists.{putAt}
+use Rattle.lists.specs.Lists.{splice}
 use Rattle.refusals.specs.Refusals.{Reply, refused, accepted, reply}
 use Rattle.crc32.specs.Crc.{crc32, bytesOf}
-use Rattle.plain_table.specs.Laws.Calls.{first-no, first-rest}
+use Rattle.plain_table.specs.Laws.Calls.{firstRefusal-no, firstRefusal-rest}
 use Rattle.plain_table.specs.Plain.{Plain}
 use Rattle.table.specs.declared.Header.{Header}
 use Rattle.table.specs.Numbers.{openingOf}
 use Rattle.table.specs.Sound.{SoundContents}
-use Rattle.table.specs.Promises.{Stores, Represents}
+use Rattle.table.specs.Contracts.{Stores, Represents}
 use Rattle.table.specs.Laws.Shown.{represents-long, represents-inside}
 use Rattle.table.specs.Laws.Refusals.{Inside, outside-inside}
 use Rattle.table.specs.Laws.Pending.{holds-fits}
 use Rattle.table.specs.Laws.Sound.{represents-sound}
 use Rattle.abi.specs.Encoding.{encodeHeader}
 use Rattle.image_spec.specs.Image.{Image, packed, imageBody, imageWords, isImage, Reads, reads, SoundImage, imageOf, imageLength}
-use Rattle.image_spec.specs.Contracts.{lengthSays, writeRefusal}
+use Rattle.image_spec.specs.Contracts.{lengthView, writeRefusal}
 use Rattle.image_spec.specs.Laws.Unique.{Parts, image-parts, parts-image, length-encoded, length-packed}
 use Rattle.archive.specs.Archive.{Saved}
 use Rattle.archive.specs.Laws.Contents.{SameInUse, contents-same}
@@ -63,9 +63,9 @@ module _ {p : Plain} {s : Stores} (r : Represents p s) {words : List ℕ} (saved
   refusal : ℕ
   refusal = writeRefusal (s .header) (length (s .rows)) (length (s .sorts)) (length (s .pending)) (length (saved .text)) (length (saved .output))
 
-  said : (refusal ≡ 0) × (saved .count ≡ imageLength (s .header) (length (saved .text)))
-  unfolding refusal lengthSays
-  said = accepted-number refusal _ _ (saved .written .answers)
+  accepted-size : (refusal ≡ 0) × (saved .count ≡ imageLength (s .header) (length (saved .text)))
+  unfolding refusal lengthView
+  accepted-size = accepted-number refusal _ _ (saved .written .answers)
 
   inside : Inside (s .header)
   inside = outside-inside (s .header) (represents-inside r)
@@ -92,7 +92,7 @@ module _ {p : Plain} {s : Stores} (r : Represents p s) {words : List ℕ} (saved
   saved-parts =
       record {
         bounds = represents-inside r;
-        text-fits = ltb-false _ _ (first-no _ _ _ (first-rest _ _ _ (first-rest _ _ _ (said .0))));
+        text-fits = ltb-false _ _ (firstRefusal-no _ _ _ (firstRefusal-rest _ _ _ (firstRefusal-rest _ _ _ (accepted-size .0))));
         text-bytes = saved .bytes;
         rows-counted = length-take-le _ _ rows-in;
         sorts-counted = length-take-le _ _ sorts-in;
@@ -100,11 +100,11 @@ module _ {p : Plain} {s : Stores} (r : Represents p s) {words : List ℕ} (saved
       }
 
   pub saved-words : words ≡ imageWords savedImage
-  unfolding putAt refusal
+  unfolding splice refusal
   saved-words =
       saved .image
-      ∙ ap (take (saved .count)) (saved .written .written (said .0))
-      ∙ take-at (imageWords savedImage) _ (saved .count) (length-image savedImage saved-parts ∙ sym (said .1))
+      ∙ ap (take (saved .count)) (saved .written .written (accepted-size .0))
+      ∙ take-at (imageWords savedImage) _ (saved .count) (length-image savedImage saved-parts ∙ sym (accepted-size .1))
 
   pub saved-reads : Reads words (some savedImage)
   saved-reads = reads savedImage (parts-image savedImage saved-parts) saved-words

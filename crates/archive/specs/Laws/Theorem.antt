@@ -9,24 +9,24 @@ use native.Mathlib.Omega.{arith}
 use lib.ListN.{length, take}
 use mathlib.Core.List.{append-nil}
 use borrow.Author.Tests.{ltb-false}
-use Rattle.lists.specs.Laws.Every.{or-no-left, or-no-right}
-use Rattle.refusals.specs.Refusals.{Reply, refused, accepted, reply, verdict}
+use Rattle.lists.specs.Laws.All.{or-no-left, or-no-right}
+use Rattle.refusals.specs.Refusals.{Reply, refused, accepted, reply, outcome}
 use Rattle.plain_table.specs.Staged.{Opening}
 use Rattle.plain_table.specs.Plain.{Plain, opened}
 use Rattle.plain_table.specs.Calls.{LentCall, after, afterAll}
-use Rattle.plain_table.specs.Laws.Calls.{first-no, first-rest}
+use Rattle.plain_table.specs.Laws.Calls.{firstRefusal-no, firstRefusal-rest}
 use Rattle.table.specs.declared.Header.{Header}
 use Rattle.table.specs.declared.TableAnswer.{TableAnswer}
 use Rattle.table.specs.declared.TableAnswer.the-variants.{Table}
-use Rattle.table.specs.Numbers.{openingOf, tableSays}
+use Rattle.table.specs.Numbers.{openingOf, tableView}
 use Rattle.table.specs.Refusing.{outside, pendingOutside, rowsShort, pairsShort}
-use Rattle.table.specs.Promises.{Stores, stores, Body, body, bodyOf, joined, Represents}
+use Rattle.table.specs.Contracts.{Stores, stores, Body, body, bodyOf, joined, Represents}
 use Rattle.table.specs.Laws.Shown.{LongEnough, represents-long}
 use Rattle.table.specs.Laws.Live.{live-shown}
 use Rattle.table.specs.Laws.Fronts.{long-header, pending-part, pending-more, body-part, body-more}
 use Rattle.image_spec.specs.declared.LengthAnswer.the-variants.{Length}
 use Rattle.image_spec.specs.Image.{Image, imageWords, imageOf, imageLength}
-use Rattle.image_spec.specs.Contracts.{lengthSays, writeRefusal, withCapacity, readRefusal, Loaded, ImageRead}
+use Rattle.image_spec.specs.Contracts.{lengthView, writeRefusal, withCapacity, readRefusal, Loaded, ImageRead}
 use Rattle.image_spec.specs.Laws.Unique.{Parts, image-parts}
 use Rattle.history.specs.Histories.{behind, Step}
 use Rattle.history.specs.Claim.{liveIn, Claimed}
@@ -50,11 +50,11 @@ read-after-write p s words capacity b pending answer b′ pending′ r saved m =
 
 module _ (words : List ℕ) (b : Body) (pending : List ℕ) (h : Header) (b′ : Body) (pending′ : List ℕ) (m : ImageRead words 0 b pending (Table h) b′ pending′) where
   none-refused : readRefusal (m .decoded .image) (m .decoded .sound) 0 b pending ≡ 0
-  unfolding tableSays
+  unfolding tableView
   none-refused = accepted-none h _ (m .refusal)
 
   of-image : IsImage words (m .decoded .image) → (text : List ℕ) × (words ≡ imageWords (imageOf h (b′ .rows) (b′ .sorts) pending′ text))
-  unfolding tableSays
+  unfolding tableView
   of-image k =
       let i = k .image in
       let l : Loaded i 0 b pending (Table h) b′ pending′ = m .loaded i (k .is-read) none-refused in
@@ -80,15 +80,15 @@ module _ (words : List ℕ) (b : Body) (pending : List ℕ) (h : Header) (b′ :
 
 module _ {p : Plain} {s : Stores} (rows sorts pending : List ℕ) (r : Represents p (behind s (body rows [] sorts) pending)) {words : List ℕ} (saved : Saved s words) where
   none-short : writeRefusal (s .header) (length (s .rows)) (length (s .sorts)) (length (s .pending)) (length (saved .text)) (length (saved .output)) ≡ 0
-  unfolding lengthSays
+  unfolding lengthView
   none-short = accepted-number _ _ _ (saved .written .answers) .0
 
   -- what `write_image` is lent represents the table as well
   lent-represents : Represents p s
   unfolding writeRefusal pendingOutside rowsShort pairsShort
   lent-represents =
-      let outside-no = first-no _ _ _ none-short in
-      let short-no = first-no _ _ _ (first-rest _ _ _ none-short) in
+      let outside-no = firstRefusal-no _ _ _ none-short in
+      let short-no = firstRefusal-no _ _ _ (firstRefusal-rest _ _ _ none-short) in
       let fits = ltb-false _ _ (or-no-right (outside (s .header)) _ outside-no) in
       let whole = long-header r in
       body-part (body rows [] sorts) (pending-part pending r fits)
@@ -117,7 +117,7 @@ archived-claimed o generation calls s a =
     let shown = archive-represents a in
     record {
       live-rows = unfold liveIn in live-shown shown;
-      ids-left = λ start questions end accepted run refined.
+      ids-left = λ start queries end accepted run refined.
           let left = run-narrows shown run in
           (narrowed-wanted left refined, narrowed-rising left refined);
     }

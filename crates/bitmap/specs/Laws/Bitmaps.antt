@@ -13,10 +13,10 @@ use lib.Dec.{eqb}
 use lib.ListN.{length, getD, replicate, length-replicate, getD-replicate}
 use lib.Pow.{mod-pow-add}
 use borrow.Author.Tests.{eq-eqb, ne-eqb, eqb-true}
-use Rattle.lists.specs.Laws.Keep.{split}
-use Rattle.lists.specs.Laws.Every.{or-right, or-second}
-use Rattle.bitmap.specs.Laws.Lowest.{marks-same}
-use Rattle.row_buffer.specs.Ranks.{marks, countTo}
+use Rattle.lists.specs.Laws.Filter.{split}
+use Rattle.lists.specs.Laws.All.{or-right, or-second}
+use Rattle.bitmap.specs.Laws.Lowest.{bitmapWord-same}
+use Rattle.row_buffer.specs.Ranks.{bitmapWord, countTo}
 use Rattle.bitmap.specs.inner.Bitmaps.{Bitmap, MarkedOne, Marked}
 
 -- ---- setting one bit, in a sum over the bits; words and counts are such sums
@@ -25,10 +25,10 @@ unfoldable sumTo : (ℕ → ℕ) → (ℕ → Bool) → ℕ → ℕ
 sumTo weight f zero = 0
 sumTo weight f (suc n) = sumTo weight f n + cond (f n) (weight n) 0
 
-marks-sum : (f : ℕ → Bool) (n : ℕ) → marks f n ≡ sumTo (λ i. 2 ^ i) f n
-unfolding marks sumTo
-marks-sum f zero = refl
-marks-sum f (suc n) = rw (marks-sum f n)
+bitmapWord-sum : (f : ℕ → Bool) (n : ℕ) → bitmapWord f n ≡ sumTo (λ i. 2 ^ i) f n
+unfolding bitmapWord sumTo
+bitmapWord-sum f zero = refl
+bitmapWord-sum f (suc n) = rw (bitmapWord-sum f n)
 
 count-sum : (f : ℕ → Bool) (n : ℕ) → countTo f n ≡ sumTo (λ i. 1) f n
 unfolding countTo sumTo
@@ -52,8 +52,8 @@ module _ (weight : ℕ → ℕ) (f : ℕ → Bool) (k : ℕ) where
   ]
 
 -- a bitmap word with one more bit
-pub marks-with : (f : ℕ → Bool) (k n : ℕ) → k < n → marks (λ i. eqb i k || f i) n ≡ marks f n + cond (f k) 0 (2 ^ k)
-marks-with f k n h = marks-sum _ n ∙ sum-with (λ i. 2 ^ i) f k n h ∙ ap (λ (x : ℕ). x + cond (f k) 0 (2 ^ k)) (sym (marks-sum f n))
+pub bitmapWord-with : (f : ℕ → Bool) (k n : ℕ) → k < n → bitmapWord (λ i. eqb i k || f i) n ≡ bitmapWord f n + cond (f k) 0 (2 ^ k)
+bitmapWord-with f k n h = bitmapWord-sum _ n ∙ sum-with (λ i. 2 ^ i) f k n h ∙ ap (λ (x : ℕ). x + cond (f k) 0 (2 ^ k)) (sym (bitmapWord-sum f n))
 
 -- the number of bits
 pub count-with : (f : ℕ → Bool) (k n : ℕ) → k < n → countTo (λ i. eqb i k || f i) n ≡ countTo f n + cond (f k) 0 1
@@ -68,7 +68,7 @@ sum-none weight (suc n) = add-zero (sumTo weight (λ i. false) n) ∙ sum-none w
 
 -- the initial bitmap: no row is set
 pub bitmap-none : Bitmap (replicate 1024 0) (λ i. false)
-bitmap-none = record { long = length-replicate {A = ℕ} 1024 0; marked = λ w h. getD-replicate 1024 w 0 0 h ∙ sym (marks-sum _ 64 ∙ sum-none (λ i. 2 ^ i) 64) }
+bitmap-none = record { long = length-replicate {A = ℕ} 1024 0; marked = λ w h. getD-replicate 1024 w 0 0 h ∙ sym (bitmapWord-sum _ 64 ∙ sum-none (λ i. 2 ^ i) 64) }
 
 pub count-none : (n : ℕ) → countTo (λ i. false) n ≡ 0
 count-none n = count-sum _ n ∙ sum-none (λ i. 1) n
@@ -77,12 +77,12 @@ count-none n = count-sum _ n ∙ sum-none (λ i. 1) n
 unfoldable pub bitSet : List ℕ → ℕ → Bool
 bitSet words i = eqb (getD words (i / 64) 0 / 2 ^ (i % 64) % 2) 1
 
-digits-marks : (word n : ℕ) → marks (λ bit. eqb (word / 2 ^ bit % 2) 1) n ≡ word % 2 ^ n
-unfolding marks
-digits-marks word zero = omega arith
-digits-marks word (suc n) =
+digits-bitmapWord : (word n : ℕ) → bitmapWord (λ bit. eqb (word / 2 ^ bit % 2) 1) n ≡ word % 2 ^ n
+unfolding bitmapWord
+digits-bitmapWord word zero = omega arith
+digits-bitmapWord word (suc n) =
     let e : word % 2 ^ suc n ≡ word / 2 ^ n % 2 * 2 ^ n + word % 2 ^ n = rw (← one-add n) (mod-pow-add word 1 n) in
-    rw (e, digits-marks word n) (elim (decLt (word / 2 ^ n % 2) 1) [
+    rw (e, digits-bitmapWord word n) (elim (decLt (word / 2 ^ n % 2) 1) [
       | yes b ↦ let z : word / 2 ^ n % 2 ≡ 0 = omega arith in rw z (omega arith)
       | no b ↦ let o : word / 2 ^ n % 2 ≡ 1 = omega arith in rw o (omega arith)
     ])
@@ -92,7 +92,7 @@ unfolding bitSet
 bitmap-of words long bits =
     record {
       long = long;
-      marked = λ w h. sym (marks-same _ (λ bit. eqb (getD words w 0 / 2 ^ bit % 2) 1) 64 (λ bit b. same w bit b) ∙ digits-marks (getD words w 0) 64 ∙ mod-eq-of-lt (bits w));
+      marked = λ w h. sym (bitmapWord-same _ (λ bit. eqb (getD words w 0 / 2 ^ bit % 2) 1) 64 (λ bit b. same w bit b) ∙ digits-bitmapWord (getD words w 0) 64 ∙ mod-eq-of-lt (bits w));
     }
   where
     same : (w bit : ℕ) → bit < 64 → bitSet words (64 * w + bit) ≡ eqb (getD words w 0 / 2 ^ bit % 2) 1

@@ -11,24 +11,24 @@ use lib.Count.{trailingZeros}
 use lib.Dec.{leb}
 use lib.Pow.{pow-pos}
 use borrow.Author.Tests.{le-leb, lt-leb}
-use Rattle.lists.specs.Laws.Keep.{split}
-use Rattle.row_buffer.specs.Ranks.{marks}
+use Rattle.lists.specs.Laws.Filter.{split}
+use Rattle.row_buffer.specs.Ranks.{bitmapWord}
 
 -- the bitmap words of two tests that agree
-pub marks-same : (f g : ℕ → Bool) (n : ℕ) → ((k : ℕ) → k < n → f k ≡ g k) → marks f n ≡ marks g n
-unfolding marks
-marks-same f g zero h = refl
-marks-same f g (suc n) h = rw (marks-same f g n (λ k b. h k (omega arith)), h n (omega arith))
+pub bitmapWord-same : (f g : ℕ → Bool) (n : ℕ) → ((k : ℕ) → k < n → f k ≡ g k) → bitmapWord f n ≡ bitmapWord g n
+unfolding bitmapWord
+bitmapWord-same f g zero h = refl
+bitmapWord-same f g (suc n) h = rw (bitmapWord-same f g n (λ k b. h k (omega arith)), h n (omega arith))
 
 -- no bit is set
-pub marks-none : (f : ℕ → Bool) (n : ℕ) → marks f n ≡ 0 → (k : ℕ) → k < n → f k ≡ false
-unfolding marks
-marks-none f zero e k h = absurd (omega arith)
-marks-none f (suc n) e k h = elim (split (f n)) [
-  | inl q ↦ absurd (let z : marks f n + 2 ^ n ≡ 0 = rw q at e in omega (arith, pow-pos n))
+pub bitmapWord-none : (f : ℕ → Bool) (n : ℕ) → bitmapWord f n ≡ 0 → (k : ℕ) → k < n → f k ≡ false
+unfolding bitmapWord
+bitmapWord-none f zero e k h = absurd (omega arith)
+bitmapWord-none f (suc n) e k h = elim (split (f n)) [
+  | inl q ↦ absurd (let z : bitmapWord f n + 2 ^ n ≡ 0 = rw q at e in omega (arith, pow-pos n))
   | inr q ↦
-      let z : marks f n + 0 ≡ 0 = rw q at e in
-      elim (decLt k n) [ yes b ↦ marks-none f n (omega arith) k b | no b ↦ let s : k ≡ n = omega arith in rw s q ]
+      let z : bitmapWord f n + 0 ≡ 0 = rw q at e in
+      elim (decLt k n) [ yes b ↦ bitmapWord-none f n (omega arith) k b | no b ↦ let s : k ≡ n = omega arith in rw s q ]
 ]
 
 -- the lowest bit, and the word of the remaining positions shifted down by one
@@ -38,11 +38,11 @@ digit b = cond b 1 0
 abbrev above : (ℕ → Bool) → ℕ → Bool
 above f k = f (suc k)
 
-marks-low : (f : ℕ → Bool) (n : ℕ) → marks f (suc n) ≡ digit (f 0) + 2 * marks (above f) n
-unfolding marks
-marks-low f zero = omega arith
-marks-low f (suc n) =
-    let h = marks-low f n in
+bitmapWord-low : (f : ℕ → Bool) (n : ℕ) → bitmapWord f (suc n) ≡ digit (f 0) + 2 * bitmapWord (above f) n
+unfolding bitmapWord
+bitmapWord-low f zero = omega arith
+bitmapWord-low f (suc n) =
+    let h = bitmapWord-low f n in
     let p : 2 ^ suc n ≡ 2 ^ n * 2 = pow-suc 2 n in
     elim (split (f (suc n))) [ inl q ↦ rw q (omega arith) | inr q ↦ rw q (omega arith) ]
 
@@ -74,34 +74,34 @@ pub record Lowest (f : ℕ → Bool) (n m z : ℕ) : Type 0 where
   pub below : z < n
   pub set : f z ≡ true
   pub none : (k : ℕ) → k < z → f k ≡ false
-  pub rest : (g : ℕ → Bool) → ((k : ℕ) → k < n → (k ≡ z → ⊥) → g k ≡ f k) → g z ≡ false → bitAnd m (m - 1) ≡ marks g n
+  pub rest : (g : ℕ → Bool) → ((k : ℕ) → k < n → (k ≡ z → ⊥) → g k ≡ f k) → g z ≡ false → bitAnd m (m - 1) ≡ bitmapWord g n
 
-lowest : (d : ℕ) (f : ℕ → Bool) (n : ℕ) → n ≤ d → 0 < marks f n → Lowest f n (marks f n) (trailingZeros d (marks f n))
-lowest d f zero h some = absurd (let z : marks f 0 ≡ 0 = unfold marks in refl in omega arith)
+lowest : (d : ℕ) (f : ℕ → Bool) (n : ℕ) → n ≤ d → 0 < bitmapWord f n → Lowest f n (bitmapWord f n) (trailingZeros d (bitmapWord f n))
+lowest d f zero h some = absurd (let z : bitmapWord f 0 ≡ 0 = unfold bitmapWord in refl in omega arith)
 lowest zero f (suc n) h some = absurd (omega arith)
 lowest (suc d) f (suc n) h some = elim (split (f 0)) [ inl e ↦ odd e | inr e ↦ even e (λ some. lowest d (above f) n (omega arith) some) ]
   where
-    odd : f 0 ≡ true → Lowest f (suc n) (marks f (suc n)) (trailingZeros (suc d) (marks f (suc n)))
+    odd : f 0 ≡ true → Lowest f (suc n) (bitmapWord f (suc n)) (trailingZeros (suc d) (bitmapWord f (suc n)))
     odd e =
-        let m : marks f (suc n) ≡ 1 + 2 * marks (above f) n = marks-low f n ∙ rw e in
-        rw (zeros-odd d (marks f (suc n)) (omega arith))
+        let m : bitmapWord f (suc n) ≡ 1 + 2 * bitmapWord (above f) n = bitmapWord-low f n ∙ rw e in
+        rw (zeros-odd d (bitmapWord f (suc n)) (omega arith))
         (record {
           below = omega arith;
           set = e;
           none = λ k b. absurd (omega arith);
           rest = λ g same off.
-              let u : marks (above g) n ≡ marks (above f) n = marks-same _ _ n (λ k b. same (suc k) (omega arith) (λ q. omega arith)) in
-              and-odd (marks f (suc n)) (marks (above f) n) m ∙ sym (marks-low g n ∙ rw (off, u) (omega arith));
+              let u : bitmapWord (above g) n ≡ bitmapWord (above f) n = bitmapWord-same _ _ n (λ k b. same (suc k) (omega arith) (λ q. omega arith)) in
+              and-odd (bitmapWord f (suc n)) (bitmapWord (above f) n) m ∙ sym (bitmapWord-low g n ∙ rw (off, u) (omega arith));
         })
 
-    even : f 0 ≡ false → (0 < marks (above f) n → Lowest (above f) n (marks (above f) n) (trailingZeros d (marks (above f) n)))
-        → Lowest f (suc n) (marks f (suc n)) (trailingZeros (suc d) (marks f (suc n)))
+    even : f 0 ≡ false → (0 < bitmapWord (above f) n → Lowest (above f) n (bitmapWord (above f) n) (trailingZeros d (bitmapWord (above f) n)))
+        → Lowest f (suc n) (bitmapWord f (suc n)) (trailingZeros (suc d) (bitmapWord f (suc n)))
     even e deeper =
-        let m : marks f (suc n) ≡ 2 * marks (above f) n = marks-low f n ∙ rw e (omega arith) in
-        let half : marks f (suc n) / 2 ≡ marks (above f) n = omega arith in
-        let some-upper : 0 < marks (above f) n = omega arith in
+        let m : bitmapWord f (suc n) ≡ 2 * bitmapWord (above f) n = bitmapWord-low f n ∙ rw e (omega arith) in
+        let half : bitmapWord f (suc n) / 2 ≡ bitmapWord (above f) n = omega arith in
+        let some-upper : 0 < bitmapWord (above f) n = omega arith in
         let l = deeper some-upper in
-        rw (zeros-even d (marks f (suc n)) (omega arith), half)
+        rw (zeros-even d (bitmapWord f (suc n)) (omega arith), half)
         (record {
           below = omega (arith, l .below);
           set = l .set;
@@ -109,7 +109,7 @@ lowest (suc d) f (suc n) h some = elim (split (f 0)) [ inl e ↦ odd e | inr e �
           rest = λ g same off.
               let zero-off : g 0 ≡ false = same 0 (omega arith) (λ q. omega arith) ∙ e in
               let u = l .rest (above g) (λ k b ne. same (suc k) (omega arith) (λ q. ne (omega arith))) off in
-              and-even (marks f (suc n)) (marks (above f) n) m some-upper ∙ sym (marks-low g n ∙ rw (zero-off, ← u) (omega arith));
+              and-even (bitmapWord f (suc n)) (bitmapWord (above f) n) m some-upper ∙ sym (bitmapWord-low g n ∙ rw (zero-off, ← u) (omega arith));
         })
       where
         first : {z : ℕ} → f 0 ≡ false → ((k : ℕ) → k < z → f (suc k) ≡ false) → (k : ℕ) → k < suc z → f k ≡ false
@@ -131,8 +131,8 @@ module _ (f : ℕ → Bool) where
   onward-out j k h = rw (lt-leb j k h)
 
   -- from position 0 on: all bits
-  pub onward-all : (n : ℕ) → marks f n ≡ marks (onward f 0) n
-  onward-all n = marks-same f (onward f 0) n (λ k h. sym (onward-in 0 k (omega arith)))
+  pub onward-all : (n : ℕ) → bitmapWord f n ≡ bitmapWord (onward f 0) n
+  onward-all n = bitmapWord-same f (onward f 0) n (λ k h. sym (onward-in 0 k (omega arith)))
 
   -- the position of the next set bit
   pub record Next (j n m z : ℕ) : Type 0 where
@@ -140,11 +140,11 @@ module _ (f : ℕ → Bool) where
     pub below : z < n
     pub set : f z ≡ true
     pub none : (k : ℕ) → j ≤ k → k < z → f k ≡ false
-    pub rest : bitAnd m (m - 1) ≡ marks (onward f (z + 1)) n
+    pub rest : bitAnd m (m - 1) ≡ bitmapWord (onward f (z + 1)) n
 
-  module _ (j n m : ℕ) (e : m ≡ marks (onward f j) n) where
-    pub next-mark : n ≤ 64 → (m ≡ 0 → ⊥) → Next j n m (trailingZeros 64 m)
-    next-mark few some =
+  module _ (j n m : ℕ) (e : m ≡ bitmapWord (onward f j) n) where
+    pub next-bit : n ≤ 64 → (m ≡ 0 → ⊥) → Next j n m (trailingZeros 64 m)
+    next-bit few some =
         let l : Lowest (onward f j) n m (trailingZeros 64 m) = rw e (lowest 64 (onward f j) n few (omega arith)) in
         let z = trailingZeros 64 m in
         let after : j ≤ z = elim (decLt z j) [ yes h ↦ absurd (false≢true (sym (onward-out j z h) ∙ l .set)) | no h ↦ omega arith ] in
@@ -161,4 +161,4 @@ module _ (f : ℕ → Bool) where
 
     -- there is no further set bit
     pub no-more : m ≡ 0 → (k : ℕ) → j ≤ k → k < n → f k ≡ false
-    no-more z k h b = sym (onward-in j k h) ∙ marks-none (onward f j) n (sym e ∙ z) k b
+    no-more z k h b = sym (onward-in j k h) ∙ bitmapWord-none (onward f j) n (sym e ∙ z) k b

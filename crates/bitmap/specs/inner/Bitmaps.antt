@@ -5,12 +5,12 @@ use mathlib.Core.Bool.{Bool, true, false, cond, _||_}
 use mathlib.Core.List.{List}
 use lib.ListN.{length, getD}
 use lib.Dec.{eqb}
-use Rattle.row_buffer.specs.Ranks.{marks, countTo}
+use Rattle.row_buffer.specs.Ranks.{bitmapWord, countTo}
 
 -- exactly the rows that pass the test are set
 pub record Bitmap (words : List ℕ) (test : ℕ → Bool) : Type 0 where
   pub long : length words ≡ 1024
-  pub marked : (w : ℕ) → w < 1024 → getD words w 0 ≡ marks (λ bit. test (64 * w + bit)) 64
+  pub marked : (w : ℕ) → w < 1024 → getD words w 0 ≡ bitmapWord (λ bit. test (64 * w + bit)) 64
 
 -- one more row is set: 1 if it was not set before, else 0
 pub record MarkedOne (words : List ℕ) (row : ℕ) (words′ : List ℕ) (more : ℕ) : Type 0 where

@@ -1,12 +1,12 @@
 -- `cells::compact_hash` meets its contract. Assumes nothing.
 use mathlib.Core.Path.{ap, _∙_}
 use borrow.Author.Needs.{needs}
-use Rattle.cells.specs.Cells.{compact}
+use Rattle.cells.specs.Cells.{compactHash}
 use Rattle.cells.proofs.compact_hash.Statement.{statement}
 use Rattle.cells.proofs.compact_hash.Tie as tie
 
 returns : tie.Need-returns
-returns c = c .from-full .ensures ∙ ap compact (c .before .key-hash .ensures)
+returns c = c .from-full .ensures ∙ ap compactHash (c .before .key-hash .ensures)
 
 pub compact-hash-spec : {M : Type 1} → statement M
 compact-hash-spec = tie.close (tie.spec (λ c κs. search needs) (λ c κs. search needs) returns)

@@ -7,8 +7,8 @@ use native.Mathlib.Decide.{ℕ-discrete}
 use native.Mathlib.Omega.{arith}
 use lib.Dec.{leb, ltb, eqb}
 use borrow.Author.Tests.{ltb-true, ltb-false, eqb-true, eqb-false, le-leb, lt-leb, le-ltb, ne-eqb}
-use Rattle.lists.specs.Laws.Keep.{split}
-use Rattle.lists.specs.Laws.Every.{or-no-left, or-no-right}
+use Rattle.lists.specs.Laws.Filter.{split}
+use Rattle.lists.specs.Laws.All.{or-no-left, or-no-right}
 use Rattle.constraints.specs.Constraints.{compares}
 use Rattle.constraints.proofs.compares.Statement.{statement}
 use Rattle.constraints.proofs.compares.Tie as tie

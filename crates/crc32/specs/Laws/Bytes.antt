@@ -5,7 +5,7 @@ use mathlib.Core.List.{List, [], _∷_, _++_, append-assoc}
 use native.Mathlib.Omega.{arith}
 use lib.ListN.{length, getD, take, drop, length-append}
 use lib.Seq.{take-at, drop-at}
-use Rattle.lists.specs.Lists.{flat}
+use Rattle.lists.specs.Lists.{flatten}
 use Rattle.crc32.specs.Crc.{wordBytes, bytesOf}
 use Rattle.crc32.specs.Bytes.{Below, numberOf}
 
@@ -71,24 +71,24 @@ word-bytes-injective w v h k e = sym (word-bytes-number w h) ∙ ap numberOf e �
 
 -- One word more in front.
 pub bytes-of-cons : (word : ℕ) (words : List ℕ) → bytesOf (word ∷ words) ≡ wordBytes word ++ bytesOf words
-unfolding bytesOf flat
+unfolding bytesOf flatten
 bytes-of-cons word words = refl
 
 -- The bytes of words after words.
 pub bytes-of-append : (a b : List ℕ) → bytesOf (a ++ b) ≡ bytesOf a ++ bytesOf b
-unfolding bytesOf flat
+unfolding bytesOf flatten
 bytes-of-append [] b = refl
 bytes-of-append (w ∷ a) b = ap (λ (l : List ℕ). wordBytes w ++ l) (bytes-of-append a b) ∙ sym (append-assoc (wordBytes w) (bytesOf a) (bytesOf b))
 
 -- Each byte of words is below 256.
 pub bytes-of-below : (words : List ℕ) → Below 256 (bytesOf words)
-unfolding bytesOf flat
+unfolding bytesOf flatten
 bytes-of-below [] i = omega arith
 bytes-of-below (w ∷ words) i = below-append 256 (wordBytes w) (bytesOf words) (word-bytes-below w) (bytes-of-below words) i
 
 -- There are four for each word.
 pub bytes-of-length : (words : List ℕ) → length (bytesOf words) ≡ 4 * length words
-unfolding bytesOf flat
+unfolding bytesOf flatten
 bytes-of-length [] = refl
 bytes-of-length (w ∷ words) =
     length-append (wordBytes w) (bytesOf words) ∙ ap₂ (λ (m n : ℕ). m + n) (word-bytes-length w) (bytes-of-length words)

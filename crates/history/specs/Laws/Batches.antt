@@ -3,55 +3,55 @@ use Prim.Native.Nat.{ℕ, zero, suc}
 use mathlib.Core.Path.{_≡_, refl, sym, ap, _∙_}
 use mathlib.Core.List.{List, map}
 use native.Mathlib.Omega.{arith}
-use Rattle.refusals.specs.Refusals.{accepted, reply, verdict}
+use Rattle.refusals.specs.Refusals.{accepted, reply, outcome}
 use Rattle.plain_table.specs.Staged.{insert}
 use Rattle.plain_table.specs.Refusing.{Lengths}
 use Rattle.plain_table.specs.Plain.{Plain, Numbered, merged as mergedPlain, stage as stagePlain}
 use Rattle.plain_table.specs.Calls.{staging, merging, done}
 use Rattle.plain_table.specs.Laws.Calls.{accepted-done}
 use Rattle.plain_table.specs.Laws.Batches.{batch, liveCells, cut-anywhere}
-use Rattle.table.specs.Promises.{Stores, Represents}
-use Rattle.table.specs.Laws.Ladders.{stage-ladders, merge-ladders}
+use Rattle.table.specs.Contracts.{Stores, Represents}
+use Rattle.table.specs.Laws.Checks.{stage-checks, merge-checks}
 use Rattle.table.specs.Laws.Refusals.{merge-accepted}
 use Rattle.table.specs.Laws.Fronts.{pending-part, body-part}
 use Rattle.table.specs.Laws.Sound.{sound-represents}
 use Rattle.history.specs.Histories.{stages, merges, Step, called}
 use Rattle.history.specs.Claim.{liveIn}
-use Rattle.history.specs.Batches.{verdictIn, verdictOf, statusTold, statusIn, statusOf, Batch, merge, stage, cellsIn, CutAnywhere}
+use Rattle.history.specs.Batches.{outcomeIn, outcomeOf, mergeStatus, statusIn, statusOf, Batch, merge, stage, liveCellsIn, CutAnywhere}
 use Rattle.table.specs.Laws.Live.{live-shown}
 use Rattle.history.specs.Laws.Calls.{step-represents}
 
 -- an accepted reply has refusal number 0
-replied-accepts : {A : Type 0} (n : ℕ) (a : A) → verdict (reply n a) ≡ accepted tt → n ≡ 0
-unfolding reply verdict
+replied-accepts : {A : Type 0} (n : ℕ) (a : A) → outcome (reply n a) ≡ accepted tt → n ≡ 0
+unfolding reply outcome
 replied-accepts zero a e = refl
 replied-accepts (suc n) a e = absurd (let z : _≡_ {A = ℕ} 0 1 = cc in omega arith)
 
-verdict-again : (n : ℕ) → verdict (reply {A = Unit {0}} n tt) ≡ reply n tt
-unfolding reply verdict
-verdict-again zero = refl
-verdict-again (suc n) = refl
+outcome-again : (n : ℕ) → outcome (reply {A = Unit {0}} n tt) ≡ reply n tt
+unfolding reply outcome
+outcome-again zero = refl
+outcome-again (suc n) = refl
 
 -- ---- the calls of a batch, on a plain table
 
 -- an accepted staging
 stage-represents : {p : Plain} {s t : Stores} → Represents p s → {row : List ℕ} {l : Lengths} (step : Step s (record { call = staging (insert row); lengths = l }) t)
-    → verdictOf step ≡ accepted tt → Represents (stagePlain p (insert row)) t
-unfolding verdictOf verdictIn done
+    → outcomeOf step ≡ accepted tt → Represents (stagePlain p (insert row)) t
+unfolding outcomeOf outcomeIn done
 stage-represents {p} r {row} {l} (called {s} rest more (stages q answer pending′ m)) v =
     let n = replied-accepts _ _ (rw (m .answers) at v) in
-    rw (accepted-done p l (staging q) (sym (stage-ladders r l q) ∙ n)) at (step-represents r (called {s = s} rest more (stages q answer pending′ m)))
+    rw (accepted-done p l (staging q) (sym (stage-checks r l q) ∙ n)) at (step-represents r (called {s = s} rest more (stages q answer pending′ m)))
 
 -- an accepted merge, and its status
 merge-represents : {p : Plain} {s t : Stores} → Represents p s → {l : Lengths} (step : Step s (record { call = merging; lengths = l }) t)
-    → verdictOf step ≡ accepted tt → Represents (mergedPlain p .table) t × (statusOf step ≡ mergedPlain p .status)
-unfolding verdictOf verdictIn statusOf statusIn statusTold done
+    → outcomeOf step ≡ accepted tt → Represents (mergedPlain p .table) t × (statusOf step ≡ mergedPlain p .status)
+unfolding outcomeOf outcomeIn statusOf statusIn mergeStatus done
 merge-represents {p} r {l} (called {s} rest more (merges w answer b′ w′ m)) v =
-    let n = replied-accepts {A = Unit {0}} _ tt (verdict-again _ ∙ sym (m .refusal) ∙ v) in
+    let n = replied-accepts {A = Unit {0}} _ tt (outcome-again _ ∙ sym (m .refusal) ∙ v) in
     let k = merge-accepted (s .header) l n in
     let lent = body-part rest (pending-part more r (k .pending-fits)) (k .long) in (
-      rw (accepted-done p l merging (sym (merge-ladders r l) ∙ n)) at (step-represents r (called {s = s} rest more (merges w answer b′ w′ m))),
-      ap statusTold (m .table n p lent .answers),
+      rw (accepted-done p l merging (sym (merge-checks r l) ∙ n)) at (step-represents r (called {s = s} rest more (merges w answer b′ w′ m))),
+      ap mergeStatus (m .table n p lent .answers),
     )
 
 -- a batch stages its rows and merges them, without a stop
@@ -63,8 +63,8 @@ batch-represents r (stage step v more) = batch-represents (stage-represents r st
 
 -- ---- the theorem
 
-cells-shown : {p : Plain} {s : Stores} → Represents p s → cellsIn s ≡ liveCells p
-unfolding cellsIn liveIn liveCells
+cells-shown : {p : Plain} {s : Stores} → Represents p s → liveCellsIn s ≡ liveCells p
+unfolding liveCellsIn liveIn liveCells
 cells-shown r = ap (map (λ (row : Numbered). row .cells)) (live-shown r)
 
 pub batch-cut : CutAnywhere

@@ -7,29 +7,29 @@ use mathlib.Core.List.{List, [], append-nil}
 use native.Mathlib.Omega.{arith}
 use lib.ListN.{length}
 use Rattle.lists.specs.Lists.{any}
-use Rattle.refusals.specs.Refusals.{first}
+use Rattle.refusals.specs.Refusals.{firstRefusal}
 use Rattle.refusals.specs.Laws.Replies.{some-number}
 use Rattle.plain_table.specs.Staged.{Opening, Staged}
 use Rattle.plain_table.specs.Plain.{Plain, opened}
-use Rattle.plain_table.specs.Refusing.{Lengths, storesShort, wordsShort, compactLadder}
+use Rattle.plain_table.specs.Refusing.{Lengths, storesShort, wordsShort, compactChecks}
 use Rattle.plain_table.specs.Refreshing.{Refresh}
 use Rattle.plain_table.specs.Calls.{Call, staging, merging, compacting, clearing, refreshing, feeding, recordsOf, stageAll, refusal, done, after, LentCall, afterAll}
 use Rattle.plain_table.specs.Laws.Calls.{refused-nothing, accepted-done}
 use Rattle.plain_table.specs.Laws.Refreshing.{whole-right}
 use Rattle.table.specs.declared.TableAnswer.{TableAnswer}
 use Rattle.table.specs.declared.MergeAnswer.{MergeAnswer}
-use Rattle.table.specs.Numbers.{tableSays, mergeSays}
+use Rattle.table.specs.Numbers.{tableView, mergeView}
 use Rattle.table.specs.Refusing.{stageRefusal, mergeRefusal, compactRefusal, clearRefusal}
-use Rattle.table.specs.Promises.{Stores, Represents, headerAfter, headerMerged, Staging, Merging, Compacting, Clearing, Body, body, bodyOf, joined, CompactionWords, compactionWords, lengthsLent}
-use Rattle.table.specs.Laws.Ladders.{stage-ladders, merge-ladders, compact-ladders, clear-ladders}
+use Rattle.table.specs.Contracts.{Stores, Represents, headerAfter, headerMerged, Staging, Merging, Compacting, Clearing, Body, body, bodyOf, joined, CompactionWords, compactionWords, lengthsLent}
+use Rattle.table.specs.Laws.Checks.{stage-checks, merge-checks, compact-checks, clear-checks}
 use Rattle.table.specs.Laws.Staging.{stage-accepted}
 use Rattle.table.specs.Laws.Refusals.{merge-accepted, compact-accepted, clear-accepted}
 use Rattle.table.specs.Laws.Keeps.{opening-done, staging-done, staging-refused, merging-done, merging-refused, compacting-done, compacting-refused, clearing-done, clearing-refused}
 use Rattle.table.specs.Laws.Fronts.{pending-part, pending-more, rows-part, rows-more, keys-part, keys-more, body-part, body-more}
 use Rattle.refresh_spec.specs.declared.RefreshAnswer.{RefreshAnswer}
 use Rattle.refresh_spec.specs.Index.{IndexSound}
-use Rattle.refresh_spec.specs.Refreshes.{refreshSays, recordsStaged, headerRefreshed, Refreshing}
-use Rattle.refresh_spec.specs.Laws.Keeps.{refresh-ladders, records-all, records-whole, number, found-records, passed, refreshing-done, refreshing-refused, fed-accepted, fed-refused}
+use Rattle.refresh_spec.specs.Refreshes.{refreshView, recordsStaged, headerRefreshed, Refreshing}
+use Rattle.refresh_spec.specs.Laws.Keeps.{refresh-checks, records-all, records-whole, number, found-records, passed, refreshing-done, refreshing-refused, fed-accepted, fed-refused}
 use Rattle.history.specs.Histories.{Called, stages, merges, compacts, clears, refreshes, refreshes-unsound, behind, Step, called, Steps, end, next, History}
 
 -- ---- the calls
@@ -48,12 +48,12 @@ module _ {p : Plain} (s : Stores) (rest : Body) (more : List ℕ) (r : Represent
   stays l c t h e = rw (refused-nothing p l c h) (unchanged t e)
 
   staged-represents : (q : Staged) (answer : TableAnswer) (pending′ : List ℕ) → Staging (s .header) (s .pending) q answer pending′
-      → Represents (after p (lengthsLent s (compactionWords [] [])) (staging q)) (behind (joined (headerAfter (s .header) (tableSays answer)) (bodyOf s) pending′) rest more)
+      → Represents (after p (lengthsLent s (compactionWords [] [])) (staging q)) (behind (joined (headerAfter (s .header) (tableView answer)) (bodyOf s) pending′) rest more)
   unfolding done
   staged-represents q answer pending′ m =
       let l = lengthsLent s (compactionWords [] []) in
       let n : ℕ = stageRefusal (s .header) (length (s .pending)) q in
-      let same : n ≡ refusal p l (staging q) = stage-ladders r l q in
+      let same : n ≡ refusal p l (staging q) = stage-checks r l q in
       elim (some-number n) [
         | inl e ↦
             let k = stage-accepted (s .header) (length (s .pending)) q e .free in
@@ -62,12 +62,12 @@ module _ {p : Plain} (s : Stores) (rest : Body) (more : List ℕ) (r : Represent
       ]
 
   merged-represents : (w : CompactionWords) (answer : MergeAnswer) (b′ : Body) (w′ : CompactionWords) → Merging s w answer b′ w′
-      → Represents (after p (lengthsLent s w) merging) (behind (joined (headerMerged (s .header) (mergeSays answer)) b′ (s .pending)) rest more)
+      → Represents (after p (lengthsLent s w) merging) (behind (joined (headerMerged (s .header) (mergeView answer)) b′ (s .pending)) rest more)
   unfolding done
   merged-represents w answer b′ w′ m =
       let l = lengthsLent s w in
       let n : ℕ = mergeRefusal (s .header) l in
-      let same : n ≡ refusal p l merging = merge-ladders r l in
+      let same : n ≡ refusal p l merging = merge-checks r l in
       elim (some-number n) [
         | inl e ↦
             let k = merge-accepted (s .header) l e in
@@ -77,14 +77,14 @@ module _ {p : Plain} (s : Stores) (rest : Body) (more : List ℕ) (r : Represent
       ]
 
   compacted-represents : (w : CompactionWords) (answer : TableAnswer) (b′ : Body) (w′ : CompactionWords) → Compacting (s .header) (bodyOf s) w answer b′ w′
-      → Represents (after p (lengthsLent s w) compacting) (behind (joined (headerAfter (s .header) (tableSays answer)) b′ (s .pending)) rest more)
+      → Represents (after p (lengthsLent s w) compacting) (behind (joined (headerAfter (s .header) (tableView answer)) b′ (s .pending)) rest more)
   unfolding done
   compacted-represents w answer b′ w′ m =
       let l = lengthsLent s w in
       -- the pending store is not lent, and the checks do not read it
       let k = lengthsLent (joined (s .header) (bodyOf s) []) w in
       let n : ℕ = compactRefusal (s .header) k in
-      let same : n ≡ refusal p l compacting = compact-ladders r k ∙ (unfold refusal compactLadder storesShort wordsShort in refl) in
+      let same : n ≡ refusal p l compacting = compact-checks r k ∙ (unfold refusal compactChecks storesShort wordsShort in refl) in
       elim (some-number n) [
         | inl e ↦
             goes p l compacting (sym same ∙ e) (body-more rest (compacting-done m e (body-part rest r (compact-accepted (s .header) k e .long))))
@@ -92,12 +92,12 @@ module _ {p : Plain} (s : Stores) (rest : Body) (more : List ℕ) (r : Represent
       ]
 
   cleared-represents : (answer : TableAnswer) (keys′ : List ℕ) → Clearing (s .header) (s .keys) answer keys′
-      → Represents (after p (lengthsLent s (compactionWords [] [])) clearing) (behind (joined (headerAfter (s .header) (tableSays answer)) (body (s .rows) keys′ (s .sorts)) (s .pending)) rest more)
+      → Represents (after p (lengthsLent s (compactionWords [] [])) clearing) (behind (joined (headerAfter (s .header) (tableView answer)) (body (s .rows) keys′ (s .sorts)) (s .pending)) rest more)
   unfolding done
   cleared-represents answer keys′ m =
       let l = lengthsLent s (compactionWords [] []) in
       let n : ℕ = clearRefusal (s .header) (length (s .keys)) in
-      let same : n ≡ refusal p l clearing = clear-ladders r l in
+      let same : n ≡ refusal p l clearing = clear-checks r l in
       elim (some-number n) [
         | inl e ↦
             let k = clear-accepted (s .header) (length (s .keys)) e .keys-long in
@@ -108,7 +108,7 @@ module _ {p : Plain} (s : Stores) (rest : Body) (more : List ℕ) (r : Represent
   module _ {q : Refresh} {index pending′ index′ : List ℕ} {answer : RefreshAnswer} (m : Refreshing (s .header) (s .rows) (s .pending) index q answer pending′ index′) where
     -- the lent stores after a refresh, with the cells behind them
     abbrev refreshed-stores : Stores
-    refreshed-stores = behind (joined (headerRefreshed (s .header) (refreshSays answer)) (bodyOf s) pending′) rest more
+    refreshed-stores = behind (joined (headerRefreshed (s .header) (refreshView answer)) (bodyOf s) pending′) rest more
 
     -- if accepted, it has staged the records that it found
     found-represents : number m ≡ 0 → Represents (stageAll p (found-records m)) refreshed-stores
@@ -121,7 +121,7 @@ module _ {p : Plain} (s : Stores) (rest : Body) (more : List ℕ) (r : Represent
     own-records sound long = records-all (rows-part (rest .rows) r long) q (m .found) (m .all-found sound)
 
     pub refresh-same : IndexSound (s .header) (s .rows) (q .columns) index → number m ≡ refusal p (lengthsLent s (compactionWords [] [])) (refreshing q (length index))
-    refresh-same sound = refresh-ladders r (lengthsLent s (compactionWords [] [])) (length index) q (found-records m) (own-records sound)
+    refresh-same sound = refresh-checks r (lengthsLent s (compactionWords [] [])) (length index) q (found-records m) (own-records sound)
 
     refreshed-represents : IndexSound (s .header) (s .rows) (q .columns) index
         → Represents (after p (lengthsLent s (compactionWords [] [])) (refreshing q (length index))) refreshed-stores
@@ -134,18 +134,18 @@ module _ {p : Plain} (s : Stores) (rest : Body) (more : List ℕ) (r : Represent
         ]
 
     -- over an unsound one the plain table is fed these records; none has a wrong width
-    pub fed-right : (l : Lengths) → refusal p l (feeding (recordsStaged (refreshSays answer) (found-records m))) ≡ 0
-    unfolding refusal first any
+    pub fed-right : (l : Lengths) → refusal p l (feeding (recordsStaged (refreshView answer) (found-records m))) ≡ 0
+    unfolding refusal firstRefusal any
     fed-right l =
         elim (some-number (number m)) [
           | inl e ↦ rw (fed-accepted m e, whole-right (p .opening) (found-records m) (records-whole (rows-part (rest .rows) r (passed m e .rows-long)) q (m .found)))
           | inr h ↦ rw (fed-refused m h)
         ]
 
-    fed-represents : (l : Lengths) → Represents (after p l (feeding (recordsStaged (refreshSays answer) (found-records m)))) refreshed-stores
+    fed-represents : (l : Lengths) → Represents (after p l (feeding (recordsStaged (refreshView answer) (found-records m)))) refreshed-stores
     unfolding done stageAll
     fed-represents l =
-        goes p l (feeding (recordsStaged (refreshSays answer) (found-records m))) (fed-right l)
+        goes p l (feeding (recordsStaged (refreshView answer) (found-records m))) (fed-right l)
         (elim (some-number (number m)) [
           | inl e ↦ rw (fed-accepted m e) (found-represents e)
           | inr h ↦ rw (fed-refused m h, append-nil (p .staged)) (unchanged _ (refreshing-refused m h))
@@ -173,7 +173,7 @@ steps-represents r (next step steps) = steps-represents (step-represents r step)
 
 -- an accepted opening
 pub opened-represents : {o : Opening} {generation : ℕ} {calls : List LentCall} {s : Stores} (h : History o generation calls s) → Represents (opened o generation) (behind (h .start) (h .rest) (h .pending))
-unfolding tableSays
+unfolding tableView
 opened-represents h = pending-more (h .pending) (body-more (h .rest) (opening-done (h .opened) (h .start .header) refl))
 
 -- "each on the header and the .. stores as the last left them": the stores show the plain table after the same calls

@@ -8,18 +8,18 @@ use native.Mathlib.Omega.{arith}
 use lib.Dec.{eqb}
 use lib.ListN.{length, take, drop}
 use borrow.Author.Tests.{ne-eqb}
-use Rattle.lists.specs.Lists.{putAt, rowsOf, flat}
+use Rattle.lists.specs.Lists.{splice, rowsOf, flatten}
 use Rattle.plain_table.specs.Plain.{Plain, applied, merged, compacted}
-use Rattle.plain_table.specs.Refusing.{storesShort, wordsShort, compactLadder}
+use Rattle.plain_table.specs.Refusing.{storesShort, wordsShort, compactChecks}
 use Rattle.plain_table.specs.Calls.{Call, staging, merging, compacting, clearing, refreshing, feeding, recordsOf, refusal, LentCall}
 use Rattle.table.specs.declared.Header.{Header}
 use Rattle.table.specs.Refusing.{compactRefusal}
 use Rattle.table.specs.Stores.{rowStore, sortStore, recordWords}
-use Rattle.table.specs.Promises.{Stores, Body, bodyOf, joined, compactionWords, lengthsLent, Represents, mergedRows, MergedTable, CompactedTable}
-use Rattle.table.specs.Laws.Ladders.{stage-ladders, merge-ladders, compact-ladders}
+use Rattle.table.specs.Contracts.{Stores, Body, bodyOf, joined, compactionWords, lengthsLent, Represents, mergedRows, MergedTable, CompactedTable}
+use Rattle.table.specs.Laws.Checks.{stage-checks, merge-checks, compact-checks}
 use Rattle.table.specs.Laws.Refusals.{merge-accepted, compact-accepted}
 use Rattle.table.specs.Laws.Fronts.{pending-part, body-part}
-use Rattle.refresh_spec.specs.Refreshes.{refreshSays, recordsStaged}
+use Rattle.refresh_spec.specs.Refreshes.{refreshView, recordsStaged}
 use Rattle.refresh_spec.specs.Laws.Keeps.{found-records, passed, fed-written}
 use Rattle.history.specs.Histories.{Called, stages, merges, compacts, clears, refreshes, refreshes-unsound, behind, Step, called, Steps, end, next}
 use Rattle.history.specs.Laws.Calls.{own-records, refresh-same, fed-right, step-represents}
@@ -51,12 +51,12 @@ sortsDone p (refreshing r index) sorts = sorts
 sortsDone p (feeding rs) sorts = sorts
 
 unfoldable pendingDone : Plain → Header → Call → List ℕ → List ℕ
-pendingDone p h (staging r) pending = putAt pending (h .pending) (recordWords (h .keys) r)
+pendingDone p h (staging r) pending = splice pending (h .pending) (recordWords (h .keys) r)
 pendingDone p h merging pending = pending
 pendingDone p h compacting pending = pending
 pendingDone p h clearing pending = pending
-pendingDone p h (refreshing r index) pending = putAt pending (h .pending) (flat (map (recordWords (h .keys)) (recordsOf p r)))
-pendingDone p h (feeding rs) pending = putAt pending (h .pending) (flat (map (recordWords (h .keys)) rs))
+pendingDone p h (refreshing r index) pending = splice pending (h .pending) (flatten (map (recordWords (h .keys)) (recordsOf p r)))
+pendingDone p h (feeding rs) pending = splice pending (h .pending) (flatten (map (recordWords (h .keys)) rs))
 
 -- a store of which the first n cells are lent, after a call
 unfoldable changed : ℕ → (List ℕ → List ℕ) → ℕ → List ℕ → List ℕ
@@ -87,7 +87,7 @@ module _ {p : Plain} (s : Stores) (rest : Body) (more : List ℕ) (r : Represent
   unfolding rowsDone sortsDone pendingDone
   called-leaves (stages q answer pending′ m) =
       let l = lengthsLent s (compactionWords [] []) in
-      let same = stage-ladders r l q in
+      let same = stage-checks r l q in
       record {
         rows = front-changed (refusal p l (staging q)) _ (s .rows) (rest .rows) (s .rows) (λ e. refl) (λ e. refl);
         sorts = front-changed (refusal p l (staging q)) _ (s .sorts) (rest .sorts) (s .sorts) (λ e. refl) (λ e. refl);
@@ -95,7 +95,7 @@ module _ {p : Plain} (s : Stores) (rest : Body) (more : List ℕ) (r : Represent
       }
   called-leaves (merges w answer b′ w′ m) =
       let l = lengthsLent s w in
-      let same = merge-ladders r l in
+      let same = merge-checks r l in
       let table : refusal p l merging ≡ 0 → MergedTable s w answer b′ w′ p =
       λ e. let k = merge-accepted (s .header) l (same ∙ e) in m .table (same ∙ e) p (body-part rest (pending-part more r (k .pending-fits)) (k .long)) in
       record {
@@ -107,7 +107,7 @@ module _ {p : Plain} (s : Stores) (rest : Body) (more : List ℕ) (r : Represent
       let l = lengthsLent s w in
       -- the pending store is not lent, and the checks do not read it
       let k = lengthsLent (joined (s .header) (bodyOf s) []) w in
-      let same : compactRefusal (s .header) k ≡ refusal p l compacting = compact-ladders r k ∙ (unfold refusal compactLadder storesShort wordsShort in refl) in
+      let same : compactRefusal (s .header) k ≡ refusal p l compacting = compact-checks r k ∙ (unfold refusal compactChecks storesShort wordsShort in refl) in
       let table : refusal p l compacting ≡ 0 → CompactedTable (s .header) (bodyOf s) w answer b′ w′ (s .pending ++ more) p =
       λ e. m .table (same ∙ e) (s .pending ++ more) p (body-part rest r (compact-accepted (s .header) k (same ∙ e) .long)) in
       record {
@@ -131,7 +131,7 @@ module _ {p : Plain} (s : Stores) (rest : Body) (more : List ℕ) (r : Represent
         pending = front-changed n _ (s .pending) more pending′ (λ e. rw (own-records s rest more r m sound (passed m (same ∙ e) .rows-long)) at (m .staged (same ∙ e))) (λ e. m .unchanged (rw same e) .0);
       }
   called-leaves (refreshes-unsound q index answer pending′ index′ m unsound) =
-      let n : ℕ = refusal p (lengthsLent s (compactionWords [] [])) (feeding (recordsStaged (refreshSays answer) (found-records m))) in
+      let n : ℕ = refusal p (lengthsLent s (compactionWords [] [])) (feeding (recordsStaged (refreshView answer) (found-records m))) in
       record {
         rows = front-changed n _ (s .rows) (rest .rows) (s .rows) (λ e. refl) (λ e. refl);
         sorts = front-changed n _ (s .sorts) (rest .sorts) (s .sorts) (λ e. refl) (λ e. refl);

@@ -5,7 +5,7 @@ use mathlib.Core.List.{List, [], _++_, append-nil}
 use Rattle.plain_table.specs.Staged.{Opening}
 use Rattle.plain_table.specs.Calls.{LentCall}
 use Rattle.table.specs.declared.TableAnswer.the-variants.{Table}
-use Rattle.table.specs.Promises.{Stores, stores, body, Opened}
+use Rattle.table.specs.Contracts.{Stores, stores, body, Opened}
 use Rattle.history.specs.Histories.{Called, behind, Step, called, Steps, end, next, History}
 
 -- no cells are behind the lent part

@@ -6,12 +6,12 @@ use mathlib.Core.List.{List, [], _∷_}
 use mathlib.Core.Option.{Option, none, some}
 use native.Mathlib.Omega.{arith}
 use lib.ListN.{length}
-use Rattle.lists.specs.Lists.{putAt, count, rowsOf, flat}
-use Rattle.refusals.specs.Refusals.{first, reply, verdict}
+use Rattle.lists.specs.Lists.{splice, count, rowsOf, flatten}
+use Rattle.refusals.specs.Refusals.{firstRefusal, reply, outcome}
 use Rattle.sort_entries.specs.Entries.{entryWords, rebuilt, pushAll}
-use Rattle.key_index.specs.Slots.{roomStep, roomFor}
-use Rattle.plain_table.specs.Staged.{Opening, openable, Staged, insert, removeKey, removeRow, wordsOf, wordsAll, inserts, due}
-use Rattle.plain_table.specs.Refusing.{Lengths, storesShort, wordsShort, openRefusal, compactLadder, mergeLadder}
+use Rattle.key_index.specs.Slots.{sizeClass, sizeClassFor}
+use Rattle.plain_table.specs.Staged.{Opening, openable, Staged, insert, removeKey, removeRow, wordsOf, wordsAll, inserts, compactionDue}
+use Rattle.plain_table.specs.Refusing.{Lengths, storesShort, wordsShort, openRefusal, compactChecks, mergeChecks}
 use Rattle.plain_table.specs.Plain.{Plain, Row, dead, opened, removed, insertAll, applied, unstaged, compactsAfter, merged}
 use Rattle.plain_table.specs.Calls.{merging, compacting}
 use Rattle.table.specs.declared.Largest.the-variants.{None as NoLargest}
@@ -19,10 +19,10 @@ use Rattle.table.specs.declared.Header.{Header}
 use Rattle.table.specs.declared.TableAnswer.the-variants.{Refused as TableRefused, Table}
 use Rattle.table.specs.declared.Merge.{Merge}
 use Rattle.table.specs.declared.MergeAnswer.the-variants.{Merged}
-use Rattle.table.specs.Numbers.{openingOf, largestOf, tableSays, mergeSays}
+use Rattle.table.specs.Numbers.{openingOf, largestOf, tableView, mergeView}
 use Rattle.table.specs.Refusing.{outside, pendingOutside, mergeRefusal, compactRefusal}
 use Rattle.table.specs.Stores.{entries, stored, rowStore, sortStore}
-use Rattle.table.specs.Promises.{Stores, stores, Represents, body, CompactionWords, compactionWords, headerAfter, headerMerged, mergeOf, mergedRows, Opened, Merging, MergedTable, Compacting}
+use Rattle.table.specs.Contracts.{Stores, stores, Represents, body, CompactionWords, compactionWords, headerAfter, headerMerged, mergeOf, mergedRows, Opened, Merging, MergedTable, Compacting}
 use Rattle.table.specs.Laws.Opening.{emptyHeader, empty-represents, opened-done}
 use Rattle.history.specs.Histories.{merges as merge-called, compacts as compact-called, called, end, next, History}
 
@@ -77,12 +77,12 @@ abbrev pub lentRows : ℕ → Lengths
 lentRows rows = record { rows = rows; keys = 8; sorts = 8; pending = 0; liveWords = 1; baseWords = 1 }
 
 pub example-opened : Opened example 0 (body (0 ∷ eleven) eight eight) [] (Table (emptyHeader example 0)) eight
-unfolding openRefusal openable storesShort first putAt roomFor roomStep
+unfolding openRefusal openable storesShort firstRefusal splice sizeClassFor sizeClass
 example-opened = opened-done example 0 (0 ∷ eleven) eight eight [] eight refl (omega arith) (record { free = refl; tail = refl })
 
 -- refused with 2
 example-compacted : Compacting (emptyHeader example 0) (body eleven eight eight) oneWord (TableRefused 2) (body eleven eight eight) oneWord
-unfolding tableSays verdict reply compactRefusal compactLadder outside openable storesShort wordsShort first
+unfolding tableView outcome reply compactRefusal compactChecks outside openable storesShort wordsShort firstRefusal
 example-compacted =
     record { refusal = refl; unchanged = λ some. (refl, refl); past = refl; words-past = (refl, refl); table = λ none. absurd (omega arith) }
 
@@ -91,7 +91,7 @@ unmoved = mergeOf (opened example 0)
 
 -- accepted, without effect
 example-stays : MergedTable exampleStores oneWord (Merged unmoved) (body (0 ∷ eleven) eight eight) oneWord (opened example 0)
-unfolding mergeSays mergedRows opened merged applied inserts removed insertAll unstaged compactsAfter due dead count entries rebuilt pushAll stored rowStore sortStore rowsOf flat entryWords putAt wordsAll openable storesShort roomFor roomStep
+unfolding mergeView mergedRows opened merged applied inserts removed insertAll unstaged compactsAfter compactionDue dead count entries rebuilt pushAll stored rowStore sortStore rowsOf flatten entryWords splice wordsAll openable storesShort sizeClassFor sizeClass
 example-stays =
     record {
       answers = refl;
@@ -102,7 +102,7 @@ example-stays =
     }
 
 example-merged : Merging exampleStores oneWord (Merged unmoved) (body (0 ∷ eleven) eight eight) oneWord
-unfolding mergeSays verdict reply mergeRefusal mergeLadder pendingOutside outside openable storesShort wordsShort first
+unfolding mergeView outcome reply mergeRefusal mergeChecks pendingOutside outside openable storesShort wordsShort firstRefusal
 example-merged =
     record {
       refusal = refl;
@@ -115,7 +115,7 @@ example-merged =
 pub lengths-differ : History example 0
     (record { call = compacting; lengths = lentRows 11 } ∷ record { call = merging; lengths = lentRows 12 } ∷ [])
     exampleStores
-unfolding headerAfter headerMerged tableSays mergeSays opened merged applied inserts removed insertAll unstaged compactsAfter due dead count entries rebuilt pushAll wordsAll largestOf
+unfolding headerAfter headerMerged tableView mergeView opened merged applied inserts removed insertAll unstaged compactsAfter compactionDue dead count entries rebuilt pushAll wordsAll largestOf
 lengths-differ =
     record {
       start = exampleStores;

@@ -9,18 +9,18 @@ use mathlib.Core.Option.{some}
 use native.Mathlib.Nat.{zero-add}
 use native.Mathlib.Omega.{arith}
 use lib.ListN.{length, drop}
-use Rattle.lists.specs.Lists.{keep, has}
-use Rattle.lists.specs.Laws.Keep.{split}
+use Rattle.lists.specs.Lists.{filter, elem}
+use Rattle.lists.specs.Laws.Filter.{split}
 use Rattle.lists.specs.Laws.Rising.{within-of, within-below}
 use Rattle.offsets.specs.Subsets.{Subset, range, members}
-use Rattle.offsets.specs.Laws.Forms.{has-range}
+use Rattle.offsets.specs.Laws.Forms.{elem-range}
 use Rattle.constraints.specs.Constraints.{isLive}
 use Rattle.plain_table.specs.Plain.{Row, Plain, liveFrom, liveRows, opened}
 use Rattle.plain_table.specs.Proper.{rowOf}
 use Rattle.plain_table.specs.Calls.{afterAll}
 use Rattle.plain_table.specs.Laws.Notes.{Follows, onward-all, follows-at, follows-length, follows-live, live-behind}
 use Rattle.table.specs.declared.Header.{Header}
-use Rattle.table.specs.Promises.{Stores, Represents}
+use Rattle.table.specs.Contracts.{Stores, Represents}
 use Rattle.table.specs.Laws.Shown.{row-shown, rows-counted}
 use Rattle.table.specs.Laws.Refusals.{noted-accepted}
 use Rattle.history.specs.Claim.{liveIn}
@@ -33,11 +33,11 @@ pub generation-shown : {p : Plain} {s : Stores} → Represents p s → s .header
 generation-shown r = ap (λ (h : Header). h .generation) (r .shown .header)
 
 -- the members of a range, one by one
-range-no : (a b i : ℕ) → i < a → has i (members (range a b)) ≡ false
-range-no a b i h = has-range a b i ∙ within-below a (a + (b - a)) i h
+range-no : (a b i : ℕ) → i < a → elem i (members (range a b)) ≡ false
+range-no a b i h = elem-range a b i ∙ within-below a (a + (b - a)) i h
 
-range-yes : (a b i : ℕ) → a ≤ i → i < b → has i (members (range a b)) ≡ true
-range-yes a b i h k = has-range a b i ∙ within-of a (a + (b - a)) i h (omega arith)
+range-yes : (a b i : ℕ) → a ≤ i → i < b → elem i (members (range a b)) ≡ true
+range-yes a b i h k = elem-range a b i ∙ within-of a (a + (b - a)) i h (omega arith)
 
 module _ {p q : Plain} {then now : Stores} (r : Represents p then) (s : Represents q now) (f : Follows (p .rows) (q .rows)) where
   -- a stored row is live exactly if the plain table's row is
@@ -58,18 +58,18 @@ module _ {p q : Plain} {then now : Stores} (r : Represents p then) (s : Represen
   kept-or-dead i h = elim (split (isLive (storedRow now i))) [ inl e ↦ inl (same-now i h e) | inr e ↦ inr e ]
 
   -- the live rows of the range since then are those behind the earlier rows
-  behind : keep (λ row. has (row .number) (members (range (then .header .rows) (now .header .rows)))) (liveFrom 0 (q .rows))
+  behind : filter (λ row. elem (row .number) (members (range (then .header .rows) (now .header .rows)))) (liveFrom 0 (q .rows))
       ≡ liveFrom (0 + length (p .rows)) (drop (length (p .rows)) (q .rows))
   behind =
       let few = follows-length f in
-      live-behind (λ i. has i (members (range (then .header .rows) (now .header .rows)))) 0 (length (p .rows)) (q .rows)
+      live-behind (λ i. elem i (members (range (then .header .rows) (now .header .rows)))) 0 (length (p .rows)) (q .rows)
       (omega arith)
       (λ i h. rw (zero-add i) (range-no _ _ i (omega (arith, rows-counted r))))
       (λ i h k. rw (zero-add i) (range-yes _ _ i (omega (arith, rows-counted r)) (omega (arith, rows-counted s))))
 
   together : liveIn now
-      ≡ keep (λ row. isLive (storedRow now (row .number))) (liveIn then)
-      ++ keep (λ row. has (row .number) (members (range (then .header .rows) (now .header .rows)))) (liveIn now)
+      ≡ filter (λ row. isLive (storedRow now (row .number))) (liveIn then)
+      ++ filter (λ row. elem (row .number) (members (range (then .header .rows) (now .header .rows)))) (liveIn now)
   unfolding liveRows liveIn
   together =
       rw (live-shown r, live-shown s, behind)
@@ -82,10 +82,10 @@ pub old-note : OldNote
 old-note o generation earlier later then now answer since history steps noted is =
     let r = history-represents history in
     let s = steps-represents r steps in
-    let told = sym is ∙ noted .answers in
-    let same = noted-accepted _ _ _ (accepted-number _ _ _ told) .same in
+    let answer-is = sym is ∙ noted .answers in
+    let same = noted-accepted _ _ _ (accepted-number _ _ _ answer-is) .same in
     let f = onward-all (afterAll (opened o generation) earlier) later .follows (sym (generation-shown s) ∙ sym same ∙ generation-shown r) in
-    rw (only (accepted-same _ _ _ told)) (guaranteed r s f)
+    rw (only (accepted-same _ _ _ answer-is)) (guaranteed r s f)
   where
     only : {a b : Subset} → some a ≡ some b → a ≡ b
     only e = cc

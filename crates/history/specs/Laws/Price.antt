@@ -9,50 +9,50 @@ use borrow.Author.Tests.{eq-eqb, ne-eqb}
 use Rattle.refusals.specs.Refusals.{Reply, refused, accepted}
 use Rattle.refusals.specs.Laws.Replies.{some-number, ruled-refused}
 use Rattle.plain_table.specs.Plain.{Plain, opened, stage, dead, mergeKeeps, mergeDrops}
-use Rattle.plain_table.specs.Refusing.{storesShort, wordsShort, compactLadder}
+use Rattle.plain_table.specs.Refusing.{storesShort, wordsShort, compactChecks}
 use Rattle.plain_table.specs.Calls.{merging, compacting, clearing, stageAll, refusal, done, after, LentCall, afterAll}
-use Rattle.plain_table.specs.Appending.{ofMerge, ofAccepted, overMerges, mergeAdds}
+use Rattle.plain_table.specs.Appending.{mergeCount, acceptedMergeCount, sumOverMerges, mergeAdds}
 use Rattle.plain_table.specs.Laws.Calls.{refused-nothing, accepted-done}
 use Rattle.plain_table.specs.Laws.Price.{live-dead, compacted-live, merged-rows, merged-price}
 use Rattle.table.specs.declared.Header.{Header}
 use Rattle.table.specs.declared.Merge.{Merge}
 use Rattle.table.specs.declared.TableAnswer.{TableAnswer}
 use Rattle.table.specs.declared.MergeAnswer.{MergeAnswer}
-use Rattle.table.specs.Numbers.{tableSays, mergeSays}
+use Rattle.table.specs.Numbers.{tableView, mergeView}
 use Rattle.table.specs.Refusing.{mergeRefusal, compactRefusal, clearRefusal}
-use Rattle.table.specs.Promises.{Stores, Represents, mergeOf, Merging, Compacting, Clearing, Body, bodyOf, joined, CompactionWords, compactionWords, lengthsLent}
-use Rattle.table.specs.Laws.Ladders.{merge-ladders, compact-ladders, clear-ladders}
+use Rattle.table.specs.Contracts.{Stores, Represents, mergeOf, Merging, Compacting, Clearing, Body, bodyOf, joined, CompactionWords, compactionWords, lengthsLent}
+use Rattle.table.specs.Laws.Checks.{merge-checks, compact-checks, clear-checks}
 use Rattle.table.specs.Laws.Refusals.{merge-accepted, compact-accepted, clear-accepted}
 use Rattle.table.specs.Laws.Fronts.{pending-part, keys-part, body-part}
 use Rattle.table.specs.Laws.Opening.{cleared-rows}
 use Rattle.table.specs.Laws.Shown.{rows-counted}
 use Rattle.history.specs.Histories.{Called, stages, merges, compacts, clears, refreshes, refreshes-unsound, behind, called, Steps, end, next}
-use Rattle.history.specs.Price.{Wear, wear, counted, ofCall, ofSteps, PriceOfCompaction}
+use Rattle.history.specs.Price.{Wear, wear, counted, wearOfCall, wearOfSteps, PriceOfCompaction}
 use Rattle.history.specs.Laws.Calls.{step-represents, opened-represents, history-represents}
 
 -- ---- one call
 
 -- its counts are those of the definition, and each row that existed before it or was appended by it is left, dropped or emptied
 record Balanced (p : Plain) (c : LentCall) (w : Wear) : Type 0 where
-  kept : w .kept ≡ ofAccepted mergeKeeps p c
-  dropped : w .dropped ≡ ofAccepted mergeDrops p c
+  kept : w .kept ≡ acceptedMergeCount mergeKeeps p c
+  dropped : w .dropped ≡ acceptedMergeCount mergeDrops p c
   fewer : w .kept ≤ w .dropped
-  rows : length (p .rows) + ofAccepted mergeAdds p c ≡ length (after p (c .lengths) (c .call) .rows) + (w .dropped + w .compacted) + w .emptied
+  rows : length (p .rows) + acceptedMergeCount mergeAdds p c ≡ length (after p (c .lengths) (c .call) .rows) + (w .dropped + w .compacted) + w .emptied
 
 -- a refused call counts nothing
 refused-balanced : (p : Plain) (c : LentCall) → 0 < refusal p (c .lengths) (c .call) → Balanced p c (wear 0 0 0 0)
-unfolding ofAccepted
+unfolding acceptedMergeCount
 refused-balanced p c h =
     let e = ne-eqb (refusal p (c .lengths) (c .call)) 0 (λ q. omega arith) in
     record { kept = rw e; dropped = rw e; fewer = omega arith; rows = rw (refused-nothing p (c .lengths) (c .call) h, e) (omega arith) }
 
 module _ (p : Plain) (c : LentCall) (z : refusal p (c .lengths) (c .call) ≡ 0) where
-  accepted-of : (number : Plain → ℕ) → ofAccepted number p c ≡ ofMerge number p (c .call)
-  unfolding ofAccepted
+  accepted-of : (number : Plain → ℕ) → acceptedMergeCount number p c ≡ mergeCount number p (c .call)
+  unfolding acceptedMergeCount
   accepted-of number = rw (eq-eqb (refusal p (c .lengths) (c .call)) 0 z)
 
-  done-balanced : (w : Wear) → w .kept ≡ ofMerge mergeKeeps p (c .call) → w .dropped ≡ ofMerge mergeDrops p (c .call) → w .kept ≤ w .dropped
-      → length (p .rows) + ofMerge mergeAdds p (c .call) ≡ length (done p (c .call) .rows) + (w .dropped + w .compacted) + w .emptied → Balanced p c w
+  done-balanced : (w : Wear) → w .kept ≡ mergeCount mergeKeeps p (c .call) → w .dropped ≡ mergeCount mergeDrops p (c .call) → w .kept ≤ w .dropped
+      → length (p .rows) + mergeCount mergeAdds p (c .call) ≡ length (done p (c .call) .rows) + (w .dropped + w .compacted) + w .emptied → Balanced p c w
   done-balanced w k d f q =
       record {
         kept = rw (accepted-of mergeKeeps) k;
@@ -62,7 +62,7 @@ module _ (p : Plain) (c : LentCall) (z : refusal p (c .lengths) (c .call) ≡ 0)
       }
 
 -- a call that is no merge and leaves the row count unchanged counts nothing
-staged-balanced : (p : Plain) (c : LentCall) → ((number : Plain → ℕ) → ofMerge number p (c .call) ≡ 0) → length (done p (c .call) .rows) ≡ length (p .rows)
+staged-balanced : (p : Plain) (c : LentCall) → ((number : Plain → ℕ) → mergeCount number p (c .call) ≡ 0) → length (done p (c .call) .rows) ≡ length (p .rows)
     → Balanced p c (wear 0 0 0 0)
 staged-balanced p c none e =
     elim (some-number (refusal p (c .lengths) (c .call))) [
@@ -91,57 +91,57 @@ clearing-wears s h = wear 0 0 0 (s .header .rows)
 -- the lent part of each store, and the cells behind it
 module _ {p : Plain} (s : Stores) (rest : Body) (more : List ℕ) (r : Represents p (behind s rest more)) where
   merged-balanced : (w : CompactionWords) (answer : MergeAnswer) (b′ : Body) (w′ : CompactionWords) → Merging s w answer b′ w′
-      → Balanced p (record { call = merging; lengths = lengthsLent s w }) (counted (mergeSays answer) merging-wears)
-  unfolding done ofMerge
+      → Balanced p (record { call = merging; lengths = lengthsLent s w }) (counted (mergeView answer) merging-wears)
+  unfolding done mergeCount
   merged-balanced w answer b′ w′ m =
       let c : LentCall = record { call = merging; lengths = lengthsLent s w } in
       let n : ℕ = mergeRefusal (s .header) (lengthsLent s w) in
-      let same : n ≡ refusal p (lengthsLent s w) merging = merge-ladders r (lengthsLent s w) in
+      let same : n ≡ refusal p (lengthsLent s w) merging = merge-checks r (lengthsLent s w) in
       elim (some-number n) [
         | inl e ↦
             let k = merge-accepted (s .header) (lengthsLent s w) e in
-            let a : mergeSays answer ≡ accepted (mergeOf p) = m .table e p (body-part rest (pending-part more r (k .pending-fits)) (k .long)) .answers in
-            rw (counted-accepted (mergeSays answer) (mergeOf p) merging-wears a)
+            let a : mergeView answer ≡ accepted (mergeOf p) = m .table e p (body-part rest (pending-part more r (k .pending-fits)) (k .long)) .answers in
+            rw (counted-accepted (mergeView answer) (mergeOf p) merging-wears a)
             (done-balanced p c (sym same ∙ e) (merging-wears (mergeOf p)) refl refl (merged-price p) (omega (arith, merged-rows p)))
-        | inr h ↦ rw (counted-refused (mergeSays answer) n merging-wears (ruled-refused (mergeSays answer) n (m .refusal) h)) (refused-balanced p c (rw same at h))
+        | inr h ↦ rw (counted-refused (mergeView answer) n merging-wears (ruled-refused (mergeView answer) n (m .refusal) h)) (refused-balanced p c (rw same at h))
       ]
 
   compacted-balanced : (w : CompactionWords) (answer : TableAnswer) (b′ : Body) (w′ : CompactionWords) → Compacting (s .header) (bodyOf s) w answer b′ w′
-      → Balanced p (record { call = compacting; lengths = lengthsLent s w }) (counted (tableSays answer) (compacting-wears s))
-  unfolding done ofMerge
+      → Balanced p (record { call = compacting; lengths = lengthsLent s w }) (counted (tableView answer) (compacting-wears s))
+  unfolding done mergeCount
   compacted-balanced w answer b′ w′ m =
       let c : LentCall = record { call = compacting; lengths = lengthsLent s w } in
       -- the pending store is not lent, and the checks do not read it
       let k = lengthsLent (joined (s .header) (bodyOf s) []) w in
       let n : ℕ = compactRefusal (s .header) k in
-      let same : n ≡ refusal p (lengthsLent s w) compacting = compact-ladders r k ∙ (unfold refusal compactLadder storesShort wordsShort in refl) in
+      let same : n ≡ refusal p (lengthsLent s w) compacting = compact-checks r k ∙ (unfold refusal compactChecks storesShort wordsShort in refl) in
       elim (some-number n) [
         | inl e ↦
             let d : s .header .dead ≡ dead p = ap (λ (h : Header). h .dead) (r .shown .header) in
-            rw (counted-accepted (tableSays answer) _ (compacting-wears s) (m .table e (s .pending ++ more) p (body-part rest r (compact-accepted (s .header) k e .long)) .answers))
+            rw (counted-accepted (tableView answer) _ (compacting-wears s) (m .table e (s .pending ++ more) p (body-part rest r (compact-accepted (s .header) k e .long)) .answers))
             (done-balanced p c (sym same ∙ e) (wear 0 0 (s .header .dead) 0) refl refl (omega arith) (omega (arith, d, live-dead p, compacted-live p)))
-        | inr h ↦ rw (counted-refused (tableSays answer) n (compacting-wears s) (ruled-refused (tableSays answer) n (m .refusal) h)) (refused-balanced p c (rw same at h))
+        | inr h ↦ rw (counted-refused (tableView answer) n (compacting-wears s) (ruled-refused (tableView answer) n (m .refusal) h)) (refused-balanced p c (rw same at h))
       ]
 
   cleared-balanced : (answer : TableAnswer) (keys′ : List ℕ) → Clearing (s .header) (s .keys) answer keys′
-      → Balanced p (record { call = clearing; lengths = lengthsLent s (compactionWords [] []) }) (counted (tableSays answer) (clearing-wears s))
-  unfolding done ofMerge
+      → Balanced p (record { call = clearing; lengths = lengthsLent s (compactionWords [] []) }) (counted (tableView answer) (clearing-wears s))
+  unfolding done mergeCount
   cleared-balanced answer keys′ m =
       let l = lengthsLent s (compactionWords [] []) in
       let c : LentCall = record { call = clearing; lengths = l } in
       let n : ℕ = clearRefusal (s .header) (length (s .keys)) in
-      let same : n ≡ refusal p l clearing = clear-ladders r l in
+      let same : n ≡ refusal p l clearing = clear-checks r l in
       elim (some-number n) [
         | inl e ↦
             let k = clear-accepted (s .header) (length (s .keys)) e .keys-long in
             let t = m .table e (s .rows ++ rest .rows) (s .sorts ++ rest .sorts) (s .pending ++ more) p (keys-part (rest .keys) r k) in
-            rw (counted-accepted (tableSays answer) _ (clearing-wears s) (t .answers))
+            rw (counted-accepted (tableView answer) _ (clearing-wears s) (t .answers))
             (done-balanced p c (sym same ∙ e) (wear 0 0 0 (s .header .rows)) refl refl (omega arith) (omega (arith, rows-counted r, cleared-rows p)))
-        | inr h ↦ rw (counted-refused (tableSays answer) n (clearing-wears s) (ruled-refused (tableSays answer) n (m .refusal) h)) (refused-balanced p c (rw same at h))
+        | inr h ↦ rw (counted-refused (tableView answer) n (clearing-wears s) (ruled-refused (tableView answer) n (m .refusal) h)) (refused-balanced p c (rw same at h))
       ]
 
-  called-balanced : {c : LentCall} {t : Stores} (call : Called s c t) → Balanced p c (ofCall call)
-  unfolding ofCall done ofMerge stage stageAll
+  called-balanced : {c : LentCall} {t : Stores} (call : Called s c t) → Balanced p c (wearOfCall call)
+  unfolding wearOfCall done mergeCount stage stageAll
   called-balanced (stages q answer pending′ m) = staged-balanced p _ (λ number. refl) refl
   called-balanced (merges w answer b′ w′ m) = merged-balanced w answer b′ w′ m
   called-balanced (compacts w answer b′ w′ m) = compacted-balanced w answer b′ w′ m
@@ -152,13 +152,13 @@ module _ {p : Plain} (s : Stores) (rest : Body) (more : List ℕ) (r : Represent
 -- ---- all the calls
 
 record Accounted (p : Plain) (cs : List LentCall) (w : Wear) : Type 0 where
-  kept : w .kept ≡ overMerges mergeKeeps p cs
-  dropped : w .dropped ≡ overMerges mergeDrops p cs
+  kept : w .kept ≡ sumOverMerges mergeKeeps p cs
+  dropped : w .dropped ≡ sumOverMerges mergeDrops p cs
   fewer : w .kept ≤ w .dropped
-  rows : length (p .rows) + overMerges mergeAdds p cs ≡ length (afterAll p cs .rows) + (w .dropped + w .compacted) + w .emptied
+  rows : length (p .rows) + sumOverMerges mergeAdds p cs ≡ length (afterAll p cs .rows) + (w .dropped + w .compacted) + w .emptied
 
-steps-accounted : {p : Plain} {s t : Stores} {cs : List LentCall} → Represents p s → (steps : Steps s cs t) → Accounted p cs (ofSteps steps)
-unfolding ofSteps overMerges afterAll
+steps-accounted : {p : Plain} {s t : Stores} {cs : List LentCall} → Represents p s → (steps : Steps s cs t) → Accounted p cs (wearOfSteps steps)
+unfolding wearOfSteps sumOverMerges afterAll
 steps-accounted r (end s) = record { kept = refl; dropped = refl; fewer = omega arith; rows = omega arith }
 steps-accounted r (next (called {s} rest more call) steps) =
     let a = called-balanced s rest more r call in

@@ -6,23 +6,23 @@ use mathlib.Core.Path.{refl, sym}
 use mathlib.Core.Bool.{true, false, false≢true}
 use mathlib.Core.List.{List, [], _∷_}
 use native.Mathlib.Omega.{arith}
-use Rattle.lists.specs.Lists.{putAt, keep, every, flat, same, rowsOf}
-use Rattle.refusals.specs.Refusals.{first, reply}
+use Rattle.lists.specs.Lists.{splice, filter, all, flatten, same, rowsOf}
+use Rattle.refusals.specs.Refusals.{firstRefusal, reply}
 use Rattle.plain_table.specs.Staged.{openable, wordsAll}
 use Rattle.plain_table.specs.Plain.{liveFrom, liveRows, below}
 use Rattle.plain_table.specs.Refusing.{overfull}
-use Rattle.plain_table.specs.Refreshing.{Refresh, mentioning, refreshed, indexShort, refreshLadder}
+use Rattle.plain_table.specs.Refreshing.{Refresh, mentioning, refreshed, indexShort, refreshChecks}
 use Rattle.plain_table.specs.Calls.{refreshing, feeding}
 use Rattle.table.specs.declared.Header.{Header}
-use Rattle.table.specs.Numbers.{largestSays}
+use Rattle.table.specs.Numbers.{largestView}
 use Rattle.table.specs.Refusing.{outside, pendingOutside}
 use Rattle.table.specs.Stores.{rowsIn}
-use Rattle.table.specs.Promises.{body, compactionWords, lengthsLent}
+use Rattle.table.specs.Contracts.{body, compactionWords, lengthsLent}
 use Rattle.table.specs.Laws.Opening.{emptyHeader}
 use Rattle.refresh_spec.specs.declared.Refreshed.{Refreshed}
 use Rattle.refresh_spec.specs.declared.RefreshAnswer.the-variants.{Refreshed as RefreshDone}
 use Rattle.refresh_spec.specs.Index.{isNew, generationSeen, rowsSeen, columnsNamed, namedIn, IndexSound, startsAfresh}
-use Rattle.refresh_spec.specs.Refreshes.{refreshSays, refreshRefusal, recordsFound, recordsStaged, headerRefreshed, Refreshing}
+use Rattle.refresh_spec.specs.Refreshes.{refreshView, refreshRefusal, recordsFound, recordsStaged, headerRefreshed, Refreshing}
 use Rattle.history.specs.Histories.{refreshes, refreshes-unsound, called, end, next, History}
 use Rattle.history.specs.Laws.LentLengths.{example, exampleStores, example-opened}
 
@@ -50,7 +50,7 @@ nothing = record { header = empty; staged = false }
 -- whatever the index store holds, the refresh is accepted and starts the index afresh
 example-refreshed : (written seen count column : ℕ)
     → Refreshing empty rows [] (indexStore written seen count column) byColumn (RefreshDone nothing) [] (indexStore 1 0 1 2)
-unfolding refreshSays reply refreshRefusal refreshLadder first pendingOutside outside openable every largestSays below indexShort overfull wordsAll recordsFound refreshed mentioning liveRows liveFrom rowsIn rowsOf keep flat putAt isNew generationSeen rowsSeen columnsNamed namedIn
+unfolding refreshView reply refreshRefusal refreshChecks firstRefusal pendingOutside outside openable all largestView below indexShort overfull wordsAll recordsFound refreshed mentioning liveRows liveFrom rowsIn rowsOf filter flatten splice isNew generationSeen rowsSeen columnsNamed namedIn
 example-refreshed written seen count column =
     record {
       found = λ row. true;
@@ -73,7 +73,7 @@ example-refreshed written seen count column =
 
 new-sound : IndexSound empty rows (2 ∷ []) (indexStore 0 0 0 0)
 unfolding startsAfresh isNew
-new-sound long fits goes-on = absurd (false≢true (sym goes-on))
+new-sound long fits continues = absurd (false≢true (sym continues))
 
 wrong-unsound : IndexSound empty rows (2 ∷ []) (indexStore 1 1 1 2) → ⊥
 unfolding indexShort startsAfresh isNew generationSeen rowsSeen columnsNamed namedIn same
@@ -84,7 +84,7 @@ pub both-kinds : History example 0
     ∷ record { call = feeding []; lengths = lengthsLent exampleStores (compactionWords [] []) }
     ∷ [])
     exampleStores
-unfolding refreshSays headerRefreshed recordsStaged recordsFound refreshed mentioning liveRows liveFrom rowsIn rowsOf keep flat
+unfolding refreshView headerRefreshed recordsStaged recordsFound refreshed mentioning liveRows liveFrom rowsIn rowsOf filter flatten
 both-kinds =
     record {
       start = exampleStores;

@@ -21,18 +21,18 @@ use Rattle.plain_table.specs.Calls.{recordsOf, LentCall, after, afterAll}
 use Rattle.plain_table.specs.Laws.Proper.{openable-bounds}
 use Rattle.plain_table.specs.Laws.Notes.{onward-all, follows-length}
 use Rattle.table.specs.declared.Header.{Header}
-use Rattle.table.specs.Promises.{Stores, Body, bodyOf, joined, Represents}
+use Rattle.table.specs.Contracts.{Stores, Body, bodyOf, joined, Represents}
 use Rattle.table.specs.Laws.Replies.{reply-refused}
 use Rattle.table.specs.Laws.Shown.{rows-counted}
 use Rattle.table.specs.Laws.Fronts.{rows-part}
 use Rattle.refresh_spec.specs.declared.RefreshAnswer.{RefreshAnswer}
 use Rattle.refresh_spec.specs.Index.{isNew, generationSeen, lookedUp, IndexOf, IndexSound, Current}
-use Rattle.refresh_spec.specs.Refreshes.{refreshSays, answered, headerRefreshed, Refreshing}
-use Rattle.refresh_spec.specs.Laws.Keeps.{number, found-records, says-accepted, says-refused, passed}
-use Rattle.refresh_spec.specs.Laws.Fronts.{index-more, index-front, new-front, generation-front, goes-on, named-count}
+use Rattle.refresh_spec.specs.Refreshes.{refreshView, answered, headerRefreshed, Refreshing}
+use Rattle.refresh_spec.specs.Laws.Keeps.{number, found-records, view-accepted, view-refused, passed}
+use Rattle.refresh_spec.specs.Laws.Fronts.{index-more, index-front, new-front, generation-front, continues, named-count}
 use Rattle.refresh_spec.specs.Laws.Lookup.{names-of, lookup-holding}
 use Rattle.history.specs.Histories.{refreshes, behind, Step, called, end, next, History}
-use Rattle.history.specs.Refreshes.{ownRefresh, Kept, taken, waits, refreshes as refreshes-kept, holding, ownRefusal, RefreshesOwn, KeptIndexes}
+use Rattle.history.specs.Refreshes.{ownRefresh, OwnIndex, adopted, other-call, refreshes as refreshes-kept, holding, ownRefusal, RefreshesOwn, OwnIndexesSound}
 use Rattle.history.specs.Laws.Calls.{own-records, refresh-same, step-represents, history-represents}
 use Rattle.history.specs.Laws.Further.{history-then}
 use Rattle.history.specs.Laws.Notes.{generation-shown, same-now}
@@ -79,9 +79,9 @@ capacity-some : {p : Plain} {s : Stores} → Represents p s → 0 < s .header .c
 capacity-some {p} r = rw (r .shown .header) (openable-bounds (p .opening) (r .proper .numbers) .capacity-some)
 
 -- any other call preserves this
-waits-beside : {t u : Stores} {c : LentCall} {index : List ℕ} → Beside t index → Step t c u → Beside u index
+other-call-beside : {t u : Stores} {c : LentCall} {index : List ℕ} → Beside t index → Step t c u → Beside u index
 unfolding afterAll
-waits-beside {c = c} b step =
+other-call-beside {c = c} b step =
     let r = b .represents in
     let s = step-represents r step in
     let onward = onward-all (b .plain) (c ∷ []) in
@@ -113,7 +113,7 @@ module _ (t : Stores) (rest : Body) (pending lent more : List ℕ) (b : Beside (
   lent-sound columns long not-short not-afresh =
       let h = t .header in
       let r = b .represents in
-      let on = goes-on h columns lent not-afresh in
+      let on = continues h columns lent not-afresh in
       let l : 16 + 3 * (h .capacity * length columns) ≤ length lent = ltb-false _ _ not-short in
       let n = named-count (h .capacity) columns lent (capacity-some r) l (on .columns-named) in
       let o = b .followed .of-now (new-front lent more (omega arith) ∙ on .written) (generation-front lent more (omega arith) ∙ on .generation) in
@@ -121,7 +121,7 @@ module _ (t : Stores) (rest : Body) (pending lent more : List ℕ) (b : Beside (
       (index-front h lent more (rows-fit r) (rw n l) o)
 
   module _ {q : Refresh} {answer : RefreshAnswer} {pending′ lent′ : List ℕ} (m : Refreshing (t .header) (t .rows) (t .pending) lent q answer pending′ lent′) where
-    refreshed-followed : Followed (headerRefreshed (t .header) (refreshSays answer)) (t .rows ++ rest .rows) (lent′ ++ more)
+    refreshed-followed : Followed (headerRefreshed (t .header) (refreshView answer)) (t .rows ++ rest .rows) (lent′ ++ more)
     unfolding headerRefreshed
     refreshed-followed =
         let h = t .header in
@@ -132,17 +132,17 @@ module _ (t : Stores) (rest : Body) (pending lent more : List ℕ) (b : Beside (
               let l : 16 + 3 * (h .capacity * length (q .columns)) ≤ length lent′ = omega (arith, passed m e .index-long, m .length-same) in
               let n = named-count (h .capacity) (q .columns) lent′ (capacity-some r) l (c .columns-named) in
               let o = index-more h lent′ more (rows-fit r) (rw n l) (c .index-of) in
-              rw (says-accepted m e)
+              rw (view-accepted m e)
               (record {
                 not-later = λ written. omega (arith, generation-front lent′ more (omega arith), c .generation);
                 of-now = λ written now. index-again (omega arith) refl (λ i k live. row-front h (t .rows) (rest .rows) (rows-long (passed m e .rows-long)) i k) o;
               })
-          | inr some ↦ rw (says-refused m some, m .unchanged some .1) (b .followed)
+          | inr some ↦ rw (view-refused m some, m .unchanged some .1) (b .followed)
         ]
 
     -- the refresh is a step of a history
     abbrev refreshed-stores : Stores
-    refreshed-stores = behind (joined (headerRefreshed (t .header) (refreshSays answer)) (bodyOf t) pending′) rest pending
+    refreshed-stores = behind (joined (headerRefreshed (t .header) (refreshView answer)) (bodyOf t) pending′) rest pending
 
     own-step : Step (behind t rest pending) (ownRefresh t lent q) refreshed-stores
     own-step = called {s = t} rest pending (refreshes q lent answer pending′ lent′ m (lent-sound (q .columns)))
@@ -178,7 +178,7 @@ module _ (t : Stores) (rest : Body) (pending lent more : List ℕ) (b : Beside (
             answers =
                 elim (some-number (number m)) [
                   | inl e ↦ rw (← refused-same, ← records-same e) (m .answers)
-                  | inr some ↦ rw (← refused-same) (says-refused m some ∙ sym (reply-refused (number m) (answered (t .header) (recordsOf p q)) some))
+                  | inr some ↦ rw (← refused-same) (view-refused m some ∙ sym (reply-refused (number m) (answered (t .header) (recordsOf p q)) some))
                 ];
             unchanged = λ some. m .unchanged (rw refused-same some);
             staged = λ e. rw (← records-same (accepted-same e)) (m .staged (accepted-same e));
@@ -188,9 +188,9 @@ module _ (t : Stores) (rest : Body) (pending lent more : List ℕ) (b : Beside (
 
 -- ---- a history and an index store that it keeps
 
-kept-beside : {o : Opening} {generation : ℕ} {calls : List LentCall} {t : Stores} {index : List ℕ} → Kept o generation calls t index
+own-index-beside : {o : Opening} {generation : ℕ} {calls : List LentCall} {t : Stores} {index : List ℕ} → OwnIndex o generation calls t index
     → History o generation calls t × Beside t index
-kept-beside (taken index history is) = (
+own-index-beside (adopted index history is) = (
   history,
   record {
     plain = _;
@@ -198,17 +198,17 @@ kept-beside (taken index history is) = (
     followed = record { not-later = λ written. absurd (false≢true (sym written ∙ is)); of-now = λ written now. absurd (false≢true (sym written ∙ is)) };
   },
 )
-kept-beside (waits {u = u} kept step) = let k = kept-beside kept in (history-then (k .0) (next step (end u)), waits-beside (k .1) step)
-kept-beside (refreshes-kept t rest pending lent more q answer pending′ lent′ kept m) =
-    let k = kept-beside kept in
+own-index-beside (other-call {u = u} kept step) = let k = own-index-beside kept in (history-then (k .0) (next step (end u)), other-call-beside (k .1) step)
+own-index-beside (refreshes-kept t rest pending lent more q answer pending′ lent′ kept m) =
+    let k = own-index-beside kept in
     (history-then (k .0) (next (own-step t rest pending lent more (k .1) m) (end _)), refreshes-beside t rest pending lent more (k .1) m)
 
-pub kept-indexes : KeptIndexes
-kept-indexes =
+pub own-indexes-sound : OwnIndexesSound
+own-indexes-sound =
     record {
-      sound = λ o generation calls t rest pending lent more columns kept. lent-sound t rest pending lent more (kept-beside kept .1) columns;
-      history = λ o generation calls s index kept. kept-beside kept .0;
+      sound = λ o generation calls t rest pending lent more columns kept. lent-sound t rest pending lent more (own-index-beside kept .1) columns;
+      history = λ o generation calls s index kept. own-index-beside kept .0;
       refreshed = λ o generation calls t rest pending lent more r answer pending′ lent′ kept m.
-          let k = kept-beside kept in
+          let k = own-index-beside kept in
           refreshes-own t rest pending lent more (k .1) m (history-represents (k .0));
     }

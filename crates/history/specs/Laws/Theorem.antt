@@ -3,25 +3,25 @@
 use mathlib.Core.List.{List}
 use Rattle.offsets.specs.Subsets.{Subset, members}
 use Rattle.plain_table.specs.Plain.{Plain}
-use Rattle.table.specs.Promises.{Stores, Represents}
+use Rattle.table.specs.Contracts.{Stores, Represents}
 use Rattle.table.specs.Laws.Live.{live-shown}
-use Rattle.history.specs.Runs.{Question, Run, end, next}
+use Rattle.history.specs.Runs.{Query, Run, end, next}
 use Rattle.history.specs.Claim.{liveIn, Claim}
 use Rattle.history.specs.Laws.Calls.{history-represents}
 use Rattle.history.specs.Laws.Narrowing.{Narrows, narrows-not, narrows-then, narrowed-wanted, narrowed-rising}
-use Rattle.history.specs.Laws.Questions.{asked-narrows}
+use Rattle.history.specs.Laws.Queries.{queried-narrows}
 
 -- a run narrows the ids that it starts with by all accepted queries, in whichever form each query gets them
-pub run-narrows : {p : Plain} {s : Stores} {a c : Subset} {qs accepted : List Question} → Represents p s → Run s a qs c accepted → Narrows s (members a) (members c) accepted
+pub run-narrows : {p : Plain} {s : Stores} {a c : Subset} {qs accepted : List Query} → Represents p s → Run s a qs c accepted → Narrows s (members a) (members c) accepted
 run-narrows {s = s} r (end a) = narrows-not s (members a)
-run-narrows r (next asked same rest) = narrows-then (asked-narrows r asked) (rw same at (run-narrows r rest))
+run-narrows r (next queried same rest) = narrows-then (queried-narrows r queried) (rw same at (run-narrows r rest))
 
 pub term-three : Claim
 term-three o generation calls s history =
     let shown = history-represents history in
     record {
       live-rows = unfold liveIn in live-shown shown;
-      ids-left = λ start questions end accepted run refined.
+      ids-left = λ start queries end accepted run refined.
           let left = run-narrows shown run in
           (narrowed-wanted left refined, narrowed-rising left refined);
     }

@@ -4,9 +4,9 @@ use mathlib.Core.Path.{_≡_, refl, sym, _∙_}
 use mathlib.Core.Logic.{inl, inr}
 use mathlib.Core.List.{List}
 use mathlib.Core.Option.{Option, none, some}
-use Rattle.lists.specs.Laws.Keep.{split}
+use Rattle.lists.specs.Laws.Filter.{split}
 use Rattle.table.specs.declared.TableAnswer.{TableAnswer}
-use Rattle.table.specs.Laws.Answers.{table-said}
+use Rattle.table.specs.Laws.Answers.{table-view-injective}
 use Rattle.image_spec.specs.Image.{Image}
 use Rattle.image_spec.specs.Contracts.{Decoded, checkReply, ImageChecked}
 use Rattle.image_parse.specs.Laws.Images.{one-image}
@@ -36,4 +36,4 @@ check-same a b none e = rw (e, sym (same-image a b) ∙ e)
 check-same a b (some i) e = rw (e, sym (same-image a b) ∙ e, same-sound a b i e)
 
 pub image-checked-determined : {words : List ℕ} {r₁ r₂ : TableAnswer} → ImageChecked words r₁ → ImageChecked words r₂ → r₁ ≡ r₂
-image-checked-determined {r₁ = r₁} {r₂ = r₂} x y = table-said r₁ r₂ (x .answers ∙ check-same (x .decoded) (y .decoded) (x .decoded .image) refl ∙ sym (y .answers))
+image-checked-determined {r₁ = r₁} {r₂ = r₂} x y = table-view-injective r₁ r₂ (x .answers ∙ check-same (x .decoded) (y .decoded) (x .decoded .image) refl ∙ sym (y .answers))

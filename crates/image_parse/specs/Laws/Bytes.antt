@@ -8,8 +8,8 @@ use lib.Dec.{ltb}
 use lib.ListN.{length, take, drop, getD}
 use lib.Seq.{take-suc, drop-cons, getD-at, length-take-le}
 use borrow.Author.Tests.{ltb-true, lt-ltb, ltb-false}
-use Rattle.lists.specs.Lists.{every, flat}
-use Rattle.lists.specs.Laws.Every.{every-head, every-tail}
+use Rattle.lists.specs.Lists.{all, flatten}
+use Rattle.lists.specs.Laws.All.{all-head, all-tail}
 use Rattle.sort_entries.specs.inner.Checks.{Decides}
 use Rattle.crc32.specs.Crc.{bytesOf, wordBytes}
 use Rattle.image_spec.specs.Image.{packed}
@@ -18,11 +18,11 @@ use Rattle.image_parse.specs.inner.Parsed.{Words, Filled}
 -- ---- the bytes of words
 
 pub bytes-nil : bytesOf [] ≡ []
-unfolding bytesOf flat
+unfolding bytesOf flatten
 bytes-nil = refl
 
 pub bytes-cons : (w : ℕ) (ws : List ℕ) → bytesOf (w ∷ ws) ≡ w % 256 ∷ w / 256 % 256 ∷ w / 65536 % 256 ∷ w / 16777216 % 256 ∷ bytesOf ws
-unfolding bytesOf flat wordBytes
+unfolding bytesOf flatten wordBytes
 bytes-cons w ws = refl
 
 pub length-bytes : (ws : List ℕ) → length (bytesOf ws) ≡ 4 * length ws
@@ -44,8 +44,8 @@ byte-of (suc q) r (w ∷ ws) =
 abbrev pub isByte : ℕ → Bool
 isByte byte = ltb byte 256
 
-pub bytes-small : (ws : List ℕ) → every isByte (bytesOf ws) ≡ true
-unfolding every
+pub bytes-small : (ws : List ℕ) → all isByte (bytesOf ws) ≡ true
+unfolding all
 bytes-small [] = rw bytes-nil
 bytes-small (w ∷ ws) =
     rw (bytes-cons, lt-ltb (w % 256) 256 (omega arith), lt-ltb (w / 256 % 256) 256 (omega arith), lt-ltb (w / 65536 % 256) 256 (omega arith), lt-ltb (w / 16777216 % 256) 256 (omega arith))
@@ -78,36 +78,36 @@ none : 0 < 256
 none = omega arith
 
 -- bytes are read back from their words
-pub packed-bytes : (text : List ℕ) → every isByte text ≡ true → take (length text) (bytesOf (packed text)) ≡ text
-unfolding packed every
+pub packed-bytes : (text : List ℕ) → all isByte text ≡ true → take (length text) (bytesOf (packed text)) ≡ text
+unfolding packed all
 packed-bytes [] e = refl
 packed-bytes (a ∷ []) e =
-    let ka = ltb-true a 256 (every-head isByte a [] e) in
+    let ka = ltb-true a 256 (all-head isByte a [] e) in
     let n : a ≡ a + 256 * 0 + 65536 * 0 + 16777216 * 0 = omega arith in
     rw (bytes-cons, ap (λ (w : ℕ). w % 256) n ∙ byte-0 a 0 0 0 ka none none none)
 packed-bytes (a ∷ b ∷ []) e =
-    let ka = ltb-true a 256 (every-head isByte a (b ∷ []) e) in
-    let f = every-tail isByte a (b ∷ []) e in
-    let kb = ltb-true b 256 (every-head isByte b [] f) in
+    let ka = ltb-true a 256 (all-head isByte a (b ∷ []) e) in
+    let f = all-tail isByte a (b ∷ []) e in
+    let kb = ltb-true b 256 (all-head isByte b [] f) in
     let n : a + 256 * b ≡ a + 256 * b + 65536 * 0 + 16777216 * 0 = omega arith in
     rw (bytes-cons, n, byte-0 a b 0 0 ka kb none none, byte-1 a b 0 0 ka kb none none)
 packed-bytes (a ∷ b ∷ c ∷ []) e =
-    let ka = ltb-true a 256 (every-head isByte a (b ∷ c ∷ []) e) in
-    let f = every-tail isByte a (b ∷ c ∷ []) e in
-    let kb = ltb-true b 256 (every-head isByte b (c ∷ []) f) in
-    let g = every-tail isByte b (c ∷ []) f in
-    let kc = ltb-true c 256 (every-head isByte c [] g) in
+    let ka = ltb-true a 256 (all-head isByte a (b ∷ c ∷ []) e) in
+    let f = all-tail isByte a (b ∷ c ∷ []) e in
+    let kb = ltb-true b 256 (all-head isByte b (c ∷ []) f) in
+    let g = all-tail isByte b (c ∷ []) f in
+    let kc = ltb-true c 256 (all-head isByte c [] g) in
     let n : a + 256 * b + 65536 * c ≡ a + 256 * b + 65536 * c + 16777216 * 0 = omega arith in
     rw (bytes-cons, n, byte-0 a b c 0 ka kb kc none, byte-1 a b c 0 ka kb kc none, byte-2 a b c 0 ka kb kc none)
 packed-bytes (a ∷ b ∷ c ∷ d ∷ bytes) e =
-    let ka = ltb-true a 256 (every-head isByte a (b ∷ c ∷ d ∷ bytes) e) in
-    let f = every-tail isByte a (b ∷ c ∷ d ∷ bytes) e in
-    let kb = ltb-true b 256 (every-head isByte b (c ∷ d ∷ bytes) f) in
-    let g = every-tail isByte b (c ∷ d ∷ bytes) f in
-    let kc = ltb-true c 256 (every-head isByte c (d ∷ bytes) g) in
-    let h = every-tail isByte c (d ∷ bytes) g in
-    let kd = ltb-true d 256 (every-head isByte d bytes h) in
-    rw (bytes-cons, byte-0 a b c d ka kb kc kd, byte-1 a b c d ka kb kc kd, byte-2 a b c d ka kb kc kd, byte-3 a b c d ka kb kc kd, packed-bytes bytes (every-tail isByte d bytes h))
+    let ka = ltb-true a 256 (all-head isByte a (b ∷ c ∷ d ∷ bytes) e) in
+    let f = all-tail isByte a (b ∷ c ∷ d ∷ bytes) e in
+    let kb = ltb-true b 256 (all-head isByte b (c ∷ d ∷ bytes) f) in
+    let g = all-tail isByte b (c ∷ d ∷ bytes) f in
+    let kc = ltb-true c 256 (all-head isByte c (d ∷ bytes) g) in
+    let h = all-tail isByte c (d ∷ bytes) g in
+    let kd = ltb-true d 256 (all-head isByte d bytes h) in
+    rw (bytes-cons, byte-0 a b c d ka kb kc kd, byte-1 a b c d ka kb kc kd, byte-2 a b c d ka kb kc kd, byte-3 a b c d ka kb kc kd, packed-bytes bytes (all-tail isByte d bytes h))
 
 -- a word is read back from its bytes
 by-256 : (w : ℕ) → w % 256 + 256 * (w / 256) ≡ w

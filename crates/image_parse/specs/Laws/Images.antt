@@ -11,8 +11,8 @@ use lib.Dec.{leb, eqb}
 use lib.ListN.{length, take, drop, getD, length-append, length-take, length-drop, take-append-drop, drop-of-length-le}
 use lib.Seq.{take-at, drop-at, drop-drop, drop-cons, take-append-le, getD-at, getD-drop, getD-take, length-take-le}
 use borrow.Author.Tests.{leb-true, leb-false, eqb-true, le-leb, eq-eqb, ne-eqb, not-true}
-use Rattle.lists.specs.Lists.{every}
-use Rattle.lists.specs.Laws.Keep.{split, and-left, and-right, every-of, every-getD}
+use Rattle.lists.specs.Lists.{all}
+use Rattle.lists.specs.Laws.Filter.{split, and-left, and-right, all-of, all-getD}
 use Rattle.crc32.specs.Crc.{crc32, bytesOf}
 use Rattle.table.specs.declared.Largest.{Largest}
 use Rattle.table.specs.declared.Largest.the-variants.{None as NoLargest, Value}
@@ -31,7 +31,7 @@ use Rattle.image_parse.specs.Laws.Bytes.{length-bytes, bytes-append, isB
 pub record Proper (i : Image) : Type 0 where
   pub inside : outside (i .header) ≡ false
   pub few : length (i .text) ≤ 4096
-  pub bytes : every isByte (i .text) ≡ true
+  pub bytes : all isByte (i .text) ≡ true
   pub rows-are : length (i .rows) ≡ i .header .rows * i .header .columns
   pub sorts-are : length (i .sorts) ≡ 2 * i .header .entries
   pub pending-are : length (i .pending) ≡ i .header .pending
@@ -41,7 +41,7 @@ unfolding isImage
 image-proper i e =
     let a = not (outside (i .header)) in
     let b = leb (length (i .text)) 4096 in
-    let c = every isByte (i .text) in
+    let c = all isByte (i .text) in
     let d = eqb (length (i .rows)) (i .header .rows * i .header .columns) in
     let f = eqb (length (i .sorts)) (2 * i .header .entries) in
     let e1 = and-left (a && b && c && d && f) _ e in
@@ -156,13 +156,13 @@ module _ (words : List ℕ) (l : Layout) (p : Placed l) (counted : length words 
       length-take-le (l .text) (bytesOf (drop 15 words))
       (rw (length-bytes, length-drop) (omega (arith, p .rows-at, rows-before, sorts-before, pending-before, counted)))
 
-  text-bytes : every isByte (take (l .text) (bytesOf (drop 15 words))) ≡ true
+  text-bytes : all isByte (take (l .text) (bytesOf (drop 15 words))) ≡ true
   text-bytes =
       let t = take (l .text) (bytesOf (drop 15 words)) in
-      every-of isByte 0 t (λ i k.
+      all-of isByte 0 t (λ i k.
       let m : i < l .text = omega (arith, text-length) in
       let n : i < length (bytesOf (drop 15 words)) = omega (arith, length-take (l .text) (bytesOf (drop 15 words))) in
-      rw (getD-take (l .text) (bytesOf (drop 15 words)) i 0 m) (every-getD isByte (bytesOf (drop 15 words)) (bytes-small (drop 15 words)) i n 0))
+      rw (getD-take (l .text) (bytesOf (drop 15 words)) i 0 m) (all-getD isByte (bytesOf (drop 15 words)) (bytes-small (drop 15 words)) i n 0))
 
   pub image-in-proper : Proper (imageIn words l)
   unfolding imageIn

@@ -1,6 +1,6 @@
 -- `image_read::load` meets its contract. Assumes nothing.
 use Rattle.image_read.proofs.LoadingSteps.{loading-refused, parts-fit, keys-fit, loading-done}
-use Rattle.table.specs.Promises.{body}
+use Rattle.table.specs.Contracts.{body}
 use borrow.Author.Needs.{needs}
 use Rattle.image_read.proofs.load.Statement.{statement}
 use Rattle.image_read.proofs.load.Tie as tie
@@ -21,14 +21,14 @@ rebuild-requires c κs =
     let s = c .before .before .before .before .before .before .before .before .before .before .before .before .before .before .before .before .before .before .before .before .before .before in
     let a = s .args in
     keys-fit _ (a .l) (a .capacity) (body (a .rows .now) (a .keys .now) (a .sorts .now)) (a .pending .now) _ (c .before .before .before .before .before .before .before .before .before .before .before .before .before .before .before .with-capacity .ensures) _ (c .before .before .before .before .before .before .before .before .before .before .before .before .before .before .load-refusal .ensures) (c .before .before .before .before .before .before .before .before .before .before .before .before .before .if1 .left) (s .pre)
-    _ _ _ (c .before .before .before .before .before .before .before .before .before .write-parts .ensures) _ (c .before .before .keyed .ensures)
+    _ _ _ (c .before .before .before .before .before .before .before .before .before .write-parts .ensures) _ (c .before .before .index-shape .ensures)
 
 returns-2 : tie.Need-returns-2
 returns-2 c =
     let s = c .before .before .before .before .before .before .before .before .before .before .before .before .before .before .before .before .before .before .before .before .before .before .before .before .before in
     let a = s .args in
     loading-done _ (a .l) (a .capacity) (body (a .rows .now) (a .keys .now) (a .sorts .now)) (a .pending .now) _ (c .before .before .before .before .before .before .before .before .before .before .before .before .before .before .before .before .before .before .with-capacity .ensures) _ (c .before .before .before .before .before .before .before .before .before .before .before .before .before .before .before .before .before .load-refusal .ensures) (c .before .before .before .before .before .before .before .before .before .before .before .before .before .before .before .before .if1 .left) (s .pre)
-    _ _ _ (c .before .before .before .before .before .before .before .before .before .before .before .before .write-parts .ensures) _ (c .before .before .before .before .before .keyed .ensures) _ (c .before .before .rebuild .ensures) (c .before .before .rebuild .kept .1 .1 .0)
+    _ _ _ (c .before .before .before .before .before .before .before .before .before .before .before .before .write-parts .ensures) _ (c .before .before .before .before .before .index-shape .ensures) _ (c .before .before .rebuild .ensures) (c .before .before .rebuild .kept .1 .1 .0)
 
 pub load-spec : {M : Type 1} → statement M
 load-spec =

@@ -8,31 +8,31 @@ use mathlib.Core.List.{List}
 use mathlib.Core.Option.{Option, none, some}
 use native.Mathlib.Omega.{arith}
 use lib.ListN.{length, drop}
-use Rattle.lists.specs.Lists.{putAt}
+use Rattle.lists.specs.Lists.{splice}
 use Rattle.refusals.specs.Refusals.{Reply, refused, accepted, reply}
 use Rattle.refusals.specs.Laws.Replies.{some-number}
 use Rattle.refusals.specs.Laws.Determined.{Same, refused-same}
 use Rattle.table.specs.declared.Header.{Header}
 use Rattle.table.specs.declared.TableAnswer.{TableAnswer}
-use Rattle.table.specs.Numbers.{tableSays}
-use Rattle.table.specs.Promises.{Body, SlotsPast}
-use Rattle.table.specs.Laws.Answers.{table-said}
+use Rattle.table.specs.Numbers.{tableView}
+use Rattle.table.specs.Contracts.{Body, SlotsPast}
+use Rattle.table.specs.Laws.Answers.{table-view-injective}
 use Rattle.image_spec.specs.declared.LengthAnswer.{LengthAnswer}
 use Rattle.image_spec.specs.declared.LengthAnswer.the-variants.{Refused, Length}
 use Rattle.image_spec.specs.Image.{Image}
-use Rattle.image_spec.specs.Contracts.{lengthSays, Decoded, readRefusal, ImageRead, textRefusal, textOf, TextRead}
+use Rattle.image_spec.specs.Contracts.{lengthView, Decoded, readRefusal, ImageRead, textRefusal, textOf, TextRead}
 use Rattle.image_parse.specs.Laws.Images.{one-image}
 use Rattle.image_check.specs.Laws.Determined.{same-image, same-sound}
 
 -- ---- *Read text*
 
--- `lengthSays` is injective
-length-said : (a b : LengthAnswer) → lengthSays a ≡ lengthSays b → a ≡ b
-unfolding lengthSays
-length-said (Refused m) (Refused n) e = cc
-length-said (Refused m) (Length n) e = cc
-length-said (Length m) (Refused n) e = cc
-length-said (Length m) (Length n) e = cc
+-- `lengthView` is injective
+length-view-injective : (a b : LengthAnswer) → lengthView a ≡ lengthView b → a ≡ b
+unfolding lengthView
+length-view-injective (Refused m) (Refused n) e = cc
+length-view-injective (Refused m) (Length n) e = cc
+length-view-injective (Length m) (Refused n) e = cc
+length-view-injective (Length m) (Length n) e = cc
 
 pub text-read-determined : {words output output₁ output₂ : List ℕ} {a b : LengthAnswer}
     → TextRead words output a output₁ → TextRead words output b output₂ → Same a b output₁ output₂
@@ -40,9 +40,9 @@ text-read-determined {words} {output} {a = a} {b = b} x y =
     let e = one-image words (x .image) (y .image) (x .reads) (y .reads) in
     let number = ap (λ (i : Option Image). textRefusal i (length output)) e in
     record {
-      answer = length-said a b (x .answers ∙ ap (λ (i : Option Image). reply (textRefusal i (length output)) (length (textOf i))) e ∙ sym (y .answers));
+      answer = length-view-injective a b (x .answers ∙ ap (λ (i : Option Image). reply (textRefusal i (length output)) (length (textOf i))) e ∙ sym (y .answers));
       cells =
-          ⊎-elim (λ z. x .written z ∙ ap (λ (i : Option Image). putAt output 0 (textOf i)) e ∙ sym (y .written (sym number ∙ z)))
+          ⊎-elim (λ z. x .written z ∙ ap (λ (i : Option Image). splice output 0 (textOf i)) e ∙ sym (y .written (sym number ∙ z)))
           (λ k. x .unchanged k ∙ sym (y .unchanged (rw number at k)))
           (some-number (textRefusal (x .image) (length output)));
     }
@@ -70,8 +70,8 @@ module _ (words : List ℕ) (capacity : ℕ) (s : Body) (pending : List ℕ) (a 
     pub sorts : s₁ .sorts ≡ s₂ .sorts
     pub pending-words : pending₁ ≡ pending₂
     -- the key store of a refused call, and what is never written of an accepted one's
-    pub keys : (n : ℕ) → tableSays a ≡ refused n → s₁ .keys ≡ s₂ .keys
-    pub slots-past : (h : Header) → tableSays a ≡ accepted h → SlotsPast (h .capacity) (s₁ .keys) (s₂ .keys)
+    pub keys : (n : ℕ) → tableView a ≡ refused n → s₁ .keys ≡ s₂ .keys
+    pub slots-past : (h : Header) → tableView a ≡ accepted h → SlotsPast (h .capacity) (s₁ .keys) (s₂ .keys)
 
   pub image-read-determined : ImageRead words capacity s pending a s₁ pending₁ → ImageRead words capacity s pending b s₂ pending₂ → SameRead
   image-read-determined x y = ⊎-elim accept refuse (some-number number)
@@ -88,7 +88,7 @@ module _ (words : List ℕ) (capacity : ℕ) (s : Body) (pending : List ℕ) (a 
           let v = y .unchanged (rw alike at k) in
           let bodies : s₁ ≡ s₂ = u .0 ∙ sym (v .0) in
           record {
-            answer = refused-same table-said (x .refusal) (y .refusal ∙ ap (λ (n : ℕ). reply n tt) (sym alike)) k;
+            answer = refused-same table-view-injective (x .refusal) (y .refusal ∙ ap (λ (n : ℕ). reply n tt) (sym alike)) k;
             rows = ap (λ (c : Body). c .rows) bodies;
             sorts = ap (λ (c : Body). c .sorts) bodies;
             pending-words = u .1 ∙ sym (v .1);
@@ -102,7 +102,7 @@ module _ (words : List ℕ) (capacity : ℕ) (s : Body) (pending : List ℕ) (a 
           let g = x .loaded (i .0) (i .1) z in
           let h = y .loaded (i .0) (sym (same-image (x .decoded) (y .decoded)) ∙ i .1) (sym alike ∙ z) in
           record {
-            answer = table-said a b (g .answers ∙ sym (h .answers));
+            answer = table-view-injective a b (g .answers ∙ sym (h .answers));
             rows = g .rows-after ∙ sym (h .rows-after);
             sorts = g .sorts-after ∙ sym (h .sorts-after);
             pending-words = g .pending-after ∙ sym (h .pending-after);

@@ -5,14 +5,14 @@ use mathlib.Core.Bool.{_||_}
 use mathlib.Core.List.{List, [], _∷_}
 use lib.Dec.{ltb}
 use lib.ListN.{length}
-use Rattle.lists.specs.Lists.{putAt}
-use Rattle.refusals.specs.Refusals.{rung, first, reply, verdict}
+use Rattle.lists.specs.Lists.{splice}
+use Rattle.refusals.specs.Refusals.{check, firstRefusal, reply, outcome}
 use Rattle.plain_table.specs.Refusing.{Lengths, storesShort}
 use Rattle.table.specs.declared.Header.{Header}
 use Rattle.table.specs.declared.TableAnswer.{TableAnswer}
-use Rattle.table.specs.Numbers.{openingOf, tableSays}
+use Rattle.table.specs.Numbers.{openingOf, tableView}
 use Rattle.table.specs.Refusing.{outside}
-use Rattle.table.specs.Promises.{Body, lengths}
+use Rattle.table.specs.Contracts.{Body, lengths}
 use Rattle.image_spec.specs.Contracts.{withCapacity, Loaded}
 use Rattle.image_parse.specs.declared.Layout.{Layout}
 use Rattle.image_parse.specs.inner.Parsed.{part, imageIn, IsAt}
@@ -21,7 +21,7 @@ use Rattle.image_parse.specs.inner.Parsed.{part, imageIn, IsAt}
 
 -- 1 for a capacity outside its bounds or below the row count, 2 for a store shorter than needed
 unfoldable pub loadRefusal : Header → Lengths → ℕ
-loadRefusal h l = first (rung (outside h) 1 ∷ rung (storesShort (openingOf h) l || ltb (l .pending) (h .pending)) 2 ∷ [])
+loadRefusal h l = firstRefusal (check (outside h) 1 ∷ check (storesShort (openingOf h) l || ltb (l .pending) (h .pending)) 2 ∷ [])
 
 abbrev pub storesRefusal : Layout → ℕ → Body → List ℕ → ℕ
 storesRefusal l capacity b pending =
@@ -36,13 +36,13 @@ pub record PartsFit (words : List ℕ) (l : Layout) (rows sorts pending : ℕ) :
 
 -- they are at the starts of the stores
 pub record PartsWritten (words : List ℕ) (l : Layout) (rows sorts pending rows′ sorts′ pending′ : List ℕ) : Type 0 where
-  pub rows-after : rows′ ≡ putAt rows 0 (part words (l .rows) (l .sorts))
-  pub sorts-after : sorts′ ≡ putAt sorts 0 (part words (l .sorts) (l .pending))
-  pub pending-after : pending′ ≡ putAt pending 0 (part words (l .pending) (l .end))
+  pub rows-after : rows′ ≡ splice rows 0 (part words (l .rows) (l .sorts))
+  pub sorts-after : sorts′ ≡ splice sorts 0 (part words (l .sorts) (l .pending))
+  pub pending-after : pending′ ≡ splice pending 0 (part words (l .pending) (l .end))
 
 -- the image at these places is loaded, or its capacity or the stores refused
 pub record Loading (words : List ℕ) (l : Layout) (capacity : ℕ) (b : Body) (pending : List ℕ) (answer : TableAnswer) (b′ : Body) (pending′ : List ℕ) : Type 0 where
-  pub refusal : verdict (tableSays answer) ≡ reply (storesRefusal l capacity b pending) tt
+  pub refusal : outcome (tableView answer) ≡ reply (storesRefusal l capacity b pending) tt
   pub unchanged : 0 < storesRefusal l capacity b pending → (b′ ≡ b) × (pending′ ≡ pending)
   pub loaded : storesRefusal l capacity b pending ≡ 0 → Loaded (imageIn words l) capacity b pending answer b′ pending′
 

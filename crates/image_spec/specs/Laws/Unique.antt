@@ -9,9 +9,9 @@ use lib.ListN.{length, take, drop, getD, length-append}
 use lib.Seq.{take-append-seam, drop-append-seam}
 use lib.Dec.{leb, ltb, eqb}
 use borrow.Author.Tests.{ltb-true, leb-true, eqb-true, not-true, le-leb, eq-eqb}
-use Rattle.lists.specs.Lists.{every}
-use Rattle.lists.specs.Laws.Keep.{and-left, and-right}
-use Rattle.lists.specs.Laws.Every.{every-head, every-tail}
+use Rattle.lists.specs.Lists.{all}
+use Rattle.lists.specs.Laws.Filter.{and-left, and-right}
+use Rattle.lists.specs.Laws.All.{all-head, all-tail}
 use Rattle.table.specs.declared.Largest.{Largest}
 use Rattle.table.specs.declared.Largest.the-variants.{None as NoLargest, Value}
 use Rattle.table.specs.declared.Header.{Header}
@@ -69,14 +69,14 @@ header-unique h k e =
 abbrev isByte : ℕ → Bool
 isByte byte = ltb byte 256
 
-first-byte : (x : ℕ) (xs : List ℕ) → every isByte (x ∷ xs) ≡ true → x < 256
-first-byte x xs e = ltb-true x 256 (every-head isByte x xs e)
+first-byte : (x : ℕ) (xs : List ℕ) → all isByte (x ∷ xs) ≡ true → x < 256
+first-byte x xs e = ltb-true x 256 (all-head isByte x xs e)
 
 -- a word has one lowest byte, and one rest
 low-byte : (a b x y : ℕ) → a < 256 → b < 256 → a + 256 * x ≡ b + 256 * y → (a ≡ b) × (x ≡ y)
 low-byte a b x y h k e = (omega arith, omega arith)
 
-pub packed-unique : (a b : List ℕ) → every isByte a ≡ true → every isByte b ≡ true → length a ≡ length b → packed a ≡ packed b → a ≡ b
+pub packed-unique : (a b : List ℕ) → all isByte a ≡ true → all isByte b ≡ true → length a ≡ length b → packed a ≡ packed b → a ≡ b
 unfolding packed
 packed-unique [] [] h k n e = refl
 packed-unique [] (b₀ ∷ ys) h k n e = absurd (omega arith)
@@ -92,21 +92,21 @@ packed-unique (a₀ ∷ a₁ ∷ a₂ ∷ xs) (b₀ ∷ b₁ ∷ []) h k n e = a
 packed-unique (a₀ ∷ a₁ ∷ a₂ ∷ []) (b₀ ∷ b₁ ∷ b₂ ∷ []) h k n e =
     let w : a₀ + 256 * a₁ + 65536 * a₂ ≡ b₀ + 256 * b₁ + 65536 * b₂ = head-eq-of-cons-eq e in
     let z₀ = low-byte a₀ b₀ (a₁ + 256 * a₂) (b₁ + 256 * b₂) (first-byte _ _ h) (first-byte _ _ k) (omega (arith, w)) in
-    let z₁ = low-byte a₁ b₁ a₂ b₂ (first-byte _ _ (every-tail isByte _ _ h)) (first-byte _ _ (every-tail isByte _ _ k)) (z₀ .1) in
+    let z₁ = low-byte a₁ b₁ a₂ b₂ (first-byte _ _ (all-tail isByte _ _ h)) (first-byte _ _ (all-tail isByte _ _ k)) (z₀ .1) in
     cc
 packed-unique (a₀ ∷ a₁ ∷ a₂ ∷ []) (b₀ ∷ b₁ ∷ b₂ ∷ b₃ ∷ ys) h k n e = absurd (omega arith)
 packed-unique (a₀ ∷ a₁ ∷ a₂ ∷ a₃ ∷ xs) (b₀ ∷ b₁ ∷ b₂ ∷ []) h k n e = absurd (omega arith)
 packed-unique (a₀ ∷ a₁ ∷ a₂ ∷ a₃ ∷ xs) (b₀ ∷ b₁ ∷ b₂ ∷ b₃ ∷ ys) h k n e =
     let w : a₀ + 256 * a₁ + 65536 * a₂ + 16777216 * a₃ ≡ b₀ + 256 * b₁ + 65536 * b₂ + 16777216 * b₃ = head-eq-of-cons-eq e in
-    let h₁ = every-tail isByte a₀ _ h in
-    let k₁ = every-tail isByte b₀ _ k in
-    let h₂ = every-tail isByte a₁ _ h₁ in
-    let k₂ = every-tail isByte b₁ _ k₁ in
+    let h₁ = all-tail isByte a₀ _ h in
+    let k₁ = all-tail isByte b₀ _ k in
+    let h₂ = all-tail isByte a₁ _ h₁ in
+    let k₂ = all-tail isByte b₁ _ k₁ in
     let z₀ = low-byte a₀ b₀ (a₁ + 256 * a₂ + 65536 * a₃) (b₁ + 256 * b₂ + 65536 * b₃) (first-byte _ _ h) (first-byte _ _ k) (omega (arith, w)) in
     let z₁ = low-byte a₁ b₁ (a₂ + 256 * a₃) (b₂ + 256 * b₃) (first-byte _ _ h₁) (first-byte _ _ k₁) (omega (arith, z₀ .1)) in
     let z₂ = low-byte a₂ b₂ a₃ b₃ (first-byte _ _ h₂) (first-byte _ _ k₂) (z₁ .1) in
     let rest : xs ≡ ys =
-    packed-unique xs ys (every-tail isByte a₃ _ (every-tail isByte a₂ _ h₂)) (every-tail isByte b₃ _ (every-tail isByte b₂ _ k₂)) (omega (arith, n)) (tail-eq-of-cons-eq e) in
+    packed-unique xs ys (all-tail isByte a₃ _ (all-tail isByte a₂ _ h₂)) (all-tail isByte b₃ _ (all-tail isByte b₂ _ k₂)) (omega (arith, n)) (tail-eq-of-cons-eq e) in
     cc
 
 pub length-packed : (a : List ℕ) → length (packed a) ≡ (length a + 3) / 4
@@ -123,7 +123,7 @@ length-packed (a ∷ b ∷ c ∷ d ∷ rest) = omega (arith, length-packed rest)
 pub record Parts (i : Image) : Type 0 where
   pub bounds : outside (i .header) ≡ false
   pub text-fits : length (i .text) ≤ 4096
-  pub text-bytes : every isByte (i .text) ≡ true
+  pub text-bytes : all isByte (i .text) ≡ true
   pub rows-counted : length (i .rows) ≡ i .header .rows * i .header .columns
   pub sorts-counted : length (i .sorts) ≡ 2 * i .header .entries
   pub pending-counted : length (i .pending) ≡ i .header .pending

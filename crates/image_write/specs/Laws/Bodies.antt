@@ -6,8 +6,8 @@ use native.Mathlib.Omega.{arith}
 use lib.ListN.{length, take, getD, set, length-append}
 use lib.Seq.{length-take-le, take-suc}
 use native.Mathlib.Numerals.{add-one}
-use Rattle.lists.specs.Lists.{putAt}
-use Rattle.lists.specs.Laws.Parts.{length-putAt, part-putAt, putAt-then, set-putAt, set-set-putAt}
+use Rattle.lists.specs.Lists.{splice}
+use Rattle.lists.specs.Laws.Parts.{length-splice, part-splice, splice-then, set-splice, set-set-splice}
 use Rattle.crc32.specs.Crc.{crc32, bytesOf}
 use Rattle.table.specs.declared.Header.{Header}
 use Rattle.abi.specs.Encoding.{encodeHeader}
@@ -16,32 +16,32 @@ use Rattle.image_write.specs.inner.Parts.{imageHead, storeWords, wordsIn
 use Rattle.image_write.specs.Laws.Packed.{length-packed}
 
 -- a word behind words
-pub set-behind : (l w : List ℕ) (at i a : ℕ) → i ≡ at + length w → i < length l → set (putAt l at w) i a ≡ putAt l at (w ++ (a ∷ []))
+pub set-behind : (l w : List ℕ) (at i a : ℕ) → i ≡ at + length w → i < length l → set (splice l at w) i a ≡ splice l at (w ++ (a ∷ []))
 set-behind l w at i a e h =
-    let n : length (putAt l at w) ≡ length l = length-putAt l w at (omega arith) in
-    set-putAt (putAt l at w) i a (omega arith)
-    ∙ ap (λ (k : ℕ). putAt (putAt l at w) k (a ∷ [])) e
-    ∙ putAt-then l w (a ∷ []) at (omega arith)
+    let n : length (splice l at w) ≡ length l = length-splice l w at (omega arith) in
+    set-splice (splice l at w) i a (omega arith)
+    ∙ ap (λ (k : ℕ). splice (splice l at w) k (a ∷ [])) e
+    ∙ splice-then l w (a ∷ []) at (omega arith)
 
 -- one more of the words that are written from a place on
 pub write-step : (l w : List ℕ) (at i : ℕ) → i < length w → at + length w ≤ length l
-    → set (putAt l at (take i w)) (at + i) (getD w i 0) ≡ putAt l at (take (i + 1) w)
+    → set (splice l at (take i w)) (at + i) (getD w i 0) ≡ splice l at (take (i + 1) w)
 write-step l w at i h k =
     let n : length (take i w) ≡ i = length-take-le i w (omega arith) in
     set-behind l (take i w) at (at + i) (getD w i 0) (omega arith) (omega arith)
-    ∙ ap (putAt l at) (sym (take-suc w i 0 h) ∙ ap (λ (j : ℕ). take j w) (sym (add-one i)))
+    ∙ ap (splice l at) (sym (take-suc w i 0 h) ∙ ap (λ (j : ℕ). take j w) (sym (add-one i)))
 
 -- three lists written one behind another
 pub put-three : {l₁ l₂ l₃ : List ℕ} (l a b c : List ℕ) (at n m : ℕ) → length a ≡ n → length b ≡ m → at + n + m + length c ≤ length l
-    → l₁ ≡ putAt l at a → l₂ ≡ putAt l₁ (at + n) b → l₃ ≡ putAt l₂ (at + n + m) c → l₃ ≡ putAt l at (a ++ (b ++ c))
+    → l₁ ≡ splice l at a → l₂ ≡ splice l₁ (at + n) b → l₃ ≡ splice l₂ (at + n + m) c → l₃ ≡ splice l at (a ++ (b ++ c))
 put-three l a b c at n m e f h p q r =
     let ab : length (a ++ b) ≡ n + m = length-append a b ∙ ap₂ (λ (i j : ℕ). i + j) e f in
     let g : at + n + m ≡ at + length (a ++ b) = omega arith in
     r
-    ∙ ap (λ (x : List ℕ). putAt x (at + n + m) c) (q ∙ ap₂ (λ (x : List ℕ) (k : ℕ). putAt x (at + k) b) p (sym e) ∙ putAt-then l a b at (omega arith))
-    ∙ ap (λ (k : ℕ). putAt (putAt l at (a ++ b)) k c) g
-    ∙ putAt-then l (a ++ b) c at (omega arith)
-    ∙ ap (putAt l at) (append-assoc a b c)
+    ∙ ap (λ (x : List ℕ). splice x (at + n + m) c) (q ∙ ap₂ (λ (x : List ℕ) (k : ℕ). splice x (at + k) b) p (sym e) ∙ splice-then l a b at (omega arith))
+    ∙ ap (λ (k : ℕ). splice (splice l at (a ++ b)) k c) g
+    ∙ splice-then l (a ++ b) c at (omega arith)
+    ∙ ap (splice l at) (append-assoc a b c)
 
 pub length-head : (h : Header) (text : ℕ) → length (imageHead h text) ≡ 15
 unfolding imageHead encodeHeader
@@ -53,11 +53,11 @@ length-header h = refl
 
 -- the words before the text
 pub head-written : (l : List ℕ) (h : Header) (text : ℕ) → 15 ≤ length l
-    → set (putAt (set (set l 0 1112819533) 1 1) 2 (encodeHeader h)) 14 text ≡ putAt l 0 (imageHead h text)
+    → set (splice (set (set l 0 1112819533) 1 1) 2 (encodeHeader h)) 14 text ≡ splice l 0 (imageHead h text)
 unfolding imageHead encodeHeader
 head-written l h text k =
-    ap (λ (x : List ℕ). set (putAt x 2 (encodeHeader h)) 14 text) (set-set-putAt l 0 1112819533 1 (omega arith))
-    ∙ ap (λ (x : List ℕ). set x 14 text) (putAt-then l (1112819533 ∷ 1 ∷ []) (encodeHeader h) 0 (omega arith))
+    ap (λ (x : List ℕ). set (splice x 2 (encodeHeader h)) 14 text) (set-set-splice l 0 1112819533 1 (omega arith))
+    ∙ ap (λ (x : List ℕ). set x 14 text) (splice-then l (1112819533 ∷ 1 ∷ []) (encodeHeader h) 0 (omega arith))
     ∙ set-behind l (1112819533 ∷ 1 ∷ encodeHeader h) 0 14 text refl (omega arith)
 
 module _ (h : Header) (rows sorts pending : List ℕ) (holds : Holds h rows sorts pending) where
@@ -75,10 +75,10 @@ module _ (h : Header) (rows sorts pending : List ℕ) (holds : Holds h rows sort
   length-stores = simp length-append (omega (arith, length-cells, length-pairs, length-records))
 
   pub stores-written : {l₁ l₂ l₃ : List ℕ} (l : List ℕ) (at : ℕ) → at + wordsInUse h ≤ length l
-      → l₁ ≡ putAt l at (take (h .rows * h .columns) rows)
-      → l₂ ≡ putAt l₁ (at + h .rows * h .columns) (take (2 * h .entries) sorts)
-      → l₃ ≡ putAt l₂ (at + h .rows * h .columns + 2 * h .entries) (take (h .pending) pending)
-      → l₃ ≡ putAt l at (storeWords h rows sorts pending)
+      → l₁ ≡ splice l at (take (h .rows * h .columns) rows)
+      → l₂ ≡ splice l₁ (at + h .rows * h .columns) (take (2 * h .entries) sorts)
+      → l₃ ≡ splice l₂ (at + h .rows * h .columns + 2 * h .entries) (take (h .pending) pending)
+      → l₃ ≡ splice l at (storeWords h rows sorts pending)
   unfolding storeWords
   stores-written l at k =
       put-three l _ _ _ at (h .rows * h .columns) (2 * h .entries) length-cells length-pairs (omega (arith, length-records))
@@ -98,19 +98,19 @@ module _ (h : Header) (rows sorts pending : List ℕ) (holds : Holds h rows sort
     length-image = length-append (imageBody (imageOf h rows sorts pending text)) _ ∙ omega (arith, length-body)
 
     pub body-written : {l₁ l₂ l₃ : List ℕ} (l : List ℕ) (words : ℕ) → words ≡ (length text + 3) / 4 → 15 + (length text + 3) / 4 + wordsInUse h ≤ length l
-        → l₁ ≡ putAt l 0 (imageHead h (length text))
-        → l₂ ≡ putAt l₁ 15 (packed text)
-        → l₃ ≡ putAt l₂ (15 + words) (storeWords h rows sorts pending)
-        → l₃ ≡ putAt l 0 (imageBody (imageOf h rows sorts pending text))
+        → l₁ ≡ splice l 0 (imageHead h (length text))
+        → l₂ ≡ splice l₁ 15 (packed text)
+        → l₃ ≡ splice l₂ (15 + words) (storeWords h rows sorts pending)
+        → l₃ ≡ splice l 0 (imageBody (imageOf h rows sorts pending text))
     body-written l words e k p q r =
         put-three l _ _ _ 0 15 words (length-head h (length text)) (length-packed text ∙ sym e) (omega (arith, length-stores)) p q r
-        ∙ ap (putAt l 0) (sym body-parts)
+        ∙ ap (splice l 0) (sym body-parts)
 
     -- all words: the checksum of the body behind it
     pub image-written : {l₁ l₂ : List ℕ} (l : List ℕ) (n : ℕ) → n + 1 ≡ imageLength h (length text) → imageLength h (length text) ≤ length l
-        → l₁ ≡ putAt l 0 (imageBody (imageOf h rows sorts pending text))
+        → l₁ ≡ splice l 0 (imageBody (imageOf h rows sorts pending text))
         → l₂ ≡ set l₁ n (crc32 (bytesOf (take n l₁)))
-        → l₂ ≡ putAt l 0 (imageWords (imageOf h rows sorts pending text))
+        → l₂ ≡ splice l 0 (imageWords (imageOf h rows sorts pending text))
     unfolding imageWords imageLength
     image-written l n e k p q =
         let body = imageBody (imageOf h rows sorts pending text) in
@@ -118,5 +118,5 @@ module _ (h : Header) (rows sorts pending : List ℕ) (holds : Holds h rows sort
         q
         ∙ ap (λ (x : List ℕ). set x n (crc32 (bytesOf (take n x)))) p
         ∙ set-behind l body 0 n _ (omega (arith, length-body)) (omega arith)
-        ∙ ap (λ (x : List ℕ). putAt l 0 (body ++ (crc32 (bytesOf x) ∷ [])))
-        (ap (λ (j : ℕ). take j (putAt l 0 body)) m ∙ part-putAt l body 0 (omega (arith, length-body)))
+        ∙ ap (λ (x : List ℕ). splice l 0 (body ++ (crc32 (bytesOf x) ∷ [])))
+        (ap (λ (j : ℕ). take j (splice l 0 body)) m ∙ part-splice l body 0 (omega (arith, length-body)))

@@ -8,9 +8,9 @@ use native.Mathlib.Omega.{arith}
 use lib.Dec.{ltb}
 use lib.ListN.{length}
 use borrow.Author.Tests.{lt-ltb, le-ltb, ltb-false}
-use Rattle.lists.specs.Laws.Every.{or-no-left, or-no-right}
-use Rattle.refusals.specs.Refusals.{first}
-use Rattle.plain_table.specs.Laws.Calls.{first-no, first-rest}
+use Rattle.lists.specs.Laws.All.{or-no-left, or-no-right}
+use Rattle.refusals.specs.Refusals.{firstRefusal}
+use Rattle.plain_table.specs.Laws.Calls.{firstRefusal-no, firstRefusal-rest}
 use Rattle.table.specs.declared.Header.{Header}
 use Rattle.table.specs.Refusing.{outside, pendingOutside, rowsShort, pairsShort}
 use Rattle.table.specs.Laws.Refusals.{Inside, outside-inside}
@@ -45,48 +45,48 @@ length-is h text = omega arith
 
 module _ (h : Header) (text : ℕ) where
   pub size-outside : outside h ≡ true → 1 ≡ sizeRefusal h text
-  unfolding sizeRefusal first
+  unfolding sizeRefusal firstRefusal
   size-outside e = rw e
 
   pub size-long : outside h ≡ false → 4096 < text → 21 ≡ sizeRefusal h text
-  unfolding sizeRefusal first
+  unfolding sizeRefusal firstRefusal
   size-long e k = rw (e, lt-ltb _ _ k)
 
   pub size-none : outside h ≡ false → text ≤ 4096 → 0 ≡ sizeRefusal h text
-  unfolding sizeRefusal first
+  unfolding sizeRefusal firstRefusal
   size-none e k = rw (e, le-ltb _ _ k)
 
   pub size-accepted : sizeRefusal h text ≡ 0 → (outside h ≡ false) × (text ≤ 4096)
   unfolding sizeRefusal
-  size-accepted e = (first-no _ 0 _ e, ltb-false _ _ (first-no _ 20 _ (first-rest _ 0 _ e)))
+  size-accepted e = (firstRefusal-no _ 0 _ e, ltb-false _ _ (firstRefusal-no _ 20 _ (firstRefusal-rest _ 0 _ e)))
 
 -- ---- *Write image*
 
 module _ (h : Header) (rows sorts pending text output : ℕ) where
   pub write-outside : pendingOutside h pending ≡ true → 1 ≡ writeRefusal h rows sorts pending text output
-  unfolding writeRefusal first
+  unfolding writeRefusal firstRefusal
   write-outside e = rw e
 
   module _ (e : pendingOutside h pending ≡ false) where
     pub write-rows : rowsShort h rows ≡ true → 2 ≡ writeRefusal h rows sorts pending text output
-    unfolding writeRefusal first
+    unfolding writeRefusal firstRefusal
     write-rows r = rw (e, r)
 
     pub write-sorts : rowsShort h rows ≡ false → sorts < 2 * h .capacity → 2 ≡ writeRefusal h rows sorts pending text output
-    unfolding writeRefusal first pairsShort
+    unfolding writeRefusal firstRefusal pairsShort
     write-sorts r s = rw (e, r, lt-ltb _ _ s)
 
     module _ (r : rowsShort h rows ≡ false) (s : 2 * h .capacity ≤ sorts) where
       pub write-long : 4096 < text → 21 ≡ writeRefusal h rows sorts pending text output
-      unfolding writeRefusal first pairsShort
+      unfolding writeRefusal firstRefusal pairsShort
       write-long k = rw (e, r, le-ltb _ _ s, lt-ltb _ _ k)
 
       pub write-short : text ≤ 4096 → output < imageLength h text → 2 ≡ writeRefusal h rows sorts pending text output
-      unfolding writeRefusal first pairsShort
+      unfolding writeRefusal firstRefusal pairsShort
       write-short k o = rw (e, r, le-ltb _ _ s, le-ltb _ _ k, lt-ltb _ _ o)
 
       pub write-none : text ≤ 4096 → imageLength h text ≤ output → 0 ≡ writeRefusal h rows sorts pending text output
-      unfolding writeRefusal first pairsShort
+      unfolding writeRefusal firstRefusal pairsShort
       write-none k o = rw (e, r, le-ltb _ _ s, le-ltb _ _ k, le-ltb _ _ o)
 
   -- accepted
@@ -101,11 +101,11 @@ module _ (h : Header) (rows sorts pending text output : ℕ) where
   pub write-accepted : writeRefusal h rows sorts pending text output ≡ 0 → Accepted
   unfolding writeRefusal pendingOutside rowsShort pairsShort
   write-accepted e =
-      let b = first-rest _ 0 _ e in
-      let c = first-rest _ 1 _ b in
-      let d = first-rest _ 20 _ c in
-      let p = first-no _ 0 _ e in
-      let s = first-no _ 1 _ b in
+      let b = firstRefusal-rest _ 0 _ e in
+      let c = firstRefusal-rest _ 1 _ b in
+      let d = firstRefusal-rest _ 20 _ c in
+      let p = firstRefusal-no _ 0 _ e in
+      let s = firstRefusal-no _ 1 _ b in
       let o = or-no-left (outside h) _ p in
       let i = outside-inside h o in
       let r = ltb-false rows (h .capacity * h .columns) (or-no-left (ltb rows (h .capacity * h .columns)) _ s) in
@@ -115,8 +115,8 @@ module _ (h : Header) (rows sorts pending text output : ℕ) where
         rows-held = le-trans (rows-within h i) r;
         sorts-held = omega (arith, i .entries-fit, i .rows-fit, q);
         pending-held = ltb-false _ _ (or-no-right (outside h) _ p);
-        text-short = ltb-false _ _ (first-no _ 20 _ c);
-        room = ltb-false _ _ (first-no _ 1 _ d);
+        text-short = ltb-false _ _ (firstRefusal-no _ 20 _ c);
+        room = ltb-false _ _ (firstRefusal-no _ 1 _ d);
       }
 
 pub accepted-holds : (h : Header) (rows sorts pending : List ℕ) (text output : ℕ)

@@ -9,11 +9,11 @@ use Rattle.refusals.specs.Laws.Determined.{Same}
 use Rattle.table.specs.declared.Header.{Header}
 use Rattle.image_spec.specs.declared.LengthAnswer.{LengthAnswer}
 use Rattle.image_spec.specs.declared.LengthAnswer.the-variants.{Refused, Length}
-use Rattle.image_spec.specs.Contracts.{lengthSays, ImageSized, writeRefusal, ImageWritten}
+use Rattle.image_spec.specs.Contracts.{lengthView, ImageSized, writeRefusal, ImageWritten}
 
 -- two answers with the same reply are the same
-same-reply : (a b : LengthAnswer) → lengthSays a ≡ lengthSays b → a ≡ b
-unfolding lengthSays
+same-reply : (a b : LengthAnswer) → lengthView a ≡ lengthView b → a ≡ b
+unfolding lengthView
 same-reply (Refused m) (Refused n) e = cc
 same-reply (Refused m) (Length n) e = cc
 same-reply (Length m) (Refused n) e = cc

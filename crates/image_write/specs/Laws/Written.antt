@@ -8,17 +8,17 @@ use native.Mathlib.Omega.{arith}
 use lib.Dec.{ltb}
 use lib.ListN.{length, take}
 use borrow.Author.Tests.{le-leb, eq-eqb}
-use Rattle.lists.specs.Lists.{putAt, every}
-use Rattle.lists.specs.Laws.Parts.{part-putAt}
+use Rattle.lists.specs.Lists.{splice, all}
+use Rattle.lists.specs.Laws.Parts.{part-splice}
 use Rattle.table.specs.declared.Header.{Header}
 use Rattle.table.specs.Laws.Replies.{accepted-number, accepted-same}
 use Rattle.image_spec.specs.declared.LengthAnswer.the-variants.{Length}
 use Rattle.image_spec.specs.Image.{isImage, imageWords, Reads, reads, imageOf, imageLength}
-use Rattle.image_spec.specs.Contracts.{lengthSays, writeRefusal, ImageWritten}
+use Rattle.image_spec.specs.Contracts.{lengthView, writeRefusal, ImageWritten}
 use Rattle.image_write.specs.Laws.Bodies.{length-cells, length-pairs, length-records, length-image}
 use Rattle.image_write.specs.Laws.Checks.{Accepted, write-accepted, accepted-holds}
 
-module _ (h : Header) (rows sorts pending text output : List ℕ) (bytes : every (λ byte. ltb byte 256) text ≡ true)
+module _ (h : Header) (rows sorts pending text output : List ℕ) (bytes : all (λ byte. ltb byte 256) text ≡ true)
     (none : writeRefusal h (length rows) (length sorts) (length pending) (length text) (length output) ≡ 0) where
   a : Accepted h (length rows) (length sorts) (length pending) (length text) (length output)
   a = write-accepted _ _ _ _ _ _ none
@@ -36,16 +36,16 @@ module _ (h : Header) (rows sorts pending text output : List ℕ) (bytes : every
         eq-eqb _ _ (length-records h rows sorts pending k),
       )
 
-  front : take (imageLength h (length text)) (putAt output 0 (imageWords (imageOf h rows sorts pending text))) ≡ imageWords (imageOf h rows sorts pending text)
+  front : take (imageLength h (length text)) (splice output 0 (imageWords (imageOf h rows sorts pending text))) ≡ imageWords (imageOf h rows sorts pending text)
   front =
       let n = length-image h rows sorts pending (accepted-holds h rows sorts pending _ _ a) text in
-      ap (λ (k : ℕ). take k (putAt output 0 (imageWords (imageOf h rows sorts pending text)))) (sym n)
-      ∙ part-putAt output (imageWords (imageOf h rows sorts pending text)) 0 (omega (arith, a .room))
+      ap (λ (k : ℕ). take k (splice output 0 (imageWords (imageOf h rows sorts pending text)))) (sym n)
+      ∙ part-splice output (imageWords (imageOf h rows sorts pending text)) 0 (omega (arith, a .room))
 
 -- the words that were written, as many as the answer has, are the image of the table and the text
-pub written-reads : {h : Header} {rows sorts pending text output output′ : List ℕ} {n : ℕ} → every (λ byte. ltb byte 256) text ≡ true
+pub written-reads : {h : Header} {rows sorts pending text output output′ : List ℕ} {n : ℕ} → all (λ byte. ltb byte 256) text ≡ true
     → ImageWritten h rows sorts pending text output (Length n) output′ → Reads (take n output′) (some (imageOf h rows sorts pending text))
-unfolding lengthSays
+unfolding lengthView
 written-reads {h} {rows} {sorts} {pending} {text} {output} {n = n} bytes w =
     let none = accepted-number _ _ _ (w .answers) in
     reads (imageOf h rows sorts pending text) (is-image h rows sorts pending text output bytes none)

@@ -5,14 +5,14 @@ use native.Mathlib.Omega.{arith}
 use lib.ListN.{length, getD, length-set}
 use borrow.Author.Tests.{not-true, not-false}
 use Rattle.key_index.specs.Slots.{slots}
-use Rattle.key_check.specs.inner.Check.{named, Stands}
+use Rattle.key_check.specs.inner.Check.{named, Reachable}
 use Rattle.key_index.specs.Laws.Index.{rows-in}
-use Rattle.key_check.proofs.CheckSteps.{Walk, Few, round-begin, slot-in, counted, round-end, turn-free, turn-wrong, turn-twice, turn-taken}
+use Rattle.key_check.proofs.CheckSteps.{RoundInvariant, Few, round-begin, slot-in, counted, round-end, turn-free, turn-wrong, turn-twice, turn-taken}
 use Rattle.key_check.proofs.round_holds.Statement.{statement}
 use Rattle.key_check.proofs.round_holds.Tie as tie
 
 abbrev Inv-loop : tie.InvT-loop
-Inv-loop t rows store free live seen₀ n run₀ taken₀ place₀ seen run taken place = Walk t rows store free seen place run taken × (length seen ≡ length seen₀)
+Inv-loop t rows store free live seen₀ n run₀ taken₀ place₀ seen run taken place = RoundInvariant t rows store free seen place run taken × (length seen ≡ length seen₀)
 
 abbrev μ-loop : tie.MeasureT-loop
 μ-loop t rows store free live seen₀ n run₀ taken₀ place₀ seen run taken place = slots t - place
@@ -63,8 +63,8 @@ add-run c = omega (arith, small (c .before .before .before), c .before .before .
 add-taken : tie.Need-add-taken Inv-loop μ-loop
 add-taken c = omega (arith, small (c .before .before .before), c .before .before .loop-test .taken)
 
-stands-requires : tie.Need-stands-requires Inv-loop μ-loop
-stands-requires c κs = (rows-in _ _ _ (c .before .before .before .before .before .before .before .before .pre .fits), at-in (c .before .before .before))
+is-reachable-requires : tie.Need-is-reachable-requires Inv-loop μ-loop
+is-reachable-requires c κs = (rows-in _ _ _ (c .before .before .before .before .before .before .before .before .pre .fits), at-in (c .before .before .before))
 
 same-length : tie.Need-same-length Inv-loop μ-loop
 same-length c = c .before .before .before .before .before .loop .inv .1
@@ -73,19 +73,19 @@ returns : tie.Need-returns Inv-loop μ-loop
 returns c =
     let i = c .before .before .before .before .before .loop .inv in
     turn-wrong _ _ _ _ _ _ (c .before .before .before .before .before .before .before .before .before .before .pre) _ _ _ _ (i .0) (c .before .before .before .before .loop-test .taken)
-    (c .before .before .if1 .left) (c .before .stands .ensures .no (not-true _ (c .if2 .taken)))
+    (c .before .before .if1 .left) (c .before .is-reachable .ensures .no (not-true _ (c .if2 .taken)))
 
 -- the word at a position is in a correct slot
 standing : (c : tie.Else2 Inv-loop μ-loop) → let s = c .before .before .before .before .before in
     let a = s .before .before .before .before .before .args in
-    let at = (a .free + s .loop .place) % slots (a .t) in Stands (a .t) (a .rows .now) (getD (a .store .now) at 0) at (s .loop .run + 1)
-standing c = c .before .stands .ensures .yes (not-false _ (c .if2 .left))
+    let at = (a .free + s .loop .place) % slots (a .t) in Reachable (a .t) (a .rows .now) (getD (a .store .now) at 0) at (s .loop .run + 1)
+standing c = c .before .is-reachable .ensures .yes (not-false _ (c .if2 .left))
 
 -- its row has a flag in `seen`
 marked : (c : tie.Else2 Inv-loop μ-loop) → let s = c .before .before .before .before .before in
     let a = s .before .before .before .before .before .args in
     named (getD (a .store .now) ((a .free + s .loop .place) % slots (a .t)) 0) < length (s .loop .seen)
-marked c = omega (arith, standing c .live .0, c .before .before .before .before .before .loop .inv .0 .marks)
+marked c = omega (arith, standing c .live .0, c .before .before .before .before .before .loop .inv .0 .flags)
 
 sub-row : tie.Need-sub-row Inv-loop μ-loop
 sub-row c = omega (arith, standing c .number)
@@ -145,7 +145,7 @@ round-holds-spec =
     loop-again
     add-run
     add-taken
-    stands-requires
+    is-reachable-requires
     same-length
     returns
     sub-row

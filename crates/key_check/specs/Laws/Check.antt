@@ -9,7 +9,7 @@ use native.Mathlib.Numerals.{add-one}
 use native.Mathlib.Omega.{arith}
 use lib.Dec.{eqb}
 use borrow.Author.Tests.{eq-eqb, ne-eqb}
-use Rattle.lists.specs.Laws.Keep.{split}
+use Rattle.lists.specs.Laws.Filter.{split}
 use Rattle.key_index.specs.Slots.{slotFrom}
 use Rattle.key_index.specs.Laws.Unrolled.{away, slot-below, slot-then, slot-round, slot-one, away-below, away-slot, away-line, Line}
 use Rattle.key_check.specs.inner.Check.{tally}

@@ -4,7 +4,7 @@ use mathlib.Core.Path.{_≡_, refl, ap, _∙_}
 use mathlib.Core.List.{List}
 use native.Mathlib.Omega.{arith}
 use lib.ListN.{length, set}
-use Rattle.lists.specs.Lists.{putAt}
+use Rattle.lists.specs.Lists.{splice}
 use Rattle.key_index.specs.inner.Index.{zeros}
 use Rattle.key_index.proofs.PutSteps.{empty-begin, empty-step, empty-end}
 use borrow.Author.Needs.{needs}
@@ -12,7 +12,7 @@ use Rattle.key_index.proofs.empty.Statement.{statement}
 use Rattle.key_index.proofs.empty.Tie as tie
 
 abbrev Inv-loop : tie.InvT-loop
-Inv-loop room store₀ slots at₀ store at = (at ≤ slots) × (length store ≡ length store₀) × (store ≡ putAt store₀ 0 (zeros at))
+Inv-loop room store₀ slots at₀ store at = (at ≤ slots) × (length store ≡ length store₀) × (store ≡ splice store₀ 0 (zeros at))
 
 abbrev μ-loop : tie.MeasureT-loop
 μ-loop room store₀ slots at₀ store at = slots - at
@@ -30,7 +30,7 @@ returns c =
     let l = c .before .loop in
     let a = c .before .before .args in
     let e : l .at ≡ 2 * a .room = omega arith in
-    empty-end (a .room) (a .store .now) _ (search needs) (l .inv .2 ∙ ap (λ (i : ℕ). putAt (a .store .now) 0 (zeros i)) e)
+    empty-end (a .room) (a .store .now) _ (search needs) (l .inv .2 ∙ ap (λ (i : ℕ). splice (a .store .now) 0 (zeros i)) e)
 
 pub empty-spec : {M : Type 1} → statement M
 empty-spec =

@@ -4,14 +4,14 @@ use Prim.Native.Nat.{_-_, _≤_}
 use native.Mathlib.Omega.{arith}
 use Rattle.key_index.specs.inner.Ring.{spread}
 use Rattle.key_index.specs.Laws.Index.{rows-in}
-use Rattle.key_index.proofs.WalkSteps.{Walked, begin, on}
+use Rattle.key_index.proofs.ScanSteps.{ScannedSlots, begin, on}
 use Rattle.key_index.proofs.FindSteps.{Past, leads-some, found-free, found-round, found-row}
 use borrow.Author.Needs.{needs}
 use Rattle.key_index.proofs.find.Statement.{statement}
 use Rattle.key_index.proofs.find.Tie as tie
 
 abbrev Inv-loop : tie.InvT-loop
-Inv-loop t rows store key hash slots at₀ passed₀ at passed = Walked slots store (Past t rows key hash) (spread slots hash) at passed
+Inv-loop t rows store key hash slots at₀ passed₀ at passed = ScannedSlots slots store (Past t rows key hash) (spread slots hash) at passed
 
 abbrev μ-loop : tie.MeasureT-loop
 μ-loop t rows store key hash slots at₀ passed₀ at passed = slots - passed

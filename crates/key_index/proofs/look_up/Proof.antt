@@ -4,7 +4,7 @@ use native.Mathlib.Omega.{arith}
 use lib.ListN.{getD}
 use borrow.Author.Needs.{needs}
 use Rattle.key_index.specs.Laws.Index.{rows-in}
-use Rattle.key_index.proofs.WalkSteps.{begin}
+use Rattle.key_index.proofs.ScanSteps.{begin}
 use Rattle.key_index.proofs.FindSteps.{leads-some, found-free, passed-to, found-row}
 use Rattle.key_index.proofs.look_up.Statement.{statement}
 use Rattle.key_index.proofs.look_up.Tie as tie

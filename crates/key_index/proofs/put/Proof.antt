@@ -4,7 +4,7 @@ use mathlib.Core.Path.{_≡_, refl}
 use native.Mathlib.Omega.{arith}
 use lib.ListN.{length, length-set}
 use Rattle.key_index.specs.inner.Ring.{spread}
-use Rattle.key_index.proofs.WalkSteps.{Walked, begin-past, on}
+use Rattle.key_index.proofs.ScanSteps.{ScannedSlots, begin-past, on}
 use Rattle.key_index.proofs.PutSteps.{put-here, put-none}
 use Rattle.key_index.proofs.WindowSteps.{Taken}
 use borrow.Author.Needs.{needs}
@@ -12,7 +12,7 @@ use Rattle.key_index.proofs.put.Statement.{statement}
 use Rattle.key_index.proofs.put.Tie as tie
 
 abbrev Inv-loop : tie.InvT-loop
-Inv-loop store₀ hash row slots home taken₀ place₀ store taken place = (length store ≡ length store₀) × (store ≡ store₀) × Walked slots store₀ Taken (spread slots hash) place taken
+Inv-loop store₀ hash row slots home taken₀ place₀ store taken place = (length store ≡ length store₀) × (store ≡ store₀) × ScannedSlots slots store₀ Taken (spread slots hash) place taken
 
 abbrev μ-loop : tie.MeasureT-loop
 μ-loop store₀ hash row slots home taken₀ place₀ store taken place = slots - taken

@@ -4,7 +4,7 @@ use mathlib.Core.List.{List}
 use Prim.Native.Nat.{ℕ}
 use native.Mathlib.Omega.{arith}
 use borrow.Author.Needs.{needs}
-use Rattle.cells.specs.Cells.{compact, keyHash}
+use Rattle.cells.specs.Cells.{compactHash, keyHash}
 use Rattle.key_index.specs.Laws.Places.{Inside, row-inside, key-part}
 use Rattle.key_index.proofs.row_hash.Statement.{statement}
 use Rattle.key_index.proofs.row_hash.Tie as tie
@@ -15,7 +15,7 @@ lies s = row-inside _ _ _ (s .pre .0) (s .pre .1)
 returns : tie.Need-returns
 returns c =
     let s = c .before .before .before .before .before in
-    c .compact-hash .ensures ∙ ap (λ (key : List ℕ). compact (keyHash key)) (key-part (s .args .t) (s .args .rows .now) (s .args .row) (s .pre .0 .most-keys))
+    c .compact-hash .ensures ∙ ap (λ (key : List ℕ). compactHash (keyHash key)) (key-part (s .args .t) (s .args .rows .now) (s .args .row) (s .pre .0 .most-keys))
 
 pub row-hash-spec : {M : Type 1} → statement M
 row-hash-spec =

@@ -10,18 +10,18 @@ use native.Mathlib.Decide.{decLt, ℕ-discrete}
 use native.Mathlib.Omega.{arith}
 use lib.ListN.{length, drop, getD, set, length-replicate, getD-replicate}
 use lib.Seq.{drop-set-lt, getD-set-same, getD-set-other}
-use Rattle.lists.specs.Lists.{putAt, same}
-use Rattle.lists.specs.Laws.Keep.{split}
-use Rattle.lists.specs.Laws.Parts.{getD-putAt-in}
-use Rattle.cells.specs.Cells.{compact, keyHash}
-use Rattle.key_index.specs.declared.Keyed.{Keyed}
-use Rattle.key_index.specs.Slots.{LiveAt, keyAt, slots, word, home, slotFrom, StandsAt, KeysSound}
+use Rattle.lists.specs.Lists.{splice, same}
+use Rattle.lists.specs.Laws.Filter.{split}
+use Rattle.lists.specs.Laws.Parts.{getD-splice-in}
+use Rattle.cells.specs.Cells.{compactHash, keyHash}
+use Rattle.key_index.specs.declared.IndexShape.{IndexShape}
+use Rattle.key_index.specs.Slots.{LiveAt, keyAt, slots, word, home, slotFrom, ReachableAt, KeysSound}
 use Rattle.key_index.specs.inner.Ring.{tagged, rowNamed}
 use Rattle.key_index.specs.Laws.Ring.{home-spread, word-tagged, word-some, word-row, word-same, slot-below}
-use Rattle.key_index.specs.Laws.Pigeons.{pigeons}
+use Rattle.key_index.specs.Laws.Pigeonhole.{pigeonhole}
 use Rattle.key_index.specs.inner.Index.{RowsIn, Fits, FirstFree, FoundAt, FirstHit, PutIs, zeros, EmptyIs}
 
-pub rows-in : (t : Keyed) (rows store : List ℕ) → Fits t rows store → RowsIn t rows
+pub rows-in : (t : IndexShape) (rows store : List ℕ) → Fits t rows store → RowsIn t rows
 rows-in t rows store f =
     record { most-columns = f .most-columns; most-keys = f .most-keys; most = f .most; count = f .count; cells = f .cells }
 
@@ -42,10 +42,10 @@ any-free (suc n) store = elim (ℕ-discrete (getD store n 0) 0) [
 abbrev rowIn : List ℕ → ℕ → ℕ
 rowIn store slot = rowNamed (getD store slot 0)
 
-module _ (t : Keyed) (rows store : List ℕ) (fits : Fits t rows store) (sound : KeysSound t rows store) where
+module _ (t : IndexShape) (rows store : List ℕ) (fits : Fits t rows store) (sound : KeysSound t rows store) where
   -- each taken slot has a different row, so not all slots are taken
   not-all : ((slot : ℕ) → slot < slots t → 0 < getD store slot 0) → ⊥
-  not-all taken = let z : slots t ≤ t .rows = pigeons (slots t) (t .rows) (rowIn store) into once in omega (arith, fits .count, fits .some)
+  not-all taken = let z : slots t ≤ t .rows = pigeonhole (slots t) (t .rows) (rowIn store) into once in omega (arith, fits .count, fits .some)
     where
       the : (slot : ℕ) → slot < slots t → (r : ℕ) × LiveAt t rows r × (getD store slot 0 ≡ word (keyAt t rows r) r)
       the slot h = sound .only-live slot h (taken slot h)
@@ -73,13 +73,13 @@ module _ (t : Keyed) (rows store : List ℕ) (fits : Fits t rows store) (sound :
 -- ---- what preserves soundness
 
 -- other rows, with the same live rows and the same keys
-pub record SameLive (t t′ : Keyed) (rows rows′ : List ℕ) : Type 0 where
+pub record SameLive (t t′ : IndexShape) (rows rows′ : List ℕ) : Type 0 where
   pub room : t′ .room ≡ t .room
   pub keeps : (i : ℕ) → LiveAt t rows i → LiveAt t′ rows′ i
   pub only : (i : ℕ) → LiveAt t′ rows′ i → LiveAt t rows i
   pub key : (i : ℕ) → LiveAt t rows i → keyAt t′ rows′ i ≡ keyAt t rows i
 
-pub keys-same : (t t′ : Keyed) (rows rows′ store : List ℕ) → KeysSound t rows store → SameLive t t′ rows rows′ → KeysSound t′ rows′ store
+pub keys-same : (t t′ : IndexShape) (rows rows′ store : List ℕ) → KeysSound t rows store → SameLive t t′ rows rows′ → KeysSound t′ rows′ store
 keys-same t t′ rows rows′ store sound same =
     record {
       only-live = λ slot h some.
@@ -90,7 +90,7 @@ keys-same t t′ rows rows′ store sound same =
     }
 
 -- a store without live rows and without taken slots is sound
-pub empty-sound : (t : Keyed) (rows store : List ℕ) → ((i : ℕ) → LiveAt t rows i → ⊥) → ((slot : ℕ) → slot < slots t → getD store slot 0 ≡ 0)
+pub empty-sound : (t : IndexShape) (rows store : List ℕ) → ((i : ℕ) → LiveAt t rows i → ⊥) → ((slot : ℕ) → slot < slots t → getD store slot 0 ≡ 0)
     → KeysSound t rows store
 empty-sound t rows store none free =
     record {
@@ -100,7 +100,7 @@ empty-sound t rows store none free =
     }
 
 -- conversely, without live rows all slots of a sound store are free
-pub empty-free : (t : Keyed) (rows store : List ℕ) → ((i : ℕ) → LiveAt t rows i → ⊥) → KeysSound t rows store
+pub empty-free : (t : IndexShape) (rows store : List ℕ) → ((i : ℕ) → LiveAt t rows i → ⊥) → KeysSound t rows store
     → (slot : ℕ) → slot < slots t → getD store slot 0 ≡ 0
 empty-free t rows store none sound slot h =
     elim (decLt 0 (getD store slot 0)) [
@@ -115,12 +115,12 @@ emptied room store store′ long e slot h =
     let k : slot < length (zeros (2 * room)) = omega arith in
     let z : 0 + slot ≡ slot = zero-add slot in
     ap (λ (l : List ℕ). getD l slot 0) (e .free)
-    ∙ ap (λ (i : ℕ). getD (putAt store 0 (zeros (2 * room))) i 0) (sym z)
-    ∙ getD-putAt-in store (zeros (2 * room)) 0 (omega arith) slot 0 k
+    ∙ ap (λ (i : ℕ). getD (splice store 0 (zeros (2 * room))) i 0) (sym z)
+    ∙ getD-splice-in store (zeros (2 * room)) 0 (omega arith) slot 0 k
     ∙ getD-replicate (2 * room) slot 0 0 h
 
 -- One slot gets the word of a new row. Its previous word was that of no live row, or of a row that is not live any more.
-record Turned (t t′ : Keyed) (rows rows′ store : List ℕ) (slot : ℕ) : Type 0 where
+record SlotReplaced (t t′ : IndexShape) (rows rows′ store : List ℕ) (slot : ℕ) : Type 0 where
   room : t′ .room ≡ t .room
   place : t .rows < t .room
   keeps : (i : ℕ) → LiveAt t rows i → (getD store slot 0 ≡ word (keyAt t rows i) i → ⊥) → LiveAt t′ rows′ i
@@ -128,7 +128,7 @@ record Turned (t t′ : Keyed) (rows rows′ store : List ℕ) (slot : ℕ) : Ty
   only : (i : ℕ) → LiveAt t′ rows′ i → (LiveAt t rows i × (getD store slot 0 ≡ word (keyAt t rows i) i → ⊥)) ⊎ (i ≡ t .rows)
   key : (i : ℕ) → LiveAt t rows i → (getD store slot 0 ≡ word (keyAt t rows i) i → ⊥) → keyAt t′ rows′ i ≡ keyAt t rows i
 
-module _ (t t′ : Keyed) (rows rows′ store : List ℕ) (fits : Fits t rows store) (sound : KeysSound t rows store) (slot : ℕ) (turned : Turned t t′ rows rows′ store slot) where
+module _ (t t′ : IndexShape) (rows rows′ store : List ℕ) (fits : Fits t rows store) (sound : KeysSound t rows store) (slot : ℕ) (turned : SlotReplaced t t′ rows rows′ store slot) where
   abbrev new : List ℕ
   new = keyAt t′ rows′ (t .rows)
 
@@ -181,24 +181,24 @@ module _ (t t′ : Keyed) (rows rows′ store : List ℕ) (fits : Fits t rows st
     ]
 
     -- a row in another slot is still found there
-    stays : (i : ℕ) → LiveAt t rows i → (getD store slot 0 ≡ word (keyAt t rows i) i → ⊥) → (d : ℕ) × StandsAt (slots t) after (keyAt t rows i) i d
+    stays : (i : ℕ) → LiveAt t rows i → (getD store slot 0 ≡ word (keyAt t rows i) i → ⊥) → (d : ℕ) × ReachableAt (slots t) after (keyAt t rows i) i d
     stays i live ne =
         let s = sound .leads i live in
         let q : slotFrom (slots t) (home (slots t) (keyAt t rows i)) (s .0) ≡ slot → ⊥ = λ e. ne (rw e at (s .1 .there)) in
         (s .0, record { below = s .1 .below; there = other _ q ∙ s .1 .there; way = λ e h. taken _ (s .1 .way e h) })
 
-    turned-sound : (d : ℕ) → d < slots t → slot ≡ slotFrom (slots t) (home (slots t) new) d
+    slot-replaced-sound : (d : ℕ) → d < slots t → slot ≡ slotFrom (slots t) (home (slots t) new) d
         → ((e : ℕ) → e < d → getD store (slotFrom (slots t) (home (slots t) new) e) 0 ≡ 0 → ⊥) → KeysSound t′ rows′ after
-    turned-sound d h at way = record { only-live = λ i k. holds i (omega (arith, turned .room)); once = λ a b k l. apart a b (omega (arith, turned .room)) (omega (arith, turned .room)); leads = λ i live. rw (turned .room) (leads i live) }
+    slot-replaced-sound d h at way = record { only-live = λ i k. holds i (omega (arith, turned .room)); once = λ a b k l. apart a b (omega (arith, turned .room)) (omega (arith, turned .room)); leads = λ i live. rw (turned .room) (leads i live) }
       where
-        leads : (i : ℕ) → LiveAt t′ rows′ i → (d : ℕ) × StandsAt (slots t) after (keyAt t′ rows′ i) i d
+        leads : (i : ℕ) → LiveAt t′ rows′ i → (d : ℕ) × ReachableAt (slots t) after (keyAt t′ rows′ i) i d
         leads i live = elim (turned .only i live) [
           | inl o ↦ rw (turned .key i (o .0) (o .1)) (stays i (o .0) (o .1))
           | inr e ↦ rw e (d, record { below = h; there = rw (← at) here; way = λ e k. taken _ (way e k) })
         ]
 
 -- one more row is live, after the others, which are unchanged
-pub record Grown (t t′ : Keyed) (rows rows′ : List ℕ) : Type 0 where
+pub record Grown (t t′ : IndexShape) (rows rows′ : List ℕ) : Type 0 where
   pub room : t′ .room ≡ t .room
   pub place : t .rows < t .room
   pub keeps : (i : ℕ) → LiveAt t rows i → LiveAt t′ rows′ i
@@ -206,8 +206,8 @@ pub record Grown (t t′ : Keyed) (rows rows′ : List ℕ) : Type 0 where
   pub only : (i : ℕ) → LiveAt t′ rows′ i → LiveAt t rows i ⊎ (i ≡ t .rows)
   pub key : (i : ℕ) → LiveAt t rows i → keyAt t′ rows′ i ≡ keyAt t rows i
 
-pub put-sound : (t t′ : Keyed) (rows rows′ store store′ : List ℕ) (hash : ℕ) (r : Bool) → Fits t rows store → KeysSound t rows store → Grown t t′ rows rows′
-    → hash ≡ compact (keyHash (keyAt t′ rows′ (t .rows))) → PutIs (slots t) store hash (t .rows) r store′ → KeysSound t′ rows′ store′
+pub put-sound : (t t′ : IndexShape) (rows rows′ store store′ : List ℕ) (hash : ℕ) (r : Bool) → Fits t rows store → KeysSound t rows store → Grown t t′ rows rows′
+    → hash ≡ compactHash (keyHash (keyAt t′ rows′ (t .rows))) → PutIs (slots t) store hash (t .rows) r store′ → KeysSound t′ rows′ store′
 put-sound t t′ rows rows′ store store′ hash r fits sound grown e put =
     let p = put .yes (put-succeeds t rows store fits sound hash (t .rows) r store′ put) in
     let key = keyAt t′ rows′ (t .rows) in
@@ -216,7 +216,7 @@ put-sound t t′ rows rows′ store store′ hash r fits sound grown e put =
     let slot = slotFrom n (home n key) (p .0) in
     let s : store′ ≡ set store slot (word key (t .rows)) = p .2 ∙ rw (home-spread n hash key e, word-tagged hash (t .rows) key e) in
     let no : (i : ℕ) → getD store slot 0 ≡ word (keyAt t rows i) i → ⊥ = λ i q. let z : word (keyAt t rows i) i ≡ 0 = sym q ∙ f .free in omega (arith, word-some (keyAt t rows i) i) in
-    let turned : Turned t t′ rows rows′ store slot =
+    let turned : SlotReplaced t t′ rows rows′ store slot =
     record {
       room = grown .room;
       place = grown .place;
@@ -225,14 +225,14 @@ put-sound t t′ rows rows′ store store′ hash r fits sound grown e put =
       only = λ i live. elim (grown .only i live) [ inl o ↦ inl (o, no i) | inr q ↦ inr q ];
       key = λ i live _. grown .key i live;
     } in
-    rw s (turned-sound t t′ rows rows′ store fits sound slot turned (slot-below n _ _ (omega (arith, fits .some))) (p .0) (f .below) refl (f .way))
+    rw s (slot-replaced-sound t t′ rows rows′ store fits sound slot turned (slot-below n _ _ (omega (arith, fits .some))) (p .0) (f .below) refl (f .way))
 
 -- one slot of the ring is written, and nothing past the ring
 pub replace-tail : (n slot w : ℕ) (store store′ : List ℕ) → slot < n → store′ ≡ set store slot w → drop n store′ ≡ drop n store
 replace-tail n slot w store store′ h e = ap (drop n) e ∙ drop-set-lt n store slot w h
 
 -- one row dies, and a new row with the same key is live, after the others
-pub record Swapped (t t′ : Keyed) (rows rows′ : List ℕ) (old : ℕ) : Type 0 where
+pub record Swapped (t t′ : IndexShape) (rows rows′ : List ℕ) (old : ℕ) : Type 0 where
   pub room : t′ .room ≡ t .room
   pub place : t .rows < t .room
   pub keeps : (i : ℕ) → LiveAt t rows i → (i ≡ old → ⊥) → LiveAt t′ rows′ i
@@ -241,8 +241,8 @@ pub record Swapped (t t′ : Keyed) (rows rows′ : List ℕ) (old : ℕ) : Type
   pub key : (i : ℕ) → LiveAt t rows i → (i ≡ old → ⊥) → keyAt t′ rows′ i ≡ keyAt t rows i
   pub new-key : keyAt t′ rows′ (t .rows) ≡ keyAt t rows old
 
-pub replace-sound : (t t′ : Keyed) (rows rows′ store store′ key : List ℕ) (hash old slot : ℕ) → Fits t rows store → KeysSound t rows store → Swapped t t′ rows rows′ old
-    → FoundAt t rows store key old slot → hash ≡ compact (keyHash key) → store′ ≡ set store slot (tagged hash (t .rows)) → KeysSound t′ rows′ store′
+pub replace-sound : (t t′ : IndexShape) (rows rows′ store store′ key : List ℕ) (hash old slot : ℕ) → Fits t rows store → KeysSound t rows store → Swapped t t′ rows rows′ old
+    → FoundAt t rows store key old slot → hash ≡ compactHash (keyHash key) → store′ ≡ set store slot (tagged hash (t .rows)) → KeysSound t′ rows′ store′
 replace-sound t t′ rows rows′ store store′ key hash old slot fits sound swapped found e s =
     let k : keyAt t′ rows′ (t .rows) ≡ key = swapped .new-key ∙ found .key-is in
     let n = slots t in
@@ -254,7 +254,7 @@ replace-sound t t′ rows rows′ store store′ key hash old slot fits sound sw
     λ i h q. word-same _ _ i old (omega (arith, fits .count, fits .most)) (omega (arith, found .live .0, fits .count, fits .most)) (sym q ∙ found .word-is) in
     let ours : getD store slot 0 ≡ word (keyAt t rows old) old = there ∙ d .1 .there in
     let its : (i : ℕ) → (getD store slot 0 ≡ word (keyAt t rows i) i → ⊥) → i ≡ old → ⊥ = λ i ne q. ne (rw q ours) in
-    let turned : Turned t t′ rows rows′ store slot =
+    let turned : SlotReplaced t t′ rows rows′ store slot =
     record {
       room = swapped .room;
       place = swapped .place;
@@ -264,7 +264,7 @@ replace-sound t t′ rows rows′ store store′ key hash old slot fits sound sw
       key = λ i live ne. swapped .key i live (its i ne);
     } in
     let w : store′ ≡ set store slot (word (keyAt t′ rows′ (t .rows)) (t .rows)) = s ∙ ap (set store slot) (word-tagged hash (t .rows) key e ∙ ap (λ (l : List ℕ). word l (t .rows)) (sym k)) in
-    rw w (turned-sound t t′ rows rows′ store fits sound slot turned (found .slot-in) (d .0) (d .1 .below) (rw (swapped .new-key) at) (rw (swapped .new-key) (d .1 .way)))
+    rw w (slot-replaced-sound t t′ rows rows′ store fits sound slot turned (found .slot-in) (d .0) (d .1 .below) (rw (swapped .new-key) at) (rw (swapped .new-key) (d .1 .way)))
 
 -- ---- two lookups of one key
 
@@ -273,7 +273,7 @@ unfolding tagged
 tagged-one hash i j e = omega arith
 
 -- two lookups of one key find the same row, on any store
-pub first-one : (t : Keyed) (rows store key : List ℕ) (hash i j d e : ℕ) → FirstHit t rows store key hash i d → FirstHit t rows store key hash j e → i ≡ j
+pub first-one : (t : IndexShape) (rows store key : List ℕ) (hash i j d e : ℕ) → FirstHit t rows store key hash i d → FirstHit t rows store key hash j e → i ≡ j
 first-one t rows store key hash i j d e f g =
     elim (decLt d e) [
       | yes h ↦ absurd (g .way d h i (f .leads))

@@ -5,31 +5,31 @@ use mathlib.Core.List.{List}
 use native.Mathlib.Decide.{decLt, ℕ-discrete}
 use native.Mathlib.Omega.{arith}
 use lib.ListN.{getD}
-use Rattle.key_index.specs.declared.Keyed.{Keyed}
-use Rattle.key_index.specs.Slots.{LiveAt, keyAt, slots, word, home, slotFrom, StandsAt, KeysSound}
+use Rattle.key_index.specs.declared.IndexShape.{IndexShape}
+use Rattle.key_index.specs.Slots.{LiveAt, keyAt, slots, word, home, slotFrom, ReachableAt, KeysSound}
 use Rattle.key_index.specs.inner.Ring.{away}
 use Rattle.key_index.specs.Laws.Ring.{word-some, word-row, home-below, slot-below, slot-then, slot-zero, slot-round, slot-one, away-below, away-slot}
 use Rattle.key_index.specs.inner.Index.{Fits, homeOf}
 use Rattle.key_index.specs.Laws.Unrolled.{line, Line}
 
 -- a word that the store must have
-abbrev pub Stored : Keyed → List ℕ → ℕ → Type 0
+abbrev pub Stored : IndexShape → List ℕ → ℕ → Type 0
 Stored t rows w = (row : ℕ) × LiveAt t rows row × (w ≡ word (keyAt t rows row) row)
 
 -- the distance from slot z to a word's home
-unfoldable pub lineHome : Keyed → List ℕ → ℕ → ℕ → ℕ
+unfoldable pub lineHome : IndexShape → List ℕ → ℕ → ℕ → ℕ
 lineHome t rows z w = away (slots t) z (homeOf t rows w)
 
 -- the bounds of a table's numbers; it has at least one slot
-pub record Small (t : Keyed) : Type 0 where
+pub record Small (t : IndexShape) : Type 0 where
   pub some : 1 ≤ t .room
   pub room : t .room ≤ 65536
   pub count : t .rows ≤ t .room
 
-pub small : (t : Keyed) (rows store : List ℕ) → Fits t rows store → Small t
+pub small : (t : IndexShape) (rows store : List ℕ) → Fits t rows store → Small t
 small t rows store f = record { some = f .some; room = f .most; count = f .count }
 
-module _ (t : Keyed) (m : Small t) (rows : List ℕ) (z : ℕ) (b : z < slots t) where
+module _ (t : IndexShape) (m : Small t) (rows : List ℕ) (z : ℕ) (b : z < slots t) where
   -- the home slot of a live row's word
   home-slot : (row : ℕ) → LiveAt t rows row → slotFrom (slots t) z (lineHome t rows z (word (keyAt t rows row) row)) ≡ home (slots t) (keyAt t rows row)
   unfolding lineHome homeOf
@@ -44,7 +44,7 @@ module _ (t : Keyed) (m : Small t) (rows : List ℕ) (z : ℕ) (b : z < slots t)
 
   module _ (store : List ℕ) where
     -- a row d slots from its home is d positions after its home on the line: the path does not wrap past z
-    on-line : (row d : ℕ) → LiveAt t rows row → getD store z 0 ≡ 0 → StandsAt (slots t) store (keyAt t rows row) row d
+    on-line : (row d : ℕ) → LiveAt t rows row → getD store z 0 ≡ 0 → ReachableAt (slots t) store (keyAt t rows row) row d
         → lineHome t rows z (word (keyAt t rows row) row) + d < slots t
     on-line row d live free s =
         elim (decLt (k + d) (slots t)) [
@@ -136,7 +136,7 @@ module _ (t : Keyed) (m : Small t) (rows : List ℕ) (z : ℕ) (b : z < slots t)
         at slot h = away-slot (slots t) z slot b h
 
         lead : (row : ℕ) → LiveAt t rows row → (p : ℕ) × (p < slots t) × (getD store (slotFrom (slots t) z p) 0 ≡ word (keyAt t rows row) row)
-            → (d : ℕ) × StandsAt (slots t) store (keyAt t rows row) row d
+            → (d : ℕ) × ReachableAt (slots t) store (keyAt t rows row) row d
         lead row live f =
             let w = word (keyAt t rows row) row in
             let k = lineHome t rows z w in

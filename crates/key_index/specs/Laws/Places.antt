@@ -8,7 +8,7 @@ use lib.ListN.{length, take, drop}
 use Rattle.lists.specs.Laws.Parts.{part-width}
 use Rattle.lists.specs.Laws.Rows.{row-in}
 use Rattle.row_buffer.specs.Laws.Rows.{key-row}
-use Rattle.key_index.specs.declared.Keyed.{Keyed}
+use Rattle.key_index.specs.declared.IndexShape.{IndexShape}
 use Rattle.key_index.specs.Slots.{keyAt}
 use Rattle.key_index.specs.inner.Index.{RowsIn, Fits}
 
@@ -23,15 +23,15 @@ inside rows columns count row few narrow long h =
     let b = mul-le-mul few narrow in
     record { in-store = omega arith; small = omega arith }
 
-pub row-inside : (t : Keyed) (rows : List ℕ) (row : ℕ) → RowsIn t rows → row < t .rows → Inside rows (t .columns) row
+pub row-inside : (t : IndexShape) (rows : List ℕ) (row : ℕ) → RowsIn t rows → row < t .rows → Inside rows (t .columns) row
 row-inside t rows row f h = inside rows (t .columns) (t .room) row (f .most) (f .most-columns) (f .cells) (omega (arith, f .count))
 
 -- the borrowed part of a row is its key
-pub key-part : (t : Keyed) (rows : List ℕ) (row : ℕ) → t .keys ≤ t .columns → let from = row * t .columns in
+pub key-part : (t : IndexShape) (rows : List ℕ) (row : ℕ) → t .keys ≤ t .columns → let from = row * t .columns in
     take (from + t .keys - from) (drop from rows) ≡ keyAt t rows row
 key-part t rows row h = part-width rows (row * t .columns) (t .keys) ∙ sym (key-row (t .columns) row (t .keys) rows h)
 
-pub fits-stores : {t : Keyed} {rows store : List ℕ} → Fits t rows store → (rows′ store′ : List ℕ) → length rows′ ≡ length rows → length store′ ≡ length store → Fits t rows′ store′
+pub fits-stores : {t : IndexShape} {rows store : List ℕ} → Fits t rows store → (rows′ store′ : List ℕ) → length rows′ ≡ length rows → length store′ ≡ length store → Fits t rows′ store′
 fits-stores f rows′ store′ er es =
     record {
       some-columns = f .some-columns;

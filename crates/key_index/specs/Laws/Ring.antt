@@ -7,14 +7,14 @@ use native.Mathlib.Nat.{add-assoc, add-zero, mod-self, mod-lt, mod-eq-of-lt, mod
 use native.Mathlib.Omega.{arith}
 use lib.Dec.{ltb}
 use borrow.Author.Tests.{lt-ltb, ltb-true, le-leb, leb-true}
-use Rattle.lists.specs.Laws.Keep.{and-left, and-right}
-use Rattle.cells.specs.Cells.{compact, keyHash}
+use Rattle.lists.specs.Laws.Filter.{and-left, and-right}
+use Rattle.cells.specs.Cells.{compactHash, keyHash}
 use Rattle.cells.specs.Laws.Cells.{key-hash-fits}
-use Rattle.key_index.specs.declared.Keyed.{Keyed}
+use Rattle.key_index.specs.declared.IndexShape.{IndexShape}
 use Rattle.key_index.specs.Slots.{word, home, slotFrom}
 use Rattle.key_index.specs.inner.Ring.{tagged, spread, rowNamed, namesRow, away}
 
-pub word-tagged : (hash row : ℕ) (key : List ℕ) → hash ≡ compact (keyHash key) → tagged hash row ≡ word key row
+pub word-tagged : (hash row : ℕ) (key : List ℕ) → hash ≡ compactHash (keyHash key) → tagged hash row ≡ word key row
 unfolding word tagged
 word-tagged hash row key e = ap (λ (h : ℕ). tagged h row) e
 
@@ -45,7 +45,7 @@ pub word-same : (k l : List ℕ) (i j : ℕ) → i < 2 ^ 17 - 1 → j < 2 ^ 17 -
 word-same k l i j p q e = sym (word-row k i p) ∙ ap rowNamed e ∙ word-row l j q
 
 -- a word encodes a row's number plus 1
-module _ (t : Keyed) (w : ℕ) where
+module _ (t : IndexShape) (w : ℕ) where
   pub names-yes : 0 < w % 2 ^ 17 → w % 2 ^ 17 ≤ t .rows → namesRow t w ≡ true
   unfolding namesRow
   names-yes p q = rw (lt-ltb 0 (w % 2 ^ 17) p, le-leb (w % 2 ^ 17) (t .rows) q)
@@ -58,14 +58,14 @@ module _ (t : Keyed) (w : ℕ) where
   unfolding namesRow
   names-number e = (ltb-true 0 (w % 2 ^ 17) (and-left _ _ e), leb-true (w % 2 ^ 17) (t .rows) (and-right (ltb 0 (w % 2 ^ 17)) _ e))
 
-pub names-word : (t : Keyed) (key : List ℕ) (row : ℕ) → row < t .rows → row < 2 ^ 17 - 1 → namesRow t (word key row) ≡ true
+pub names-word : (t : IndexShape) (key : List ℕ) (row : ℕ) → row < t .rows → row < 2 ^ 17 - 1 → namesRow t (word key row) ≡ true
 names-word t key row h k =
-    let e : word key row % 2 ^ 17 ≡ row + 1 = rw (← word-tagged _ row key refl) (tagged-row (compact (keyHash key)) row k) in
+    let e : word key row % 2 ^ 17 ≡ row + 1 = rw (← word-tagged _ row key refl) (tagged-row (compactHash (keyHash key)) row k) in
     names-yes t (word key row) (omega arith) (omega arith)
 
 -- ---- homes
 
-pub home-spread : (n hash : ℕ) (key : List ℕ) → hash ≡ compact (keyHash key) → spread n hash ≡ home n key
+pub home-spread : (n hash : ℕ) (key : List ℕ) → hash ≡ compactHash (keyHash key) → spread n hash ≡ home n key
 unfolding home spread
 home-spread n hash key e = ap (spread n) e
 
@@ -74,7 +74,7 @@ unfolding spread
 spread-below n hash h k = let m : hash * n < 2 ^ 32 * n = mul-lt-mul-of-pos-right k h in omega arith
 
 pub home-below : (n : ℕ) (key : List ℕ) → 0 < n → home n key < n
-home-below n key h = rw (← home-spread n (compact (keyHash key)) key refl) (spread-below n _ h (key-hash-fits key))
+home-below n key h = rw (← home-spread n (compactHash (keyHash key)) key refl) (spread-below n _ h (key-hash-fits key))
 
 -- ---- cyclic order
 

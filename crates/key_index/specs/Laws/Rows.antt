@@ -10,18 +10,18 @@ use native.Mathlib.Omega.{arith}
 use lib.ListN.{take}
 use Rattle.lists.specs.Lists.{rowAt}
 use Rattle.constraints.specs.Constraints.{isLive}
-use Rattle.key_index.specs.declared.Keyed.{Keyed}
+use Rattle.key_index.specs.declared.IndexShape.{IndexShape}
 use Rattle.key_index.specs.Slots.{LiveAt, keyAt}
 use Rattle.key_index.specs.Laws.Index.{Grown, Swapped}
 
 -- the same table with n rows
-pub record WithRows (t t′ : Keyed) (n : ℕ) : Type 0 where
+pub record WithRows (t t′ : IndexShape) (n : ℕ) : Type 0 where
   pub columns : t′ .columns ≡ t .columns
   pub keys : t′ .keys ≡ t .keys
   pub room : t′ .room ≡ t .room
   pub count : t′ .rows ≡ n
 
-module _ (t t′ : Keyed) (rows rows′ : List ℕ) (n : ℕ) (with-rows : WithRows t t′ n) where
+module _ (t t′ : IndexShape) (rows rows′ : List ℕ) (n : ℕ) (with-rows : WithRows t t′ n) where
   live-of : (i : ℕ) → i < n → isLive (rowAt (t .columns) i rows′) ≡ true → LiveAt t′ rows′ i
   live-of i h e = rw (with-rows .count, with-rows .columns) (h, e)
 
@@ -44,7 +44,7 @@ module _ (t t′ : Keyed) (rows rows′ : List ℕ) (n : ℕ) (with-rows : WithR
   still-key i e = key-of i ∙ ap (take (t .keys)) e
 
 -- a live row is appended
-pub grown-rows : (t t′ : Keyed) (rows rows′ : List ℕ) → WithRows t t′ (t .rows + 1) → t .rows < t .room
+pub grown-rows : (t t′ : IndexShape) (rows rows′ : List ℕ) → WithRows t t′ (t .rows + 1) → t .rows < t .room
     → ((i : ℕ) → i < t .rows → rowAt (t .columns) i rows′ ≡ rowAt (t .columns) i rows) → isLive (rowAt (t .columns) (t .rows) rows′) ≡ true
     → Grown t t′ rows rows′
 grown-rows t t′ rows rows′ w place f new =
@@ -63,7 +63,7 @@ grown-rows t t′ rows rows′ w place f new =
     }
 
 -- a live row is appended, and the old row with the same key is dead
-pub swapped-rows : (t t′ : Keyed) (rows rows′ : List ℕ) (old : ℕ) → WithRows t t′ (t .rows + 1) → t .rows < t .room
+pub swapped-rows : (t t′ : IndexShape) (rows rows′ : List ℕ) (old : ℕ) → WithRows t t′ (t .rows + 1) → t .rows < t .room
     → ((i : ℕ) → i < t .rows → (i ≡ old → ⊥) → rowAt (t .columns) i rows′ ≡ rowAt (t .columns) i rows) → isLive (rowAt (t .columns) old rows′) ≡ false
     → isLive (rowAt (t .columns) (t .rows) rows′) ≡ true → take (t .keys) (rowAt (t .columns) (t .rows) rows′) ≡ keyAt t rows old
     → Swapped t t′ rows rows′ old

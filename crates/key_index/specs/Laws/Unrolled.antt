@@ -47,7 +47,7 @@ pub record Line (n : ℕ) (homeOf : ℕ → ℕ) (Held : ℕ → Type 0) (l : �
 
 -- The same with a hole at position g. The word in the hole is ignored, and a path may pass the hole. No path to a position up to a
 -- passes it.
-pub record Gap (n : ℕ) (homeOf : ℕ → ℕ) (Held : ℕ → Type 0) (l : ℕ → ℕ) (g a : ℕ) : Type 0 where
+pub record LineWithHole (n : ℕ) (homeOf : ℕ → ℕ) (Held : ℕ → Type 0) (l : ℕ → ℕ) (g a : ℕ) : Type 0 where
   pub free : l 0 ≡ 0
   pub past : 0 < g
   pub order : g ≤ a
@@ -65,9 +65,9 @@ carried F e m = rw (← e) m
 
 module _ (n : ℕ) (homeOf : ℕ → ℕ) (Held : ℕ → Type 0) where
   -- a word is removed: its position is the hole
-  pub gap-open : (Fewer : ℕ → Type 0) (l : ℕ → ℕ) (g : ℕ) → g < n → 0 < l g → ((w : ℕ) → Held w → (w ≡ l g → ⊥) → Fewer w)
-      → ((w : ℕ) → Fewer w → Held w) → (Fewer (l g) → ⊥) → Line n homeOf Held l → Gap n homeOf Fewer l g g
-  gap-open Fewer l g h k few more out s =
+  pub hole-open : (Fewer : ℕ → Type 0) (l : ℕ → ℕ) (g : ℕ) → g < n → 0 < l g → ((w : ℕ) → Held w → (w ≡ l g → ⊥) → Fewer w)
+      → ((w : ℕ) → Fewer w → Held w) → (Fewer (l g) → ⊥) → Line n homeOf Held l → LineWithHole n homeOf Fewer l g g
+  hole-open Fewer l g h k few more out s =
       record {
         free = s .free;
         past = elim (ℕ-discrete g 0) [ yes e ↦ absurd (let z : l g ≡ 0 = ap l e ∙ s .free in omega arith) | no e ↦ omega arith ];
@@ -81,10 +81,10 @@ module _ (n : ℕ) (homeOf : ℕ → ℕ) (Held : ℕ → Type 0) where
         passed = λ p i j c. absurd (omega arith);
       }
 
-  module _ (l : ℕ → ℕ) (g a : ℕ) (s : Gap n homeOf Held l g a) where
+  module _ (l : ℕ → ℕ) (g a : ℕ) (s : LineWithHole n homeOf Held l g a) where
     -- the next word's home is after the hole: the word remains
-    pub gap-stay : a + 1 < n → g < homeOf (l (a + 1)) → Gap n homeOf Held l g (a + 1)
-    gap-stay h k =
+    pub hole-stay : a + 1 < n → g < homeOf (l (a + 1)) → LineWithHole n homeOf Held l g (a + 1)
+    hole-stay h k =
         record {
           free = s .free;
           past = s .past;
@@ -99,8 +99,8 @@ module _ (n : ℕ) (homeOf : ℕ → ℕ) (Held : ℕ → Type 0) where
         }
 
     -- the next word's home is not after the hole: the word fills the hole, and its position is the new hole
-    pub gap-move : (m : ℕ → ℕ) → a + 1 < n → 0 < l (a + 1) → homeOf (l (a + 1)) ≤ g → Put n l g (l (a + 1)) m → Gap n homeOf Held m (a + 1) (a + 1)
-    gap-move m h c k t =
+    pub hole-move : (m : ℕ → ℕ) → a + 1 < n → 0 < l (a + 1) → homeOf (l (a + 1)) ≤ g → Put n l g (l (a + 1)) m → LineWithHole n homeOf Held m (a + 1) (a + 1)
+    hole-move m h c k t =
         record {
           free = t .elsewhere 0 (omega arith) (omega (arith, s .past)) ∙ s .free;
           past = omega arith;
@@ -155,8 +155,8 @@ module _ (n : ℕ) (homeOf : ℕ → ℕ) (Held : ℕ → Type 0) where
             rw (t .elsewhere q (omega arith) e) (s .way p b u (rw x at d) q (rw x at i) j e)
 
     -- the next position is free: no path passes the hole any more
-    pub gap-close : (m : ℕ → ℕ) → (a + 1 < n → l (a + 1) ≡ 0) → Put n l g 0 m → Line n homeOf Held m
-    gap-close m h t =
+    pub hole-close : (m : ℕ → ℕ) → (a + 1 < n → l (a + 1) ≡ 0) → Put n l g 0 m → Line n homeOf Held m
+    hole-close m h t =
         record {
           free = t .elsewhere 0 (omega (arith, s .end)) (omega (arith, s .past)) ∙ s .free;
           only = λ p b c. let ne = held p c in let x = t .elsewhere p b ne in carried Held (sym x) (s .only p b ne (rw x at c));

@@ -4,22 +4,22 @@ use mathlib.Core.Path.{_≡_}
 use mathlib.Core.Bool.{Bool, true, false}
 use mathlib.Core.List.{List}
 use lib.ListN.{length, getD, set, drop, replicate}
-use Rattle.lists.specs.Lists.{putAt}
-use Rattle.cells.specs.Cells.{compact, keyHash}
-use Rattle.key_index.specs.declared.Keyed.{Keyed}
+use Rattle.lists.specs.Lists.{splice}
+use Rattle.cells.specs.Cells.{compactHash, keyHash}
+use Rattle.key_index.specs.declared.IndexShape.{IndexShape}
 use Rattle.key_index.specs.declared.Found.{Found}
 use Rattle.key_index.specs.declared.Found.the-variants.{None, At}
 use Rattle.key_index.specs.Slots.{LiveAt, keyAt, slots, word, home, slotFrom, KeysSound}
 use Rattle.key_index.specs.inner.Ring.{spread, tagged, rowNamed}
 
 -- a key store is long enough for slots for that many rows
-pub record Room (room : ℕ) (store : List ℕ) : Type 0 where
+pub record SlotsFit (room : ℕ) (store : List ℕ) : Type 0 where
   pub some : 1 ≤ room
   pub most : room ≤ 65536
   pub long : 2 * room ≤ length store
 
 -- a table's rows are inside their store
-pub record RowsIn (t : Keyed) (rows : List ℕ) : Type 0 where
+pub record RowsIn (t : IndexShape) (rows : List ℕ) : Type 0 where
   pub most-columns : t .columns ≤ 8
   pub most-keys : t .keys ≤ t .columns
   pub most : t .room ≤ 65536
@@ -27,7 +27,7 @@ pub record RowsIn (t : Keyed) (rows : List ℕ) : Type 0 where
   pub cells : t .room * t .columns ≤ length rows
 
 -- a table's numbers are within their bounds, and its stores are long enough
-pub record Fits (t : Keyed) (rows store : List ℕ) : Type 0 where
+pub record Fits (t : IndexShape) (rows store : List ℕ) : Type 0 where
   pub some-columns : 1 ≤ t .columns
   pub most-columns : t .columns ≤ 8
   pub some-keys : 1 ≤ t .keys
@@ -39,42 +39,42 @@ pub record Fits (t : Keyed) (rows store : List ℕ) : Type 0 where
   pub long : 2 * t .room ≤ length store
 
 -- live rows have different keys
-abbrev pub KeysDiffer : Keyed → List ℕ → Type 0
+abbrev pub KeysDiffer : IndexShape → List ℕ → Type 0
 KeysDiffer t rows = (i j : ℕ) → LiveAt t rows i → LiveAt t rows j → keyAt t rows i ≡ keyAt t rows j → i ≡ j
 
 -- ---- lookup
 
 -- a slot's word is that of a row below the row count that has this key, with the bits of this hash
-pub record Leads (t : Keyed) (rows key : List ℕ) (hash w row : ℕ) : Type 0 where
+pub record Leads (t : IndexShape) (rows key : List ℕ) (hash w row : ℕ) : Type 0 where
   pub tag : w ≡ tagged hash row
   pub below : row < t .rows
   pub cells : keyAt t rows row ≡ key
 
 -- the answer decides `Leads`; `row` is the row number in the word
-pub record HitIs (t : Keyed) (rows key : List ℕ) (hash w row : ℕ) (r : Bool) : Type 0 where
+pub record HitIs (t : IndexShape) (rows key : List ℕ) (hash w row : ℕ) (r : Bool) : Type 0 where
   pub yes : r ≡ true → Leads t rows key hash w row
   pub no : r ≡ false → (i : ℕ) → Leads t rows key hash w i → ⊥
 
 -- the live row with a key, and its slot
-pub record FoundAt (t : Keyed) (rows store key : List ℕ) (row slot : ℕ) : Type 0 where
+pub record FoundAt (t : IndexShape) (rows store key : List ℕ) (row slot : ℕ) : Type 0 where
   pub live : LiveAt t rows row
   pub key-is : keyAt t rows row ≡ key
   pub slot-in : slot < slots t
   pub word-is : getD store slot 0 ≡ word key row
 
 -- the slot d after the hash's home is the first whose word leads to a row with the key. So the row found is unique
-pub record FirstHit (t : Keyed) (rows store key : List ℕ) (hash row d : ℕ) : Type 0 where
+pub record FirstHit (t : IndexShape) (rows store key : List ℕ) (hash row d : ℕ) : Type 0 where
   pub leads : Leads t rows key hash (getD store (slotFrom (slots t) (spread (slots t) hash) d) 0) row
   pub way : (e : ℕ) → e < d → (i : ℕ) → Leads t rows key hash (getD store (slotFrom (slots t) (spread (slots t) hash) e) 0) i → ⊥
 
 -- The result of a lookup. On any store the row and the slot exist, and the row is determined. The rest holds for a sound store and
 -- the key's own hash.
-pub record FoundIs (t : Keyed) (rows store key : List ℕ) (hash : ℕ) (r : Found) : Type 0 where
+pub record FoundIs (t : IndexShape) (rows store key : List ℕ) (hash : ℕ) (r : Found) : Type 0 where
   pub row-in : (row slot : ℕ) → r ≡ At row slot → row < t .rows
   pub slot-in : (row slot : ℕ) → r ≡ At row slot → slot < slots t
   pub first : (row slot : ℕ) → r ≡ At row slot → (d : ℕ) × FirstHit t rows store key hash row d
-  pub none : hash ≡ compact (keyHash key) → KeysSound t rows store → r ≡ None → (i : ℕ) → LiveAt t rows i → keyAt t rows i ≡ key → ⊥
-  pub at : hash ≡ compact (keyHash key) → KeysSound t rows store → (row slot : ℕ) → r ≡ At row slot → FoundAt t rows store key row slot
+  pub none : hash ≡ compactHash (keyHash key) → KeysSound t rows store → r ≡ None → (i : ℕ) → LiveAt t rows i → keyAt t rows i ≡ key → ⊥
+  pub at : hash ≡ compactHash (keyHash key) → KeysSound t rows store → (row slot : ℕ) → r ≡ At row slot → FoundAt t rows store key row slot
 
 -- ---- insertion of a row, and clearing all slots
 
@@ -97,9 +97,9 @@ zeros n = replicate n 0
 
 -- all slots are free, and the words past them are unchanged
 pub record EmptyIs (room : ℕ) (store store′ : List ℕ) : Type 0 where
-  pub free : store′ ≡ putAt store 0 (zeros (2 * room))
+  pub free : store′ ≡ splice store 0 (zeros (2 * room))
   pub tail : drop (2 * room) store′ ≡ drop (2 * room) store
 
 -- the home slot of the key of the row that a word encodes
-unfoldable pub homeOf : Keyed → List ℕ → ℕ → ℕ
+unfoldable pub homeOf : IndexShape → List ℕ → ℕ → ℕ
 homeOf t rows w = home (slots t) (keyAt t rows (rowNamed w))

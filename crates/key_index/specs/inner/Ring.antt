@@ -2,7 +2,7 @@
 use Prim.Native.Nat.{ℕ, _+_, _-_, _*_, _/_, _%_, _^_}
 use mathlib.Core.Bool.{Bool, _&&_}
 use lib.Dec.{leb, ltb}
-use Rattle.key_index.specs.declared.Keyed.{Keyed}
+use Rattle.key_index.specs.declared.IndexShape.{IndexShape}
 
 -- the word and the home slot for a key with this hash
 unfoldable pub tagged : ℕ → ℕ → ℕ
@@ -15,7 +15,7 @@ spread n hash = hash * n / 2 ^ 32
 unfoldable pub rowNamed : ℕ → ℕ
 rowNamed w = w % 2 ^ 17 - 1
 
-unfoldable pub namesRow : Keyed → ℕ → Bool
+unfoldable pub namesRow : IndexShape → ℕ → Bool
 namesRow t w = ltb 0 (w % 2 ^ 17) && leb (w % 2 ^ 17) (t .rows)
 
 -- the cyclic distance from slot a to slot b

@@ -4,12 +4,12 @@ use mathlib.Core.Path.{refl, _∙_}
 use native.Mathlib.Omega.{arith}
 use borrow.Author.Needs.{needs}
 use Rattle.key_index.specs.Laws.Places.{fits-stores}
-use Rattle.key_rebuild.proofs.RebuildSteps.{Turn, turn-begin, turn-on, turn-end}
+use Rattle.key_rebuild.proofs.RebuildSteps.{RebuildInvariant, turn-begin, turn-on, turn-end}
 use Rattle.key_rebuild.proofs.rebuild.Statement.{statement}
 use Rattle.key_rebuild.proofs.rebuild.Tie as tie
 
 abbrev Inv-loop : tie.InvT-loop
-Inv-loop t rows store₀ row₀ store row = Turn t rows store₀ store row
+Inv-loop t rows store₀ row₀ store row = RebuildInvariant t rows store₀ store row
 
 abbrev μ-loop : tie.MeasureT-loop
 μ-loop t rows store₀ row₀ store row = t .rows - row

@@ -6,7 +6,7 @@ use borrow.Author.Needs.{needs}
 use Rattle.key_index.specs.Slots.{slots}
 use Rattle.key_index.specs.inner.Ring.{away}
 use Rattle.key_index.specs.Laws.Ring.{names-number}
-use Rattle.key_remove.proofs.GapSteps.{home-hash}
+use Rattle.key_remove.proofs.ShiftSteps.{home-hash}
 use Rattle.key_remove.proofs.home_away.Statement.{statement}
 use Rattle.key_remove.proofs.home_away.Tie as tie
 

@@ -1,6 +1,6 @@
 -- `key_remove::slots_away` meets its contract. Assumes nothing.
 use borrow.Author.Needs.{needs}
-use Rattle.key_remove.proofs.GapSteps.{away-ahead, away-behind}
+use Rattle.key_remove.proofs.ShiftSteps.{away-ahead, away-behind}
 use Rattle.key_remove.proofs.slots_away.Statement.{statement}
 use Rattle.key_remove.proofs.slots_away.Tie as tie
 

@@ -10,25 +10,25 @@ use lib.ListN.{length, getD}
 use borrow.Author.Tests.{le-leb}
 use Rattle.lists.specs.Lists.{count, rowAt, rowsOf}
 use Rattle.lists.specs.inner.Searching.{mapFront}
-use Rattle.lists.specs.Laws.Keep.{count-le}
+use Rattle.lists.specs.Laws.Filter.{count-le}
 use Rattle.lists.specs.Laws.Rows.{length-rowsOf, getD-rowsOf, rowsOf-take}
 use Rattle.lists.specs.Laws.Front.{getD-mapFront, drop-mapFront}
 use Rattle.constraints.specs.Constraints.{isLive}
 use Rattle.row_buffer.specs.Ranks.{liveAt, newNumber}
 use Rattle.row_buffer.specs.Laws.Rows.{liveAt-in, number-live, number-dead, number-rises, number-back}
-use Rattle.key_index.specs.declared.Keyed.{Keyed}
-use Rattle.key_index.specs.Slots.{LiveAt, keyAt, slots, word, home, slotFrom, StandsAt, KeysSound}
+use Rattle.key_index.specs.declared.IndexShape.{IndexShape}
+use Rattle.key_index.specs.Slots.{LiveAt, keyAt, slots, word, home, slotFrom, ReachableAt, KeysSound}
 use Rattle.key_index.specs.Laws.Ring.{word-row, word-same, word-some, names-none, names-word, slot-below}
 use Rattle.key_index.specs.Laws.Lines.{Small}
 use Rattle.key_renumber.specs.inner.Renumbering.{liveBelow, Renamed, Renumbered, newRow, renumbered}
 
 -- a free slot remains free
-pub renumbered-free : (t : Keyed) (live base : List ℕ) (w : ℕ) → w ≡ 0 → renumbered t live base w ≡ 0
+pub renumbered-free : (t : IndexShape) (live base : List ℕ) (w : ℕ) → w ≡ 0 → renumbered t live base w ≡ 0
 unfolding renumbered
 renumbered-free t live base w e = rw (names-none t w (ap (λ (x : ℕ). x % 2 ^ 17) e)) e
 
 -- a word has its row's new number
-pub renumbered-word : (t : Keyed) (live base : List ℕ) → Small t → (key : List ℕ) (row new : ℕ) → row < t .rows → newRow live base row ≡ new → new ≤ 65536
+pub renumbered-word : (t : IndexShape) (live base : List ℕ) → Small t → (key : List ℕ) (row new : ℕ) → row < t .rows → newRow live base row ≡ new → new ≤ 65536
     → renumbered t live base (word key row) ≡ word key new
 unfolding renumbered
 renumbered-word t live base m key row new h e k =
@@ -43,14 +43,14 @@ renumbered-word t live base m key row new h e k =
     put key row new h = unfold word in omega arith
 
 -- Rows get new numbers: each live row has its new number in the table after, with the same key.
-pub record Renames (t : Keyed) (rows : List ℕ) (t′ : Keyed) (rows′ : List ℕ) (new : ℕ → ℕ) : Type 0 where
+pub record Renames (t : IndexShape) (rows : List ℕ) (t′ : IndexShape) (rows′ : List ℕ) (new : ℕ → ℕ) : Type 0 where
   pub room : t′ .room ≡ t .room
   pub forth : (i : ℕ) → LiveAt t rows i → LiveAt t′ rows′ (new i)
   pub key : (i : ℕ) → LiveAt t rows i → keyAt t′ rows′ (new i) ≡ keyAt t rows i
   pub apart : (i j : ℕ) → LiveAt t rows i → LiveAt t rows j → new i ≡ new j → i ≡ j
   pub back : (k : ℕ) → LiveAt t′ rows′ k → (i : ℕ) × LiveAt t rows i × (new i ≡ k)
 
-module _ (t : Keyed) (rows : List ℕ) (t′ : Keyed) (rows′ store : List ℕ) (new : ℕ → ℕ) (r : Renames t rows t′ rows′ new) where
+module _ (t : IndexShape) (rows : List ℕ) (t′ : IndexShape) (rows′ store : List ℕ) (new : ℕ → ℕ) (r : Renames t rows t′ rows′ new) where
   module _ (m : Small t) (few : t′ .rows ≤ t′ .room) (s : KeysSound t rows store) (after : List ℕ) (a : Renamed t rows store new after) where
     new-small : (i : ℕ) → LiveAt t rows i → new i ≤ 65536
     new-small i l = omega (arith, r .forth i l .0, few, r .room, m .room)
@@ -84,7 +84,7 @@ module _ (t : Keyed) (rows : List ℕ) (t′ : Keyed) (rows′ store : List ℕ)
         let i = r .apart (o .0) (p .0) (o .1) (p .1) v in
         s .once a b h k (held-before a h c) (o .2 ∙ ap (λ (x : ℕ). word (keyAt t rows x) x) i ∙ sym (p .2))
 
-    stands-after : (i d : ℕ) → LiveAt t rows i → StandsAt (slots t) store (keyAt t rows i) i d → StandsAt (slots t) after (keyAt t′ rows′ (new i)) (new i) d
+    stands-after : (i d : ℕ) → LiveAt t rows i → ReachableAt (slots t) store (keyAt t rows i) i d → ReachableAt (slots t) after (keyAt t′ rows′ (new i)) (new i) d
     stands-after i d l p =
         let e = r .key i l in
         let n = slots t in
@@ -117,7 +117,7 @@ module _ (t : Keyed) (rows : List ℕ) (t′ : Keyed) (rows′ store : List ℕ)
 
 -- ---- the numbers that a compaction assigns
 
-module _ (t : Keyed) (rows : List ℕ) where
+module _ (t : IndexShape) (rows : List ℕ) where
   pub live-few : (n : ℕ) → liveBelow t rows n ≤ n
   live-few n = omega (arith, count-le isLive (rowsOf (t .columns) n rows), length-rowsOf (t .columns) n rows)
 
@@ -157,14 +157,14 @@ module _ (t : Keyed) (rows : List ℕ) where
       (b .0, b .1, sym (live-among n (b .0) (b .1)) ∙ b .2, below-number n (b .0) (omega (arith, b .1)) ∙ b .3)
 
 -- The result of a compaction: each live row is at its new number, and there are no other rows.
-pub record Compacted (t : Keyed) (rows : List ℕ) (t′ : Keyed) (rows′ : List ℕ) : Type 0 where
+pub record Compacted (t : IndexShape) (rows : List ℕ) (t′ : IndexShape) (rows′ : List ℕ) : Type 0 where
   pub columns : t′ .columns ≡ t .columns
   pub keys : t′ .keys ≡ t .keys
   pub room : t′ .room ≡ t .room
   pub count : t′ .rows ≡ liveBelow t rows (t .rows)
   pub moved : (i : ℕ) → LiveAt t rows i → rowAt (t .columns) (liveBelow t rows i) rows′ ≡ rowAt (t .columns) i rows
 
-module _ (t : Keyed) (rows : List ℕ) (t′ : Keyed) (rows′ : List ℕ) (c : Compacted t rows t′ rows′) where
+module _ (t : IndexShape) (rows : List ℕ) (t′ : IndexShape) (rows′ : List ℕ) (c : Compacted t rows t′ rows′) where
   compacted-row : (i : ℕ) → LiveAt t rows i → rowAt (t′ .columns) (liveBelow t rows i) rows′ ≡ rowAt (t .columns) i rows
   compacted-row i l = rw (c .columns) (c .moved i l)
 
@@ -191,7 +191,7 @@ module _ (t : Keyed) (rows : List ℕ) (t′ : Keyed) (rows′ : List ℕ) (c : 
       renames-sound t rows t′ rows′ store (liveBelow t rows) renames m few s store′ (n .numbers s)
 
 -- a compaction bitmap with these numbers gives them to each slot
-pub slots-renumbered : (t : Keyed) (rows store live base : List ℕ) → Small t → slots t ≤ length store
+pub slots-renumbered : (t : IndexShape) (rows store live base : List ℕ) → Small t → slots t ≤ length store
     → ((i : ℕ) → LiveAt t rows i → newRow live base i ≡ liveBelow t rows i)
     → Renumbered t rows store (mapFront (renumbered t live base) (slots t) store)
 slots-renumbered t rows store live base m long ranked =

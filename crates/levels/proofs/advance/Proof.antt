@@ -2,7 +2,7 @@
 use mathlib.Core.Path.{refl}
 use native.Mathlib.Omega.{arith}
 use Rattle.levels.specs.inner.Advancing.{found, more, ended, nothing-left}
-use Rattle.levels.specs.inner.Turning.{not-true, not-false}
+use Rattle.levels.specs.inner.Stepping.{not-true, not-false}
 use borrow.Author.Needs.{needs}
 use Rattle.levels.proofs.advance.Statement.{statement}
 use Rattle.levels.proofs.advance.Tie as tie

@@ -1,6 +1,6 @@
 -- `levels::run` meets its contract, and ends by the reads that are left. Assumes nothing.
 use Rattle.levels.specs.Run.{machine}
-use Rattle.levels.specs.inner.Turning.{inputLeft}
+use Rattle.levels.specs.inner.Stepping.{inputLeft}
 use Rattle.levels.specs.inner.Running.{Running, running-begin, running-again, run-ends}
 use borrow.Author.Needs.{needs}
 use Rattle.levels.proofs.run.Statement.{statement}
@@ -17,24 +17,24 @@ abbrev μ-loop : tie.MeasureT-loop
 loop-holds : tie.Need-loop-holds Inv-loop μ-loop
 loop-holds c = running-begin _ _ _ _ _ _ (c .before .before .no-table .ensures) (c .first-read .ensures)
 
-turn-requires : tie.Need-turn-requires Inv-loop μ-loop
-turn-requires c κs = c .before .before .before .before .before .before .before .loop .inv .within
+step-requires : tie.Need-step-requires Inv-loop μ-loop
+step-requires c κs = c .before .before .before .before .before .before .before .loop .inv .within
 
 finish-requires : tie.Need-finish-requires Inv-loop μ-loop
-finish-requires c κs = c .before .before .before .before .before .turn .ensures .0 .within .text-in
+finish-requires c κs = c .before .before .before .before .before .step .ensures .0 .within .text-in
 
 returns : tie.Need-returns Inv-loop μ-loop
-returns c = run-ends _ _ _ _ _ _ _ _ (c .before .before .before .before .before .before .before .before .before .before .before .before .before .before .loop .inv) (c .before .before .before .before .before .before .turn .ensures .0) (c .before .before .before .before .if1 .taken) (c .finish .ensures)
+returns c = run-ends _ _ _ _ _ _ _ _ (c .before .before .before .before .before .before .before .before .before .before .before .before .before .before .loop .inv) (c .before .before .before .before .before .before .step .ensures .0) (c .before .before .before .before .if1 .taken) (c .finish .ensures)
 
 loop-less : tie.Need-loop-less Inv-loop μ-loop
-loop-less c = c .before .before .turn .ensures .1 .shorter (c .if1 .left)
+loop-less c = c .before .before .step .ensures .1 .shorter (c .if1 .left)
 
 loop-again : tie.Need-loop-again Inv-loop μ-loop
-loop-again c = running-again (c .before .before .before .before .before .before .before .before .before .before .loop .inv) (c .before .before .turn .ensures .0) (c .if1 .left)
+loop-again c = running-again (c .before .before .before .before .before .before .before .before .before .before .loop .inv) (c .before .before .step .ensures .0) (c .if1 .left)
 
 pub run-spec : {M : Type 1} → statement M
 run-spec =
     tie.close
     (tie.spec
-    Inv-loop μ-loop (λ c κs. search needs) (λ c κs. search needs) loop-holds turn-requires finish-requires returns
+    Inv-loop μ-loop (λ c κs. search needs) (λ c κs. search needs) loop-holds step-requires finish-requires returns
     loop-less loop-again)

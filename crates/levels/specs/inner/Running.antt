@@ -7,21 +7,21 @@ use mathlib.Core.List.{List, [], _++_}
 use mathlib.Core.Option.{none}
 use native.Mathlib.Omega.{arith}
 use lib.ListN.{length, take, length-append}
-use Rattle.lists.specs.Laws.Keep.{split}
+use Rattle.lists.specs.Laws.Filter.{split}
 use Rattle.table.specs.declared.Header.{Header}
 use Rattle.table.specs.Refusing.{outside}
 use Rattle.levels_spec.specs.Answers.{no-table}
 use Rattle.levels_io.specs.declared.input.Input.{Input}
 use Rattle.levels_io.specs.Input.{bytesRead}
 use Rattle.levels_io.specs.inner.Taking.{Refilled}
-use Rattle.levels_io.specs.declared.output.Handed.{Handed}
+use Rattle.levels_io.specs.declared.output.WriteResult.{WriteResult}
 use Rattle.levels.specs.declared.State.{State}
 use Rattle.levels.specs.declared.Ended.{Ended}
-use Rattle.levels.specs.Run.{Program, program, Turn, last-turn, over-turn, Turns, begin, then, Machine, machine, Holds, Within, brought, Turned, input-over, write-failed, Ran}
-use Rattle.levels.specs.inner.Turning.{begun-none}
+use Rattle.levels.specs.Run.{Program, program, Step, last-step, over-step, Steps, begin, then, Machine, machine, Holds, Within, newBytes, Stepped, input-over, write-failed, Ran}
+use Rattle.levels.specs.inner.Stepping.{begun-none}
 
 -- the buffered bytes are written, unless an earlier write failed
-pub record Finished (state : State) (handed : Handed) (r : Ended) : Type 0 where
+pub record Finished (state : State) (handed : WriteResult) (r : Ended) : Type 0 where
   pub same-state : r .state ≡ state
   pub all-handed : handed .«is_written» ≡ true → r .handed .count ≡ state .used
   pub unwritten : handed .«is_written» ≡ false → r .handed ≡ handed
@@ -33,7 +33,7 @@ pub record Running (m : Machine) : Type 0 where
   pub reads : List (List ℕ)
   pub bytes : List ℕ
   pub here : Program
-  pub turns : Turns (program none [] first []) bytes reads here
+  pub steps : Steps (program none [] first []) bytes reads here
   pub holds : Holds here m
   pub reads-made : suc (length reads) + m .input .reads ≡ 18446744073709551615
 
@@ -46,59 +46,59 @@ running-begin {input = input} {chunk = chunk} line rows keys sorts pending text 
       reads = [];
       bytes = [];
       here = program none [] (take (bytesRead (input .got)) chunk) [];
-      turns = begin;
+      steps = begin;
       holds = record { table-held = no-table none-held; line-begun = begun-none line; bytes-unread = sym (f .there); bytes-buffered = refl };
       reads-made = omega (arith, f .one-read);
     }
 
-module _ {m m′ : Machine} {handed : Handed} (v : Running m) where
-  pub running-again : {over : Bool} → Turned m handed m′ over → over ≡ false → Running m′
-  running-again turned goes-on =
-      let t : Turned m handed m′ false = rw goes-on at turned in
+module _ {m m′ : Machine} {handed : WriteResult} (v : Running m) where
+  pub running-again : {over : Bool} → Stepped m handed m′ over → over ≡ false → Running m′
+  running-again stepped goes-on =
+      let t : Stepped m handed m′ false = rw goes-on at stepped in
       elim (split (handed .«is_written»)) [
         | inl w ↦
             let made = t .made w (v .here) (v .holds) in
             record {
               within = t .within;
               first = v .first;
-              reads = v .reads ++ brought (m .input) m′;
+              reads = v .reads ++ newBytes (m .input) m′;
               bytes = v .bytes ++ take (handed .count) (m .text);
               here = made .after;
-              turns = then (v .turns) (made .turn);
+              steps = then (v .steps) (made .step);
               holds = made .holds;
-              reads-made = omega (arith, v .reads-made, t .reads-left, length-append (v .reads) (brought (m .input) m′));
+              reads-made = omega (arith, v .reads-made, t .reads-left, length-append (v .reads) (newBytes (m .input) m′));
             }
         | inr w ↦ absurd (false≢true (t .failed w .0))
       ]
 
 -- the last step makes no read
-no-read : {p q : Program} {bytes : List ℕ} {reads : List (List ℕ)} → Turn p bytes reads q true → reads ≡ []
-no-read (last-turn handed buffered e some f) = refl
-no-read (over-turn e f) = refl
+no-read : {p q : Program} {bytes : List ℕ} {reads : List (List ℕ)} → Step p bytes reads q true → reads ≡ []
+no-read (last-step handed buffered e some f) = refl
+no-read (over-step e f) = refl
 
-same-left : (m m′ : Machine) → brought (m .input) m′ ≡ [] → length (brought (m .input) m′) + m′ .input .reads ≡ m .input .reads
+same-left : (m m′ : Machine) → newBytes (m .input) m′ ≡ [] → length (newBytes (m .input) m′) + m′ .input .reads ≡ m .input .reads
     → m′ .input .reads ≡ m .input .reads
 same-left m m′ none-read left = omega (arith, rw none-read at left)
 
-pub run-ends : {state : State} {handed : Handed} {r : Ended} {over : Bool} (m : Machine) (line chunk rows keys sorts pending text : List ℕ) → Running m
-    → Turned m handed (machine state line chunk rows keys sorts pending text) over → over ≡ true → Finished state handed r
+pub run-ends : {state : State} {handed : WriteResult} {r : Ended} {over : Bool} (m : Machine) (line chunk rows keys sorts pending text : List ℕ) → Running m
+    → Stepped m handed (machine state line chunk rows keys sorts pending text) over → over ≡ true → Finished state handed r
     → Ran (machine (r .state) line chunk rows keys sorts pending text) (r .handed)
-run-ends {state} {handed} {r} m line chunk rows keys sorts pending text v turned is-over f =
-    let t : Turned m handed (machine state line chunk rows keys sorts pending text) true = rw is-over at turned in
+run-ends {state} {handed} {r} m line chunk rows keys sorts pending text v stepped is-over f =
+    let t : Stepped m handed (machine state line chunk rows keys sorts pending text) true = rw is-over at stepped in
     elim (split (handed .«is_written»)) [
       | inl w ↦
           let after = machine state line chunk rows keys sorts pending text in
           let made = t .made w (v .here) (v .holds) in
-          let none-read : brought (m .input) after ≡ [] = no-read (made .turn) in
+          let none-read : newBytes (m .input) after ≡ [] = no-read (made .step) in
           rw (f .same-state)
           (record {
             first = v .first;
             reads = v .reads;
             bytes = v .bytes;
             end = v .here;
-            turns = v .turns;
+            steps = v .steps;
             last = take (handed .count) (m .text) ++ take (r .handed .count) text;
-            ending = input-over (rw none-read at (made .turn)) (made .holds) (t .at-end w refl) (f .all-handed w);
+            ending = input-over (rw none-read at (made .step)) (made .holds) (t .at-end w refl) (f .all-handed w);
             reads-made = omega (arith, v .reads-made, same-left m after none-read (t .reads-left));
           })
       | inr w ↦
@@ -109,7 +109,7 @@ run-ends {state} {handed} {r} m line chunk rows keys sorts pending text v turned
             reads = v .reads;
             bytes = v .bytes;
             end = v .here;
-            turns = v .turns;
+            steps = v .steps;
             last = take (handed .count) text;
             ending = write-failed {p = v .here} w (rw (failed .1, failed .3) (sym (v .holds .bytes-buffered)));
             reads-made = omega (arith, v .reads-made, failed .2);

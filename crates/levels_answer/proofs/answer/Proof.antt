@@ -1,6 +1,6 @@
 -- `levels_answer::answer` meets its contract. Assumes nothing.
 use native.Mathlib.Omega.{arith}
-use Rattle.levels_answer.specs.inner.Reading.{told-answers}
+use Rattle.levels_answer.specs.inner.Reading.{encoded-answers}
 use borrow.Author.Needs.{needs}
 use Rattle.levels_answer.proofs.answer.Statement.{statement}
 use Rattle.levels_answer.proofs.answer.Tie as tie
@@ -21,7 +21,7 @@ same-length-5 : tie.Need-same-length-5
 same-length-5 c = c .before .text .given
 
 returns : tie.Need-returns
-returns c = told-answers (omega (arith, c .before .before .before .before .before .before .before .before .before .before .before .before .before .before .before .before .before .before .before .before .before .before .before .before .before .pre .0, c .before .before .before .before .before .before .before .before .before .before .before .keys .given)) (omega (arith, c .before .before .before .before .before .before .before .before .before .before .before .before .before .before .before .before .before .before .before .before .before .before .before .before .before .pre .1, c .before .text .given)) (c .before .before .before .before .before .before .before .before .before .before .before .before .before .before .respond .ensures) (c .before .before .tell .ensures)
+returns c = encoded-answers (omega (arith, c .before .before .before .before .before .before .before .before .before .before .before .before .before .before .before .before .before .before .before .before .before .before .before .before .before .pre .0, c .before .before .before .before .before .before .before .before .before .before .before .keys .given)) (omega (arith, c .before .before .before .before .before .before .before .before .before .before .before .before .before .before .before .before .before .before .before .before .before .before .before .before .before .pre .1, c .before .text .given)) (c .before .before .before .before .before .before .before .before .before .before .before .before .before .before .respond .ensures) (c .before .before .encode-response .ensures)
 
 pub answer-spec : {M : Type 1} → statement M
 answer-spec =

@@ -7,18 +7,18 @@ use mathlib.Core.List.{List}
 use native.Mathlib.Omega.{arith}
 use lib.Dec.{eqb}
 use borrow.Author.Tests.{ne-eqb, eqb-true}
-use Rattle.lists.specs.Laws.Keep.{split, and-left}
-use Rattle.table.specs.Promises.{Stores}
+use Rattle.lists.specs.Laws.Filter.{split, and-left}
+use Rattle.table.specs.Contracts.{Stores}
 use Rattle.levels_text.specs.Lines.{isBare, isForm}
 use Rattle.levels_text.specs.Laws.Lines.{form-insert, form-by-row, form-by-key}
-use Rattle.levels_spec.specs.declared.Said.{Said}
-use Rattle.levels_spec.specs.inner.Saying.{Serving}
+use Rattle.levels_spec.specs.declared.Response.{Response}
+use Rattle.levels_spec.specs.inner.Responses.{Serving}
 
 -- F, L, U and V are the letters left after the others are excluded
-pub asking-letters : {letter : ℕ} (count : ℕ) → isForm letter count ≡ true → ((letter ≡ 73) ⊎ ((letter ≡ 75) ⊎ (letter ≡ 82)) → ⊥) → (letter ≡ 77 → ⊥)
+pub query-letters : {letter : ℕ} (count : ℕ) → isForm letter count ≡ true → ((letter ≡ 73) ⊎ ((letter ≡ 75) ⊎ (letter ≡ 82)) → ⊥) → (letter ≡ 77 → ⊥)
     → ((letter ≡ 67) ⊎ ((letter ≡ 71) ⊎ (letter ≡ 79)) → ⊥) → (letter ≡ 70) ⊎ ((letter ≡ 76) ⊎ ((letter ≡ 85) ⊎ (letter ≡ 86)))
 unfolding isForm isBare
-asking-letters {letter} count form staging merge making =
+query-letters {letter} count form staging merge making =
     elim (split (eqb letter 70)) [
       | inl f ↦ inl (eqb-true letter 70 f)
       | inr f ↦
@@ -53,5 +53,5 @@ compact-letter (inr (inl e)) o c = e
 compact-letter (inr (inr e)) o c = absurd (o e)
 
 -- a letter replaced by an equal one
-pub as-letter : {letter letter′ : ℕ} {ns : List ℕ} {s s′ : Stores} {said : Said} → letter ≡ letter′ → Serving letter′ ns s s′ said → Serving letter ns s s′ said
-as-letter {letter} {letter′} {ns} {s} {s′} {said} e m = subst (λ (x : ℕ). Serving x ns s s′ said) (sym e) m
+pub as-letter : {letter letter′ : ℕ} {ns : List ℕ} {s s′ : Stores} {response : Response} → letter ≡ letter′ → Serving letter′ ns s s′ response → Serving letter ns s s′ response
+as-letter {letter} {letter′} {ns} {s} {s′} {response} e m = subst (λ (x : ℕ). Serving x ns s s′ response) (sym e) m

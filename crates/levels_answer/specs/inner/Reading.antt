@@ -8,28 +8,28 @@ use mathlib.Core.Option.{Option}
 use native.Mathlib.Omega.{arith}
 use lib.ListN.{length, take, length-append, length-take}
 use lib.Seq.{take-append-le, take-append-add}
-use Rattle.lists.specs.Laws.Keep.{split}
+use Rattle.lists.specs.Laws.Filter.{split}
 use Rattle.lists.specs.Laws.Search.{take-put}
 use Rattle.plain_table.specs.Refusing.{Lengths}
 use Rattle.plain_table.specs.Plain.{Plain}
 use Rattle.table.specs.Refusing.{outside}
-use Rattle.table.specs.Promises.{Stores, Represents}
+use Rattle.table.specs.Contracts.{Stores, Represents}
 use Rattle.table.specs.Laws.Shown.{represents-inside, represents-long, rows-counted}
 use Rattle.levels_text.specs.declared.Parsed.{Parsed}
 use Rattle.levels_text.specs.declared.Parsed.the-variants.{Wrong, Line}
 use Rattle.levels_text.specs.Lines.{letter, numbers, ofForms}
 use Rattle.levels_text.specs.inner.Reading.{ParsedIs, read-taken}
 use Rattle.listing_write.specs.Laws.Represented.{rows-long}
-use Rattle.levels_spec.specs.declared.Said.{Said}
-use Rattle.levels_spec.specs.declared.Said.the-variants.{Refused}
-use Rattle.levels_spec.specs.Said.{turn, lineTurn}
+use Rattle.levels_spec.specs.declared.Response.{Response}
+use Rattle.levels_spec.specs.declared.Response.the-variants.{Refused}
+use Rattle.levels_spec.specs.Response.{result, lineResult}
 use Rattle.levels_spec.specs.Answers.{Held, no-table, table, lent, Answering}
-use Rattle.levels_spec.specs.inner.Saying.{Listable, Telling, Told, Serving}
-use Rattle.levels_spec.specs.Laws.Turns.{told-refused}
+use Rattle.levels_spec.specs.inner.Responses.{Listable, Encoded, Responds, Serving}
+use Rattle.levels_spec.specs.Laws.Results.{responds-refused}
 
 -- a line is run, and its response is not yet encoded as text
-pub record Responding (line : List ℕ) (s s′ : Stores) (said : Said) : Type 0 where
-  pub answers : (t : Option Plain) → Held t s → Told (lineTurn (lent s) t line) s′ said
+pub record Responding (line : List ℕ) (s s′ : Stores) (response : Response) : Type 0 where
+  pub answers : (t : Option Plain) → Held t s → Responds (lineResult (lent s) t line) s′ response
 
 module _ {line lent′ : List ℕ} {r : Parsed} {numbers′ : List ℕ} (p : ParsedIs line lent′ r numbers′) (room : 59 ≤ length lent′) where
   -- a line of no valid form
@@ -41,13 +41,13 @@ module _ {line lent′ : List ℕ} {r : Parsed} {numbers′ : List ℕ} (p : Par
       ]
 
   pub wrong-responds : r ≡ Wrong → (s : Stores) → Responding line s s (Refused 11)
-  unfolding lineTurn
-  wrong-responds e s = record { answers = λ t held. rw (not-forms e) (told-refused 11 held (omega arith)) }
+  unfolding lineResult
+  wrong-responds e s = record { answers = λ t held. rw (not-forms e) (responds-refused 11 held (omega arith)) }
 
   -- a line of a valid form
   module _ {first count : ℕ} (e : r ≡ Line first count) where
-    line-read : (l : Lengths) (t : Option Plain) → turn l t first (take count numbers′) ≡ lineTurn l t line
-    unfolding lineTurn
+    line-read : (l : Lengths) (t : Option Plain) → result l t first (take count numbers′) ≡ lineResult l t line
+    unfolding lineResult
     line-read l t =
         let yes : ofForms line ≡ true = read-taken line lent′ r numbers′ p first count e in
         let right = p .right room yes in
@@ -56,15 +56,15 @@ module _ {line lent′ : List ℕ} {r : Parsed} {numbers′ : List ℕ} (p : Par
         let counts : count ≡ length (numbers line) = cc in
         rw (yes, letters, counts, right .1, take-put lent′ (numbers line))
 
-    pub line-responds : {s s′ : Stores} {said : Said} → Serving first (take count numbers′) s s′ said → Responding line s s′ said
+    pub line-responds : {s s′ : Stores} {response : Response} → Serving first (take count numbers′) s s′ response → Responding line s s′ response
     line-responds {s} m = record { answers = λ t held. rw (line-read (lent s) t) at (m .answers t held) }
 
 -- A line is answered after the first bytes of a text. For every table that the stores hold before, the text and the table after are
--- those that `lineTurn` defines.
-pub record AnsweringBehind (line : List ℕ) (s s′ : Stores) (text : List ℕ) (from : ℕ) (text′ : List ℕ) (used : ℕ) : Type 0 where
+-- those that `lineResult` defines.
+pub record AnswerAppended (line : List ℕ) (s s′ : Stores) (text : List ℕ) (from : ℕ) (text′ : List ℕ) (used : ℕ) : Type 0 where
   pub inside : used ≤ length text′
-  pub text-is : (t : Option Plain) → Held t s → take used text′ ≡ take from text ++ lineTurn (lent s) t line .text
-  pub held : (t : Option Plain) → Held t s → Held (lineTurn (lent s) t line .table) s′
+  pub text-is : (t : Option Plain) → Held t s → take used text′ ≡ take from text ++ lineResult (lent s) t line .text
+  pub held : (t : Option Plain) → Held t s → Held (lineResult (lent s) t line .table) s′
 
 -- ---- the bytes of the answer
 
@@ -83,20 +83,20 @@ module _ {s : Stores} {text : List ℕ} (keys : length (s .keys) ≤ 2048) (room
   held-listable (no-table e) f = absurd (false≢true (sym f ∙ e))
   held-listable (table r) f = table-listable r
 
-pub told-answers : {line : List ℕ} {s s′ : Stores} {said : Said} {text : List ℕ} {used : ℕ} → length (s′ .keys) ≤ 2048 → 103492 ≤ length text → Responding line s s′ said
-    → Telling (s′ .header) (s′ .rows) said text used → Answering line s s′ text used
-told-answers keys room m w =
+pub encoded-answers : {line : List ℕ} {s s′ : Stores} {response : Response} {text : List ℕ} {used : ℕ} → length (s′ .keys) ≤ 2048 → 103492 ≤ length text → Responding line s s′ response
+    → Encoded (s′ .header) (s′ .rows) response text used → Answering line s s′ text used
+encoded-answers keys room m w =
     record {
       inside = w .inside;
       answers = λ t held.
           let k = m .answers t held in
-          record { text-is = w .begins (λ numbered l. held-listable keys room (k .held) (k .listed numbered l)) ∙ k .says; held = k .held };
+          record { text-is = w .begins (λ numbered l. held-listable keys room (k .held) (k .listed numbered l)) ∙ k .responds; held = k .held };
     }
 
 -- The answer is written to a part of a text. The bytes before the part do not change.
-pub answering-behind : {line : List ℕ} {s s′ : Stores} {used : ℕ} (text part after : List ℕ) (from : ℕ) → from ≤ length text → Answering line s s′ part used
-    → AnsweringBehind line s s′ text from (take from text ++ (part ++ after)) (from + used)
-answering-behind {used = used} text part after from inside m =
+pub answer-appended : {line : List ℕ} {s s′ : Stores} {used : ℕ} (text part after : List ℕ) (from : ℕ) → from ≤ length text → Answering line s s′ part used
+    → AnswerAppended line s s′ text from (take from text ++ (part ++ after)) (from + used)
+answer-appended {used = used} text part after from inside m =
     let wide : length (take from text) ≡ from = rw length-take (omega arith) in
     let whole : take (from + used) (take from text ++ (part ++ after)) ≡ take from text ++ take used part =
     ap (λ (n : ℕ). take (n + used) (take from text ++ (part ++ after))) (sym wide)

@@ -6,7 +6,7 @@ use Rattle.levels_calls.proofs.merge_pending.Statement.{statement}
 use Rattle.levels_calls.proofs.merge_pending.Tie as tie
 
 returns : tie.Need-returns
-returns c = merge-served (c .merge-taken .ensures) refl refl (c .before .before .before .before .before .before .before .before .before .merge .ensures)
+returns c = merge-served (c .respond-merge .ensures) refl refl (c .before .before .before .before .before .before .before .before .before .merge .ensures)
 
 pub merge-pending-spec : {M : Type 1} → statement M
 merge-pending-spec =

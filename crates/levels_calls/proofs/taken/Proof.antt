@@ -1,14 +1,14 @@
 -- `levels_calls::taken` meets its contract. Assumes nothing.
-use Rattle.levels_calls.specs.inner.Calling.{taken-refused, taken-table}
+use Rattle.levels_calls.specs.inner.Calling.{served-refused, served-table}
 use borrow.Author.Needs.{needs}
 use Rattle.levels_calls.proofs.taken.Statement.{statement}
 use Rattle.levels_calls.proofs.taken.Tie as tie
 
 returns : tie.Need-returns
-returns c = taken-refused _ _ _ (c .before .answer .given .1)
+returns c = served-refused _ _ _ (c .before .answer .given .1)
 
 returns-2 : tie.Need-returns-2
-returns-2 c = taken-table _ _ _ (c .before .answer2 .given .1)
+returns-2 c = served-table _ _ _ (c .before .answer2 .given .1)
 
 pub taken-spec : {M : Type 1} → statement M
 taken-spec = tie.close (tie.spec (λ c. search needs) (λ c. search needs) returns returns-2)

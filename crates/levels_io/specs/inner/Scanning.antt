@@ -9,11 +9,11 @@ use lib.ListN.{length, take, drop, getD, set, length-append, length-take}
 use lib.Dec.{eqb}
 use lib.Seq.{take-all, take-suc-set, drop-cons, take-append-le}
 use borrow.Author.Tests.{eq-eqb, ne-eqb}
-use Rattle.lists.specs.Lists.{has}
-use Rattle.levels_io.specs.declared.input.Scan.{Scan}
+use Rattle.lists.specs.Lists.{elem}
+use Rattle.levels_io.specs.declared.input.ChunkScan.{ChunkScan}
 
 -- bytes are appended to a line, as far as its store has room
-pub record Kept (line : List ℕ) (count : ℕ) (bytes line′ : List ℕ) (end : ℕ) : Type 0 where
+pub record Pushed (line : List ℕ) (count : ℕ) (bytes line′ : List ℕ) (end : ℕ) : Type 0 where
   pub counted : end ≡ min (length line) (count + length bytes)
   pub same : take end line′ ≡ take (length line) (take count line ++ bytes)
 
@@ -23,10 +23,10 @@ before-newline [] = []
 before-newline (byte ∷ bytes) = cond (eqb byte 10) [] (byte ∷ before-newline bytes)
 
 -- Those bytes are stored. The bytes taken are those and the newline, if there is one.
-pub record Scanned (line : List ℕ) (count : ℕ) (bytes : List ℕ) (from : ℕ) (line′ : List ℕ) (r : Scan) : Type 0 where
-  pub kept : Kept line count (before-newline bytes) line′ (r .length)
-  pub whole : r .«is_whole» ≡ has 10 bytes
-  pub next : r .next ≡ from + length (before-newline bytes) + cond (has 10 bytes) 1 0
+pub record Scanned (line : List ℕ) (count : ℕ) (bytes : List ℕ) (from : ℕ) (line′ : List ℕ) (r : ChunkScan) : Type 0 where
+  pub kept : Pushed line count (before-newline bytes) line′ (r .length)
+  pub whole : r .«is_whole» ≡ elem 10 bytes
+  pub next : r .next ≡ from + length (before-newline bytes) + cond (elem 10 bytes) 1 0
 
 -- ---- storing bytes
 
@@ -36,14 +36,14 @@ take-in (suc m) [] y = refl
 take-in (suc m) (a ∷ x) y = ap (λ l. a ∷ l) (take-in m x y)
 
 module _ (line : List ℕ) (count : ℕ) where
-  kept-none : count ≤ length line → Kept line count [] line count
-  kept-none inside =
+  pushed-none : count ≤ length line → Pushed line count [] line count
+  pushed-none inside =
       let short : length (take count line) ≤ length line = rw length-take (omega arith) in
       record { counted = omega arith; same = rw (append-nil (take count line), take-all (length line) (take count line) short) }
 
   -- the store has room
-  pub kept-one : (byte : ℕ) → count < length line → Kept line count (byte ∷ []) (set line count byte) (count + 1)
-  kept-one byte inside =
+  pub pushed-one : (byte : ℕ) → count < length line → Pushed line count (byte ∷ []) (set line count byte) (count + 1)
+  pushed-one byte inside =
       let long : length (take count line ++ (byte ∷ [])) ≤ length line = rw (length-append, length-take) (omega arith) in
       record {
         counted = omega arith;
@@ -51,8 +51,8 @@ module _ (line : List ℕ) (count : ℕ) where
       }
 
   -- the store is full
-  pub kept-full : (byte : ℕ) → count ≡ length line → Kept line count (byte ∷ []) line count
-  kept-full byte full =
+  pub pushed-full : (byte : ℕ) → count ≡ length line → Pushed line count (byte ∷ []) line count
+  pushed-full byte full =
       let all : take count line ≡ line = take-all count line (omega arith) in
       record {
         counted = omega arith;
@@ -60,9 +60,9 @@ module _ (line : List ℕ) (count : ℕ) where
       }
 
 -- two appends in sequence
-kept-then : {line line′ line″ bytes more : List ℕ} {count end end′ : ℕ} → length line′ ≡ length line
-    → Kept line count bytes line′ end → Kept line′ end more line″ end′ → Kept line count (bytes ++ more) line″ end′
-kept-then {line} {line′} {line″} {bytes} {more} {count} {end} lent a b =
+pushed-then : {line line′ line″ bytes more : List ℕ} {count end end′ : ℕ} → length line′ ≡ length line
+    → Pushed line count bytes line′ end → Pushed line′ end more line″ end′ → Pushed line count (bytes ++ more) line″ end′
+pushed-then {line} {line′} {line″} {bytes} {more} {count} {end} lent a b =
     record {
       counted = omega (arith, a .counted, b .counted, length-append bytes more);
       same = b .same ∙ rw (lent, a .same, take-in (length line) (take count line ++ bytes) more, append-assoc (take count line) bytes more);
@@ -78,12 +78,12 @@ line-ends : (byte : ℕ) (bytes : List ℕ) → byte ≡ 10 → before-newline (
 unfolding before-newline
 line-ends byte bytes e = rw (eq-eqb byte 10 e)
 
-has-more : (byte : ℕ) (bytes : List ℕ) → (byte ≡ 10 → ⊥) → has 10 (byte ∷ bytes) ≡ has 10 bytes
-unfolding has
+has-more : (byte : ℕ) (bytes : List ℕ) → (byte ≡ 10 → ⊥) → elem 10 (byte ∷ bytes) ≡ elem 10 bytes
+unfolding elem
 has-more byte bytes ne = rw (ne-eqb 10 byte (λ e. ne (sym e)))
 
-has-newline : (byte : ℕ) (bytes : List ℕ) → byte ≡ 10 → has 10 (byte ∷ bytes) ≡ true
-unfolding has
+has-newline : (byte : ℕ) (bytes : List ℕ) → byte ≡ 10 → elem 10 (byte ∷ bytes) ≡ true
+unfolding elem
 has-newline byte bytes e = rw (eq-eqb 10 byte (sym e))
 
 -- the bytes of a chunk from `at` up to `end`
@@ -103,9 +103,9 @@ left-none chunk at end none = let z : end - at ≡ 0 = omega arith in rw z
 pub record Scanning (line : List ℕ) (count : ℕ) (bytes : List ℕ) (from : ℕ) (line′ : List ℕ) (kept at : ℕ) (rest : List ℕ) : Type 0 where
   pub same-length : length line′ ≡ length line
   pub inside : kept ≤ length line
-  pub whole : has 10 rest ≡ has 10 bytes
+  pub whole : elem 10 rest ≡ elem 10 bytes
   pub next : at + length (before-newline rest) ≡ from + length (before-newline bytes)
-  pub to-come : (line″ : List ℕ) (end : ℕ) → Kept line′ kept (before-newline rest) line″ end → Kept line count (before-newline bytes) line″ end
+  pub to-come : (line″ : List ℕ) (end : ℕ) → Pushed line′ kept (before-newline rest) line″ end → Pushed line count (before-newline bytes) line″ end
 
 pub scanning-begin : (line : List ℕ) (count : ℕ) (bytes : List ℕ) (from : ℕ) → count ≤ length line → Scanning line count bytes from line count from bytes
 scanning-begin line count bytes from inside =
@@ -114,7 +114,7 @@ scanning-begin line count bytes from inside =
 module _ {line : List ℕ} {count : ℕ} {bytes : List ℕ} {from : ℕ} {line′ : List ℕ} {kept at : ℕ} (chunk : List ℕ) (end : ℕ) (v : Scanning line count bytes from line′ kept at (left chunk at end)) where
   -- one more byte of the line
   pub scanning-again : {line″ : List ℕ} {kept′ : ℕ} → at < end → end ≤ length chunk → (getD chunk at 0 ≡ 10 → ⊥) → length line″ ≡ length line′
-      → Kept line′ kept (getD chunk at 0 ∷ []) line″ kept′ → Scanning line count bytes from line″ kept′ (at + 1) (left chunk (at + 1) end)
+      → Pushed line′ kept (getD chunk at 0 ∷ []) line″ kept′ → Scanning line count bytes from line″ kept′ (at + 1) (left chunk (at + 1) end)
   scanning-again {line″} {kept′} some inside ne lent k =
       let byte = getD chunk at 0 in
       let rest = left chunk (at + 1) end in
@@ -125,7 +125,7 @@ module _ {line : List ℕ} {count : ℕ} {bytes : List ℕ} {from : ℕ} {line�
         inside = omega (arith, k .counted, v .same-length);
         whole = sym (rw here (has-more byte rest ne)) ∙ v .whole;
         next = omega (arith, v .next, ap length goes);
-        to-come = λ t e m. v .to-come t e (rw goes (kept-then lent k m));
+        to-come = λ t e m. v .to-come t e (rw goes (pushed-then lent k m));
       }
 
   -- the end of the line
@@ -136,22 +136,22 @@ module _ {line : List ℕ} {count : ℕ} {bytes : List ℕ} {from : ℕ} {line�
       let rest = left chunk (at + 1) end in
       let here : left chunk at end ≡ byte ∷ rest = left-more chunk at end some inside in
       let none : before-newline (left chunk at end) ≡ [] = rw here (line-ends byte rest e) in
-      let there : has 10 bytes ≡ true = sym (v .whole) ∙ rw here (has-newline byte rest e) in
+      let there : elem 10 bytes ≡ true = sym (v .whole) ∙ rw here (has-newline byte rest e) in
       record {
-        kept = v .to-come line′ kept (rw none (kept-none line′ kept (omega (arith, v .inside, v .same-length))));
+        kept = v .to-come line′ kept (rw none (pushed-none line′ kept (omega (arith, v .inside, v .same-length))));
         whole = sym there;
         next = rw there (omega (arith, v .next, ap length none));
       }
 
   -- the end of the chunk
   pub scanning-end : end ≤ at → Scanned line count bytes from line′ (record { length = kept; next = at; «is_whole» = false })
-  unfolding before-newline has
+  unfolding before-newline elem
   scanning-end past =
       let here : left chunk at end ≡ [] = left-none chunk at end past in
       let none : before-newline (left chunk at end) ≡ [] = rw here in
-      let there : has 10 bytes ≡ false = sym (v .whole) ∙ rw here in
+      let there : elem 10 bytes ≡ false = sym (v .whole) ∙ rw here in
       record {
-        kept = v .to-come line′ kept (rw none (kept-none line′ kept (omega (arith, v .inside, v .same-length))));
+        kept = v .to-come line′ kept (rw none (pushed-none line′ kept (omega (arith, v .inside, v .same-length))));
         whole = sym there;
         next = rw there (omega (arith, v .next, ap length none));
       }

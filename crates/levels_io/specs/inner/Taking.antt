@@ -13,14 +13,14 @@ use lib.Seq.{drop-drop}
 use borrow.Author.Tests.{eq-eqb, ne-eqb, eqb-true, eqb-false}
 use Rattle.io.specs.Counts.{clamped}
 use Rattle.libc.specs.Io.{Moved}
-use Rattle.lists.specs.Lists.{has}
-use Rattle.lists.specs.Laws.Keep.{split}
+use Rattle.lists.specs.Lists.{elem}
+use Rattle.lists.specs.Laws.Filter.{split}
 use Rattle.lists.specs.Laws.Parts.{take-drop}
-use Rattle.lists.specs.Laws.Rising.{has-append}
+use Rattle.lists.specs.Laws.Rising.{elem-append}
 use Rattle.levels_io.specs.declared.input.Input.{Input}
-use Rattle.levels_io.specs.declared.input.Scan.{Scan}
-use Rattle.levels_io.specs.declared.input.Taken.{Taken}
-use Rattle.levels_io.specs.Input.{bytesRead, unread, InputIn, AtEnd, Begun}
+use Rattle.levels_io.specs.declared.input.ChunkScan.{ChunkScan}
+use Rattle.levels_io.specs.declared.input.TakenLine.{TakenLine}
+use Rattle.levels_io.specs.Input.{bytesRead, unread, InputIn, AtEnd, LineSoFar}
 use Rattle.levels_io.specs.inner.Scanning.{before-newline, Scanned, take-in, left, left-none}
 
 -- One of the remaining reads is made. The bytes before are followed by the first bytes of the chunk after the read, as many as it
@@ -41,10 +41,10 @@ pub record SameRead (input r : Input) : Type 0 where
   pub reads : r .reads ≡ input .reads
 
 -- the bytes of a line are taken up to its newline (10), or all unread bytes are taken
-pub record LineTaken (line : List ℕ) (count : ℕ) (chunk : List ℕ) (input : Input) (line′ : List ℕ) (r : Taken) : Type 0 where
+pub record LineTaken (line : List ℕ) (count : ℕ) (chunk : List ℕ) (input : Input) (line′ : List ℕ) (r : TakenLine) : Type 0 where
   pub bytes : List ℕ
   pub parts : unread chunk input ≡ bytes ++ cond (r .«is_whole») (10 ∷ unread chunk (r .input)) []
-  pub line-is : (begun : List ℕ) → Begun begun line count → Begun (begun ++ bytes) line′ (r .length)
+  pub line-is : (begun : List ℕ) → LineSoFar begun line count → LineSoFar (begun ++ bytes) line′ (r .length)
   pub within : InputIn chunk (r .input)
   pub moved : r .«is_whole» ≡ true → input .next < r .input .next
   pub all-taken : r .«is_whole» ≡ false → r .input .end ≤ r .input .next
@@ -89,8 +89,8 @@ end-some input counted some =
 
 -- ---- a newline, or none
 
-no-newline-before : (bytes : List ℕ) → has 10 (before-newline bytes) ≡ false
-unfolding before-newline has
+no-newline-before : (bytes : List ℕ) → elem 10 (before-newline bytes) ≡ false
+unfolding before-newline elem
 no-newline-before [] = refl
 no-newline-before (byte ∷ bytes) =
     elim (split (eqb byte 10)) [
@@ -98,19 +98,19 @@ no-newline-before (byte ∷ bytes) =
       | inr e ↦ rw (e, ne-eqb 10 byte (λ f. eqb-false byte 10 e (sym f))) (no-newline-before bytes)
     ]
 
-newline-first : (bytes : List ℕ) → has 10 bytes ≡ true → bytes ≡ before-newline bytes ++ (10 ∷ drop (suc (length (before-newline bytes))) bytes)
-unfolding before-newline has
+newline-first : (bytes : List ℕ) → elem 10 bytes ≡ true → bytes ≡ before-newline bytes ++ (10 ∷ drop (suc (length (before-newline bytes))) bytes)
+unfolding before-newline elem
 newline-first [] e = absurd (false≢true e)
 newline-first (byte ∷ bytes) e =
     elim (split (eqb byte 10)) [
       | inl f ↦ rw f (ap (λ (x : ℕ). x ∷ bytes) (eqb-true byte 10 f))
       | inr f ↦
-          let more : has 10 bytes ≡ true = rw (ne-eqb 10 byte (λ g. eqb-false byte 10 f (sym g))) at e in
+          let more : elem 10 bytes ≡ true = rw (ne-eqb 10 byte (λ g. eqb-false byte 10 f (sym g))) at e in
           rw f (ap (λ (x : List ℕ). byte ∷ x) (newline-first bytes more))
     ]
 
-no-newline-whole : (bytes : List ℕ) → has 10 bytes ≡ false → before-newline bytes ≡ bytes
-unfolding before-newline has
+no-newline-whole : (bytes : List ℕ) → elem 10 bytes ≡ false → before-newline bytes ≡ bytes
+unfolding before-newline elem
 no-newline-whole [] e = refl
 no-newline-whole (byte ∷ bytes) e =
     elim (split (eqb 10 byte)) [
@@ -129,7 +129,7 @@ length-left chunk at end inside = rw (length-take, length-drop) (omega arith)
 
 -- ---- a line
 
-module _ {line line′ : List ℕ} {count : ℕ} {r : Scan} (chunk : List ℕ) (input : Input) (within : InputIn chunk input) (room : count ≤ length line) (same : length line′ ≡ length line)
+module _ {line line′ : List ℕ} {count : ℕ} {r : ChunkScan} (chunk : List ℕ) (input : Input) (within : InputIn chunk input) (room : count ≤ length line) (same : length line′ ≡ length line)
     (k : Scanned line count (unread chunk input) (input .next) line′ r) where
   -- the bytes of the line that are taken, and the input after them
   abbrev here : List ℕ
@@ -138,10 +138,10 @@ module _ {line line′ : List ℕ} {count : ℕ} {r : Scan} (chunk : List ℕ) (
   abbrev rest : Input
   rest = record { next = r .next; end = input .end; got = input .got; reads = input .reads }
 
-  here-begun : (begun : List ℕ) → Begun begun line count → Begun (begun ++ here) line′ (r .length)
+  here-begun : (begun : List ℕ) → LineSoFar begun line count → LineSoFar (begun ++ here) line′ (r .length)
   here-begun begun b =
       record {
-        no-newline = rw (has-append 10 begun here, b .no-newline) (no-newline-before (unread chunk input));
+        no-newline = rw (elem-append 10 begun here, b .no-newline) (no-newline-before (unread chunk input));
         counted = omega (arith, k .kept .counted, b .counted, length-append begun here);
         kept = k .kept .same ∙ rw (b .kept, same, take-in (length line) begun here);
       }
@@ -149,14 +149,14 @@ module _ {line line′ : List ℕ} {count : ℕ} {r : Scan} (chunk : List ℕ) (
   -- there is no newline among them: all are taken
   here-all : r .«is_whole» ≡ false → (here ≡ unread chunk input) × (r .next ≡ input .end)
   here-all e =
-      let none : has 10 (unread chunk input) ≡ false = sym (k .whole) ∙ e in
+      let none : elem 10 (unread chunk input) ≡ false = sym (k .whole) ∙ e in
       let all : here ≡ unread chunk input = no-newline-whole (unread chunk input) none in
       (all, omega (arith, rw (none, all) at (k .next), length-left chunk (input .next) (input .end) (within .inside), within .ordered))
 
   -- the line ends
   here-line : r .«is_whole» ≡ true → (unread chunk input ≡ here ++ (10 ∷ unread chunk rest)) × (r .next ≤ input .end) × (input .next < r .next)
   here-line e =
-      let there : has 10 (unread chunk input) ≡ true = sym (k .whole) ∙ e in
+      let there : elem 10 (unread chunk input) ≡ true = sym (k .whole) ∙ e in
       let n : ℕ = length here in
       let parts = newline-first (unread chunk input) there in
       let fits : suc n ≤ input .end - input .next = omega (arith, ap length parts, length-append here (10 ∷ drop (suc n) (unread chunk input)), length-left chunk (input .next) (input .end) (within .inside)) in

@@ -8,9 +8,9 @@ use mathlib.Core.List.{List, [], _∷_, _++_}
 use lib.Dec.{leb, ltb, eqb}
 use lib.ListN.{length, take}
 use lib.Signed.{ltZ}
-use Rattle.lists.specs.Lists.{every}
-use Rattle.lists.specs.Laws.Every.{every-head, every-tail, every-cons, every-append, every-snoc, or-second}
-use Rattle.lists.specs.Laws.Keep.{split, and-left, every-getD}
+use Rattle.lists.specs.Lists.{all}
+use Rattle.lists.specs.Laws.All.{all-head, all-tail, all-cons, all-append, all-snoc, or-second}
+use Rattle.lists.specs.Laws.Filter.{split, and-left, all-getD}
 use Rattle.merge_rules.specs.Rules.{ruledColumn, signed, smaller, larger, taken, madeCell, madeFrom}
 use Rattle.plain_table.specs.Staged.{Staged, insert, removeKey, removeRow, inserts, hasKey}
 use Rattle.plain_table.specs.Refusing.{Lengths}
@@ -18,15 +18,15 @@ use Rattle.plain_table.specs.Plain.{Row, Plain, opened, stage, liveWithKey, rem
 use Rattle.plain_table.specs.Calls.{Call, refusal, done, after}
 use Rattle.plain_table.specs.Proper.{rowOf}
 use Rattle.plain_table.specs.Laws.Lookup.{lookup-at}
-use Rattle.plain_table.specs.Laws.Rows.{noRow, Thinned, killIf-thinned, dies-thinned, keep-thinned, thinned-every}
+use Rattle.plain_table.specs.Laws.Rows.{noRow, Thinned, killIf-thinned, dies-thinned, filter-thinned, thinned-all}
 use Rattle.plain_table.specs.Laws.Counts.{Appended, new, again, insertion-appended, removed-keeps, insertAll-keeps}
 use Rattle.listing_spec.specs.Listings.{areNumbers}
 use Rattle.listing_write.specs.Laws.Listed.{liveFits}
 
 -- every cell of a live row and of a staged insert is a u32
 pub record Fits (p : Plain) : Type 0 where
-  pub rows : every liveFits (p .rows) ≡ true
-  pub staged : every areNumbers (inserts (p .staged)) ≡ true
+  pub rows : all liveFits (p .rows) ≡ true
+  pub staged : all areNumbers (inserts (p .staged)) ≡ true
 
 -- ---- the row that a rule makes: each cell is a cell of one of the two rows
 
@@ -46,18 +46,18 @@ cell-fits rule keys sort column a b f g =
 
 made-fits : (rule keys sort column : ℕ) (l m : List ℕ) → areNumbers l ≡ true → areNumbers m ≡ true → areNumbers (madeFrom rule keys sort column l m) ≡ true
 unfolding areNumbers madeFrom
-made-fits rule keys sort column [] m e f = unfold every in refl
-made-fits rule keys sort column (a ∷ l) [] e f = unfold every in refl
+made-fits rule keys sort column [] m e f = unfold all in refl
+made-fits rule keys sort column (a ∷ l) [] e f = unfold all in refl
 made-fits rule keys sort column (a ∷ l) (b ∷ m) e f =
-    every-cons (λ n. leb n 4294967295) _ _
-    (cell-fits rule keys sort column a b (every-head (λ n. leb n 4294967295) a l e) (every-head (λ n. leb n 4294967295) b m f))
-    (made-fits rule keys sort _ l m (every-tail (λ n. leb n 4294967295) a l e) (every-tail (λ n. leb n 4294967295) b m f))
+    all-cons (λ n. leb n 4294967295) _ _
+    (cell-fits rule keys sort column a b (all-head (λ n. leb n 4294967295) a l e) (all-head (λ n. leb n 4294967295) b m f))
+    (made-fits rule keys sort _ l m (all-tail (λ n. leb n 4294967295) a l e) (all-tail (λ n. leb n 4294967295) b m f))
 
 -- ---- merge
 
 -- rows that died or were removed
-thinned-fits : {a b : List Row} → Thinned a b → every liveFits a ≡ true → every liveFits b ≡ true
-thinned-fits t e = thinned-every liveFits (λ row q. refl) t e
+thinned-fits : {a b : List Row} → Thinned a b → all liveFits a ≡ true → all liveFits b ≡ true
+thinned-fits t e = thinned-all liveFits (λ row q. refl) t e
 
 live-key : (keys : ℕ) (key : List ℕ) (row : Row) → liveWithKey keys key row ≡ true → row .live ≡ true
 unfolding liveWithKey
@@ -67,14 +67,14 @@ row-fits : (row : Row) → row .live ≡ true → liveFits row ≡ true → areN
 row-fits row live fits = or-second (not (row .live)) (areNumbers (row .cells)) fits (rw live)
 
 appended-fits : {cells : List ℕ} {p p′ : Plain} → Fits p → areNumbers cells ≡ true → Appended cells p p′ → Fits p′
-appended-fits {cells} {p} h f (new s l e) = record { rows = every-snoc liveFits (p .rows) _ (h .rows) f; staged = h .staged }
+appended-fits {cells} {p} h f (new s l e) = record { rows = all-snoc liveFits (p .rows) _ (h .rows) f; staged = h .staged }
 appended-fits {cells} {p} h f (again old row s l c m e) =
     let key = take (p .opening .keys) cells in
     let t = lookup-at p key old l in
     let live = live-key (p .opening .keys) key (rowOf p (old .number)) (t .1) in
-    let fits = row-fits (rowOf p (old .number)) live (every-getD liveFits (p .rows) (h .rows) (old .number) (t .0) noRow) in
+    let fits = row-fits (rowOf p (old .number)) live (all-getD liveFits (p .rows) (h .rows) (old .number) (t .0) noRow) in
     let made = made-fits (p .opening .rule) (p .opening .keys) (p .opening .sort) 0 (old .cells) cells (rw (t .2) at fits) f in
-    record { rows = every-snoc liveFits _ _ (thinned-fits (killIf-thinned _ (p .rows)) (h .rows)) (rw m at made); staged = h .staged }
+    record { rows = all-snoc liveFits _ _ (thinned-fits (killIf-thinned _ (p .rows)) (h .rows)) (rw m at made); staged = h .staged }
 
 removed-fits : (p : Plain) → Fits p → Fits (removed p)
 removed-fits p h =
@@ -88,8 +88,8 @@ unfolding applied
 applied-fits {p} h =
     insertAll-keeps Fits areNumbers (λ cells t t′ f k q. appended-fits k f (insertion-appended cells t t′ q)) (inserts (p .staged)) (h .staged) 0 false (removed p) (removed-fits p h)
 
-none-staged : every areNumbers (inserts []) ≡ true
-unfolding inserts every
+none-staged : all areNumbers (inserts []) ≡ true
+unfolding inserts all
 none-staged = refl
 
 unstaged-fits : {p : Plain} → Fits p → Fits (unstaged p)
@@ -98,7 +98,7 @@ unstaged-fits h = record { rows = h .rows; staged = none-staged }
 
 pub compacted-fits : {p : Plain} → Fits p → Fits (compacted p)
 unfolding compacted
-compacted-fits {p} h = record { rows = thinned-fits (keep-thinned (λ row. row .live) (p .rows)) (h .rows); staged = h .staged }
+compacted-fits {p} h = record { rows = thinned-fits (filter-thinned (λ row. row .live) (p .rows)) (h .rows); staged = h .staged }
 
 pub merged-fits : {p : Plain} → Fits p → Fits (merged p .table)
 unfolding merged
@@ -109,7 +109,7 @@ merged-fits {p} h =
 -- ---- the other calls
 
 pub opened-fits : {p : Plain} → p .rows ≡ [] → p .staged ≡ [] → Fits p
-opened-fits e f = record { rows = rw e (unfold every in refl); staged = rw f none-staged }
+opened-fits e f = record { rows = rw e (unfold all in refl); staged = rw f none-staged }
 
 pub cleared-fits : {p : Plain} → Fits p → Fits (cleared p)
 unfolding cleared opened
@@ -122,10 +122,10 @@ inserts-append (insert cells ∷ a) b = ap (λ (l : List (List ℕ)). cells ∷ 
 inserts-append (removeKey key ∷ a) b = inserts-append a b
 inserts-append (removeRow row key ∷ a) b = inserts-append a b
 
-pub staged-fits : {p : Plain} (r : Staged) → Fits p → every areNumbers (inserts (r ∷ [])) ≡ true → Fits (stage p r)
+pub staged-fits : {p : Plain} (r : Staged) → Fits p → all areNumbers (inserts (r ∷ [])) ≡ true → Fits (stage p r)
 unfolding stage
 staged-fits {p} r h f =
-    record { rows = h .rows; staged = rw (inserts-append (p .staged) (r ∷ [])) (every-append areNumbers (inserts (p .staged)) (inserts (r ∷ [])) (h .staged) f) }
+    record { rows = h .rows; staged = rw (inserts-append (p .staged) (r ∷ [])) (all-append areNumbers (inserts (p .staged)) (inserts (r ∷ [])) (h .staged) f) }
 
 -- after a call, refused or not
 pub after-fits : {p : Plain} (l : Lengths) (c : Call) → Fits p → Fits (done p c) → Fits (after p l c)

@@ -6,17 +6,17 @@ use mathlib.Core.List.{List}
 use mathlib.Core.Option.{Option}
 use lib.ListN.{take}
 use Rattle.plain_table.specs.Plain.{Plain}
-use Rattle.table.specs.Promises.{Stores}
-use Rattle.levels_spec.specs.Said.{Turn, lineTurn}
+use Rattle.table.specs.Contracts.{Stores}
+use Rattle.levels_spec.specs.Response.{LineResult, lineResult}
 use Rattle.levels_spec.specs.Answers.{Held, lent, Answering}
 
-pub record SameTurn (turn : Turn) (s₁ s₂ : Stores) (text₁ text₂ : List ℕ) (used₁ used₂ : ℕ) : Type 0 where
+pub record SameResult (result : LineResult) (s₁ s₂ : Stores) (text₁ text₂ : List ℕ) (used₁ used₂ : ℕ) : Type 0 where
   pub text : take used₁ text₁ ≡ take used₂ text₂
-  pub first : Held (turn .table) s₁
-  pub second : Held (turn .table) s₂
+  pub first : Held (result .table) s₁
+  pub second : Held (result .table) s₂
 
 pub answering-determined : {line : List ℕ} {s s₁ s₂ : Stores} {text₁ text₂ : List ℕ} {used₁ used₂ : ℕ} (t : Option Plain) → Held t s → Answering line s s₁ text₁ used₁
-    → Answering line s s₂ text₂ used₂ → SameTurn (lineTurn (lent s) t line) s₁ s₂ text₁ text₂ used₁ used₂
+    → Answering line s s₂ text₂ used₂ → SameResult (lineResult (lent s) t line) s₁ s₂ text₁ text₂ used₁ used₂
 answering-determined t h a b =
     let x = a .answers t h in
     let y = b .answers t h in

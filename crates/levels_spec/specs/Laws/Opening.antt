@@ -6,24 +6,24 @@ use mathlib.Core.List.{List, []}
 use mathlib.Core.Option.{Option, some}
 use native.Mathlib.Omega.{arith}
 use borrow.Author.Tests.{eq-eqb, ne-eqb, lt-ltb, le-ltb}
-use Rattle.refusals.specs.Refusals.{accepted, reply, verdict}
+use Rattle.refusals.specs.Refusals.{accepted, reply, outcome}
 use Rattle.refusals.specs.Laws.Replies.{some-number, ruled-refused}
 use Rattle.plain_table.specs.Staged.{Opening}
 use Rattle.plain_table.specs.Refusing.{Lengths, openRefusal, storesShort}
 use Rattle.plain_table.specs.Plain.{Plain, opened}
 use Rattle.table.specs.declared.Header.{Header}
 use Rattle.table.specs.declared.TableAnswer.{TableAnswer}
-use Rattle.table.specs.Numbers.{tableSays}
+use Rattle.table.specs.Numbers.{tableView}
 use Rattle.table.specs.Stores.{headerOf}
-use Rattle.table.specs.Promises.{Stores, stores, body, lengths, headerAfter, Opened}
+use Rattle.table.specs.Contracts.{Stores, stores, body, lengths, headerAfter, Opened}
 use Rattle.table.specs.Laws.Replies.{reply-accepted}
 use Rattle.table.specs.Laws.Keeps.{after-refused, after-accepted, opening-done}
-use Rattle.levels_spec.specs.declared.Said.the-variants.{Refused}
+use Rattle.levels_spec.specs.declared.Response.the-variants.{Refused}
 use Rattle.levels_spec.specs.declared.Served.{Served}
-use Rattle.levels_spec.specs.Said.{printing, replied, openNumber, opens}
+use Rattle.levels_spec.specs.Response.{printing, replied, openNumber, opens}
 use Rattle.levels_spec.specs.Answers.{Held, lent}
-use Rattle.levels_spec.specs.inner.Saying.{saidOf, saysNothing, Taken, Told}
-use Rattle.levels_spec.specs.Laws.Turns.{said-refused, nothing-said, told-refused, told-table}
+use Rattle.levels_spec.specs.inner.Responses.{responseOf, nothingResponse, ServedWith, Responds}
+use Rattle.levels_spec.specs.Laws.Results.{responseOf-refused, nothing-response, responds-refused, responds-table}
 use Rattle.levels_spec.specs.Laws.Calls.{reply-ruled}
 
 number-small : (l : Lengths) (o : Opening) → o .capacity ≤ 1024 → openNumber l o ≡ openRefusal o l
@@ -44,27 +44,27 @@ module _ (l : Lengths) (t : Option Plain) (o : Opening) (generation n : ℕ) (nu
   opens-done zero = rw (number, eq-eqb n 0 zero)
 
 -- a capacity above 1,024
-pub large-told : (l : Lengths) (s : Stores) (o : Opening) (generation : ℕ) → 1024 < o .capacity → (t : Option Plain) → Held t s
-    → Told (opens l t o generation) s (Refused 11)
-large-told l s o generation large t held =
-    rw (opens-refused l t o generation 11 (number-large l o large) (omega arith)) (told-refused 11 held (omega arith))
+pub large-responds : (l : Lengths) (s : Stores) (o : Opening) (generation : ℕ) → 1024 < o .capacity → (t : Option Plain) → Held t s
+    → Responds (opens l t o generation) s (Refused 11)
+large-responds l s o generation large t held =
+    rw (opens-refused l t o generation 11 (number-large l o large) (omega arith)) (responds-refused 11 held (omega arith))
 
 module _ {o : Opening} {generation : ℕ} {h : Header} {rows keys sorts pending keys′ : List ℕ} {answer : TableAnswer} {r : Served} where
-  pub opening-told : o .capacity ≤ 1024 → Opened o generation (body rows keys sorts) pending answer keys′
-      → Taken (headerAfter h (tableSays answer)) (saidOf saysNothing (tableSays answer)) r → (t : Option Plain) → Held t (stores h rows keys sorts pending)
-      → Told (opens (lent (stores h rows keys sorts pending)) t o generation) (stores (r .header) rows keys′ sorts pending) (r .said)
-  opening-told small m k t held =
+  pub opening-responds : o .capacity ≤ 1024 → Opened o generation (body rows keys sorts) pending answer keys′
+      → ServedWith (headerAfter h (tableView answer)) (responseOf nothingResponse (tableView answer)) r → (t : Option Plain) → Held t (stores h rows keys sorts pending)
+      → Responds (opens (lent (stores h rows keys sorts pending)) t o generation) (stores (r .header) rows keys′ sorts pending) (r .response)
+  opening-responds small m k t held =
       let l : Lengths = lent (stores h rows keys sorts pending) in
       let n : ℕ = openRefusal o (lengths rows keys sorts pending [] []) in
       let number : openNumber l o ≡ n = number-small l o small ∙ (unfold openRefusal storesShort in refl) in
-      let ruled : verdict (tableSays answer) ≡ reply n tt = rw (m .answers) (reply-ruled n _) in
+      let ruled : outcome (tableView answer) ≡ reply n tt = rw (m .answers) (reply-ruled n _) in
       elim (some-number n) [
         | inl zero ↦
-            let a : tableSays answer ≡ accepted (headerOf (opened o generation)) = m .answers ∙ reply-accepted n _ zero in
-            let same : r .header ≡ headerOf (opened o generation) = k .header-same ∙ after-accepted h (tableSays answer) _ a in
-            rw (opens-done l t o generation n number zero, k .said-same)
-            (told-table (nothing-said (r .header) rows (tableSays answer) n ruled zero) (rw same (opening-done m (headerOf (opened o generation)) a)))
+            let a : tableView answer ≡ accepted (headerOf (opened o generation)) = m .answers ∙ reply-accepted n _ zero in
+            let same : r .header ≡ headerOf (opened o generation) = k .header-same ∙ after-accepted h (tableView answer) _ a in
+            rw (opens-done l t o generation n number zero, k .response-same)
+            (responds-table (nothing-response (r .header) rows (tableView answer) n ruled zero) (rw same (opening-done m (headerOf (opened o generation)) a)))
         | inr more ↦
-            rw (opens-refused l t o generation n number more, k .said-same, said-refused saysNothing (tableSays answer) n ruled more, k .header-same, after-refused h (tableSays answer) n (ruled-refused (tableSays answer) n ruled more), m .unchanged more)
-            (told-refused n held more)
+            rw (opens-refused l t o generation n number more, k .response-same, responseOf-refused nothingResponse (tableView answer) n ruled more, k .header-same, after-refused h (tableView answer) n (ruled-refused (tableView answer) n ruled more), m .unchanged more)
+            (responds-refused n held more)
       ]

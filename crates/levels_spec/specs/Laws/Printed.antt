@@ -11,21 +11,21 @@ use native.Mathlib.Omega.{arith}
 use lib.Dec.{leb, ltb, eqb}
 use lib.ListN.{length, drop, getD, List·getD-eq-default}
 use borrow.Author.Tests.{eqb-true, leb-true, not-false}
-use Rattle.lists.specs.Lists.{every, any}
-use Rattle.lists.specs.Laws.Every.{or-second}
-use Rattle.lists.specs.Laws.Keep.{split, and-left, and-right, every-getD}
-use Rattle.refusals.specs.Refusals.{rung}
+use Rattle.lists.specs.Lists.{all, any}
+use Rattle.lists.specs.Laws.All.{or-second}
+use Rattle.lists.specs.Laws.Filter.{split, and-left, and-right, all-getD}
+use Rattle.refusals.specs.Refusals.{check}
 use Rattle.plain_table.specs.Staged.{Opening, openable, insert, removeKey, removeRow, inserts}
 use Rattle.plain_table.specs.Refusing.{Lengths, storesShort, openRefusal}
 use Rattle.plain_table.specs.Plain.{Plain, opened}
 use Rattle.plain_table.specs.Calls.{Call, staging, merging, compacting, clearing, done, after}
 use Rattle.plain_table.specs.Proper.{Proper}
-use Rattle.plain_table.specs.Laws.Calls.{first-no}
+use Rattle.plain_table.specs.Laws.Calls.{firstRefusal-no}
 use Rattle.plain_table.specs.Laws.Proper.{opened-proper, after-proper}
 use Rattle.levels_text.specs.Lines.{fields, isDecimal, isLine, letter, numbers, isBare, isForm, ofForms}
-use Rattle.listing_spec.specs.Listings.{Listing, areNumbers, Shows}
+use Rattle.listing_spec.specs.Listings.{Listing, areNumbers, ParsesAs}
 use Rattle.listing_spec.specs.Laws.Lines.{line-numbers}
-use Rattle.levels_spec.specs.Said.{Turn, printing, replied, openNumber, opens, calls, asks, listText, numberedText, openingIn, served, onTable, turn, lineTurn}
+use Rattle.levels_spec.specs.Response.{LineResult, printing, replied, openNumber, opens, calls, queries, listText, numberedText, openingIn, served, onTable, result, lineResult}
 use Rattle.levels_spec.specs.Session.{programLengths, linesIn, session, tableAfter, printed}
 use Rattle.levels_spec.specs.Laws.Listings.{listingOf, plain-listed, numbered-listed}
 use Rattle.levels_spec.specs.Laws.Cells.{Fits, opened-fits, staged-fits, merged-fits, compacted-fits, cleared-fits, after-fits}
@@ -50,11 +50,11 @@ pub record IsOpen (t : Option Plain) : Type 0 where
 -- an opening that is not refused
 open-bounds : (o : Opening) (l : Lengths) → openRefusal o l ≡ 0 → openable o ≡ true
 unfolding openRefusal
-open-bounds o l e = not-false (openable o) (first-no (not (openable o)) 0 (rung (storesShort o l) 2 ∷ []) e)
+open-bounds o l e = not-false (openable o) (firstRefusal-no (not (openable o)) 0 (check (storesShort o l) 2 ∷ []) e)
 
 -- A property that holds for every table that can be listed, and for the table before a line, holds for the table after the line.
 module _ (Q : Option Plain → Type 0) (every-table : (p : Plain) → Listable p → Q (some p)) (l : Lengths) where
-  one-of : (b : Bool) (x y : Turn) → Q (x .table) → Q (y .table) → Q (cond b x y .table)
+  one-of : (b : Bool) (x y : LineResult) → Q (x .table) → Q (y .table) → Q (cond b x y .table)
   one-of true x y f g = f
   one-of false x y f g = g
 
@@ -62,24 +62,24 @@ module _ (Q : Option Plain → Type 0) (every-table : (p : Plain) → Listable p
   unfolding calls
   called {p} c text k f = every-table (after p l c) (record { proper = after-proper l c (k .proper); fits = after-fits l c (k .fits) f })
 
-  asked : {p : Plain} (number : ℕ) (text : List ℕ) → Listable p → Q (asks p number text .table)
-  unfolding asks
-  asked {p} number text k = every-table p k
+  queried : {p : Plain} (number : ℕ) (text : List ℕ) → Listable p → Q (queries p number text .table)
+  unfolding queries
+  queried {p} number text k = every-table p k
 
-  insert-fits : (ns : List ℕ) → areNumbers ns ≡ true → every areNumbers (inserts (insert ns ∷ [])) ≡ true
-  unfolding inserts every
+  insert-fits : (ns : List ℕ) → areNumbers ns ≡ true → all areNumbers (inserts (insert ns ∷ [])) ≡ true
+  unfolding inserts all
   insert-fits ns f = rw f
 
   served-table : {p : Plain} (letter : ℕ) (ns : List ℕ) → Listable p → areNumbers ns ≡ true → Q (served l p letter ns .table)
   unfolding served done
   served-table {p} letter ns k f =
       one-of (eqb letter 73) _ _ (called (staging (insert ns)) [] k (staged-fits (insert ns) (k .fits) (insert-fits ns f)))
-      (one-of (eqb letter 82) _ _ (called (staging (removeKey ns)) [] k (staged-fits (removeKey ns) (k .fits) (unfold inserts every in refl)))
-      (one-of (eqb letter 75) _ _ (called (staging (removeRow (getD ns 0 0) (drop 1 ns))) [] k (staged-fits (removeRow (getD ns 0 0) (drop 1 ns)) (k .fits) (unfold inserts every in refl)))
+      (one-of (eqb letter 82) _ _ (called (staging (removeKey ns)) [] k (staged-fits (removeKey ns) (k .fits) (unfold inserts all in refl)))
+      (one-of (eqb letter 75) _ _ (called (staging (removeRow (getD ns 0 0) (drop 1 ns))) [] k (staged-fits (removeRow (getD ns 0 0) (drop 1 ns)) (k .fits) (unfold inserts all in refl)))
       (one-of (eqb letter 77) _ _ (called merging _ k (merged-fits (k .fits)))
       (one-of (eqb letter 67) _ _ (called clearing [] k (cleared-fits (k .fits)))
       (one-of (eqb letter 71) _ _ (called compacting [] k (compacted-fits (k .fits)))
-      (one-of (eqb letter 70) _ _ (asked _ _ k) (one-of (eqb letter 86) _ _ (asked 0 _ k) (one-of (eqb letter 85) _ _ (asked 0 _ k) (asked 0 _ k)))))))))
+      (one-of (eqb letter 70) _ _ (queried _ _ k) (one-of (eqb letter 86) _ _ (queried 0 _ k) (one-of (eqb letter 85) _ _ (queried 0 _ k) (queried 0 _ k)))))))))
 
   -- an accepted opening
   opens-listable : (o : Opening) (generation : ℕ) → generation ≤ 4294967295 → openNumber l o ≡ 0 → Listable (opened o generation)
@@ -104,7 +104,7 @@ module _ (Q : Option Plain → Type 0) (every-table : (p : Plain) → Listable p
   unfolding areNumbers
   number-fits ns i f =
       elim (decLt i (length ns)) [
-        | yes h ↦ leb-true (getD ns i 0) 4294967295 (every-getD (λ n. leb n 4294967295) ns f i h 0)
+        | yes h ↦ leb-true (getD ns i 0) 4294967295 (all-getD (λ n. leb n 4294967295) ns f i h 0)
         | no h ↦ rw (List·getD-eq-default ns 0 {n = i} (omega arith)) (omega arith)
       ]
 
@@ -113,8 +113,8 @@ module _ (Q : Option Plain → Type 0) (every-table : (p : Plain) → Listable p
   on-table letter ns f no-table here = here
   on-table letter ns f (a-table k) here = served-table letter ns k f
 
-  line-table : (t : Option Plain) (line : List ℕ) → OfSession t → Q t → Q (lineTurn l t line .table)
-  unfolding lineTurn turn
+  line-table : (t : Option Plain) (line : List ℕ) → OfSession t → Q t → Q (lineResult l t line .table)
+  unfolding lineResult result
   line-table t line k here =
       elim (split (ofForms line)) [
         | inl e ↦
@@ -124,7 +124,7 @@ module _ (Q : Option Plain → Type 0) (every-table : (p : Plain) → Listable p
       ]
 
 -- the same for the tables after several lines
-pub line-of-session : (t : Option Plain) (line : List ℕ) → OfSession t → OfSession (lineTurn programLengths t line .table)
+pub line-of-session : (t : Option Plain) (line : List ℕ) → OfSession t → OfSession (lineResult programLengths t line .table)
 line-of-session t line k = line-table OfSession (λ p g. a-table g) programLengths t line k k
 
 open-of-session : {t : Option Plain} → IsOpen t → OfSession t
@@ -137,7 +137,7 @@ open-of p k = record { table = p; same = refl; listable = k }
 pub open-stays : (t : Option Plain) (lines : List (List ℕ)) → IsOpen t → IsOpen (tableAfter t lines)
 unfolding tableAfter
 open-stays t [] o = o
-open-stays t (line ∷ lines) o = open-stays (lineTurn programLengths t line .table) lines (line-table IsOpen open-of programLengths t line (open-of-session o) o)
+open-stays t (line ∷ lines) o = open-stays (lineResult programLengths t line .table) lines (line-table IsOpen open-of programLengths t line (open-of-session o) o)
 
 -- ---- after an accepted O
 
@@ -145,8 +145,8 @@ open-stays t (line ∷ lines) o = open-stays (lineTurn programLengths t line .ta
 unfoldable pub opensTable : List ℕ → Bool
 opensTable line = ofForms line && eqb (letter line) 79 && eqb (openNumber programLengths (openingIn (numbers line))) 0
 
-opens-opens : (t : Option Plain) (line : List ℕ) → opensTable line ≡ true → IsOpen (lineTurn programLengths t line .table)
-unfolding lineTurn turn opens
+opens-opens : (t : Option Plain) (line : List ℕ) → opensTable line ≡ true → IsOpen (lineResult programLengths t line .table)
+unfolding lineResult result opens
 opens-opens t line e =
     let n = eqb (openNumber programLengths (openingIn (numbers line))) 0 in
     let a = and-left (ofForms line && eqb (letter line) 79) n (unfold opensTable in e) in
@@ -161,8 +161,8 @@ unfolding tableAfter any
 opened-open t [] k e = absurd (false≢true e)
 opened-open t (line ∷ lines) k e =
     elim (split (opensTable line)) [
-      | inl f ↦ open-stays (lineTurn programLengths t line .table) lines (opens-opens t line f)
-      | inr f ↦ opened-open (lineTurn programLengths t line .table) lines (line-of-session t line k) (or-second (opensTable line) (any opensTable lines) e f)
+      | inl f ↦ open-stays (lineResult programLengths t line .table) lines (opens-opens t line f)
+      | inr f ↦ opened-open (lineResult programLengths t line .table) lines (line-of-session t line k) (or-second (opensTable line) (any opensTable lines) e f)
     ]
 
 -- ---- what U and L print
@@ -174,12 +174,12 @@ listLine numbered = cond numbered 85 76 ∷ []
 abbrev listed : Bool → Plain → List ℕ
 listed numbered p = cond numbered (numberedText p) (listText p)
 
-line-lists : (numbered : Bool) (p : Plain) → lineTurn programLengths (some p) (listLine numbered) ≡ printing (listed numbered p) (some p)
-unfolding lineTurn ofForms isLine isForm isBare fields letter numbers every isDecimal turn onTable served asks replied
+line-lists : (numbered : Bool) (p : Plain) → lineResult programLengths (some p) (listLine numbered) ≡ printing (listed numbered p) (some p)
+unfolding lineResult ofForms isLine isForm isBare fields letter numbers all isDecimal result onTable served queries replied
 line-lists true p = refl
 line-lists false p = refl
 
-listed-shown : (numbered : Bool) (p : Plain) → Listable p → Shows numbered (listed numbered p) (some (listingOf numbered p))
+listed-shown : (numbered : Bool) (p : Plain) → Listable p → ParsesAs numbered (listed numbered p) (some (listingOf numbered p))
 listed-shown true p k = numbered-listed p (k .proper) (k .fits .rows)
 listed-shown false p k = plain-listed p (k .proper) (k .fits .rows)
 
@@ -187,14 +187,14 @@ session-append : (t : Option Plain) (before after : List (List ℕ)) → session
 unfolding session tableAfter
 session-append t [] after = refl
 session-append t (line ∷ before) after =
-    ap (λ (l : List ℕ). lineTurn programLengths t line .text ++ l) (session-append (lineTurn programLengths t line .table) before after)
-    ∙ sym (append-assoc (lineTurn programLengths t line .text) _ _)
+    ap (λ (l : List ℕ). lineResult programLengths t line .text ++ l) (session-append (lineResult programLengths t line .table) before after)
+    ∙ sym (append-assoc (lineResult programLengths t line .text) _ _)
 
 -- the text that an input with a line U or L prints: that of the lines before it, that of a listing, that of the lines after it
 pub record ListingPrinted (numbered : Bool) (input : List ℕ) (before after : List (List ℕ)) : Type 0 where
   pub listing : Listing
   pub text : List ℕ
-  pub shown : Shows numbered text (some listing)
+  pub shown : ParsesAs numbered text (some listing)
   pub prints : printed input ≡ session none before ++ (text ++ session (tableAfter none before) after)
 
 pub listing-printed : (numbered : Bool) (input : List ℕ) (before after : List (List ℕ)) → linesIn input ≡ before ++ (listLine numbered ∷ after) → any opensTable before ≡ true

@@ -8,14 +8,14 @@ use native.Mathlib.Omega.{arith}
 use lib.ListN.{length}
 use lib.Dec.{eqb}
 use borrow.Author.Tests.{ne-eqb, eqb-false}
-use Rattle.lists.specs.Lists.{has}
-use Rattle.lists.specs.Laws.Keep.{split}
+use Rattle.lists.specs.Lists.{elem}
+use Rattle.lists.specs.Laws.Filter.{split}
 use mathlib.Core.Bool.{false≢true}
-use Rattle.levels_spec.specs.Session.{begun, linesIn}
+use Rattle.levels_spec.specs.Session.{prependToFirst, linesIn}
 
 -- a byte that is not a newline, and the bytes after it
-byte-apart : (byte : ℕ) (bytes : List ℕ) → has 10 (byte ∷ bytes) ≡ false → (eqb byte 10 ≡ false) × (has 10 bytes ≡ false)
-unfolding has
+byte-apart : (byte : ℕ) (bytes : List ℕ) → elem 10 (byte ∷ bytes) ≡ false → (eqb byte 10 ≡ false) × (elem 10 bytes ≡ false)
+unfolding elem
 byte-apart byte bytes e =
     elim (split (eqb 10 byte)) [
       | inl f ↦ absurd (false≢true (sym (rw f at e)))
@@ -23,14 +23,14 @@ byte-apart byte bytes e =
     ]
 
 -- a line, its newline, and the bytes after it
-pub lines-ended : (line more : List ℕ) → has 10 line ≡ false → linesIn (line ++ (10 ∷ more)) ≡ line ∷ linesIn more
-unfolding linesIn begun
+pub lines-ended : (line more : List ℕ) → elem 10 line ≡ false → linesIn (line ++ (10 ∷ more)) ≡ line ∷ linesIn more
+unfolding linesIn prependToFirst
 lines-ended [] more e = refl
 lines-ended (byte ∷ line) more e = let b = byte-apart byte line e in rw (b .0, lines-ended line more (b .1))
 
 -- the last line, which ends with the input
-pub lines-last : (line : List ℕ) → has 10 line ≡ false → 0 < length line → linesIn line ≡ line ∷ []
-unfolding linesIn begun
+pub lines-last : (line : List ℕ) → elem 10 line ≡ false → 0 < length line → linesIn line ≡ line ∷ []
+unfolding linesIn prependToFirst
 lines-last [] e some = absurd (omega (arith, some))
 lines-last (byte ∷ []) e some = rw (byte-apart byte [] e .0)
 lines-last (byte ∷ next ∷ line) e some =

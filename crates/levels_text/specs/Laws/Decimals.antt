@@ -8,9 +8,9 @@ use native.Mathlib.Omega.{arith}
 use lib.ListN.{length, take, getD, length-append}
 use lib.Dec.{leb, ltb}
 use borrow.Author.Tests.{lt-ltb, le-ltb, leb-true, leb-false}
-use Rattle.lists.specs.Lists.{flat}
-use Rattle.lists.specs.Laws.Keep.{split}
-use Rattle.lists.specs.Laws.Rows.{flat-append}
+use Rattle.lists.specs.Lists.{flatten}
+use Rattle.lists.specs.Laws.Filter.{split}
+use Rattle.lists.specs.Laws.Rows.{flatten-append}
 use Rattle.io.specs.Digits.{digits, glyph, Fewest}
 use Rattle.levels_text.specs.Written.{digitsIn, decimal, field, textLine}
 
@@ -82,31 +82,31 @@ unfolding field
 field-some n = omega arith
 
 -- one number more
-pub fields-more : (numbers : List ℕ) (n : ℕ) → flat (map field (numbers ++ (n ∷ []))) ≡ flat (map field numbers) ++ field n
-unfolding flat
-fields-more numbers n = rw (map-append field numbers (n ∷ []), flat-append (map field numbers) (field n ∷ []), append-nil (field n))
+pub fields-more : (numbers : List ℕ) (n : ℕ) → flatten (map field (numbers ++ (n ∷ []))) ≡ flatten (map field numbers) ++ field n
+unfolding flatten
+fields-more numbers n = rw (map-append field numbers (n ∷ []), flatten-append (map field numbers) (field n ∷ []), append-nil (field n))
 
 -- the first fields and the next one take no more bytes than all fields
-pub fields-front : (numbers : List ℕ) (i : ℕ) → i < length numbers → length (flat (map field (take i numbers))) + length (field (getD numbers i 0)) ≤ length (flat (map field numbers))
-unfolding flat
+pub fields-front : (numbers : List ℕ) (i : ℕ) → i < length numbers → length (flatten (map field (take i numbers))) + length (field (getD numbers i 0)) ≤ length (flatten (map field numbers))
+unfolding flatten
 fields-front [] i less = absurd (omega arith)
-fields-front (n ∷ numbers) zero less = omega (arith, length-append (field n) (flat (map field numbers)))
+fields-front (n ∷ numbers) zero less = omega (arith, length-append (field n) (flatten (map field numbers)))
 fields-front (n ∷ numbers) (suc i) less =
-    omega (arith, length-append (field n) (flat (map field numbers)), length-append (field n) (flat (map field (take i numbers))), fields-front numbers i (omega arith))
+    omega (arith, length-append (field n) (flatten (map field numbers)), length-append (field n) (flatten (map field (take i numbers))), fields-front numbers i (omega arith))
 
-pub length-fields : (numbers : List ℕ) → length (flat (map field numbers)) ≤ 11 * length numbers
-unfolding flat
+pub length-fields : (numbers : List ℕ) → length (flatten (map field numbers)) ≤ 11 * length numbers
+unfolding flatten
 length-fields [] = omega arith
 length-fields (n ∷ numbers) =
-    omega (arith, length-append (field n) (flat (map field numbers)), length-field n, length-fields numbers)
+    omega (arith, length-append (field n) (flatten (map field numbers)), length-field n, length-fields numbers)
 
-pub length-line : (letter : ℕ) (numbers : List ℕ) → length (textLine letter numbers) ≡ length (flat (map field numbers)) + 2
+pub length-line : (letter : ℕ) (numbers : List ℕ) → length (textLine letter numbers) ≡ length (flatten (map field numbers)) + 2
 unfolding textLine
-length-line letter numbers = omega (arith, length-append (flat (map field numbers)) (10 ∷ []))
+length-line letter numbers = omega (arith, length-append (flatten (map field numbers)) (10 ∷ []))
 
-pub length-numbered : (letter number : ℕ) (numbers : List ℕ) → length (textLine letter (number ∷ numbers)) ≡ length (field number) + length (flat (map field numbers)) + 2
-unfolding flat
-length-numbered letter number numbers = omega (arith, length-line letter (number ∷ numbers), length-append (field number) (flat (map field numbers)))
+pub length-numbered : (letter number : ℕ) (numbers : List ℕ) → length (textLine letter (number ∷ numbers)) ≡ length (field number) + length (flatten (map field numbers)) + 2
+unfolding flatten
+length-numbered letter number numbers = omega (arith, length-line letter (number ∷ numbers), length-append (field number) (flatten (map field numbers)))
 
 pub length-written : (letter : ℕ) (numbers : List ℕ) → length (textLine letter numbers) ≤ 11 * length numbers + 2
 unfolding textLine

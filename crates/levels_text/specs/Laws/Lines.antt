@@ -11,8 +11,8 @@ use lib.Dec.{leb, ltb, eqb}
 use lib.ListN.{length, drop, getD, length-drop, drop-of-length-le}
 use lib.Seq.{drop-cons, drop-drop}
 use borrow.Author.Tests.{eq-eqb, ne-eqb, le-leb, lt-leb, lt-ltb, eqb-true, eqb-false, leb-true, leb-false}
-use Rattle.lists.specs.Lists.{every}
-use Rattle.lists.specs.Laws.Keep.{split, and-left, and-right}
+use Rattle.lists.specs.Lists.{all}
+use Rattle.lists.specs.Laws.Filter.{split, and-left, and-right}
 use Rattle.levels_text.specs.Lines.{fields, valueFrom, isDecimal, isLine, letter, numbers, isBare, isForm, ofForms}
 
 -- ---- the first field, and the others
@@ -131,8 +131,8 @@ value-least v (byte ∷ bytes) = let h = value-least (10 * v + (byte - 48)) byte
 
 -- after a digit that is not a leading zero
 pub decimal-more : (n v : ℕ) (bytes : List ℕ) → 0 < n → 0 < v → v ≤ 4294967295
-    → decimalFrom n v bytes ≡ (every digit bytes && leb (valueFrom v bytes) 4294967295)
-unfolding decimalFrom every valueFrom
+    → decimalFrom n v bytes ≡ (all digit bytes && leb (valueFrom v bytes) 4294967295)
+unfolding decimalFrom all valueFrom
 decimal-more n v [] some big small = rw (lt-ltb _ _ some, le-leb _ _ small)
 decimal-more n v (byte ∷ bytes) some big small =
     let v′ = 10 * v + (byte - 48) in
@@ -143,13 +143,13 @@ decimal-more n v (byte ∷ bytes) some big small =
         | inl f ↦ rw (e, ne-eqb v 0 nz, lt-ltb 0 n some, f) (decimal-more (suc n) v′ bytes (omega arith) (omega arith) (leb-true v′ 4294967295 f))
         | inr f ↦
             let over : 4294967295 < valueFrom v′ bytes = omega (arith, leb-false v′ 4294967295 f, value-least v′ bytes) in
-            rw (e, ne-eqb v 0 nz, lt-ltb 0 n some, f, lt-leb (valueFrom v′ bytes) 4294967295 over) (sym (and-false (every digit bytes)))
+            rw (e, ne-eqb v 0 nz, lt-ltb 0 n some, f, lt-leb (valueFrom v′ bytes) 4294967295 over) (sym (and-false (all digit bytes)))
       ]
     ]
 
 -- one digit
 decimal-one : (byte : ℕ) → isDecimal (byte ∷ []) ≡ decimalFrom 0 0 (byte ∷ [])
-unfolding isDecimal decimalFrom every valueFrom
+unfolding isDecimal decimalFrom all valueFrom
 decimal-one byte = shorter (digit byte) (leb (10 * 0 + (byte - 48)) 4294967295)
   where
     shorter : (a d : Bool) → (a && true && true && true && d) ≡ (a && true && d && true)
@@ -159,12 +159,12 @@ decimal-one byte = shorter (digit byte) (leb (10 * 0 + (byte - 48)) 4294967295)
 -- two digits or more
 decimal-long : (byte : ℕ) (bytes : List ℕ) → 0 < length bytes
     → isDecimal (byte ∷ bytes)
-    ≡ (digit byte && not (eqb byte 48) && (every digit bytes && leb (valueFrom (10 * 0 + (byte - 48)) bytes) 4294967295))
-unfolding isDecimal every valueFrom
+    ≡ (digit byte && not (eqb byte 48) && (all digit bytes && leb (valueFrom (10 * 0 + (byte - 48)) bytes) 4294967295))
+unfolding isDecimal all valueFrom
 decimal-long byte bytes some =
     let one : length (byte ∷ bytes) ≡ 1 → ⊥ = λ e. omega arith in
     let none : 0 < length (byte ∷ bytes) = omega arith in
-    shorter (digit byte) (every digit bytes) (ltb 0 (length (byte ∷ bytes))) (eqb (length (byte ∷ bytes)) 1) (not (eqb byte 48)) (leb (valueFrom (10 * 0 + (byte - 48)) bytes) 4294967295)
+    shorter (digit byte) (all digit bytes) (ltb 0 (length (byte ∷ bytes))) (eqb (length (byte ∷ bytes)) 1) (not (eqb byte 48)) (leb (valueFrom (10 * 0 + (byte - 48)) bytes) 4294967295)
     (lt-ltb 0 (length (byte ∷ bytes)) none) (ne-eqb (length (byte ∷ bytes)) 1 one)
   where
     shorter : (a b t f c d : Bool) → t ≡ true → f ≡ false → (a && b && t && (f || c) && d) ≡ (a && c && (b && d))
@@ -183,7 +183,7 @@ decimal-zero (byte ∷ bytes) some = rw (and-false (digit byte))
 
 -- a whole field
 pub decimal-start : (field : List ℕ) → isDecimal field ≡ decimalFrom 0 0 field
-unfolding isDecimal decimalFrom every
+unfolding isDecimal decimalFrom all
 decimal-start [] = refl
 decimal-start (byte ∷ []) = decimal-one byte
 decimal-start (byte ∷ next ∷ bytes) =
@@ -208,7 +208,7 @@ decimal-start (byte ∷ next ∷ bytes) =
 
 -- a decimal has a digit
 pub decimal-some : (field : List ℕ) → isDecimal field ≡ true → 0 < length field
-decimal-some [] e = absurd (false≢true (unfold isDecimal every in e))
+decimal-some [] e = absurd (false≢true (unfold isDecimal all in e))
 decimal-some (byte ∷ bytes) e = omega arith
 
 -- ---- which lines are a letter and decimals
@@ -230,13 +230,13 @@ module _ (line : List ℕ) where
       let none : length (first line) ≡ 0 = ap length (first-at-comma line 0 some comma) in
       no-letter (λ e. omega arith)
 
-  pub no-decimal : every isDecimal (others line) ≡ false → isLine line ≡ false
+  pub no-decimal : all isDecimal (others line) ≡ false → isLine line ≡ false
   unfolding isLine others
   no-decimal e = rw (e, and-false (leb (length line) 120 && eqb (length (getD (fields line) 0 [])) 1))
 
-  pub is-line : length line ≤ 120 → length (first line) ≡ 1 → every isDecimal (others line) ≡ true → isLine line ≡ true
+  pub is-line : length line ≤ 120 → length (first line) ≡ 1 → all isDecimal (others line) ≡ true → isLine line ≡ true
   unfolding isLine first others
-  is-line short one all = rw (le-leb (length line) 120 short, eq-eqb (length (getD (fields line) 0 [])) 1 one, all)
+  is-line short one all-hold = rw (le-leb (length line) 120 short, eq-eqb (length (getD (fields line) 0 [])) 1 one, all-hold)
 
 -- a line that is not a letter and decimals is of no valid form
 pub no-forms : (line : List ℕ) → isLine line ≡ false → ofForms line ≡ false

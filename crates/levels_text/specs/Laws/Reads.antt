@@ -9,8 +9,8 @@ use native.Mathlib.Omega.{arith}
 use lib.Dec.{leb, ltb, eqb}
 use lib.ListN.{length, getD, length-append, List·getD-append}
 use borrow.Author.Tests.{ne-eqb, le-leb, lt-ltb, ltb-true, ltb-false}
-use Rattle.lists.specs.Lists.{every}
-use Rattle.lists.specs.Laws.Keep.{split}
+use Rattle.lists.specs.Lists.{all}
+use Rattle.lists.specs.Laws.Filter.{split}
 use Rattle.levels_text.specs.Lines.{valueFrom, isDecimal}
 use Rattle.levels_text.specs.Written.{digitsIn, decimal}
 
@@ -24,12 +24,12 @@ value-last v (x ∷ digits) d = value-last (10 * v + (x - 48)) digits d
 abbrev digit : ℕ → Bool
 digit byte = leb 48 byte && leb byte 57
 
-every-last : (digits : List ℕ) (d : ℕ) → every digit digits ≡ true → digit d ≡ true → every digit (digits ++ (d ∷ [])) ≡ true
-unfolding every
-every-last [] d e f = rw f
-every-last (x ∷ digits) d e f =
+all-last : (digits : List ℕ) (d : ℕ) → all digit digits ≡ true → digit d ≡ true → all digit (digits ++ (d ∷ [])) ≡ true
+unfolding all
+all-last [] d e f = rw f
+all-last (x ∷ digits) d e f =
     elim (split (digit x)) [
-      | inl y ↦ rw y (every-last digits d (rw y at e) f)
+      | inl y ↦ rw y (all-last digits d (rw y at e) f)
       | inr n ↦ absurd (false≢true (rw n at e))
     ]
 
@@ -41,13 +41,13 @@ digit-of d h =
 
 -- of at most this many places
 
-all-digits : (places n : ℕ) → every digit (digitsIn places n) ≡ true
-unfolding digitsIn every
+all-digits : (places n : ℕ) → all digit (digitsIn places n) ≡ true
+unfolding digitsIn all
 all-digits zero n = refl
 all-digits (suc places) n =
     elim (split (ltb n 10)) [
       | inl e ↦ rw (e, digit-of n (ltb-true n 10 e))
-      | inr e ↦ rw e (every-last (digitsIn places (n / 10)) (48 + n % 10) (all-digits places (n / 10)) (digit-of (n % 10) (mod-lt n (omega arith))))
+      | inr e ↦ rw e (all-last (digitsIn places (n / 10)) (48 + n % 10) (all-digits places (n / 10)) (digit-of (n % 10) (mod-lt n (omega arith))))
     ]
 
 value-digits : (places n : ℕ) → n < 10 ^ places → valueFrom 0 (digitsIn places n) ≡ n
@@ -102,10 +102,10 @@ zero-short = refl
 pub decimal-read : (n : ℕ) → n ≤ 4294967295 → isDecimal (decimal n) ≡ true
 unfolding isDecimal
 decimal-read n fits =
-    rw (all n, lt-ltb 0 (length (decimal n)) (some n), no-zero n fits, decimal-value n fits, le-leb n 4294967295 fits)
+    rw (all-hold n, lt-ltb 0 (length (decimal n)) (some n), no-zero n fits, decimal-value n fits, le-leb n 4294967295 fits)
   where
-    all : (n : ℕ) → every digit (decimal n) ≡ true
-    all n = unfold decimal in all-digits 10 n
+    all-hold : (n : ℕ) → all digit (decimal n) ≡ true
+    all-hold n = unfold decimal in all-digits 10 n
 
     some : (n : ℕ) → 0 < length (decimal n)
     some n = unfold decimal in some-digit 10 n (omega arith)

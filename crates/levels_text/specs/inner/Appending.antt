@@ -7,7 +7,7 @@ use native.Mathlib.Omega.{arith}
 use lib.ListN.{length, take, drop, getD, set, length-append, take-append-drop}
 use lib.Seq.{take-suc, take-all, take-suc-set, drop-set-lt, drop-drop}
 use Rattle.io.specs.Digits.{digits, Fewest}
-use Rattle.lists.specs.Lists.{putAt, flat}
+use Rattle.lists.specs.Lists.{splice, flatten}
 use Rattle.levels_text.specs.Written.{field, textLine}
 use Rattle.levels_text.specs.Laws.Decimals.{decimal-digits, fields-more, fields-front, length-written}
 
@@ -40,8 +40,8 @@ appended-then {text} {text′} {text″} {bytes} {more} {used} {end} {end′} a 
     }
 
 -- if there is room for the bytes, the text is this splice
-pub appended-put : {text bytes text′ : List ℕ} {used end : ℕ} → Appended text used bytes text′ end → text′ ≡ putAt text used bytes
-unfolding putAt
+pub appended-put : {text bytes text′ : List ℕ} {used end : ℕ} → Appended text used bytes text′ end → text′ ≡ splice text used bytes
+unfolding splice
 appended-put {text} {bytes} {text′} {used} {end} a =
     sym (take-append-drop end text′)
     ∙ rw (a .same, a .behind, append-assoc (take used text) bytes (drop end text), a .counted)
@@ -55,7 +55,7 @@ appended-number {n = n} {count = count} fits f e comma number =
 
 -- a letter, numbers, and a newline
 pub appended-line : {text text₁ text₂ text₃ : List ℕ} (numbers : List ℕ) {used lettered numbered end letter : ℕ}
-    → Appended text used (letter ∷ []) text₁ lettered → Appended text₁ lettered (flat (map field numbers)) text₂ numbered
+    → Appended text used (letter ∷ []) text₁ lettered → Appended text₁ lettered (flatten (map field numbers)) text₂ numbered
     → Appended text₂ numbered (10 ∷ []) text₃ end → Appended text used (textLine letter numbers) text₃ end
 unfolding textLine
 appended-line numbers first rest last = appended-then (appended-then first rest) last
@@ -63,9 +63,9 @@ appended-line numbers first rest last = appended-then (appended-then first rest)
 -- a number before the others
 pub appended-numbered : {text text₁ text₂ text₃ text₄ : List ℕ} (number : ℕ) (numbers : List ℕ) {used lettered numbered filled end letter : ℕ}
     → Appended text used (letter ∷ []) text₁ lettered → Appended text₁ lettered (field number) text₂ numbered
-    → Appended text₂ numbered (flat (map field numbers)) text₃ filled → Appended text₃ filled (10 ∷ []) text₄ end
+    → Appended text₂ numbered (flatten (map field numbers)) text₃ filled → Appended text₃ filled (10 ∷ []) text₄ end
     → Appended text used (textLine letter (number ∷ numbers)) text₄ end
-unfolding flat
+unfolding flatten
 appended-numbered number numbers first lead rest last = appended-line (number ∷ numbers) first (appended-then lead rest) last
 
 -- the bytes are at the start of a lent text
@@ -117,11 +117,11 @@ module _ {text : List ℕ} {used : ℕ} {bytes text′ : List ℕ} {end i : ℕ}
 pub record Numbering (text : List ℕ) (used : ℕ) (numbers text′ : List ℕ) (end i : ℕ) : Type 0 where
   pub inside : i ≤ length numbers
   pub same-length : length text′ ≡ length text
-  pub put : Appended text used (flat (map field (take i numbers))) text′ end
+  pub put : Appended text used (flatten (map field (take i numbers))) text′ end
 
 module _ (text : List ℕ) (used : ℕ) (numbers : List ℕ) where
   pub numbering-begin : Numbering text used numbers text used 0
-  unfolding flat
+  unfolding flatten
   numbering-begin = record { inside = omega arith; same-length = refl; put = appended-none text used }
 
 module _ {text : List ℕ} {used : ℕ} {numbers text′ : List ℕ} {end i : ℕ} (v : Numbering text used numbers text′ end i) where
@@ -135,8 +135,8 @@ module _ {text : List ℕ} {used : ℕ} {numbers text′ : List ℕ} {end i : �
       }
 
   -- the next number takes no more bytes than are left
-  pub numbering-next : i < length numbers → end + length (field (getD numbers i 0)) ≤ used + length (flat (map field numbers))
+  pub numbering-next : i < length numbers → end + length (field (getD numbers i 0)) ≤ used + length (flatten (map field numbers))
   numbering-next less = omega (arith, v .put .counted, fields-front numbers i less)
 
-  pub numbering-end : length numbers ≤ i → Appended text used (flat (map field numbers)) text′ end
+  pub numbering-end : length numbers ≤ i → Appended text used (flatten (map field numbers)) text′ end
   numbering-end all = rw (take-all i numbers all) at (v .put)

@@ -8,8 +8,8 @@ use native.Mathlib.Omega.{arith}
 use lib.Dec.{leb}
 use borrow.Author.Tests.{leb-true, leb-false}
 use lib.ListN.{length, take, drop, getD, length-append, length-take}
-use Rattle.lists.specs.Lists.{putAt}
-use Rattle.lists.specs.Laws.Keep.{split, and-right}
+use Rattle.lists.specs.Lists.{splice}
+use Rattle.lists.specs.Laws.Filter.{split, and-right}
 use Rattle.levels_text.specs.declared.Parsed.{Parsed}
 use Rattle.levels_text.specs.declared.Parsed.the-variants.{Wrong, Line}
 use Rattle.levels_text.specs.declared.Field.{Field}
@@ -40,7 +40,7 @@ module _ (line : List ℕ) (start : ℕ) where
 -- An accepted line gives its letter and its numbers; any other line is wrong. If there is no room for the most numbers that a line
 -- may have, every line is wrong.
 pub record ReadIs (taken : Bool) (line lent : List ℕ) (r : Parsed) (lent′ : List ℕ) : Type 0 where
-  pub right : 59 ≤ length lent → taken ≡ true → (r ≡ Line (letter line) (length (numbers line))) × (lent′ ≡ putAt lent 0 (numbers line))
+  pub right : 59 ≤ length lent → taken ≡ true → (r ≡ Line (letter line) (length (numbers line))) × (lent′ ≡ splice lent 0 (numbers line))
   pub wrong : 59 ≤ length lent → taken ≡ false → r ≡ Wrong
   pub no-room : length lent < 59 → (r ≡ Wrong) × (lent′ ≡ lent)
 
@@ -64,7 +64,7 @@ module _ {taken : Bool} (line lent : List ℕ) where
   }
 
   pub read-right : (first : ℕ) (count : ℕ) (lent′ : List ℕ) → 59 ≤ length lent → taken ≡ true → first ≡ letter line
-      → count ≡ length (numbers line) → lent′ ≡ putAt lent 0 (numbers line) → ReadIs taken line lent (Line first count) lent′
+      → count ≡ length (numbers line) → lent′ ≡ splice lent 0 (numbers line) → ReadIs taken line lent (Line first count) lent′
   read-right first count lent′ room e f n l = record {
     right = λ room′ e′. (cc, l);
     wrong = λ room′ e′. absurd (false≢true (sym e′ ∙ e));
@@ -96,11 +96,11 @@ module _ {taken : Bool} (line lent : List ℕ) (r : Parsed) (lent′ : List ℕ)
   pub read-count : count ≡ length (numbers line)
   read-count = let s = same in cc
 
-  pub read-put : lent′ ≡ putAt lent 0 (numbers line)
+  pub read-put : lent′ ≡ splice lent 0 (numbers line)
   read-put = p .right read-room read-taken .1
 
   pub read-fits : count ≤ length lent′
-  unfolding putAt
+  unfolding splice
   read-fits =
       let n = ap length read-put in
       let m = length-append (numbers line) (drop (0 + length (numbers line)) lent) in

@@ -9,21 +9,21 @@ use Rattle.listing_check.proofs.begin.Tie as tie
 returns : tie.Need-returns
 returns c = record {
   begins = λ conditions knows.
-      rw (c .settled .ensures) (settle (no-listing _ conditions _ (sym (c .before .before .before .before .before .pre .tested) ∙ not-true _ (c .before .if1 .taken))));
+      rw (c .finished .ensures) (settle (no-listing _ conditions _ (sym (c .before .before .before .before .before .pre .tested) ∙ not-true _ (c .before .if1 .taken))));
 }
 
 returns-2 : tie.Need-returns-2
 returns-2 c = record {
   begins = λ conditions knows.
       let l = c .before .before .before .before .before .before .pre .found (not-false _ (c .before .before .if1 .left)) in
-      rw (c .settled2 .ensures) (settle (unknown _ conditions _ _ l (sym knows ∙ not-true _ (c .before .if2 .taken))));
+      rw (c .finished2 .ensures) (settle (unknown _ conditions _ _ l (sym knows ∙ not-true _ (c .before .if2 .taken))));
 }
 
 returns-3 : tie.Need-returns-3
 returns-3 c = record {
   begins = λ conditions knows.
       let l = c .before .before .before .before .before .before .before .before .pre .found (not-false _ (c .before .before .before .before .if1 .left)) in
-      rw (c .settled3 .ensures)
+      rw (c .finished3 .ensures)
       (settle (out-of-place _ conditions _ _ l (sym knows ∙ not-false _ (c .before .before .before .if2 .left)) (c .before .before .first-misplaced .ensures .found (c .before .if3 .taken))));
 }
 

@@ -15,7 +15,7 @@ use borrow.Author.Tests.{le-ltb, lt-ltb, ltb-false, ltb-true}
 use denote.Builtin.{u8}
 use denote.Enum.Laws as EL
 use denote.Struct.Laws as LL
-use Rattle.lists.specs.Lists.{every}
+use Rattle.lists.specs.Lists.{all}
 use Rattle.constraints.specs.declared.Constraint.{Constraint}
 use Rattle.constraints.specs.Constraints.{known, meets}
 use Rattle.constraints.proofs.Constraint as CT
@@ -23,34 +23,34 @@ use Rattle.table.specs.declared.Header.{Header}
 use Rattle.table.proofs.Header as HT
 use Rattle.table.proofs.Header.Laws as HT′
 use Rattle.query_scan.specs.declared.Test.the-variants.{Known}
-use Rattle.query_scan.specs.inner.Sweeping.{allPass}
+use Rattle.query_scan.specs.inner.Scanning.{allPass}
 use Rattle.query_scan.proofs.Test as TT
 use Rattle.query_scan.proofs.Test.Laws as TT′
 use Rattle.listing_parse.specs.declared.Survey.{Survey}
 use Rattle.listing_parse.specs.inner.Surveys.{Surveyed}
 use Rattle.listing_parse.proofs.Survey as VT
 use Rattle.query_loop.proofs.Lent.{fits, header-val, headers, numbers, slice-val, test-val, tests}
-use Rattle.query_loop.proofs.WalkSteps.{all-known}
-use Rattle.query_loop.proofs.Walking.{AllPassed, Asked, Cell, Cells, Cites, Tokens, Walked, arg, bool-lands, calls, calls-last, empty, env-of, holds, lent-slice, own, stays, twice, typed, value-lands, value-settles, walk-runs}
-use Rattle.listing_check.specs.declared.Walk.{Walk}
+use Rattle.query_loop.proofs.LoopSteps.{all-known}
+use Rattle.query_loop.proofs.Walking.{AllPassed, Callee, Cell, Cells, Cites, Tokens, Walked, arg, bool-lands, calls, calls-last, empty, env-of, holds, lent-slice, own, stays, twice, typed, value-lands, value-settles, walk-runs}
+use Rattle.listing_check.specs.declared.CheckScan.{CheckScan}
 use Rattle.listing_check.specs.declared.Row.{Row}
 use Rattle.listing_check.specs.Answers.{AnswersChecked}
-use Rattle.listing_check.specs.inner.Walking.{Due, RowRead, Underway, Begun, Stepped, closed}
+use Rattle.listing_check.specs.inner.Scanning.{Due, RowRead, Underway, Begun, Stepped, closed}
 use Rattle.listing_check.proofs.Steps.{finish}
 use Rattle.listing_check.proofs.Values.{answers, arrays, cells-val, rows, surveys, walks}
 use Rattle.listing_check.proofs.Row as RT
 use Rattle.listing_check.proofs.Row.Laws as RT′
-use Rattle.listing_check.proofs.Walk as WT
-use Rattle.listing_check.proofs.Walk.Laws as WT′
-use Rattle.listing_parse.proofs.look_through as lok
-use Rattle.listing_parse.proofs.look_through.Symbol as lok-def
-use Rattle.listing_parse.proofs.look_through.Symbol.{name as #listing-parse·look-through}
-use Rattle.listing_parse.proofs.look_through.Met as lok-thm
+use Rattle.listing_check.proofs.CheckScan as WT
+use Rattle.listing_check.proofs.CheckScan.Laws as WT′
+use Rattle.listing_parse.proofs.scan_text as lok
+use Rattle.listing_parse.proofs.scan_text.Symbol as lok-def
+use Rattle.listing_parse.proofs.scan_text.Symbol.{name as #listing-parse·scan-text}
+use Rattle.listing_parse.proofs.scan_text.Met as lok-thm
 use Rattle.listing_check.proofs.header_of as hdr
 use Rattle.listing_check.proofs.header_of.Symbol as hdr-def
 use Rattle.listing_check.proofs.header_of.Symbol.{name as #listing-check·header-of}
 use Rattle.listing_check.proofs.header_of.Met as hdr-thm
-use Rattle.query_loop.proofs.all_pass as all
+use Rattle.query_loop.proofs.all_pass as all-hold
 use Rattle.query_loop.proofs.all_pass.Symbol as all-def
 use Rattle.query_loop.proofs.all_pass.Symbol.{name as #query-loop·all-pass}
 use Rattle.query_loop.proofs.all_pass.Met as all-thm
@@ -106,8 +106,8 @@ module _ {M : Type 1} (𝓤 : URA M) (H : Heap 𝓤) (A : Atoms 𝓤) (W : Given
   abbrev heading : Clauses 𝓤 hdr.ended
   heading = hdr.clauses 𝓤 H A mem run
 
-  abbrev passing : Clauses 𝓤 all.ended
-  passing = all.clauses 𝓤 H A mem run
+  abbrev passing : Clauses 𝓤 all-hold.ended
+  passing = all-hold.clauses 𝓤 H A mem run
 
   abbrev beginning : Clauses 𝓤 beg.ended
   beginning = beg.clauses 𝓤 H A mem run
@@ -131,71 +131,71 @@ module _ {M : Type 1} (𝓤 : URA M) (H : Heap 𝓤) (A : Atoms 𝓤) (W : Given
   abbrev Post : Val → SProp 𝓤
   Post = Walked f.ended params 𝓤 H A clauses .post y
 
-  abbrev to-look : Asked 𝓤 H A lok.ended looking .Ghost
+  abbrev to-look : Callee 𝓤 H A lok.ended looking .Ghost
   to-look = (((κ₀, tt), (q₀, tt), tt, (true, (x, tt)), (vbool true ∷ [], (slice-val x ∷ [], tt))), tt)
 
-  abbrev to-head : Survey → Asked 𝓤 H A hdr.ended heading .Ghost
+  abbrev to-head : Survey → Callee 𝓤 H A hdr.ended heading .Ghost
   to-head s = ((tt, tt, tt, (s, tt), (surveys .val s ∷ [], tt)), tt)
 
-  abbrev to-all : Header → Asked 𝓤 H A all.ended passing .Ghost
+  abbrev to-all : Header → Callee 𝓤 H A all-hold.ended passing .Ghost
   to-all h = (((κ₂, (κ₁, tt)), (q₂, (q₁, tt)), tt, (Known, (h, (g, (c, tt)))), (test-val Known ∷ [], (header-val h ∷ [], (slice-val g ∷ [], (slice-val c ∷ [], tt))))), tt)
 
-  abbrev to-begin : Survey → Bool → Asked 𝓤 H A beg.ended beginning .Ghost
+  abbrev to-begin : Survey → Bool → Callee 𝓤 H A beg.ended beginning .Ghost
   to-begin s knows = (((κ₀, (κ₂, tt)), (q₀, (q₂, tt)), tt, (s, (knows, (x, (g, tt)))), (surveys .val s ∷ [], (vbool knows ∷ [], (slice-val x ∷ [], (slice-val g ∷ [], tt))))), tt)
 
-  abbrev to-row : Header → Walk → Asked 𝓤 H A row.ended reading .Ghost
+  abbrev to-row : Header → CheckScan → Callee 𝓤 H A row.ended reading .Ghost
   to-row h at = (((κ₀, tt), (q₀, tt), tt, (h .columns, (x, (at .start, tt))), (vint w32 (h .columns) ∷ [], (slice-val x ∷ [], (vint w64 (at .start) ∷ [], tt)))), tt)
 
-  abbrev to-meet : Header → Row → Asked 𝓤 H A met.ended meeting .Ghost
+  abbrev to-meet : Header → Row → Callee 𝓤 H A met.ended meeting .Ghost
   to-meet h r = (((κ₁, tt), (q₁, tt), tt, (h, (stored r, (c, tt))), (header-val h ∷ [], (cells-val (stored r) ∷ [], (slice-val c ∷ [], tt)))), tt)
 
-  abbrev to-step : Walk → Row → Bool → Asked 𝓤 H A stp.ended stepping .Ghost
+  abbrev to-step : CheckScan → Row → Bool → Callee 𝓤 H A stp.ended stepping .Ghost
   to-step at r m = (((κ₂, tt), (q₂, tt), tt, (g, (at, (r, (m, tt)))), (slice-val g ∷ [], (walks .val at ∷ [], (rows .val r ∷ [], (vbool m ∷ [], tt))))), tt)
 
-  abbrev to-close : Walk → Asked 𝓤 H A cls.ended closing .Ghost
+  abbrev to-close : CheckScan → Callee 𝓤 H A cls.ended closing .Ghost
   to-close at = (((κ₂, tt), (q₂, tt), tt, (at, (g, tt)), (walks .val at ∷ [], (slice-val g ∷ [], tt))), tt)
 
-  asks-look : ent 𝓤 (⋆ 𝓤 H A (‵ (flft κ₀ q₀) ∷ ‵ OwnText ∷ [])) (Asked 𝓤 H A lok.ended looking .pre to-look)
-  asks-look = qed W (‵ (flft κ₀ q₀) ∷ ‵ OwnText ∷ []) ∵ nothing ! $ move ! (2 ∷ 0 ∷ []) $ fjoin ! $ owned ! bool (Is bool) (bool-makes 𝓤 H A W) true _ refl $ fjoin ! $ nothing ! $ move ! (2 ∷ 0 ∷ []) $ join ! $ join ! $ frame ! $ done !
+  requires-look : ent 𝓤 (⋆ 𝓤 H A (‵ (flft κ₀ q₀) ∷ ‵ OwnText ∷ [])) (Callee 𝓤 H A lok.ended looking .pre to-look)
+  requires-look = qed W (‵ (flft κ₀ q₀) ∷ ‵ OwnText ∷ []) ∵ nothing ! $ move ! (2 ∷ 0 ∷ []) $ fjoin ! $ owned ! bool (Is bool) (bool-makes 𝓤 H A W) true _ refl $ fjoin ! $ nothing ! $ move ! (2 ∷ 0 ∷ []) $ join ! $ join ! $ frame ! $ done !
 
-  asks-head : (s : Survey) → ent 𝓤 (sem 𝓤 H A (VT.the-row .own s (surveys .val s ∷ []))) (Asked 𝓤 H A hdr.ended heading .pre (to-head s))
-  asks-head s = qed W (‵ (VT.the-row .own s (surveys .val s ∷ [])) ∷ []) ∵ nothing ! $ move ! (1 ∷ 0 ∷ []) $ fjoin ! $ nothing ! $ join ! $ frame ! $ done !
+  requires-head : (s : Survey) → ent 𝓤 (sem 𝓤 H A (VT.the-row .own s (surveys .val s ∷ []))) (Callee 𝓤 H A hdr.ended heading .pre (to-head s))
+  requires-head s = qed W (‵ (VT.the-row .own s (surveys .val s ∷ [])) ∷ []) ∵ nothing ! $ move ! (1 ∷ 0 ∷ []) $ fjoin ! $ nothing ! $ join ! $ frame ! $ done !
 
   is-k : Is TT.the-row Known (test-val Known ∷ [])
   is-k = EL.owes TT.the-type TT′.the-laws Known tt
 
-  asks-all : (h : Header) → Is HT.the-row h (header-val h ∷ []) → ent 𝓤 (⋆ 𝓤 H A (‵ (flft κ₂ q₂) ∷ ‵ (flft κ₁ q₁) ∷ ‵ OwnGiven ∷ ‵ OwnConditions ∷ [])) (Asked 𝓤 H A all.ended passing .pre (to-all h))
-  asks-all h is-h =
+  requires-all : (h : Header) → Is HT.the-row h (header-val h ∷ []) → ent 𝓤 (⋆ 𝓤 H A (‵ (flft κ₂ q₂) ∷ ‵ (flft κ₁ q₁) ∷ ‵ OwnGiven ∷ ‵ OwnConditions ∷ [])) (Callee 𝓤 H A all-hold.ended passing .pre (to-all h))
+  requires-all h is-h =
       qed W (‵ (flft κ₂ q₂) ∷ ‵ (flft κ₁ q₁) ∷ ‵ OwnGiven ∷ ‵ OwnConditions ∷ []) ∵ says ! tt $ nothing ! $ move ! (4 ∷ 0 ∷ []) $ fjoin ! $ move ! (3 ∷ 0 ∷ []) $ fjoin ! $ own ! headers h is-h $ fjoin ! $ own ! tests Known is-k $ fjoin ! $
       nothing ! $ move ! (3 ∷ 0 ∷ []) $ join ! $ move ! (2 ∷ 0 ∷ []) $ join ! $ join ! $ done !
 
-  asks-begin : (s : Survey) (knows : Bool) → Surveyed true (now x) s → Is VT.the-row s (surveys .val s ∷ [])
-      → ent 𝓤 (⋆ 𝓤 H A (‵ (flft κ₀ q₀) ∷ ‵ (flft κ₂ q₂) ∷ ‵ OwnText ∷ ‵ OwnGiven ∷ [])) (Asked 𝓤 H A beg.ended beginning .pre (to-begin s knows))
-  asks-begin s knows sv is-s =
+  requires-begin : (s : Survey) (knows : Bool) → Surveyed true (now x) s → Is VT.the-row s (surveys .val s ∷ [])
+      → ent 𝓤 (⋆ 𝓤 H A (‵ (flft κ₀ q₀) ∷ ‵ (flft κ₂ q₂) ∷ ‵ OwnText ∷ ‵ OwnGiven ∷ [])) (Callee 𝓤 H A beg.ended beginning .pre (to-begin s knows))
+  requires-begin s knows sv is-s =
       qed W (‵ (flft κ₀ q₀) ∷ ‵ (flft κ₂ q₂) ∷ ‵ OwnText ∷ ‵ OwnGiven ∷ []) ∵ says ! sv $ nothing ! $ move ! (4 ∷ 0 ∷ []) $ fjoin ! $ move ! (3 ∷ 0 ∷ []) $ fjoin ! $ owned ! bool (Is bool) (bool-makes 𝓤 H A W) knows _ refl $ fjoin ! $ own ! surveys s is-s $ fjoin ! $
       nothing ! $ move ! (3 ∷ 0 ∷ []) $ join ! $ move ! (2 ∷ 0 ∷ []) $ join ! $ join ! $ done !
 
-  asks-row : (h : Header) (at : Walk) → Is HT.the-row h (header-val h ∷ []) → Is WT.the-row at (walks .val at ∷ []) → Due (h .columns) (now x) (at .start)
-      → ent 𝓤 (⋆ 𝓤 H A (‵ (flft κ₀ q₀) ∷ ‵ OwnText ∷ [])) (Asked 𝓤 H A row.ended reading .pre (to-row h at))
-  asks-row h at is-h is-at due =
+  requires-row : (h : Header) (at : CheckScan) → Is HT.the-row h (header-val h ∷ []) → Is WT.the-row at (walks .val at ∷ []) → Due (h .columns) (now x) (at .start)
+      → ent 𝓤 (⋆ 𝓤 H A (‵ (flft κ₀ q₀) ∷ ‵ OwnText ∷ [])) (Callee 𝓤 H A row.ended reading .pre (to-row h at))
+  requires-row h at is-h is-at due =
       qed W (‵ (flft κ₀ q₀) ∷ ‵ OwnText ∷ []) ∵ says ! due $ nothing ! $ own ! (numbers w64) (at .start) (LL.owed WT.the-type WT′.the-laws at _ is-at .1 .0) $ fjoin ! $ move ! (2 ∷ 0 ∷ []) $ fjoin ! $
       own ! (numbers w32) (h .columns) (LL.owed HT.the-type HT′.the-laws h _ is-h .0) $ fjoin ! $ nothing ! $ move ! (2 ∷ 0 ∷ []) $ join ! $ join ! $ done !
 
-  asks-meet : (h : Header) (r : Row) → Is HT.the-row h (header-val h ∷ []) → Is RT.the-row r (rows .val r ∷ []) → (1 ≤ h .columns) × (h .columns ≤ 8)
-      → ent 𝓤 (⋆ 𝓤 H A (‵ (flft κ₁ q₁) ∷ ‵ OwnConditions ∷ [])) (Asked 𝓤 H A met.ended meeting .pre (to-meet h r))
-  asks-meet h r is-h is-r narrow =
+  requires-meet : (h : Header) (r : Row) → Is HT.the-row h (header-val h ∷ []) → Is RT.the-row r (rows .val r ∷ []) → (1 ≤ h .columns) × (h .columns ≤ 8)
+      → ent 𝓤 (⋆ 𝓤 H A (‵ (flft κ₁ q₁) ∷ ‵ OwnConditions ∷ [])) (Callee 𝓤 H A met.ended meeting .pre (to-meet h r))
+  requires-meet h r is-h is-r narrow =
       qed W (‵ (flft κ₁ q₁) ∷ ‵ OwnConditions ∷ []) ∵ says ! narrow $ nothing ! $ move ! (2 ∷ 0 ∷ []) $ fjoin ! $ own ! arrays (stored r) (LL.owed RT.the-type RT′.the-laws r _ is-r .1 .0) $ fjoin ! $
       own ! headers h is-h $ fjoin ! $ nothing ! $ move ! (2 ∷ 0 ∷ []) $ join ! $ join ! $ done !
 
-  asks-step : (at : Walk) (r : Row) (m : Bool) → Is WT.the-row at (walks .val at ∷ []) → Is RT.the-row r (rows .val r ∷ []) → ent 𝓤 (⋆ 𝓤 H A (‵ (flft κ₂ q₂) ∷ ‵ OwnGiven ∷ [])) (Asked 𝓤 H A stp.ended stepping .pre (to-step at r m))
-  asks-step at r m is-at is-r =
+  requires-step : (at : CheckScan) (r : Row) (m : Bool) → Is WT.the-row at (walks .val at ∷ []) → Is RT.the-row r (rows .val r ∷ []) → ent 𝓤 (⋆ 𝓤 H A (‵ (flft κ₂ q₂) ∷ ‵ OwnGiven ∷ [])) (Callee 𝓤 H A stp.ended stepping .pre (to-step at r m))
+  requires-step at r m is-at is-r =
       qed W (‵ (flft κ₂ q₂) ∷ ‵ OwnGiven ∷ []) ∵ nothing ! $ owned ! bool (Is bool) (bool-makes 𝓤 H A W) m _ refl $ fjoin ! $ own ! rows r is-r $ fjoin ! $ own ! walks at is-at $ fjoin ! $ move ! (2 ∷ 0 ∷ []) $ fjoin ! $
       nothing ! $ move ! (2 ∷ 0 ∷ []) $ join ! $ join ! $ frame ! $ done !
 
-  asks-close : (at : Walk) → Is WT.the-row at (walks .val at ∷ []) → ent 𝓤 (⋆ 𝓤 H A (‵ (flft κ₂ q₂) ∷ ‵ OwnGiven ∷ [])) (Asked 𝓤 H A cls.ended closing .pre (to-close at))
-  asks-close at is-at = qed W (‵ (flft κ₂ q₂) ∷ ‵ OwnGiven ∷ []) ∵ nothing ! $ move ! (2 ∷ 0 ∷ []) $ fjoin ! $ own ! walks at is-at $ fjoin ! $ nothing ! $ move ! (2 ∷ 0 ∷ []) $ join ! $ join ! $ frame ! $ done !
+  requires-close : (at : CheckScan) → Is WT.the-row at (walks .val at ∷ []) → ent 𝓤 (⋆ 𝓤 H A (‵ (flft κ₂ q₂) ∷ ‵ OwnGiven ∷ [])) (Callee 𝓤 H A cls.ended closing .pre (to-close at))
+  requires-close at is-at = qed W (‵ (flft κ₂ q₂) ∷ ‵ OwnGiven ∷ []) ∵ nothing ! $ move ! (2 ∷ 0 ∷ []) $ fjoin ! $ own ! walks at is-at $ fjoin ! $ nothing ! $ move ! (2 ∷ 0 ∷ []) $ join ! $ join ! $ frame ! $ done !
 
-  module _ (𝓣 : Tables 𝓤 H) (known-look : Cites 𝓤 H A lok.ended looking (𝓣 .C) #listing-parse·look-through) (known-head : Cites 𝓤 H A hdr.ended heading (𝓣 .C) #listing-check·header-of) (known-all : Cites 𝓤 H A all.ended passing (𝓣 .C) #query-loop·all-pass)
+  module _ (𝓣 : Tables 𝓤 H) (known-look : Cites 𝓤 H A lok.ended looking (𝓣 .C) #listing-parse·scan-text) (known-head : Cites 𝓤 H A hdr.ended heading (𝓣 .C) #listing-check·header-of) (known-all : Cites 𝓤 H A all-hold.ended passing (𝓣 .C) #query-loop·all-pass)
       (known-begin : Cites 𝓤 H A beg.ended beginning (𝓣 .C) #listing-check·begin) (known-row : Cites 𝓤 H A row.ended reading (𝓣 .C) #listing-check·row-at) (known-meet : Cites 𝓤 H A met.ended meeting (𝓣 .C) #listing-check·meets-all)
       (known-step : Cites 𝓤 H A stp.ended stepping (𝓣 .C) #listing-check·step) (known-close : Cites 𝓤 H A cls.ended closing (𝓣 .C) #listing-check·close) (l₀ l₁ l₂ l₃ l₄ l₅ l₆ l₇ l₈ l₉ l₁₀ l₁₁ : ℕ) where
     abbrev E : Env 𝓤 H
@@ -212,11 +212,11 @@ module _ {M : Type 1} (𝓤 : URA M) (H : Heap 𝓤) (A : Atoms 𝓤) (W : Given
       knows = allPass Known h (now g) (now c)
 
       -- the loop's state: the scan, and what is known of it
-      abbrev Held : Walk → Type 0
+      abbrev Held : CheckScan → Type 0
       Held at = Underway (h .columns) (now x) (now c) (now g) at × Is WT.the-row at (walks .val at ∷ [])
 
       abbrev State : Type 0
-      State = (at : Walk) × Held at
+      State = (at : CheckScan) × Held at
 
       abbrev left : State → ℕ
       left t = t .0 .end - t .0 .start
@@ -231,31 +231,31 @@ module _ {M : Type 1} (𝓤 : URA M) (H : Heap 𝓤) (A : Atoms 𝓤) (W : Given
       abbrev Turned : State → Kit.Post 𝓤 H
       Turned t = anyQ (afterTurn 𝓤 H (Below 𝓤 H A Nearer I t) (afterBlock 𝓤 H (afterSeq 𝓤 H (Wp 𝓤 H (𝓣 .C) (𝓣 .Λ) E mir.t-7 (atReturn 𝓤 H E Post)) (atReturn 𝓤 H E Post))))
 
-      more : (at : Walk) (k : Held at) → at .start < at .end → Sq W (I (at, k)) (runs (𝓣 .C) (𝓣 .Λ) E mir.turn-1 (Turned (at, k)))
+      more : (at : CheckScan) (k : Held at) → at .start < at .end → Sq W (I (at, k)) (runs (𝓣 .C) (𝓣 .Λ) E mir.turn-1 (Turned (at, k)))
       unfolding afterTurn
       more at k l =
           assigns ! (bin ! (load ! (from ! (fld ! refl (stop !))) (look-in ! 14 (sub ! 1 refl (whole !)))) (load ! (from ! (fld ! refl (stop !))) (look-in ! 14 (sub ! 2 refl (whole !)))) tt) (from ! (stop !)) (init ! 6 refl (tt, tt)) $
           rewrite ! 6 (λ (t : Bool). ‵ (fat fullShare tyBool l₁₁ 0 (vbool t))) (lt-ltb (at .start) (at .end) l) refl $ goes-on ! (load ! (from ! (stop !)) (look ! 6 refl)) $
-          move ! (3 ∷ []) $ twice ! (named 0) κ₀ u8 x $ move ! (2 ∷ 0 ∷ []) $ group ! 2 $ use1 W (raw (Asked 𝓤 H A row.ended reading .pre (to-row h at))) (asks-row h at is-h (k .1) (k .0 .due l)) $
+          move ! (3 ∷ []) $ twice ! (named 0) κ₀ u8 x $ move ! (2 ∷ 0 ∷ []) $ group ! 2 $ use1 W (raw (Callee 𝓤 H A row.ended reading .pre (to-row h at))) (requires-row h at is-h (k .1) (k .0 .due l)) $
           calls row.ended reading (to-row h at) (λ r ws. RowRead (h .columns) (now x) (at .start) r) (λ r ws. id⊢ 𝓤 _) ! (fmOf 𝓤 H (W .laws) 𝓣) known-row
           (and-then ! (load ! (from ! (fld ! refl (stop !))) (look-in ! 18 (sub ! 0 refl (whole !)))) (arg ! 26 refl (and-then ! (load ! (from ! (fld ! refl (stop !))) (look-in ! 14 (sub ! 1 refl (whole !)))) (no-more !)))) (λ w r ws read.
           move ! (2 ∷ []) $ drop ! $ move ! (1 ∷ []) $ value-lands ! rows r w (λ is-r. split ! $ move ! (1 ∷ []) $ drop ! $ move ! (0 ∷ 2 ∷ 3 ∷ 1 ∷ []) $ land ! (from ! (stop !)) (init ! 12 refl (typed W rows r is-r .0)) $
-          move ! (4 ∷ []) $ twice ! (named 1) κ₁ CT.the-row c $ move ! (3 ∷ 0 ∷ []) $ group ! 2 $ use1 W (raw (Asked 𝓤 H A met.ended meeting .pre (to-meet h r))) (asks-meet h r is-h is-r (k .0 .due l .narrow)) $
+          move ! (4 ∷ []) $ twice ! (named 1) κ₁ CT.the-row c $ move ! (3 ∷ 0 ∷ []) $ group ! 2 $ use1 W (raw (Callee 𝓤 H A met.ended meeting .pre (to-meet h r))) (requires-meet h r is-h is-r (k .0 .due l .narrow)) $
           calls met.ended meeting (to-meet h r) (λ m ws. m ≡ meets (take (h .columns) (stored r)) (now c)) (λ m ws. id⊢ 𝓤 _) ! (fmOf 𝓤 H (W .laws) 𝓣) known-meet
           (arg ! 18 refl (and-then ! (load ! (from ! (fld ! refl (stop !))) (look-in ! 12 (sub ! 1 refl (whole !)))) (arg ! 24 refl (no-more !)))) (λ w₂ m ws₂ e.
           move ! (2 ∷ []) $ drop ! $ move ! (1 ∷ []) $ bool-lands ! m w₂ refl $ split ! $ move ! (1 ∷ []) $ drop ! $ move ! (2 ∷ 0 ∷ 3 ∷ 4 ∷ []) $ land ! (from ! (stop !)) (init ! 10 refl (tt, tt)) $
-          move ! (5 ∷ []) $ twice ! (named 2) κ₂ u32 g $ move ! (4 ∷ 0 ∷ []) $ group ! 2 $ use1 W (raw (Asked 𝓤 H A stp.ended stepping .pre (to-step at r m))) (asks-step at r m (k .1) is-r) $
+          move ! (5 ∷ []) $ twice ! (named 2) κ₂ u32 g $ move ! (4 ∷ 0 ∷ []) $ group ! 2 $ use1 W (raw (Callee 𝓤 H A stp.ended stepping .pre (to-step at r m))) (requires-step at r m (k .1) is-r) $
           calls-last stp.ended stepping (to-step at r m) (λ at′ ws. Stepped (now g) at r m at′) (λ at′ ws. id⊢ 𝓤 _) ! (fmOf 𝓤 H (W .laws) 𝓣) known-step (arg ! 22 refl (arg ! 14 refl (arg ! 12 refl (arg ! 10 refl (no-more !))))) (λ w₃ at′ ws₃ stepped.
           move ! (2 ∷ []) $ drop ! $ move ! (1 ∷ []) $ value-settles ! walks at′ w₃ (λ is-at′. split ! $ move ! (1 ∷ []) $ drop ! $ move ! (2 ∷ 3 ∷ 0 ∷ 4 ∷ 5 ∷ []) $
           land-last ! (from ! (stop !)) (store ! 14 refl (typed W walks at′ is-at′ .0)) $ forget ! 6 refl $ forget ! 10 refl $ forget ! 12 refl $
           again ! Nearer I (at, k) (at′, (stepped .keeps (h .columns) (now x) (now c) (k .0) l read (e ∙ ap (λ (zs : List ℕ). meets (take (h .columns) zs) (now c)) (map-id (r .cells))), is-at′)) (stepped .nearer l (read .forward)))))))
 
-      ends : (at : Walk) (k : Held at) → at .end ≤ at .start → Sq W (I (at, k)) (runs (𝓣 .C) (𝓣 .Λ) E mir.turn-1 (Turned (at, k)))
+      ends : (at : CheckScan) (k : Held at) → at .end ≤ at .start → Sq W (I (at, k)) (runs (𝓣 .C) (𝓣 .Λ) E mir.turn-1 (Turned (at, k)))
       unfolding afterTurn
       ends at k l =
           assigns ! (bin ! (load ! (from ! (fld ! refl (stop !))) (look-in ! 14 (sub ! 1 refl (whole !)))) (load ! (from ! (fld ! refl (stop !))) (look-in ! 14 (sub ! 2 refl (whole !)))) tt) (from ! (stop !)) (init ! 6 refl (tt, tt)) $
           rewrite ! 6 (λ (t : Bool). ‵ (fat fullShare tyBool l₁₁ 0 (vbool t))) (le-ltb (at .start) (at .end) l) refl $ leaves-loop ! (load ! (from ! (stop !)) (look ! 6 refl)) $ exec ! (𝓣 .C) (𝓣 .Λ) E mir.t-7 (atRet E Post) $
-          move ! (5 ∷ []) $ twice ! (named 2) κ₂ u32 g $ move ! (4 ∷ 0 ∷ []) $ group ! 2 $ use1 W (raw (Asked 𝓤 H A cls.ended closing .pre (to-close at))) (asks-close at (k .1)) $
+          move ! (5 ∷ []) $ twice ! (named 2) κ₂ u32 g $ move ! (4 ∷ 0 ∷ []) $ group ! 2 $ use1 W (raw (Callee 𝓤 H A cls.ended closing .pre (to-close at))) (requires-close at (k .1)) $
           calls cls.ended closing (to-close at) (λ a ws. a ≡ closed at (now g)) (λ a ws. id⊢ 𝓤 _) ! (fmOf 𝓤 H (W .laws) 𝓣) known-close (arg ! 14 refl (arg ! 22 refl (no-more !))) (λ w a ws e.
           move ! (2 ∷ []) $ drop ! $ move ! (1 ∷ []) $ value-lands ! answers a w (λ is-a. split ! $ move ! (1 ∷ []) $ drop ! $ move ! (2 ∷ 3 ∷ 0 ∷ 4 ∷ 5 ∷ []) $ land ! (from ! (stop !)) (init ! 28 refl (typed W answers a is-a .0)) $
           returns ! (look ! 28 refl) $ forget ! 6 refl $ forget ! 14 refl $ forget ! 16 refl $ forget ! 18 refl $ forget ! 20 refl $ forget ! 22 refl $ forget ! 24 refl $ forget ! 26 refl $ forget ! 28 refl $
@@ -263,49 +263,49 @@ module _ {M : Type 1} (𝓤 : URA M) (H : Heap 𝓤) (A : Atoms 𝓤) (W : Given
           suffices ! _ (ends-at 𝓤 H A f.ended (stays (f.ended .signature .params) (f.ended .kept) params) clauses W y (answers .val a) a (tt, (tt, (tt, tt))) (tt, (tt, (tt, tt)))) $ says ! (subst (AnswersChecked (now x) (now c) (now g)) (sym e) (finish (k .0) l)) $
           nothing ! $ move ! (3 ∷ 0 ∷ []) $ join ! $ move ! (2 ∷ 0 ∷ []) $ join ! $ move ! (1 ∷ 0 ∷ []) $ join ! $ frame ! $ nothing ! $ move ! (3 ∷ 0 ∷ []) $ fjoin ! $ move ! (2 ∷ 0 ∷ []) $ fjoin ! $ move ! (1 ∷ 0 ∷ []) $ fjoin ! $ frame ! $ own ! answers a is-a $ done !))
 
-      turn : (at : Walk) (k : Held at) (t : Bool) → ltb (at .start) (at .end) ≡ t → Sq W (I (at, k)) (runs (𝓣 .C) (𝓣 .Λ) E mir.turn-1 (Turned (at, k)))
+      turn : (at : CheckScan) (k : Held at) (t : Bool) → ltb (at .start) (at .end) ≡ t → Sq W (I (at, k)) (runs (𝓣 .C) (𝓣 .Λ) E mir.turn-1 (Turned (at, k)))
       turn at k true e = more at k (ltb-true (at .start) (at .end) e)
       turn at k false e = ends at k (ltb-false (at .start) (at .end) e)
 
-      loop : (at : Walk) → Held at → Sq W (Around (holds (surveys .val s)) (holds (header-val h)) (holds (vbool knows)) (holds (walks .val at))) (runs (𝓣 .C) (𝓣 .Λ) E mir.t-6 (atRet E Post))
+      loop : (at : CheckScan) → Held at → Sq W (Around (holds (surveys .val s)) (holds (header-val h)) (holds (vbool knows)) (holds (walks .val at))) (runs (𝓣 .C) (𝓣 .Λ) E mir.t-6 (atRet E Post))
       loop at k = first ! $ blocks ! $ loops ! 𝓣 Nearer (InvImage·wf left (Nat·lt-wfRel .wf)) I (λ t. turn (t .0) (t .1) (ltb (t .0 .start) (t .0 .end)) refl) (at, k)
 
       -- it is computed whether the conditions are known: `begin`
       opens : Sq W (Around (holds (surveys .val s)) (holds (header-val h)) (holds (vbool knows)) empty) (runs (𝓣 .C) (𝓣 .Λ) E mir.t-5 (atRet E Post))
       opens =
-          move ! (3 ∷ []) $ twice ! (named 0) κ₀ u8 x $ move ! (6 ∷ []) $ twice ! (named 2) κ₂ u32 g $ move ! (4 ∷ 6 ∷ 2 ∷ 0 ∷ []) $ group ! 4 $ use1 W (raw (Asked 𝓤 H A beg.ended beginning .pre (to-begin s knows))) (asks-begin s knows sv is-s) $
+          move ! (3 ∷ []) $ twice ! (named 0) κ₀ u8 x $ move ! (6 ∷ []) $ twice ! (named 2) κ₂ u32 g $ move ! (4 ∷ 6 ∷ 2 ∷ 0 ∷ []) $ group ! 4 $ use1 W (raw (Callee 𝓤 H A beg.ended beginning .pre (to-begin s knows))) (requires-begin s knows sv is-s) $
           -- [what `begin` requires; what given owns, text; κ₁'s token; what the conditions own; _11; …]
           calls beg.ended beginning (to-begin s knows) (λ at ws. Begun s knows (now x) (now g) at) (λ at ws. id⊢ 𝓤 _) ! (fmOf 𝓤 H (W .laws) 𝓣) known-begin (arg ! 19 refl (arg ! 15 refl (arg ! 25 refl (arg ! 21 refl (no-more !))))) (λ w at ws begun.
           move ! (2 ∷ []) $ drop ! $ move ! (1 ∷ []) $ value-lands ! walks at w (λ is-at. split ! $ move ! (1 ∷ []) $ split ! $ move ! (1 ∷ []) $ drop ! $ move ! (1 ∷ 4 ∷ 0 ∷ 3 ∷ 5 ∷ []) $
           land ! (from ! (stop !)) (init ! 14 refl (typed W walks at is-at .0)) $
-          loop at (subst (λ (k : ℕ). Underway k (now x) (now c) (now g) at) (sym same) (begun .begins (now c) (subst (λ (k : ℕ). knows ≡ every (known k) (now c)) same (all-known h (now g) (now c)))), is-at)))
+          loop at (subst (λ (k : ℕ). Underway k (now x) (now c) (now g) at) (sym same) (begun .begins (now c) (subst (λ (k : ℕ). knows ≡ all (known k) (now c)) same (all-known h (now g) (now c)))), is-at)))
 
       -- the head is made: `all_pass`
       tested : Sq W (Around (holds (surveys .val s)) (holds (header-val h)) empty empty) (runs (𝓣 .C) (𝓣 .Λ) E mir.t-3 (atRet E Post))
       tested =
           assigns ! (agg ! (and-then ! (lit ! tt) (no-more !))) (from ! (stop !)) (init ! 8 refl (typed W tests Known is-k .0)) $
-          move ! (4 ∷ []) $ twice ! (named 1) κ₁ CT.the-row c $ move ! (6 ∷ []) $ twice ! (named 2) κ₂ u32 g $ move ! (6 ∷ 5 ∷ 0 ∷ 2 ∷ []) $ group ! 4 $ use1 W (raw (Asked 𝓤 H A all.ended passing .pre (to-all h))) (asks-all h is-h) $
+          move ! (4 ∷ []) $ twice ! (named 1) κ₁ CT.the-row c $ move ! (6 ∷ []) $ twice ! (named 2) κ₂ u32 g $ move ! (6 ∷ 5 ∷ 0 ∷ 2 ∷ []) $ group ! 4 $ use1 W (raw (Callee 𝓤 H A all-hold.ended passing .pre (to-all h))) (requires-all h is-h) $
           -- [what `all_pass` requires; what given and the conditions own; κ₀'s token; what the text owns; _11; …]
-          calls all.ended passing (to-all h) (λ r ws. r ≡ knows) (λ r ws. id⊢ 𝓤 _) ! (fmOf 𝓤 H (W .laws) 𝓣) known-all (arg ! 7 refl (arg ! 17 refl (arg ! 21 refl (arg ! 23 refl (no-more !))))) (λ w r ws e.
+          calls all-hold.ended passing (to-all h) (λ r ws. r ≡ knows) (λ r ws. id⊢ 𝓤 _) ! (fmOf 𝓤 H (W .laws) 𝓣) known-all (arg ! 7 refl (arg ! 17 refl (arg ! 21 refl (arg ! 23 refl (no-more !))))) (λ w r ws e.
           move ! (2 ∷ []) $ drop ! $ move ! (1 ∷ []) $ bool-lands ! r w e $ split ! $ move ! (1 ∷ []) $ split ! $ move ! (1 ∷ []) $ drop ! $ move ! (4 ∷ 0 ∷ 1 ∷ 5 ∷ 3 ∷ []) $
           land ! (from ! (stop !)) (init ! 16 refl (tt, tt)) $ forget ! 8 refl $ opens)
 
     -- the text is scanned: `header_of`
     heads : (s : Survey) → Surveyed true (now x) s → Is VT.the-row s (surveys .val s ∷ []) → Sq W (Around (holds (surveys .val s)) empty empty empty) (runs (𝓣 .C) (𝓣 .Λ) E mir.t-2 (atRet E Post))
     heads s sv is-s =
-        own ! surveys s is-s $ use1 W (raw (Asked 𝓤 H A hdr.ended heading .pre (to-head s))) (asks-head s) $
+        own ! surveys s is-s $ use1 W (raw (Callee 𝓤 H A hdr.ended heading .pre (to-head s))) (requires-head s) $
         calls hdr.ended heading (to-head s) (λ h ws. h .columns ≡ s .columns) (λ h ws. id⊢ 𝓤 _) ! (fmOf 𝓤 H (W .laws) 𝓣) known-head (arg ! 21 refl (no-more !)) (λ w h ws same.
         move ! (2 ∷ 0 ∷ []) $ drop ! $ drop ! $ value-lands ! headers h w (λ is-h. land ! (from ! (stop !)) (init ! 18 refl (typed W headers h is-h .0)) $ tested s sv is-s h same is-h))
 
-    -- the body: `look_through`
+    -- the body: `scan_text`
     begins : Sq W (Around empty empty empty empty) (runs (𝓣 .C) (𝓣 .Λ) E mir.t-1 (atRet E Post))
     begins =
-        move ! (3 ∷ []) $ twice ! (named 0) κ₀ u8 x $ move ! (2 ∷ 0 ∷ []) $ group ! 2 $ use1 W (raw (Asked 𝓤 H A lok.ended looking .pre to-look)) asks-look $
+        move ! (3 ∷ []) $ twice ! (named 0) κ₀ u8 x $ move ! (2 ∷ 0 ∷ []) $ group ! 2 $ use1 W (raw (Callee 𝓤 H A lok.ended looking .pre to-look)) requires-look $
         calls lok.ended looking to-look (λ s ws. Surveyed true (now x) s) (λ s ws. id⊢ 𝓤 _) ! (fmOf 𝓤 H (W .laws) 𝓣) known-look (and-then ! (true-lit !) (arg ! 26 refl (no-more !))) (λ w s ws sv.
         move ! (2 ∷ []) $ drop ! $ move ! (1 ∷ []) $ value-lands ! surveys s w (λ is-s. split ! $ move ! (1 ∷ []) $ drop ! $ move ! (0 ∷ 2 ∷ 3 ∷ 1 ∷ []) $
         land ! (from ! (stop !)) (init ! 20 refl (typed W surveys s is-s .0)) $ heads s sv is-s))
 
-  walk : (𝓣 : Tables 𝓤 H) → Cites 𝓤 H A lok.ended looking (𝓣 .C) #listing-parse·look-through → Cites 𝓤 H A hdr.ended heading (𝓣 .C) #listing-check·header-of → Cites 𝓤 H A all.ended passing (𝓣 .C) #query-loop·all-pass
+  walk : (𝓣 : Tables 𝓤 H) → Cites 𝓤 H A lok.ended looking (𝓣 .C) #listing-parse·scan-text → Cites 𝓤 H A hdr.ended heading (𝓣 .C) #listing-check·header-of → Cites 𝓤 H A all-hold.ended passing (𝓣 .C) #query-loop·all-pass
       → Cites 𝓤 H A beg.ended beginning (𝓣 .C) #listing-check·begin → Cites 𝓤 H A row.ended reading (𝓣 .C) #listing-check·row-at → Cites 𝓤 H A met.ended meeting (𝓣 .C) #listing-check·meets-all
       → Cites 𝓤 H A stp.ended stepping (𝓣 .C) #listing-check·step → Cites 𝓤 H A cls.ended closing (𝓣 .C) #listing-check·close → Room u8 (length (now x)) → Room CT.the-row (length (now c)) → Room u32 (length (now g))
       → ent 𝓤 (onEntry 𝓤 H A f.signature (y .0 .0) (y .0 .1) (y .0 .3) (y .0 .4)) (WpFn 𝓤 H (𝓣 .C) (𝓣 .Λ) code.function (Walked f.ended params 𝓤 H A clauses .args y) Post)
@@ -322,7 +322,7 @@ unfolding code.routine tablesOf
 check-answers-spec 𝓤 H 𝓜 𝓖 𝓡 =
     walk-runs f.ended params 𝓤 H 𝓜 𝓖 𝓡 (f.clauses 𝓤 H (𝓖 .A) (𝓜 .mem) (𝓡 .run)) code.env #listing-check·check-answers code.function (code.unfolded 𝓤 H 𝓜 𝓡) (λ κs qs bounds a g are. via 𝓤 _ (fst∗ 𝓤 _ (emp 𝓤))
     (walk 𝓤 H (𝓖 .A) (givenOf 𝓤 H 𝓜 𝓖) (𝓜 .mem) (𝓡 .run) (κs .0) (κs .1 .0) (κs .1 .1 .0) (qs .0) (qs .1 .0) (qs .1 .1 .0) (a .0) (a .1 .0) (a .1 .1 .0) (tablesOf 𝓤 H 𝓜 (tables 𝓤 H 𝓜 𝓡 code.env))
-    (cited 𝓤 H _ 𝓜 𝓡 code.env #listing-parse·look-through lok-def.routine code.calls-listing-parse·look-through (lok-thm.met 𝓤 H 𝓜 𝓖 𝓡))
+    (cited 𝓤 H _ 𝓜 𝓡 code.env #listing-parse·scan-text lok-def.routine code.calls-listing-parse·scan-text (lok-thm.met 𝓤 H 𝓜 𝓖 𝓡))
     (cited 𝓤 H _ 𝓜 𝓡 code.env #listing-check·header-of hdr-def.routine code.calls-listing-check·header-of (hdr-thm.met 𝓤 H 𝓜 𝓖 𝓡))
     (cited 𝓤 H _ 𝓜 𝓡 code.env #query-loop·all-pass all-def.routine code.calls-query-loop·all-pass (all-thm.met 𝓤 H 𝓜 𝓖 𝓡))
     (cited 𝓤 H _ 𝓜 𝓡 code.env #listing-check·begin beg-def.routine code.calls-listing-check·begin (beg-thm.met 𝓤 H 𝓜 𝓖 𝓡))

@@ -2,7 +2,7 @@
 use lib.ListN.{drop-of-length-le}
 use lib.Seq.{drop-cons}
 use borrow.Author.Needs.{needs}
-use Rattle.listing_check.specs.inner.Walking.{firstApart, unlessWrong, closed}
+use Rattle.listing_check.specs.inner.Scanning.{firstApart, unlessWrong, closed}
 use Rattle.listing_check.proofs.close.Statement.{statement}
 use Rattle.listing_check.proofs.close.Tie as tie
 

@@ -17,18 +17,18 @@ use Rattle.constraints.proofs.Constraint as CT
 use Rattle.table.specs.declared.Header.{Header}
 use Rattle.table.proofs.Header as HT
 use Rattle.query_scan.specs.declared.Test.the-variants.{Row}
-use Rattle.query_scan.specs.inner.Sweeping.{allPass}
+use Rattle.query_scan.specs.inner.Scanning.{allPass}
 use Rattle.query_scan.proofs.Test as TT
 use Rattle.query_scan.proofs.Test.Laws as TT′
 use Rattle.query_loop.proofs.Lent.{fits, header-val, headers, slice-val, test-val, tests}
 use Rattle.query_loop.proofs.LentArray.{Kept, lends-front, front-back}
 use Rattle.query_loop.proofs.LentArray.{Lent as LentFront}
-use Rattle.query_loop.proofs.Walking.{AllPassed, Asked, Cites, Tokens, Walked, arg, bool-lands, by-value, calls, lent-slice, own, stays, twice, typed, walk-runs}
+use Rattle.query_loop.proofs.Walking.{AllPassed, Callee, Cites, Tokens, Walked, arg, bool-lands, by-value, calls, lent-slice, own, stays, twice, typed, walk-runs}
 use Rattle.query_loop.proofs.all_pass as all
 use Rattle.query_loop.proofs.all_pass.Symbol as all-def
 use Rattle.query_loop.proofs.all_pass.Symbol.{name as #query-loop·all-pass}
 use Rattle.query_loop.proofs.all_pass.Met as all-thm
-use Rattle.listing_check.proofs.Conditions.{row-lies, row-meets}
+use Rattle.listing_check.proofs.Conditions.{row-in-store, row-meets}
 use Rattle.listing_check.proofs.Values.{arrays, cells-val}
 use Rattle.listing_check.proofs.meets_all.Key.{name as #listing-check·meets-all}
 use Rattle.listing_check.proofs.meets_all as f
@@ -63,7 +63,7 @@ module _ {M : Type 1} (𝓤 : URA M) (H : Heap 𝓤) (A : Atoms 𝓤) (W : Given
   abbrev lent : ℕ → GName → RefT (List ℕ)
   lent l γ = record { ptr = (l, 0); name = γ; now = take 8 cells }
 
-  abbrev to : ℕ → ℕ → GName → Asked 𝓤 H A all.ended passing .Ghost
+  abbrev to : ℕ → ℕ → GName → Callee 𝓤 H A all.ended passing .Ghost
   to ν l γ = (((ν ∷ [], (κ, tt)), (fullShare, (q, tt)), tt, (Row 0, (h, (lent l γ, (x, tt)))), (test-val (Row 0) ∷ [], (header-val h ∷ [], (slice-val (lent l γ) ∷ [], (slice-val x ∷ [], tt))))), tt)
 
   is-t : Is TT.the-row (Row 0) (test-val (Row 0) ∷ [])
@@ -76,9 +76,9 @@ module _ {M : Type 1} (𝓤 : URA M) (H : Heap 𝓤) (A : Atoms 𝓤) (W : Given
     counted : length (take 8 cells) ≡ 8
     counted = length-take-le 8 cells (omega (arith, long))
 
-    asks : (ν l : ℕ) (γ : GName) → ent 𝓤 (⋆ 𝓤 H A (‵ (flft (ν ∷ []) fullShare) ∷ ‵ (flft κ q) ∷ ‵ (OwnCells ν l γ) ∷ ‵ OwnConditions ∷ [])) (Asked 𝓤 H A all.ended passing .pre (to ν l γ))
-    asks ν l γ =
-        qed W (‵ (flft (ν ∷ []) fullShare) ∷ ‵ (flft κ q) ∷ ‵ (OwnCells ν l γ) ∷ ‵ OwnConditions ∷ []) ∵ says ! (row-lies h cells long narrow) $ nothing ! $ move ! (4 ∷ 0 ∷ []) $ fjoin ! $ move ! (3 ∷ 0 ∷ []) $ fjoin ! $ own ! headers h is-h $ fjoin ! $
+    requires : (ν l : ℕ) (γ : GName) → ent 𝓤 (⋆ 𝓤 H A (‵ (flft (ν ∷ []) fullShare) ∷ ‵ (flft κ q) ∷ ‵ (OwnCells ν l γ) ∷ ‵ OwnConditions ∷ [])) (Callee 𝓤 H A all.ended passing .pre (to ν l γ))
+    requires ν l γ =
+        qed W (‵ (flft (ν ∷ []) fullShare) ∷ ‵ (flft κ q) ∷ ‵ (OwnCells ν l γ) ∷ ‵ OwnConditions ∷ []) ∵ says ! (row-in-store h cells long narrow) $ nothing ! $ move ! (4 ∷ 0 ∷ []) $ fjoin ! $ move ! (3 ∷ 0 ∷ []) $ fjoin ! $ own ! headers h is-h $ fjoin ! $
         own ! tests (Row 0) is-t $ fjoin ! $ nothing ! $ move ! (3 ∷ 0 ∷ []) $ join ! $ move ! (2 ∷ 0 ∷ []) $ join ! $ join ! $ done !
 
     abbrev met : Bool
@@ -99,7 +99,7 @@ module _ {M : Type 1} (𝓤 : URA M) (H : Heap 𝓤) (A : Atoms 𝓤) (W : Given
         lft-new ! tt (λ ν. own ! arrays cells is-c $
         move ! (8 ∷ []) $ use2 W (later (some (λ (γ : GName). ‵ (OwnCells ν l₄ γ) ⊛ ‵ (Kept u32 8 l₄ cells (ν ∷ []))))) (lends-front u32 8 l₄ cells 𝓤 H A W 8 (named 0) (ν ∷ []) (cells-val cells) tt (lit< tt, lit< tt)) $ await ! tt $ pick ! (λ γ. split ! $
         -- [the cells; what is kept; ν's token; _7; …; _0; κ's token; what the conditions own]
-        move ! (19 ∷ []) $ twice ! (named 0) κ CT.the-row x $ move ! (4 ∷ 20 ∷ 2 ∷ 0 ∷ []) $ group ! 4 $ use1 W (raw (Asked 𝓤 H A all.ended passing .pre (to ν l₄ γ))) (asks ν l₄ γ) $
+        move ! (19 ∷ []) $ twice ! (named 0) κ CT.the-row x $ move ! (4 ∷ 20 ∷ 2 ∷ 0 ∷ []) $ group ! 4 $ use1 W (raw (Callee 𝓤 H A all.ended passing .pre (to ν l₄ γ))) (requires ν l₄ γ) $
         -- [what `all_pass` requires; what the conditions own; what is kept; _7; …]
         calls all.ended passing (to ν l₄ γ) (λ r ws. r ≡ allPass (Row 0) h (take 8 cells) (now x)) (λ r ws. id⊢ 𝓤 _) ! (fmOf 𝓤 H (W .laws) 𝓣) known (arg ! 7 refl (arg ! 14 refl (arg ! 3 refl (arg ! 10 refl (no-more !))))) (λ w r ws e.
         move ! (2 ∷ []) $ drop ! $ move ! (1 ∷ []) $ bool-lands ! r w (e ∙ row-meets h cells long narrow (now x)) $ land ! (from ! (stop !)) (init ! 16 refl (tt, tt)) $

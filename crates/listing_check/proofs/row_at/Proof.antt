@@ -7,7 +7,7 @@ use Rattle.listing_check.proofs.row_at.Tie as tie
 returns : tie.Need-returns
 returns c =
     let due = c .before .before .before .before .before .before .before .before .before .pre in
-    row-read (due .before) (due .awaited) (c .before .before .before .before .before .before .line-at .ensures) _ (c .before .write-row .ensures)
+    row-read (due .before) (due .valid-rows) (c .before .before .before .before .before .before .line-at .ensures) _ (c .before .write-row .ensures)
 
 pub row-at-spec : {M : Type 1} → statement M
 row-at-spec =

@@ -3,7 +3,7 @@
 use mathlib.Core.Path.{_≡_, refl}
 use mathlib.Core.List.{[], _∷_, map}
 use mathlib.Core.Option.{some}
-use Rattle.lists.specs.Lists.{keep, every, has}
+use Rattle.lists.specs.Lists.{filter, all, elem}
 use Rattle.constraints.specs.declared.Constraint.{Constraint}
 use Rattle.constraints.specs.Constraints.{compares, met}
 use Rattle.listing_spec.specs.Listings.{Listing, rowNumbers}
@@ -17,5 +17,5 @@ condition = record { kind = 1; column = 0; value = 7 }
 
 pub example : map (verdictOf (some listing) (condition ∷ [])) ((2 ∷ 8 ∷ []) ∷ (2 ∷ 5 ∷ 8 ∷ []) ∷ (2 ∷ []) ∷ (1 ∷ 2 ∷ 8 ∷ []) ∷ (9 ∷ 2 ∷ 8 ∷ []) ∷ (2 ∷ 2 ∷ []) ∷ [])
     ≡ correct ∷ lowestWrong 5 ∷ lowestWrong 8 ∷ lowestWrong 1 ∷ outOfOrder 1 ∷ outOfOrder 1 ∷ []
-unfolding verdictOf verdictOn rightNumbers rowNumbers keep every met compares misplaced misplacedBehind wrongNumbers has lowest placed rightOrWrong
+unfolding verdictOf verdictOn rightNumbers rowNumbers filter all met compares misplaced misplacedBehind wrongNumbers elem lowest placed rightOrWrong
 example = refl

@@ -11,10 +11,10 @@ use native.Mathlib.Omega.{arith}
 use lib.Dec.{eqb}
 use lib.ListN.{length, getD}
 use borrow.Author.Tests.{lt-ltb, le-ltb}
-use Rattle.lists.specs.Lists.{keep, above, rising, has}
-use Rattle.lists.specs.Laws.Every.{or-right}
-use Rattle.lists.specs.Laws.Keep.{split}
-use Rattle.lists.specs.Laws.Rising.{above-head, above-tail, above-cons, has-here, has-there, has-append, has-keep, rising-at}
+use Rattle.lists.specs.Lists.{filter, above, rising, elem}
+use Rattle.lists.specs.Laws.All.{or-right}
+use Rattle.lists.specs.Laws.Filter.{split}
+use Rattle.lists.specs.Laws.Rising.{above-head, above-tail, above-cons, elem-here, elem-there, elem-append, elem-filter, rising-at}
 use Rattle.listing_check.specs.Answers.{misplacedBehind, misplaced, wrongNumbers, lowest}
 
 found : (o : Option ℕ) → (o ≡ none) ⊎ ((n : ℕ) × (o ≡ some n))
@@ -48,32 +48,32 @@ fold-low : (x : ℕ) (xs : List ℕ) → foldl min x xs ≤ x
 fold-low x [] = omega arith
 fold-low x (y ∷ ys) = omega (arith, fold-low (min x y) ys, min-le-left x y)
 
-fold-below : (m x : ℕ) (xs : List ℕ) → has m xs ≡ true → foldl min x xs ≤ m
-fold-below m x [] h = absurd (false≢true (unfold has in h))
+fold-below : (m x : ℕ) (xs : List ℕ) → elem m xs ≡ true → foldl min x xs ≤ m
+fold-below m x [] h = absurd (false≢true (unfold elem in h))
 fold-below m x (y ∷ ys) h =
     elim (ℕ-discrete m y) [
       | yes e ↦ omega (arith, fold-low (min x y) ys, min-le-right x y)
-      | no e ↦ fold-below m (min x y) ys (sym (has-there m y ys e) ∙ h)
+      | no e ↦ fold-below m (min x y) ys (sym (elem-there m y ys e) ∙ h)
     ]
 
-fold-least : (m x : ℕ) (xs : List ℕ) → has m (x ∷ xs) ≡ true → foldl min x xs ≤ m
+fold-least : (m x : ℕ) (xs : List ℕ) → elem m (x ∷ xs) ≡ true → foldl min x xs ≤ m
 fold-least m x xs h =
-    elim (ℕ-discrete m x) [ yes e ↦ omega (arith, fold-low x xs) | no e ↦ fold-below m x xs (sym (has-there m x xs e) ∙ h) ]
+    elim (ℕ-discrete m x) [ yes e ↦ omega (arith, fold-low x xs) | no e ↦ fold-below m x xs (sym (elem-there m x xs e) ∙ h) ]
 
-has-more : (n y : ℕ) (ys : List ℕ) → has n ys ≡ true → has n (y ∷ ys) ≡ true
-unfolding has
-has-more n y ys h = or-right (eqb n y) (has n ys) h
+has-more : (n y : ℕ) (ys : List ℕ) → elem n ys ≡ true → elem n (y ∷ ys) ≡ true
+unfolding elem
+has-more n y ys h = or-right (eqb n y) (elem n ys) h
 
-fold-there : (x : ℕ) (xs : List ℕ) → has (foldl min x xs) (x ∷ xs) ≡ true
-fold-there x [] = has-here x x [] refl
+fold-there : (x : ℕ) (xs : List ℕ) → elem (foldl min x xs) (x ∷ xs) ≡ true
+fold-there x [] = elem-here x x [] refl
 fold-there x (y ∷ ys) =
     elim (decLt y x) [
       | yes h ↦ spread (foldl min (min x y) ys) (min x y) (inr (min-eq-right (omega arith))) (fold-there (min x y) ys)
       | no h ↦ spread (foldl min (min x y) ys) (min x y) (inl (min-eq-left (omega arith))) (fold-there (min x y) ys)
     ]
   where
-    spread : (n m : ℕ) → (m ≡ x) ⊎ (m ≡ y) → has n (m ∷ ys) ≡ true → has n (x ∷ y ∷ ys) ≡ true
-    spread n m (inl e) h = elim (ℕ-discrete n x) [ yes p ↦ has-here n x (y ∷ ys) p | no p ↦ has-more n x (y ∷ ys) (has-more n y ys (sym (has-there n m ys (λ q. p (q ∙ e))) ∙ h)) ]
+    spread : (n m : ℕ) → (m ≡ x) ⊎ (m ≡ y) → elem n (m ∷ ys) ≡ true → elem n (x ∷ y ∷ ys) ≡ true
+    spread n m (inl e) h = elim (ℕ-discrete n x) [ yes p ↦ elem-here n x (y ∷ ys) p | no p ↦ has-more n x (y ∷ ys) (has-more n y ys (sym (elem-there n m ys (λ q. p (q ∙ e))) ∙ h)) ]
     spread n m (inr e) h = has-more n x (y ∷ ys) (rw e at h)
 
 lowest-none : (l : List ℕ) → lowest l ≡ none → l ≡ []
@@ -81,7 +81,7 @@ unfolding lowest
 lowest-none [] e = refl
 lowest-none (x ∷ xs) e = absurd (none-some (sym e))
 
-lowest-some : (l : List ℕ) {n : ℕ} → lowest l ≡ some n → (has n l ≡ true) × ((m : ℕ) → has m l ≡ true → n ≤ m)
+lowest-some : (l : List ℕ) {n : ℕ} → lowest l ≡ some n → (elem n l ≡ true) × ((m : ℕ) → elem m l ≡ true → n ≤ m)
 unfolding lowest
 lowest-some [] e = absurd (none-some e)
 lowest-some (x ∷ xs) {n} e = let is : foldl min x xs ≡ n = cc in (rw is at (fold-there x xs), λ m h. omega (arith, is, fold-least m x xs h))
@@ -89,41 +89,41 @@ lowest-some (x ∷ xs) {n} e = let is : foldl min x xs ≡ n = cc in (rw is at (
 -- ---- a number that only one of two lists has, and none below it
 
 pub record Apart (l m : List ℕ) (n : ℕ) : Type 0 where
-  pub differs : has n l ≡ not (has n m)
-  pub alike : (k : ℕ) → k < n → has k l ≡ has k m
+  pub differs : elem n l ≡ not (elem n m)
+  pub alike : (k : ℕ) → k < n → elem k l ≡ elem k m
 
 pub apart-one : {l m : List ℕ} {a b : ℕ} → Apart l m a → Apart l m b → a ≡ b
 apart-one {l} {m} {a} {b} p q = elim (decLt a b) [
-  | yes h ↦ absurd (differ (has a m) (sym (q .alike a h) ∙ p .differs))
+  | yes h ↦ absurd (differ (elem a m) (sym (q .alike a h) ∙ p .differs))
   | no h ↦ elim (decLt b a) [
-    | yes k ↦ absurd (differ (has b m) (sym (p .alike b k) ∙ q .differs))
+    | yes k ↦ absurd (differ (elem b m) (sym (p .alike b k) ∙ q .differs))
     | no k ↦ omega arith
   ]
 ]
 
 module _ (given right : List ℕ) where
-  has-wrong : (m : ℕ) → has m (wrongNumbers given right) ≡ ((has m given && not (has m right)) || (has m right && not (has m given)))
+  has-wrong : (m : ℕ) → elem m (wrongNumbers given right) ≡ ((elem m given && not (elem m right)) || (elem m right && not (elem m given)))
   unfolding wrongNumbers
-  has-wrong m = has-append m (keep (λ n. not (has n right)) given) (keep (λ n. not (has n given)) right) ∙ simp has-keep
+  has-wrong m = elem-append m (filter (λ n. not (elem n right)) given) (filter (λ n. not (elem n given)) right) ∙ simp elem-filter
 
-  pub wrong-none : lowest (wrongNumbers given right) ≡ none → (m : ℕ) → has m given ≡ has m right
-  wrong-none e m = both-alike (has m given) (has m right) (sym (has-wrong m) ∙ ap (has m) (lowest-none (wrongNumbers given right) e) ∙ unfold has in refl)
+  pub wrong-none : lowest (wrongNumbers given right) ≡ none → (m : ℕ) → elem m given ≡ elem m right
+  wrong-none e m = both-alike (elem m given) (elem m right) (sym (has-wrong m) ∙ ap (elem m) (lowest-none (wrongNumbers given right) e) ∙ unfold elem in refl)
 
-  none-below : {n : ℕ} → (has n (wrongNumbers given right) ≡ true) × ((m : ℕ) → has m (wrongNumbers given right) ≡ true → n ≤ m) → (k : ℕ) → k < n → has k (wrongNumbers given right) ≡ false
-  none-below s k h = elim (split (has k (wrongNumbers given right))) [ inl e ↦ absurd (omega (arith, s .1 k e)) | inr e ↦ e ]
+  none-below : {n : ℕ} → (elem n (wrongNumbers given right) ≡ true) × ((m : ℕ) → elem m (wrongNumbers given right) ≡ true → n ≤ m) → (k : ℕ) → k < n → elem k (wrongNumbers given right) ≡ false
+  none-below s k h = elim (split (elem k (wrongNumbers given right))) [ inl e ↦ absurd (omega (arith, s .1 k e)) | inr e ↦ e ]
 
   pub wrong-some : {n : ℕ} → lowest (wrongNumbers given right) ≡ some n → Apart given right n
   wrong-some {n} e =
       let s = lowest-some (wrongNumbers given right) e in
       record {
-        differs = one-only (has n given) (has n right) (sym (has-wrong n) ∙ s .0);
-        alike = λ k h. both-alike (has k given) (has k right) (sym (has-wrong k) ∙ none-below s k h);
+        differs = one-only (elem n given) (elem n right) (sym (has-wrong n) ∙ s .0);
+        alike = λ k h. both-alike (elem k given) (elem k right) (sym (has-wrong k) ∙ none-below s k h);
       }
 
 pub wrong-same : (l : List ℕ) → lowest (wrongNumbers l l) ≡ none
 wrong-same l = elim (found (lowest (wrongNumbers l l))) [
   | inl e ↦ e
-  | inr e ↦ absurd (differ (has (e .0) l) (wrong-some l l (e .1) .differs))
+  | inr e ↦ absurd (differ (elem (e .0) l) (wrong-some l l (e .1) .differs))
 ]
 
 -- ---- the first number not above the one before

@@ -7,8 +7,8 @@ use mathlib.Core.List.{List, [], _∷_}
 use mathlib.Core.Option.{Option, none, some}
 use native.Mathlib.Omega.{arith}
 use lib.ListN.{drop, getD}
-use Rattle.lists.specs.Lists.{keep, every, above, rising}
-use Rattle.lists.specs.Laws.Keep.{split}
+use Rattle.lists.specs.Lists.{filter, all, above, rising}
+use Rattle.lists.specs.Laws.Filter.{split}
 use Rattle.lists.specs.Laws.Rising.{above-head, above-tail, above-cons, above-weaker, above-rising, rising-ext}
 use Rattle.constraints.specs.declared.Constraint.{Constraint}
 use Rattle.constraints.specs.Constraints.{met}
@@ -20,50 +20,50 @@ use Rattle.listing_check.specs.Laws.Numbers.{Apart, wrong-none, wrong-so
 -- ---- the right numbers rise
 
 module _ (test : List ℕ → Bool) where
-  pub above-kept : (x : ℕ) (rows : List (List ℕ)) → above x (rowNumbers rows) ≡ true → above x (rowNumbers (keep test rows)) ≡ true
-  unfolding rowNumbers keep
+  pub above-kept : (x : ℕ) (rows : List (List ℕ)) → above x (rowNumbers rows) ≡ true → above x (rowNumbers (filter test rows)) ≡ true
+  unfolding rowNumbers filter
   above-kept x [] e = e
   above-kept x (row ∷ rows) e =
       let n = getD row 0 0 in
       let low = above-head x n (rowNumbers rows) e in
       let rest = above-tail x n (rowNumbers rows) e in
       elim (split (test row)) [
-        | inl t ↦ rw t (above-cons x n (rowNumbers (keep test rows)) low (above-kept n rows rest))
-        | inr t ↦ rw t (above-weaker x n (rowNumbers (keep test rows)) (omega (arith, low)) (above-kept n rows rest))
+        | inl t ↦ rw t (above-cons x n (rowNumbers (filter test rows)) low (above-kept n rows rest))
+        | inr t ↦ rw t (above-weaker x n (rowNumbers (filter test rows)) (omega (arith, low)) (above-kept n rows rest))
       ]
 
-  rising-kept : (rows : List (List ℕ)) → rising (rowNumbers rows) ≡ true → rising (rowNumbers (keep test rows)) ≡ true
-  unfolding rowNumbers keep rising
+  rising-kept : (rows : List (List ℕ)) → rising (rowNumbers rows) ≡ true → rising (rowNumbers (filter test rows)) ≡ true
+  unfolding rowNumbers filter rising
   rising-kept [] e = e
   rising-kept (row ∷ rows) e =
       let rest = above-kept (getD row 0 0) rows e in
-      elim (split (test row)) [ inl t ↦ rw t rest | inr t ↦ rw t (above-rising (getD row 0 0) (rowNumbers (keep test rows)) rest) ]
+      elim (split (test row)) [ inl t ↦ rw t rest | inr t ↦ rw t (above-rising (getD row 0 0) (rowNumbers (filter test rows)) rest) ]
 
 pub right-rising : (conditions : List Constraint) (l : Listing) → isListing true l ≡ true → rising (rightNumbers conditions l) ≡ true
 unfolding rightNumbers
 right-rising conditions l e =
-    rising-kept (λ ns. every (met (drop 1 ns)) conditions) (l .rows) (rising-from (rowNumbers (l .rows)) ∙ listing-parts true l e .rows-fit .ordered refl .0)
+    rising-kept (λ ns. all (met (drop 1 ns)) conditions) (l .rows) (rising-from (rowNumbers (l .rows)) ∙ listing-parts true l e .rows-fit .ordered refl .0)
 
 -- ---- the cases of a verdict
 
-said-right : (o w : Option ℕ) → placed o (rightOrWrong w) ≡ correct → (o ≡ none) × (w ≡ none)
+finding-right : (o w : Option ℕ) → placed o (rightOrWrong w) ≡ correct → (o ≡ none) × (w ≡ none)
 unfolding placed rightOrWrong
-said-right none none e = (refl, refl)
-said-right none (some m) e = absurd (let z : _≡_ {A = ℕ} 0 1 = cc in omega arith)
-said-right (some m) w e = absurd (let z : _≡_ {A = ℕ} 0 1 = cc in omega arith)
+finding-right none none e = (refl, refl)
+finding-right none (some m) e = absurd (let z : _≡_ {A = ℕ} 0 1 = cc in omega arith)
+finding-right (some m) w e = absurd (let z : _≡_ {A = ℕ} 0 1 = cc in omega arith)
 
 module _ (n : ℕ) where
-  said-wrong : (o w : Option ℕ) → placed o (rightOrWrong w) ≡ lowestWrong n → w ≡ some n
+  finding-wrong : (o w : Option ℕ) → placed o (rightOrWrong w) ≡ lowestWrong n → w ≡ some n
   unfolding placed rightOrWrong
-  said-wrong none none e = absurd (let z : _≡_ {A = ℕ} 0 1 = cc in omega arith)
-  said-wrong none (some m) e = cc
-  said-wrong (some m) w e = absurd (let z : _≡_ {A = ℕ} 0 1 = cc in omega arith)
+  finding-wrong none none e = absurd (let z : _≡_ {A = ℕ} 0 1 = cc in omega arith)
+  finding-wrong none (some m) e = cc
+  finding-wrong (some m) w e = absurd (let z : _≡_ {A = ℕ} 0 1 = cc in omega arith)
 
-  said-misplaced : (o w : Option ℕ) → placed o (rightOrWrong w) ≡ outOfOrder n → o ≡ some n
+  finding-misplaced : (o w : Option ℕ) → placed o (rightOrWrong w) ≡ outOfOrder n → o ≡ some n
   unfolding placed rightOrWrong
-  said-misplaced none none e = absurd (let z : _≡_ {A = ℕ} 0 1 = cc in omega arith)
-  said-misplaced none (some m) e = absurd (let z : _≡_ {A = ℕ} 0 1 = cc in omega arith)
-  said-misplaced (some m) w e = cc
+  finding-misplaced none none e = absurd (let z : _≡_ {A = ℕ} 0 1 = cc in omega arith)
+  finding-misplaced none (some m) e = absurd (let z : _≡_ {A = ℕ} 0 1 = cc in omega arith)
+  finding-misplaced (some m) w e = cc
 
 module _ (given right : List ℕ) where
   -- "It says yes exactly if those numbers are, rising and each once, the rows .. that meet every condition"
@@ -71,7 +71,7 @@ module _ (given right : List ℕ) where
   unfolding verdictOn
   right-exactly rises = (
     λ e.
-        let s = said-right (misplaced given) (lowest (wrongNumbers given right)) e in
+        let s = finding-right (misplaced given) (lowest (wrongNumbers given right)) e in
         rising-ext given right (misplaced-none given (s .0)) rises (wrong-none given right (s .1)),
     λ e. rw (e, misplaced-rising right rises, wrong-same right) (unfold placed rightOrWrong in refl),
   )
@@ -79,12 +79,12 @@ module _ (given right : List ℕ) where
   -- "the lowest row number wrongly present or absent"
   pub wrong-lowest : {number : ℕ} → verdictOn given right ≡ lowestWrong number → Apart given right number
   unfolding verdictOn
-  wrong-lowest {number} e = wrong-some given right (said-wrong number (misplaced given) (lowest (wrongNumbers given right)) e)
+  wrong-lowest {number} e = wrong-some given right (finding-wrong number (misplaced given) (lowest (wrongNumbers given right)) e)
 
   -- "the place, from 0, of the first number not above the one before"
   pub misplaced-first : {place : ℕ} → verdictOn given right ≡ outOfOrder place → FirstNotAbove given place
   unfolding verdictOn
-  misplaced-first {place} e = misplaced-some given (said-misplaced place (misplaced given) (lowest (wrongNumbers given right)) e)
+  misplaced-first {place} e = misplaced-some given (finding-misplaced place (misplaced given) (lowest (wrongNumbers given right)) e)
 
   pub first-misplaced : {place : ℕ} → FirstNotAbove given place → verdictOn given right ≡ outOfOrder place
   unfolding verdictOn

@@ -1,13 +1,13 @@
 -- `listing_parse::row_fits` meets its contract. Assumes nothing.
 use native.Mathlib.Omega.{arith}
-use Rattle.listing_spec.specs.Listings.{lead}
+use Rattle.listing_spec.specs.Listings.{prefixWidth}
 use Rattle.listing_parse.proofs.Rows.{dead-numbered, too-low, below-count, not-dead}
 use borrow.Author.Needs.{needs}
 use Rattle.listing_parse.proofs.row_fits.Statement.{statement}
 use Rattle.listing_parse.proofs.row_fits.Tie as tie
 
 shared-slice-read-if2 : tie.Need-shared-slice-read-if2
-unfolding lead
+unfolding prefixWidth
 shared-slice-read-if2 c = rw (c .before .if1 .taken) at (c .before .before .pre)
 
 returns : tie.Need-returns

@@ -6,20 +6,20 @@ use mathlib.Core.List.{List, [], _∷_}
 use native.Mathlib.Omega.{arith}
 use lib.Dec.{ltb}
 use lib.ListN.{length, take, drop, getD, length-drop, drop-of-length-le}
-use Rattle.lists.specs.Laws.Keep.{and-right}
+use Rattle.lists.specs.Laws.Filter.{and-right}
 use Rattle.levels_text.specs.Lines.{numbers}
-use Rattle.listing_spec.specs.Listings.{lead}
-use Rattle.listing_spec.specs.inner.Checking.{pieces, isNil, begins, rowFits, rowsGood, rowsIn}
+use Rattle.listing_spec.specs.Listings.{prefixWidth}
+use Rattle.listing_spec.specs.inner.Checking.{pieces, isNil, begins, rowFits, rowsGood, linesToRows}
 use Rattle.listing_spec.specs.Laws.Pieces.{joined-pieces, pieces-some}
 use Rattle.listing_spec.specs.Laws.Texts.{good-more, no-row, rows-more}
 use Rattle.listing_parse.specs.inner.Lines.{lineIn, Found, LineAt}
 
 -- the rows from an offset on
 unfoldable pub rowsFrom : List ℕ → ℕ → List (List ℕ)
-rowsFrom text at = rowsIn (pieces (drop at text))
+rowsFrom text at = linesToRows (pieces (drop at text))
 
 -- valid D lines from an offset on
-pub record Awaited (numbered : Bool) (columns : ℕ) (text : List ℕ) (at : ℕ) : Type 0 where
+pub record ValidRows (numbered : Bool) (columns : ℕ) (text : List ℕ) (at : ℕ) : Type 0 where
   pub count : ℕ
   pub least : ℕ
   pub left : ℕ
@@ -27,18 +27,18 @@ pub record Awaited (numbered : Bool) (columns : ℕ) (text : List ℕ) (at : ℕ
 
 module _ (numbered : Bool) (columns : ℕ) (text : List ℕ) (at : ℕ) where
   -- before the end of the text there is one more line
-  pub awaited-line : at < length text → Awaited numbered columns text at → {next : ℕ} {stored : List ℕ} → LineAt text at 68 (lead numbered + columns) next stored → next ≡ 0 → ⊥
-  awaited-line before w l zero =
+  pub valid-rows-line : at < length text → ValidRows numbered columns text at → {next : ℕ} {stored : List ℕ} → LineAt text at 68 (prefixWidth numbered + columns) next stored → next ≡ 0 → ⊥
+  valid-rows-line before w l zero =
       false≢true
       (sym (no-row numbered columns (w .count) (w .least) (w .left) (pieces (drop at text)) (l .wrong zero) (rw (joined-pieces (drop at text)) (omega (arith, length-drop at text))))
       ∙ w .good)
 
-  module _ {next : ℕ} {stored : List ℕ} (f : Found text at 68 (lead numbered + columns) next stored) where
-    pub awaited-next : Awaited numbered columns text at → Awaited numbered columns text next
-    awaited-next w =
+  module _ {next : ℕ} {stored : List ℕ} (f : Found text at 68 (prefixWidth numbered + columns) next stored) where
+    pub valid-rows-next : ValidRows numbered columns text at → ValidRows numbered columns text next
+    valid-rows-next w =
         let line = lineIn text at next in
         let rest = pieces (drop next text) in
-        let front = ltb 0 (w .left) && (begins 68 (lead numbered + columns) (line ∷ rest) && rowFits numbered (w .count) (w .least) (numbers line)) in
+        let front = ltb 0 (w .left) && (begins 68 (prefixWidth numbered + columns) (line ∷ rest) && rowFits numbered (w .count) (w .least) (numbers line)) in
         let behind = rowsGood numbered columns (w .count) (suc (getD (numbers line) 0 0)) (w .left - 1) rest in
         let good : rowsGood numbered columns (w .count) (w .least) (w .left) (line ∷ rest) ≡ true = rw (f .cut) at (w .good) in
         record {
@@ -48,11 +48,11 @@ module _ (numbered : Bool) (columns : ℕ) (text : List ℕ) (at : ℕ) where
           good = and-right front behind (sym (good-more numbered columns (w .count) line rest (w .least) (w .left) (pieces-some (drop next text))) ∙ good);
         }
 
-    pub awaited-row : rowsFrom text at ≡ take (lead numbered + columns) stored ∷ rowsFrom text next
+    pub valid-rows-row : rowsFrom text at ≡ take (prefixWidth numbered + columns) stored ∷ rowsFrom text next
     unfolding rowsFrom
-    awaited-row = rw (f .cut, f .read) (rows-more (lineIn text at next) (pieces (drop next text)) (pieces-some (drop next text)))
+    valid-rows-row = rw (f .cut, f .read) (rows-more (lineIn text at next) (pieces (drop next text)) (pieces-some (drop next text)))
 
 -- at the end of the text there are no more rows
 pub none-from : (text : List ℕ) (at : ℕ) → length text ≤ at → rowsFrom text at ≡ []
 unfolding rowsFrom
-none-from text at over = rw (drop-of-length-le text over) (unfold pieces rowsIn isNil in refl)
+none-from text at over = rw (drop-of-length-le text over) (unfold pieces linesToRows isNil in refl)

@@ -5,16 +5,16 @@ use mathlib.Core.Bool.{Bool, true, false, _&&_}
 use mathlib.Core.List.{List, _∷_}
 use lib.ListN.{length, take, drop, getD}
 use lib.Dec.{ltb}
-use Rattle.lists.specs.Lists.{has}
+use Rattle.lists.specs.Lists.{elem}
 use Rattle.levels_text.specs.Lines.{numbers}
-use Rattle.listing_spec.specs.Listings.{lead}
-use Rattle.listing_spec.specs.inner.Checking.{pieces, begins, rowsGood, rowsIn}
+use Rattle.listing_spec.specs.Listings.{prefixWidth}
+use Rattle.listing_spec.specs.inner.Checking.{pieces, begins, rowsGood, linesToRows}
 
 -- there is no newline from `start` up to `end`, and one at `end` unless the text ends there
 pub record LineEnd (text : List ℕ) (start end : ℕ) : Type 0 where
   pub forward : start ≤ end
   pub inside : end ≤ length text
-  pub clean : has 10 (take (end - start) (drop start text)) ≡ false
+  pub clean : elem 10 (take (end - start) (drop start text)) ≡ false
   pub ended : end < length text → getD text end 0 ≡ 10
 
 -- the line from `start` up to the newline before `next`
@@ -40,7 +40,7 @@ pub record RowFound (numbered : Bool) (columns count least : ℕ) (text : List �
   pub inside : next ≤ length text
   pub good : (left : ℕ) → rowsGood numbered columns count least left (pieces (drop start text))
       ≡ (ltb 0 left && rowsGood numbered columns count (suc (getD stored 0 0)) (left - 1) (pieces (drop next text)))
-  pub row : rowsIn (pieces (drop start text)) ≡ take (lead numbered + columns) stored ∷ rowsIn (pieces (drop next text))
+  pub row : linesToRows (pieces (drop start text)) ≡ take (prefixWidth numbered + columns) stored ∷ linesToRows (pieces (drop next text))
 
 pub record RowAt (numbered : Bool) (columns count least : ℕ) (text : List ℕ) (start next : ℕ) (stored : List ℕ) : Type 0 where
   pub wrong : next ≡ 0 → (left : ℕ) → rowsGood numbered columns count least left (pieces (drop start text)) ≡ false

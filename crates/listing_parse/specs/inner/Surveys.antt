@@ -5,14 +5,14 @@ use mathlib.Core.Bool.{Bool, true, false, cond}
 use mathlib.Core.List.{List, [], _∷_}
 use lib.ListN.{length, take, drop, getD}
 use Rattle.listing_spec.specs.Listings.{headWidth}
-use Rattle.listing_spec.specs.inner.Checking.{pieces, rowsGood, rowsIn, textGood, listingIn}
+use Rattle.listing_spec.specs.inner.Checking.{pieces, rowsGood, linesToRows, textGood, listingIn}
 use Rattle.listing_parse.specs.declared.Survey.{Survey}
 
 -- how many D lines there are from `start` on; 65,537 if one is wrong or there are too many
 pub record Counted (numbered : Bool) (columns count : ℕ) (text : List ℕ) (start rows : ℕ) : Type 0 where
   pub bounded : rows ≤ 65537
   pub wrong : rows ≡ 65537 → rowsGood numbered columns count 0 65536 (pieces (drop start text)) ≡ false
-  pub right : (rows ≡ 65537 → ⊥) → (rowsGood numbered columns count 0 65536 (pieces (drop start text)) ≡ true) × (rows ≡ length (rowsIn (pieces (drop start text))))
+  pub right : (rows ≡ 65537 → ⊥) → (rowsGood numbered columns count 0 65536 (pieces (drop start text)) ≡ true) × (rows ≡ length (linesToRows (pieces (drop start text))))
 
 -- a head line that passes its checks, with its numbers stored; the lines after it are the rows
 pub record HeadFound (numbered : Bool) (text : List ℕ) (next : ℕ) (stored : List ℕ) : Type 0 where
@@ -20,7 +20,7 @@ pub record HeadFound (numbered : Bool) (text : List ℕ) (next : ℕ) (stored : 
   pub narrow : (1 ≤ getD stored 0 0) × (getD stored 0 0 ≤ 8)
   pub good : textGood numbered text ≡ rowsGood numbered (getD stored 0 0) (cond numbered (getD stored 5 0) 0) 0 65536 (pieces (drop next text))
   pub head : listingIn text .head ≡ take (headWidth numbered) stored
-  pub rows : listingIn text .rows ≡ rowsIn (pieces (drop next text))
+  pub rows : listingIn text .rows ≡ linesToRows (pieces (drop next text))
 
 pub record HeadAt (numbered : Bool) (text : List ℕ) (next : ℕ) (stored : List ℕ) : Type 0 where
   pub wrong : next ≡ 0 → textGood numbered text ≡ false
@@ -39,7 +39,7 @@ pub record Listed (numbered : Bool) (text : List ℕ) (s : Survey) : Type 0 wher
   pub inside : s .start ≤ length text
   pub head : listingIn text .head ≡ headOf numbered s
   pub counted : s .rows ≡ length (listingIn text .rows)
-  pub rows-there : listingIn text .rows ≡ rowsIn (pieces (drop (s .start) text))
+  pub rows-there : listingIn text .rows ≡ linesToRows (pieces (drop (s .start) text))
   pub good : rowsGood numbered (s .columns) (s .count) 0 65536 (pieces (drop (s .start) text)) ≡ true
 
 pub record Surveyed (numbered : Bool) (text : List ℕ) (s : Survey) : Type 0 where

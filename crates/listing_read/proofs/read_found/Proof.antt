@@ -1,7 +1,7 @@
 -- `listing_read::read_found` meets its contract. Assumes nothing.
 use native.Mathlib.Omega.{arith}
 use Rattle.listing_spec.specs.Laws.Texts.{lead-few}
-use Rattle.listing_read.proofs.Reading.{awaited, cells-count, read-short, read-done, cells-few}
+use Rattle.listing_read.proofs.Reading.{valid-rows, cells-count, read-short, read-done, cells-few}
 use borrow.Author.Needs.{needs}
 use Rattle.listing_read.proofs.read_found.Statement.{statement}
 use Rattle.listing_read.proofs.read_found.Tie as tie
@@ -14,7 +14,7 @@ returns c = read-short _ _ _ (c .before .before .before .before .before .before 
 
 write-rows-requires : tie.Need-write-rows-requires
 write-rows-requires c κs = let l = c .before .before .before .before .before .before .before .before .pre in
-    (l .narrow .1, (l .inside, (search needs, (awaited _ _ _ l, omega (arith, cells-count _ _ _ l (c .before .before .before .row-width .ensures), c .before .before .if1 .left)))))
+    (l .narrow .1, (l .inside, (search needs, (valid-rows _ _ _ l, omega (arith, cells-count _ _ _ l (c .before .before .before .row-width .ensures), c .before .before .if1 .left)))))
 
 returns-2 : tie.Need-returns-2
 returns-2 c = read-done _ _ _ (c .before .before .before .before .before .before .before .before .before .before .before .before .pre) (c .before .before .before .before .before .before .before .row-width .ensures) _ (c .before .before .before .before .before .before .if1 .left) (c .before .before .before .write-rows .ensures)

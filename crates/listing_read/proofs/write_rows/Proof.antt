@@ -3,8 +3,8 @@ use Prim.Native.Nat.{_-_, _+_}
 use mathlib.Core.Path.{_≡_}
 use native.Mathlib.Omega.{arith}
 use lib.ListN.{length, length-take}
-use Rattle.listing_spec.specs.Listings.{lead}
-use Rattle.listing_parse.specs.Laws.Steps.{awaited-line}
+use Rattle.listing_spec.specs.Listings.{prefixWidth}
+use Rattle.listing_parse.specs.Laws.Steps.{valid-rows-line}
 use Rattle.listing_read.proofs.Writing.{Writing, writing-begin, writing-room, writing-more, writing-end}
 use borrow.Author.Needs.{needs}
 use Rattle.listing_read.proofs.write_rows.Statement.{statement}
@@ -12,7 +12,7 @@ use Rattle.listing_read.proofs.write_rows.Tie as tie
 
 abbrev Inv-loop : tie.InvT-loop
 Inv-loop numbered columns text start numbers₀ output₀ width at₀ used₀ numbers output at used =
-    Writing numbered columns text start numbers₀ output₀ numbers output at used × (width ≡ lead numbered + columns)
+    Writing numbered columns text start numbers₀ output₀ numbers output at used × (width ≡ prefixWidth numbered + columns)
 
 abbrev μ-loop : tie.MeasureT-loop
 μ-loop numbered columns text start numbers₀ output₀ width at₀ used₀ numbers output at used = length text - at
@@ -33,7 +33,7 @@ same-length-2 : tie.Need-same-length-2 Inv-loop μ-loop
 same-length-2 c = c .before .before .before .before .before .before .loop .inv .0 .same
 
 returns : tie.Need-returns Inv-loop μ-loop
-returns c = absurd (awaited-line _ _ _ _ (c .before .before .before .before .before .loop-test .taken) (c .before .before .before .before .before .before .loop .inv .0 .awaited) (rw (c .before .before .before .before .before .before .loop .inv .1) at (c .before .before .before .line-at .ensures)) (c .if1 .taken))
+returns c = absurd (valid-rows-line _ _ _ _ (c .before .before .before .before .before .loop-test .taken) (c .before .before .before .before .before .before .loop .inv .0 .valid-rows) (rw (c .before .before .before .before .before .before .loop .inv .1) at (c .before .before .before .line-at .ensures)) (c .if1 .taken))
 
 slice-reshare-prefix-write-row : tie.Need-slice-reshare-prefix-write-row Inv-loop μ-loop
 slice-reshare-prefix-write-row c = c .before .before .before .before .line-at .ensures .found (search needs) .wide

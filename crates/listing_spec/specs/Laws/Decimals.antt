@@ -8,9 +8,9 @@ use native.Mathlib.Omega.{arith}
 use lib.Dec.{leb, ltb, eqb}
 use lib.ListN.{length, getD}
 use borrow.Author.Tests.{ne-eqb, le-ltb, lt-ltb, leb-true}
-use Rattle.lists.specs.Lists.{every}
-use Rattle.lists.specs.Laws.Every.{every-head, every-tail}
-use Rattle.lists.specs.Laws.Keep.{and-left, and-right}
+use Rattle.lists.specs.Lists.{all}
+use Rattle.lists.specs.Laws.All.{all-head, all-tail}
+use Rattle.lists.specs.Laws.Filter.{and-left, and-right}
 use Rattle.levels_text.specs.Lines.{valueFrom, isDecimal}
 use Rattle.levels_text.specs.Written.{digitsIn, decimal}
 use Rattle.levels_text.specs.Laws.Lines.{digit}
@@ -33,14 +33,14 @@ digits-more places v d h some =
     let last : 48 + (10 * v + (d - 48)) % 10 ≡ d = omega arith in
     rw (le-ltb (10 * v + (d - 48)) 10 big, front, last)
 
-module _ (d : ℕ) (ds : List ℕ) (h : every digit (d ∷ ds) ≡ true) where
+module _ (d : ℕ) (ds : List ℕ) (h : all digit (d ∷ ds) ≡ true) where
   digit-first : digit d ≡ true
-  digit-first = every-head digit d ds h
+  digit-first = all-head digit d ds h
 
-  digits-rest : every digit ds ≡ true
-  digits-rest = every-tail digit d ds h
+  digits-rest : all digit ds ≡ true
+  digits-rest = all-tail digit d ds h
 
-digits-behind : (places v : ℕ) (ds : List ℕ) → every digit ds ≡ true → 0 < v → digitsIn (length ds + places) (valueFrom v ds) ≡ digitsIn places v ++ ds
+digits-behind : (places v : ℕ) (ds : List ℕ) → all digit ds ≡ true → 0 < v → digitsIn (length ds + places) (valueFrom v ds) ≡ digitsIn places v ++ ds
 unfolding valueFrom
 digits-behind places v [] h some = rw (zero-add places) (sym (append-nil (digitsIn places v)))
 digits-behind places v (d ∷ ds) h some =
@@ -51,7 +51,7 @@ digits-behind places v (d ∷ ds) h some =
     ∙ append-assoc (digitsIn places v) (d ∷ []) ds
 
 -- a number of this many digits is below that power of ten
-value-below : (places v : ℕ) (ds : List ℕ) → every digit ds ≡ true → v < 10 ^ places → valueFrom v ds < 10 ^ (length ds + places)
+value-below : (places v : ℕ) (ds : List ℕ) → all digit ds ≡ true → v < 10 ^ places → valueFrom v ds < 10 ^ (length ds + places)
 unfolding valueFrom
 value-below places v [] h below = rw (zero-add places) below
 value-below places v (d ∷ ds) h below =
@@ -81,22 +81,22 @@ one-digit places d h =
     rw (lt-ltb (d - 48) 10 small, back)
 
 pub record Decimal (field : List ℕ) : Type 0 where
-  pub digits : every digit field ≡ true
+  pub digits : all digit field ≡ true
   pub no-zero : (eqb (length field) 1 || not (eqb (getD field 0 0) 48)) ≡ true
   pub fits : valueFrom 0 field ≤ 4294967295
 
 pub decimal-parts : (field : List ℕ) → isDecimal field ≡ true → Decimal field
 unfolding isDecimal
 decimal-parts field e =
-    let all = every digit field in
+    let all-hold = all digit field in
     let some = ltb 0 (length field) in
-    let lead = eqb (length field) 1 || not (eqb (getD field 0 0) 48) in
+    let prefixWidth = eqb (length field) 1 || not (eqb (getD field 0 0) 48) in
     let fit = leb (valueFrom 0 field) 4294967295 in
-    let e₁ = and-left (all && some && lead) fit e in
+    let e₁ = and-left (all-hold && some && prefixWidth) fit e in
     record {
-      digits = and-left all some (and-left (all && some) lead e₁);
-      no-zero = and-right (all && some) lead e₁;
-      fits = leb-true (valueFrom 0 field) 4294967295 (and-right (all && some && lead) fit e);
+      digits = and-left all-hold some (and-left (all-hold && some) prefixWidth e₁);
+      no-zero = and-right (all-hold && some) prefixWidth e₁;
+      fits = leb-true (valueFrom 0 field) 4294967295 (and-right (all-hold && some && prefixWidth) fit e);
     }
 
 value-first : (d : ℕ) (ds : List ℕ) → valueFrom 0 (d ∷ ds) ≡ valueFrom (d - 48) ds
@@ -109,7 +109,7 @@ value-none v = refl
 
 pub decimal-back : (field : List ℕ) → isDecimal field ≡ true → decimal (valueFrom 0 field) ≡ field
 unfolding decimal
-decimal-back [] e = absurd (false≢true (unfold isDecimal every in e))
+decimal-back [] e = absurd (false≢true (unfold isDecimal all in e))
 decimal-back (d ∷ []) e = rw (value-first d [], value-none (d - 48)) (one-digit 9 d (digit-first d [] (decimal-parts (d ∷ []) e .digits)))
 decimal-back (d ∷ x ∷ ds) e =
     let p = decimal-parts (d ∷ x ∷ ds) e in

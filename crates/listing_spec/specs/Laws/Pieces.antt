@@ -6,8 +6,8 @@ use mathlib.Core.Bool.{false, cond, false≢true}
 use mathlib.Core.List.{List, [], _∷_, _++_}
 use lib.Dec.{eqb}
 use borrow.Author.Tests.{eqb-true, eqb-false, ne-eqb}
-use Rattle.lists.specs.Lists.{has}
-use Rattle.lists.specs.Laws.Keep.{split}
+use Rattle.lists.specs.Lists.{elem}
+use Rattle.lists.specs.Laws.Filter.{split}
 use Rattle.listing_spec.specs.inner.Checking.{longer, pieces, isNil}
 
 longer-nil : (byte : ℕ) (ps : List (List ℕ)) → isNil (longer byte ps) ≡ isNil ps
@@ -48,20 +48,20 @@ joined-pieces (byte ∷ bytes) =
 
 -- ---- a line and the bytes after it
 
-has-tail : (x y : ℕ) (f : List ℕ) → has x (y ∷ f) ≡ false → (eqb y x ≡ false) × (has x f ≡ false)
-unfolding has
+has-tail : (x y : ℕ) (f : List ℕ) → elem x (y ∷ f) ≡ false → (eqb y x ≡ false) × (elem x f ≡ false)
+unfolding elem
 has-tail x y f e =
     elim (split (eqb x y)) [
       | inl p ↦ absurd (false≢true (sym (rw p at e)))
       | inr p ↦ (ne-eqb y x (λ q. eqb-false x y p (sym q)), rw p at e)
     ]
 
-pub pieces-line : (line more : List ℕ) → has 10 line ≡ false → pieces (line ++ (10 ∷ more)) ≡ line ∷ pieces more
+pub pieces-line : (line more : List ℕ) → elem 10 line ≡ false → pieces (line ++ (10 ∷ more)) ≡ line ∷ pieces more
 unfolding pieces longer
 pieces-line [] more e = refl
 pieces-line (byte ∷ line) more e = let t = has-tail 10 byte line e in rw (t .0, pieces-line line more (t .1))
 
-pub pieces-last : (line : List ℕ) → has 10 line ≡ false → pieces line ≡ line ∷ []
+pub pieces-last : (line : List ℕ) → elem 10 line ≡ false → pieces line ≡ line ∷ []
 unfolding pieces longer
 pieces-last [] e = refl
 pieces-last (byte ∷ line) e = let t = has-tail 10 byte line e in rw (t .0, pieces-last line (t .1))

@@ -11,25 +11,25 @@ use lib.Dec.{leb, ltb}
 use lib.ListN.{length, take, drop, getD, length-append, List·getD-append}
 use lib.Seq.{getD-take, length-take-le, getD-at}
 use borrow.Author.Tests.{eq-eqb, le-leb, lt-ltb, le-ltb}
-use Rattle.lists.specs.Lists.{every}
-use Rattle.lists.specs.Laws.Every.{every-head, every-tail, every-cons, every-snoc}
-use Rattle.lists.specs.Laws.Keep.{split, every-getD, every-of}
+use Rattle.lists.specs.Lists.{all}
+use Rattle.lists.specs.Laws.All.{all-head, all-tail, all-cons, all-snoc}
+use Rattle.lists.specs.Laws.Filter.{split, all-getD, all-of}
 use Rattle.lists.specs.Laws.Search.{take-put}
-use Rattle.refusals.specs.Refusals.{rung, first, accepted, reply}
-use Rattle.listing_spec.specs.declared.MoveAnswer.{MoveAnswer}
-use Rattle.listing_spec.specs.declared.MoveAnswer.the-variants.{Written}
-use Rattle.listing_spec.specs.Listings.{Listing, headWidth, lead, listingText, areNumbers, isHead, isRow, isListing, Shows, shows, numberedFrom, toNumbered, fromNumbered, lacksRow, movedText, moveRefusal, moveSays, ListingMoved, Restored, RestoresText}
-use Rattle.listing_spec.specs.Laws.Texts.{RowsFit, Bounded, listing-parts, listing-of, head-wide, head-bounds, row-parts, row-of, fit-none, fit-more, fit-rest, shown-listing, shown-text, shows-determined}
-use Rattle.listing_spec.specs.Laws.Moves.{length-numberedFrom, lacks-none, to-from, from-to}
+use Rattle.refusals.specs.Refusals.{check, firstRefusal, accepted, reply}
+use Rattle.listing_spec.specs.declared.TextAnswer.{TextAnswer}
+use Rattle.listing_spec.specs.declared.TextAnswer.the-variants.{Written}
+use Rattle.listing_spec.specs.Listings.{Listing, headWidth, prefixWidth, listingText, areNumbers, isHead, isRow, isListing, ParsesAs, parses, numberedFrom, toNumbered, fromNumbered, lacksRow, convertedText, convertRefusal, textView, ListingConverted, Restored, RestoresText}
+use Rattle.listing_spec.specs.Laws.Texts.{RowsFit, Bounded, listing-parts, listing-of, head-wide, head-bounds, row-parts, row-of, fit-none, fit-more, fit-rest, shown-listing, shown-text, parses-determined}
+use Rattle.listing_spec.specs.Laws.Conversions.{length-numberedFrom, lacks-none, to-from, from-to}
 
 -- ---- to the new form
 
 numbers-more : (n : ℕ) (ns : List ℕ) → n ≤ 4294967295 → areNumbers ns ≡ true → areNumbers (n ∷ ns) ≡ true
-unfolding areNumbers every
+unfolding areNumbers all
 numbers-more n ns fits e = rw (le-leb n 4294967295 fits) e
 
 row-numbered : (columns n : ℕ) (cells : List ℕ) → isRow false columns cells ≡ true → isRow true columns (n ∷ cells) ≡ true
-unfolding lead
+unfolding prefixWidth
 row-numbered columns n cells e =
     let p = row-parts false columns 0 cells e in
     row-of true columns 0 (n ∷ cells) (omega (arith, p .0)) (p .1)
@@ -41,8 +41,8 @@ rows-numbered columns count n left least count′ [] r below few = fit-none true
 rows-numbered columns count n left least count′ (cells ∷ rows) r below few =
     let less : n < count = omega (arith, below) in
     fit-more true columns count n left (n ∷ cells) (numberedFrom (suc n) rows) (omega (arith, r .few))
-    (numbers-more n cells (omega arith) (every-head areNumbers cells rows (r .fit)))
-    (row-numbered columns n cells (every-head (isRow false columns) cells rows (r .wide)))
+    (numbers-more n cells (omega arith) (all-head areNumbers cells rows (r .fit)))
+    (row-numbered columns n cells (all-head (isRow false columns) cells rows (r .wide)))
     (λ t. (le-leb n n (omega arith), lt-ltb n count less))
     (rows-numbered columns count (suc n) (left - 1) (suc (getD cells 0 0)) count′ rows (fit-rest false columns count′ least left cells rows r) (omega (arith, below)) few)
 
@@ -72,7 +72,7 @@ module _ (l : Listing) (e : isListing false l ≡ true) where
   to-listing = listing-of true (toNumbered l) (unfold toNumbered in record { head-fits = fits; head-good = head-numbered; rows-fit = rows })
     where
       fits : areNumbers (l .head ++ (n ∷ [])) ≡ true
-      fits = unfold areNumbers in every-snoc (λ m. leb m 4294967295) (l .head) n (plain .head-fits) (le-leb n 4294967295 (omega (arith, plain .rows-fit .few)))
+      fits = unfold areNumbers in all-snoc (λ m. leb m 4294967295) (l .head) n (plain .head-fits) (le-leb n 4294967295 (omega (arith, plain .rows-fit .few)))
 
       rows : RowsFit true (getD (l .head ++ (n ∷ [])) 0 0) (getD (l .head ++ (n ∷ [])) 5 0) 0 65536 (numberedFrom 0 (l .rows))
       rows = rw (before 0 (omega arith), last) (rows-numbered (getD (l .head) 0 0) n 0 65536 0 (getD (l .head) 5 0) (l .rows) (plain .rows-fit) (omega arith) (plain .rows-fit .few))
@@ -85,20 +85,20 @@ module _ (l : Listing) (e : isListing false l ≡ true) where
 numbers-drop : (ns : List ℕ) → areNumbers ns ≡ true → areNumbers (drop 1 ns) ≡ true
 unfolding areNumbers
 numbers-drop [] e = e
-numbers-drop (n ∷ ns) e = every-tail (λ m. leb m 4294967295) n ns e
+numbers-drop (n ∷ ns) e = all-tail (λ m. leb m 4294967295) n ns e
 
 row-plain : (columns : ℕ) (ns : List ℕ) → isRow true columns ns ≡ true → isRow false columns (drop 1 ns) ≡ true
-unfolding lead
+unfolding prefixWidth
 row-plain columns [] e = absurd (let p = row-parts true columns 0 [] e in omega (arith, p .0))
 row-plain columns (n ∷ ns) e = let p = row-parts true columns 0 (n ∷ ns) e in row-of false columns 0 ns (omega (arith, p .0)) (p .1)
 
-rows-plain : (columns : ℕ) (rows : List (List ℕ)) → every areNumbers rows ≡ true → every (isRow true columns) rows ≡ true
-    → (every areNumbers (map (drop 1) rows) ≡ true) × (every (isRow false columns) (map (drop 1) rows) ≡ true) × (length (map (drop 1) rows) ≡ length rows)
-rows-plain columns [] a b = (unfold every in refl, unfold every in refl, refl)
+rows-plain : (columns : ℕ) (rows : List (List ℕ)) → all areNumbers rows ≡ true → all (isRow true columns) rows ≡ true
+    → (all areNumbers (map (drop 1) rows) ≡ true) × (all (isRow false columns) (map (drop 1) rows) ≡ true) × (length (map (drop 1) rows) ≡ length rows)
+rows-plain columns [] a b = (unfold all in refl, unfold all in refl, refl)
 rows-plain columns (ns ∷ rows) a b =
-    let ih = rows-plain columns rows (every-tail areNumbers ns rows a) (every-tail (isRow true columns) ns rows b) in (
-      every-cons areNumbers (drop 1 ns) (map (drop 1) rows) (numbers-drop ns (every-head areNumbers ns rows a)) (ih .0),
-      every-cons (isRow false columns) (drop 1 ns) (map (drop 1) rows) (row-plain columns ns (every-head (isRow true columns) ns rows b)) (ih .1),
+    let ih = rows-plain columns rows (all-tail areNumbers ns rows a) (all-tail (isRow true columns) ns rows b) in (
+      all-cons areNumbers (drop 1 ns) (map (drop 1) rows) (numbers-drop ns (all-head areNumbers ns rows a)) (ih .0),
+      all-cons (isRow false columns) (drop 1 ns) (map (drop 1) rows) (row-plain columns ns (all-head (isRow true columns) ns rows b)) (ih .1),
       ap suc (ih .2),
     )
 
@@ -122,8 +122,8 @@ module _ (l : Listing) (e : isListing true l ≡ true) where
   head-fits-plain : areNumbers (take 5 (l .head)) ≡ true
   unfolding areNumbers
   head-fits-plain =
-      every-of (λ m. leb m 4294967295) 0 (take 5 (l .head))
-      (λ i h. rw (kept i (omega (arith, long))) (every-getD (λ m. leb m 4294967295) (l .head) (numbered-parts .head-fits) i (omega (arith, long, six)) 0))
+      all-of (λ m. leb m 4294967295) 0 (take 5 (l .head))
+      (λ i h. rw (kept i (omega (arith, long))) (all-getD (λ m. leb m 4294967295) (l .head) (numbered-parts .head-fits) i (omega (arith, long, six)) 0))
 
   pub from-listing : isListing false (fromNumbered l) ≡ true
   from-listing = listing-of false (fromNumbered l) (unfold fromNumbered in record { head-fits = head-fits-plain; head-good = head-plain; rows-fit = rows })
@@ -149,21 +149,21 @@ pub accepted-same : {bytes m : ℕ} → accepted bytes ≡ accepted m → bytes 
 accepted-same e = cc
 
 -- an accepted conversion has written the text in the other form
-module _ {numbered : Bool} {text output output′ : List ℕ} {bytes : ℕ} (x : ListingMoved numbered text output (Written bytes) output′) where
-  accepted-move : moveRefusal numbered (x .listing) (length output) ≡ 0
-  unfolding moveSays
-  accepted-move = accepted-number (length (movedText numbered (x .listing))) (moveRefusal numbered (x .listing) (length output)) (x .answers)
+module _ {numbered : Bool} {text output output′ : List ℕ} {bytes : ℕ} (x : ListingConverted numbered text output (Written bytes) output′) where
+  accepted-conversion : convertRefusal numbered (x .listing) (length output) ≡ 0
+  unfolding textView
+  accepted-conversion = accepted-number (length (convertedText numbered (x .listing))) (convertRefusal numbered (x .listing) (length output)) (x .answers)
 
-  moved-bytes : bytes ≡ length (movedText numbered (x .listing))
-  unfolding moveSays reply
-  moved-bytes = accepted-same (rw accepted-move at (x .answers))
+  converted-bytes : bytes ≡ length (convertedText numbered (x .listing))
+  unfolding textView reply
+  converted-bytes = accepted-same (rw accepted-conversion at (x .answers))
 
-  pub moved-taken : take bytes output′ ≡ movedText numbered (x .listing)
-  moved-taken = rw (moved-bytes, x .written accepted-move) (take-put output (movedText numbered (x .listing)))
+  pub converted-taken : take bytes output′ ≡ convertedText numbered (x .listing)
+  converted-taken = rw (converted-bytes, x .written accepted-conversion) (take-put output (convertedText numbered (x .listing)))
 
-no-gap : (l : Listing) (room : ℕ) → moveRefusal true (some l) room ≡ 0 → lacksRow l ≡ false
-unfolding moveRefusal first
-no-gap l room given =
+none-missing : (l : Listing) (room : ℕ) → convertRefusal true (some l) room ≡ 0 → lacksRow l ≡ false
+unfolding convertRefusal firstRefusal
+none-missing l room given =
     elim (split (lacksRow l)) [
       | inl t ↦ absurd (let z : _≡_ {A = ℕ} 17 0 = rw t at given in omega (arith, z))
       | inr f ↦ f
@@ -171,47 +171,47 @@ no-gap l room given =
 
 -- the number returned by the conversion back: 2 if the output is shorter than the text, 0 otherwise
 abbrev short : List ℕ → ℕ → ℕ
-short text room = first (rung (ltb room (length text)) 2 ∷ [])
+short text room = firstRefusal (check (ltb room (length text)) 2 ∷ [])
 
 -- a listing whose text in the other form is this one; it is refused only if the output is too short
 record Back (numbered : Bool) (text : List ℕ) (m : Option Listing) : Type 0 where
-  pub same : movedText numbered m ≡ text
-  pub number : (room : ℕ) → moveRefusal numbered m room ≡ short text room
+  pub same : convertedText numbered m ≡ text
+  pub number : (room : ℕ) → convertRefusal numbered m room ≡ short text room
 
-back-of : (numbered : Bool) (text : List ℕ) (l : Listing) → (numbered && lacksRow l) ≡ false → movedText numbered (some l) ≡ text → Back numbered text (some l)
-back-of numbered text l full e = record { same = e; number = λ room. unfold moveRefusal in rw e (unfold first in rw full) }
+back-of : (numbered : Bool) (text : List ℕ) (l : Listing) → (numbered && lacksRow l) ≡ false → convertedText numbered (some l) ≡ text → Back numbered text (some l)
+back-of numbered text l full e = record { same = e; number = λ room. unfold convertRefusal in rw e (unfold firstRefusal in rw full) }
 
-come-back : (text : List ℕ) (k : Option Listing) (room : ℕ) → Shows false text k → moveRefusal false k room ≡ 0 → (moved : List ℕ) → moved ≡ movedText false k → (m : Option Listing) → Shows true moved m
+come-back : (text : List ℕ) (k : Option Listing) (room : ℕ) → ParsesAs false text k → convertRefusal false k room ≡ 0 → (moved : List ℕ) → moved ≡ convertedText false k → (m : Option Listing) → ParsesAs true moved m
     → Back true text m
-unfolding movedText
-come-back text none room s given moved e m sm = absurd (unfold moveRefusal in omega (arith, given))
+unfolding convertedText
+come-back text none room s given moved e m sm = absurd (unfold convertRefusal in omega (arith, given))
 come-back text (some l) room s given moved e m sm =
     let good = shown-listing s in
-    let there : Shows true moved (some (toNumbered l)) = shows (toNumbered l) (to-listing l good) e in
-    let n : m ≡ some (toNumbered l) = shows-determined true sm there in
+    let there : ParsesAs true moved (some (toNumbered l)) = parses (toNumbered l) (to-listing l good) e in
+    let n : m ≡ some (toNumbered l) = parses-determined true sm there in
     rw n (back-of true text (toNumbered l) (to-full l good) (ap (listingText false) (from-to l good) ∙ sym (shown-text s)))
 
-come-again : (text : List ℕ) (k : Option Listing) (room : ℕ) → Shows true text k → moveRefusal true k room ≡ 0 → (moved : List ℕ) → moved ≡ movedText true k → (m : Option Listing) → Shows false moved m
+come-again : (text : List ℕ) (k : Option Listing) (room : ℕ) → ParsesAs true text k → convertRefusal true k room ≡ 0 → (moved : List ℕ) → moved ≡ convertedText true k → (m : Option Listing) → ParsesAs false moved m
     → Back false text m
-unfolding movedText
-come-again text none room s given moved e m sm = absurd (unfold moveRefusal in omega (arith, given))
+unfolding convertedText
+come-again text none room s given moved e m sm = absurd (unfold convertRefusal in omega (arith, given))
 come-again text (some l) room s given moved e m sm =
     let good = shown-listing s in
-    let there : Shows false moved (some (fromNumbered l)) = shows (fromNumbered l) (from-listing l good) e in
-    let n : m ≡ some (fromNumbered l) = shows-determined false sm there in
-    rw n (back-of false text (fromNumbered l) refl (ap (listingText true) (to-from l good (no-gap l room given)) ∙ sym (shown-text s)))
+    let there : ParsesAs false moved (some (fromNumbered l)) = parses (fromNumbered l) (from-listing l good) e in
+    let n : m ≡ some (fromNumbered l) = parses-determined false sm there in
+    rw n (back-of false text (fromNumbered l) refl (ap (listingText true) (to-from l good (none-missing l room given)) ∙ sym (shown-text s)))
 
 module _ (text : List ℕ) (room : ℕ) where
   short-none : length text ≤ room → short text room ≡ 0
-  unfolding first
+  unfolding firstRefusal
   short-none long = rw (le-ltb room (length text) long)
 
   short-some : room < length text → 0 < short text room
-  unfolding first
+  unfolding firstRefusal
   short-some less = rw (lt-ltb room (length text) less) (omega arith)
 
 -- therefore the conversion back restores the text
-restored : {numbered : Bool} {text moved again again′ : List ℕ} {answer : MoveAnswer} (y : ListingMoved numbered moved again answer again′) → Back numbered text (y .listing)
+restored : {numbered : Bool} {text moved again again′ : List ℕ} {answer : TextAnswer} (y : ListingConverted numbered moved again answer again′) → Back numbered text (y .listing)
     → Restored text again answer again′
 restored {text = text} {again = again} y b =
     let n = b .number (length again) in
@@ -222,18 +222,18 @@ restored {text = text} {again = again} y b =
     }
 
 -- "coming back restores the text exactly"
-pub there-and-back : RestoresText false
-there-and-back text output output′ again again′ bytes answer x y =
-    restored y (come-back text (x .listing) (length output) (x .shown) (accepted-move x) _ (moved-taken x) (y .listing) (y .shown))
+pub roundtrip-from-old : RestoresText false
+roundtrip-from-old text output output′ again again′ bytes answer x y =
+    restored y (come-back text (x .listing) (length output) (x .shown) (accepted-conversion x) _ (converted-taken x) (y .listing) (y .shown))
 
 -- "New to old and again to new restores it too wherever it is accepted"
-pub back-and-there : RestoresText true
-back-and-there text output output′ again again′ bytes answer x y =
-    restored y (come-again text (x .listing) (length output) (x .shown) (accepted-move x) _ (moved-taken x) (y .listing) (y .shown))
+pub roundtrip-from-new : RestoresText true
+roundtrip-from-new text output output′ again again′ bytes answer x y =
+    restored y (come-again text (x .listing) (length output) (x .shown) (accepted-conversion x) _ (converted-taken x) (y .listing) (y .shown))
 
 -- an accepted conversion back has written the text
 pub restored-taken : {text again again′ : List ℕ} {bytes : ℕ} → Restored text again (Written bytes) again′ → take bytes again′ ≡ text
-unfolding moveSays reply
+unfolding textView reply
 restored-taken {text} {again} {again′} {bytes} r =
     let zero = accepted-number (length text) (short text (length again)) (r .answers) in
     let long : bytes ≡ length text = accepted-same (r .answers ∙ ap (λ (k : ℕ). reply k (length text)) zero) in

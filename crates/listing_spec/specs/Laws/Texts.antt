@@ -9,13 +9,13 @@ use native.Mathlib.Omega.{arith}
 use lib.Dec.{leb, ltb, eqb}
 use lib.ListN.{length, getD}
 use borrow.Author.Tests.{eqb-true, eq-eqb, ne-eqb, leb-true, le-leb, ltb-true, lt-ltb}
-use Rattle.lists.specs.Lists.{every, flat, above, rising}
-use Rattle.lists.specs.Laws.Every.{every-head, every-tail, every-cons}
-use Rattle.lists.specs.Laws.Keep.{split, and-left, and-right}
+use Rattle.lists.specs.Lists.{all, flatten, above, rising}
+use Rattle.lists.specs.Laws.All.{all-head, all-tail, all-cons}
+use Rattle.lists.specs.Laws.Filter.{split, and-left, and-right}
 use Rattle.levels_text.specs.Lines.{isLine, letter, numbers}
 use Rattle.levels_text.specs.Written.{textLine}
-use Rattle.listing_spec.specs.Listings.{Listing, headLetter, headWidth, lead, listingText, areNumbers, keepsBounds, isHead, isRow, rowNumbers, areNumbered, isListing, Shows, shows, shows-none}
-use Rattle.listing_spec.specs.inner.Checking.{pieces, isNil, begins, rowFits, rowsGood, rowsIn, piecesGood, listingOf, textGood, listingIn}
+use Rattle.listing_spec.specs.Listings.{Listing, headLetter, headWidth, prefixWidth, listingText, areNumbers, keepsBounds, isHead, isRow, rowNumbers, areNumbered, isListing, ParsesAs, parses, parses-none}
+use Rattle.listing_spec.specs.inner.Checking.{pieces, isNil, begins, rowFits, rowsGood, linesToRows, piecesGood, listingOf, textGood, listingIn}
 use Rattle.listing_spec.specs.Laws.Pieces.{joined, joined-pieces, pieces-some, pieces-line}
 use Rattle.listing_spec.specs.Laws.Lines.{line-written, line-numbers, lineOf, line-ended, read-numbers, read-letter, read-line, read-ended}
 
@@ -37,14 +37,14 @@ rising-from (x ∷ xs) = rw (le-leb 0 x (omega arith)) (above-from x xs)
 
 -- ---- the checks of a line
 
-record Begun (first width : ℕ) (line : List ℕ) : Type 0 where
+record LineMatches (first width : ℕ) (line : List ℕ) : Type 0 where
   pub is-line : isLine line ≡ true
   pub lettered : letter line ≡ first
   pub wide : length (numbers line) ≡ width
 
-begun : (first width : ℕ) (line : List ℕ) (rest : List (List ℕ)) → begins first width (line ∷ rest) ≡ true → Begun first width line
+line-matches : (first width : ℕ) (line : List ℕ) (rest : List (List ℕ)) → begins first width (line ∷ rest) ≡ true → LineMatches first width line
 unfolding begins
-begun first width line rest e =
+line-matches first width line rest e =
     let a = isLine line in
     let b = eqb (letter line) first in
     let d = eqb (length (numbers line)) width in
@@ -61,9 +61,9 @@ begins-more first width line rest e =
     let tests = isLine line && eqb (letter line) first && eqb (length (numbers line)) width in
     elim (split (isNil rest)) [ inl n ↦ absurd (false≢true (rw n at (and-left (not (isNil rest)) tests e))) | inr n ↦ n ]
 
-begun-text : {first width : ℕ} {line : List ℕ} → Begun first width line → line ++ (10 ∷ []) ≡ textLine first (numbers line)
+line-matches-text : {first width : ℕ} {line : List ℕ} → LineMatches first width line → line ++ (10 ∷ []) ≡ textLine first (numbers line)
 unfolding textLine
-begun-text {first} {width} {line} b =
+line-matches-text {first} {width} {line} b =
     ap (λ (l : List ℕ). l ++ (10 ∷ [])) (line-written line (b .is-line))
     ∙ ap (λ (x : ℕ). textLine x (numbers line)) (b .lettered)
 
@@ -74,8 +74,8 @@ line-cut first ns text fit comma end =
     ∙ ap pieces (append-assoc (lineOf first ns) (10 ∷ []) text)
     ∙ pieces-line (lineOf first ns) text (read-ended first ns comma fit end)
 
-pub lead-few : (numbered : Bool) → lead numbered ≤ 1
-unfolding lead
+pub lead-few : (numbered : Bool) → prefixWidth numbered ≤ 1
+unfolding prefixWidth
 lead-few true = omega arith
 lead-few false = omega arith
 
@@ -87,20 +87,20 @@ begins-written first ns rest comma fit few more =
     rw (more, read-line first ns comma fit few, read-letter first ns comma fit, read-numbers first ns comma fit, eq-eqb first first refl, eq-eqb (length ns) (length ns) refl)
 
 module _ (count least : ℕ) (ns : List ℕ) where
-  fits-of : (numbered : Bool) → not (eqb (getD ns (lead numbered) 0) 4294967295) ≡ true
+  fits-of : (numbered : Bool) → not (eqb (getD ns (prefixWidth numbered) 0) 4294967295) ≡ true
       → (numbered ≡ true → (leb least (getD ns 0 0) ≡ true) × (ltb (getD ns 0 0) count ≡ true)) → rowFits numbered count least ns ≡ true
   unfolding rowFits
   fits-of true live ordered = rw (live, ordered refl .0, ordered refl .1)
   fits-of false live ordered = rw live
 
-  fits-live : (numbered : Bool) → rowFits numbered count least ns ≡ true → not (eqb (getD ns (lead numbered) 0) 4294967295) ≡ true
+  fits-live : (numbered : Bool) → rowFits numbered count least ns ≡ true → not (eqb (getD ns (prefixWidth numbered) 0) 4294967295) ≡ true
   unfolding rowFits
-  fits-live numbered e = and-left (not (eqb (getD ns (lead numbered) 0) 4294967295)) (cond numbered (leb least (getD ns 0 0) && ltb (getD ns 0 0) count) true) e
+  fits-live numbered e = and-left (not (eqb (getD ns (prefixWidth numbered) 0) 4294967295)) (cond numbered (leb least (getD ns 0 0) && ltb (getD ns 0 0) count) true) e
 
   fits-ordered : (numbered : Bool) → rowFits numbered count least ns ≡ true → numbered ≡ true → (leb least (getD ns 0 0) ≡ true) × (ltb (getD ns 0 0) count ≡ true)
   unfolding rowFits
   fits-ordered true e t =
-      let o = and-right (not (eqb (getD ns (lead true) 0) 4294967295)) (leb least (getD ns 0 0) && ltb (getD ns 0 0) count) e in
+      let o = and-right (not (eqb (getD ns (prefixWidth true) 0) 4294967295)) (leb least (getD ns 0 0) && ltb (getD ns 0 0) count) e in
       (and-left (leb least (getD ns 0 0)) (ltb (getD ns 0 0) count) o, and-right (leb least (getD ns 0 0)) (ltb (getD ns 0 0) count) o)
   fits-ordered false e t = absurd (false≢true t)
 
@@ -108,17 +108,17 @@ module _ (count least : ℕ) (ns : List ℕ) where
 
 pub record RowsFit (numbered : Bool) (columns count least left : ℕ) (rows : List (List ℕ)) : Type 0 where
   pub few : length rows ≤ left
-  pub fit : every areNumbers rows ≡ true
-  pub wide : every (isRow numbered columns) rows ≡ true
-  pub ordered : numbered ≡ true → (risingFrom least (rowNumbers rows) ≡ true) × (every (λ n. ltb n count) (rowNumbers rows) ≡ true)
+  pub fit : all areNumbers rows ≡ true
+  pub wide : all (isRow numbered columns) rows ≡ true
+  pub ordered : numbered ≡ true → (risingFrom least (rowNumbers rows) ≡ true) × (all (λ n. ltb n count) (rowNumbers rows) ≡ true)
 
 module _ (line : List ℕ) (rest : List (List ℕ)) where
-  pub rows-last : isNil rest ≡ true → rowsIn (line ∷ rest) ≡ []
-  unfolding rowsIn
+  pub rows-last : isNil rest ≡ true → linesToRows (line ∷ rest) ≡ []
+  unfolding linesToRows
   rows-last n = rw n
 
-  pub rows-more : isNil rest ≡ false → rowsIn (line ∷ rest) ≡ numbers line ∷ rowsIn rest
-  unfolding rowsIn
+  pub rows-more : isNil rest ≡ false → linesToRows (line ∷ rest) ≡ numbers line ∷ linesToRows rest
+  unfolding linesToRows
   rows-more n = rw n
 
   joined-last : isNil rest ≡ true → joined (line ∷ rest) ≡ line
@@ -135,19 +135,19 @@ no-bytes (x ∷ line) e = absurd (omega (arith, e))
 
 module _ (numbered : Bool) (columns count : ℕ) where
   pub fit-none : (least left : ℕ) → RowsFit numbered columns count least left []
-  unfolding every risingFrom rowNumbers
+  unfolding all risingFrom rowNumbers
   fit-none least left = record { few = omega arith; fit = refl; wide = refl; ordered = λ t. (refl, refl) }
 
-  pub row-of : (ns : List ℕ) → length ns ≡ lead numbered + columns → not (eqb (getD ns (lead numbered) 0) 4294967295) ≡ true → isRow numbered columns ns ≡ true
+  pub row-of : (ns : List ℕ) → length ns ≡ prefixWidth numbered + columns → not (eqb (getD ns (prefixWidth numbered) 0) 4294967295) ≡ true → isRow numbered columns ns ≡ true
   unfolding isRow
-  row-of ns wide live = rw (eq-eqb (length ns) (lead numbered + columns) wide, live)
+  row-of ns wide live = rw (eq-eqb (length ns) (prefixWidth numbered + columns) wide, live)
 
-  pub row-parts : (ns : List ℕ) → isRow numbered columns ns ≡ true → (length ns ≡ lead numbered + columns) × (not (eqb (getD ns (lead numbered) 0) 4294967295) ≡ true)
+  pub row-parts : (ns : List ℕ) → isRow numbered columns ns ≡ true → (length ns ≡ prefixWidth numbered + columns) × (not (eqb (getD ns (prefixWidth numbered) 0) 4294967295) ≡ true)
   unfolding isRow
   row-parts ns e =
-      let a = eqb (length ns) (lead numbered + columns) in
-      let b = not (eqb (getD ns (lead numbered) 0) 4294967295) in
-      (eqb-true (length ns) (lead numbered + columns) (and-left a b e), and-right a b e)
+      let a = eqb (length ns) (prefixWidth numbered + columns) in
+      let b = not (eqb (getD ns (prefixWidth numbered) 0) 4294967295) in
+      (eqb-true (length ns) (prefixWidth numbered + columns) (and-left a b e), and-right a b e)
 
   pub fit-more : (least left : ℕ) (ns : List ℕ) (rows : List (List ℕ)) → 0 < left → areNumbers ns ≡ true → isRow numbered columns ns ≡ true
       → (numbered ≡ true → (leb least (getD ns 0 0) ≡ true) × (ltb (getD ns 0 0) count ≡ true)) → RowsFit numbered columns count (suc (getD ns 0 0)) (left - 1) rows
@@ -155,23 +155,23 @@ module _ (numbered : Bool) (columns count : ℕ) where
   unfolding risingFrom rowNumbers
   fit-more least left ns rows room fit row ordered r = record {
     few = omega (arith, r .few);
-    fit = every-cons areNumbers ns rows fit (r .fit);
-    wide = every-cons (isRow numbered columns) ns rows row (r .wide);
-    ordered = λ t. (rw (ordered t .0) (r .ordered t .0), every-cons (λ n. ltb n count) (getD ns 0 0) (rowNumbers rows) (ordered t .1) (r .ordered t .1));
+    fit = all-cons areNumbers ns rows fit (r .fit);
+    wide = all-cons (isRow numbered columns) ns rows row (r .wide);
+    ordered = λ t. (rw (ordered t .0) (r .ordered t .0), all-cons (λ n. ltb n count) (getD ns 0 0) (rowNumbers rows) (ordered t .1) (r .ordered t .1));
   }
 
   module _ (least left : ℕ) (ns : List ℕ) (rows : List (List ℕ)) (r : RowsFit numbered columns count least left (ns ∷ rows)) where
     fit-first : numbered ≡ true → (leb least (getD ns 0 0) ≡ true) × (ltb (getD ns 0 0) count ≡ true)
     unfolding risingFrom rowNumbers
-    fit-first t = (and-left (leb least (getD ns 0 0)) (risingFrom (suc (getD ns 0 0)) (rowNumbers rows)) (r .ordered t .0), every-head (λ n. ltb n count) (getD ns 0 0) (rowNumbers rows) (r .ordered t .1))
+    fit-first t = (and-left (leb least (getD ns 0 0)) (risingFrom (suc (getD ns 0 0)) (rowNumbers rows)) (r .ordered t .0), all-head (λ n. ltb n count) (getD ns 0 0) (rowNumbers rows) (r .ordered t .1))
 
     pub fit-rest : RowsFit numbered columns count (suc (getD ns 0 0)) (left - 1) rows
     unfolding risingFrom rowNumbers
     fit-rest = record {
       few = omega (arith, r .few);
-      fit = every-tail areNumbers ns rows (r .fit);
-      wide = every-tail (isRow numbered columns) ns rows (r .wide);
-      ordered = λ t. (and-right (leb least (getD ns 0 0)) (risingFrom (suc (getD ns 0 0)) (rowNumbers rows)) (r .ordered t .0), every-tail (λ n. ltb n count) (getD ns 0 0) (rowNumbers rows) (r .ordered t .1));
+      fit = all-tail areNumbers ns rows (r .fit);
+      wide = all-tail (isRow numbered columns) ns rows (r .wide);
+      ordered = λ t. (and-right (leb least (getD ns 0 0)) (risingFrom (suc (getD ns 0 0)) (rowNumbers rows)) (r .ordered t .0), all-tail (λ n. ltb n count) (getD ns 0 0) (rowNumbers rows) (r .ordered t .1));
     }
 
   -- the checks, line by line
@@ -182,12 +182,12 @@ module _ (numbered : Bool) (columns count : ℕ) where
 
     pub good-more : (least left : ℕ) → isNil rest ≡ false
         → rowsGood numbered columns count least left (line ∷ rest)
-        ≡ (ltb 0 left && (begins 68 (lead numbered + columns) (line ∷ rest) && rowFits numbered count least (numbers line)) && rowsGood numbered columns count (suc (getD (numbers line) 0 0)) (left - 1) rest)
+        ≡ (ltb 0 left && (begins 68 (prefixWidth numbered + columns) (line ∷ rest) && rowFits numbered count least (numbers line)) && rowsGood numbered columns count (suc (getD (numbers line) 0 0)) (left - 1) rest)
     unfolding rowsGood
     good-more least left n = rw n
 
   -- neither a D line nor the end of the text
-  pub no-row : (least left : ℕ) (ps : List (List ℕ)) → begins 68 (lead numbered + columns) ps ≡ false → 0 < length (joined ps) → rowsGood numbered columns count least left ps ≡ false
+  pub no-row : (least left : ℕ) (ps : List (List ℕ)) → begins 68 (prefixWidth numbered + columns) ps ≡ false → 0 < length (joined ps) → rowsGood numbered columns count least left ps ≡ false
   no-row least left [] e long = unfold rowsGood in refl
   no-row least left (line ∷ rest) e long =
       elim (split (isNil rest)) [
@@ -197,49 +197,49 @@ module _ (numbered : Bool) (columns count : ℕ) where
 
   -- lines that pass their checks are the text of such rows
   pub rows-shown : (least left : ℕ) (ps : List (List ℕ)) → rowsGood numbered columns count least left ps ≡ true
-      → (joined ps ≡ flat (map (textLine 68) (rowsIn ps))) × RowsFit numbered columns count least left (rowsIn ps)
+      → (joined ps ≡ flatten (map (textLine 68) (linesToRows ps))) × RowsFit numbered columns count least left (linesToRows ps)
   rows-shown least left [] e = absurd (false≢true (unfold rowsGood in e))
   rows-shown least left (line ∷ rest) e =
       elim (split (isNil rest)) [
         | inl n ↦
             let none : line ≡ [] = no-bytes line (eqb-true (length line) 0 (sym (good-last line rest least left n) ∙ e)) in
-            rw (rows-last line rest n, joined-last line rest n, none) (unfold flat in refl, fit-none least left)
+            rw (rows-last line rest n, joined-last line rest n, none) (unfold flatten in refl, fit-none least left)
         | inr n ↦
-            let w = lead numbered + columns in
+            let w = prefixWidth numbered + columns in
             let next = suc (getD (numbers line) 0 0) in
             let room = ltb 0 left in
             let line-good = begins 68 w (line ∷ rest) in
             let row-good = rowFits numbered count least (numbers line) in
             let rest-good = rowsGood numbered columns count next (left - 1) rest in
-            let all : (room && (line-good && row-good) && rest-good) ≡ true = sym (good-more line rest least left n) ∙ e in
-            let here = and-left (room && (line-good && row-good)) rest-good all in
+            let all-hold : (room && (line-good && row-good) && rest-good) ≡ true = sym (good-more line rest least left n) ∙ e in
+            let here = and-left (room && (line-good && row-good)) rest-good all-hold in
             let both = and-right room (line-good && row-good) here in
-            let ih = rows-shown next (left - 1) rest (and-right (room && (line-good && row-good)) rest-good all) in
-            let b = begun 68 w line rest (and-left line-good row-good both) in
+            let ih = rows-shown next (left - 1) rest (and-right (room && (line-good && row-good)) rest-good all-hold) in
+            let b = line-matches 68 w line rest (and-left line-good row-good both) in
             let f = and-right line-good row-good both in
             rw (rows-more line rest n, joined-more line rest n, ih .0) (
-              sym (append-assoc line (10 ∷ []) (flat (map (textLine 68) (rowsIn rest)))) ∙ rw (begun-text b) (unfold flat in refl),
-              fit-more least left (numbers line) (rowsIn rest) (ltb-true 0 left (and-left room (line-good && row-good) here)) (line-numbers line (b .is-line))
+              sym (append-assoc line (10 ∷ []) (flatten (map (textLine 68) (linesToRows rest)))) ∙ rw (line-matches-text b) (unfold flatten in refl),
+              fit-more least left (numbers line) (linesToRows rest) (ltb-true 0 left (and-left room (line-good && row-good) here)) (line-numbers line (b .is-line))
                   (row-of (numbers line) (b .wide) (fits-live count least (numbers line) numbered f)) (fits-ordered count least (numbers line) numbered f) (ih .1),
             )
       ]
 
   -- the text of such rows consists of lines that pass their checks
   pub rows-read : columns ≤ 8 → (least left : ℕ) (rows : List (List ℕ)) → RowsFit numbered columns count least left rows
-      → (rowsGood numbered columns count least left (pieces (flat (map (textLine 68) rows))) ≡ true) × (rowsIn (pieces (flat (map (textLine 68) rows))) ≡ rows)
-  unfolding flat
-  rows-read narrow least left [] r = unfold pieces isNil rowsGood rowsIn in (refl, refl)
+      → (rowsGood numbered columns count least left (pieces (flatten (map (textLine 68) rows))) ≡ true) × (linesToRows (pieces (flatten (map (textLine 68) rows))) ≡ rows)
+  unfolding flatten
+  rows-read narrow least left [] r = unfold pieces isNil rowsGood linesToRows in (refl, refl)
   rows-read narrow least left (ns ∷ rows) r =
-      let text = flat (map (textLine 68) rows) in
-      let fit = every-head areNumbers ns rows (r .fit) in
-      let row = row-parts ns (every-head (isRow numbered columns) ns rows (r .wide)) in
+      let text = flatten (map (textLine 68) rows) in
+      let fit = all-head areNumbers ns rows (r .fit) in
+      let row = row-parts ns (all-head (isRow numbered columns) ns rows (r .wide)) in
       let line = lineOf 68 ns in
       let cut : pieces (textLine 68 ns ++ text) ≡ line ∷ pieces text = line-cut 68 ns text fit (λ e. omega arith) (λ e. omega arith) in
       let more = pieces-some text in
       let few : length ns ≤ 9 = omega (arith, row .0, lead-few numbered) in
       let back : numbers line ≡ ns = read-numbers 68 ns (λ e. omega arith) fit in
       let ih = rows-read narrow (suc (getD ns 0 0)) (left - 1) rows (fit-rest least left ns rows r) in
-      let starts : begins 68 (lead numbered + columns) (line ∷ pieces text) ≡ true = subst (λ (w : ℕ). begins 68 w (line ∷ pieces text) ≡ true) (row .0) (begins-written 68 ns (pieces text) (λ e. omega arith) fit few more) in
+      let starts : begins 68 (prefixWidth numbered + columns) (line ∷ pieces text) ≡ true = subst (λ (w : ℕ). begins 68 w (line ∷ pieces text) ≡ true) (row .0) (begins-written 68 ns (pieces text) (λ e. omega arith) fit few more) in
       let fits = fits-of count least ns numbered (row .1) (fit-first least left ns rows r) in
       let room : 0 < left = omega (arith, r .few) in
       rw cut (
@@ -292,18 +292,18 @@ pub record Bounded (numbered : Bool) (l : Listing) : Type 0 where
   pub rows-fit : RowsFit numbered (getD (l .head) 0 0) (getD (l .head) 5 0) 0 65536 (l .rows)
 
 module _ (count : ℕ) (rows : List (List ℕ)) where
-  ordered-of : (numbered : Bool) → (numbered ≡ true → (risingFrom 0 (rowNumbers rows) ≡ true) × (every (λ n. ltb n count) (rowNumbers rows) ≡ true))
+  ordered-of : (numbered : Bool) → (numbered ≡ true → (risingFrom 0 (rowNumbers rows) ≡ true) × (all (λ n. ltb n count) (rowNumbers rows) ≡ true))
       → cond numbered (areNumbered count rows) true ≡ true
   unfolding areNumbered
   ordered-of true o = rw (rising-from (rowNumbers rows), o refl .0, o refl .1)
   ordered-of false o = refl
 
   ordered-parts : (numbered : Bool) → cond numbered (areNumbered count rows) true ≡ true → numbered ≡ true
-      → (risingFrom 0 (rowNumbers rows) ≡ true) × (every (λ n. ltb n count) (rowNumbers rows) ≡ true)
+      → (risingFrom 0 (rowNumbers rows) ≡ true) × (all (λ n. ltb n count) (rowNumbers rows) ≡ true)
   unfolding areNumbered
   ordered-parts true e t = (
-    sym (rising-from (rowNumbers rows)) ∙ and-left (rising (rowNumbers rows)) (every (λ n. ltb n count) (rowNumbers rows)) e,
-    and-right (rising (rowNumbers rows)) (every (λ n. ltb n count) (rowNumbers rows)) e,
+    sym (rising-from (rowNumbers rows)) ∙ and-left (rising (rowNumbers rows)) (all (λ n. ltb n count) (rowNumbers rows)) e,
+    and-right (rising (rowNumbers rows)) (all (λ n. ltb n count) (rowNumbers rows)) e,
   )
   ordered-parts false e t = absurd (false≢true t)
 
@@ -318,10 +318,10 @@ module _ (numbered : Bool) (l : Listing) where
   unfolding isListing
   listing-parts e =
       let a = areNumbers (l .head) in
-      let b = every areNumbers (l .rows) in
+      let b = all areNumbers (l .rows) in
       let c = isHead numbered (l .head) in
       let d = leb (length (l .rows)) 65536 in
-      let f = every (isRow numbered (getD (l .head) 0 0)) (l .rows) in
+      let f = all (isRow numbered (getD (l .head) 0 0)) (l .rows) in
       let g = cond numbered (areNumbered (getD (l .head) 5 0) (l .rows)) true in
       let e₅ = and-left (a && b && c && d && f) g e in
       let e₄ = and-left (a && b && c && d) f e₅ in
@@ -338,11 +338,11 @@ module _ (numbered : Bool) (l : Listing) where
         };
       }
 
-pub shown-listing : {numbered : Bool} {text : List ℕ} {l : Listing} → Shows numbered text (some l) → isListing numbered l ≡ true
-shown-listing (shows l good same) = good
+pub shown-listing : {numbered : Bool} {text : List ℕ} {l : Listing} → ParsesAs numbered text (some l) → isListing numbered l ≡ true
+shown-listing (parses l good same) = good
 
-pub shown-text : {numbered : Bool} {text : List ℕ} {l : Listing} → Shows numbered text (some l) → text ≡ listingText numbered l
-shown-text (shows l good same) = same
+pub shown-text : {numbered : Bool} {text : List ℕ} {l : Listing} → ParsesAs numbered text (some l) → text ≡ listingText numbered l
+shown-text (parses l good same) = same
 
 -- a text that passes the checks is the text of the listing that is read from it
 module _ (numbered : Bool) where
@@ -354,25 +354,25 @@ module _ (numbered : Bool) where
       let h = isHead numbered (numbers line) in
       let r = rowsGood numbered (getD (numbers line) 0 0) (getD (numbers line) 5 0) 0 65536 rest in
       let here = and-left (a && h) r e in
-      let b = begun (headLetter numbered) (headWidth numbered) line rest (and-left a h here) in
+      let b = line-matches (headLetter numbered) (headWidth numbered) line rest (and-left a h here) in
       let rows = rows-shown numbered (getD (numbers line) 0 0) (getD (numbers line) 5 0) 0 65536 rest (and-right (a && h) r e) in (
         joined-more line rest (begins-more (headLetter numbered) (headWidth numbered) line rest (and-left a h here))
-            ∙ rw (rows .0) (sym (append-assoc line (10 ∷ []) (flat (map (textLine 68) (rowsIn rest)))) ∙ rw (begun-text b)),
+            ∙ rw (rows .0) (sym (append-assoc line (10 ∷ []) (flatten (map (textLine 68) (linesToRows rest)))) ∙ rw (line-matches-text b)),
         record { head-fits = line-numbers line (b .is-line); head-good = and-right a h here; rows-fit = rows .1 },
       )
 
-  pub text-shown : (text : List ℕ) → textGood numbered text ≡ true → Shows numbered text (some (listingIn text))
+  pub text-shown : (text : List ℕ) → textGood numbered text ≡ true → ParsesAs numbered text (some (listingIn text))
   unfolding textGood listingIn
   text-shown text e =
       let s = pieces-shown (pieces text) e in
-      shows (listingOf (pieces text)) (listing-of numbered (listingOf (pieces text)) (s .1)) (sym (joined-pieces text) ∙ s .0)
+      parses (listingOf (pieces text)) (listing-of numbered (listingOf (pieces text)) (s .1)) (sym (joined-pieces text) ∙ s .0)
 
   -- the text of a listing passes the checks, and that listing is read from it
   text-read : (l : Listing) → isListing numbered l ≡ true → (textGood numbered (listingText numbered l) ≡ true) × (listingIn (listingText numbered l) ≡ l)
   unfolding textGood listingIn listingText piecesGood listingOf
   text-read l e =
       let b = listing-parts numbered l e in
-      let text = flat (map (textLine 68) (l .rows)) in
+      let text = flatten (map (textLine 68) (l .rows)) in
       let line = lineOf (headLetter numbered) (l .head) in
       let comma = letter-apart numbered .0 in
       let wide = head-wide numbered (l .head) (b .head-good) in
@@ -383,15 +383,15 @@ module _ (numbered : Bool) where
       let rows = rows-read numbered (getD (l .head) 0 0) (getD (l .head) 5 0) (head-narrow numbered (l .head) (b .head-good)) 0 65536 (l .rows) (b .rows-fit) in
       rw cut (rw (back, starts, b .head-good) (rows .0), rw (back, rows .1))
 
-  pub text-wrong : (text : List ℕ) → textGood numbered text ≡ false → Shows numbered text none
-  text-wrong text e = shows-none (λ l good same. false≢true (sym e ∙ rw same (text-read l good .0)))
+  pub text-wrong : (text : List ℕ) → textGood numbered text ≡ false → ParsesAs numbered text none
+  text-wrong text e = parses-none (λ l good same. false≢true (sym e ∙ rw same (text-read l good .0)))
 
   -- the text determines the listing
   pub text-determines : (text : List ℕ) (l m : Listing) → isListing numbered l ≡ true → isListing numbered m ≡ true → text ≡ listingText numbered l → text ≡ listingText numbered m → l ≡ m
   text-determines text l m a b p q = sym (text-read l a .1) ∙ ap listingIn (sym p ∙ q) ∙ text-read m b .1
 
-  pub shows-determined : {text : List ℕ} {l m : Option Listing} → Shows numbered text l → Shows numbered text m → l ≡ m
-  shows-determined {text} (shows l a p) (shows m b q) = ap some (text-determines text l m a b p q)
-  shows-determined (shows l a p) (shows-none n) = absurd (n l a p)
-  shows-determined (shows-none n) (shows m b q) = absurd (n m b q)
-  shows-determined (shows-none n) (shows-none k) = refl
+  pub parses-determined : {text : List ℕ} {l m : Option Listing} → ParsesAs numbered text l → ParsesAs numbered text m → l ≡ m
+  parses-determined {text} (parses l a p) (parses m b q) = ap some (text-determines text l m a b p q)
+  parses-determined (parses l a p) (parses-none n) = absurd (n l a p)
+  parses-determined (parses-none n) (parses m b q) = absurd (n m b q)
+  parses-determined (parses-none n) (parses-none k) = refl

@@ -5,7 +5,7 @@ use mathlib.Core.List.{List, [], _∷_}
 use lib.ListN.{length, getD}
 use lib.Dec.{leb, ltb, eqb}
 use Rattle.levels_text.specs.Lines.{isLine, letter, numbers}
-use Rattle.listing_spec.specs.Listings.{Listing, headLetter, headWidth, lead, isHead}
+use Rattle.listing_spec.specs.Listings.{Listing, headLetter, headWidth, prefixWidth, isHead}
 
 -- prepends a byte to the first of some pieces
 unfoldable pub longer : ℕ → List (List ℕ) → List (List ℕ)
@@ -29,7 +29,7 @@ begins first width (line ∷ rest) = not (isNil rest) && (isLine line && eqb (le
 -- the first cell of a D line is not dead; in the new form its number is at least `least` and below the count
 unfoldable pub rowFits : Bool → ℕ → ℕ → List ℕ → Bool
 rowFits numbered count least ns =
-    not (eqb (getD ns (lead numbered) 0) 4294967295) && cond numbered (leb least (getD ns 0 0) && ltb (getD ns 0 0) count) true
+    not (eqb (getD ns (prefixWidth numbered) 0) 4294967295) && cond numbered (leb least (getD ns 0 0) && ltb (getD ns 0 0) count) true
 
 -- the D lines, at most `left` of them
 unfoldable pub rowsGood : Bool → ℕ → ℕ → ℕ → ℕ → List (List ℕ) → Bool
@@ -37,12 +37,12 @@ rowsGood numbered columns count least left [] = false
 rowsGood numbered columns count least left (line ∷ rest) =
     cond (isNil rest) (eqb (length line) 0)
     (ltb 0 left
-    && (begins 68 (lead numbered + columns) (line ∷ rest) && rowFits numbered count least (numbers line))
+    && (begins 68 (prefixWidth numbered + columns) (line ∷ rest) && rowFits numbered count least (numbers line))
     && rowsGood numbered columns count (suc (getD (numbers line) 0 0)) (left - 1) rest)
 
-unfoldable pub rowsIn : List (List ℕ) → List (List ℕ)
-rowsIn [] = []
-rowsIn (line ∷ rest) = cond (isNil rest) [] (numbers line ∷ rowsIn rest)
+unfoldable pub linesToRows : List (List ℕ) → List (List ℕ)
+linesToRows [] = []
+linesToRows (line ∷ rest) = cond (isNil rest) [] (numbers line ∷ linesToRows rest)
 
 -- the head line, then the D lines
 unfoldable pub piecesGood : Bool → List (List ℕ) → Bool
@@ -54,7 +54,7 @@ piecesGood numbered (head ∷ rest) =
 
 unfoldable pub listingOf : List (List ℕ) → Listing
 listingOf [] = record { head = []; rows = [] }
-listingOf (head ∷ rest) = record { head = numbers head; rows = rowsIn rest }
+listingOf (head ∷ rest) = record { head = numbers head; rows = linesToRows rest }
 
 unfoldable pub textGood : Bool → List ℕ → Bool
 textGood numbered text = piecesGood numbered (pieces text)

@@ -8,44 +8,44 @@ use lib.Dec.{ltb}
 use lib.ListN.{length, take}
 use borrow.Author.Tests.{ltb-false, le-ltb}
 use Rattle.lists.specs.Laws.Search.{take-put}
-use Rattle.refusals.specs.Refusals.{Rung, rung, first, reply}
-use Rattle.plain_table.specs.Laws.Calls.{first-no, first-rest}
+use Rattle.refusals.specs.Refusals.{Check, check, firstRefusal, reply}
+use Rattle.plain_table.specs.Laws.Calls.{firstRefusal-no, firstRefusal-rest}
 use Rattle.table.specs.declared.Header.{Header}
 use Rattle.table.specs.Refusing.{outside, rowsShort}
-use Rattle.listing_spec.specs.declared.MoveAnswer.the-variants.{Refused, Written}
-use Rattle.listing_spec.specs.Listings.{moveSays}
+use Rattle.listing_spec.specs.declared.TextAnswer.the-variants.{Refused, Written}
+use Rattle.listing_spec.specs.Listings.{textView}
 use Rattle.listing_spec.specs.Laws.Restored.{accepted-number, accepted-same}
 use Rattle.listing_write.specs.Writing.{storedText, writeRefusal, ListingWritten}
 
 -- an accepted call
 module _ {numbered : Bool} {h : Header} {rows output output′ : List ℕ} {bytes : ℕ} (x : ListingWritten numbered h rows output (Written bytes) output′) where
   accepted-write : writeRefusal numbered h rows (length output) ≡ 0
-  unfolding moveSays
+  unfolding textView
   accepted-write = accepted-number (length (storedText numbered h rows)) (writeRefusal numbered h rows (length output)) (x .answers)
 
   -- both checks with refusal 2
-  abbrev room : List Rung
-  room = rung (ltb (length output) (length (storedText numbered h rows))) 2 ∷ []
+  abbrev room : List Check
+  room = check (ltb (length output) (length (storedText numbered h rows))) 2 ∷ []
 
-  abbrev tests : List Rung
-  tests = rung (rowsShort h (length rows)) 2 ∷ room
+  abbrev tests : List Check
+  tests = check (rowsShort h (length rows)) 2 ∷ room
 
   pub inside : outside h ≡ false
   unfolding writeRefusal
-  inside = first-no (outside h) 0 tests accepted-write
+  inside = firstRefusal-no (outside h) 0 tests accepted-write
 
   pub stored : rowsShort h (length rows) ≡ false
   unfolding writeRefusal
-  stored = first-no (rowsShort h (length rows)) 1 room (first-rest (outside h) 0 tests accepted-write)
+  stored = firstRefusal-no (rowsShort h (length rows)) 1 room (firstRefusal-rest (outside h) 0 tests accepted-write)
 
   fits : length (storedText numbered h rows) ≤ length output
   unfolding writeRefusal
   fits =
       ltb-false (length output) (length (storedText numbered h rows))
-      (first-no (ltb (length output) (length (storedText numbered h rows))) 1 [] (first-rest (rowsShort h (length rows)) 1 room (first-rest (outside h) 0 tests accepted-write)))
+      (firstRefusal-no (ltb (length output) (length (storedText numbered h rows))) 1 [] (firstRefusal-rest (rowsShort h (length rows)) 1 room (firstRefusal-rest (outside h) 0 tests accepted-write)))
 
   bytes-are : bytes ≡ length (storedText numbered h rows)
-  unfolding moveSays reply
+  unfolding textView reply
   bytes-are = accepted-same (x .answers ∙ ap (λ (k : ℕ). reply k (length (storedText numbered h rows))) accepted-write)
 
   pub written-inside : bytes ≤ length output
@@ -58,8 +58,8 @@ module _ {numbered : Bool} {h : Header} {rows output output′ : List ℕ} {byte
 -- a call with room for the text and the rows is not refused
 pub not-refused : {numbered : Bool} {h : Header} {rows output output′ : List ℕ} {n : ℕ} → ListingWritten numbered h rows output (Refused n) output′
     → outside h ≡ false → rowsShort h (length rows) ≡ false → length (storedText numbered h rows) ≤ length output → ⊥
-unfolding moveSays writeRefusal first reply
+unfolding textView writeRefusal firstRefusal reply
 not-refused {numbered} {h} {rows} {output} x e f room =
-    let says = rw (e, f, le-ltb (length output) (length (storedText numbered h rows)) room) at (x .answers) in
+    let view = rw (e, f, le-ltb (length output) (length (storedText numbered h rows)) room) at (x .answers) in
     let z : _≡_ {A = ℕ} 0 1 = cc in
     omega arith

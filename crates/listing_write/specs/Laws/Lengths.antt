@@ -6,7 +6,7 @@ use mathlib.Core.Bool.{Bool, true, false}
 use mathlib.Core.List.{List, [], _∷_}
 use native.Mathlib.Omega.{arith}
 use lib.ListN.{length, take, drop, length-append, length-take}
-use Rattle.lists.specs.Laws.Keep.{split}
+use Rattle.lists.specs.Laws.Filter.{split}
 use Rattle.constraints.specs.Constraints.{isLive}
 use Rattle.table.specs.declared.Header.{Header}
 use Rattle.levels_text.specs.Written.{textLine}

@@ -8,14 +8,14 @@ use native.Mathlib.Nat.{mul-le-mul-right}
 use native.Mathlib.Omega.{arith}
 use lib.ListN.{length, take, drop}
 use borrow.Author.Tests.{ltb-false}
-use Rattle.lists.specs.Lists.{rowsOf, flat}
-use Rattle.lists.specs.Laws.Keep.{split}
+use Rattle.lists.specs.Lists.{rowsOf, flatten}
+use Rattle.lists.specs.Laws.Filter.{split}
 use Rattle.constraints.specs.Constraints.{isLive}
 use Rattle.plain_table.specs.Plain.{liveFrom}
 use Rattle.table.specs.declared.Header.{Header}
 use Rattle.table.specs.Refusing.{outside, rowsShort}
 use Rattle.table.specs.Stores.{rowsIn}
-use Rattle.table.specs.Laws.Live.{told, length-rowsIn}
+use Rattle.table.specs.Laws.Live.{rowOfCells, length-rowsIn}
 use Rattle.table.specs.Laws.Refusals.{outside-inside}
 use Rattle.levels_text.specs.Written.{textLine}
 use Rattle.listing_spec.specs.Listings.{listingText}
@@ -23,8 +23,8 @@ use Rattle.listing_write.specs.Writing.{rowFields, tableListing, storedL
 use Rattle.listing_write.specs.inner.Lines.{headLine, rowLine, rowLines, Stored}
 
 live-lines : (numbered : Bool) (columns number count : ℕ) (rows : List ℕ)
-    → flat (map (textLine 68) (map (rowFields numbered) (liveFrom number (map told (rowsOf columns count rows))))) ≡ rowLines numbered columns number count rows
-unfolding rowLines rowLine rowFields liveFrom rowsOf flat
+    → flatten (map (textLine 68) (map (rowFields numbered) (liveFrom number (map rowOfCells (rowsOf columns count rows))))) ≡ rowLines numbered columns number count rows
+unfolding rowLines rowLine rowFields liveFrom rowsOf flatten
 live-lines numbered columns number zero rows = refl
 live-lines numbered columns number (suc count) rows =
     elim (split (isLive (take columns rows))) [

@@ -10,14 +10,14 @@ use native.Mathlib.Omega.{arith}
 use lib.Dec.{leb, eqb}
 use lib.ListN.{length, getD}
 use borrow.Author.Tests.{eqb-true, le-leb, lt-ltb}
-use Rattle.lists.specs.Lists.{every}
-use Rattle.lists.specs.Laws.Every.{every-head, every-tail, every-cons, or-second}
-use Rattle.lists.specs.Laws.Keep.{split}
+use Rattle.lists.specs.Lists.{all}
+use Rattle.lists.specs.Laws.All.{all-head, all-tail, all-cons, or-second}
+use Rattle.lists.specs.Laws.Filter.{split}
 use Rattle.cells.specs.Cells.{isDead}
 use Rattle.plain_table.specs.Staged.{Opening}
 use Rattle.plain_table.specs.Plain.{Row, liveFrom}
 use Rattle.plain_table.specs.Laws.Proper.{Bounds}
-use Rattle.listing_spec.specs.Listings.{headWidth, lead, listingText, areNumbers, keepsBounds, isHead, Shows, shows}
+use Rattle.listing_spec.specs.Listings.{headWidth, prefixWidth, listingText, areNumbers, keepsBounds, isHead, ParsesAs, parses}
 use Rattle.listing_spec.specs.Laws.Texts.{RowsFit, fit-none, fit-more, row-of, listing-of}
 use Rattle.listing_write.specs.Writing.{headNumbers, rowFields, tableListing}
 
@@ -39,10 +39,10 @@ module _ (columns count : ℕ) (few : count ≤ 65536) where
   row-fits : (numbered : Bool) (n least left : ℕ) (row : Row) (rest : List (List ℕ)) → (numbered ≡ true → (least ≤ n) × (n < count)) → 0 < left → fits columns row
       → RowsFit numbered columns count (suc (getD (lineOf numbered n (row .cells)) 0 0)) (left - 1) rest
       → RowsFit numbered columns count least left (lineOf numbered n (row .cells) ∷ rest)
-  unfolding lead isDead
+  unfolding prefixWidth isDead
   row-fits true n least left row rest order room good r =
       fit-more true columns count least left (n ∷ row .cells) rest room
-      (unfold areNumbers in every-cons (λ m. leb m 4294967295) n (row .cells) (le-leb n 4294967295 (omega (arith, order refl .1))) (good .2))
+      (unfold areNumbers in all-cons (λ m. leb m 4294967295) n (row .cells) (le-leb n 4294967295 (omega (arith, order refl .1))) (good .2))
       (row-of true columns count (n ∷ row .cells) (omega (arith, eqb-true (length (row .cells)) columns (good .0))) (good .1))
       (λ t. (le-leb least n (order refl .0), lt-ltb n count (order refl .1)))
       r
@@ -58,23 +58,23 @@ module _ (columns count : ℕ) (few : count ≤ 65536) where
   next-low false n left cells below t = absurd (false≢true t)
 
   rows-fit : (numbered : Bool) (n least left : ℕ) (rows : List Row) → (numbered ≡ true → (least ≤ n) × (n + length rows ≤ count)) → length rows ≤ left
-      → every (λ row. eqb (length (row .cells)) columns) rows ≡ true
-      → every (λ row. not (row .live) || not (isDead (getD (row .cells) 0 0))) rows ≡ true
-      → every liveFits rows ≡ true
+      → all (λ row. eqb (length (row .cells)) columns) rows ≡ true
+      → all (λ row. not (row .live) || not (isDead (getD (row .cells) 0 0))) rows ≡ true
+      → all liveFits rows ≡ true
       → RowsFit numbered columns count least left (map (rowFields numbered) (liveFrom n rows))
   unfolding liveFrom rowFields
   rows-fit numbered n least left [] order room wide live fit = fit-none numbered columns count least left
   rows-fit numbered n least left (row ∷ rows) order room wide live fit =
-      let wide′ = every-tail (λ (r : Row). eqb (length (r .cells)) columns) row rows wide in
-      let live′ = every-tail (λ (r : Row). not (r .live) || not (isDead (getD (r .cells) 0 0))) row rows live in
-      let fit′ = every-tail liveFits row rows fit in
-      let here = every-head (λ (r : Row). not (r .live) || not (isDead (getD (r .cells) 0 0))) row rows live in
+      let wide′ = all-tail (λ (r : Row). eqb (length (r .cells)) columns) row rows wide in
+      let live′ = all-tail (λ (r : Row). not (r .live) || not (isDead (getD (r .cells) 0 0))) row rows live in
+      let fit′ = all-tail liveFits row rows fit in
+      let here = all-head (λ (r : Row). not (r .live) || not (isDead (getD (r .cells) 0 0))) row rows live in
       elim (split (row .live)) [
         | inl e ↦
             rw e
             (row-fits numbered n least left row (map (rowFields numbered) (liveFrom (suc n) rows))
             (λ t. (order t .0, omega (arith, order t .1))) (omega arith)
-            (every-head (λ (r : Row). eqb (length (r .cells)) columns) row rows wide, or-second (not (row .live)) (not (isDead (getD (row .cells) 0 0))) here (rw e), or-second (not (row .live)) (areNumbers (row .cells)) (every-head liveFits row rows fit) (rw e))
+            (all-head (λ (r : Row). eqb (length (r .cells)) columns) row rows wide, or-second (not (row .live)) (not (isDead (getD (row .cells) 0 0))) here (rw e), or-second (not (row .live)) (areNumbers (row .cells)) (all-head liveFits row rows fit) (rw e))
             (rows-fit numbered (suc n) (suc (getD (lineOf numbered n (row .cells)) 0 0)) (left - 1) rows (next-low numbered n (length rows) (row .cells) (λ t. omega (arith, order t .1))) (omega arith) wide′ live′ fit′))
         | inr e ↦
             rw e
@@ -93,7 +93,7 @@ module _ (o : Opening) (generation : ℕ) (rows : List Row) (b : Bounds o) (fits
       rw (le-leb 1 (o .columns) (b .columns-some), le-leb (o .columns) 8 (b .columns-few), le-leb 1 (o .keys) (b .keys-some), le-leb (o .keys) (o .columns) (b .keys-few), lt-ltb (o .sort) (o .columns) (b .sort-column), le-leb (o .rule) 3 (b .rule-known))
 
   numbers-fit : (numbered : Bool) → areNumbers (headNumbers numbered o generation (length rows)) ≡ true
-  unfolding areNumbers every headNumbers
+  unfolding areNumbers all headNumbers
   numbers-fit numbered =
       let c = le-leb (o .columns) 4294967295 (omega (arith, b .columns-few)) in
       let k = le-leb (o .keys) 4294967295 (omega (arith, b .columns-few, b .keys-few)) in
@@ -108,15 +108,15 @@ module _ (o : Opening) (generation : ℕ) (rows : List Row) (b : Bounds o) (fits
   head-good true = rw (within, le-leb (length rows) 65536 most)
   head-good false = rw within
 
-  module _ (wide : every (λ row. eqb (length (row .cells)) (o .columns)) rows ≡ true) (live : every (λ row. not (row .live) || not (isDead (getD (row .cells) 0 0))) rows ≡ true) (cells : every liveFits rows ≡ true) where
+  module _ (wide : all (λ row. eqb (length (row .cells)) (o .columns)) rows ≡ true) (live : all (λ row. not (row .live) || not (isDead (getD (row .cells) 0 0))) rows ≡ true) (cells : all liveFits rows ≡ true) where
     rows-bounded : (numbered : Bool) → RowsFit numbered (getD (headNumbers numbered o generation (length rows)) 0 0) (getD (headNumbers numbered o generation (length rows)) 5 0) 0 65536 (map (rowFields numbered) (liveFrom 0 rows))
     unfolding headNumbers
     rows-bounded true = rows-fit (o .columns) (length rows) most true 0 0 65536 rows (λ t. (omega arith, omega arith)) most wide live cells
     rows-bounded false = rows-fit (o .columns) 0 (omega arith) false 0 0 65536 rows (λ t. absurd (false≢true t)) most wide live cells
 
-    pub table-listed : (numbered : Bool) → Shows numbered (listingText numbered (tableListing numbered o generation rows)) (some (tableListing numbered o generation rows))
+    pub table-listed : (numbered : Bool) → ParsesAs numbered (listingText numbered (tableListing numbered o generation rows)) (some (tableListing numbered o generation rows))
     unfolding tableListing
     table-listed numbered =
-        shows (tableListing numbered o generation rows)
+        parses (tableListing numbered o generation rows)
         (listing-of numbered (tableListing numbered o generation rows) record { head-fits = numbers-fit numbered; head-good = head-good numbered; rows-fit = rows-bounded numbered })
         refl

@@ -9,10 +9,10 @@ use native.Mathlib.Omega.{arith}
 use lib.Dec.{leb, ltb, eqb}
 use lib.ListN.{length, take, drop, getD}
 use borrow.Author.Tests.{le-ltb}
-use Rattle.lists.specs.Lists.{every, rowsOf}
-use Rattle.lists.specs.Laws.Every.{every-head, every-tail, every-cons, or-right}
+use Rattle.lists.specs.Lists.{all, rowsOf}
+use Rattle.lists.specs.Laws.All.{all-head, all-tail, all-cons, or-right}
 use Rattle.lists.specs.Laws.Rows.{rowsOf-widths}
-use Rattle.refusals.specs.Refusals.{rung, first}
+use Rattle.refusals.specs.Refusals.{check, firstRefusal}
 use Rattle.cells.specs.Cells.{isDead}
 use Rattle.constraints.specs.Constraints.{isLive}
 use Rattle.plain_table.specs.Plain.{Plain, liveRows}
@@ -20,45 +20,45 @@ use Rattle.table.specs.declared.Header.{Header}
 use Rattle.table.specs.Numbers.{openingOf}
 use Rattle.table.specs.Refusing.{outside, rowsShort}
 use Rattle.table.specs.Stores.{rowsIn}
-use Rattle.table.specs.Promises.{Stores, Represents}
-use Rattle.table.specs.Laws.Live.{told, length-rowsIn, live-shown}
+use Rattle.table.specs.Contracts.{Stores, Represents}
+use Rattle.table.specs.Laws.Live.{rowOfCells, length-rowsIn, live-shown}
 use Rattle.table.specs.Laws.Refusals.{outside-inside}
 use Rattle.table.specs.Laws.Shown.{represents-inside, represents-long}
-use Rattle.listing_spec.specs.Listings.{listingText, areNumbers, Shows}
+use Rattle.listing_spec.specs.Listings.{listingText, areNumbers, ParsesAs}
 use Rattle.listing_write.specs.Writing.{tableListing, storedListing, storedText, writeRefusal}
 use Rattle.listing_write.specs.Laws.Lines.{stored-rows}
 use Rattle.listing_write.specs.Laws.Listed.{liveFits, table-listed}
 
 -- ---- rows of a store whose cells are u32
 
-map-every : {A B : Type 0} (test : B → Bool) (f : A → B) (l : List A) → every (λ x. test (f x)) l ≡ true → every test (map f l) ≡ true
-map-every test f [] e = unfold every in refl
-map-every test f (x ∷ l) e = every-cons test (f x) (map f l) (every-head (λ y. test (f y)) x l e) (map-every test f l (every-tail (λ y. test (f y)) x l e))
+map-every : {A B : Type 0} (test : B → Bool) (f : A → B) (l : List A) → all (λ x. test (f x)) l ≡ true → all test (map f l) ≡ true
+map-every test f [] e = unfold all in refl
+map-every test f (x ∷ l) e = all-cons test (f x) (map f l) (all-head (λ y. test (f y)) x l e) (map-every test f l (all-tail (λ y. test (f y)) x l e))
 
-every-all : {A : Type 0} (test : A → Bool) → ((x : A) → test x ≡ true) → (l : List A) → every test l ≡ true
-every-all test f [] = unfold every in refl
-every-all test f (x ∷ l) = every-cons test x l (f x) (every-all test f l)
+every-all : {A : Type 0} (test : A → Bool) → ((x : A) → test x ≡ true) → (l : List A) → all test l ≡ true
+every-all test f [] = unfold all in refl
+every-all test f (x ∷ l) = all-cons test x l (f x) (every-all test f l)
 
-every-more : {A : Type 0} (s t : A → Bool) → ((x : A) → s x ≡ true → t x ≡ true) → (l : List A) → every s l ≡ true → every t l ≡ true
-every-more s t f [] e = unfold every in refl
-every-more s t f (x ∷ l) e = every-cons t x l (f x (every-head s x l e)) (every-more s t f l (every-tail s x l e))
+all-more : {A : Type 0} (s t : A → Bool) → ((x : A) → s x ≡ true → t x ≡ true) → (l : List A) → all s l ≡ true → all t l ≡ true
+all-more s t f [] e = unfold all in refl
+all-more s t f (x ∷ l) e = all-cons t x l (f x (all-head s x l e)) (all-more s t f l (all-tail s x l e))
 
 first-fit : (n : ℕ) (l : List ℕ) → areNumbers l ≡ true → areNumbers (take n l) ≡ true
 unfolding areNumbers
-first-fit zero l e = unfold every in refl
+first-fit zero l e = unfold all in refl
 first-fit (suc n) [] e = e
-first-fit (suc n) (x ∷ l) e = every-cons (λ m. leb m 4294967295) x (take n l) (every-head (λ m. leb m 4294967295) x l e) (first-fit n l (every-tail (λ m. leb m 4294967295) x l e))
+first-fit (suc n) (x ∷ l) e = all-cons (λ m. leb m 4294967295) x (take n l) (all-head (λ m. leb m 4294967295) x l e) (first-fit n l (all-tail (λ m. leb m 4294967295) x l e))
 
 rest-fit : (n : ℕ) (l : List ℕ) → areNumbers l ≡ true → areNumbers (drop n l) ≡ true
 unfolding areNumbers
 rest-fit zero l e = e
 rest-fit (suc n) [] e = e
-rest-fit (suc n) (x ∷ l) e = rest-fit n l (every-tail (λ m. leb m 4294967295) x l e)
+rest-fit (suc n) (x ∷ l) e = rest-fit n l (all-tail (λ m. leb m 4294967295) x l e)
 
-rows-fit : (w n : ℕ) (l : List ℕ) → areNumbers l ≡ true → every areNumbers (rowsOf w n l) ≡ true
+rows-fit : (w n : ℕ) (l : List ℕ) → areNumbers l ≡ true → all areNumbers (rowsOf w n l) ≡ true
 unfolding rowsOf
-rows-fit w zero l e = unfold every in refl
-rows-fit w (suc n) l e = every-cons areNumbers (take w l) (rowsOf w n (drop w l)) (first-fit w l e) (rows-fit w n (drop w l) (rest-fit w l e))
+rows-fit w zero l e = unfold all in refl
+rows-fit w (suc n) l e = all-cons areNumbers (take w l) (rowsOf w n (drop w l)) (first-fit w l e) (rows-fit w n (drop w l) (rest-fit w l e))
 
 -- a row is live exactly if its first cell is not dead
 live-first : (cells : List ℕ) → (not (isLive cells) || not (isDead (getD cells 0 0))) ≡ true
@@ -73,15 +73,15 @@ live-first cells = either (isDead (getD cells 0 0))
 
 module _ (numbered : Bool) (h : Header) (rows : List ℕ) (e : outside h ≡ false) (f : rowsShort h (length rows) ≡ false) (generation : h .generation ≤ 4294967295) (cells : areNumbers rows ≡ true) where
   -- for any content of the stores, the text written is the text of a listing
-  pub stored-listed : Shows numbered (storedText numbered h rows) (some (storedListing numbered h rows))
+  pub stored-listed : ParsesAs numbered (storedText numbered h rows) (some (storedListing numbered h rows))
   unfolding storedText storedListing
   stored-listed =
       let i = outside-inside h e in
       let each = rowsOf (h .columns) (h .rows) rows in
       table-listed (openingOf h) (h .generation) (rowsIn h rows) (i .bounds) generation (omega (arith, length-rowsIn h rows, i .rows-fit))
-      (unfold rowsIn in map-every (λ row. eqb (length (row .cells)) (h .columns)) told each (rowsOf-widths (h .columns) (h .rows) rows (stored-rows h rows e f .stored)))
-      (unfold rowsIn in map-every (λ row. not (row .live) || not (isDead (getD (row .cells) 0 0))) told each (every-all (λ c. not (isLive c) || not (isDead (getD c 0 0))) live-first each))
-      (unfold rowsIn in map-every liveFits told each (every-more areNumbers (λ c. not (isLive c) || areNumbers c) (λ c q. or-right (not (isLive c)) (areNumbers c) q) each (rows-fit (h .columns) (h .rows) rows cells)))
+      (unfold rowsIn in map-every (λ row. eqb (length (row .cells)) (h .columns)) rowOfCells each (rowsOf-widths (h .columns) (h .rows) rows (stored-rows h rows e f .stored)))
+      (unfold rowsIn in map-every (λ row. not (row .live) || not (isDead (getD (row .cells) 0 0))) rowOfCells each (every-all (λ c. not (isLive c) || not (isDead (getD c 0 0))) live-first each))
+      (unfold rowsIn in map-every liveFits rowOfCells each (all-more areNumbers (λ c. not (isLive c) || areNumbers c) (λ c q. or-right (not (isLive c)) (areNumbers c) q) each (rows-fit (h .columns) (h .rows) rows cells)))
       numbered
 
 -- ---- stores that represent a plain table
@@ -98,6 +98,6 @@ module _ {p : Plain} {s : Stores} (r : Represents p s) (numbered : Bool) where
   stored-plain = rw (length-rowsIn (s .header) (s .rows), live-shown r) (unfold liveRows in rw (r .shown .header))
 
   -- the call is refused only if the output is too short
-  pub write-short : (output : ℕ) → writeRefusal numbered (s .header) (s .rows) output ≡ first (rung (ltb output (length (listingText numbered (tableListing numbered (p .opening) (p .generation) (p .rows))))) 2 ∷ [])
+  pub write-short : (output : ℕ) → writeRefusal numbered (s .header) (s .rows) output ≡ firstRefusal (check (ltb output (length (listingText numbered (tableListing numbered (p .opening) (p .generation) (p .rows))))) 2 ∷ [])
   unfolding writeRefusal storedText
-  write-short output = rw stored-plain (unfold first in rw (represents-inside r, rows-long r))
+  write-short output = rw stored-plain (unfold firstRefusal in rw (represents-inside r, rows-long r))

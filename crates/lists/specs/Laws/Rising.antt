@@ -11,8 +11,8 @@ use native.Mathlib.Omega.{arith}
 use lib.Dec.{leb, ltb, eqb}
 use lib.ListN.{length, take, drop, getD}
 use borrow.Author.Tests.{ltb-true, leb-true, eqb-true, lt-ltb, le-ltb, le-leb, lt-leb, eq-eqb, ne-eqb}
-use Rattle.lists.specs.Lists.{keep, count, countFrom, above, rising, has, within, same}
-use Rattle.lists.specs.Laws.Keep.{split, and-left, and-right, keep-yes, keep-no, count-yes, count-no}
+use Rattle.lists.specs.Lists.{filter, count, iota, above, rising, elem, within, same}
+use Rattle.lists.specs.Laws.Filter.{split, and-left, and-right, filter-yes, filter-no, count-yes, count-no}
 
 -- two Booleans are equal if each implies the other
 pub bool-ext : (a b : Bool) → (a ≡ true → b ≡ true) → (b ≡ true → a ≡ true) → a ≡ b
@@ -43,25 +43,25 @@ within-past a b x h = rw (le-ltb x b h) (and-false (leb a x))
 
 -- ---- consecutive numbers
 
-pub length-countFrom : (s n : ℕ) → length (countFrom s n) ≡ n
-unfolding countFrom
-length-countFrom s zero = refl
-length-countFrom s (suc n) = ap suc (length-countFrom (suc s) n)
+pub length-iota : (s n : ℕ) → length (iota s n) ≡ n
+unfolding iota
+length-iota s zero = refl
+length-iota s (suc n) = ap suc (length-iota (suc s) n)
 
-pub getD-countFrom : (s n i d : ℕ) → i < n → getD (countFrom s n) i d ≡ s + i
-unfolding countFrom
-getD-countFrom s zero i d h = absurd (omega arith)
-getD-countFrom s (suc n) zero d h = sym (add-zero s)
-getD-countFrom s (suc n) (suc i) d h = getD-countFrom (suc s) n i d (omega arith) ∙ omega arith
+pub getD-iota : (s n i d : ℕ) → i < n → getD (iota s n) i d ≡ s + i
+unfolding iota
+getD-iota s zero i d h = absurd (omega arith)
+getD-iota s (suc n) zero d h = sym (add-zero s)
+getD-iota s (suc n) (suc i) d h = getD-iota (suc s) n i d (omega arith) ∙ omega arith
 
-pub countFrom-append : (s n m : ℕ) → countFrom s (n + m) ≡ countFrom s n ++ countFrom (s + n) m
-unfolding countFrom
-countFrom-append s zero m = rw (zero-add, add-zero)
-countFrom-append s (suc n) m = rw (suc-add n m, countFrom-append (suc s) n m, suc-add s n, add-suc s n)
+pub iota-append : (s n m : ℕ) → iota s (n + m) ≡ iota s n ++ iota (s + n) m
+unfolding iota
+iota-append s zero m = rw (zero-add, add-zero)
+iota-append s (suc n) m = rw (suc-add n m, iota-append (suc s) n m, suc-add s n, add-suc s n)
 
-pub countFrom-snoc : (s n : ℕ) → countFrom s (n + 1) ≡ countFrom s n ++ ((s + n) ∷ [])
-unfolding countFrom
-countFrom-snoc s n = countFrom-append s n 1
+pub iota-snoc : (s n : ℕ) → iota s (n + 1) ≡ iota s n ++ ((s + n) ∷ [])
+unfolding iota
+iota-snoc s n = iota-append s n 1
 
 -- ---- above and rising
 
@@ -98,30 +98,30 @@ rising-tail x xs e = above-rising x xs e
 above-rest : (x y : ℕ) (ys : List ℕ) → above x (y ∷ ys) ≡ true → above x ys ≡ true
 above-rest x y ys e = above-weaker x y ys (omega (arith, above-head x y ys e)) (above-tail x y ys e)
 
-pub above-keep : (test : ℕ → Bool) (x : ℕ) (l : List ℕ) → above x l ≡ true → above x (keep test l) ≡ true
-unfolding keep
-above-keep test x [] e = e
-above-keep test x (y ∷ ys) e =
-    let h = above-keep test y ys (above-tail x y ys e) in
-    let k = above-keep test x ys (above-rest x y ys e) in
-    elim (split (test y)) [ inl q ↦ rw q (above-cons x y (keep test ys) (above-head x y ys e) h) | inr q ↦ rw q k ]
+pub above-filter : (test : ℕ → Bool) (x : ℕ) (l : List ℕ) → above x l ≡ true → above x (filter test l) ≡ true
+unfolding filter
+above-filter test x [] e = e
+above-filter test x (y ∷ ys) e =
+    let h = above-filter test y ys (above-tail x y ys e) in
+    let k = above-filter test x ys (above-rest x y ys e) in
+    elim (split (test y)) [ inl q ↦ rw q (above-cons x y (filter test ys) (above-head x y ys e) h) | inr q ↦ rw q k ]
 
-pub rising-keep : (test : ℕ → Bool) (l : List ℕ) → rising l ≡ true → rising (keep test l) ≡ true
-unfolding keep rising
-rising-keep test [] e = refl
-rising-keep test (x ∷ xs) e =
-    let h = above-keep test x xs e in
-    elim (split (test x)) [ inl q ↦ rw q h | inr q ↦ rw q (above-rising x (keep test xs) h) ]
+pub rising-filter : (test : ℕ → Bool) (l : List ℕ) → rising l ≡ true → rising (filter test l) ≡ true
+unfolding filter rising
+rising-filter test [] e = refl
+rising-filter test (x ∷ xs) e =
+    let h = above-filter test x xs e in
+    elim (split (test x)) [ inl q ↦ rw q h | inr q ↦ rw q (above-rising x (filter test xs) h) ]
 
-above-countFrom : (x s n : ℕ) → x < s → above x (countFrom s n) ≡ true
-unfolding countFrom
-above-countFrom x s zero h = unfold above in refl
-above-countFrom x s (suc n) h = above-cons x s (countFrom (suc s) n) h (above-countFrom s (suc s) n (omega arith))
+above-iota : (x s n : ℕ) → x < s → above x (iota s n) ≡ true
+unfolding iota
+above-iota x s zero h = unfold above in refl
+above-iota x s (suc n) h = above-cons x s (iota (suc s) n) h (above-iota s (suc s) n (omega arith))
 
-pub rising-countFrom : (s n : ℕ) → rising (countFrom s n) ≡ true
-unfolding rising countFrom
-rising-countFrom s zero = refl
-rising-countFrom s (suc n) = above-countFrom s (suc s) n (omega arith)
+pub rising-iota : (s n : ℕ) → rising (iota s n) ≡ true
+unfolding rising iota
+rising-iota s zero = refl
+rising-iota s (suc n) = above-iota s (suc s) n (omega arith)
 
 pub above-at : (x : ℕ) (l : List ℕ) → above x l ≡ true → (i : ℕ) → i < length l → x < getD l i 0
 above-at x [] e i h = absurd (omega arith)
@@ -192,58 +192,58 @@ rising-past n l h e = rising-past-suc n l h (rw add-one at e)
 
 -- ---- members
 
-pub has-here : (x y : ℕ) (ys : List ℕ) → x ≡ y → has x (y ∷ ys) ≡ true
-unfolding has
-has-here x y ys e = rw (eq-eqb x y e)
+pub elem-here : (x y : ℕ) (ys : List ℕ) → x ≡ y → elem x (y ∷ ys) ≡ true
+unfolding elem
+elem-here x y ys e = rw (eq-eqb x y e)
 
-pub has-there : (x y : ℕ) (ys : List ℕ) → (x ≡ y → ⊥) → has x (y ∷ ys) ≡ has x ys
-unfolding has
-has-there x y ys h = rw (ne-eqb x y h)
+pub elem-there : (x y : ℕ) (ys : List ℕ) → (x ≡ y → ⊥) → elem x (y ∷ ys) ≡ elem x ys
+unfolding elem
+elem-there x y ys h = rw (ne-eqb x y h)
 
 -- the position of a member
-pub has-at : (x : ℕ) (l : List ℕ) → has x l ≡ true → (i : ℕ) × (i < length l) × (getD l i 0 ≡ x)
-unfolding has
-has-at x [] e = absurd (false≢true e)
-has-at x (y ∷ ys) e = go (has-at x ys)
+pub elem-at : (x : ℕ) (l : List ℕ) → elem x l ≡ true → (i : ℕ) × (i < length l) × (getD l i 0 ≡ x)
+unfolding elem
+elem-at x [] e = absurd (false≢true e)
+elem-at x (y ∷ ys) e = go (elem-at x ys)
   where
-    go : (has x ys ≡ true → (i : ℕ) × (i < length ys) × (getD ys i 0 ≡ x)) → (i : ℕ) × (i < suc (length ys)) × (getD (y ∷ ys) i 0 ≡ x)
+    go : (elem x ys ≡ true → (i : ℕ) × (i < length ys) × (getD ys i 0 ≡ x)) → (i : ℕ) × (i < suc (length ys)) × (getD (y ∷ ys) i 0 ≡ x)
     go f =
         elim (ℕ-discrete x y) [
           | yes p ↦ (0, omega arith, sym p)
-          | no p ↦ let t = f (sym (has-there x y ys p) ∙ e) in (suc (t .0), suc-le-suc (t .1), t .2)
+          | no p ↦ let t = f (sym (elem-there x y ys p) ∙ e) in (suc (t .0), suc-le-suc (t .1), t .2)
         ]
 
-pub has-of : (l : List ℕ) (i : ℕ) → i < length l → has (getD l i 0) l ≡ true
-has-of [] i h = absurd (omega arith)
-has-of (x ∷ xs) zero h = has-here x x xs refl
-has-of (x ∷ xs) (suc i) h =
-    let t = has-of xs i (omega arith) in
-    elim (ℕ-discrete (getD xs i 0) x) [ yes p ↦ has-here (getD xs i 0) x xs p | no p ↦ has-there (getD xs i 0) x xs p ∙ t ]
+pub elem-of : (l : List ℕ) (i : ℕ) → i < length l → elem (getD l i 0) l ≡ true
+elem-of [] i h = absurd (omega arith)
+elem-of (x ∷ xs) zero h = elem-here x x xs refl
+elem-of (x ∷ xs) (suc i) h =
+    let t = elem-of xs i (omega arith) in
+    elim (ℕ-discrete (getD xs i 0) x) [ yes p ↦ elem-here (getD xs i 0) x xs p | no p ↦ elem-there (getD xs i 0) x xs p ∙ t ]
 
-pub has-append : (x : ℕ) (xs ys : List ℕ) → has x (xs ++ ys) ≡ (has x xs || has x ys)
-unfolding has
-has-append x [] ys = refl
-has-append x (y ∷ xs) ys = rw (has-append x xs ys) (sym (or-assoc (eqb x y) (has x xs) (has x ys)))
+pub elem-append : (x : ℕ) (xs ys : List ℕ) → elem x (xs ++ ys) ≡ (elem x xs || elem x ys)
+unfolding elem
+elem-append x [] ys = refl
+elem-append x (y ∷ xs) ys = rw (elem-append x xs ys) (sym (or-assoc (eqb x y) (elem x xs) (elem x ys)))
 
-pub has-keep : (t : ℕ → Bool) (x : ℕ) (l : List ℕ) → has x (keep t l) ≡ (has x l && t x)
-has-keep t x [] = unfold keep has in refl
-has-keep t x (y ∷ ys) = go (has-keep t x ys) (split (t y)) (ℕ-discrete x y)
+pub elem-filter : (t : ℕ → Bool) (x : ℕ) (l : List ℕ) → elem x (filter t l) ≡ (elem x l && t x)
+elem-filter t x [] = unfold filter elem in refl
+elem-filter t x (y ∷ ys) = go (elem-filter t x ys) (split (t y)) (ℕ-discrete x y)
   where
-    go : has x (keep t ys) ≡ (has x ys && t x) → (t y ≡ true) ⊎ (t y ≡ false) → Dec (x ≡ y) → has x (keep t (y ∷ ys)) ≡ (has x (y ∷ ys) && t x)
-    go h (inl q) (yes p) = rw (keep-yes t y ys q, has-here x y (keep t ys) p, has-here x y ys p) (sym (ap t p ∙ q))
-    go h (inl q) (no p) = rw (keep-yes t y ys q, has-there x y (keep t ys) p, has-there x y ys p) h
-    go h (inr q) (yes p) = let r : t x ≡ false = ap t p ∙ q in rw (keep-no t y ys q, h, has-here x y ys p, r) (and-false (has x ys))
-    go h (inr q) (no p) = rw (keep-no t y ys q, has-there x y ys p) h
+    go : elem x (filter t ys) ≡ (elem x ys && t x) → (t y ≡ true) ⊎ (t y ≡ false) → Dec (x ≡ y) → elem x (filter t (y ∷ ys)) ≡ (elem x (y ∷ ys) && t x)
+    go h (inl q) (yes p) = rw (filter-yes t y ys q, elem-here x y (filter t ys) p, elem-here x y ys p) (sym (ap t p ∙ q))
+    go h (inl q) (no p) = rw (filter-yes t y ys q, elem-there x y (filter t ys) p, elem-there x y ys p) h
+    go h (inr q) (yes p) = let r : t x ≡ false = ap t p ∙ q in rw (filter-no t y ys q, h, elem-here x y ys p, r) (and-false (elem x ys))
+    go h (inr q) (no p) = rw (filter-no t y ys q, elem-there x y ys p) h
 
-pub has-countFrom : (x s n : ℕ) → has x (countFrom s n) ≡ within s (s + n) x
-unfolding countFrom
-has-countFrom x s zero = unfold has in bool-ext false (within s (s + 0) x) (λ e. absurd (false≢true e)) (λ e. absurd (omega (arith, within-low s (s + 0) x e, within-high s (s + 0) x e)))
-has-countFrom x s (suc n) = go (has-countFrom x (suc s) n) (ℕ-discrete x s)
+pub elem-iota : (x s n : ℕ) → elem x (iota s n) ≡ within s (s + n) x
+unfolding iota
+elem-iota x s zero = unfold elem in bool-ext false (within s (s + 0) x) (λ e. absurd (false≢true e)) (λ e. absurd (omega (arith, within-low s (s + 0) x e, within-high s (s + 0) x e)))
+elem-iota x s (suc n) = go (elem-iota x (suc s) n) (ℕ-discrete x s)
   where
-    go : has x (countFrom (suc s) n) ≡ within (suc s) (suc s + n) x → Dec (x ≡ s) → has x (s ∷ countFrom (suc s) n) ≡ within s (s + suc n) x
-    go h (yes p) = has-here x s (countFrom (suc s) n) p ∙ sym (within-of s (s + suc n) x (omega arith) (omega arith))
+    go : elem x (iota (suc s) n) ≡ within (suc s) (suc s + n) x → Dec (x ≡ s) → elem x (s ∷ iota (suc s) n) ≡ within s (s + suc n) x
+    go h (yes p) = elem-here x s (iota (suc s) n) p ∙ sym (within-of s (s + suc n) x (omega arith) (omega arith))
     go h (no p) =
-        has-there x s (countFrom (suc s) n) p
+        elem-there x s (iota (suc s) n) p
         ∙ h
         ∙ bool-ext (within (suc s) (suc s + n) x) (within s (s + suc n) x)
         (λ e.
@@ -256,48 +256,48 @@ has-countFrom x s (suc n) = go (has-countFrom x (suc s) n) (ℕ-discrete x s)
         within-of (suc s) (suc s + n) x (omega arith) (omega arith))
 
 -- a list above x has no member up to x
-pub above-has : (x : ℕ) (l : List ℕ) (z : ℕ) → above x l ≡ true → z ≤ x → has z l ≡ false
-above-has x [] z e h = unfold has in refl
-above-has x (y ∷ ys) z e h =
+pub above-elem : (x : ℕ) (l : List ℕ) (z : ℕ) → above x l ≡ true → z ≤ x → elem z l ≡ false
+above-elem x [] z e h = unfold elem in refl
+above-elem x (y ∷ ys) z e h =
     let a = above-head x y ys e in
-    has-there z y ys (omega arith) ∙ above-has x ys z (above-rest x y ys e) h
+    elem-there z y ys (omega arith) ∙ above-elem x ys z (above-rest x y ys e) h
 
 -- two rising lists with the same members are equal
-pub rising-ext : (l m : List ℕ) → rising l ≡ true → rising m ≡ true → ((x : ℕ) → has x l ≡ has x m) → l ≡ m
+pub rising-ext : (l m : List ℕ) → rising l ≡ true → rising m ≡ true → ((x : ℕ) → elem x l ≡ elem x m) → l ≡ m
 rising-ext [] [] p q f = refl
-rising-ext [] (y ∷ ys) p q f = absurd (false≢true (unfold has in f y ∙ has-here y y ys refl))
-rising-ext (x ∷ xs) [] p q f = absurd (false≢true (unfold has in sym (f x) ∙ has-here x x xs refl))
+rising-ext [] (y ∷ ys) p q f = absurd (false≢true (unfold elem in f y ∙ elem-here y y ys refl))
+rising-ext (x ∷ xs) [] p q f = absurd (false≢true (unfold elem in sym (f x) ∙ elem-here x x xs refl))
 rising-ext (x ∷ xs) (y ∷ ys) p q f =
     let a : above x xs ≡ true = unfold rising in p in
     let b : above y ys ≡ true = unfold rising in q in
     let e : x ≡ y = first a b in
     ap₂ (λ (z : ℕ) (zs : List ℕ). z ∷ zs) e (rising-ext xs ys (above-rising x xs a) (above-rising y ys b) (λ z. rest z e a b))
   where
-    below : (l : List ℕ) (u v : ℕ) → above v l ≡ true → u < v → has u (v ∷ l) ≡ false
-    below l u v a h = has-there u v l (omega arith) ∙ above-has v l u a (omega arith)
+    below : (l : List ℕ) (u v : ℕ) → above v l ≡ true → u < v → elem u (v ∷ l) ≡ false
+    below l u v a h = elem-there u v l (omega arith) ∙ above-elem v l u a (omega arith)
 
     first : above x xs ≡ true → above y ys ≡ true → x ≡ y
     first a b =
         elim (decLt x y) [
-          | yes h ↦ absurd (false≢true (sym (below ys x y b h) ∙ sym (f x) ∙ has-here x x xs refl))
+          | yes h ↦ absurd (false≢true (sym (below ys x y b h) ∙ sym (f x) ∙ elem-here x x xs refl))
           | no h ↦ elim (decLt y x) [
-            | yes k ↦ absurd (false≢true (sym (below xs y x a k) ∙ f y ∙ has-here y y ys refl))
+            | yes k ↦ absurd (false≢true (sym (below xs y x a k) ∙ f y ∙ elem-here y y ys refl))
             | no k ↦ omega arith
           ]
         ]
 
-    rest : (z : ℕ) → x ≡ y → above x xs ≡ true → above y ys ≡ true → has z xs ≡ has z ys
+    rest : (z : ℕ) → x ≡ y → above x xs ≡ true → above y ys ≡ true → elem z xs ≡ elem z ys
     rest z e a b =
         elim (ℕ-discrete z x) [
-          | yes h ↦ above-has x xs z a (omega arith) ∙ sym (above-has y ys z b (omega arith))
-          | no h ↦ sym (has-there z x xs h) ∙ f z ∙ has-there z y ys (omega arith)
+          | yes h ↦ above-elem x xs z a (omega arith) ∙ sym (above-elem y ys z b (omega arith))
+          | no h ↦ sym (elem-there z x xs h) ∙ f z ∙ elem-there z y ys (omega arith)
         ]
 
 -- intersection is commutative
-pub keep-has-comm : (l m : List ℕ) → rising l ≡ true → rising m ≡ true → keep (λ x. has x m) l ≡ keep (λ x. has x l) m
-keep-has-comm l m p q =
-    rising-ext (keep (λ x. has x m) l) (keep (λ x. has x l) m) (rising-keep (λ x. has x m) l p) (rising-keep (λ x. has x l) m q)
-    (λ x. has-keep (λ x. has x m) x l ∙ and-comm (has x l) (has x m) ∙ sym (has-keep (λ x. has x l) x m))
+pub filter-elem-comm : (l m : List ℕ) → rising l ≡ true → rising m ≡ true → filter (λ x. elem x m) l ≡ filter (λ x. elem x l) m
+filter-elem-comm l m p q =
+    rising-ext (filter (λ x. elem x m) l) (filter (λ x. elem x l) m) (rising-filter (λ x. elem x m) l p) (rising-filter (λ x. elem x l) m q)
+    (λ x. elem-filter (λ x. elem x m) x l ∙ and-comm (elem x l) (elem x m) ∙ sym (elem-filter (λ x. elem x l) x m))
 
 within-both : (a b c d x : ℕ) → (within a b x && within c d x) ≡ within (max a c) (max a c + (min b d - max a c)) x
 within-both a b c d x =
@@ -318,16 +318,16 @@ within-both a b c d x =
     rw (u, v))
 
 -- the intersection of two ranges is a range
-pub keep-within-countFrom : (a n c d : ℕ) → keep (within c d) (countFrom a n) ≡ countFrom (max a c) (min (a + n) d - max a c)
-keep-within-countFrom a n c d =
-    rising-ext (keep (within c d) (countFrom a n)) (countFrom (max a c) (min (a + n) d - max a c))
-    (rising-keep (within c d) (countFrom a n) (rising-countFrom a n))
-    (rising-countFrom (max a c) (min (a + n) d - max a c))
+pub filter-within-iota : (a n c d : ℕ) → filter (within c d) (iota a n) ≡ iota (max a c) (min (a + n) d - max a c)
+filter-within-iota a n c d =
+    rising-ext (filter (within c d) (iota a n)) (iota (max a c) (min (a + n) d - max a c))
+    (rising-filter (within c d) (iota a n) (rising-iota a n))
+    (rising-iota (max a c) (min (a + n) d - max a c))
     (λ x.
-    has-keep (within c d) x (countFrom a n)
-    ∙ ap (λ (b : Bool). b && within c d x) (has-countFrom x a n)
+    elem-filter (within c d) x (iota a n)
+    ∙ ap (λ (b : Bool). b && within c d x) (elem-iota x a n)
     ∙ within-both a (a + n) c d x
-    ∙ sym (has-countFrom x (max a c) (min (a + n) d - max a c)))
+    ∙ sym (elem-iota x (max a c) (min (a + n) d - max a c)))
 
 -- each step is at least one
 pub rising-gap : (l : List ℕ) → rising l ≡ true → (i k : ℕ) → i + k < length l → getD l i 0 + k ≤ getD l (i + k) 0
@@ -354,28 +354,28 @@ count-none : (x t : ℕ) (l : List ℕ) → above x l ≡ true → t ≤ x → c
 count-none x t l e h = rising-count-lt l t 0 (omega arith) (λ i k. absurd (omega arith)) (λ i k m. let a = above-at x l e i m in omega arith)
 
 -- the members within a range are those between two positions
-pub keep-within-part : (l : List ℕ) (a b : ℕ) → rising l ≡ true → a ≤ b
-    → keep (within a b) l ≡ take (count (λ x. ltb x b) l - count (λ x. ltb x a) l) (drop (count (λ x. ltb x a) l) l)
-keep-within-part [] a b e h = unfold keep count in refl
-keep-within-part (x ∷ xs) a b e h =
-    let ih = keep-within-part xs a b (rising-tail x xs e) h in
+pub filter-within-part : (l : List ℕ) (a b : ℕ) → rising l ≡ true → a ≤ b
+    → filter (within a b) l ≡ take (count (λ x. ltb x b) l - count (λ x. ltb x a) l) (drop (count (λ x. ltb x a) l) l)
+filter-within-part [] a b e h = unfold filter count in refl
+filter-within-part (x ∷ xs) a b e h =
+    let ih = filter-within-part xs a b (rising-tail x xs e) h in
     let up : above x xs ≡ true = unfold rising in e in
     elim (decLt x a) [
       | yes p ↦
           let q : x < b = omega arith in
-          rw (keep-no (within a b) x xs (within-below a b x p), count-yes (λ y. ltb y b) x xs (lt-ltb x b q), count-yes (λ y. ltb y a) x xs (lt-ltb x a p), suc-sub-suc) ih
+          rw (filter-no (within a b) x xs (within-below a b x p), count-yes (λ y. ltb y b) x xs (lt-ltb x b q), count-yes (λ y. ltb y a) x xs (lt-ltb x a p), suc-sub-suc) ih
       | no p ↦
           let p′ : a ≤ x = omega arith in
           let none = count-none x a xs up p′ in
           elim (decLt x b) [
             | yes q ↦
-                let ih′ : keep (within a b) xs ≡ take (count (λ y. ltb y b) xs) xs = rw (none, sub-zero) at ih in
-                rw (keep-yes (within a b) x xs (within-of a b x p′ q), count-yes (λ y. ltb y b) x xs (lt-ltb x b q), count-no (λ y. ltb y a) x xs (le-ltb x a p′), none, sub-zero, ih′)
+                let ih′ : filter (within a b) xs ≡ take (count (λ y. ltb y b) xs) xs = rw (none, sub-zero) at ih in
+                rw (filter-yes (within a b) x xs (within-of a b x p′ q), count-yes (λ y. ltb y b) x xs (lt-ltb x b q), count-no (λ y. ltb y a) x xs (le-ltb x a p′), none, sub-zero, ih′)
             | no q ↦
                 let q′ : b ≤ x = omega arith in
                 let none′ = count-none x b xs up q′ in
-                let ih′ : keep (within a b) xs ≡ [] = rw (none, none′) at ih in
-                rw (keep-no (within a b) x xs (within-past a b x q′), count-no (λ y. ltb y b) x xs (le-ltb x b q′), count-no (λ y. ltb y a) x xs (le-ltb x a p′), none, none′, ih′)
+                let ih′ : filter (within a b) xs ≡ [] = rw (none, none′) at ih in
+                rw (filter-no (within a b) x xs (within-past a b x q′), count-no (λ y. ltb y b) x xs (le-ltb x b q′), count-no (λ y. ltb y a) x xs (le-ltb x a p′), none, none′, ih′)
           ]
     ]
 

@@ -12,9 +12,9 @@ use lib.Dec.{eqb}
 use lib.ListN.{length, take, drop, getD, set, length-append, length-take, length-drop, length-set}
 use lib.Seq.{take-at, take-add, take-take, take-set-le, take-set-lt, drop-at, drop-drop, drop-set-add, drop-set-lt, getD-take, getD-drop, getD-set-same, getD-set-other, ext-getD}
 use borrow.Author.Tests.{eqb-true, eq-eqb}
-use Rattle.lists.specs.Lists.{putAt, keep, every, rowAt, rowsOf, flat}
-use Rattle.lists.specs.Laws.Parts.{take-drop, take-putAt, part-putAt}
-use Rattle.lists.specs.Laws.Keep.{and-left, and-right, every-keep-of}
+use Rattle.lists.specs.Lists.{splice, filter, all, rowAt, rowsOf, flatten}
+use Rattle.lists.specs.Laws.Parts.{take-drop, take-splice, part-splice}
+use Rattle.lists.specs.Laws.Filter.{and-left, and-right, all-filter-of}
 
 -- a row below the count is inside the rows
 pub row-in : (i n w : ℕ) → i < n → i * w + w ≤ n * w
@@ -23,7 +23,7 @@ row-in i n w h = rw (← suc-mul i w) (mul-le-mul-right w h)
 module _ {A : Type 0} where
   -- each row has w cells
   abbrev pub widths : ℕ → List (List A) → Bool
-  widths w rs = every (λ r. eqb (length r) w) rs
+  widths w rs = all (λ r. eqb (length r) w) rs
 
   pub length-rowsOf : (w n : ℕ) (l : List A) → length (rowsOf w n l) ≡ n
   unfolding rowsOf
@@ -82,19 +82,19 @@ module _ {A : Type 0} where
       (rowsOf-same w n (drop w l) (drop w m) (take-drop w (n * w) l ∙ ap (drop w) f ∙ sym (take-drop w (n * w) m)))
 
   -- a write past the rows
-  pub rowsOf-before : (w n : ℕ) (l v : List A) (at : ℕ) → n * w ≤ at → at + length v ≤ length l → rowsOf w n (putAt l at v) ≡ rowsOf w n l
-  rowsOf-before w n l v at h k = rowsOf-same w n (putAt l at v) l (take-putAt l v at k (n * w) h)
+  pub rowsOf-before : (w n : ℕ) (l v : List A) (at : ℕ) → n * w ≤ at → at + length v ≤ length l → rowsOf w n (splice l at v) ≡ rowsOf w n l
+  rowsOf-before w n l v at h k = rowsOf-same w n (splice l at v) l (take-splice l v at k (n * w) h)
 
   -- a row written right after the rows
   pub rowsOf-appended : (w n : ℕ) (l row : List A) → length row ≡ w → (n + 1) * w ≤ length l
-      → rowsOf w (n + 1) (putAt l (n * w) row) ≡ rowsOf w n l ++ (row ∷ [])
+      → rowsOf w (n + 1) (splice l (n * w) row) ≡ rowsOf w n l ++ (row ∷ [])
   unfolding rowAt
   rowsOf-appended w n l row e h =
       let k : n * w + w ≤ length l = rw (add-one, suc-mul) at h in
       let f : n * w + length row ≤ length l = omega arith in
       let p : n * w ≤ n * w = omega arith in
-      let q : take w (drop (n * w) (putAt l (n * w) row)) ≡ row = ap (λ (k : ℕ). take k (drop (n * w) (putAt l (n * w) row))) (sym e) ∙ part-putAt l row (n * w) f in
-      rowsOf-snoc w n (putAt l (n * w) row)
+      let q : take w (drop (n * w) (splice l (n * w) row)) ≡ row = ap (λ (k : ℕ). take k (drop (n * w) (splice l (n * w) row))) (sym e) ∙ part-splice l row (n * w) f in
+      rowsOf-snoc w n (splice l (n * w) row)
       ∙ ap₂ (λ (rs : List (List A)) (r : List A). rs ++ (r ∷ [])) (rowsOf-before w n l row (n * w) p f) q
 
   -- writing a cell changes its row only
@@ -131,16 +131,16 @@ module _ {A : Type 0} where
             | no e ↦ rowAt-set-other w i m j l v e k ∙ sym (getD-rowsOf w n l m q) ∙ sym (getD-set-other (rowsOf w n l) i m _ [] (omega arith))
           ]
 
-  pub length-flat : (w : ℕ) (rs : List (List A)) → widths w rs ≡ true → length (flat rs) ≡ length rs * w
-  unfolding every flat
-  length-flat w [] q = sym (zero-mul w)
-  length-flat w (r ∷ rs) q =
+  pub length-flatten : (w : ℕ) (rs : List (List A)) → widths w rs ≡ true → length (flatten rs) ≡ length rs * w
+  unfolding all flatten
+  length-flatten w [] q = sym (zero-mul w)
+  length-flatten w (r ∷ rs) q =
       let a : length r ≡ w = eqb-true _ _ (and-left _ _ q) in
-      let b = length-flat w rs (and-right (eqb (length r) w) _ q) in
+      let b = length-flatten w rs (and-right (eqb (length r) w) _ q) in
       rw (length-append, suc-mul) (omega arith)
 
   pub rowsOf-widths : (w n : ℕ) (l : List A) → n * w ≤ length l → widths w (rowsOf w n l) ≡ true
-  unfolding every rowsOf
+  unfolding all rowsOf
   rowsOf-widths w zero l h = refl
   rowsOf-widths w (suc n) l h =
       let k : n * w + w ≤ length l = rw suc-mul at h in
@@ -148,28 +148,28 @@ module _ {A : Type 0} where
       let b : n * w ≤ length (drop w l) = simp length-drop (omega arith) in
       rw (eq-eqb _ _ a, rowsOf-widths w n (drop w l) b)
 
-  pub widths-keep : (w : ℕ) (t : List A → Bool) (rs : List (List A)) → widths w rs ≡ true → widths w (keep t rs) ≡ true
-  widths-keep w t rs q = every-keep-of (λ r. eqb (length r) w) t rs q
+  pub widths-filter : (w : ℕ) (t : List A → Bool) (rs : List (List A)) → widths w rs ≡ true → widths w (filter t rs) ≡ true
+  widths-filter w t rs q = all-filter-of (λ r. eqb (length r) w) t rs q
 
   -- concatenated rows are read back unchanged
-  pub rowsOf-flat : (w : ℕ) (rs : List (List A)) → widths w rs ≡ true → (rest : List A) → rowsOf w (length rs) (flat rs ++ rest) ≡ rs
-  unfolding every flat rowsOf
-  rowsOf-flat w [] q rest = refl
-  rowsOf-flat w (r ∷ rs) q rest =
+  pub rowsOf-flatten : (w : ℕ) (rs : List (List A)) → widths w rs ≡ true → (rest : List A) → rowsOf w (length rs) (flatten rs ++ rest) ≡ rs
+  unfolding all flatten rowsOf
+  rowsOf-flatten w [] q rest = refl
+  rowsOf-flatten w (r ∷ rs) q rest =
       let a : length r ≡ w = eqb-true _ _ (and-left _ _ q) in
-      let b = rowsOf-flat w rs (and-right (eqb (length r) w) _ q) rest in
-      rw (append-assoc, take-at r (flat rs ++ rest) w a, drop-at r (flat rs ++ rest) w a, b)
+      let b = rowsOf-flatten w rs (and-right (eqb (length r) w) _ q) rest in
+      rw (append-assoc, take-at r (flatten rs ++ rest) w a, drop-at r (flatten rs ++ rest) w a, b)
 
-  pub rowsOf-put-flat : (w : ℕ) (rs : List (List A)) (l : List A) → widths w rs ≡ true → rowsOf w (length rs) (putAt l 0 (flat rs)) ≡ rs
-  unfolding putAt
-  rowsOf-put-flat w rs l q = rowsOf-flat w rs q (drop (0 + length (flat rs)) l)
+  pub rowsOf-put-flatten : (w : ℕ) (rs : List (List A)) (l : List A) → widths w rs ≡ true → rowsOf w (length rs) (splice l 0 (flatten rs)) ≡ rs
+  unfolding splice
+  rowsOf-put-flatten w rs l q = rowsOf-flatten w rs q (drop (0 + length (flatten rs)) l)
 
-  pub flat-rowsOf : (w n : ℕ) (l : List A) → flat (rowsOf w n l) ≡ take (n * w) l
-  unfolding flat rowsOf
-  flat-rowsOf w zero l = rw zero-mul
-  flat-rowsOf w (suc n) l = ap (λ (x : List A). take w l ++ x) (flat-rowsOf w n (drop w l)) ∙ sym (rw (suc-mul, add-comm (n * w) w) (take-add w (n * w) l))
+  pub flatten-rowsOf : (w n : ℕ) (l : List A) → flatten (rowsOf w n l) ≡ take (n * w) l
+  unfolding flatten rowsOf
+  flatten-rowsOf w zero l = rw zero-mul
+  flatten-rowsOf w (suc n) l = ap (λ (x : List A). take w l ++ x) (flatten-rowsOf w n (drop w l)) ∙ sym (rw (suc-mul, add-comm (n * w) w) (take-add w (n * w) l))
 
-  pub flat-append : (rs ss : List (List A)) → flat (rs ++ ss) ≡ flat rs ++ flat ss
-  unfolding flat
-  flat-append [] ss = refl
-  flat-append (r ∷ rs) ss = rw (flat-append rs ss, append-assoc)
+  pub flatten-append : (rs ss : List (List A)) → flatten (rs ++ ss) ≡ flatten rs ++ flatten ss
+  unfolding flatten
+  flatten-append [] ss = refl
+  flatten-append (r ∷ rs) ss = rw (flatten-append rs ss, append-assoc)

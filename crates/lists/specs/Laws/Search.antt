@@ -11,11 +11,11 @@ use lib.Dec.{ltb}
 use lib.ListN.{length, take, drop, getD, set, length-drop, take-append-drop}
 use lib.Seq.{getD-drop, take-append-seam}
 use borrow.Author.Tests.{lt-ltb, le-ltb}
-use Rattle.lists.specs.Lists.{putAt, keep, count, rising, has, within}
+use Rattle.lists.specs.Lists.{splice, filter, count, rising, elem, within}
 use Rattle.lists.specs.inner.Searching.{firstNotBelow}
-use Rattle.lists.specs.Laws.Parts.{length-putAt, putAt-then, set-putAt}
-use Rattle.lists.specs.Laws.Keep.{split, keep-no, keep-append}
-use Rattle.lists.specs.Laws.Rising.{rising-tail, rising-at, rising-count-lt, keep-within-part, has-at, has-of}
+use Rattle.lists.specs.Laws.Parts.{length-splice, splice-then, set-splice}
+use Rattle.lists.specs.Laws.Filter.{split, filter-no, filter-append}
+use Rattle.lists.specs.Laws.Rising.{rising-tail, rising-at, rising-count-lt, filter-within-part, elem-at, elem-of}
 
 notBelow-yes : (t x : ℕ) (xs : List ℕ) → x < t → firstNotBelow t (x ∷ xs) ≡ suc (firstNotBelow t xs)
 unfolding firstNotBelow
@@ -90,22 +90,22 @@ notBelow-at t l e i h q =
     ]
 
 -- t is a member exactly if it is at that position
-pub has-notBelow : (t : ℕ) (l : List ℕ) (i : ℕ) → i < length l → getD l i 0 ≡ t → has t l ≡ true
-has-notBelow t l i h q = rw (← q) (has-of l i h)
+pub elem-notBelow : (t : ℕ) (l : List ℕ) (i : ℕ) → i < length l → getD l i 0 ≡ t → elem t l ≡ true
+elem-notBelow t l i h q = rw (← q) (elem-of l i h)
 
-pub has-not-notBelow : (t : ℕ) (l : List ℕ) → rising l ≡ true → (firstNotBelow t l < length l → getD l (firstNotBelow t l) 0 ≡ t → ⊥) → has t l ≡ false
-has-not-notBelow t l e f =
-    elim (split (has t l)) [
+pub elem-not-notBelow : (t : ℕ) (l : List ℕ) → rising l ≡ true → (firstNotBelow t l < length l → getD l (firstNotBelow t l) 0 ≡ t → ⊥) → elem t l ≡ false
+elem-not-notBelow t l e f =
+    elim (split (elem t l)) [
       | inl q ↦
-          let a = has-at t l q in
+          let a = elem-at t l q in
           let b : firstNotBelow t l ≡ a .0 = notBelow-at t l e (a .0) (a .1) (a .2) in
           absurd (f (rw b (a .1)) (rw b (a .2)))
       | inr q ↦ q
     ]
 
-pub has-in-notBelow : (t : ℕ) (l : List ℕ) → rising l ≡ true → has t l ≡ true → (firstNotBelow t l < length l) × (getD l (firstNotBelow t l) 0 ≡ t)
-has-in-notBelow t l e q =
-    let a = has-at t l q in
+pub elem-in-notBelow : (t : ℕ) (l : List ℕ) → rising l ≡ true → elem t l ≡ true → (firstNotBelow t l < length l) × (getD l (firstNotBelow t l) 0 ≡ t)
+elem-in-notBelow t l e q =
+    let a = elem-at t l q in
     let b : firstNotBelow t l ≡ a .0 = notBelow-at t l e (a .0) (a .1) (a .2) in
     (rw b (a .1), rw b (a .2))
 
@@ -114,39 +114,39 @@ notBelow-count : (t : ℕ) (l : List ℕ) → rising l ≡ true → count (λ x.
 notBelow-count t l e = rising-count-lt l t (firstNotBelow t l) (notBelow-le t l) (λ i h. notBelow-below t l e i h) (λ i h k. notBelow-above t l e i h k)
 
 -- the ids within a range are those between two positions
-pub keep-within-places : (l : List ℕ) (a b : ℕ) → rising l ≡ true → a ≤ b → keep (within a b) l ≡ take (firstNotBelow b l - firstNotBelow a l) (drop (firstNotBelow a l) l)
-keep-within-places l a b e h = rw (← notBelow-count a l e, ← notBelow-count b l e) (keep-within-part l a b e h)
+pub filter-within-places : (l : List ℕ) (a b : ℕ) → rising l ≡ true → a ≤ b → filter (within a b) l ≡ take (firstNotBelow b l - firstNotBelow a l) (drop (firstNotBelow a l) l)
+filter-within-places l a b e h = rw (← notBelow-count a l e, ← notBelow-count b l e) (filter-within-part l a b e h)
 
 -- ---- filtering from a position on
 
 module _ {A : Type 0} (test : A → Bool) (d : A) where
-  pub keep-nothing : (l : List A) → ((i : ℕ) → i < length l → test (getD l i d) ≡ false) → keep test l ≡ []
-  keep-nothing [] f = unfold keep in refl
-  keep-nothing (x ∷ xs) f = keep-no test x xs (f 0 (omega arith)) ∙ keep-nothing xs (λ i h. f (suc i) (suc-le-suc h))
+  pub filter-nothing : (l : List A) → ((i : ℕ) → i < length l → test (getD l i d) ≡ false) → filter test l ≡ []
+  filter-nothing [] f = unfold filter in refl
+  filter-nothing (x ∷ xs) f = filter-no test x xs (f 0 (omega arith)) ∙ filter-nothing xs (λ i h. f (suc i) (suc-le-suc h))
 
   -- no element from position i on passes
-  pub keep-stop : (l : List A) (i : ℕ) → ((k : ℕ) → i ≤ k → k < length l → test (getD l k d) ≡ false) → keep test (take i l) ≡ keep test l
-  keep-stop l i f =
-      let none : keep test (drop i l) ≡ [] = keep-nothing (drop i l) (λ k h. rw (getD-drop i l k d) (f (i + k) (omega arith) (let n = length-drop i l in omega arith))) in
+  pub filter-stop : (l : List A) (i : ℕ) → ((k : ℕ) → i ≤ k → k < length l → test (getD l k d) ≡ false) → filter test (take i l) ≡ filter test l
+  filter-stop l i f =
+      let none : filter test (drop i l) ≡ [] = filter-nothing (drop i l) (λ k h. rw (getD-drop i l k d) (f (i + k) (omega arith) (let n = length-drop i l in omega arith))) in
       sym
-      (ap (keep test) (sym (take-append-drop i l))
-      ∙ keep-append test (take i l) (drop i l)
-      ∙ ap (λ (x : List A). keep test (take i l) ++ x) none
-      ∙ append-nil (keep test (take i l)))
+      (ap (filter test) (sym (take-append-drop i l))
+      ∙ filter-append test (take i l) (drop i l)
+      ∙ ap (λ (x : List A). filter test (take i l) ++ x) none
+      ∙ append-nil (filter test (take i l)))
 
 -- ---- one more at the end of the written part
 
-pub put-more : {A : Type 0} (l w : List A) (n : ℕ) (x : A) → n ≡ length w → n < length l → set (putAt l 0 w) n x ≡ putAt l 0 (w ++ (x ∷ []))
+pub put-more : {A : Type 0} (l w : List A) (n : ℕ) (x : A) → n ≡ length w → n < length l → set (splice l 0 w) n x ≡ splice l 0 (w ++ (x ∷ []))
 put-more l w n x e h =
     let f : 0 + length w ≤ length l = omega arith in
-    let k : n < length (putAt l 0 w) = rw (length-putAt l w 0 f) h in
+    let k : n < length (splice l 0 w) = rw (length-splice l w 0 f) h in
     let m : n ≡ 0 + length w = omega arith in
     let r : 0 + (length w + length (x ∷ [])) ≤ length l = omega arith in
-    set-putAt (putAt l 0 w) n x k
-    ∙ ap (λ (i : ℕ). putAt (putAt l 0 w) i (x ∷ [])) m
-    ∙ putAt-then l w (x ∷ []) 0 r
+    set-splice (splice l 0 w) n x k
+    ∙ ap (λ (i : ℕ). splice (splice l 0 w) i (x ∷ [])) m
+    ∙ splice-then l w (x ∷ []) 0 r
 
 -- reading back what is written at the start
-pub take-put : {A : Type 0} (l w : List A) → take (length w) (putAt l 0 w) ≡ w
-unfolding putAt
+pub take-put : {A : Type 0} (l w : List A) → take (length w) (splice l 0 w) ≡ w
+unfolding splice
 take-put l w = take-append-seam w (drop (0 + length w) l)

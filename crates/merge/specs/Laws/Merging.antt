@@ -8,18 +8,18 @@ use native.Mathlib.Omega.{arith}
 use lib.ListN.{length}
 use borrow.Author.Tests.{eq-eqb, ne-eqb}
 use Rattle.refusals.specs.Refusals.{accepted}
-use Rattle.lists.specs.Lists.{putAt, flat}
-use Rattle.lists.specs.Laws.Keep.{every-keep}
-use Rattle.plain_table.specs.Staged.{Staged, due, inserts}
+use Rattle.lists.specs.Lists.{splice, flatten}
+use Rattle.lists.specs.Laws.Filter.{all-filter}
+use Rattle.plain_table.specs.Staged.{Staged, compactionDue, inserts}
 use Rattle.plain_table.specs.Plain.{Inserted, insertAll, Plain, dead, withoutRow, removed, applied, live as liveCount, compacted, unstaged, compactsAfter, merged, mergeKeeps, mergeDrops}
 use Rattle.table.specs.declared.Header.{Header}
 use Rattle.plain_table.specs.Laws.Price.{compacted-live}
 use Rattle.table.specs.declared.Merge.{Merge}
-use Rattle.merge_insert.specs.declared.Passed.{Passed}
+use Rattle.merge_insert.specs.declared.MergeProgress.{MergeProgress}
 use Rattle.table.specs.declared.MergeAnswer.the-variants.{Merged}
-use Rattle.table.specs.Numbers.{mergeSays}
+use Rattle.table.specs.Numbers.{mergeView}
 use Rattle.table.specs.Stores.{headerOf, rowStore}
-use Rattle.table.specs.Promises.{Stores, stores, body, compactionWords, Represents, mergeOf, mergedRows, MergedTable}
+use Rattle.table.specs.Contracts.{Stores, stores, body, compactionWords, Represents, mergeOf, mergedRows, MergedTable}
 use Rattle.merge_pending.specs.inner.Becoming.{Becomes}
 use Rattle.merge_insert.specs.inner.Insertions.{InsertedTable}
 use Rattle.merge_remove.specs.inner.Removals.{removedAll}
@@ -41,7 +41,7 @@ passes-applied p p₁ p₂ a b c d =
     ∙ ap₂ (λ (staged : List Staged) (q : Plain). foldl withoutRow q staged) b (a ∙ removedAll-keys (p .staged) p))
 
 -- the result of the three passes
-pub passes-table : {p p₁ p₂ : Plain} {s s₁ s₂ s₃ : Stores} {m : Passed} → Represents p s
+pub passes-table : {p p₁ p₂ : Plain} {s s₁ s₂ s₃ : Stores} {m : MergeProgress} → Represents p s
     → p₁ ≡ removedAll 1 (p .staged) p → Becomes p p₁ s s₁ → p₂ ≡ removedAll 2 (p₁ .staged) p₁ → Becomes p₁ p₂ s₁ s₂ → InsertedTable p₂ s₂ s₃ m
     → AppliedTable p s s₃ m
 passes-table {p} {p₁} {p₂} {s} {s₁} {s₂} {s₃} {m} r a f b g i =
@@ -62,12 +62,12 @@ unfolding compactsAfter
 stopped-not status p e = rw (ne-eqb status 0 e)
 
 -- a merge that did not stop does not compact either, with too few dead rows or no generation left
-pub due-not : (status : ℕ) (p : Plain) → status ≡ 0 → due (dead p) (length (p .rows)) (p .generation) ≡ false → compactsAfter status p ≡ false
+pub due-not : (status : ℕ) (p : Plain) → status ≡ 0 → compactionDue (dead p) (length (p .rows)) (p .generation) ≡ false → compactsAfter status p ≡ false
 unfolding compactsAfter
 due-not status p e d = rw (eq-eqb status 0 e, d)
 
 -- with enough dead rows and a generation left it compacts
-pub due-compacts : (status : ℕ) (p : Plain) → status ≡ 0 → due (dead p) (length (p .rows)) (p .generation) ≡ true → compactsAfter status p ≡ true
+pub due-compacts : (status : ℕ) (p : Plain) → status ≡ 0 → compactionDue (dead p) (length (p .rows)) (p .generation) ≡ true → compactsAfter status p ≡ true
 unfolding compactsAfter
 due-compacts status p e d = rw (eq-eqb status 0 e, d)
 
@@ -80,8 +80,8 @@ compacted-rows p = compacted-live (unstaged p)
 pub compacted-store : (p : Plain) (before : List (List ℕ)) (store : List ℕ) → rowStore (compacted p) [] store ≡ rowStore (compacted p) before store
 unfolding rowStore compacted
 compacted-store p before store =
-    let e = every-keep (λ row. row .live) (p .rows) in
-    ap (λ (rows : List (List ℕ)). putAt store 0 (flat rows)) (stored-live (compacted p .rows) [] e ∙ sym (stored-live (compacted p .rows) before e))
+    let e = all-filter (λ row. row .live) (p .rows) in
+    ap (λ (rows : List (List ℕ)). splice store 0 (flatten rows)) (stored-live (compacted p .rows) [] e ∙ sym (stored-live (compacted p .rows) before e))
 
 -- a compaction changes the generation
 pub compacted-generation : (p : Plain) → compacted (unstaged p) .generation ≡ p .generation → ⊥
@@ -90,7 +90,7 @@ compacted-generation p e = omega arith
 
 -- ---- the whole
 
-module _ {h : Header} {rows keys sorts pending live base : List ℕ} {m : Passed} {rows₁ keys₁ sorts₁ : List ℕ} {r : Merge} {rows′ keys′ sorts′ live′ base′ : List ℕ} {p : Plain}
+module _ {h : Header} {rows keys sorts pending live base : List ℕ} {m : MergeProgress} {rows₁ keys₁ sorts₁ : List ℕ} {r : Merge} {rows′ keys′ sorts′ live′ base′ : List ℕ} {p : Plain}
     (shown : Represents p (stores h rows keys sorts pending))
     (a : AppliedTable p (stores h rows keys sorts pending) (stores (m .header) rows₁ keys₁ sorts₁ pending) m)
     (f : FinishedTable m rows₁ keys₁ sorts₁ live base r rows′ keys′ sorts′ live′ base′ pending (applied p .table)) where
@@ -110,7 +110,7 @@ module _ {h : Header} {rows keys sorts pending live base : List ℕ} {m : Passed
 
   -- the two halves are a merge
   pub merged-table : MergedTable (stores h rows keys sorts pending) (compactionWords live base) (Merged r) (body rows′ keys′ sorts′) (compactionWords live′ base′) p
-  unfolding mergeSays mergedRows
+  unfolding mergeView mergedRows
   merged-table =
       let before = first-stored shown (a .steps) (steps-refl (a .steps .represents)) in
       record {

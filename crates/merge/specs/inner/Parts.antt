@@ -8,22 +8,22 @@ use Rattle.lists.specs.Lists.{rowsOf}
 use Rattle.plain_table.specs.Plain.{Plain, applied, live, dead, compacted, unstaged, compactsAfter}
 use Rattle.table.specs.declared.Header.{Header}
 use Rattle.table.specs.declared.Merge.{Merge}
-use Rattle.merge_insert.specs.declared.Passed.{Passed}
+use Rattle.merge_insert.specs.declared.MergeProgress.{MergeProgress}
 use Rattle.merge_insert.specs.inner.Insertions.{hasAdded}
 use Rattle.table.specs.Stores.{headerOf, rowStore, sortStore}
-use Rattle.table.specs.Promises.{Stores, stores, Represents, SlotsPast, PastNeeded}
+use Rattle.table.specs.Contracts.{Stores, stores, Represents, SlotsPast, PastNeeded}
 use Rattle.merge_pending.specs.inner.Becoming.{Becomes, withCounts}
 
 -- ---- the passes over the pending records
 
 -- the table after the passes, and their answer
-pub record AppliedTable (p : Plain) (s s′ : Stores) (m : Passed) : Type 0 where
+pub record AppliedTable (p : Plain) (s s′ : Stores) (m : MergeProgress) : Type 0 where
   pub steps : Becomes p (applied p .table) s s′
   pub status : m .status ≡ applied p .status
   pub place : m .place ≡ applied p .place
   pub added : hasAdded m ≡ applied p .added
 
-pub record Applying (h : Header) (rows keys sorts pending : List ℕ) (m : Passed) (rows′ keys′ sorts′ : List ℕ) : Type 0 where
+pub record Applying (h : Header) (rows keys sorts pending : List ℕ) (m : MergeProgress) (rows′ keys′ sorts′ : List ℕ) : Type 0 where
   pub past : SlotsPast (h .capacity) keys keys′
   pub counts : m .header ≡ withCounts h (m .header .rows) (m .header .dead) (m .header .entries) (m .header .largest)
   pub rows-fit : m .header .rows ≤ h .capacity
@@ -37,16 +37,16 @@ abbrev pub finished : ℕ → Plain → Plain
 finished status p = cond (compactsAfter status p) (compacted (unstaged p)) (unstaged p)
 
 -- the result of the passes, with the final header and the numbers of rows kept and dropped
-abbrev pub finishedAs : Passed → Header → ℕ → ℕ → Merge
+abbrev pub finishedAs : MergeProgress → Header → ℕ → ℕ → Merge
 finishedAs m h kept dropped =
     record { header = h; status = m .status; place = m .place; added = hasAdded m; kept = kept; dropped = dropped }
 
 -- the same for a plain table
-abbrev pub answerOf : Passed → Plain → Merge
+abbrev pub answerOf : MergeProgress → Plain → Merge
 answerOf m p =
     finishedAs m (headerOf (finished (m .status) p)) (cond (compactsAfter (m .status) p) (live p) 0) (cond (compactsAfter (m .status) p) (dead p) 0)
 
-module _ (m : Passed) (rows keys sorts live-words base : List ℕ) (r : Merge) (rows′ keys′ sorts′ live-words′ base′ : List ℕ) where
+module _ (m : MergeProgress) (rows keys sorts live-words base : List ℕ) (r : Merge) (rows′ keys′ sorts′ live-words′ base′ : List ℕ) where
   pub record FinishedTable (pending : List ℕ) (p : Plain) : Type 0 where
     pub answer : r ≡ answerOf m p
     pub rows-after : rows′ ≡ rowStore (finished (m .status) p) (rowsOf (m .header .columns) (m .header .rows) rows) rows

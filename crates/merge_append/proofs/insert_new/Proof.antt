@@ -2,7 +2,7 @@
 use mathlib.Core.Path.{sym, ap, _∙_}
 use native.Mathlib.Omega.{arith}
 use borrow.Author.Needs.{needs}
-use Rattle.key_index.specs.declared.Keyed.{Keyed}
+use Rattle.key_index.specs.declared.IndexShape.{IndexShape}
 use Rattle.merge_append.proofs.AppendSteps.{stop-of, entered-of, Entering, entering, rebuilds, stayed-of, grew-stepped, grew-rebuilt}
 use Rattle.merge_append.proofs.insert_new.Statement.{statement}
 use Rattle.merge_append.proofs.insert_new.Tie as tie
@@ -17,7 +17,7 @@ returns-2 : tie.Need-returns-2
 returns-2 c = stayed-of _ _ _ _ _ _ _ (stop-of _ _ _ _ _ (c .before .before .before .before .before .admit .ensures) _ (c .before .number .given .1))
 
 returns-3 : tie.Need-returns-3
-returns-3 c = grew-stepped _ _ _ _ _ _ _ _ (entered-of _ _ _ _ _ (c .before .before .before .before .before .before .before .before .before .before .before .before .before .before .before .before .before .before .admit .ensures) _ (c .before .before .before .before .before .before .before .before .before .before .before .before .before .before .entries .given .1)) _ _ (c .before .before .keys2 .given) (c .before .before .before .before .before .before .before .before .before .before .write-row .ensures) (sym (c .before .before .before .before .before .before .before .is-outgrown .ensures) ∙ c .before .before .before .before .before .before .if1 .left) _ (c .before .before .before .before .before .keyed .ensures) _ (c .before .before .before .put .ensures) _ (c .grown .ensures)
+returns-3 c = grew-stepped _ _ _ _ _ _ _ _ (entered-of _ _ _ _ _ (c .before .before .before .before .before .before .before .before .before .before .before .before .before .before .before .before .before .before .admit .ensures) _ (c .before .before .before .before .before .before .before .before .before .before .before .before .before .before .entries .given .1)) _ _ (c .before .before .keys2 .given) (c .before .before .before .before .before .before .before .before .before .before .write-row .ensures) (sym (c .before .before .before .before .before .before .before .is-outgrown .ensures) ∙ c .before .before .before .before .before .before .if1 .left) _ (c .before .before .before .before .before .index-shape .ensures) _ (c .before .before .before .put .ensures) _ (c .grown .ensures)
 
 pub insert-new-spec : {M : Type 1} → statement M
 insert-new-spec =
@@ -30,7 +30,7 @@ insert-new-spec =
     (λ c. search needs) (λ c. search needs) (λ c. search needs)
     returns
     (λ c κs. search needs)
-    (λ c κs. omega (arith, ap (λ (t : Keyed). t .room) (c .before .keyed .ensures), enters (c .before .before .before .before .before .before .before .before .before .before)))
+    (λ c κs. omega (arith, ap (λ (t : IndexShape). t .room) (c .before .index-shape .ensures), enters (c .before .before .before .before .before .before .before .before .before .before)))
     (λ c κs. omega (arith, enters (c .before .before .before .before .before .before .before .before .before .before .before .before .before)))
     (λ c. search needs)
     returns-2

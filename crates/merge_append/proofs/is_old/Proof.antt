@@ -1,16 +1,16 @@
 -- `merge_append::is_old` meets its contract. Assumes nothing.
 use borrow.Author.Needs.{needs}
 use Rattle.plain_table.specs.Plain.{below}
-use Rattle.table.specs.Numbers.{largestSays}
+use Rattle.table.specs.Numbers.{largestView}
 use Rattle.merge_append.proofs.is_old.Statement.{statement}
 use Rattle.merge_append.proofs.is_old.Tie as tie
 
 returns : tie.Need-returns
-unfolding below largestSays
+unfolding below largestView
 returns c = rw (c .enum-told .given .1)
 
 returns-2 : tie.Need-returns-2
-unfolding below largestSays
+unfolding below largestView
 returns-2 c = rw (c .before .largest .given .1)
 
 pub is-old-spec : {M : Type 1} → statement M

@@ -6,7 +6,7 @@ use Rattle.merge_append.proofs.is_outgrown.Tie as tie
 
 returns : tie.Need-returns
 unfolding outgrown
-returns c = rw (c .before .room-for .ensures, c .room-for2 .ensures)
+returns c = rw (c .before .size-class-for .ensures, c .size-class-for2 .ensures)
 
 pub is-outgrown-spec : {M : Type 1} → statement M
 is-outgrown-spec =

@@ -7,13 +7,13 @@ use Rattle.merge_append.proofs.rebuild_grown.Statement.{statement}
 use Rattle.merge_append.proofs.rebuild_grown.Tie as tie
 
 rebuild-requires : tie.Need-rebuild-requires
-rebuild-requires c κs = let s = c .before .before .before .before .before in rebuildable _ _ _ _ _ _ (s .pre) _ (c .before .before .grown .ensures) _ (c .before .keyed .ensures)
+rebuild-requires c κs = let s = c .before .before .before .before .before in rebuildable _ _ _ _ _ _ (s .pre) _ (c .before .before .grown .ensures) _ (c .before .index-shape .ensures)
 
 returns : tie.Need-returns
 returns c =
     record {
       answer = ap Appended (c .before .before .before .before .before .grown .ensures);
-      rebuilt = rebuilt-grown (c .before .before .before .before .before .before .before .before .args .h) _ _ _ _ _ _ (c .before .before .before .before .before .grown .result) (c .before .before .before .before .before .grown .ensures) _ (c .before .before .before .before .keyed .ensures) (c .before .before .rebuild .ensures);
+      rebuilt = rebuilt-grown (c .before .before .before .before .before .before .before .before .args .h) _ _ _ _ _ _ (c .before .before .before .before .before .grown .result) (c .before .before .before .before .before .grown .ensures) _ (c .before .before .before .before .index-shape .ensures) (c .before .before .rebuild .ensures);
     }
 
 pub rebuild-grown-spec : {M : Type 1} → statement M

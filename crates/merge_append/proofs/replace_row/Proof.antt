@@ -5,7 +5,7 @@ use mathlib.Core.List.{List}
 use native.Mathlib.Omega.{arith}
 use lib.ListN.{length, length-set}
 use borrow.Author.Needs.{needs}
-use Rattle.lists.specs.Lists.{putAt}
+use Rattle.lists.specs.Lists.{splice}
 use Rattle.merge_append.specs.Laws.Places.{Placed, placed}
 use Rattle.merge_append.proofs.AppendSteps.{stop-of, entered-of, Entering, entering, rebuilds, stayed-of, replaced-stepped, replaced-rebuilt}
 use Rattle.merge_append.proofs.replace_row.Statement.{statement}
@@ -27,7 +27,7 @@ returns : tie.Need-returns
 returns c =
     let a = c .before .before .before .before .before .before .before .before .before .before .before .before .before .before .before .before .before .before .before .before .before .before .before .before .before .before .before .before .before .before .args in
     replaced-rebuilt _ _ _ _ _ _ _ _ (entered-of _ _ _ _ _ (c .before .before .before .before .before .before .before .before .before .before .before .before .before .before .before .before .before .before .before .before .before .before .admit .ensures) _ (c .before .before .before .before .before .before .before .before .before .before .before .before .before .before .before .before .before .before .entries .given .1)) _ _ (c .before .keys .given) (a .old) (a .slot)
-    (c .before .before .before .before .before .before .before .before .before .write-row .ensures ∙ ap (λ (l : List ℕ). putAt l (a .h .rows * a .h .columns) (a .cells .now)) (c .before .before .before .before .before .before .before .before .before .before .before .before .before .before .set-stale .ensures .cells))
+    (c .before .before .before .before .before .before .before .before .before .write-row .ensures ∙ ap (λ (l : List ℕ). splice l (a .h .rows * a .h .columns) (a .cells .now)) (c .before .before .before .before .before .before .before .before .before .before .before .before .before .before .set-stale .ensures .cells))
     (sym (c .before .before .before .before .before .before .is-outgrown .ensures) ∙ c .before .before .before .before .before .if1 .taken) _ (c .before .before .rebuild-grown .ensures)
 
 returns-2 : tie.Need-returns-2
@@ -38,7 +38,7 @@ returns-3 c =
     let s = c .before .before .before .before .before .before .before .before .before .before .before .before .before .before .before .before .before .before .before .before .before .before .before .before .before .before .before .before .before .before in
     let a = s .args in
     replaced-stepped _ _ _ _ _ _ _ _ (entered-of _ _ _ _ _ (c .before .before .before .before .before .before .before .before .before .before .before .before .before .before .before .before .before .before .before .before .before .before .admit .ensures) _ (c .before .before .before .before .before .before .before .before .before .before .before .before .before .before .before .before .before .before .entries .given .1)) _ _ (c .before .before .keys2 .given) (a .old) (a .slot)
-    (c .before .before .before .before .before .before .before .before .before .write-row .ensures ∙ ap (λ (l : List ℕ). putAt l (a .h .rows * a .h .columns) (a .cells .now)) (c .before .before .before .before .before .before .before .before .before .before .before .before .before .before .set-stale .ensures .cells))
+    (c .before .before .before .before .before .before .before .before .before .write-row .ensures ∙ ap (λ (l : List ℕ). splice l (a .h .rows * a .h .columns) (a .cells .now)) (c .before .before .before .before .before .before .before .before .before .before .before .before .before .before .set-stale .ensures .cells))
     (sym (c .before .before .before .before .before .before .is-outgrown .ensures) ∙ c .before .before .before .before .before .if1 .left) (s .pre .2) (c .before .before .before .replace .ensures) _ (c .grown .ensures)
 
 pub replace-row-spec : {M : Type 1} → statement M

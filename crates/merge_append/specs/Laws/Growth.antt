@@ -9,10 +9,10 @@ use native.Mathlib.Numerals.{add-one}
 use native.Mathlib.Omega.{arith}
 use lib.ListN.{length, take, drop, getD, set, length-append, length-map, length-set, List·getD-append}
 use lib.Seq.{drop-drop, drop-set-lt}
-use Rattle.lists.specs.Lists.{putAt, count, rowsOf, flat}
-use Rattle.lists.specs.Laws.Keep.{count-append}
-use Rattle.lists.specs.Laws.Parts.{length-putAt, putAt-start}
-use Rattle.lists.specs.Laws.Rows.{row-in, length-rowsOf, getD-rowsOf, rowsOf-appended, flat-rowsOf, flat-append}
+use Rattle.lists.specs.Lists.{splice, count, rowsOf, flatten}
+use Rattle.lists.specs.Laws.Filter.{count-append}
+use Rattle.lists.specs.Laws.Parts.{length-splice, splice-start}
+use Rattle.lists.specs.Laws.Rows.{row-in, length-rowsOf, getD-rowsOf, rowsOf-appended, flatten-rowsOf, flatten-append}
 use Rattle.key_index.specs.Slots.{KeysSound}
 use Rattle.row_buffer.specs.Laws.Rows.{stale-rows}
 use Rattle.sort_entries.specs.Entries.{Entry, entriesOf, entryWords, push, rebuilt}
@@ -26,12 +26,12 @@ use Rattle.table.specs.declared.Header.{Header}
 use Rattle.table.specs.declared.Largest.the-variants.{Value}
 use Rattle.table.specs.Numbers.{largestOf}
 use Rattle.table.specs.Stores.{entries, headerOf, marked, stored, rowStore, sortStore}
-use Rattle.table.specs.Sound.{keyedOf}
-use Rattle.table.specs.Promises.{Stores, stores, lengths, Represents}
+use Rattle.table.specs.Sound.{indexShapeOf}
+use Rattle.table.specs.Contracts.{Stores, stores, lengths, Represents}
 use Rattle.merge_pending.specs.inner.Becoming.{Later, Becomes, withCounts}
 use Rattle.merge_append.specs.inner.Appending.{Entered, grownTo}
 use Rattle.merge_append.specs.Laws.Admission.{free-above}
-use Rattle.table.specs.Laws.Sound.{says-of}
+use Rattle.table.specs.Laws.Sound.{largestView-largestOf}
 use Rattle.table.specs.Laws.Stored.{stored-again}
 use Rattle.table.specs.Laws.Shown.{long-stores, stored-rows, represents-long, rows-stored, rows-counted}
 use Rattle.merge_pending.specs.Laws.Dying.{killAt, length-killAt, killAt-cells, killAt-live, entries-killAt, stored-killAt}
@@ -136,10 +136,10 @@ module _ {p : Plain} {s : Stores} (r : Represents p s) {kept : List Row} {base :
       stored-snoc kept cells _ (length-rowsOf (s .header .columns) (s .header .rows) (s .rows) ∙ rows-counted r ∙ sym (q .count-same))
       ∙ ap (λ (rs : List (List ℕ)). rs ++ (cells ∷ [])) (sym (q .rows-same))
 
-  flat-grown : flat (rowsOf (s .header .columns) (s .header .rows) base ++ (cells ∷ [])) ≡ take (s .header .rows * s .header .columns) base ++ cells
+  flat-grown : flatten (rowsOf (s .header .columns) (s .header .rows) base ++ (cells ∷ [])) ≡ take (s .header .rows * s .header .columns) base ++ cells
   flat-grown =
-      flat-append (rowsOf (s .header .columns) (s .header .rows) base) (cells ∷ [])
-      ∙ ap₂ (λ (a b : List ℕ). a ++ b) (flat-rowsOf (s .header .columns) (s .header .rows) base) (unfold flat in append-nil cells)
+      flatten-append (rowsOf (s .header .columns) (s .header .rows) base) (cells ∷ [])
+      ∙ ap₂ (λ (a b : List ℕ). a ++ b) (flatten-rowsOf (s .header .columns) (s .header .rows) base) (unfold flatten in append-nil cells)
 
   past-row : drop (s .header .rows * s .header .columns + length cells) (s .rows) ≡ drop (s .header .rows * s .header .columns + length cells) base
   past-row =
@@ -149,22 +149,22 @@ module _ {p : Plain} {s : Stores} (r : Represents p s) {kept : List Row} {base :
 
   -- in the row store only the row's cells change
   pub grown-store : rowStore (withRow p kept cells) (rowsOf (s .header .columns) (s .header .rows) (s .rows)) (s .rows)
-      ≡ putAt base (s .header .rows * s .header .columns) cells
+      ≡ splice base (s .header .rows * s .header .columns) cells
   unfolding rowStore
   grown-store =
-      ap (λ (rs : List (List ℕ)). putAt (s .rows) 0 (flat rs)) stored-grown
-      ∙ ap (putAt (s .rows) 0) flat-grown
-      ∙ putAt-start (s .rows) base cells (s .header .rows * s .header .columns) (omega (arith, row-fits r room, q .long)) past-row
+      ap (λ (rs : List (List ℕ)). splice (s .rows) 0 (flatten rs)) stored-grown
+      ∙ ap (splice (s .rows) 0) flat-grown
+      ∙ splice-start (s .rows) base cells (s .header .rows * s .header .columns) (omega (arith, row-fits r room, q .long)) past-row
 
-  rows-grown : rowsOf (s .header .columns) (s .header .rows + 1) (putAt base (s .header .rows * s .header .columns) cells)
+  rows-grown : rowsOf (s .header .columns) (s .header .rows + 1) (splice base (s .header .rows * s .header .columns) cells)
       ≡ stored (kept ++ (liveRow cells ∷ [])) (rowsOf (s .header .columns) (s .header .rows) (s .rows))
   rows-grown =
       let k : (s .header .rows + 1) * s .header .columns ≤ length base = rw (add-one, suc-mul) (omega (arith, row-fits r room, q .long)) in
       rowsOf-appended (s .header .columns) (s .header .rows) base cells width k ∙ sym stored-grown
 
   -- the row store represents the rows
-  grown-shown : stored (kept ++ (liveRow cells ∷ [])) (rowsOf (s .header .columns) (s .header .rows + 1) (putAt base (s .header .rows * s .header .columns) cells))
-      ≡ rowsOf (s .header .columns) (s .header .rows + 1) (putAt base (s .header .rows * s .header .columns) cells)
+  grown-shown : stored (kept ++ (liveRow cells ∷ [])) (rowsOf (s .header .columns) (s .header .rows + 1) (splice base (s .header .rows * s .header .columns) cells))
+      ≡ rowsOf (s .header .columns) (s .header .rows + 1) (splice base (s .header .rows * s .header .columns) cells)
   grown-shown = rw rows-grown (stored-again (kept ++ (liveRow cells ∷ [])) (rowsOf (s .header .columns) (s .header .rows) (s .rows)))
 
   -- the sort entries include the row's
@@ -195,7 +195,7 @@ module _ {p : Plain} {s : Stores} (r : Represents p s) {kept : List Row} {base :
     unfolding largestOf
     grown-largest =
         let value : ℕ = getD cells (p .opening .sort) 0 in
-        let above = rw (r .shown .header, says-of (p .largest)) at (free-above (s .header) (getD cells (s .header .sort) 0) (entered .free)) in
+        let above = rw (r .shown .header, largestView-largestOf (p .largest)) at (free-above (s .header) (getD cells (s .header .sort) 0) (entered .free)) in
         rw (r .shown .header) (ap Value (sym (raised-same value (p .largest) above)))
 
     grown-header : grownTo (s .header) (dead (withRows p kept)) n (getD cells (s .header .sort) 0) ≡ headerOf (withRow p kept cells)
@@ -209,18 +209,18 @@ module _ {p : Plain} {s : Stores} (r : Represents p s) {kept : List Row} {base :
 
     -- the stores of p have become those of the table with the row
     pub grown-steps : Proper (withRow p kept cells) → (d : ℕ) → d ≡ dead (withRows p kept) → (rows′ : List ℕ)
-        → rows′ ≡ putAt base (s .header .rows * s .header .columns) cells
-        → (keys′ : List ℕ) → length keys′ ≡ length (s .keys) → KeysSound (keyedOf (grownTo (s .header) d n (getD cells (s .header .sort) 0))) rows′ keys′
+        → rows′ ≡ splice base (s .header .rows * s .header .columns) cells
+        → (keys′ : List ℕ) → length keys′ ≡ length (s .keys) → KeysSound (indexShapeOf (grownTo (s .header) d n (getD cells (s .header .sort) 0))) rows′ keys′
         → Becomes p (withRow p kept cells) s (stores (grownTo (s .header) d n (getD cells (s .header .sort) 0)) rows′ keys′ sorts′ (s .pending))
     unfolding sortStore
     grown-steps proper d dead-is rows′ rows-is keys′ keys-same sound =
         let long = represents-long r in
         let rows-same : length rows′ ≡ length (s .rows) =
-        ap length rows-is ∙ length-putAt base cells (s .header .rows * s .header .columns) (omega (arith, row-fits r room, q .long, width)) ∙ q .long in
+        ap length rows-is ∙ length-splice base cells (s .header .rows * s .header .columns) (omega (arith, row-fits r room, q .long, width)) ∙ q .long in
         record {
           later = grown-later;
           rows-after = rows-is ∙ sym grown-store;
-          sorts-after = entered .cells ∙ ap (λ (es : List Entry). putAt (s .sorts) 0 (entryWords es)) (sym grown-entries);
+          sorts-after = entered .cells ∙ ap (λ (es : List Entry). splice (s .sorts) 0 (entryWords es)) (sym grown-entries);
           represents =
               record {
                 proper = proper;
@@ -238,6 +238,6 @@ module _ {p : Plain} {s : Stores} (r : Represents p s) {kept : List Row} {base :
                       entries-shown = entries-grown;
                       pending-held = r .shown .pending-held;
                     };
-                keyed = sound;
+                keys-sound = sound;
               };
         }

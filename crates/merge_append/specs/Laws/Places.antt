@@ -7,7 +7,7 @@ use lib.ListN.{length}
 use Rattle.lists.specs.Laws.Rows.{row-in}
 use Rattle.key_index.specs.inner.Index.{Fits}
 use Rattle.table.specs.declared.Header.{Header}
-use Rattle.table.specs.inner.Whole.{wholeOf}
+use Rattle.table.specs.inner.FullIndexShape.{fullIndexShapeOf}
 
 -- a row's place is a number that fits, and its cells are within the store
 pub record Placed (h : Header) (rows : List ℕ) (i : ℕ) : Type 0 where
@@ -15,7 +15,7 @@ pub record Placed (h : Header) (rows : List ℕ) (i : ℕ) : Type 0 where
   pub small : i * h .columns ≤ 524288
   pub inside : i * h .columns + h .columns ≤ length rows
 
-pub placed : (h : Header) (rows keys : List ℕ) → Fits (wholeOf h) rows keys → (i : ℕ) → i < h .capacity → Placed h rows i
+pub placed : (h : Header) (rows keys : List ℕ) → Fits (fullIndexShapeOf h) rows keys → (i : ℕ) → i < h .capacity → Placed h rows i
 placed h rows keys f i k =
     let few : i ≤ 65536 = omega (arith, f .most) in
     record {

@@ -6,24 +6,24 @@ use mathlib.Core.Bool.{Bool, true, false, not}
 use mathlib.Core.List.{List, [], _∷_}
 use lib.Dec.{leb, eqb}
 use lib.ListN.{length, getD, set}
-use Rattle.lists.specs.Lists.{putAt}
-use Rattle.refusals.specs.Refusals.{rung, first}
+use Rattle.lists.specs.Lists.{splice}
+use Rattle.refusals.specs.Refusals.{check, firstRefusal}
 use Rattle.sort_entries.specs.Entries.{entriesOf, entryWords, push}
-use Rattle.key_index.specs.Slots.{roomFor, slots, KeysSound}
+use Rattle.key_index.specs.Slots.{sizeClassFor, slots, KeysSound}
 use Rattle.key_index.specs.inner.Ring.{tagged}
 use Rattle.key_index.specs.inner.Index.{Fits, PutIs}
-use Rattle.key_rebuild.specs.inner.Growth.{Rebuilt}
+use Rattle.key_rebuild.specs.inner.Rebuilding.{Rebuilt}
 use Rattle.plain_table.specs.Plain.{below}
 use Rattle.table.specs.declared.Header.{Header}
 use Rattle.table.specs.declared.Largest.the-variants.{Value}
-use Rattle.table.specs.Numbers.{largestSays}
+use Rattle.table.specs.Numbers.{largestView}
 use Rattle.merge_append.specs.declared.Insertion.{Insertion}
-use Rattle.merge_append.specs.declared.Insertion.the-variants.{Kept, Appended, Stopped}
+use Rattle.merge_append.specs.declared.Insertion.the-variants.{Unchanged, Appended, Stopped}
 use Rattle.merge_append.specs.declared.Admission.{Admission}
 use Rattle.merge_append.specs.declared.Admission.the-variants.{Stop, Entries}
-use Rattle.table.specs.Sound.{keyedOf}
-use Rattle.table.specs.inner.Whole.{wholeOf}
-use Rattle.table.specs.Promises.{SlotsPast}
+use Rattle.table.specs.Sound.{indexShapeOf}
+use Rattle.table.specs.inner.FullIndexShape.{fullIndexShapeOf}
+use Rattle.table.specs.Contracts.{SlotsPast}
 use Rattle.merge_pending.specs.inner.Becoming.{withCounts}
 
 -- ---- the sort entry of a row
@@ -31,7 +31,7 @@ use Rattle.merge_pending.specs.inner.Becoming.{withCounts}
 -- "8, row count equals capacity, tested before 9", "a sort value below that kept value"; 0 if neither
 unfoldable pub stopAt : Header → ℕ → ℕ
 stopAt h value =
-    first (rung (leb (h .capacity) (h .rows)) 8 ∷ rung (below value (largestSays (h .largest))) 9 ∷ [])
+    firstRefusal (check (leb (h .capacity) (h .rows)) 8 ∷ check (below value (largestView (h .largest))) 9 ∷ [])
 
 -- if there is room for a row, there is room for an entry
 pub record Enterable (h : Header) (sorts : List ℕ) : Type 0 where
@@ -50,7 +50,7 @@ pub record Entered (h : Header) (sorts : List ℕ) (value n : ℕ) (sorts′ : L
   pub room : h .rows < h .capacity
   pub few : n ≤ h .entries + 1
   pub entries : entriesOf n sorts′ ≡ push value (h .rows) (entriesOf (h .entries) sorts)
-  pub cells : sorts′ ≡ putAt sorts 0 (entryWords (push value (h .rows) (entriesOf (h .entries) sorts)))
+  pub cells : sorts′ ≡ splice sorts 0 (entryWords (push value (h .rows) (entriesOf (h .entries) sorts)))
   pub same : length sorts′ ≡ length sorts
 
 -- a stop writes nothing
@@ -66,28 +66,28 @@ grownTo h dead entries value = withCounts h (h .rows + 1) dead entries (Value va
 
 -- one more row needs more slots in the key store
 unfoldable pub outgrown : Header → Bool
-outgrown h = not (eqb (roomFor (h .capacity) (h .rows + 1)) (roomFor (h .capacity) (h .rows)))
+outgrown h = not (eqb (sizeClassFor (h .capacity) (h .rows + 1)) (sizeClassFor (h .capacity) (h .rows)))
 
 -- The key store after an append: rebuilt over all rows if the row needs more slots, otherwise as `Entry` states.
-pub record Leading (h h′ : Header) (rows′ keys : List ℕ) (Entry : Type 0) (keys′ : List ℕ) : Type 0 where
-  pub more : outgrown h ≡ true → KeysSound (keyedOf h′) rows′ keys′
+pub record KeysGrown (h h′ : Header) (rows′ keys : List ℕ) (Entry : Type 0) (keys′ : List ℕ) : Type 0 where
+  pub more : outgrown h ≡ true → KeysSound (indexShapeOf h′) rows′ keys′
   pub stepped : outgrown h ≡ false → Entry
   pub past : SlotsPast (h .capacity) keys keys′
   pub same : length keys′ ≡ length keys
 
 -- there is room for one more row, which is written
 pub record Rebuildable (h : Header) (rows keys : List ℕ) (died : ℕ) : Type 0 where
-  pub fits : Fits (wholeOf h) rows keys
+  pub fits : Fits (fullIndexShapeOf h) rows keys
   pub place : h .rows < h .capacity
   pub dead-fits : h .dead + died ≤ 4294967295
 
 pub record RebuiltGrown (h : Header) (rows keys : List ℕ) (died entries value : ℕ) (r : Insertion) (keys′ : List ℕ) : Type 0 where
   pub answer : r ≡ Appended (grownTo h (h .dead + died) entries value)
-  pub rebuilt : Rebuilt (keyedOf (grownTo h (h .dead + died) entries value)) rows keys keys′
+  pub rebuilt : Rebuilt (indexShapeOf (grownTo h (h .dead + died) entries value)) rows keys keys′
 
 -- stores long enough for one more row, and the cells of the row
 pub record Growable (h : Header) (rows keys sorts cells : List ℕ) : Type 0 where
-  pub fits : Fits (wholeOf h) rows keys
+  pub fits : Fits (fullIndexShapeOf h) rows keys
   pub sort-column : h .sort < h .columns
   pub entries-fit : h .entries ≤ h .rows
   pub dead-fits : h .dead + h .capacity ≤ 4294967295 + h .rows
@@ -105,12 +105,12 @@ pub record Stayed (h : Header) (rows keys sorts cells : List ℕ) (n : ℕ) (row
 pub record Grew (h : Header) (rows keys sorts cells : List ℕ) (hash : ℕ) (h′ : Header) (rows′ keys′ sorts′ : List ℕ) : Type 0 where
   pub entered : Entered h sorts (getD cells (h .sort) 0) (h′ .entries) sorts′
   pub header : h′ ≡ grownTo h (h .dead) (h′ .entries) (getD cells (h .sort) 0)
-  pub rows-after : rows′ ≡ putAt rows (h .rows * h .columns) cells
-  pub keys-after : Leading h h′ rows′ keys ((r : Bool) × PutIs (slots (keyedOf h)) keys hash (h .rows) r keys′) keys′
+  pub rows-after : rows′ ≡ splice rows (h .rows * h .columns) cells
+  pub keys-after : KeysGrown h h′ rows′ keys ((r : Bool) × PutIs (slots (indexShapeOf h)) keys hash (h .rows) r keys′) keys′
 
 -- "A new key is appended"
 abbrev pub NewIs : Header → List ℕ → List ℕ → List ℕ → List ℕ → ℕ → List ℕ → List ℕ → List ℕ → Insertion → Type 0
-NewIs h rows keys sorts cells hash rows′ keys′ sorts′ Kept = ⊥
+NewIs h rows keys sorts cells hash rows′ keys′ sorts′ Unchanged = ⊥
 NewIs h rows keys sorts cells hash rows′ keys′ sorts′ (Appended h′) = Grew h rows keys sorts cells hash h′ rows′ keys′ sorts′
 NewIs h rows keys sorts cells hash rows′ keys′ sorts′ (Stopped n) = Stayed h rows keys sorts cells n rows′ keys′ sorts′
 
@@ -118,11 +118,11 @@ NewIs h rows keys sorts cells hash rows′ keys′ sorts′ (Stopped n) = Stayed
 pub record Replaced (h : Header) (rows keys sorts cells : List ℕ) (hash old slot : ℕ) (h′ : Header) (rows′ keys′ sorts′ : List ℕ) : Type 0 where
   pub entered : Entered h sorts (getD cells (h .sort) 0) (h′ .entries) sorts′
   pub header : h′ ≡ grownTo h (h .dead + 1) (h′ .entries) (getD cells (h .sort) 0)
-  pub rows-after : rows′ ≡ putAt (set rows (old * h .columns) 4294967295) (h .rows * h .columns) cells
-  pub keys-after : Leading h h′ rows′ keys (keys′ ≡ set keys slot (tagged hash (h .rows))) keys′
+  pub rows-after : rows′ ≡ splice (set rows (old * h .columns) 4294967295) (h .rows * h .columns) cells
+  pub keys-after : KeysGrown h h′ rows′ keys (keys′ ≡ set keys slot (tagged hash (h .rows))) keys′
 
 -- "a row so made is appended and the old row dies"
 abbrev pub ReplaceIs : Header → List ℕ → List ℕ → List ℕ → List ℕ → ℕ → ℕ → ℕ → List ℕ → List ℕ → List ℕ → Insertion → Type 0
-ReplaceIs h rows keys sorts cells hash old slot rows′ keys′ sorts′ Kept = ⊥
+ReplaceIs h rows keys sorts cells hash old slot rows′ keys′ sorts′ Unchanged = ⊥
 ReplaceIs h rows keys sorts cells hash old slot rows′ keys′ sorts′ (Appended h′) = Replaced h rows keys sorts cells hash old slot h′ rows′ keys′ sorts′
 ReplaceIs h rows keys sorts cells hash old slot rows′ keys′ sorts′ (Stopped n) = Stayed h rows keys sorts cells n rows′ keys′ sorts′

@@ -12,38 +12,38 @@ use native.Mathlib.Omega.{arith}
 use lib.Dec.{leb}
 use lib.ListN.{length, take, drop, getD, set, length-set}
 use borrow.Author.Tests.{leb-true, eqb-true, not-false}
-use Rattle.lists.specs.Lists.{putAt, rowAt}
-use Rattle.lists.specs.Laws.Keep.{split}
-use Rattle.lists.specs.Laws.Parts.{part-before, part-putAt}
+use Rattle.lists.specs.Lists.{splice, rowAt}
+use Rattle.lists.specs.Laws.Filter.{split}
+use Rattle.lists.specs.Laws.Parts.{part-before, part-splice}
 use Rattle.lists.specs.Laws.Rows.{row-in, length-rowAt, rowAt-set-same, rowAt-set-other}
-use Rattle.cells.specs.Cells.{isDead, compact, keyHash}
+use Rattle.cells.specs.Cells.{isDead, compactHash, keyHash}
 use Rattle.constraints.specs.Constraints.{isLive}
 use Rattle.refusals.specs.Refusals.{refused, accepted, reply}
 use Rattle.merge_rules.specs.Rules.{changesFrom, madeFrom, ruled, survivor}
 use Rattle.merge_rules.specs.Laws.Rules.{made-length, made-keys, made-first, kept-of, made-of, survives, survivor-length, ruled-made}
 use Rattle.key_index.specs.declared.Found.{Found}
 use Rattle.key_index.specs.declared.Found.the-variants.{None, At}
-use Rattle.key_index.specs.Slots.{roomFor, slots, KeysSound}
+use Rattle.key_index.specs.Slots.{sizeClassFor, slots, KeysSound}
 use Rattle.key_index.specs.inner.Ring.{tagged}
 use Rattle.key_index.specs.inner.Index.{Fits, FoundAt, FoundIs, PutIs}
 use Rattle.key_index.specs.Laws.Index.{put-sound, replace-sound}
-use Rattle.key_index.specs.Laws.Rooms.{room-enough}
+use Rattle.key_index.specs.Laws.SizeClasses.{sizeClass-enough}
 use Rattle.key_index.specs.Laws.Rows.{WithRows, grown-rows, swapped-rows}
 use Rattle.plain_table.specs.Staged.{skipped}
-use Rattle.plain_table.specs.Plain.{Row, Plain, withRows, withRow, lookup, dead, liveWithKey, killIf, stop, append, put, insertion}
+use Rattle.plain_table.specs.Plain.{Row, Plain, withRows, withRow, lookup, dead, liveWithKey, killIf, stop, append, upsert, insertion}
 use Rattle.plain_table.specs.Proper.{rowOf}
-use Rattle.plain_table.specs.Laws.Rows.{apart-of}
+use Rattle.plain_table.specs.Laws.Rows.{keysDistinct-of}
 use Rattle.plain_table.specs.Laws.Proper.{insertion-proper}
 use Rattle.table.specs.declared.Header.{Header}
 use Rattle.merge_append.specs.declared.Insertion.{Insertion}
-use Rattle.merge_append.specs.declared.Insertion.the-variants.{Kept, Appended, Stopped}
-use Rattle.table.specs.Sound.{keyedOf}
-use Rattle.table.specs.inner.Whole.{wholeOf}
-use Rattle.table.specs.Laws.Refusals.{whole-fits}
-use Rattle.table.specs.Promises.{Stores, stores, Represents}
+use Rattle.merge_append.specs.declared.Insertion.the-variants.{Unchanged, Appended, Stopped}
+use Rattle.table.specs.Sound.{indexShapeOf}
+use Rattle.table.specs.inner.FullIndexShape.{fullIndexShapeOf}
+use Rattle.table.specs.Laws.Refusals.{full-shape-fits}
+use Rattle.table.specs.Contracts.{Stores, stores, Represents}
 use Rattle.merge_pending.specs.inner.Becoming.{Recounted, hashOf}
-use Rattle.merge_insert.specs.inner.Inserting.{Comes, Inserting}
-use Rattle.merge_append.specs.inner.Appending.{grownTo, outgrown, Leading, Grew, NewIs, Replaced}
+use Rattle.merge_insert.specs.inner.Inserting.{InsertAgrees, Inserting}
+use Rattle.merge_append.specs.inner.Appending.{grownTo, outgrown, KeysGrown, Grew, NewIs, Replaced}
 use Rattle.merge_insert.specs.inner.Ruling.{Changes, rowMade, KnownIs}
 use Rattle.table.specs.Laws.Stored.{marked-dead}
 use Rattle.table.specs.Laws.Shown.{in-live}
@@ -66,15 +66,15 @@ module _ (cells : List ℕ) (p : Plain) where
   -- "A new key is appended"
   insertion-new : skipped cells ≡ false → lookup p (take (p .opening .keys) cells) ≡ none
       → insertion cells p ≡ append cells p (p .rows)
-  unfolding insertion put
+  unfolding insertion upsert
   insertion-new e f = rw (e, f)
 
   -- "A known key goes through the rule"
   module _ (e : skipped cells ≡ false) (number : ℕ) (old : List ℕ) (f : lookup p (take (p .opening .keys) cells) ≡ some (record { number = number; cells = old })) where
     put-ruled : (x : Option (List ℕ)) → ruled (p .opening .rule) (p .opening .keys) (p .opening .sort) old cells ≡ x
-        → put cells (some (record { number = number; cells = old })) p
+        → upsert cells (some (record { number = number; cells = old })) p
         ≡ elim x [ none ↦ accepted none | some row ↦ append row p (killIf (liveWithKey (p .opening .keys) (take (p .opening .keys) cells)) (p .rows)) ]
-    unfolding put
+    unfolding upsert
     put-ruled x g =
         ap
         (λ (y : Option (List ℕ)). elim y [ none ↦ accepted none | some row ↦ append row p (killIf (liveWithKey (p .opening .keys) (take (p .opening .keys) cells)) (p .rows)) ])
@@ -129,13 +129,13 @@ length-made h old new n =
 
 module _ (w n : ℕ) (base cells : List ℕ) (width : length cells ≡ w) (fits : n * w + length cells ≤ length base) where
   -- the rows before an appended row, and that row
-  rowAt-before : (i : ℕ) → i < n → rowAt w i (putAt base (n * w) cells) ≡ rowAt w i base
+  rowAt-before : (i : ℕ) → i < n → rowAt w i (splice base (n * w) cells) ≡ rowAt w i base
   unfolding rowAt
   rowAt-before i h = part-before base cells (n * w) fits (i * w) w (row-in i n w h)
 
-  rowAt-new : rowAt w n (putAt base (n * w) cells) ≡ cells
+  rowAt-new : rowAt w n (splice base (n * w) cells) ≡ cells
   unfolding rowAt
-  rowAt-new = ap (λ (k : ℕ). take k (drop (n * w) (putAt base (n * w) cells))) (sym width) ∙ part-putAt base cells (n * w) fits
+  rowAt-new = ap (λ (k : ℕ). take k (drop (n * w) (splice base (n * w) cells))) (sym width) ∙ part-splice base cells (n * w) fits
 
 module _ (w old : ℕ) (rows : List ℕ) (some : 0 < w) where
   -- the row that is marked dead, and the others
@@ -148,59 +148,59 @@ module _ (w old : ℕ) (rows : List ℕ) (some : 0 < w) where
       ∙ rowAt-set-other w old i 0 rows 4294967295 (λ q. ne (sym q)) some
 
 -- with the same number of slots
-room-same : (h : Header) → outgrown h ≡ false → roomFor (h .capacity) (h .rows + 1) ≡ roomFor (h .capacity) (h .rows)
+slots-same : (h : Header) → outgrown h ≡ false → sizeClassFor (h .capacity) (h .rows + 1) ≡ sizeClassFor (h .capacity) (h .rows)
 unfolding outgrown
-room-same h o = eqb-true _ _ (not-false _ o)
+slots-same h o = eqb-true _ _ (not-false _ o)
 
-one-more : (h : Header) (d e v : ℕ) → outgrown h ≡ false → WithRows (keyedOf h) (keyedOf (grownTo h d e v)) (h .rows + 1)
-one-more h d e v o = record { columns = refl; keys = refl; room = room-same h o; count = refl }
+one-more : (h : Header) (d e v : ℕ) → outgrown h ≡ false → WithRows (indexShapeOf h) (indexShapeOf (grownTo h d e v)) (h .rows + 1)
+one-more h d e v o = record { columns = refl; keys = refl; room = slots-same h o; count = refl }
 
 -- a live first cell
 first-live : (cells : List ℕ) → isDead (getD cells 0 0) ≡ false → isLive cells ≡ true
 unfolding isLive
 first-live cells e = rw e
 
-module _ (h : Header) (rows keys cells : List ℕ) (hash : ℕ) (fits : Fits (wholeOf h) rows keys) (room : h .rows < h .capacity) (width : length cells ≡ h .columns)
-    (sound : KeysSound (keyedOf h) rows keys) (live : isDead (getD cells 0 0) ≡ false) (d e v : ℕ) where
+module _ (h : Header) (rows keys cells : List ℕ) (hash : ℕ) (fits : Fits (fullIndexShapeOf h) rows keys) (room : h .rows < h .capacity) (width : length cells ≡ h .columns)
+    (sound : KeysSound (indexShapeOf h) rows keys) (live : isDead (getD cells 0 0) ≡ false) (d e v : ℕ) where
   cells-in : h .rows * h .columns + length cells ≤ length rows
   cells-in = omega (arith, row-in (h .rows) (h .capacity) (h .columns) room, fits .cells, width)
 
   -- the slots in use fit
-  used-fits : Fits (keyedOf h) rows keys
-  used-fits = whole-fits h rows keys fits
+  used-fits : Fits (indexShapeOf h) rows keys
+  used-fits = full-shape-fits h rows keys fits
 
   -- there is a slot for the row, unless it needs more slots
-  has-room : outgrown h ≡ false → h .rows < roomFor (h .capacity) (h .rows)
-  has-room o = omega (arith, room-same h o, room-enough (h .capacity) (h .rows + 1) (omega (arith, room)) (fits .most))
+  has-slot : outgrown h ≡ false → h .rows < sizeClassFor (h .capacity) (h .rows)
+  has-slot o = omega (arith, slots-same h o, sizeClass-enough (h .capacity) (h .rows + 1) (omega (arith, room)) (fits .most))
 
   -- the row of a new key
-  new-keys : hash ≡ compact (keyHash (take (h .keys) cells)) → outgrown h ≡ false → (r : Bool) (keys′ : List ℕ) → PutIs (slots (keyedOf h)) keys hash (h .rows) r keys′
-      → KeysSound (keyedOf (grownTo h d e v)) (putAt rows (h .rows * h .columns) cells) keys′
+  new-keys : hash ≡ compactHash (keyHash (take (h .keys) cells)) → outgrown h ≡ false → (r : Bool) (keys′ : List ℕ) → PutIs (slots (indexShapeOf h)) keys hash (h .rows) r keys′
+      → KeysSound (indexShapeOf (grownTo h d e v)) (splice rows (h .rows * h .columns) cells) keys′
   new-keys hash-is o r keys′ put-is =
-      let rows′ : List ℕ = putAt rows (h .rows * h .columns) cells in
+      let rows′ : List ℕ = splice rows (h .rows * h .columns) cells in
       let new = rowAt-new (h .columns) (h .rows) rows cells width cells-in in
-      put-sound (keyedOf h) (keyedOf (grownTo h d e v)) rows rows′ keys keys′ hash r used-fits sound
-      (grown-rows (keyedOf h) (keyedOf (grownTo h d e v)) rows rows′ (one-more h d e v o) (has-room o)
+      put-sound (indexShapeOf h) (indexShapeOf (grownTo h d e v)) rows rows′ keys keys′ hash r used-fits sound
+      (grown-rows (indexShapeOf h) (indexShapeOf (grownTo h d e v)) rows rows′ (one-more h d e v o) (has-slot o)
       (rowAt-before (h .columns) (h .rows) rows cells width cells-in)
       (ap isLive new ∙ first-live cells live))
-      (hash-is ∙ ap (λ (l : List ℕ). compact (keyHash (take (h .keys) l))) (sym new))
+      (hash-is ∙ ap (λ (l : List ℕ). compactHash (keyHash (take (h .keys) l))) (sym new))
       put-is
 
   -- the row of a known key
-  known-keys : (key : List ℕ) → hash ≡ compact (keyHash key) → outgrown h ≡ false → take (h .keys) cells ≡ key → (old slot : ℕ) → FoundAt (keyedOf h) rows keys key old slot
+  known-keys : (key : List ℕ) → hash ≡ compactHash (keyHash key) → outgrown h ≡ false → take (h .keys) cells ≡ key → (old slot : ℕ) → FoundAt (indexShapeOf h) rows keys key old slot
       → (keys′ : List ℕ) → keys′ ≡ set keys slot (tagged hash (h .rows))
-      → KeysSound (keyedOf (grownTo h d e v)) (putAt (set rows (old * h .columns) 4294967295) (h .rows * h .columns) cells) keys′
+      → KeysSound (indexShapeOf (grownTo h d e v)) (splice (set rows (old * h .columns) 4294967295) (h .rows * h .columns) cells) keys′
   known-keys key hash-is o key-is old slot found keys′ keys-is =
       let base : List ℕ = set rows (old * h .columns) 4294967295 in
-      let rows′ : List ℕ = putAt base (h .rows * h .columns) cells in
+      let rows′ : List ℕ = splice base (h .rows * h .columns) cells in
       let base-in : h .rows * h .columns + length cells ≤ length base = simp length-set cells-in in
       let new = rowAt-new (h .columns) (h .rows) base cells width base-in in
       let before = rowAt-before (h .columns) (h .rows) base cells width base-in in
       let below : old < h .rows = found .live .0 in
       let old-wide : 1 ≤ length (rowAt (h .columns) old rows) =
       omega (arith, length-rowAt (h .columns) old rows (rw (add-one old, suc-mul) (omega (arith, row-in old (h .rows) (h .columns) below, row-in (h .rows) (h .capacity) (h .columns) room, fits .cells))), fits .some-columns) in
-      replace-sound (keyedOf h) (keyedOf (grownTo h d e v)) rows rows′ keys keys′ key hash old slot used-fits sound
-      (swapped-rows (keyedOf h) (keyedOf (grownTo h d e v)) rows rows′ old (one-more h d e v o) (has-room o)
+      replace-sound (indexShapeOf h) (indexShapeOf (grownTo h d e v)) rows rows′ keys keys′ key hash old slot used-fits sound
+      (swapped-rows (indexShapeOf h) (indexShapeOf (grownTo h d e v)) rows rows′ old (one-more h d e v o) (has-slot o)
       (λ i k ne. before i k ∙ rowAt-others (h .columns) old rows (fits .some-columns) i ne)
       (ap isLive (before old below ∙ rowAt-marked (h .columns) old rows (fits .some-columns)) ∙ marked-dead (rowAt (h .columns) old rows) old-wide)
       (ap isLive new ∙ first-live cells live)
@@ -208,14 +208,14 @@ module _ (h : Header) (rows keys cells : List ℕ) (hash : ℕ) (fits : Fits (wh
       found hash-is keys-is
 
 -- the key store refers to all rows including the new one, after its entry is added or the store is rebuilt
-led : {h h′ : Header} {rows′ keys : List ℕ} {Entry : Type 0} {keys′ : List ℕ} → Leading h h′ rows′ keys Entry keys′
-    → (outgrown h ≡ false → Entry → KeysSound (keyedOf h′) rows′ keys′) → KeysSound (keyedOf h′) rows′ keys′
+led : {h h′ : Header} {rows′ keys : List ℕ} {Entry : Type 0} {keys′ : List ℕ} → KeysGrown h h′ rows′ keys Entry keys′
+    → (outgrown h ≡ false → Entry → KeysSound (indexShapeOf h′) rows′ keys′) → KeysSound (indexShapeOf h′) rows′ keys′
 led {h} l steps = elim (split (outgrown h)) [ inl o ↦ l .more o | inr o ↦ steps o (l .stepped o) ]
 
 -- ---- the contract of an insert
 
 headerIn : Header → Insertion → Header
-headerIn d Kept = d
+headerIn d Unchanged = d
 headerIn d (Appended h) = h
 headerIn d (Stopped n) = d
 
@@ -223,7 +223,7 @@ same-header : (a b : Header) → _≡_ {A = Insertion} (Appended a) (Appended b)
 unfolding headerIn
 same-header a b e = ap (headerIn a) e
 
-kept-no : (h : Header) → _≡_ {A = Insertion} Kept (Appended h) → ⊥
+kept-no : (h : Header) → _≡_ {A = Insertion} Unchanged (Appended h) → ⊥
 kept-no h e = let z : _≡_ {A = ℕ} 0 1 = cc in omega arith
 
 stopped-no : (n : ℕ) (h : Header) → _≡_ {A = Insertion} (Stopped n) (Appended h) → ⊥
@@ -237,7 +237,7 @@ recounted h d e v room few k l =
 
 module _ (h : Header) (rows keys sorts cells : List ℕ) (hash : ℕ) where
   -- "An insert with a dead first cell is skipped"
-  pub skip-inserts : isDead (getD cells 0 0) ≡ true → Inserting h rows keys sorts cells hash Kept rows keys sorts
+  pub skip-inserts : isDead (getD cells 0 0) ≡ true → Inserting h rows keys sorts cells hash Unchanged rows keys sorts
   unfolding skipped
   skip-inserts e =
       record {
@@ -247,9 +247,9 @@ module _ (h : Header) (rows keys sorts cells : List ℕ) (hash : ℕ) where
         table = λ hash-is pending p r. insertion-skips cells p e;
       }
 
-  module _ (fits : Fits (wholeOf h) rows keys) (entries-fit : h .entries ≤ h .rows) (width : length cells ≡ h .columns) (live : isDead (getD cells 0 0) ≡ false)
-      (f : Found) (found : FoundIs (keyedOf h) rows keys (take (h .keys) cells) hash f) where
-    module _ (hash-is : hash ≡ compact (keyHash (take (h .keys) cells))) {p : Plain} {pending : List ℕ} (r : Represents p (stores h rows keys sorts pending)) where
+  module _ (fits : Fits (fullIndexShapeOf h) rows keys) (entries-fit : h .entries ≤ h .rows) (width : length cells ≡ h .columns) (live : isDead (getD cells 0 0) ≡ false)
+      (f : Found) (found : FoundIs (indexShapeOf h) rows keys (take (h .keys) cells) hash f) where
+    module _ (hash-is : hash ≡ compactHash (keyHash (take (h .keys) cells))) {p : Plain} {pending : List ℕ} (r : Represents p (stores h rows keys sorts pending)) where
       key-same : take (p .opening .keys) cells ≡ take (h .keys) cells
       key-same = ap (λ (k : ℕ). take k cells) (sym (keys-same r))
 
@@ -262,12 +262,12 @@ module _ (h : Header) (rows keys sorts cells : List ℕ) (hash : ℕ) where
       -- a new key
       new-way : f ≡ None → insertion cells p ≡ append cells p (p .rows)
       unfolding skipped
-      new-way e = insertion-new cells p live (rw key-same (none-found r (take (h .keys) cells) (found .none hash-is (r .keyed) e)))
+      new-way e = insertion-new cells p live (rw key-same (none-found r (take (h .keys) cells) (found .none hash-is (r .keys-sound) e)))
 
       -- a known key
       module _ (old slot : ℕ) (e : f ≡ At old slot) where
-        there : FoundAt (keyedOf h) rows keys (take (h .keys) cells) old slot
-        there = found .at hash-is (r .keyed) old slot e
+        there : FoundAt (indexShapeOf h) rows keys (take (h .keys) cells) old slot
+        there = found .at hash-is (r .keys-sound) old slot e
 
         old-live : rowOf p old .live ≡ true
         old-live = in-live r old (there .live)
@@ -297,7 +297,7 @@ module _ (h : Header) (rows keys sorts cells : List ℕ) (hash : ℕ) where
 
         kill-same : killIf (liveWithKey (p .opening .keys) (take (p .opening .keys) cells)) (p .rows) ≡ killAt old (p .rows)
         kill-same =
-            killIf-one (p .opening .keys) (take (p .opening .keys) cells) (p .rows) old (apart-of (p .opening .keys) (p .rows) (r .proper .keys-differ))
+            killIf-one (p .opening .keys) (take (p .opening .keys) cells) (p .rows) old (keysDistinct-of (p .opening .keys) (p .rows) (r .proper .keys-differ))
             (rw key-same (live-passes r (take (h .keys) cells) old (there .live) (there .key-is)))
 
         module _ (c : Changes h (rowAt (h .columns) old rows) cells ≡ true) where
@@ -322,7 +322,7 @@ module _ (h : Header) (rows keys sorts cells : List ℕ) (hash : ℕ) where
 
           -- the stores after the row made is appended and the old row is dead
           replaced-steps : (h′ : Header) (rows′ keys′ sorts′ : List ℕ) → Replaced h rows keys sorts (rowMade h (rowAt (h .columns) old rows) cells) hash old slot h′ rows′ keys′ sorts′
-              → Comes p cells (stores h rows keys sorts pending) rows′ keys′ sorts′ (Appended h′)
+              → InsertAgrees p cells (stores h rows keys sorts pending) rows′ keys′ sorts′ (Appended h′)
           replaced-steps h′ rows′ keys′ sorts′ g =
               let row : List ℕ = rowMade h (rowAt (h .columns) old rows) cells in
               let goes : insertion cells p ≡ accepted (some (withRow p (killAt old (p .rows)) row)) =
@@ -335,12 +335,12 @@ module _ (h : Header) (rows keys sorts cells : List ℕ) (hash : ℕ) where
                     (insertion-proper cells p _ (r .proper) wide goes) (h .dead + 1) died rows′ (g .rows-after) keys′
                     (g .keys-after .same)
                     (rw (g .header) at (led (g .keys-after) (λ o keys-is. rw (g .header, g .rows-after)
-                    (known-keys h rows keys row hash fits (g .entered .room) made-wide (r .keyed) made-live (h .dead + 1) (h′ .entries) (getD row (h .sort) 0) (take (h .keys) cells) hash-is o made-key old slot there keys′ keys-is))))),
+                    (known-keys h rows keys row hash fits (g .entered .room) made-wide (r .keys-sound) made-live (h .dead + 1) (h′ .entries) (getD row (h .sort) 0) (take (h .keys) cells) hash-is o made-key old slot there keys′ keys-is))))),
               )
 
       -- the stores after the row of a new key is appended
       grew-steps : f ≡ None → (h′ : Header) (rows′ keys′ sorts′ : List ℕ) → Grew h rows keys sorts cells hash h′ rows′ keys′ sorts′
-          → Comes p cells (stores h rows keys sorts pending) rows′ keys′ sorts′ (Appended h′)
+          → InsertAgrees p cells (stores h rows keys sorts pending) rows′ keys′ sorts′ (Appended h′)
       grew-steps e h′ rows′ keys′ sorts′ g =
           let goes : insertion cells p ≡ accepted (some (withRow p (p .rows) cells)) =
           new-way e ∙ append-goes cells p (p .rows) (stop-same r cells ∙ g .entered .free) in (
@@ -351,14 +351,14 @@ module _ (h : Header) (rows keys sorts cells : List ℕ) (hash : ℕ) where
                 (insertion-proper cells p _ (r .proper) wide goes) (h .dead) dead-same rows′ (g .rows-after) keys′
                 (g .keys-after .same)
                 (rw (g .header) at (led (g .keys-after) (λ o put-is. rw (g .header, g .rows-after)
-                (new-keys h rows keys cells hash fits (g .entered .room) width (r .keyed) live (h .dead) (h′ .entries) (getD cells (h .sort) 0) hash-is o (put-is .0) keys′ (put-is .1)))))),
+                (new-keys h rows keys cells hash fits (g .entered .room) width (r .keys-sound) live (h .dead) (h′ .entries) (getD cells (h .sort) 0) hash-is o (put-is .0) keys′ (put-is .1)))))),
           )
 
     -- "A new key is appended"
     pub new-inserts : f ≡ None → (r : Insertion) (rows′ keys′ sorts′ : List ℕ) → NewIs h rows keys sorts cells hash rows′ keys′ sorts′ r
         → Inserting h rows keys sorts cells hash r rows′ keys′ sorts′
     unfolding hashOf
-    new-inserts e Kept rows′ keys′ sorts′ g = absurd g
+    new-inserts e Unchanged rows′ keys′ sorts′ g = absurd g
     new-inserts e (Appended h′) rows′ keys′ sorts′ g =
         record {
           past = g .keys-after .past;
@@ -380,7 +380,7 @@ module _ (h : Header) (rows keys sorts cells : List ℕ) (hash : ℕ) where
     pub known-inserts : (old slot : ℕ) → f ≡ At old slot → (r : Insertion) (rows′ keys′ sorts′ : List ℕ) → KnownIs h rows keys sorts cells hash old slot rows′ keys′ sorts′ r
         → Inserting h rows keys sorts cells hash r rows′ keys′ sorts′
     unfolding hashOf
-    known-inserts old slot e Kept rows′ keys′ sorts′ g =
+    known-inserts old slot e Unchanged rows′ keys′ sorts′ g =
         record {
           past = ap (drop (2 * h .capacity)) (g .same-keys);
           header = λ h″ q. absurd (kept-no h″ q);

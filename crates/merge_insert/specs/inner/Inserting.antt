@@ -8,16 +8,16 @@ use Rattle.plain_table.specs.Staged.{insert}
 use Rattle.plain_table.specs.Plain.{Plain, insertion}
 use Rattle.table.specs.declared.Header.{Header}
 use Rattle.merge_append.specs.declared.Insertion.{Insertion}
-use Rattle.merge_append.specs.declared.Insertion.the-variants.{Kept, Appended, Stopped}
-use Rattle.table.specs.Promises.{Stores, stores, Represents, SlotsPast}
+use Rattle.merge_append.specs.declared.Insertion.the-variants.{Unchanged, Appended, Stopped}
+use Rattle.table.specs.Contracts.{Stores, stores, Represents, SlotsPast}
 use Rattle.merge_pending.specs.inner.Becoming.{Becomes, Recounted, hashOf}
 
 -- the answer of an insert, in terms of the plain table's insertion
-abbrev pub Comes : Plain → List ℕ → Stores → List ℕ → List ℕ → List ℕ → Insertion → Type 0
-Comes p cells s rows′ keys′ sorts′ Kept = insertion cells p ≡ accepted none
-Comes p cells s rows′ keys′ sorts′ (Appended h′) =
+abbrev pub InsertAgrees : Plain → List ℕ → Stores → List ℕ → List ℕ → List ℕ → Insertion → Type 0
+InsertAgrees p cells s rows′ keys′ sorts′ Unchanged = insertion cells p ≡ accepted none
+InsertAgrees p cells s rows′ keys′ sorts′ (Appended h′) =
     (p′ : Plain) × (insertion cells p ≡ accepted (some p′)) × Becomes p p′ s (stores h′ rows′ keys′ sorts′ (s .pending))
-Comes p cells s rows′ keys′ sorts′ (Stopped n) = (insertion cells p ≡ refused n) × (0 < n)
+InsertAgrees p cells s rows′ keys′ sorts′ (Stopped n) = (insertion cells p ≡ refused n) × (0 < n)
 
 -- one insert, with the hash of its key
 pub record Inserting (h : Header) (rows keys sorts cells : List ℕ) (hash : ℕ) (r : Insertion) (rows′ keys′ sorts′ : List ℕ) : Type 0 where
@@ -25,4 +25,4 @@ pub record Inserting (h : Header) (rows keys sorts cells : List ℕ) (hash : ℕ
   pub header : (h′ : Header) → r ≡ Appended h′ → Recounted h h′
   pub unchanged : ((h′ : Header) → r ≡ Appended h′ → ⊥) → (rows′ ≡ rows) × (keys′ ≡ keys) × (sorts′ ≡ sorts)
   pub table : hash ≡ hashOf (h .keys) (insert cells) → (pending : List ℕ) (p : Plain) → Represents p (stores h rows keys sorts pending)
-      → Comes p cells (stores h rows keys sorts pending) rows′ keys′ sorts′ r
+      → InsertAgrees p cells (stores h rows keys sorts pending) rows′ keys′ sorts′ r

@@ -8,23 +8,23 @@ use lib.Dec.{eqb}
 use Rattle.plain_table.specs.Staged.{Staged, inserts}
 use Rattle.plain_table.specs.Plain.{insertAll, inserted, Plain}
 use Rattle.table.specs.declared.Header.{Header}
-use Rattle.merge_insert.specs.declared.Passed.{Passed}
+use Rattle.merge_insert.specs.declared.MergeProgress.{MergeProgress}
 use Rattle.table.specs.Numbers.{openingOf}
-use Rattle.table.specs.Promises.{Stores, stores, Represents, SlotsPast}
-use Rattle.merge_pending.specs.inner.Becoming.{Becomes, Recounted, Ready, Waiting, Left}
+use Rattle.table.specs.Contracts.{Stores, stores, Represents, SlotsPast}
+use Rattle.merge_pending.specs.inner.Becoming.{Becomes, Recounted, Ready, Waiting, Remaining}
 
 -- whether a row was appended
-abbrev pub hasAdded : Passed → Bool
+abbrev pub hasAdded : MergeProgress → Bool
 hasAdded m = eqb (m .added) 1
 
 -- all inserts
-pub record InsertedTable (p : Plain) (s s′ : Stores) (m : Passed) : Type 0 where
+pub record InsertedTable (p : Plain) (s s′ : Stores) (m : MergeProgress) : Type 0 where
   pub steps : Becomes p (insertAll (inserts (p .staged)) 0 false p .table) s s′
   pub status : m .status ≡ insertAll (inserts (p .staged)) 0 false p .status
   pub place : m .place ≡ insertAll (inserts (p .staged)) 0 false p .place
   pub added : hasAdded m ≡ insertAll (inserts (p .staged)) 0 false p .added
 
-pub record Insertions (h : Header) (rows keys sorts pending : List ℕ) (m : Passed) (rows′ keys′ sorts′ : List ℕ) : Type 0 where
+pub record Insertions (h : Header) (rows keys sorts pending : List ℕ) (m : MergeProgress) (rows′ keys′ sorts′ : List ℕ) : Type 0 where
   pub past : SlotsPast (h .capacity) keys keys′
   pub header : Recounted h (m .header)
   pub table : (p : Plain) → Represents p (stores h rows keys sorts pending)
@@ -33,17 +33,17 @@ pub record Insertions (h : Header) (rows keys sorts pending : List ℕ) (m : Pas
 -- of the pending records, those from a place on include all inserts
 pub record FirstInsert (h : Header) (pending : List ℕ) (at : ℕ) : Type 0 where
   pub inside : at ≤ h .pending
-  pub left : (records : List Staged) → Waiting (openingOf h) pending (h .pending) 0 records → Left h pending 0 at records
+  pub left : (records : List Staged) → Waiting (openingOf h) pending (h .pending) 0 records → Remaining h pending 0 at records
 
 -- numbers within their bounds, and the record at a place is complete if it is an insert
-pub record InsertNext (m : Passed) (rows keys sorts pending : List ℕ) (at : ℕ) : Type 0 where
+pub record InsertNext (m : MergeProgress) (rows keys sorts pending : List ℕ) (at : ℕ) : Type 0 where
   pub ready : Ready (m .header) rows keys sorts pending
   pub inside : at < m .header .pending
   pub whole : getD pending at 0 ≡ 0 → at + (m .header .columns + 2) ≤ m .header .pending
   pub place-fits : m .place ≤ at
 
 -- the result of the inserts from a place on is that of the inserts after it, if the first one does not stop the merge
-pub record InsertGoes (m : Passed) (r : Passed) (one : Staged) (rest : List Staged) (p : Plain) (s s′ : Stores) : Type 0 where
+pub record InsertGoes (m : MergeProgress) (r : MergeProgress) (one : Staged) (rest : List Staged) (p : Plain) (s s′ : Stores) : Type 0 where
   pub next : Plain
   pub steps : Becomes p next s s′
   pub goes-on : r .status ≡ 0
@@ -51,7 +51,7 @@ pub record InsertGoes (m : Passed) (r : Passed) (one : Staged) (rest : List Stag
   pub stops : (r .status ≡ 0 → ⊥)
       → insertAll (inserts (one ∷ rest)) (m .place) (hasAdded m) p ≡ inserted next (r .status) (r .place) (hasAdded r)
 
-pub record InsertedNext (m : Passed) (rows keys sorts pending : List ℕ) (at : ℕ) (r : Passed) (rows′ keys′ sorts′ : List ℕ) : Type 0 where
+pub record InsertedNext (m : MergeProgress) (rows keys sorts pending : List ℕ) (at : ℕ) (r : MergeProgress) (rows′ keys′ sorts′ : List ℕ) : Type 0 where
   pub past : SlotsPast (m .header .capacity) keys keys′
   pub header : Recounted (m .header) (r .header)
   pub place-fits : r .place ≤ m .place + 1

@@ -5,11 +5,11 @@ use mathlib.Core.Bool.{Bool, true, false, cond}
 use mathlib.Core.List.{List}
 use lib.Dec.{leb}
 use lib.ListN.{length, take, drop}
-use Rattle.lists.specs.Lists.{putAt, rowAt}
+use Rattle.lists.specs.Lists.{splice, rowAt}
 use Rattle.merge_rules.specs.Rules.{changesFrom, madeFrom, survivor}
 use Rattle.table.specs.declared.Header.{Header}
 use Rattle.merge_append.specs.declared.Insertion.{Insertion}
-use Rattle.merge_append.specs.declared.Insertion.the-variants.{Kept, Appended, Stopped}
+use Rattle.merge_append.specs.declared.Insertion.the-variants.{Unchanged, Appended, Stopped}
 use Rattle.merge_append.specs.inner.Appending.{Stayed, Replaced}
 
 -- a cell outside keys and sort column changes
@@ -33,10 +33,10 @@ pub record Makeable (h : Header) (rows pending out : List ℕ) (old from : ℕ) 
 -- the answer, which is whether a row is made, and the row
 pub record MadeIs (h : Header) (rows pending out : List ℕ) (old from : ℕ) (r : Bool) (out′ : List ℕ) : Type 0 where
   pub answer : r ≡ Changes h (rowAt (h .columns) old rows) (take (h .columns) (drop from pending))
-  pub row : r ≡ true → out′ ≡ putAt out 0 (rowMade h (rowAt (h .columns) old rows) (take (h .columns) (drop from pending)))
+  pub row : r ≡ true → out′ ≡ splice out 0 (rowMade h (rowAt (h .columns) old rows) (take (h .columns) (drop from pending)))
 
 -- no row is made, and the stores are unchanged
-pub record KeptOld (h : Header) (rows keys sorts cells : List ℕ) (old : ℕ) (rows′ keys′ sorts′ : List ℕ) : Type 0 where
+pub record UnchangedOld (h : Header) (rows keys sorts cells : List ℕ) (old : ℕ) (rows′ keys′ sorts′ : List ℕ) : Type 0 where
   pub unchanged : Changes h (rowAt (h .columns) old rows) cells ≡ false
   pub same-rows : rows′ ≡ rows
   pub same-keys : keys′ ≡ keys
@@ -44,7 +44,7 @@ pub record KeptOld (h : Header) (rows keys sorts cells : List ℕ) (old : ℕ) (
 
 -- "A known key goes through the rule; a row so made is appended and the old row dies"
 abbrev pub KnownIs : Header → List ℕ → List ℕ → List ℕ → List ℕ → ℕ → ℕ → ℕ → List ℕ → List ℕ → List ℕ → Insertion → Type 0
-KnownIs h rows keys sorts cells hash old slot rows′ keys′ sorts′ Kept = KeptOld h rows keys sorts cells old rows′ keys′ sorts′
+KnownIs h rows keys sorts cells hash old slot rows′ keys′ sorts′ Unchanged = UnchangedOld h rows keys sorts cells old rows′ keys′ sorts′
 KnownIs h rows keys sorts cells hash old slot rows′ keys′ sorts′ (Appended h′) =
     (Changes h (rowAt (h .columns) old rows) cells ≡ true) × Replaced h rows keys sorts (rowMade h (rowAt (h .columns) old rows) cells) hash old slot h′ rows′ keys′ sorts′
 KnownIs h rows keys sorts cells hash old slot rows′ keys′ sorts′ (Stopped n) =

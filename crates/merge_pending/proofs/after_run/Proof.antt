@@ -1,13 +1,13 @@
 -- `merge_pending::after_run` meets its contract. The loop's invariant: only records of the kind were passed over. Assumes nothing.
 use Prim.Native.Nat.{_-_}
 use borrow.Author.Needs.{needs}
-use Rattle.merge_pending.specs.inner.Becoming.{RunPassed}
+use Rattle.merge_pending.specs.inner.Becoming.{RunSkipped}
 use Rattle.merge_pending.proofs.PassRecords.{run-begin, run-again}
 use Rattle.merge_pending.proofs.after_run.Statement.{statement}
 use Rattle.merge_pending.proofs.after_run.Tie as tie
 
 abbrev Inv-loop : tie.InvT-loop
-Inv-loop h pending from kind words at₀ at = RunPassed h pending from kind words at
+Inv-loop h pending from kind words at₀ at = RunSkipped h pending from kind words at
 
 abbrev μ-loop : tie.MeasureT-loop
 μ-loop h pending from kind words at₀ at = h .pending - at

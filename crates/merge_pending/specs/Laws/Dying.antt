@@ -10,23 +10,23 @@ use native.Mathlib.Omega.{arith}
 use lib.ListN.{length, take, getD, set, length-set, length-take}
 use lib.Seq.{drop-set-lt, map-set-same}
 use borrow.Author.Tests.{not-true}
-use Rattle.lists.specs.Lists.{putAt, count, every, rowAt, rowsOf, flat}
-use Rattle.lists.specs.Laws.Keep.{split, every-getD, every-of}
-use Rattle.lists.specs.Laws.Every.{every-head, every-tail}
-use Rattle.lists.specs.Laws.Parts.{putAt-front}
-use Rattle.lists.specs.Laws.Rows.{row-in, flat-rowsOf, getD-rowsOf, length-rowsOf}
+use Rattle.lists.specs.Lists.{splice, count, all, rowAt, rowsOf, flatten}
+use Rattle.lists.specs.Laws.Filter.{split, all-getD, all-of}
+use Rattle.lists.specs.Laws.All.{all-head, all-tail}
+use Rattle.lists.specs.Laws.Parts.{splice-front}
+use Rattle.lists.specs.Laws.Rows.{row-in, flatten-rowsOf, getD-rowsOf, length-rowsOf}
 use Rattle.key_index.specs.Slots.{LiveAt, keyAt, KeysSound}
 use Rattle.row_buffer.specs.Laws.Rows.{stale-rows}
 use Rattle.sort_entries.specs.Entries.{Entry, entryWords, rebuilt}
 use Rattle.plain_table.specs.Staged.{removeKey, removeRow}
 use Rattle.plain_table.specs.Plain.{Row, Plain, deadRow, withRows, dead, liveWithKey, killIf, withoutKey, dies, withoutRow}
 use Rattle.plain_table.specs.Proper.{Proper, rowOf}
-use Rattle.plain_table.specs.Laws.Rows.{noRow, Thinned, empty, same-row, died, thinned-same, freeRow, apart, apart-of, apart-head, apart-tail, live-below, liveWithKey-live, liveWithKey-key}
+use Rattle.plain_table.specs.Laws.Rows.{noRow, Thinned, empty, same-row, died, thinned-same, freeRow, keysDistinct, keysDistinct-of, keysDistinct-head, keysDistinct-tail, live-below, liveWithKey-live, liveWithKey-key}
 use Rattle.plain_table.specs.Laws.Proper.{openable-bounds, thinned-proper}
 use Rattle.table.specs.declared.Header.{Header}
 use Rattle.table.specs.Stores.{entries, headerOf, marked, stored, rowStore, sortStore}
-use Rattle.table.specs.Sound.{keyedOf}
-use Rattle.table.specs.Promises.{Stores, stores, lengths, Represents}
+use Rattle.table.specs.Sound.{indexShapeOf}
+use Rattle.table.specs.Contracts.{Stores, stores, lengths, Represents}
 use Rattle.merge_pending.specs.inner.Becoming.{Later, Becomes, withCounts, withDead}
 use Rattle.table.specs.Laws.Stored.{stored-again}
 use Rattle.table.specs.Laws.Shown.{rows-in, long-stores, stored-rows, represents-long, rows-stored, rows-counted}
@@ -40,31 +40,31 @@ killAt i rows = set rows i (deadRow (getD rows i noRow))
 -- ---- which row dies
 
 -- if no live row has the key, no row dies
-pub killIf-none : (keys : ℕ) (key : List ℕ) (rows : List Row) → every (freeRow keys key) rows ≡ true → killIf (liveWithKey keys key) rows ≡ rows
+pub killIf-none : (keys : ℕ) (key : List ℕ) (rows : List Row) → all (freeRow keys key) rows ≡ true → killIf (liveWithKey keys key) rows ≡ rows
 unfolding killIf
 killIf-none keys key [] e = refl
 killIf-none keys key (row ∷ rows) e =
-    let free : liveWithKey keys key row ≡ false = not-true _ (every-head (freeRow keys key) row rows e) in
+    let free : liveWithKey keys key row ≡ false = not-true _ (all-head (freeRow keys key) row rows e) in
     ap₂ (λ (r : Row) (rs : List Row). r ∷ rs) (rw free)
-    (killIf-none keys key rows (every-tail (freeRow keys key) row rows e))
+    (killIf-none keys key rows (all-tail (freeRow keys key) row rows e))
 
 -- if live keys differ, it is the one live row with the key
-pub killIf-one : (keys : ℕ) (key : List ℕ) (rows : List Row) (i : ℕ) → apart keys rows ≡ true → liveWithKey keys key (getD rows i noRow) ≡ true
+pub killIf-one : (keys : ℕ) (key : List ℕ) (rows : List Row) (i : ℕ) → keysDistinct keys rows ≡ true → liveWithKey keys key (getD rows i noRow) ≡ true
     → killIf (liveWithKey keys key) rows ≡ killAt i rows
 unfolding killIf killAt
 killIf-one keys key [] i a e = refl
 killIf-one keys key (row ∷ rows) zero a e =
     let k = liveWithKey-key keys key row e in
-    let f : every (freeRow keys key) rows ≡ true = rw k at (apart-head keys row rows a (liveWithKey-live keys key row e)) in
+    let f : all (freeRow keys key) rows ≡ true = rw k at (keysDistinct-head keys row rows a (liveWithKey-live keys key row e)) in
     ap₂ (λ (r : Row) (rs : List Row). r ∷ rs) (rw e) (killIf-none keys key rows f)
 killIf-one keys key (row ∷ rows) (suc i) a e =
-    ap₂ (λ (r : Row) (rs : List Row). r ∷ rs) (first (split (liveWithKey keys key row))) (killIf-one keys key rows i (apart-tail keys row rows a) e)
+    ap₂ (λ (r : Row) (rs : List Row). r ∷ rs) (first (split (liveWithKey keys key row))) (killIf-one keys key rows i (keysDistinct-tail keys row rows a) e)
   where
     first : (liveWithKey keys key row ≡ true) ⊎ (liveWithKey keys key row ≡ false) → cond (liveWithKey keys key row) (deadRow row) row ≡ row
     first (inl q) =
-        let f : every (freeRow keys key) rows ≡ true = rw (liveWithKey-key keys key row q) at (apart-head keys row rows a (liveWithKey-live keys key row q)) in
+        let f : all (freeRow keys key) rows ≡ true = rw (liveWithKey-key keys key row q) at (keysDistinct-head keys row rows a (liveWithKey-live keys key row q)) in
         let below = live-below rows i (liveWithKey-live keys key (getD rows i noRow) e) in
-        absurd (false≢true (sym (not-true _ (every-getD (freeRow keys key) rows f i below noRow)) ∙ e))
+        absurd (false≢true (sym (not-true _ (all-getD (freeRow keys key) rows f i below noRow)) ∙ e))
     first (inr q) = rw q
 
 -- a removal by row removes the row if it is a live row with the key
@@ -137,16 +137,16 @@ stored-killAt (suc i) (row ∷ rows) (old ∷ before) h k =
 
 -- only the cell with the dead mark changes
 pub marked-store : (w n i : ℕ) (store : List ℕ) → 0 < w → i < n → n * w ≤ length store
-    → putAt store 0 (flat (set (rowsOf w n store) i (marked (rowAt w i store)))) ≡ set store (i * w) 4294967295
-unfolding putAt
+    → splice store 0 (flatten (set (rowsOf w n store) i (marked (rowAt w i store)))) ≡ set store (i * w) 4294967295
+unfolding splice
 marked-store w n i store some h k =
     let m : List ℕ = set store (i * w) 4294967295 in
     let j : n * w ≤ length m = simp length-set k in
     let c : i * w < 0 + length (take (n * w) m) = simp (length-take, length-set) (omega (arith, row-in i n w h)) in
-    ap (λ (rows : List (List ℕ)). putAt store 0 (flat rows)) (sym (stale-rows w n i store some h))
-    ∙ ap (putAt store 0) (flat-rowsOf w n m)
+    ap (λ (rows : List (List ℕ)). splice store 0 (flatten rows)) (sym (stale-rows w n i store some h))
+    ∙ ap (splice store 0) (flatten-rowsOf w n m)
     ∙ ap (λ (rest : List ℕ). take (n * w) m ++ rest) (sym (drop-set-lt (0 + length (take (n * w) m)) store (i * w) 4294967295 c))
-    ∙ putAt-front m (n * w) j
+    ∙ splice-front m (n * w) j
 
 -- ---- the stores represent the table
 
@@ -207,13 +207,13 @@ module _ {p : Plain} {s : Stores} (r : Represents p s) (i : ℕ) (live : rowOf p
   pub dying-rows : rowStore (dying p i) (rowsOf (s .header .columns) (s .header .rows) (s .rows)) (s .rows) ≡ set (s .rows) (i * s .header .columns) 4294967295
   unfolding rowStore
   dying-rows =
-      ap (λ (rows : List (List ℕ)). putAt (s .rows) 0 (flat rows)) stored-dying
+      ap (λ (rows : List (List ℕ)). splice (s .rows) 0 (flatten rows)) stored-dying
       ∙ marked-store (s .header .columns) (s .header .rows) i (s .rows) some-columns below rows-long
 
   -- no cell of the sort-entry store changes
   pub dying-sorts : sortStore (dying p i) (s .sorts) ≡ s .sorts
   unfolding sortStore
-  dying-sorts = ap (λ (es : List Entry). putAt (s .sorts) 0 (entryWords es)) (entries-killAt p i) ∙ sym (steps-refl r .sorts-after)
+  dying-sorts = ap (λ (es : List Entry). splice (s .sorts) 0 (entryWords es)) (entries-killAt p i) ∙ sym (steps-refl r .sorts-after)
 
   -- the row store represents the rows
   pub dying-shown : stored (killAt i (p .rows)) (rowsOf (s .header .columns) (s .header .rows) (set (s .rows) (i * s .header .columns) 4294967295))
@@ -224,7 +224,7 @@ module _ {p : Plain} {s : Stores} (r : Represents p s) (i : ℕ) (live : rowOf p
 
   -- with the row marked dead and a key store that refers to the other rows, the stores represent the table
   pub dying-represents : (keys : List ℕ) → 2 * s .header .capacity ≤ length keys
-      → KeysSound (keyedOf (s .header)) (set (s .rows) (i * s .header .columns) 4294967295) keys
+      → KeysSound (indexShapeOf (s .header)) (set (s .rows) (i * s .header .columns) 4294967295) keys
       → Represents (dying p i) (stores (withDead (s .header) (s .header .dead + 1)) (set (s .rows) (i * s .header .columns) 4294967295) keys (s .sorts) (s .pending))
   dying-represents keys long sound =
       let rows : List ℕ = set (s .rows) (i * s .header .columns) 4294967295 in
@@ -244,11 +244,11 @@ module _ {p : Plain} {s : Stores} (r : Represents p s) (i : ℕ) (live : rowOf p
               entries-shown = r .shown .entries-shown ∙ sym (entries-killAt p i);
               pending-held = r .shown .pending-held;
             };
-        keyed = sound;
+        keys-sound = sound;
       }
 
   pub dying-steps : (keys : List ℕ) → 2 * s .header .capacity ≤ length keys
-      → KeysSound (keyedOf (s .header)) (set (s .rows) (i * s .header .columns) 4294967295) keys
+      → KeysSound (indexShapeOf (s .header)) (set (s .rows) (i * s .header .columns) 4294967295) keys
       → Becomes p (dying p i) s (stores (withDead (s .header) (s .header .dead + 1)) (set (s .rows) (i * s .header .columns) 4294967295) keys (s .sorts) (s .pending))
   dying-steps keys long sound =
       record {
@@ -262,17 +262,17 @@ module _ {p : Plain} {s : Stores} (r : Represents p s) (i : ℕ) (live : rowOf p
 
 module _ {p : Plain} {s : Stores} (r : Represents p s) (key : List ℕ) where
   -- a removal by key removes it
-  pub withoutKey-one : (i : ℕ) → LiveAt (keyedOf (s .header)) (s .rows) i → keyAt (keyedOf (s .header)) (s .rows) i ≡ key → withoutKey p (removeKey key) ≡ dying p i
+  pub withoutKey-one : (i : ℕ) → LiveAt (indexShapeOf (s .header)) (s .rows) i → keyAt (indexShapeOf (s .header)) (s .rows) i ≡ key → withoutKey p (removeKey key) ≡ dying p i
   unfolding withoutKey
-  withoutKey-one i l e = ap (withRows p) (killIf-one (p .opening .keys) key (p .rows) i (apart-of (p .opening .keys) (p .rows) (r .proper .keys-differ)) (live-passes r key i l e))
+  withoutKey-one i l e = ap (withRows p) (killIf-one (p .opening .keys) key (p .rows) i (keysDistinct-of (p .opening .keys) (p .rows) (r .proper .keys-differ)) (live-passes r key i l e))
 
   -- so does a removal by its row number
-  pub withoutRow-one : (i : ℕ) → LiveAt (keyedOf (s .header)) (s .rows) i → keyAt (keyedOf (s .header)) (s .rows) i ≡ key → withoutRow p (removeRow i key) ≡ dying p i
+  pub withoutRow-one : (i : ℕ) → LiveAt (indexShapeOf (s .header)) (s .rows) i → keyAt (indexShapeOf (s .header)) (s .rows) i ≡ key → withoutRow p (removeRow i key) ≡ dying p i
   unfolding withoutRow
   withoutRow-one i l e = ap (withRows p) (dies-one (p .opening .keys) key i (p .rows) (live-passes r key i l e))
 
   -- a removal by another row number removes nothing
-  pub withoutRow-other : (i j : ℕ) → LiveAt (keyedOf (s .header)) (s .rows) i → keyAt (keyedOf (s .header)) (s .rows) i ≡ key → (i ≡ j → ⊥)
+  pub withoutRow-other : (i j : ℕ) → LiveAt (indexShapeOf (s .header)) (s .rows) i → keyAt (indexShapeOf (s .header)) (s .rows) i ≡ key → (i ≡ j → ⊥)
       → withoutRow p (removeRow j key) ≡ p
   unfolding withoutRow
   withoutRow-other i j l e ne =
@@ -287,7 +287,7 @@ module _ {p : Plain} {s : Stores} (r : Represents p s) (key : List ℕ) where
         | inr f ↦ ap (withRows p) (dies-none k key j (p .rows) f)
       ]
 
-  module _ (none : (i : ℕ) → LiveAt (keyedOf (s .header)) (s .rows) i → keyAt (keyedOf (s .header)) (s .rows) i ≡ key → ⊥) where
+  module _ (none : (i : ℕ) → LiveAt (indexShapeOf (s .header)) (s .rows) i → keyAt (indexShapeOf (s .header)) (s .rows) i ≡ key → ⊥) where
     -- if the stores have no live row with the key, the plain table has none
     pub key-free : (i : ℕ) → liveWithKey (p .opening .keys) key (rowOf p i) ≡ false
     key-free i =
@@ -300,7 +300,7 @@ module _ {p : Plain} {s : Stores} (r : Represents p s) (key : List ℕ) where
     -- then a removal by key or by row removes nothing
     pub withoutKey-none : withoutKey p (removeKey key) ≡ p
     unfolding withoutKey
-    withoutKey-none = ap (withRows p) (killIf-none (p .opening .keys) key (p .rows) (every-of (freeRow (p .opening .keys) key) noRow (p .rows) (λ i h. rw (key-free i))))
+    withoutKey-none = ap (withRows p) (killIf-none (p .opening .keys) key (p .rows) (all-of (freeRow (p .opening .keys) key) noRow (p .rows) (λ i h. rw (key-free i))))
 
     pub withoutRow-none : (i : ℕ) → withoutRow p (removeRow i key) ≡ p
     unfolding withoutRow

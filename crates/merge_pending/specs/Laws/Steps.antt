@@ -11,11 +11,11 @@ use native.Mathlib.Omega.{arith}
 use lib.ListN.{length, take, drop, getD, length-take}
 use lib.Seq.{take-at, drop-at, take-take, drop-drop, getD-take, getD-drop, set-set, ext-getD}
 use borrow.Author.Tests.{not-true}
-use Rattle.lists.specs.Lists.{rowsOf, flat}
-use Rattle.lists.specs.Laws.Keep.{split}
-use Rattle.lists.specs.Laws.Every.{every-head, every-tail}
-use Rattle.lists.specs.Laws.Parts.{take-drop, putAt-over, putAt-front}
-use Rattle.lists.specs.Laws.Rows.{widths, length-rowsOf, getD-rowsOf, length-flat, rowsOf-put-flat, flat-rowsOf}
+use Rattle.lists.specs.Lists.{rowsOf, flatten}
+use Rattle.lists.specs.Laws.Filter.{split}
+use Rattle.lists.specs.Laws.All.{all-head, all-tail}
+use Rattle.lists.specs.Laws.Parts.{take-drop, splice-over, splice-front}
+use Rattle.lists.specs.Laws.Rows.{widths, length-rowsOf, getD-rowsOf, length-flatten, rowsOf-put-flatten, flatten-rowsOf}
 use Rattle.sort_entries.specs.Entries.{entryWords}
 use Rattle.sort_entries.specs.Laws.Stores.{length-words, words-entriesOf}
 use Rattle.sort_entries.specs.Laws.Rebuilt.{rebuilt-front}
@@ -27,7 +27,7 @@ use Rattle.plain_table.specs.Laws.Rows.{live-below}
 use Rattle.table.specs.declared.Header.{Header}
 use Rattle.table.specs.Numbers.{openingOf}
 use Rattle.table.specs.Stores.{entries, marked, stored, rowStore, sortStore, recordWords}
-use Rattle.table.specs.Promises.{Stores, Represents}
+use Rattle.table.specs.Contracts.{Stores, Represents}
 use Rattle.merge_pending.specs.inner.Becoming.{Later, Becomes, withCounts, Recounted, Waiting, kindOf, hashOf}
 use Rattle.table.specs.Laws.Stored.{length-stored, stored-widths, stored-at-live, stored-at-dead, stored-at-new}
 use Rattle.table.specs.Laws.Shown.{entries-few, rows-in, wide-rows, represents-long, rows-stored, rows-counted, live-cells}
@@ -156,8 +156,8 @@ module _ {p : Plain} {s : Stores} (r : Represents p s) where
       let k : 2 * s .header .entries ≤ length (s .sorts) = omega (arith, length-words (entries p), words-fit) in
       record {
         later = later-refl p;
-        rows-after = sym (rw (rows-stored r, flat-rowsOf w (s .header .rows) (s .rows)) (putAt-front (s .rows) (s .header .rows * w) n));
-        sorts-after = sym (rw (← r .shown .entries-shown, words-entriesOf (s .header .entries) (s .sorts) k) (putAt-front (s .sorts) (2 * s .header .entries) k));
+        rows-after = sym (rw (rows-stored r, flatten-rowsOf w (s .header .rows) (s .rows)) (splice-front (s .rows) (s .header .rows * w) n));
+        sorts-after = sym (rw (← r .shown .entries-shown, words-entriesOf (s .header .entries) (s .sorts) k) (splice-front (s .sorts) (2 * s .header .entries) k));
         represents = r;
       }
 
@@ -179,7 +179,7 @@ module _ {p p₁ p₂ : Plain} {s s₁ s₂ : Stores} (r : Represents p s) (a : 
   first-stored =
       let c : s₁ .header .columns ≡ p .opening .columns = columns-shown (a .represents) ∙ ap (λ (o : Opening). o .columns) (a .later .opening) in
       let n : s₁ .header .rows ≡ length (stored (p₁ .rows) (rowsBefore s)) = rows-counted (a .represents) ∙ sym (length-stored (p₁ .rows) (rowsBefore s)) in
-      rw (c, n, a .rows-after) (rowsOf-put-flat (p .opening .columns) (stored (p₁ .rows) (rowsBefore s)) (s .rows) first-wide)
+      rw (c, n, a .rows-after) (rowsOf-put-flatten (p .opening .columns) (stored (p₁ .rows) (rowsBefore s)) (s .rows) first-wide)
 
   old-cells : (i : ℕ) → rowOf p i .live ≡ true → rowOf p i .cells ≡ getD (rowsBefore s) i []
   old-cells i e =
@@ -197,9 +197,9 @@ module _ {p p₁ p₂ : Plain} {s s₁ s₂ : Stores} (r : Represents p s) (a : 
   steps-then =
       let v : List (List ℕ) = stored (p₁ .rows) (rowsBefore s) in
       let w : List (List ℕ) = stored (p₂ .rows) (rowsBefore s) in
-      let l : length (flat v) ≡ length (p₁ .rows) * p .opening .columns = length-flat (p .opening .columns) v first-wide ∙ ap (λ (n : ℕ). n * p .opening .columns) (length-stored (p₁ .rows) (rowsBefore s)) in
-      let m : length (flat w) ≡ length (p₂ .rows) * p .opening .columns =
-      length-flat (p .opening .columns) w (stored-widths (p .opening .columns) (p₂ .rows) (rowsBefore s) (rw (b .later .opening, a .later .opening) at (b .represents .proper .widths)) before-wide)
+      let l : length (flatten v) ≡ length (p₁ .rows) * p .opening .columns = length-flatten (p .opening .columns) v first-wide ∙ ap (λ (n : ℕ). n * p .opening .columns) (length-stored (p₁ .rows) (rowsBefore s)) in
+      let m : length (flatten w) ≡ length (p₂ .rows) * p .opening .columns =
+      length-flatten (p .opening .columns) w (stored-widths (p .opening .columns) (p₂ .rows) (rowsBefore s) (rw (b .later .opening, a .later .opening) at (b .represents .proper .widths)) before-wide)
       ∙ ap (λ (n : ℕ). n * p .opening .columns) (length-stored (p₂ .rows) (rowsBefore s)) in
       let g = mul-le-mul-right (p .opening .columns) (b .later .grows) in
       let c : length (p₁ .rows) ≤ p .opening .capacity = rw (a .later .opening) at (a .represents .proper .rows-fit) in
@@ -209,11 +209,11 @@ module _ {p p₁ p₂ : Plain} {s s₁ s₂ : Stores} (r : Represents p s) (a : 
         later = later-then (a .later) (b .later);
         rows-after =
             b .rows-after
-            ∙ rw (first-stored, rows-then, a .rows-after) (putAt-over (s .rows) (flat v) (flat w) 0 (omega arith) (omega arith));
+            ∙ rw (first-stored, rows-then, a .rows-after) (splice-over (s .rows) (flatten v) (flatten w) 0 (omega arith) (omega arith));
         sorts-after =
             b .sorts-after
             ∙ rw (a .sorts-after)
-            (putAt-over (s .sorts) (entryWords (entries p₁)) (entryWords (entries p₂)) 0
+            (splice-over (s .sorts) (entryWords (entries p₁)) (entryWords (entries p₂)) 0
             (omega (arith, length-words (entries p₁), entries-few p₁, c, represents-long r .sorts-long))
             (omega (arith, length-words (entries p₁), length-words (entries p₂), entries-grow (b .later))));
         represents = b .represents;
@@ -238,14 +238,14 @@ words-some o (removeRow row key) = omega arith
 
 module _ {o : Opening} {pending : List ℕ} {used at : ℕ} {r : Staged} {rest : List Staged} (w : Waiting o pending used at (r ∷ rest)) where
   right-width : wrongWidth o r ≡ false
-  right-width = not-true _ (every-head (λ q. not (wrongWidth o q)) r rest (w .held .whole))
+  right-width = not-true _ (all-head (λ q. not (wrongWidth o q)) r rest (w .held .whole))
 
   here-length : length (recordWords (o .keys) r) ≡ wordsOf o r
   here-length = length-recordWords o r right-width
 
   -- the words from this place on
-  from-here : take (wordsOf o r + wordsAll o rest) (drop at pending) ≡ recordWords (o .keys) r ++ flat (map (recordWords (o .keys)) rest)
-  from-here = unfold wordsAll flat in w .held .in-order
+  from-here : take (wordsOf o r + wordsAll o rest) (drop at pending) ≡ recordWords (o .keys) r ++ flatten (map (recordWords (o .keys)) rest)
+  from-here = unfold wordsAll flatten in w .held .in-order
 
   -- the record at the place is within the words in use
   pub waiting-inside : at + wordsOf o r + wordsAll o rest ≡ used
@@ -257,7 +257,7 @@ module _ {o : Opening} {pending : List ℕ} {used at : ℕ} {r : Staged} {rest :
       let k : wordsOf o r ≤ wordsOf o r + wordsAll o rest = omega arith in
       sym (take-take (wordsOf o r) (wordsOf o r + wordsAll o rest) (drop at pending) k)
       ∙ ap (take (wordsOf o r)) from-here
-      ∙ take-at (recordWords (o .keys) r) (flat (map (recordWords (o .keys)) rest)) (wordsOf o r) here-length
+      ∙ take-at (recordWords (o .keys) r) (flatten (map (recordWords (o .keys)) rest)) (wordsOf o r) here-length
 
   -- one of its words
   pub waiting-word : (i : ℕ) → i < wordsOf o r → getD pending (at + i) 0 ≡ getD (recordWords (o .keys) r) i 0
@@ -280,12 +280,12 @@ module _ {o : Opening} {pending : List ℕ} {used at : ℕ} {r : Staged} {rest :
       record {
         held =
             record {
-              whole = every-tail (λ q. not (wrongWidth o q)) r rest (w .held .whole);
+              whole = all-tail (λ q. not (wrongWidth o q)) r rest (w .held .whole);
               in-order =
                   ap (take (wordsAll o rest)) (sym (drop-drop (wordsOf o r) at pending))
                   ∙ take-drop (wordsOf o r) (wordsAll o rest) (drop at pending)
                   ∙ ap (drop (wordsOf o r)) from-here
-                  ∙ drop-at (recordWords (o .keys) r) (flat (map (recordWords (o .keys)) rest)) (wordsOf o r) here-length;
+                  ∙ drop-at (recordWords (o .keys) r) (flatten (map (recordWords (o .keys)) rest)) (wordsOf o r) here-length;
             };
         counted = waiting-inside;
       }

@@ -6,8 +6,8 @@ use mathlib.Core.Bool.{Bool, true}
 use mathlib.Core.List.{List, [], _∷_}
 use lib.ListN.{length, take, drop, getD}
 use lib.Dec.{eqb}
-use Rattle.lists.specs.Lists.{rowsOf, keep}
-use Rattle.cells.specs.Cells.{compact, keyHash}
+use Rattle.lists.specs.Lists.{rowsOf, filter}
+use Rattle.cells.specs.Cells.{compactHash, keyHash}
 use Rattle.key_index.specs.inner.Index.{Fits}
 use Rattle.plain_table.specs.Staged.{Opening, Staged, insert, removeKey, removeRow, wordsOf, wordsAll}
 use Rattle.plain_table.specs.Plain.{Plain}
@@ -16,8 +16,8 @@ use Rattle.table.specs.declared.Header.{Header}
 use Rattle.table.specs.declared.Largest.{Largest}
 use Rattle.table.specs.Numbers.{openingOf, header}
 use Rattle.table.specs.Stores.{rowStore, sortStore, Holds}
-use Rattle.table.specs.inner.Whole.{wholeOf}
-use Rattle.table.specs.Promises.{Stores, Represents}
+use Rattle.table.specs.inner.FullIndexShape.{fullIndexShapeOf}
+use Rattle.table.specs.Contracts.{Stores, Represents}
 
 -- ---- from one plain table to another
 
@@ -55,7 +55,7 @@ pub record Recounted (h h′ : Header) : Type 0 where
 
 -- numbers within their bounds, and stores long enough for the inserts of a merge
 pub record Ready (h : Header) (rows keys sorts pending : List ℕ) : Type 0 where
-  pub fits : Fits (wholeOf h) rows keys
+  pub fits : Fits (fullIndexShapeOf h) rows keys
   pub sort-column : h .sort < h .columns
   pub rule-known : h .rule ≤ 3
   pub entries-fit : h .entries ≤ h .rows
@@ -94,20 +94,20 @@ abbrev pub ofKind : ℕ → Staged → Bool
 ofKind kind r = eqb (kindOf r) kind
 
 -- of these records, those from a place on remain, and no wanted record was skipped
-pub record Left (h : Header) (pending : List ℕ) (wanted at : ℕ) (records : List Staged) : Type 0 where
+pub record Remaining (h : Header) (pending : List ℕ) (wanted at : ℕ) (records : List Staged) : Type 0 where
   pub left : List Staged
-  pub same : keep (ofKind wanted) records ≡ keep (ofKind wanted) left
+  pub same : filter (ofKind wanted) records ≡ filter (ofKind wanted) left
   pub waiting : Waiting (openingOf h) pending (h .pending) at left
 
 -- from one place to another only records of one kind were skipped, each of `words` words
-pub record RunPassed (h : Header) (pending : List ℕ) (from kind words at : ℕ) : Type 0 where
+pub record RunSkipped (h : Header) (pending : List ℕ) (from kind words at : ℕ) : Type 0 where
   pub on : from ≤ at
   pub inside : at ≤ h .pending
   pub rest : ((r : Staged) → kindOf r ≡ kind → wordsOf (openingOf h) r ≡ words) → (wanted : ℕ) → (kind ≡ wanted → ⊥)
-      → (records : List Staged) → Waiting (openingOf h) pending (h .pending) from records → Left h pending wanted at records
+      → (records : List Staged) → Waiting (openingOf h) pending (h .pending) from records → Remaining h pending wanted at records
 
 -- a complete record is at a place
-pub record CanPass (h : Header) (pending : List ℕ) (at words : ℕ) : Type 0 where
+pub record CanSkip (h : Header) (pending : List ℕ) (at words : ℕ) : Type 0 where
   pub here : RecordLength h pending at words
   pub some : 0 < words
   pub fits : h .pending ≤ length pending
@@ -116,10 +116,10 @@ pub record CanPass (h : Header) (pending : List ℕ) (at words : ℕ) : Type 0 w
 pub record NextRecord (h : Header) (pending : List ℕ) (at words wanted next : ℕ) : Type 0 where
   pub on : at + words ≤ next
   pub inside : next ≤ h .pending
-  pub rest : (first : Staged) (rest : List Staged) → Waiting (openingOf h) pending (h .pending) at (first ∷ rest) → Left h pending wanted next rest
+  pub rest : (first : Staged) (rest : List Staged) → Waiting (openingOf h) pending (h .pending) at (first ∷ rest) → Remaining h pending wanted next rest
 
 -- the compact hash of a record's key
 unfoldable pub hashOf : ℕ → Staged → ℕ
-hashOf keys (insert cells) = compact (keyHash (take keys cells))
-hashOf keys (removeKey key) = compact (keyHash key)
-hashOf keys (removeRow row key) = compact (keyHash key)
+hashOf keys (insert cells) = compactHash (keyHash (take keys cells))
+hashOf keys (removeKey key) = compactHash (keyHash key)
+hashOf keys (removeRow row key) = compactHash (keyHash key)

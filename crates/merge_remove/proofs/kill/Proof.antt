@@ -23,7 +23,7 @@ set-stale-requires c κs =
 returns : tie.Need-returns
 returns c =
     let s = c .before .before .before .before .before .before .before .before .before .before .before .before in
-    killed _ _ _ _ _ _ _ _ (s .pre .0) (c .before .before .before .before .before .before .before .take-out .ensures) (c .before .before .set-stale .ensures)
+    killed _ _ _ _ _ _ _ _ (s .pre .0) (c .before .before .before .before .before .before .before .remove-row .ensures) (c .before .before .set-stale .ensures)
 
 pub kill-spec : {M : Type 1} → statement M
 kill-spec =

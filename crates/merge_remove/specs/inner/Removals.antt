@@ -8,15 +8,15 @@ use lib.ListN.{length, drop, getD, set}
 use lib.Dec.{eqb}
 use Rattle.lists.specs.Lists.{rowAt}
 use Rattle.constraints.specs.Constraints.{isLive}
-use Rattle.key_index.specs.declared.Keyed.{Keyed}
+use Rattle.key_index.specs.declared.IndexShape.{IndexShape}
 use Rattle.key_index.specs.Slots.{LiveAt, keyAt, slots, word, KeysSound}
 use Rattle.key_index.specs.inner.Index.{Fits}
 use Rattle.plain_table.specs.Staged.{Staged, insert, removeKey, removeRow}
 use Rattle.plain_table.specs.Plain.{Plain, withoutKey, withoutRow}
 use Rattle.table.specs.declared.Header.{Header}
 use Rattle.table.specs.Numbers.{openingOf}
-use Rattle.table.specs.inner.Whole.{wholeOf}
-use Rattle.table.specs.Promises.{stores, Represents, SlotsPast}
+use Rattle.table.specs.inner.FullIndexShape.{fullIndexShapeOf}
+use Rattle.table.specs.Contracts.{stores, Represents, SlotsPast}
 use Rattle.merge_pending.specs.inner.Becoming.{Becomes, withDead, kindOf, Waiting, hashOf}
 
 -- the table after a removal
@@ -35,11 +35,11 @@ unfoldable pub died : Bool → ℕ
 died r = cond r 1 0
 
 -- a row is deleted from the key store and marked dead; the answer is whether it was live
-pub record Kills (t : Keyed) (rows keys : List ℕ) (row slot : ℕ) (r : Bool) (rows′ keys′ : List ℕ) : Type 0 where
+pub record Kills (t : IndexShape) (rows keys : List ℕ) (row slot : ℕ) (r : Bool) (rows′ keys′ : List ℕ) : Type 0 where
   pub marks : rows′ ≡ set rows (row * t .columns) 4294967295
   pub was-live : r ≡ isLive (rowAt (t .columns) row rows)
   pub past : drop (slots t) keys′ ≡ drop (slots t) keys
-  pub keyed : KeysSound t rows keys → LiveAt t rows row → getD keys slot 0 ≡ word (keyAt t rows row) row → KeysSound t rows′ keys′
+  pub keys-sound : KeysSound t rows keys → LiveAt t rows row → getD keys slot 0 ≡ word (keyAt t rows row) row → KeysSound t rows′ keys′
 
 -- the removal of a kind with a row number and a key; a removal by key ignores the number
 unfoldable pub removalOf : ℕ → ℕ → List ℕ → Staged
@@ -71,7 +71,7 @@ pub record Removed (h : Header) (rows keys pending : List ℕ) (at : ℕ) (r : B
 
 -- numbers within their bounds, and stores long enough for the removals of a kind
 pub record Removable (h : Header) (rows keys pending : List ℕ) (kind : ℕ) : Type 0 where
-  pub fits : Fits (wholeOf h) rows keys
+  pub fits : Fits (fullIndexShapeOf h) rows keys
   pub pending-fits : h .pending ≤ length pending
   pub dead-few : 3 * h .dead + h .pending ≤ 12884901885
   pub some-kind : 1 ≤ kind
@@ -87,7 +87,7 @@ pub record Removals (h : Header) (rows keys pending : List ℕ) (kind : ℕ) (h�
 
 -- the record at a place is complete if it is a removal of this kind
 pub record RemovalNext (h : Header) (rows keys pending : List ℕ) (at kind : ℕ) : Type 0 where
-  pub fits : Fits (wholeOf h) rows keys
+  pub fits : Fits (fullIndexShapeOf h) rows keys
   pub inside : at < length pending
   pub whole : getD pending at 0 ≡ kind → RemovalAt h pending at
   pub some-kind : 1 ≤ kind

@@ -14,7 +14,7 @@ use lib.ListN.{length, take, drop, getD, length-take, length-drop}
 use lib.Seq.{getD-take, ext-getD}
 use borrow.Author.Tests.{eq-eqb, ne-eqb, le-leb, lt-leb}
 use Rattle.lists.specs.Lists.{same}
-use Rattle.lists.specs.Laws.Keep.{split}
+use Rattle.lists.specs.Laws.Filter.{split}
 use Rattle.lists.specs.Laws.Rising.{same-refl, same-ne}
 use Rattle.merge_rules.specs.Rules.{ruledColumn, signed, smaller, larger, taken, madeCell, madeFrom, changesFrom, ruled, survivor}
 

@@ -3,7 +3,7 @@ use Prim.Native.Nat.{ℕ, _+_}
 use mathlib.Core.Path.{_∙_, ap₂}
 use borrow.Author.Needs.{needs}
 use Rattle.offsets.specs.declared.BoundsAnswer.the-variants.{Ends}
-use Rattle.offsets.specs.inner.Writing.{boundsSays}
+use Rattle.offsets.specs.inner.Writing.{boundsView}
 use Rattle.offsets.proofs.Forms.{bounds-range, bounds-none, bounds-list}
 use Rattle.offsets.proofs.bounds.Statement.{statement}
 use Rattle.offsets.proofs.bounds.Tie as tie
@@ -15,7 +15,7 @@ wide-requires-2 : tie.Need-wide-requires-2
 wide-requires-2 c κs = search needs
 
 returns : tie.Need-returns
-returns c = ap₂ (λ (a b : ℕ). boundsSays (Ends a b)) (c .before .wide .ensures .0) (c .wide2 .ensures .0) ∙ bounds-range _ _ (c .before .before .if1 .taken)
+returns c = ap₂ (λ (a b : ℕ). boundsView (Ends a b)) (c .before .wide .ensures .0) (c .wide2 .ensures .0) ∙ bounds-range _ _ (c .before .before .if1 .taken)
 
 returns-2 : tie.Need-returns-2
 returns-2 c = bounds-none _ _ (c .before .if1 .left) (c .if2 .taken)
@@ -42,7 +42,7 @@ add-t14 : tie.Need-add-t14
 add-t14 c = search needs
 
 returns-3 : tie.Need-returns-3
-returns-3 c = ap₂ (λ (a b : ℕ). boundsSays (Ends a (b + 1))) (c .before .before .wide3 .ensures .0) (c .wide4 .ensures .0) ∙ bounds-list _ _ (c .before .before .before .before .before .if1 .left) (c .before .before .before .before .if2 .left)
+returns-3 c = ap₂ (λ (a b : ℕ). boundsView (Ends a (b + 1))) (c .before .before .wide3 .ensures .0) (c .wide4 .ensures .0) ∙ bounds-list _ _ (c .before .before .before .before .before .if1 .left) (c .before .before .before .before .if2 .left)
 
 pub bounds-spec : {M : Type 1} → statement M
 bounds-spec =

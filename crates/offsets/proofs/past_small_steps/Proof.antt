@@ -3,13 +3,13 @@ use Prim.Native.Nat.{_-_}
 use lib.ListN.{length}
 use borrow.Author.Needs.{needs}
 use borrow.Author.Tests.{not-false}
-use Rattle.offsets.specs.inner.Rising.{Onward}
+use Rattle.offsets.specs.inner.Rising.{RisesUpTo}
 use Rattle.offsets.proofs.Rising.{onward-begin, block-length, onward-more}
 use Rattle.offsets.proofs.past_small_steps.Statement.{statement}
 use Rattle.offsets.proofs.past_small_steps.Tie as tie
 
 abbrev Inv-loop : tie.InvT-loop
-Inv-loop ids at₀ at = Onward ids at
+Inv-loop ids at₀ at = RisesUpTo ids at
 
 abbrev μ-loop : tie.MeasureT-loop
 μ-loop ids at₀ at = length ids - at

@@ -5,13 +5,13 @@ use native.Mathlib.Omega.{arith}
 use lib.ListN.{length}
 use borrow.Author.Needs.{needs}
 use borrow.Author.Tests.{not-true, not-false}
-use Rattle.offsets.specs.inner.Rising.{Onward}
+use Rattle.offsets.specs.inner.Rising.{RisesUpTo}
 use Rattle.offsets.proofs.Rising.{onward-begin, onward-more, onward-fall, onward-last}
 use Rattle.offsets.proofs.rises_by_parts.Statement.{statement}
 use Rattle.offsets.proofs.rises_by_parts.Tie as tie
 
 abbrev Inv-loop : tie.InvT-loop
-Inv-loop ids at₀ at = Onward ids at
+Inv-loop ids at₀ at = RisesUpTo ids at
 
 abbrev μ-loop : tie.MeasureT-loop
 μ-loop ids at₀ at = length ids - at

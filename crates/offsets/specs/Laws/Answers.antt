@@ -10,29 +10,29 @@ use native.Mathlib.Decide.{decLt}
 use native.Mathlib.Omega.{arith}
 use lib.ListN.{length, take, length-take}
 use borrow.Author.Tests.{lt-ltb, le-ltb}
-use Rattle.lists.specs.Lists.{putAt, keep, has, within}
-use Rattle.lists.specs.Laws.Parts.{putAt-nil}
-use Rattle.lists.specs.Laws.Keep.{split, length-keep, count-le}
-use Rattle.refusals.specs.Refusals.{first, Reply, refused, accepted, reply}
+use Rattle.lists.specs.Lists.{splice, filter, elem, within}
+use Rattle.lists.specs.Laws.Parts.{splice-nil}
+use Rattle.lists.specs.Laws.Filter.{split, length-filter, count-le}
+use Rattle.refusals.specs.Refusals.{firstRefusal, Reply, refused, accepted, reply}
 use Rattle.offsets.specs.declared.SubsetAnswer.{SubsetAnswer}
 use Rattle.offsets.specs.declared.SubsetAnswer.the-variants.{Refused, Range, List as Ids}
 use Rattle.offsets.specs.Subsets.{Subset, range, list, wellFormed, members, listOrNothing, intersect}
-use Rattle.offsets.specs.Answers.{readOff, written, roomNeeded, Answered, intersectRefusal, intersectReply}
+use Rattle.offsets.specs.Answers.{subsetView, written, roomNeeded, Answered, intersectRefusal, intersectReply}
 use Rattle.offsets.specs.Laws.Subsets.{members-intersect, answered-range, answered-list}
 
 -- ---- decoding an answer, by its form
 
 module _ (output : List ℕ) where
-  pub read-refused : (n : ℕ) → readOff (Refused n) output ≡ refused n
-  unfolding readOff
+  pub read-refused : (n : ℕ) → subsetView (Refused n) output ≡ refused n
+  unfolding subsetView
   read-refused n = refl
 
-  pub read-range : (start end : ℕ) → readOff (Range start end) output ≡ accepted (range start end)
-  unfolding readOff
+  pub read-range : (start end : ℕ) → subsetView (Range start end) output ≡ accepted (range start end)
+  unfolding subsetView
   read-range from to = refl
 
-  pub read-list : (n : ℕ) → readOff (Ids n) output ≡ accepted (list (take n output))
-  unfolding readOff
+  pub read-list : (n : ℕ) → subsetView (Ids n) output ≡ accepted (list (take n output))
+  unfolding subsetView
   read-list n = refl
 
 -- ---- what an answer writes
@@ -42,12 +42,12 @@ unfolding written
 written-none n = refl
 
 pub answered-refused : (n : ℕ) (output : List ℕ) → Answered (refused n) output (Refused n) output
-unfolding readOff written
+unfolding subsetView written
 answered-refused n output =
     record {
       answers = refl;
       inside = λ k e. absurd (let z : _≡_ {A = ℕ} 0 1 = cc in omega arith);
-      writes = sym (putAt-nil output 0);
+      writes = sym (splice-nil output 0);
     }
 
 pub written-members : (v : Subset) → length (written (accepted v)) ≤ length (members v)
@@ -55,8 +55,8 @@ unfolding written members
 written-members (range start end) = omega arith
 written-members (list ids) = omega arith
 
-kept-room : (test : ℕ → Bool) (l : List ℕ) → length (keep test l) ≤ length l
-kept-room test l = omega (arith, length-keep test l, count-le test l)
+kept-room : (test : ℕ → Bool) (l : List ℕ) → length (filter test l) ≤ length l
+kept-room test l = omega (arith, length-filter test l, count-le test l)
 
 listed-room : (l : List ℕ) → length (written (accepted (listOrNothing l))) ≤ length l
 unfolding written listOrNothing
@@ -66,14 +66,14 @@ listed-room (x ∷ xs) = omega arith
 pub written-intersect : (a b : Subset) → length (written (accepted (intersect a b))) ≤ roomNeeded a b
 unfolding intersect roomNeeded
 written-intersect (range a b) (range c d) = unfold written in omega arith
-written-intersect (range a b) (list ids) = omega (arith, listed-room (keep (within a b) ids), kept-room (within a b) ids)
+written-intersect (range a b) (list ids) = omega (arith, listed-room (filter (within a b) ids), kept-room (within a b) ids)
 written-intersect (list ids) (range a b) = unfold written in kept-room (within a b) ids
-written-intersect (list ids) (list others) = unfold written in kept-room (λ id. has id others) ids
+written-intersect (list ids) (list others) = unfold written in kept-room (λ id. elem id others) ids
 
 -- if an answer has ids, the output has room for them
 pub answered-fits : (n : ℕ) (v : Subset) (output : List ℕ) (answer : SubsetAnswer) (output′ : List ℕ) → Answered (reply n v) output answer output′
     → (n ≡ 0 → length (written (accepted v)) ≤ length output) → (k : ℕ) → answer ≡ Ids k → k ≤ length output
-unfolding reply readOff written
+unfolding reply subsetView written
 answered-fits zero (range a b) output answer output′ m fit k e =
     absurd (let f = rw e at (m .answers) in let z : _≡_ {A = ℕ} 0 1 = cc in omega arith)
 answered-fits zero (list ids) output answer output′ m fit k e =
@@ -84,29 +84,29 @@ answered-fits (suc n) v output answer output′ m fit k e =
     absurd (let f = rw e at (m .answers) in let z : _≡_ {A = ℕ} 0 1 = cc in omega arith)
 
 -- every reply has an answer, whatever the contents of the output
-pub answer-to : (r : Reply Subset) (output : List ℕ) → (answer : SubsetAnswer) × Answered r output answer (putAt output 0 (written r))
+pub answer-to : (r : Reply Subset) (output : List ℕ) → (answer : SubsetAnswer) × Answered r output answer (splice output 0 (written r))
 unfolding written
-answer-to (refused n) output = (Refused n, rw (putAt-nil output 0) (answered-refused n output))
-answer-to (accepted (range start end)) output = (Range start end, rw (putAt-nil output 0) (answered-range start end output))
+answer-to (refused n) output = (Refused n, rw (splice-nil output 0) (answered-refused n output))
+answer-to (accepted (range start end)) output = (Range start end, rw (splice-nil output 0) (answered-range start end output))
 answer-to (accepted (list ids)) output = (Ids (length ids), answered-list ids output (length ids) _ (record { number = refl; cells = refl }))
 
 -- ---- *Intersect*: its checks one by one
 
 module _ (a b : Subset) (n : ℕ) where
   pub refusal-first : wellFormed a ≡ false → 4 ≡ intersectRefusal a b n
-  unfolding intersectRefusal first
+  unfolding intersectRefusal firstRefusal
   refusal-first p = rw p
 
   pub refusal-second : wellFormed a ≡ true → wellFormed b ≡ false → 4 ≡ intersectRefusal a b n
-  unfolding intersectRefusal first
+  unfolding intersectRefusal firstRefusal
   refusal-second p q = rw (p, q)
 
   pub refusal-room : wellFormed a ≡ true → wellFormed b ≡ true → n < roomNeeded a b → 2 ≡ intersectRefusal a b n
-  unfolding intersectRefusal first
+  unfolding intersectRefusal firstRefusal
   refusal-room p q h = rw (p, q, lt-ltb n (roomNeeded a b) h)
 
   pub refusal-none : wellFormed a ≡ true → wellFormed b ≡ true → roomNeeded a b ≤ n → 0 ≡ intersectRefusal a b n
-  unfolding intersectRefusal first
+  unfolding intersectRefusal firstRefusal
   refusal-none p q h = rw (p, q, le-ltb n (roomNeeded a b) h)
 
 -- no check applies
@@ -134,7 +134,7 @@ allowed a b n e =
 pub record InCommon (a b v : Subset) : Type 0 where
   pub formed : wellFormed a ≡ true
   pub formed-other : wellFormed b ≡ true
-  pub ids : members v ≡ keep (λ id. has id (members b)) (members a)
+  pub ids : members v ≡ filter (λ id. elem id (members b)) (members a)
 
 reply-value : (n : ℕ) (v w : Subset) → reply n v ≡ accepted w → (n ≡ 0) × (v ≡ w)
 unfolding reply

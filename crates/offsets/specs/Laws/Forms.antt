@@ -7,12 +7,12 @@ use mathlib.Core.List.{List, [], _∷_}
 use mathlib.Core.Option.{Option, none, some}
 use lib.ListN.{length, getD}
 use borrow.Author.Tests.{le-leb}
-use Rattle.lists.specs.Lists.{keep, every, has, within}
-use Rattle.lists.specs.Laws.Rising.{length-countFrom, getD-countFrom, has-countFrom}
+use Rattle.lists.specs.Lists.{filter, all, elem, within}
+use Rattle.lists.specs.Laws.Rising.{length-iota, getD-iota, elem-iota}
 use Rattle.offsets.specs.Subsets.{Subset, range, list, wellFormed, members, size, endOf, shaped, retain, narrowed}
 use Rattle.offsets.specs.declared.BoundsAnswer.{BoundsAnswer}
 use Rattle.offsets.specs.declared.BoundsAnswer.the-variants.{None as NoEnds, Ends as BothEnds}
-use Rattle.offsets.specs.inner.Writing.{Ends, bounds, boundsSays}
+use Rattle.offsets.specs.inner.Writing.{Ends, bounds, boundsView}
 use Rattle.offsets.specs.Laws.Subsets.{length-members, narrowed-list as narrowed-ids}
 
 -- ---- a range
@@ -20,7 +20,7 @@ use Rattle.offsets.specs.Laws.Subsets.{length-members, narrowed-list as 
 module _ (a b : ℕ) where
   pub size-range : size (range a b) ≡ b - a
   unfolding members size
-  size-range = length-countFrom a (b - a)
+  size-range = length-iota a (b - a)
 
   pub end-range : endOf (range a b) ≡ b
   unfolding endOf
@@ -35,11 +35,11 @@ module _ (a b : ℕ) where
 
   pub getD-range : (i d : ℕ) → i < b - a → getD (members (range a b)) i d ≡ a + i
   unfolding members
-  getD-range i d h = getD-countFrom a (b - a) i d h
+  getD-range i d h = getD-iota a (b - a) i d h
 
-  pub has-range : (i : ℕ) → has i (members (range a b)) ≡ within a (a + (b - a)) i
+  pub elem-range : (i : ℕ) → elem i (members (range a b)) ≡ within a (a + (b - a)) i
   unfolding members
-  has-range i = has-countFrom i a (b - a)
+  elem-range i = elem-iota i a (b - a)
 
 -- ---- a list
 
@@ -65,34 +65,34 @@ end-is (range start end) = refl
 end-is (list []) = refl
 end-is (list (x ∷ xs)) = refl
 
-module _ (a : Subset) (r : BoundsAnswer) (e : boundsSays r ≡ bounds a) where
+module _ (a : Subset) (r : BoundsAnswer) (e : boundsView r ≡ bounds a) where
   pub end-none : r ≡ NoEnds → endOf a ≡ 0
-  unfolding boundsSays
-  end-none q = end-is a ∙ ap upper (sym e ∙ ap boundsSays q)
+  unfolding boundsView
+  end-none q = end-is a ∙ ap upper (sym e ∙ ap boundsView q)
 
   pub end-some : (start end : ℕ) → r ≡ BothEnds start end → endOf a ≡ end
-  unfolding boundsSays
-  end-some start end q = end-is a ∙ ap upper (sym e ∙ ap boundsSays q)
+  unfolding boundsView
+  end-some start end q = end-is a ∙ ap upper (sym e ∙ ap boundsView q)
 
 -- ---- `retain` and `narrowed`
 
 module _ (test : ℕ → Bool) where
-  pub retain-range : (a b : ℕ) → retain test (range a b) ≡ shaped (keep test (members (range a b)))
+  pub retain-range : (a b : ℕ) → retain test (range a b) ≡ shaped (filter test (members (range a b)))
   unfolding retain members
   retain-range a b = refl
 
-  pub retain-list : (ids : List ℕ) → retain test (list ids) ≡ list (keep test (members (list ids)))
+  pub retain-list : (ids : List ℕ) → retain test (list ids) ≡ list (filter test (members (list ids)))
   unfolding retain members
   retain-list ids = refl
 
-  pub narrowed-all : (a b : ℕ) → every test (members (range a b)) ≡ true → narrowed test (range a b) ≡ range a b
+  pub narrowed-all : (a b : ℕ) → all test (members (range a b)) ≡ true → narrowed test (range a b) ≡ range a b
   unfolding narrowed members
   narrowed-all a b e = rw e
 
-  pub narrowed-some : (a b : ℕ) → every test (members (range a b)) ≡ false → narrowed test (range a b) ≡ list (keep test (members (range a b)))
+  pub narrowed-some : (a b : ℕ) → all test (members (range a b)) ≡ false → narrowed test (range a b) ≡ list (filter test (members (range a b)))
   unfolding narrowed members
   narrowed-some a b e = rw e
 
-  pub narrowed-list : (ids : List ℕ) → narrowed test (list ids) ≡ list (keep test (members (list ids)))
+  pub narrowed-list : (ids : List ℕ) → narrowed test (list ids) ≡ list (filter test (members (list ids)))
   unfolding members
   narrowed-list ids = narrowed-ids test ids

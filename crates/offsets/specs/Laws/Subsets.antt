@@ -9,10 +9,10 @@ use native.Mathlib.Decide.{decLt}
 use native.Mathlib.Omega.{arith}
 use lib.ListN.{length, take, getD, length-take, length-append}
 use borrow.Author.Tests.{leb-true, le-leb}
-use Rattle.lists.specs.Lists.{putAt, keep, every, countFrom, rising, has, within, same}
-use Rattle.lists.specs.Laws.Parts.{putAt-nil}
-use Rattle.lists.specs.Laws.Keep.{split, and-left, and-right, keep-same, keep-every, length-keep, count-le}
-use Rattle.lists.specs.Laws.Rising.{same-refl, same-eq, same-ne, length-countFrom, getD-countFrom, rising-keep, rising-countFrom, rising-at, has-countFrom, keep-has-comm, keep-within-countFrom}
+use Rattle.lists.specs.Lists.{splice, filter, all, iota, rising, elem, within, same}
+use Rattle.lists.specs.Laws.Parts.{splice-nil}
+use Rattle.lists.specs.Laws.Filter.{split, and-left, and-right, filter-same, filter-all, length-filter, count-le}
+use Rattle.lists.specs.Laws.Rising.{same-refl, same-eq, same-ne, length-iota, getD-iota, rising-filter, rising-iota, rising-at, elem-iota, filter-elem-comm, filter-within-iota}
 use Rattle.lists.specs.Laws.Search.{take-put}
 use Rattle.refusals.specs.Refusals.{Reply, accepted}
 use Rattle.refusals.specs.Laws.Determined.{Same}
@@ -20,7 +20,7 @@ use Rattle.offsets.specs.declared.SubsetHead.{SubsetHead}
 use Rattle.offsets.specs.declared.SubsetAnswer.{SubsetAnswer}
 use Rattle.offsets.specs.declared.SubsetAnswer.the-variants.{Refused, Range, List as Ids}
 use Rattle.offsets.specs.Subsets.{Subset, range, list, wellFormed, members, size, endOf, listOrNothing, intersect, shaped, retain, narrowed}
-use Rattle.offsets.specs.Answers.{subsetOf, readOff, written, Answered}
+use Rattle.offsets.specs.Answers.{subsetOf, subsetView, written, Answered}
 use Rattle.offsets.specs.inner.Writing.{Wrote}
 
 -- ---- a borrowed subset, by its kind
@@ -52,7 +52,7 @@ pub formed-of : (ids : List ℕ) → rising ids ≡ true → length ids ≤ 6553
 unfolding wellFormed
 formed-of ids e h = rw (e, le-leb (length ids) 65536 h)
 
-members-range : (a b : ℕ) → members (range a b) ≡ countFrom a (b - a)
+members-range : (a b : ℕ) → members (range a b) ≡ iota a (b - a)
 unfolding members
 members-range a b = refl
 
@@ -62,7 +62,7 @@ members-list ids = refl
 
 pub rising-members : (a : Subset) → wellFormed a ≡ true → rising (members a) ≡ true
 unfolding members
-rising-members (range a b) e = rising-countFrom a (b - a)
+rising-members (range a b) e = rising-iota a (b - a)
 rising-members (list ids) e = formed-rising ids e
 
 pub length-members : (a : Subset) → length (members a) ≡ size a
@@ -73,30 +73,30 @@ length-members a = refl
 
 module _ (x : ℕ) (xs : List ℕ) where
   -- the ids are consecutive
-  pub shaped-run : (x ∷ xs) ≡ countFrom x (length (x ∷ xs)) → shaped (x ∷ xs) ≡ range x (x + length (x ∷ xs))
+  pub shaped-run : (x ∷ xs) ≡ iota x (length (x ∷ xs)) → shaped (x ∷ xs) ≡ range x (x + length (x ∷ xs))
   unfolding shaped
   shaped-run e = rw (← e, same-refl (x ∷ xs))
 
   -- the ids are not consecutive
-  pub shaped-list : ((x ∷ xs) ≡ countFrom x (length (x ∷ xs)) → ⊥) → shaped (x ∷ xs) ≡ list (x ∷ xs)
+  pub shaped-list : ((x ∷ xs) ≡ iota x (length (x ∷ xs)) → ⊥) → shaped (x ∷ xs) ≡ list (x ∷ xs)
   unfolding shaped
   shaped-list e = rw (same-ne _ _ e)
 
   -- one of the two holds
-  shaped-is : ((shaped (x ∷ xs) ≡ range x (x + length (x ∷ xs))) × ((x ∷ xs) ≡ countFrom x (length (x ∷ xs)))) ⊎ (shaped (x ∷ xs) ≡ list (x ∷ xs))
+  shaped-is : ((shaped (x ∷ xs) ≡ range x (x + length (x ∷ xs))) × ((x ∷ xs) ≡ iota x (length (x ∷ xs)))) ⊎ (shaped (x ∷ xs) ≡ list (x ∷ xs))
   shaped-is =
-      elim (split (same (x ∷ xs) (countFrom x (length (x ∷ xs))))) [
+      elim (split (same (x ∷ xs) (iota x (length (x ∷ xs))))) [
         | inl e ↦ inl (shaped-run (same-eq _ _ e), same-eq _ _ e)
         | inr e ↦ inr (unfold shaped in rw e)
       ]
 
 pub members-shaped : (l : List ℕ) → members (shaped l) ≡ l
-members-shaped [] = unfold members shaped countFrom in refl
+members-shaped [] = unfold members shaped iota in refl
 members-shaped (x ∷ xs) =
     elim (shaped-is x xs) [
       | inl q ↦
           let n : x + length (x ∷ xs) - x ≡ length (x ∷ xs) = omega arith in
-          ap members (q .0) ∙ members-range x (x + length (x ∷ xs)) ∙ ap (countFrom x) n ∙ sym (q .1)
+          ap members (q .0) ∙ members-range x (x + length (x ∷ xs)) ∙ ap (iota x) n ∙ sym (q .1)
       | inr q ↦ ap members q ∙ members-list (x ∷ xs)
     ]
 
@@ -109,15 +109,15 @@ wellFormed-shaped (x ∷ xs) e h =
     ]
 
 -- consecutive ids are a range
-pub shaped-countFrom : (s n : ℕ) → 0 < n → shaped (countFrom s n) ≡ range s (s + n)
-shaped-countFrom s zero h = absurd (omega arith)
-shaped-countFrom s (suc n) h =
-    let c : countFrom s (suc n) ≡ s ∷ countFrom (suc s) n = unfold countFrom in refl in
-    let k : length (s ∷ countFrom (suc s) n) ≡ suc n = ap suc (length-countFrom (suc s) n) in
-    ap shaped c ∙ shaped-run s (countFrom (suc s) n) (rw k (sym c)) ∙ ap (λ (m : ℕ). range s (s + m)) k
+pub shaped-iota : (s n : ℕ) → 0 < n → shaped (iota s n) ≡ range s (s + n)
+shaped-iota s zero h = absurd (omega arith)
+shaped-iota s (suc n) h =
+    let c : iota s (suc n) ≡ s ∷ iota (suc s) n = unfold iota in refl in
+    let k : length (s ∷ iota (suc s) n) ≡ suc n = ap suc (length-iota (suc s) n) in
+    ap shaped c ∙ shaped-run s (iota (suc s) n) (rw k (sym c)) ∙ ap (λ (m : ℕ). range s (s + m)) k
 
 members-listOrNothing : (l : List ℕ) → members (listOrNothing l) ≡ l
-unfolding members listOrNothing countFrom
+unfolding members listOrNothing iota
 members-listOrNothing [] = refl
 members-listOrNothing (x ∷ xs) = refl
 
@@ -129,8 +129,8 @@ end-list x xs = refl
 pub members-below : (a : Subset) → wellFormed a ≡ true → (i : ℕ) → i < size a → getD (members a) i 0 < endOf a
 unfolding members size
 members-below (range a b) w i h = unfold endOf in
-    let under : i < length (countFrom a (b - a)) = h in
-    omega (arith, getD-countFrom a (b - a) i 0 (omega (arith, under, length-countFrom a (b - a))), under, length-countFrom a (b - a))
+    let under : i < length (iota a (b - a)) = h in
+    omega (arith, getD-iota a (b - a) i 0 (omega (arith, under, length-iota a (b - a))), under, length-iota a (b - a))
 members-below (list []) w i h = absurd (omega arith)
 members-below (list (x ∷ xs)) w i h =
     let e = end-list x xs in
@@ -142,35 +142,35 @@ members-below (list (x ∷ xs)) w i h =
 -- ---- intersect
 
 -- the members of a range are those within it
-has-range : (a b x : ℕ) → a ≤ b → has x (countFrom a (b - a)) ≡ within a b x
-has-range a b x h = let e : a + (b - a) ≡ b = omega arith in has-countFrom x a (b - a) ∙ ap (λ (k : ℕ). within a k x) e
+elem-range : (a b x : ℕ) → a ≤ b → elem x (iota a (b - a)) ≡ within a b x
+elem-range a b x h = let e : a + (b - a) ≡ b = omega arith in elem-iota x a (b - a) ∙ ap (λ (k : ℕ). within a k x) e
 
 past-max : (m k : ℕ) → max m k - m ≡ k - m
 past-max m k = omega arith
 
-pub members-intersect : (a b : Subset) → wellFormed a ≡ true → wellFormed b ≡ true → members (intersect a b) ≡ keep (λ id. has id (members b)) (members a)
+pub members-intersect : (a b : Subset) → wellFormed a ≡ true → wellFormed b ≡ true → members (intersect a b) ≡ filter (λ id. elem id (members b)) (members a)
 unfolding members intersect
 members-intersect (range a b) (range c d) p q =
     let h = formed-order a b p in
     let k = formed-order c d q in
     let e : b ≡ a + (b - a) = omega arith in
     let f : max (max a c) (min b d) - max a c ≡ min (a + (b - a)) d - max a c = past-max (max a c) (min b d) ∙ ap (λ (m : ℕ). min m d - max a c) e in
-    ap (countFrom (max a c)) f
-    ∙ sym (keep-within-countFrom a (b - a) c d)
-    ∙ sym (keep-same (λ id. has id (countFrom c (d - c))) (within c d) (λ x. has-range c d x k) (countFrom a (b - a)))
+    ap (iota (max a c)) f
+    ∙ sym (filter-within-iota a (b - a) c d)
+    ∙ sym (filter-same (λ id. elem id (iota c (d - c))) (within c d) (λ x. elem-range c d x k) (iota a (b - a)))
 members-intersect (range a b) (list ids) p q =
-    members-listOrNothing (keep (within a b) ids)
-    ∙ sym (keep-same (λ id. has id (countFrom a (b - a))) (within a b) (λ x. has-range a b x (formed-order a b p)) ids)
-    ∙ sym (keep-has-comm (countFrom a (b - a)) ids (rising-countFrom a (b - a)) (formed-rising ids q))
+    members-listOrNothing (filter (within a b) ids)
+    ∙ sym (filter-same (λ id. elem id (iota a (b - a))) (within a b) (λ x. elem-range a b x (formed-order a b p)) ids)
+    ∙ sym (filter-elem-comm (iota a (b - a)) ids (rising-iota a (b - a)) (formed-rising ids q))
 members-intersect (list ids) (range a b) p q =
-    sym (keep-same (λ id. has id (countFrom a (b - a))) (within a b) (λ x. has-range a b x (formed-order a b q)) ids)
+    sym (filter-same (λ id. elem id (iota a (b - a))) (within a b) (λ x. elem-range a b x (formed-order a b q)) ids)
 members-intersect (list ids) (list others) p q = refl
 
 -- filtering a well-formed list gives a well-formed list
-formed-keep : (test : ℕ → Bool) (ids : List ℕ) → wellFormed (list ids) ≡ true → wellFormed (list (keep test ids)) ≡ true
-formed-keep test ids p =
-    formed-of (keep test ids) (rising-keep test ids (formed-rising ids p))
-    (let s = formed-short ids p in let a = length-keep test ids in let b = count-le test ids in omega arith)
+formed-filter : (test : ℕ → Bool) (ids : List ℕ) → wellFormed (list ids) ≡ true → wellFormed (list (filter test ids)) ≡ true
+formed-filter test ids p =
+    formed-of (filter test ids) (rising-filter test ids (formed-rising ids p))
+    (let s = formed-short ids p in let a = length-filter test ids in let b = count-le test ids in omega arith)
 
 formed-listOrNothing : (l : List ℕ) → wellFormed (list l) ≡ true → wellFormed (listOrNothing l) ≡ true
 formed-listOrNothing [] e = unfold wellFormed listOrNothing in refl
@@ -179,75 +179,75 @@ formed-listOrNothing (x ∷ xs) e = unfold listOrNothing in e
 pub wellFormed-intersect : (a b : Subset) → wellFormed a ≡ true → wellFormed b ≡ true → wellFormed (intersect a b) ≡ true
 unfolding intersect
 wellFormed-intersect (range a b) (range c d) p q = unfold wellFormed in le-leb (max a c) (max (max a c) (min b d)) (omega arith)
-wellFormed-intersect (range a b) (list ids) p q = formed-listOrNothing (keep (within a b) ids) (formed-keep (within a b) ids q)
-wellFormed-intersect (list ids) (range a b) p q = formed-keep (within a b) ids p
-wellFormed-intersect (list ids) (list others) p q = formed-keep (λ id. has id others) ids p
+wellFormed-intersect (range a b) (list ids) p q = formed-listOrNothing (filter (within a b) ids) (formed-filter (within a b) ids q)
+wellFormed-intersect (list ids) (range a b) p q = formed-filter (within a b) ids p
+wellFormed-intersect (list ids) (list others) p q = formed-filter (λ id. elem id others) ids p
 
 -- ---- retain and narrowed
 
-pub members-retain : (test : ℕ → Bool) (a : Subset) → members (retain test a) ≡ keep test (members a)
+pub members-retain : (test : ℕ → Bool) (a : Subset) → members (retain test a) ≡ filter test (members a)
 unfolding retain
 members-retain test (range a b) =
-    let l = countFrom a (b - a) in
-    members-shaped (keep test l) ∙ ap (keep test) (sym (members-range a b))
-members-retain test (list ids) = members-list (keep test ids) ∙ ap (keep test) (sym (members-list ids))
+    let l = iota a (b - a) in
+    members-shaped (filter test l) ∙ ap (filter test) (sym (members-range a b))
+members-retain test (list ids) = members-list (filter test ids) ∙ ap (filter test) (sym (members-list ids))
 
-pub members-narrowed : (test : ℕ → Bool) (a : Subset) → members (narrowed test a) ≡ keep test (members a)
+pub members-narrowed : (test : ℕ → Bool) (a : Subset) → members (narrowed test a) ≡ filter test (members a)
 unfolding narrowed
 members-narrowed test a =
-    elim (split (every test (members a))) [
-      | inl e ↦ rw e (sym (keep-every test (members a) e))
-      | inr e ↦ rw e (members-list (keep test (members a)))
+    elim (split (all test (members a))) [
+      | inl e ↦ rw e (sym (filter-all test (members a) e))
+      | inr e ↦ rw e (members-list (filter test (members a)))
     ]
 
 -- a list remains a list
-pub narrowed-list : (test : ℕ → Bool) (ids : List ℕ) → narrowed test (list ids) ≡ list (keep test ids)
+pub narrowed-list : (test : ℕ → Bool) (ids : List ℕ) → narrowed test (list ids) ≡ list (filter test ids)
 unfolding narrowed members
 narrowed-list test ids =
-    elim (split (every test ids)) [ inl e ↦ rw (e, keep-every test ids e) | inr e ↦ rw e ]
+    elim (split (all test ids)) [ inl e ↦ rw (e, filter-all test ids e) | inr e ↦ rw e ]
 
 -- The kept ids of a range may become a list, and a list has at most 65,536 ids. So the range must have at most as many. A
 -- well-formed list always does.
-short-keep : (test : ℕ → Bool) (a b : ℕ) → size (range a b) ≤ 65536 → length (keep test (countFrom a (b - a))) ≤ 65536
+short-filter : (test : ℕ → Bool) (a b : ℕ) → size (range a b) ≤ 65536 → length (filter test (iota a (b - a))) ≤ 65536
 unfolding members size
-short-keep test a b h =
-    let l = countFrom a (b - a) in
-    let p = length-keep test l in let q = count-le test l in let r = length-countFrom a (b - a) in omega arith
+short-filter test a b h =
+    let l = iota a (b - a) in
+    let p = length-filter test l in let q = count-le test l in let r = length-iota a (b - a) in omega arith
 
 pub wellFormed-retain : (test : ℕ → Bool) (a : Subset) → wellFormed a ≡ true → size a ≤ 65536 → wellFormed (retain test a) ≡ true
 unfolding retain
 wellFormed-retain test (range a b) p h =
-    let l = countFrom a (b - a) in
-    wellFormed-shaped (keep test l) (rising-keep test l (rising-countFrom a (b - a))) (short-keep test a b h)
-wellFormed-retain test (list ids) p h = formed-keep test ids p
+    let l = iota a (b - a) in
+    wellFormed-shaped (filter test l) (rising-filter test l (rising-iota a (b - a))) (short-filter test a b h)
+wellFormed-retain test (list ids) p h = formed-filter test ids p
 
 pub wellFormed-narrowed : (test : ℕ → Bool) (a : Subset) → wellFormed a ≡ true → size a ≤ 65536 → wellFormed (narrowed test a) ≡ true
 unfolding narrowed members
 wellFormed-narrowed test (range a b) p h =
-    let l = countFrom a (b - a) in
-    elim (split (every test (countFrom a (b - a)))) [
+    let l = iota a (b - a) in
+    elim (split (all test (iota a (b - a)))) [
       | inl e ↦ rw e p
-      | inr e ↦ rw e (formed-of (keep test l) (rising-keep test l (rising-countFrom a (b - a))) (short-keep test a b h))
+      | inr e ↦ rw e (formed-of (filter test l) (rising-filter test l (rising-iota a (b - a))) (short-filter test a b h))
     ]
-wellFormed-narrowed test (list ids) p h = rw (narrowed-list test ids) (formed-keep test ids p)
+wellFormed-narrowed test (list ids) p h = rw (narrowed-list test ids) (formed-filter test ids p)
 
 -- ---- answers
 
 pub answered-range : (a b : ℕ) (output : List ℕ) → Answered (accepted (range a b)) output (Range a b) output
-unfolding readOff written
+unfolding subsetView written
 answered-range a b output =
     record {
       answers = refl;
       inside = λ k e. absurd (let z : _≡_ {A = ℕ} 0 1 = cc in omega arith);
-      writes = sym (putAt-nil output 0);
+      writes = sym (splice-nil output 0);
     }
 
-put-long : (l w : List ℕ) → length w ≤ length (putAt l 0 w)
-unfolding putAt
+put-long : (l w : List ℕ) → length w ≤ length (splice l 0 w)
+unfolding splice
 put-long l w = simp length-append (omega arith)
 
 pub answered-list : (ids output : List ℕ) (n : ℕ) (output′ : List ℕ) → Wrote output ids n output′ → Answered (accepted (list ids)) output (Ids n) output′
-unfolding readOff written
+unfolding subsetView written
 answered-list ids output n output′ w =
     record {
       answers = rw (w .number, w .cells) (ap (λ (l : List ℕ). accepted (list l)) (take-put output ids));
@@ -256,9 +256,9 @@ answered-list ids output n output′ w =
     }
 
 -- an answer is determined by the reply that it encodes, if the output has all its ids
-read-same : (a b : SubsetAnswer) (output : List ℕ) → readOff a output ≡ readOff b output
+read-same : (a b : SubsetAnswer) (output : List ℕ) → subsetView a output ≡ subsetView b output
     → ((n : ℕ) → a ≡ Ids n → n ≤ length output) → ((n : ℕ) → b ≡ Ids n → n ≤ length output) → a ≡ b
-unfolding readOff
+unfolding subsetView
 read-same (Refused n) (Refused m) output e f g = cc
 read-same (Refused n) (Range start end) output e f g = cc
 read-same (Refused n) (Ids m) output e f g = cc

@@ -6,6 +6,6 @@ use lib.ListN.{length, drop}
 use Rattle.lists.specs.Lists.{rising}
 
 -- all ids rise exactly if those from position `at` on do
-pub record Onward (ids : List ℕ) (at : ℕ) : Type 0 where
+pub record RisesUpTo (ids : List ℕ) (at : ℕ) : Type 0 where
   pub in-list : at ≤ length ids
   pub same : rising ids ≡ rising (drop at ids)

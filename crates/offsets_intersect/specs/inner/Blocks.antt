@@ -20,7 +20,7 @@ pub record ApartAt (ids others : List ℕ) (i o k : ℕ) : Type 0 where
   pub apart : (j m : ℕ) → j < k → m < k → getD ids (i + j) 0 ≡ getD others (o + m) 0 → ⊥
 
 -- the lists from i and o on have the same ids in common as from i′ and o′ on
-pub record Passed (ids others : List ℕ) (i o i′ o′ : ℕ) : Type 0 where
+pub record SkippedTo (ids others : List ℕ) (i o i′ o′ : ℕ) : Type 0 where
   pub on : i ≤ i′
   pub others-on : o ≤ o′
   pub within : i′ ≤ length ids
@@ -28,7 +28,7 @@ pub record Passed (ids others : List ℕ) (i o i′ o′ : ℕ) : Type 0 where
   pub rest : common (drop i′ ids) (drop o′ others) ≡ common (drop i ids) (drop o others)
 
 -- the same, if the common ids before i′ and o′ are appended to the n ids of an output
-pub record Went (ids others output output′ : List ℕ) (i o n i′ o′ n′ : ℕ) : Type 0 where
+pub record MergedTo (ids others output output′ : List ℕ) (i o n i′ o′ n′ : ℕ) : Type 0 where
   pub on : i ≤ i′
   pub others-on : o ≤ o′
   pub within : i′ ≤ length ids

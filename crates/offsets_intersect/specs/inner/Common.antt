@@ -5,7 +5,7 @@ use mathlib.Core.Bool.{Bool, true, _&&_, _||_}
 use mathlib.Core.List.{List}
 use lib.ListN.{length}
 use lib.Dec.{leb}
-use Rattle.lists.specs.Lists.{keep, rising, has}
+use Rattle.lists.specs.Lists.{filter, rising, elem}
 
 -- a list that fits an output
 pub record Fitting (ids output : List ℕ) : Type 0 where
@@ -20,7 +20,7 @@ pub record Searchable (ids : List ℕ) : Type 0 where
 
 -- the ids of the first list that the second one has
 unfoldable pub common : List ℕ → List ℕ → List ℕ
-common ids others = keep (λ id. has id others) ids
+common ids others = filter (λ id. elem id others) ids
 
 -- ---- the algorithm is chosen by the lengths alone, "on the Rust's thresholds"
 
@@ -29,8 +29,8 @@ abbrev pub BothShort : ℕ → ℕ → Type 0
 BothShort a b = (a ≤ 16) × (b ≤ 16)
 
 -- "Lists of like length are walked in step"
-unfoldable pub alike : ℕ → ℕ → Bool
-alike a b = (leb a 16 && leb b 16) || (leb (a / 4) b && leb b (a * 4))
+unfoldable pub similar : ℕ → ℕ → Bool
+similar a b = (leb a 16 && leb b 16) || (leb (a / 4) b && leb b (a * 4))
 
 -- "otherwise": the second list is much longer, and is searched by doubling strides for the ids of the first
 abbrev pub MuchLonger : ℕ → ℕ → Type 0

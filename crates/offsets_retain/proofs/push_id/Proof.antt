@@ -1,7 +1,7 @@
 -- `offsets_retain::push_id` meets its contract. Assumes nothing.
 use mathlib.Core.Path.{refl}
 use borrow.Author.Needs.{needs}
-use Rattle.offsets_retain.specs.inner.Growing.{pushed}
+use Rattle.offsets_retain.specs.inner.RetainBuilder.{pushed}
 use Rattle.offsets_retain.proofs.push_id.Statement.{statement}
 use Rattle.offsets_retain.proofs.push_id.Tie as tie
 

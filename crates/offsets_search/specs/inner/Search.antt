@@ -4,7 +4,7 @@ use mathlib.Core.Path.{_≡_}
 use mathlib.Core.Bool.{true, cond}
 use mathlib.Core.List.{List}
 use lib.ListN.{length, getD}
-use Rattle.lists.specs.Lists.{rising, has}
+use Rattle.lists.specs.Lists.{rising, elem}
 use Rattle.lists.specs.inner.Searching.{firstNotBelow}
 use Rattle.offsets_search.specs.declared.Scan.{Scan}
 use Rattle.offsets_search.specs.declared.Scan.the-variants.{Hit, Next}
@@ -63,7 +63,7 @@ scanPlace (Next p) = p
 
 -- the result of a scan: the target at its position, or the position to insert it at
 unfoldable pub scan : ℕ → List ℕ → Scan
-scan target ids = cond (has target ids) (Hit (firstNotBelow target ids)) (Next (firstNotBelow target ids))
+scan target ids = cond (elem target ids) (Hit (firstNotBelow target ids)) (Next (firstNotBelow target ids))
 
 pub record ScannedAt (ids : List ℕ) (at target : ℕ) (r : Scan) : Type 0 where
   pub within : scanPlace r ≤ length ids

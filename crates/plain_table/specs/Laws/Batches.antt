@@ -8,12 +8,12 @@ use mathlib.Core.List.{List, [], _∷_, _++_, map, foldl, map-append, append-nil
 use mathlib.Core.Option.{Option, none, some, Option·map}
 use native.Mathlib.Omega.{arith}
 use lib.ListN.{take}
-use Rattle.lists.specs.Lists.{keep, firstOf}
-use Rattle.lists.specs.Laws.Keep.{split, keep-append}
+use Rattle.lists.specs.Lists.{filter, find}
+use Rattle.lists.specs.Laws.Filter.{split, filter-append}
 use Rattle.refusals.specs.Refusals.{Reply, refused, accepted, reply}
 use Rattle.merge_rules.specs.Rules.{ruled}
 use Rattle.plain_table.specs.Staged.{Opening, Staged, insert, inserts, hasKey, skipped}
-use Rattle.plain_table.specs.Plain.{Row, Plain, withRow, Numbered, liveRows, lookup, stage, liveWithKey, killIf, withoutKey, withoutRow, removed, stop, append, put, insertion, goOn, Inserted, insertAll, applied, compacted, unstaged, compactsAfter, merged}
+use Rattle.plain_table.specs.Plain.{Row, Plain, withRow, Numbered, liveRows, lookup, stage, liveWithKey, killIf, withoutKey, withoutRow, removed, stop, append, upsert, insertion, continueInserts, Inserted, insertAll, applied, compacted, unstaged, compactsAfter, merged}
 use Rattle.plain_table.specs.Laws.Rows.{liveRow}
 use Rattle.plain_table.specs.Laws.Counts.{insertion-alike, applied-alike}
 use Rattle.plain_table.specs.Laws.Live.{cells-liveFrom, liveRows-compacted}
@@ -25,7 +25,7 @@ liveCells p = map (λ row. row .cells) (liveRows p)
 
 -- the live cells of a list of rows
 unfoldable cellsOf : List Row → List (List ℕ)
-cellsOf rows = map (λ row. row .cells) (keep (λ row. row .live) rows)
+cellsOf rows = map (λ row. row .cells) (filter (λ row. row .live) rows)
 
 live-cells-of : (p : Plain) → liveCells p ≡ cellsOf (p .rows)
 unfolding liveCells liveRows cellsOf
@@ -33,14 +33,14 @@ live-cells-of p = cells-liveFrom 0 (p .rows)
 
 -- after a row is appended
 cells-of-appended : (rows : List Row) (cells : List ℕ) → cellsOf (rows ++ (liveRow cells ∷ [])) ≡ cellsOf rows ++ (cells ∷ [])
-unfolding cellsOf keep
+unfolding cellsOf filter
 cells-of-appended rows cells =
-    ap (map (λ (row : Row). row .cells)) (keep-append (λ (row : Row). row .live) rows (liveRow cells ∷ []))
-    ∙ map-append (λ (row : Row). row .cells) (keep (λ row. row .live) rows) (liveRow cells ∷ [])
+    ap (map (λ (row : Row). row .cells)) (filter-append (λ (row : Row). row .live) rows (liveRow cells ∷ []))
+    ∙ map-append (λ (row : Row). row .cells) (filter (λ row. row .live) rows) (liveRow cells ∷ [])
 
 -- after the rows of a key die
-cells-of-killed : (keys : ℕ) (key : List ℕ) (rows : List Row) → cellsOf (killIf (liveWithKey keys key) rows) ≡ keep (λ cells. not (hasKey keys key cells)) (cellsOf rows)
-unfolding cellsOf killIf keep liveWithKey
+cells-of-killed : (keys : ℕ) (key : List ℕ) (rows : List Row) → cellsOf (killIf (liveWithKey keys key) rows) ≡ filter (λ cells. not (hasKey keys key cells)) (cellsOf rows)
+unfolding cellsOf killIf filter liveWithKey
 cells-of-killed keys key [] = refl
 cells-of-killed keys key (row ∷ rows) =
     let h = cells-of-killed keys key rows in
@@ -49,12 +49,12 @@ cells-of-killed keys key (row ∷ rows) =
       | inr e ↦ rw (e, h)
     ]
 
--- `firstOf` commutes with `map`
-first-of-map : {A B : Type 0} (f : A → B) (test : B → Bool) (l : List A) → Option·map f (firstOf (λ x. test (f x)) l) ≡ firstOf test (map f l)
-unfolding firstOf
-first-of-map f test [] = refl
-first-of-map f test (x ∷ xs) =
-    let h = first-of-map f test xs in
+-- `find` commutes with `map`
+find-map : {A B : Type 0} (f : A → B) (test : B → Bool) (l : List A) → Option·map f (find (λ x. test (f x)) l) ≡ find test (map f l)
+unfolding find
+find-map f test [] = refl
+find-map f test (x ∷ xs) =
+    let h = find-map f test xs in
     elim (split (test (f x))) [ inl e ↦ rw e | inr e ↦ rw (e, h) ]
 
 -- ---- the effect of an insert on the live rows
@@ -65,11 +65,11 @@ placed o cells none live = live ++ (cells ∷ [])
 placed o cells (some old) live =
     elim (ruled (o .rule) (o .keys) (o .sort) old cells) [
       | none ↦ live
-      | some row ↦ keep (λ other. not (hasKey (o .keys) (take (o .keys) cells) other)) live ++ (row ∷ [])
+      | some row ↦ filter (λ other. not (hasKey (o .keys) (take (o .keys) cells) other)) live ++ (row ∷ [])
     ]
 
 unfoldable arrived : Opening → List ℕ → List (List ℕ) → List (List ℕ)
-arrived o cells live = cond (skipped cells) live (placed o cells (firstOf (hasKey (o .keys) (take (o .keys) cells)) live) live)
+arrived o cells live = cond (skipped cells) live (placed o cells (find (hasKey (o .keys) (take (o .keys) cells)) live) live)
 
 -- all inserts, in order
 unfoldable allArrived : Opening → List (List ℕ) → List (List ℕ) → List (List ℕ)
@@ -95,17 +95,17 @@ append-leaves cells p rows = go (stop cells p)
     go zero = live-cells-of (withRow p rows cells) ∙ cells-of-appended rows cells
     go (suc n) = omega arith
 
-put-leaves : (cells : List ℕ) (found : Option Numbered) (p : Plain) → Leaves p (placed (p .opening) cells (Option·map (λ row. row .cells) found) (liveCells p)) (put cells found p)
-unfolding put placed
-put-leaves cells none p = rw (live-cells-of p) (append-leaves cells p (p .rows))
-put-leaves cells (some old) p = go (ruled (p .opening .rule) (p .opening .keys) (p .opening .sort) (old .cells) cells)
+upsert-leaves : (cells : List ℕ) (found : Option Numbered) (p : Plain) → Leaves p (placed (p .opening) cells (Option·map (λ row. row .cells) found) (liveCells p)) (upsert cells found p)
+unfolding upsert placed
+upsert-leaves cells none p = rw (live-cells-of p) (append-leaves cells p (p .rows))
+upsert-leaves cells (some old) p = go (ruled (p .opening .rule) (p .opening .keys) (p .opening .sort) (old .cells) cells)
   where
     key : List ℕ
     key = take (p .opening .keys) cells
 
     go : (r : Option (List ℕ))
         → Leaves p
-        (elim r [ none ↦ liveCells p | some row ↦ keep (λ other. not (hasKey (p .opening .keys) key other)) (liveCells p) ++ (row ∷ []) ])
+        (elim r [ none ↦ liveCells p | some row ↦ filter (λ other. not (hasKey (p .opening .keys) key other)) (liveCells p) ++ (row ∷ []) ])
         (elim r [ none ↦ accepted none | some row ↦ append row p (killIf (liveWithKey (p .opening .keys) key) (p .rows)) ])
     go none = refl
     go (some row) =
@@ -113,15 +113,15 @@ put-leaves cells (some old) p = go (ruled (p .opening .rule) (p .opening .keys) 
         (append-leaves row p (killIf (liveWithKey (p .opening .keys) key) (p .rows)))
 
 -- a lookup by key in the table finds the same cells as a search in its live cells
-lookup-cells : (p : Plain) (key : List ℕ) → Option·map (λ row. row .cells) (lookup p key) ≡ firstOf (hasKey (p .opening .keys) key) (liveCells p)
+lookup-cells : (p : Plain) (key : List ℕ) → Option·map (λ row. row .cells) (lookup p key) ≡ find (hasKey (p .opening .keys) key) (liveCells p)
 unfolding lookup liveCells
-lookup-cells p key = first-of-map (λ (row : Numbered). row .cells) (hasKey (p .opening .keys) key) (liveRows p)
+lookup-cells p key = find-map (λ (row : Numbered). row .cells) (hasKey (p .opening .keys) key) (liveRows p)
 
 insertion-leaves : (cells : List ℕ) (p : Plain) → Leaves p (arrived (p .opening) cells (liveCells p)) (insertion cells p)
 unfolding insertion arrived
 insertion-leaves cells p =
     let key : List ℕ = take (p .opening .keys) cells in
-    elim (split (skipped cells)) [ inl e ↦ rw e | inr e ↦ rw (e, ← lookup-cells p key) (put-leaves cells (lookup p key) p) ]
+    elim (split (skipped cells)) [ inl e ↦ rw e | inr e ↦ rw (e, ← lookup-cells p key) (upsert-leaves cells (lookup p key) p) ]
 
 -- ---- a merge of inserts alone
 
@@ -139,8 +139,8 @@ insert-all-leaves (cells ∷ rest) place added p e =
     go : (i : Reply (Option Plain)) → insertion cells p ≡ i → Leaves p now i
         → ((added′ : Bool) (p′ : Plain) → insertAll rest (suc place) added′ p′ .status ≡ 0
         → liveCells (insertAll rest (suc place) added′ p′ .table) ≡ allArrived (p′ .opening) rest (liveCells p′))
-        → goOn i place added p (insertAll rest (suc place)) .status ≡ 0
-        → liveCells (goOn i place added p (insertAll rest (suc place)) .table) ≡ allArrived (p .opening) rest now
+        → continueInserts i place added p (insertAll rest (suc place)) .status ≡ 0
+        → liveCells (continueInserts i place added p (insertAll rest (suc place)) .table) ≡ allArrived (p .opening) rest now
     go (accepted none) q l ih s = rw (← l) (ih added p s)
     go (accepted (some p′)) q l ih s = rw (← l, ← insertion-alike cells p p′ q .opening) (ih true p′ s)
     go (refused n) q l ih s = absurd (omega (arith, l, s))

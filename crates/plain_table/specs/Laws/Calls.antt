@@ -6,7 +6,7 @@ use mathlib.Core.List.{List, [], _∷_}
 use native.Mathlib.Decide.{ℕ-discrete}
 use native.Mathlib.Omega.{arith}
 use borrow.Author.Tests.{eq-eqb, ne-eqb}
-use Rattle.refusals.specs.Refusals.{Rung, rung, first}
+use Rattle.refusals.specs.Refusals.{Check, check, firstRefusal}
 use Rattle.plain_table.specs.Refusing.{Lengths}
 use Rattle.plain_table.specs.Plain.{Plain}
 use Rattle.plain_table.specs.Calls.{Call, LentCall, refusal, done, after, afterAll}
@@ -37,13 +37,13 @@ module _ (Leads : Plain → Plain → Type 0) (same : (p : Plain) → Leads p p)
   leads-all p (c ∷ cs) = joined _ _ _ (leads-one p (c .lengths) (c .call)) (leads-all (after p (c .lengths) (c .call)) cs)
 
 -- if no check applies, the first one does not
-pub first-no : (applies : Bool) (n : ℕ) (rest : List Rung) → first (rung applies (suc n) ∷ rest) ≡ 0 → applies ≡ false
-unfolding first
-first-no true n rest e = absurd (omega arith)
-first-no false n rest e = refl
+pub firstRefusal-no : (applies : Bool) (n : ℕ) (rest : List Check) → firstRefusal (check applies (suc n) ∷ rest) ≡ 0 → applies ≡ false
+unfolding firstRefusal
+firstRefusal-no true n rest e = absurd (omega arith)
+firstRefusal-no false n rest e = refl
 
 -- if no check applies, none of the later ones does
-pub first-rest : (applies : Bool) (n : ℕ) (rest : List Rung) → first (rung applies (suc n) ∷ rest) ≡ 0 → first rest ≡ 0
-unfolding first
-first-rest true n rest e = absurd (omega arith)
-first-rest false n rest e = e
+pub firstRefusal-rest : (applies : Bool) (n : ℕ) (rest : List Check) → firstRefusal (check applies (suc n) ∷ rest) ≡ 0 → firstRefusal rest ≡ 0
+unfolding firstRefusal
+firstRefusal-rest true n rest e = absurd (omega arith)
+firstRefusal-rest false n rest e = e

@@ -6,12 +6,12 @@ use mathlib.Core.Option.{Option, none, some}
 use mathlib.Core.List.{List, [], _∷_, foldl}
 use native.Mathlib.Omega.{arith}
 use lib.ListN.{length, take, length-append, length-map}
-use Rattle.lists.specs.Lists.{every}
-use Rattle.lists.specs.Laws.Every.{every-head, every-tail}
+use Rattle.lists.specs.Lists.{all}
+use Rattle.lists.specs.Laws.All.{all-head, all-tail}
 use Rattle.refusals.specs.Refusals.{Reply, refused, accepted, reply}
 use Rattle.merge_rules.specs.Rules.{ruled, madeFrom, changesFrom}
 use Rattle.plain_table.specs.Staged.{Staged, insert, removeKey, removeRow, inserts, skipped}
-use Rattle.plain_table.specs.Plain.{Row, Plain, withRows, withRow, liveWithKey, killIf, withoutKey, dies, withoutRow, removed, stop, append, put, insertion, applied, Numbered, lookup, goOn, insertAll}
+use Rattle.plain_table.specs.Plain.{Row, Plain, withRows, withRow, liveWithKey, killIf, withoutKey, dies, withoutRow, removed, stop, append, upsert, insertion, applied, Numbered, lookup, continueInserts, insertAll}
 use Rattle.merge_rules.specs.Laws.Rules.{ruled-made}
 
 -- ---- removals do not change the row count
@@ -111,7 +111,7 @@ append-appended cells p p′ rows e = go (stop cells p) e
 
 -- an accepted insertion that changes the table appends a row
 pub insertion-appended : (cells : List ℕ) (p p′ : Plain) → insertion cells p ≡ accepted (some p′) → Appended cells p p′
-unfolding insertion put
+unfolding insertion upsert
 insertion-appended cells p p′ e = skip (skipped cells) refl e
   where
     rule : (old : Numbered) (r : Option (List ℕ))
@@ -126,12 +126,12 @@ insertion-appended cells p p′ e = skip (skipped cells) refl e
         let m = ruled-made (p .opening .rule) (p .opening .keys) (p .opening .sort) (old .cells) cells row q in
         rw (← a .1) (again old row s l (m .0) (m .1) (a .0))
 
-    find : (found : Option Numbered) → skipped cells ≡ false → lookup p (take (p .opening .keys) cells) ≡ found → put cells found p ≡ accepted (some p′) → Appended cells p p′
+    find : (found : Option Numbered) → skipped cells ≡ false → lookup p (take (p .opening .keys) cells) ≡ found → upsert cells found p ≡ accepted (some p′) → Appended cells p p′
     find none s l f = let a = append-appended cells p p′ (p .rows) f in rw (← a .1) (new s l (a .0))
     find (some old) s l f = rule old (ruled (p .opening .rule) (p .opening .keys) (p .opening .sort) (old .cells) cells) s l refl f
 
     skip : (b : Bool) → skipped cells ≡ b
-        → cond b (accepted none) (put cells (lookup p (take (p .opening .keys) cells)) p) ≡ accepted (some p′) → Appended cells p p′
+        → cond b (accepted none) (upsert cells (lookup p (take (p .opening .keys) cells)) p) ≡ accepted (some p′) → Appended cells p p′
     skip true s f = absurd (let z : _≡_ {A = ℕ} 0 1 = cc in omega arith)
     skip false s f = find (lookup p (take (p .opening .keys) cells)) s refl f
 
@@ -156,28 +156,28 @@ insertion-alike cells p p′ e = appended-alike (insertion-appended cells p p′
 -- a property that each appending insert preserves is preserved by all inserts, if each of them passes the required test
 pub insertAll-keeps : (P : Plain → Type 0) (test : List ℕ → Bool)
     → ((cells : List ℕ) (p p′ : Plain) → test cells ≡ true → P p → insertion cells p ≡ accepted (some p′) → P p′)
-    → (rows : List (List ℕ)) → every test rows ≡ true → (place : ℕ) (added : Bool) (p : Plain) → P p → P (insertAll rows place added p .table)
+    → (rows : List (List ℕ)) → all test rows ≡ true → (place : ℕ) (added : Bool) (p : Plain) → P p → P (insertAll rows place added p .table)
 unfolding insertAll
 insertAll-keeps P test f [] e place added p h = h
 insertAll-keeps P test f (cells ∷ rest) e place added p h =
-    go (insertion cells p) refl (insertAll-keeps P test f rest (every-tail test cells rest e) (suc place))
+    go (insertion cells p) refl (insertAll-keeps P test f rest (all-tail test cells rest e) (suc place))
   where
     go : (i : Reply (Option Plain)) → insertion cells p ≡ i → ((added′ : Bool) (p′ : Plain) → P p′ → P (insertAll rest (suc place) added′ p′ .table))
-        → P (goOn i place added p (insertAll rest (suc place)) .table)
+        → P (continueInserts i place added p (insertAll rest (suc place)) .table)
     go (accepted none) q ih = ih added p h
-    go (accepted (some p′)) q ih = ih true p′ (f cells p p′ (every-head test cells rest e) h q)
+    go (accepted (some p′)) q ih = ih true p′ (f cells p p′ (all-head test cells rest e) h q)
     go (refused n) q ih = h
 
 -- every row passes the constant test
-pub every-true : (rows : List (List ℕ)) → every (λ row. true) rows ≡ true
-unfolding every
-every-true [] = refl
-every-true (row ∷ rows) = every-true rows
+pub all-true : (rows : List (List ℕ)) → all (λ row. true) rows ≡ true
+unfolding all
+all-true [] = refl
+all-true (row ∷ rows) = all-true rows
 
 -- all inserts change only the rows and the largest value
 pub insertAll-alike : (rows : List (List ℕ)) (place : ℕ) (added : Bool) (p : Plain) → Alike p (insertAll rows place added p .table)
 insertAll-alike rows place added p =
-    insertAll-keeps (λ t. Alike p t) (λ row. true) (λ cells t t′ u h q. alike-then h (insertion-alike cells t t′ q)) rows (every-true rows) place added p (alike-same p)
+    insertAll-keeps (λ t. Alike p t) (λ row. true) (λ cells t t′ u h q. alike-then h (insertion-alike cells t t′ q)) rows (all-true rows) place added p (alike-same p)
 
 -- a merge's removals and inserts change only the rows and the largest value
 pub applied-alike : (p : Plain) → Alike p (applied p .table)

@@ -7,9 +7,9 @@ use mathlib.Core.List.{List, [], _∷_}
 use mathlib.Core.Option.{Option, none, some}
 use native.Mathlib.Omega.{arith}
 use lib.ListN.{length, getD}
-use Rattle.lists.specs.Lists.{every, firstOf}
-use Rattle.lists.specs.Laws.Keep.{split, and-left, and-right, every-getD}
-use Rattle.lists.specs.Laws.Every.{every-cons}
+use Rattle.lists.specs.Lists.{all, find}
+use Rattle.lists.specs.Laws.Filter.{split, and-left, and-right, all-getD}
+use Rattle.lists.specs.Laws.All.{all-cons}
 use Rattle.plain_table.specs.Staged.{hasKey}
 use Rattle.plain_table.specs.Plain.{Row, Plain, Numbered, liveFrom, liveRows, lookup, liveWithKey}
 use Rattle.plain_table.specs.Proper.{rowOf}
@@ -18,34 +18,34 @@ use Rattle.plain_table.specs.Laws.Rows.{noRow, freeRow, liveWithKey-live
 module _ (keys : ℕ) (key : List ℕ) where
   -- the first of these rows, numbered from n, that is live and has the key
   abbrev found : ℕ → List Row → Option Numbered
-  found n rows = firstOf (λ row. hasKey keys key (row .cells)) (liveFrom n rows)
+  found n rows = find (λ row. hasKey keys key (row .cells)) (liveFrom n rows)
 
   found-yes : (n : ℕ) (row : Row) (rows : List Row) → liveWithKey keys key row ≡ true → found n (row ∷ rows) ≡ some (record { number = n; cells = row .cells })
-  unfolding firstOf liveFrom liveWithKey
+  unfolding find liveFrom liveWithKey
   found-yes n row rows e =
       let l : row .live ≡ true = and-left _ _ e in
       let k : hasKey keys key (row .cells) ≡ true = and-right (row .live) _ e in
       rw (l, k)
 
   found-no : (n : ℕ) (row : Row) (rows : List Row) → liveWithKey keys key row ≡ false → found n (row ∷ rows) ≡ found (suc n) rows
-  unfolding firstOf liveFrom liveWithKey
+  unfolding find liveFrom liveWithKey
   found-no n row rows e =
       elim (split (row .live)) [
         | inl l ↦ let k : hasKey keys key (row .cells) ≡ false = rw l at e in rw (l, k)
         | inr l ↦ rw l
       ]
 
-  found-none : (n : ℕ) (rows : List Row) → found n rows ≡ none → every (freeRow keys key) rows ≡ true
-  found-none n [] e = unfold every in refl
+  found-none : (n : ℕ) (rows : List Row) → found n rows ≡ none → all (freeRow keys key) rows ≡ true
+  found-none n [] e = unfold all in refl
   found-none n (row ∷ rows) e =
       elim (split (liveWithKey keys key row)) [
         | inl q ↦ let f = found-yes n row rows q in absurd (let z : _≡_ {A = ℕ} 0 1 = cc in omega arith)
-        | inr q ↦ every-cons (freeRow keys key) row rows (rw q) (found-none (suc n) rows (sym (found-no n row rows q) ∙ e))
+        | inr q ↦ all-cons (freeRow keys key) row rows (rw q) (found-none (suc n) rows (sym (found-no n row rows q) ∙ e))
       ]
 
   found-at : (n : ℕ) (rows : List Row) (r : Numbered) → found n rows ≡ some r
       → (i : ℕ) × (r .number ≡ n + i) × (i < length rows) × (liveWithKey keys key (getD rows i noRow) ≡ true) × (getD rows i noRow .cells ≡ r .cells)
-  unfolding firstOf liveFrom
+  unfolding find liveFrom
   found-at n [] r e = absurd (let z : _≡_ {A = ℕ} 0 1 = cc in omega arith)
   found-at n (row ∷ rows) r e =
       elim (split (liveWithKey keys key row)) [
@@ -61,7 +61,7 @@ module _ (keys : ℕ) (key : List ℕ) where
 
 module _ (p : Plain) (key : List ℕ) where
   -- if nothing is found, no live row has the key
-  pub lookup-none : lookup p key ≡ none → every (freeRow (p .opening .keys) key) (p .rows) ≡ true
+  pub lookup-none : lookup p key ≡ none → all (freeRow (p .opening .keys) key) (p .rows) ≡ true
   unfolding lookup liveRows
   lookup-none e = found-none (p .opening .keys) key 0 (p .rows) e
 
@@ -91,7 +91,7 @@ module _ (p : Plain) (key : List ℕ) where
       go : (o : Option Numbered) → lookup p key ≡ o → o ≡ some (record { number = i; cells = rowOf p i .cells })
       go none q =
           let below = live-below (p .rows) i (liveWithKey-live (p .opening .keys) key (rowOf p i) e) in
-          let free : freeRow (p .opening .keys) key (rowOf p i) ≡ true = every-getD (freeRow (p .opening .keys) key) (p .rows) (lookup-none q) i below noRow in
+          let free : freeRow (p .opening .keys) key (rowOf p i) ≡ true = all-getD (freeRow (p .opening .keys) key) (p .rows) (lookup-none q) i below noRow in
           absurd (false≢true (rw e at free))
       go (some r) q =
           let t = lookup-at r q in

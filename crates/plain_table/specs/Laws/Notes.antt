@@ -9,14 +9,14 @@ use native.Mathlib.Nat.{add-zero}
 use native.Mathlib.Omega.{arith}
 use lib.Dec.{ltb}
 use lib.ListN.{length, drop, getD}
-use Rattle.lists.specs.Lists.{keep}
-use Rattle.lists.specs.Laws.Keep.{split}
+use Rattle.lists.specs.Lists.{filter}
+use Rattle.lists.specs.Laws.Filter.{split}
 use Rattle.plain_table.specs.Staged.{inserts}
 use Rattle.plain_table.specs.Plain.{Row, deadRow, Plain, liveFrom, stage, liveWithKey, killIf, dies, removed, insertAll, applied, compacted, unstaged, compactsAfter, merged, cleared, opened}
 use Rattle.plain_table.specs.Calls.{Call, staging, merging, compacting, clearing, refreshing, feeding, stageAll, done, LentCall, afterAll}
 use Rattle.plain_table.specs.Laws.Rows.{noRow}
 use Rattle.plain_table.specs.Laws.Calls.{leads-all}
-use Rattle.plain_table.specs.Laws.Counts.{Appended, new, again, insertion-appended, removed-keeps, every-true, insertAll-keeps, applied-alike}
+use Rattle.plain_table.specs.Laws.Counts.{Appended, new, again, insertion-appended, removed-keeps, all-true, insertAll-keeps, applied-alike}
 
 -- the second list is the first with some rows dead, followed by more rows
 pub data Follows : List Row → List Row → Type 0 where
@@ -70,7 +70,7 @@ insertAll-follows : (rows : List (List ℕ)) (place : ℕ) (added : Bool) (p : P
 insertAll-follows rows place added p =
     insertAll-keeps (λ t. Follows (p .rows) (t .rows)) (λ row. true)
     (λ cells t t′ u h q. follows-then h (appended-follows (insertion-appended cells t t′ q)))
-    rows (every-true rows) place added p (follows-same (p .rows))
+    rows (all-true rows) place added p (follows-same (p .rows))
 
 applied-follows : (p : Plain) → Follows (p .rows) (applied p .table .rows)
 unfolding applied
@@ -153,14 +153,14 @@ shift : (n i : ℕ) → suc n + i ≡ n + suc i
 shift n i = omega arith
 
 shifted : (n : ℕ) (still : ℕ → Bool) (a b : List Row)
-    → liveFrom (suc n) b ≡ keep (λ row. still (row .number)) (liveFrom (suc n) a) ++ liveFrom (suc n + length a) (drop (length a) b)
-    → liveFrom (suc n) b ≡ keep (λ row. still (row .number)) (liveFrom (suc n) a) ++ liveFrom (n + suc (length a)) (drop (length a) b)
+    → liveFrom (suc n) b ≡ filter (λ row. still (row .number)) (liveFrom (suc n) a) ++ liveFrom (suc n + length a) (drop (length a) b)
+    → liveFrom (suc n) b ≡ filter (λ row. still (row .number)) (liveFrom (suc n) a) ++ liveFrom (n + suc (length a)) (drop (length a) b)
 shifted n still a b h = rw (shift n (length a)) at h
 
 -- the live rows: the earlier live rows that are still live, followed by the live rows appended since
 pub follows-live : (n : ℕ) (still : ℕ → Bool) {a b : List Row} → Follows a b → ((i : ℕ) → i < length a → still (n + i) ≡ getD b i noRow .live)
-    → liveFrom n b ≡ keep (λ row. still (row .number)) (liveFrom n a) ++ liveFrom (n + length a) (drop (length a) b)
-unfolding liveFrom keep
+    → liveFrom n b ≡ filter (λ row. still (row .number)) (liveFrom n a) ++ liveFrom (n + length a) (drop (length a) b)
+unfolding liveFrom filter
 follows-live n still (behind rows) f = rw (add-zero n)
 follows-live n still (stays row {a} {b} g) f =
     let q : still n ≡ row .live = ap still (sym (add-zero n)) ∙ f 0 (omega arith) in
@@ -175,8 +175,8 @@ follows-live n still (falls row {a} {b} g) f =
 
 module _ (new : ℕ → Bool) where
   -- if all rows are new, the new live rows are all live rows
-  live-new : (n : ℕ) (rows : List Row) → ((i : ℕ) → i < length rows → new (n + i) ≡ true) → keep (λ row. new (row .number)) (liveFrom n rows) ≡ liveFrom n rows
-  unfolding liveFrom keep
+  live-new : (n : ℕ) (rows : List Row) → ((i : ℕ) → i < length rows → new (n + i) ≡ true) → filter (λ row. new (row .number)) (liveFrom n rows) ≡ liveFrom n rows
+  unfolding liveFrom filter
   live-new n [] f = refl
   live-new n (row ∷ rows) f =
       let t : new n ≡ true = ap new (sym (add-zero n)) ∙ f 0 (omega arith) in
@@ -185,8 +185,8 @@ module _ (new : ℕ → Bool) where
 
   -- if the rows from k on are the new ones, the new live rows are those from k on
   pub live-behind : (n k : ℕ) (rows : List Row) → k ≤ length rows → ((i : ℕ) → i < k → new (n + i) ≡ false)
-      → ((i : ℕ) → k ≤ i → i < length rows → new (n + i) ≡ true) → keep (λ row. new (row .number)) (liveFrom n rows) ≡ liveFrom (n + k) (drop k rows)
-  unfolding liveFrom keep
+      → ((i : ℕ) → k ≤ i → i < length rows → new (n + i) ≡ true) → filter (λ row. new (row .number)) (liveFrom n rows) ≡ liveFrom (n + k) (drop k rows)
+  unfolding liveFrom filter
   live-behind n zero rows b f g = rw (add-zero n) (live-new n rows (λ i h. g i (omega arith) h))
   live-behind n (suc k) [] b f g = absurd (omega arith)
   live-behind n (suc k) (row ∷ rows) b f g =

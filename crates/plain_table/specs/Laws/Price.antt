@@ -11,10 +11,10 @@ use native.Mathlib.Omega.{arith}
 use lib.Dec.{eqb}
 use lib.ListN.{length}
 use borrow.Author.Tests.{ltb-true}
-use Rattle.lists.specs.Laws.Keep.{split, and-left, and-right, count-split, length-keep}
+use Rattle.lists.specs.Laws.Filter.{split, and-left, and-right, count-split, length-filter}
 use Rattle.refusals.specs.Refusals.{Reply, refused, accepted}
-use Rattle.plain_table.specs.Staged.{inserts, due}
-use Rattle.plain_table.specs.Plain.{Plain, insertion, goOn, insertAll, removed, applied, live, dead, compacted, unstaged, compactsAfter, merged, mergeKeeps, mergeDrops}
+use Rattle.plain_table.specs.Staged.{inserts, compactionDue}
+use Rattle.plain_table.specs.Plain.{Plain, insertion, continueInserts, insertAll, removed, applied, live, dead, compacted, unstaged, compactsAfter, merged, mergeKeeps, mergeDrops}
 use Rattle.plain_table.specs.Appending.{appendsOn, insertsAppend, mergeAppends}
 use Rattle.plain_table.specs.Laws.Counts.{insertion-count, length-removed}
 
@@ -26,7 +26,7 @@ live-dead p = omega (arith, count-split (λ row. row .live) (p .rows))
 -- a compaction keeps exactly the live rows
 pub compacted-live : (p : Plain) → length (compacted p .rows) ≡ live p
 unfolding compacted live
-compacted-live p = length-keep (λ row. row .live) (p .rows)
+compacted-live p = length-filter (λ row. row .live) (p .rows)
 
 -- each insert that appends adds one row
 inserts-count : (rows : List (List ℕ)) (place : ℕ) (added : Bool) (p : Plain)
@@ -37,7 +37,7 @@ inserts-count (cells ∷ rest) place added p = go (insertion cells p) refl (inse
   where
     go : (i : Reply (Option Plain)) → insertion cells p ≡ i
         → ((added′ : Bool) (q : Plain) → length (insertAll rest (suc place) added′ q .table .rows) ≡ length (q .rows) + length (insertsAppend rest q))
-        → length (goOn i place added p (insertAll rest (suc place)) .table .rows) ≡ length (p .rows) + length (appendsOn i p (insertsAppend rest))
+        → length (continueInserts i place added p (insertAll rest (suc place)) .table .rows) ≡ length (p .rows) + length (appendsOn i p (insertsAppend rest))
     go (accepted none) e ih = ih added p
     go (accepted (some p′)) e ih = omega (arith, ih true p′, insertion-count cells p p′ e)
     go (refused n) e ih = sym (add-zero (length (p .rows)))
@@ -66,7 +66,7 @@ more-dead kept dropped rows e h = omega (arith, le-max-right 16 (rows / 2))
 
 -- a merge's compaction keeps no more rows than it drops
 pub merged-price : (p : Plain) → mergeKeeps p ≤ mergeDrops p
-unfolding mergeKeeps mergeDrops compactsAfter due
+unfolding mergeKeeps mergeDrops compactsAfter compactionDue
 merged-price p =
     let q : Plain = applied p .table in
     elim (split (compactsAfter (applied p .status) q)) [

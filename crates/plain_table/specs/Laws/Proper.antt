@@ -10,21 +10,21 @@ use native.Mathlib.Omega.{arith}
 use lib.Dec.{leb, ltb, eqb}
 use lib.ListN.{length, take, getD}
 use borrow.Author.Tests.{leb-true, ltb-true, leb-false, eqb-true, eqb-false, le-leb, lt-ltb, not-true, not-false}
-use Rattle.lists.specs.Lists.{every}
-use Rattle.lists.specs.Laws.Keep.{split, and-left, and-right, every-getD, every-keep-of}
-use Rattle.lists.specs.Laws.Every.{and-both, every-head, every-tail, every-cons, every-snoc, every-append}
+use Rattle.lists.specs.Lists.{all}
+use Rattle.lists.specs.Laws.Filter.{split, and-left, and-right, all-getD, all-filter-of}
+use Rattle.lists.specs.Laws.All.{and-both, all-head, all-tail, all-cons, all-snoc, all-append}
 use Rattle.cells.specs.Cells.{isDead}
 use Rattle.refusals.specs.Refusals.{accepted}
-use Rattle.plain_table.specs.Staged.{Opening, openable, Staged, insert, removeKey, removeRow, inserts, skipped, due}
+use Rattle.plain_table.specs.Staged.{Opening, openable, Staged, insert, removeKey, removeRow, inserts, skipped, compactionDue}
 use Rattle.plain_table.specs.Plain.{Row, Plain, liveRows, withRows, opened, stage, liveWithKey, killIf, dies, removed, stop, insertion, applied, dead, compacted, unstaged, compactsAfter, merged, cleared, below, withRow, insertAll}
 use Rattle.plain_table.specs.Refreshing.{Refresh, mentions, mentioning}
-use Rattle.plain_table.specs.Refusing.{Lengths, wrongWidth, stageLadder, compactLadder, clearLadder}
+use Rattle.plain_table.specs.Refusing.{Lengths, wrongWidth, stageChecks, compactChecks, clearChecks}
 use Rattle.plain_table.specs.Calls.{Call, staging, merging, compacting, clearing, refreshing, feeding, recordsOf, stageAll, refusal, done, after, LentCall, afterAll, used}
 use Rattle.plain_table.specs.Proper.{rowOf, Proper}
 use Rattle.merge_rules.specs.Laws.Rules.{made-length, made-keys, made-first}
 use Rattle.plain_table.specs.Laws.Lookup.{lookup-none, lookup-at}
-use Rattle.plain_table.specs.Laws.Rows.{noRow, wideRow, freeRow, Tidy, liveWithKey-key, free-dead, apart-of, apart-at, up-of, up-sorted, Thinned, killIf-thinned, dies-thinned, keep-thinned, thinned-same, thinned-length, thinned-tidy, tidy-snoc}
-use Rattle.plain_table.specs.Laws.Calls.{refused-nothing, accepted-done, first-no, first-rest}
+use Rattle.plain_table.specs.Laws.Rows.{noRow, wideRow, freeRow, ProperRows, liveWithKey-key, free-dead, keysDistinct-of, keysDistinct-at, sortedFrom-of, sortedFrom-sorted, Thinned, killIf-thinned, dies-thinned, filter-thinned, thinned-same, thinned-length, thinned-proper-rows, proper-rows-snoc}
+use Rattle.plain_table.specs.Laws.Calls.{refused-nothing, accepted-done, firstRefusal-no, firstRefusal-rest}
 use Rattle.plain_table.specs.Laws.Refreshing.{live-wide, refreshed-whole, none-wrong}
 use Rattle.plain_table.specs.Laws.Counts.{Appended, new, again, insertion-appended, insertion-alike, removed-keeps, removed-alike, insertAll-keeps}
 
@@ -81,62 +81,62 @@ bounds-openable o b =
 
 -- every staged record has the right number of cells
 abbrev pub Whole : Opening → List Staged → Type 0
-Whole o staged = every (λ r. not (wrongWidth o r)) staged ≡ true
+Whole o staged = all (λ r. not (wrongWidth o r)) staged ≡ true
 
--- the rows of a proper table are tidy (`Tidy`)
-pub proper-tidy : {p : Plain} → Proper p → Tidy (p .opening) (p .largest) (p .rows)
-proper-tidy {p} h =
+-- the rows of a proper table are tidy (`ProperRows`)
+pub proper-rows : {p : Plain} → Proper p → ProperRows (p .opening) (p .largest) (p .rows)
+proper-rows {p} h =
     record {
       fit = h .rows-fit;
       wide = h .widths;
       first = h .live-first;
-      differ = apart-of (p .opening .keys) (p .rows) (h .keys-differ);
-      climb = up-of (p .opening .sort) 0 (p .rows) (λ j k. omega arith) (h .sorted);
+      differ = keysDistinct-of (p .opening .keys) (p .rows) (h .keys-differ);
+      climb = sortedFrom-of (p .opening .sort) 0 (p .rows) (λ j k. omega arith) (h .sorted);
       kept = h .largest-kept;
     }
 
 -- a table is proper if its rows are tidy and its other parts are in order
-pub tidy-proper : (p : Plain) → openable (p .opening) ≡ true → p .generation ≤ 4294967295 → Tidy (p .opening) (p .largest) (p .rows) → Whole (p .opening) (p .staged) → Proper p
-tidy-proper p bounds fits t whole =
+pub rows-proper : (p : Plain) → openable (p .opening) ≡ true → p .generation ≤ 4294967295 → ProperRows (p .opening) (p .largest) (p .rows) → Whole (p .opening) (p .staged) → Proper p
+rows-proper p bounds fits t whole =
     record {
       numbers = bounds;
       generation-fits = fits;
       rows-fit = t .fit;
       widths = t .wide;
       live-first = t .first;
-      keys-differ = apart-at (p .opening .keys) (p .rows) (t .differ);
-      sorted = up-sorted (p .opening .sort) 0 (p .rows) (t .climb);
+      keys-differ = keysDistinct-at (p .opening .keys) (p .rows) (t .differ);
+      sorted = sortedFrom-sorted (p .opening .sort) 0 (p .rows) (t .climb);
       largest-kept = t .kept;
       staged-whole = whole;
     }
 
 -- an empty row list is tidy
-pub tidy-none : (o : Opening) (largest : Option ℕ) → Tidy o largest []
-unfolding every
-tidy-none o largest =
+pub proper-rows-none : (o : Opening) (largest : Option ℕ) → ProperRows o largest []
+unfolding all
+proper-rows-none o largest =
     record {
       fit = omega arith;
       wide = refl;
       first = refl;
-      differ = apart-of (o .keys) [] (λ i j p q k. absurd (false≢true p));
-      climb = up-of (o .sort) 0 [] (λ j k. omega arith) (λ i j h k. absurd (omega arith));
+      differ = keysDistinct-of (o .keys) [] (λ i j p q k. absurd (false≢true p));
+      climb = sortedFrom-of (o .sort) 0 [] (λ j k. omega arith) (λ i j h k. absurd (omega arith));
       kept = refl;
     }
 
 -- a newly opened table is proper
 pub opened-proper : (o : Opening) (generation : ℕ) → openable o ≡ true → generation ≤ 4294967295 → Proper (opened o generation)
 unfolding opened
-opened-proper o generation e h = tidy-proper (opened o generation) e h (tidy-none o none) (unfold every in refl)
+opened-proper o generation e h = rows-proper (opened o generation) e h (proper-rows-none o none) (unfold all in refl)
 
 -- ---- rows die or are dropped
 
 -- the table with other tidy rows
-pub withRows-proper : {p : Plain} (rows : List Row) → Proper p → Tidy (p .opening) (p .largest) rows → Proper (withRows p rows)
-withRows-proper {p} rows h t = tidy-proper (withRows p rows) (h .numbers) (h .generation-fits) t (h .staged-whole)
+pub withRows-proper : {p : Plain} (rows : List Row) → Proper p → ProperRows (p .opening) (p .largest) rows → Proper (withRows p rows)
+withRows-proper {p} rows h t = rows-proper (withRows p rows) (h .numbers) (h .generation-fits) t (h .staged-whole)
 
 -- some rows die or are dropped
 pub thinned-proper : {p : Plain} {rows : List Row} → Proper p → Thinned (p .rows) rows → Proper (withRows p rows)
-thinned-proper {p} {rows} h t = withRows-proper rows h (thinned-tidy (p .opening) t (proper-tidy h))
+thinned-proper {p} {rows} h t = withRows-proper rows h (thinned-proper-rows (p .opening) t (proper-rows h))
 
 -- every row that passes a test dies
 pub killIf-proper : {p : Plain} (test : Row → Bool) → Proper p → Proper (withRows p (killIf test (p .rows)))
@@ -155,34 +155,34 @@ removed-proper {p} h = removed-keeps Proper (λ q test k. killIf-proper test k) 
 -- if an insert does not stop, the table is not full
 pub stop-room : (cells : List ℕ) (p : Plain) → stop cells p ≡ 0 → length (p .rows) < p .opening .capacity
 unfolding stop
-stop-room cells p e = leb-false _ _ (first-no _ 7 _ e)
+stop-room cells p e = leb-false _ _ (firstRefusal-no _ 7 _ e)
 
 -- and its sort cell is not below the largest value
 pub stop-above : (cells : List ℕ) (p : Plain) → stop cells p ≡ 0 → below (getD cells (p .opening .sort) 0) (p .largest) ≡ false
 unfolding stop
-stop-above cells p e = first-no _ 8 _ (first-rest _ 7 _ e)
+stop-above cells p e = firstRefusal-no _ 8 _ (firstRefusal-rest _ 7 _ e)
 
 -- Appends a live row whose key no live row has. The rows before it are those of the table, some dead or dropped.
 pub append-proper : {p : Plain} (cells : List ℕ) {rows : List Row} → Proper p → Thinned (p .rows) rows
     → length cells ≡ p .opening .columns
     → isDead (getD cells 0 0) ≡ false
-    → every (freeRow (p .opening .keys) (take (p .opening .keys) cells)) rows ≡ true
+    → all (freeRow (p .opening .keys) (take (p .opening .keys) cells)) rows ≡ true
     → stop cells p ≡ 0
     → Proper (withRow p rows cells)
 append-proper {p} cells {rows} h t width head free e =
     let room = stop-room cells p e in
-    tidy-proper (withRow p rows cells) (h .numbers) (h .generation-fits)
-    (tidy-snoc (p .opening) (p .largest) rows cells (thinned-tidy (p .opening) t (proper-tidy h)) (omega (arith, thinned-length t)) width head free (stop-above cells p e))
+    rows-proper (withRow p rows cells) (h .numbers) (h .generation-fits)
+    (proper-rows-snoc (p .opening) (p .largest) rows cells (thinned-proper-rows (p .opening) t (proper-rows h)) (omega (arith, thinned-length t)) width head free (stop-above cells p e))
     (h .staged-whole)
 
 -- ---- inserts
 
 -- after the live rows of a key die, no live row has that key
-pub killIf-free : (keys : ℕ) (key : List ℕ) (rows : List Row) → every (freeRow keys key) (killIf (liveWithKey keys key) rows) ≡ true
+pub killIf-free : (keys : ℕ) (key : List ℕ) (rows : List Row) → all (freeRow keys key) (killIf (liveWithKey keys key) rows) ≡ true
 unfolding killIf
-killIf-free keys key [] = unfold every in refl
+killIf-free keys key [] = unfold all in refl
 killIf-free keys key (row ∷ rows) =
-    every-cons (freeRow keys key) _ _
+    all-cons (freeRow keys key) _ _
     (elim (split (liveWithKey keys key row)) [ inl e ↦ rw e (free-dead keys key row) | inr e ↦ rw (e, e) ])
     (killIf-free keys key rows)
 
@@ -193,7 +193,7 @@ appended-proper {cells} {p} h w (again old row s l c m e) =
     let keys : ℕ = p .opening .keys in
     let t = lookup-at p (take keys cells) old l in
     let b = openable-bounds (p .opening) (h .numbers) in
-    let width : length (old .cells) ≡ p .opening .columns = ap length (sym (t .2)) ∙ eqb-true _ _ (every-getD (wideRow (p .opening .columns)) (p .rows) (h .widths) (old .number) (t .0) noRow) in
+    let width : length (old .cells) ≡ p .opening .columns = ap length (sym (t .2)) ∙ eqb-true _ _ (all-getD (wideRow (p .opening .columns)) (p .rows) (h .widths) (old .number) (t .0) noRow) in
     let key : take keys (old .cells) ≡ take keys cells = ap (take keys) (sym (t .2)) ∙ liveWithKey-key keys (take keys cells) (rowOf p (old .number)) (t .1) in
     let row-key : take keys row ≡ take keys cells = ap (take keys) (sym m) ∙ made-keys (p .opening .rule) keys (p .opening .sort) (old .cells) cells (width ∙ sym w) key ∙ key in
     append-proper row h (killIf-thinned _ (p .rows))
@@ -207,7 +207,7 @@ pub insertion-proper : (cells : List ℕ) (p p′ : Plain) → Proper p → leng
 insertion-proper cells p p′ h w e = appended-proper h w (insertion-appended cells p p′ e)
 
 -- all inserts, each of the right width
-pub insertAll-proper : {p : Plain} (rows : List (List ℕ)) (place : ℕ) (added : Bool) → Proper p → every (λ cells. eqb (length cells) (p .opening .columns)) rows ≡ true
+pub insertAll-proper : {p : Plain} (rows : List (List ℕ)) (place : ℕ) (added : Bool) → Proper p → all (λ cells. eqb (length cells) (p .opening .columns)) rows ≡ true
     → Proper (insertAll rows place added p .table)
 insertAll-proper {p} rows place added h e =
     insertAll-keeps (λ t. (Proper t) × (t .opening ≡ p .opening)) (λ cells. eqb (length cells) (p .opening .columns))
@@ -217,15 +217,15 @@ insertAll-proper {p} rows place added h e =
     .0
 
 -- staged inserts have the right width
-pub inserts-wide : (o : Opening) (rs : List Staged) → Whole o rs → every (λ cells. eqb (length cells) (o .columns)) (inserts rs) ≡ true
+pub inserts-wide : (o : Opening) (rs : List Staged) → Whole o rs → all (λ cells. eqb (length cells) (o .columns)) (inserts rs) ≡ true
 unfolding inserts
-inserts-wide o [] e = unfold every in refl
+inserts-wide o [] e = unfold all in refl
 inserts-wide o (insert cells ∷ rs) e =
-    every-cons (λ row. eqb (length row) (o .columns)) cells (inserts rs)
-    (unfold wrongWidth in not-false _ (not-true _ (every-head (λ r. not (wrongWidth o r)) (insert cells) rs e)))
-    (inserts-wide o rs (every-tail (λ r. not (wrongWidth o r)) (insert cells) rs e))
-inserts-wide o (removeKey key ∷ rs) e = inserts-wide o rs (every-tail (λ r. not (wrongWidth o r)) (removeKey key) rs e)
-inserts-wide o (removeRow row key ∷ rs) e = inserts-wide o rs (every-tail (λ r. not (wrongWidth o r)) (removeRow row key) rs e)
+    all-cons (λ row. eqb (length row) (o .columns)) cells (inserts rs)
+    (unfold wrongWidth in not-false _ (not-true _ (all-head (λ r. not (wrongWidth o r)) (insert cells) rs e)))
+    (inserts-wide o rs (all-tail (λ r. not (wrongWidth o r)) (insert cells) rs e))
+inserts-wide o (removeKey key ∷ rs) e = inserts-wide o rs (all-tail (λ r. not (wrongWidth o r)) (removeKey key) rs e)
+inserts-wide o (removeRow row key ∷ rs) e = inserts-wide o rs (all-tail (λ r. not (wrongWidth o r)) (removeRow row key) rs e)
 
 -- ---- merge
 
@@ -240,12 +240,12 @@ applied-proper {p} h =
 pub compacted-proper : {p : Plain} → Proper p → p .generation < 4294967295 → Proper (compacted p)
 unfolding compacted
 compacted-proper {p} h k =
-    tidy-proper (compacted p) (h .numbers) (omega arith) (thinned-tidy (p .opening) (keep-thinned (λ row. row .live) (p .rows)) (proper-tidy h)) (h .staged-whole)
+    rows-proper (compacted p) (h .numbers) (omega arith) (thinned-proper-rows (p .opening) (filter-thinned (λ row. row .live) (p .rows)) (proper-rows h)) (h .staged-whole)
 
 -- pending is emptied
 pub unstaged-proper : {p : Plain} → Proper p → Proper (unstaged p)
 unfolding unstaged
-unstaged-proper {p} h = tidy-proper (unstaged p) (h .numbers) (h .generation-fits) (proper-tidy h) (unfold every in refl)
+unstaged-proper {p} h = rows-proper (unstaged p) (h .numbers) (h .generation-fits) (proper-rows h) (unfold all in refl)
 
 -- a generation that fits and is not the last is below the last
 below-last : (g : ℕ) → g ≤ 4294967295 → eqb g 4294967295 ≡ false → g < 4294967295
@@ -253,7 +253,7 @@ below-last g h e = omega (arith, eqb-false g 4294967295 e)
 
 -- a merge compacts only below the last generation
 compacts-below : {p : Plain} (status : ℕ) → Proper p → compactsAfter status p ≡ true → p .generation < 4294967295
-unfolding compactsAfter due
+unfolding compactsAfter compactionDue
 compacts-below {p} status h e =
     below-last (p .generation) (h .generation-fits) (not-true _ (and-right (ltb (max 16 (length (p .rows) / 2)) (dead p)) _ (and-right (eqb status 0) _ e)))
 
@@ -268,19 +268,19 @@ merged-proper {p} h =
 -- ---- stage and clear
 
 -- an accepted record is staged
-pub staged-proper : {p : Plain} (outside : Bool) (pending : ℕ) (r : Staged) → Proper p → stageLadder outside (p .opening) (length (p .rows)) (used p) pending r ≡ 0 → Proper (stage p r)
-unfolding stage stageLadder
+pub staged-proper : {p : Plain} (outside : Bool) (pending : ℕ) (r : Staged) → Proper p → stageChecks outside (p .opening) (length (p .rows)) (used p) pending r ≡ 0 → Proper (stage p r)
+unfolding stage stageChecks
 staged-proper {p} outside pending r h e =
-    let w : wrongWidth (p .opening) r ≡ false = first-no _ 2 _ (first-rest _ 0 _ e) in
-    tidy-proper (stage p r) (h .numbers) (h .generation-fits) (proper-tidy h)
-    (every-snoc (λ s. not (wrongWidth (p .opening) s)) (p .staged) r (h .staged-whole) (rw w))
+    let w : wrongWidth (p .opening) r ≡ false = firstRefusal-no _ 2 _ (firstRefusal-rest _ 0 _ e) in
+    rows-proper (stage p r) (h .numbers) (h .generation-fits) (proper-rows h)
+    (all-snoc (λ s. not (wrongWidth (p .opening) s)) (p .staged) r (h .staged-whole) (rw w))
 
 -- whole records are staged
 pub stageAll-proper : {p : Plain} (rs : List Staged) → Proper p → Whole (p .opening) rs → Proper (stageAll p rs)
 unfolding stageAll
 stageAll-proper {p} rs h whole =
-    tidy-proper (stageAll p rs) (h .numbers) (h .generation-fits) (proper-tidy h)
-    (every-append (λ s. not (wrongWidth (p .opening) s)) (p .staged) rs (h .staged-whole) whole)
+    rows-proper (stageAll p rs) (h .numbers) (h .generation-fits) (proper-rows h)
+    (all-append (λ s. not (wrongWidth (p .opening) s)) (p .staged) rs (h .staged-whole) whole)
 
 -- the records of a refresh are whole
 pub records-whole : {p : Plain} (r : Refresh) → Proper p → Whole (p .opening) (recordsOf p r)
@@ -288,7 +288,7 @@ unfolding mentioning liveRows
 records-whole {p} r h =
     let o = p .opening in
     refreshed-whole o (r .stamp) (mentioning r p) (openable-bounds o (h .numbers) .keys-few)
-    (every-keep-of (λ row. eqb (length (row .cells)) (o .columns)) (λ row. mentions (r .columns) (r .values) (row .cells)) (liveRows p) (live-wide o 0 (p .rows) (h .widths)))
+    (all-filter-of (λ row. eqb (length (row .cells)) (o .columns)) (λ row. mentions (r .columns) (r .values) (row .cells)) (liveRows p) (live-wide o 0 (p .rows) (h .widths)))
 
 -- a clear; if there are rows, only below the last generation
 pub cleared-proper : {p : Plain} → Proper p → (0 < length (p .rows) → p .generation < 4294967295) → Proper (cleared p)
@@ -309,9 +309,9 @@ unfolding done refusal
 done-proper {p} l (staging r) h e = staged-proper (ltb (l .pending) (used p)) (l .pending) r h e
 done-proper l merging h e = merged-proper h
 done-proper {p} l compacting h e =
-    compacted-proper h (below-last (p .generation) (h .generation-fits) (unfold compactLadder in first-no _ 9 _ (first-rest _ 1 _ (first-rest _ 0 _ e))))
+    compacted-proper h (below-last (p .generation) (h .generation-fits) (unfold compactChecks in firstRefusal-no _ 9 _ (firstRefusal-rest _ 1 _ (firstRefusal-rest _ 0 _ e))))
 done-proper {p} l clearing h e =
-    let n : (eqb (p .generation) 4294967295 && ltb 0 (length (p .rows))) ≡ false = unfold clearLadder in first-no _ 9 _ (first-rest _ 1 _ (first-rest _ 0 _ e)) in
+    let n : (eqb (p .generation) 4294967295 && ltb 0 (length (p .rows))) ≡ false = unfold clearChecks in firstRefusal-no _ 9 _ (firstRefusal-rest _ 1 _ (firstRefusal-rest _ 0 _ e)) in
     cleared-proper h
     (λ k.
     elim (split (eqb (p .generation) 4294967295)) [
@@ -319,7 +319,7 @@ done-proper {p} l clearing h e =
       | inr q ↦ below-last (p .generation) (h .generation-fits) q
     ])
 done-proper {p} l (refreshing r index) h e = stageAll-proper (recordsOf p r) h (records-whole r h)
-done-proper {p} l (feeding rs) h e = stageAll-proper rs h (none-wrong (p .opening) rs (first-no _ 2 _ e))
+done-proper {p} l (feeding rs) h e = stageAll-proper rs h (none-wrong (p .opening) rs (firstRefusal-no _ 2 _ e))
 
 -- every call, refused ones included
 pub after-proper : {p : Plain} (l : Lengths) (c : Call) → Proper p → Proper (after p l c)

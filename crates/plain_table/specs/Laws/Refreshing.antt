@@ -9,9 +9,9 @@ use lib.Dec.{eqb}
 use lib.ListN.{length, take, set, length-set}
 use lib.Seq.{length-take-le}
 use borrow.Author.Tests.{eqb-true, eq-eqb, not-true}
-use Rattle.lists.specs.Lists.{every, any, flat}
-use Rattle.lists.specs.Laws.Every.{every-head, every-tail, every-cons, every-append, or-no-left, or-no-right}
-use Rattle.lists.specs.Laws.Keep.{split}
+use Rattle.lists.specs.Lists.{all, any, flatten}
+use Rattle.lists.specs.Laws.All.{all-head, all-tail, all-cons, all-append, or-no-left, or-no-right}
+use Rattle.lists.specs.Laws.Filter.{split}
 use Rattle.plain_table.specs.Staged.{Opening, Staged}
 use Rattle.plain_table.specs.Plain.{Row, Numbered, liveFrom}
 use Rattle.plain_table.specs.Refusing.{wrongWidth}
@@ -19,46 +19,46 @@ use Rattle.plain_table.specs.Refreshing.{restamping, refreshed}
 
 -- rows of the opening's width
 abbrev pub Wide : Opening → List Numbered → Type 0
-Wide o rows = every (λ row. eqb (length (row .cells)) (o .columns)) rows ≡ true
+Wide o rows = all (λ row. eqb (length (row .cells)) (o .columns)) rows ≡ true
 
-pub live-wide : (o : Opening) (n : ℕ) (rows : List Row) → every (λ row. eqb (length (row .cells)) (o .columns)) rows ≡ true → Wide o (liveFrom n rows)
+pub live-wide : (o : Opening) (n : ℕ) (rows : List Row) → all (λ row. eqb (length (row .cells)) (o .columns)) rows ≡ true → Wide o (liveFrom n rows)
 unfolding liveFrom
-live-wide o n [] e = unfold every in refl
+live-wide o n [] e = unfold all in refl
 live-wide o n (row ∷ rows) e =
-    let rest = live-wide o (suc n) rows (every-tail (λ (r : Row). eqb (length (r .cells)) (o .columns)) row rows e) in
+    let rest = live-wide o (suc n) rows (all-tail (λ (r : Row). eqb (length (r .cells)) (o .columns)) row rows e) in
     elim (split (row .live)) [
       | inl l ↦
           rw l
-          (every-cons (λ (r : Numbered). eqb (length (r .cells)) (o .columns)) (record { number = n; cells = row .cells }) (liveFrom (suc n) rows)
-          (every-head (λ (r : Row). eqb (length (r .cells)) (o .columns)) row rows e) rest)
+          (all-cons (λ (r : Numbered). eqb (length (r .cells)) (o .columns)) (record { number = n; cells = row .cells }) (liveFrom (suc n) rows)
+          (all-head (λ (r : Row). eqb (length (r .cells)) (o .columns)) row rows e) rest)
       | inr l ↦ rw l rest
     ]
 
 -- the two records of a row are whole
 restamping-whole : (o : Opening) (stamp : ℕ) (row : Numbered) → o .keys ≤ o .columns → eqb (length (row .cells)) (o .columns) ≡ true
-    → every (λ r. not (wrongWidth o r)) (restamping o stamp row) ≡ true
-unfolding restamping wrongWidth every
+    → all (λ r. not (wrongWidth o r)) (restamping o stamp row) ≡ true
+unfolding restamping wrongWidth all
 restamping-whole o stamp row few wide =
     let w = eqb-true (length (row .cells)) (o .columns) wide in
     rw (eq-eqb (length (take (o .keys) (row .cells))) (o .keys) (length-take-le (o .keys) (row .cells) (omega arith)), eq-eqb (length (set (row .cells) (o .sort) stamp)) (o .columns) (length-set (row .cells) (o .sort) stamp ∙ w))
 
-pub refreshed-whole : (o : Opening) (stamp : ℕ) (rows : List Numbered) → o .keys ≤ o .columns → Wide o rows → every (λ r. not (wrongWidth o r)) (refreshed o stamp rows) ≡ true
-unfolding refreshed flat
-refreshed-whole o stamp [] few wide = unfold every in refl
+pub refreshed-whole : (o : Opening) (stamp : ℕ) (rows : List Numbered) → o .keys ≤ o .columns → Wide o rows → all (λ r. not (wrongWidth o r)) (refreshed o stamp rows) ≡ true
+unfolding refreshed flatten
+refreshed-whole o stamp [] few wide = unfold all in refl
 refreshed-whole o stamp (row ∷ rows) few wide =
-    every-append (λ r. not (wrongWidth o r)) (restamping o stamp row) (refreshed o stamp rows)
-    (restamping-whole o stamp row few (every-head (λ (r : Numbered). eqb (length (r .cells)) (o .columns)) row rows wide))
-    (refreshed-whole o stamp rows few (every-tail (λ (r : Numbered). eqb (length (r .cells)) (o .columns)) row rows wide))
+    all-append (λ r. not (wrongWidth o r)) (restamping o stamp row) (refreshed o stamp rows)
+    (restamping-whole o stamp row few (all-head (λ (r : Numbered). eqb (length (r .cells)) (o .columns)) row rows wide))
+    (refreshed-whole o stamp rows few (all-tail (λ (r : Numbered). eqb (length (r .cells)) (o .columns)) row rows wide))
 
 -- if no record has a wrong width, all records are whole
-pub none-wrong : (o : Opening) (rs : List Staged) → any (wrongWidth o) rs ≡ false → every (λ r. not (wrongWidth o r)) rs ≡ true
-unfolding any every
+pub none-wrong : (o : Opening) (rs : List Staged) → any (wrongWidth o) rs ≡ false → all (λ r. not (wrongWidth o r)) rs ≡ true
+unfolding any all
 none-wrong o [] e = refl
 none-wrong o (r ∷ rs) e = rw (or-no-left (wrongWidth o r) (any (wrongWidth o) rs) e) (none-wrong o rs (or-no-right (wrongWidth o r) (any (wrongWidth o) rs) e))
 
 -- conversely
-pub whole-right : (o : Opening) (rs : List Staged) → every (λ r. not (wrongWidth o r)) rs ≡ true → any (wrongWidth o) rs ≡ false
+pub whole-right : (o : Opening) (rs : List Staged) → all (λ r. not (wrongWidth o r)) rs ≡ true → any (wrongWidth o) rs ≡ false
 unfolding any
 whole-right o [] e = refl
 whole-right o (r ∷ rs) e =
-    rw (not-true (wrongWidth o r) (every-head (λ r. not (wrongWidth o r)) r rs e), whole-right o rs (every-tail (λ r. not (wrongWidth o r)) r rs e))
+    rw (not-true (wrongWidth o r) (all-head (λ r. not (wrongWidth o r)) r rs e), whole-right o rs (all-tail (λ r. not (wrongWidth o r)) r rs e))

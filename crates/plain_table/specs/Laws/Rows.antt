@@ -11,9 +11,9 @@ use native.Mathlib.Omega.{arith}
 use lib.Dec.{leb, eqb}
 use lib.ListN.{length, take, getD, length-append}
 use borrow.Author.Tests.{ltb-false, leb-true, le-leb, eq-eqb, not-true}
-use Rattle.lists.specs.Lists.{keep, every}
-use Rattle.lists.specs.Laws.Keep.{split, and-left, and-right, every-getD, every-of}
-use Rattle.lists.specs.Laws.Every.{and-both, or-right, or-second, every-head, every-tail, every-cons, every-snoc, every-weaker}
+use Rattle.lists.specs.Lists.{filter, all}
+use Rattle.lists.specs.Laws.Filter.{split, and-left, and-right, all-getD, all-of}
+use Rattle.lists.specs.Laws.All.{and-both, or-right, or-second, all-head, all-tail, all-cons, all-snoc, all-weaker}
 use Rattle.lists.specs.Laws.Rising.{same-refl, same-eq}
 use Rattle.cells.specs.Cells.{isDead}
 use Rattle.plain_table.specs.Staged.{Opening, hasKey}
@@ -45,27 +45,27 @@ abbrev pub freeRow : ℕ → List ℕ → Row → Bool
 freeRow keys key row = not (liveWithKey keys key row)
 
 -- no two live rows have the same key
-unfoldable pub apart : ℕ → List Row → Bool
-apart keys [] = true
-apart keys (row ∷ rows) = (not (row .live) || every (freeRow keys (take keys (row .cells))) rows) && apart keys rows
+unfoldable pub keysDistinct : ℕ → List Row → Bool
+keysDistinct keys [] = true
+keysDistinct keys (row ∷ rows) = (not (row .live) || all (freeRow keys (take keys (row .cells))) rows) && keysDistinct keys rows
 
 -- sort cells never fall, and the first is not below x
-unfoldable pub upFrom : ℕ → ℕ → List Row → Bool
-upFrom sort x [] = true
-upFrom sort x (row ∷ rows) = leb x (sortOf sort row) && upFrom sort (sortOf sort row) rows
+unfoldable pub sortedFrom : ℕ → ℕ → List Row → Bool
+sortedFrom sort x [] = true
+sortedFrom sort x (row ∷ rows) = leb x (sortOf sort row) && sortedFrom sort (sortOf sort row) rows
 
 -- there is a largest value, and the row's sort cell does not exceed it
 abbrev pub keptRow : ℕ → Option ℕ → Row → Bool
 keptRow sort largest row = atMost (sortOf sort row) largest
 
 -- what `Proper` requires of the rows and of the largest value
-pub record Tidy (o : Opening) (largest : Option ℕ) (rows : List Row) : Type 0 where
+pub record ProperRows (o : Opening) (largest : Option ℕ) (rows : List Row) : Type 0 where
   pub fit : length rows ≤ o .capacity
-  pub wide : every (wideRow (o .columns)) rows ≡ true
-  pub first : every firstFits rows ≡ true
-  pub differ : apart (o .keys) rows ≡ true
-  pub climb : upFrom (o .sort) 0 rows ≡ true
-  pub kept : every (keptRow (o .sort) largest) rows ≡ true
+  pub wide : all (wideRow (o .columns)) rows ≡ true
+  pub first : all firstFits rows ≡ true
+  pub differ : keysDistinct (o .keys) rows ≡ true
+  pub climb : sortedFrom (o .sort) 0 rows ≡ true
+  pub kept : all (keptRow (o .sort) largest) rows ≡ true
 
 -- ---- a key and its rows
 
@@ -89,24 +89,24 @@ pub free-dead : (keys : ℕ) (key : List ℕ) (row : Row) → freeRow keys key (
 unfolding liveWithKey
 free-dead keys key row = refl
 
--- ---- `apart` by positions
+-- ---- `keysDistinct` by positions
 
 -- adds a row in front whose key no other live row has
-pub apart-cons : (keys : ℕ) (row : Row) (rows : List Row) → (row .live ≡ true → every (freeRow keys (take keys (row .cells))) rows ≡ true) → apart keys rows ≡ true
-    → apart keys (row ∷ rows) ≡ true
-unfolding apart
-apart-cons keys row rows f e =
+pub keysDistinct-cons : (keys : ℕ) (row : Row) (rows : List Row) → (row .live ≡ true → all (freeRow keys (take keys (row .cells))) rows ≡ true) → keysDistinct keys rows ≡ true
+    → keysDistinct keys (row ∷ rows) ≡ true
+unfolding keysDistinct
+keysDistinct-cons keys row rows f e =
     elim (split (row .live)) [ inl q ↦ rw (f q, e) (and-both _ _ (or-right (not (row .live)) true refl) refl) | inr q ↦ rw (q, e) ]
 
 -- no other live row has the key of the first
-pub apart-head : (keys : ℕ) (row : Row) (rows : List Row) → apart keys (row ∷ rows) ≡ true → row .live ≡ true → every (freeRow keys (take keys (row .cells))) rows ≡ true
-unfolding apart
-apart-head keys row rows e q = or-second (not (row .live)) _ (and-left _ _ e) (rw q)
+pub keysDistinct-head : (keys : ℕ) (row : Row) (rows : List Row) → keysDistinct keys (row ∷ rows) ≡ true → row .live ≡ true → all (freeRow keys (take keys (row .cells))) rows ≡ true
+unfolding keysDistinct
+keysDistinct-head keys row rows e q = or-second (not (row .live)) _ (and-left _ _ e) (rw q)
 
 -- the remaining rows are apart
-pub apart-tail : (keys : ℕ) (row : Row) (rows : List Row) → apart keys (row ∷ rows) ≡ true → apart keys rows ≡ true
-unfolding apart
-apart-tail keys row rows e = and-right (not (row .live) || every (freeRow keys (take keys (row .cells))) rows) _ e
+pub keysDistinct-tail : (keys : ℕ) (row : Row) (rows : List Row) → keysDistinct keys (row ∷ rows) ≡ true → keysDistinct keys rows ≡ true
+unfolding keysDistinct
+keysDistinct-tail keys row rows e = and-right (not (row .live) || all (freeRow keys (take keys (row .cells))) rows) _ e
 
 -- live rows at different positions have different keys
 abbrev pub KeysDiffer : ℕ → List Row → Type 0
@@ -114,12 +114,12 @@ KeysDiffer keys rows = (i j : ℕ) → getD rows i noRow .live ≡ true → getD
     → take keys (getD rows i noRow .cells) ≡ take keys (getD rows j noRow .cells) → i ≡ j
 
 -- if keys differ at all positions, the rows are apart
-pub apart-of : (keys : ℕ) (rows : List Row) → KeysDiffer keys rows → apart keys rows ≡ true
-apart-of keys [] f = unfold apart in refl
-apart-of keys (row ∷ rows) f =
-    apart-cons keys row rows
-    (λ q. every-of (freeRow keys (take keys (row .cells))) noRow rows (λ i h. other q i))
-    (apart-of keys rows (λ i j p q e. let s : suc i ≡ suc j = f (suc i) (suc j) p q e in omega arith))
+pub keysDistinct-of : (keys : ℕ) (rows : List Row) → KeysDiffer keys rows → keysDistinct keys rows ≡ true
+keysDistinct-of keys [] f = unfold keysDistinct in refl
+keysDistinct-of keys (row ∷ rows) f =
+    keysDistinct-cons keys row rows
+    (λ q. all-of (freeRow keys (take keys (row .cells))) noRow rows (λ i h. other q i))
+    (keysDistinct-of keys rows (λ i j p q e. let s : suc i ≡ suc j = f (suc i) (suc j) p q e in omega arith))
   where
     other : row .live ≡ true → (i : ℕ) → freeRow keys (take keys (row .cells)) (getD rows i noRow) ≡ true
     other q i =
@@ -141,72 +141,72 @@ live-below (row ∷ rows) zero e = omega arith
 live-below (row ∷ rows) (suc i) e = suc-le-suc (live-below rows i e)
 
 -- if the rows are apart, keys differ at all positions
-pub apart-at : (keys : ℕ) (rows : List Row) → apart keys rows ≡ true → KeysDiffer keys rows
-apart-at keys [] a i j p q e = absurd (false≢true p)
-apart-at keys (row ∷ rows) a zero zero p q e = refl
-apart-at keys (row ∷ rows) a zero (suc j) p q e =
-    absurd (free-differs keys (take keys (row .cells)) (getD rows j noRow) (every-getD _ rows (apart-head keys row rows a p) j (live-below rows j q) noRow) q e)
-apart-at keys (row ∷ rows) a (suc i) zero p q e =
-    absurd (free-differs keys (take keys (row .cells)) (getD rows i noRow) (every-getD _ rows (apart-head keys row rows a q) i (live-below rows i p) noRow) p (sym e))
-apart-at keys (row ∷ rows) a (suc i) (suc j) p q e = ap suc (apart-at keys rows (apart-tail keys row rows a) i j p q e)
+pub keysDistinct-at : (keys : ℕ) (rows : List Row) → keysDistinct keys rows ≡ true → KeysDiffer keys rows
+keysDistinct-at keys [] a i j p q e = absurd (false≢true p)
+keysDistinct-at keys (row ∷ rows) a zero zero p q e = refl
+keysDistinct-at keys (row ∷ rows) a zero (suc j) p q e =
+    absurd (free-differs keys (take keys (row .cells)) (getD rows j noRow) (all-getD _ rows (keysDistinct-head keys row rows a p) j (live-below rows j q) noRow) q e)
+keysDistinct-at keys (row ∷ rows) a (suc i) zero p q e =
+    absurd (free-differs keys (take keys (row .cells)) (getD rows i noRow) (all-getD _ rows (keysDistinct-head keys row rows a q) i (live-below rows i p) noRow) p (sym e))
+keysDistinct-at keys (row ∷ rows) a (suc i) (suc j) p q e = ap suc (keysDistinct-at keys rows (keysDistinct-tail keys row rows a) i j p q e)
 
--- ---- `upFrom` by positions
+-- ---- `sortedFrom` by positions
 
 module _ (sort : ℕ) where
   -- adds a row in front whose sort cell is not below x and not above the others
-  pub up-cons : (x : ℕ) (row : Row) (rows : List Row) → x ≤ sortOf sort row → upFrom sort (sortOf sort row) rows ≡ true → upFrom sort x (row ∷ rows) ≡ true
-  unfolding upFrom
-  up-cons x row rows h e = rw (le-leb x (sortOf sort row) h, e)
+  pub sortedFrom-cons : (x : ℕ) (row : Row) (rows : List Row) → x ≤ sortOf sort row → sortedFrom sort (sortOf sort row) rows ≡ true → sortedFrom sort x (row ∷ rows) ≡ true
+  unfolding sortedFrom
+  sortedFrom-cons x row rows h e = rw (le-leb x (sortOf sort row) h, e)
 
   -- the first sort cell is not below x
-  pub up-head : (x : ℕ) (row : Row) (rows : List Row) → upFrom sort x (row ∷ rows) ≡ true → x ≤ sortOf sort row
-  unfolding upFrom
-  up-head x row rows e = leb-true x (sortOf sort row) (and-left _ _ e)
+  pub sortedFrom-head : (x : ℕ) (row : Row) (rows : List Row) → sortedFrom sort x (row ∷ rows) ≡ true → x ≤ sortOf sort row
+  unfolding sortedFrom
+  sortedFrom-head x row rows e = leb-true x (sortOf sort row) (and-left _ _ e)
 
   -- the remaining sort cells are not below the first
-  pub up-tail : (x : ℕ) (row : Row) (rows : List Row) → upFrom sort x (row ∷ rows) ≡ true → upFrom sort (sortOf sort row) rows ≡ true
-  unfolding upFrom
-  up-tail x row rows e = and-right (leb x (sortOf sort row)) _ e
+  pub sortedFrom-tail : (x : ℕ) (row : Row) (rows : List Row) → sortedFrom sort x (row ∷ rows) ≡ true → sortedFrom sort (sortOf sort row) rows ≡ true
+  unfolding sortedFrom
+  sortedFrom-tail x row rows e = and-right (leb x (sortOf sort row)) _ e
 
   -- a smaller start holds too
-  pub up-weaker : (x y : ℕ) (rows : List Row) → x ≤ y → upFrom sort y rows ≡ true → upFrom sort x rows ≡ true
-  up-weaker x y [] h e = unfold upFrom in refl
-  up-weaker x y (row ∷ rows) h e = up-cons x row rows (omega (arith, up-head y row rows e)) (up-tail y row rows e)
+  pub sortedFrom-weaker : (x y : ℕ) (rows : List Row) → x ≤ y → sortedFrom sort y rows ≡ true → sortedFrom sort x rows ≡ true
+  sortedFrom-weaker x y [] h e = unfold sortedFrom in refl
+  sortedFrom-weaker x y (row ∷ rows) h e = sortedFrom-cons x row rows (omega (arith, sortedFrom-head y row rows e)) (sortedFrom-tail y row rows e)
 
   -- the remaining sort cells are not below x
-  pub up-rest : (x : ℕ) (row : Row) (rows : List Row) → upFrom sort x (row ∷ rows) ≡ true → upFrom sort x rows ≡ true
-  up-rest x row rows e = up-weaker x (sortOf sort row) rows (up-head x row rows e) (up-tail x row rows e)
+  pub sortedFrom-rest : (x : ℕ) (row : Row) (rows : List Row) → sortedFrom sort x (row ∷ rows) ≡ true → sortedFrom sort x rows ≡ true
+  sortedFrom-rest x row rows e = sortedFrom-weaker x (sortOf sort row) rows (sortedFrom-head x row rows e) (sortedFrom-tail x row rows e)
 
   -- no sort cell is below the start
-  pub up-at : (x : ℕ) (rows : List Row) → upFrom sort x rows ≡ true → (j : ℕ) → j < length rows → x ≤ sortOf sort (getD rows j noRow)
-  up-at x [] e j h = absurd (omega arith)
-  up-at x (row ∷ rows) e zero h = up-head x row rows e
-  up-at x (row ∷ rows) e (suc j) h = up-at x rows (up-rest x row rows e) j (omega arith)
+  pub sortedFrom-at : (x : ℕ) (rows : List Row) → sortedFrom sort x rows ≡ true → (j : ℕ) → j < length rows → x ≤ sortOf sort (getD rows j noRow)
+  sortedFrom-at x [] e j h = absurd (omega arith)
+  sortedFrom-at x (row ∷ rows) e zero h = sortedFrom-head x row rows e
+  sortedFrom-at x (row ∷ rows) e (suc j) h = sortedFrom-at x rows (sortedFrom-rest x row rows e) j (omega arith)
 
   -- no later row has a smaller sort cell
-  pub up-sorted : (x : ℕ) (rows : List Row) → upFrom sort x rows ≡ true → (i j : ℕ) → i ≤ j → j < length rows
+  pub sortedFrom-sorted : (x : ℕ) (rows : List Row) → sortedFrom sort x rows ≡ true → (i j : ℕ) → i ≤ j → j < length rows
       → sortOf sort (getD rows i noRow) ≤ sortOf sort (getD rows j noRow)
-  up-sorted x [] e i j h k = absurd (omega arith)
-  up-sorted x (row ∷ rows) e zero zero h k = omega arith
-  up-sorted x (row ∷ rows) e zero (suc j) h k = up-at (sortOf sort row) rows (up-tail x row rows e) j (omega arith)
-  up-sorted x (row ∷ rows) e (suc i) zero h k = absurd (omega arith)
-  up-sorted x (row ∷ rows) e (suc i) (suc j) h k = up-sorted (sortOf sort row) rows (up-tail x row rows e) i j (omega arith) (omega arith)
+  sortedFrom-sorted x [] e i j h k = absurd (omega arith)
+  sortedFrom-sorted x (row ∷ rows) e zero zero h k = omega arith
+  sortedFrom-sorted x (row ∷ rows) e zero (suc j) h k = sortedFrom-at (sortOf sort row) rows (sortedFrom-tail x row rows e) j (omega arith)
+  sortedFrom-sorted x (row ∷ rows) e (suc i) zero h k = absurd (omega arith)
+  sortedFrom-sorted x (row ∷ rows) e (suc i) (suc j) h k = sortedFrom-sorted (sortOf sort row) rows (sortedFrom-tail x row rows e) i j (omega arith) (omega arith)
 
   -- conversely: sort cells that never fall, none below the start
-  pub up-of : (x : ℕ) (rows : List Row) → ((j : ℕ) → j < length rows → x ≤ sortOf sort (getD rows j noRow))
-      → ((i j : ℕ) → i ≤ j → j < length rows → sortOf sort (getD rows i noRow) ≤ sortOf sort (getD rows j noRow)) → upFrom sort x rows ≡ true
-  up-of x [] f g = unfold upFrom in refl
-  up-of x (row ∷ rows) f g =
-      up-cons x row rows (f 0 (omega arith))
-      (up-of (sortOf sort row) rows (λ j h. g 0 (suc j) (omega arith) (suc-le-suc h)) (λ i j h k. g (suc i) (suc j) (suc-le-suc h) (suc-le-suc k)))
+  pub sortedFrom-of : (x : ℕ) (rows : List Row) → ((j : ℕ) → j < length rows → x ≤ sortOf sort (getD rows j noRow))
+      → ((i j : ℕ) → i ≤ j → j < length rows → sortOf sort (getD rows i noRow) ≤ sortOf sort (getD rows j noRow)) → sortedFrom sort x rows ≡ true
+  sortedFrom-of x [] f g = unfold sortedFrom in refl
+  sortedFrom-of x (row ∷ rows) f g =
+      sortedFrom-cons x row rows (f 0 (omega arith))
+      (sortedFrom-of (sortOf sort row) rows (λ j h. g 0 (suc j) (omega arith) (suc-le-suc h)) (λ i j h k. g (suc i) (suc j) (suc-le-suc h) (suc-le-suc k)))
 
   -- appends a row whose sort cell is not below any other
-  pub up-snoc : (x : ℕ) (rows : List Row) (row : Row) → upFrom sort x rows ≡ true → x ≤ sortOf sort row
-      → every (λ r. leb (sortOf sort r) (sortOf sort row)) rows ≡ true → upFrom sort x (rows ++ (row ∷ [])) ≡ true
-  up-snoc x [] row e h f = up-cons x row [] h (unfold upFrom in refl)
-  up-snoc x (r ∷ rows) row e h f =
-      up-cons x r (rows ++ (row ∷ [])) (up-head x r rows e)
-      (up-snoc (sortOf sort r) rows row (up-tail x r rows e) (leb-true _ _ (every-head (λ s. leb (sortOf sort s) (sortOf sort row)) r rows f)) (every-tail _ r rows f))
+  pub sortedFrom-snoc : (x : ℕ) (rows : List Row) (row : Row) → sortedFrom sort x rows ≡ true → x ≤ sortOf sort row
+      → all (λ r. leb (sortOf sort r) (sortOf sort row)) rows ≡ true → sortedFrom sort x (rows ++ (row ∷ [])) ≡ true
+  sortedFrom-snoc x [] row e h f = sortedFrom-cons x row [] h (unfold sortedFrom in refl)
+  sortedFrom-snoc x (r ∷ rows) row e h f =
+      sortedFrom-cons x r (rows ++ (row ∷ [])) (sortedFrom-head x r rows e)
+      (sortedFrom-snoc (sortOf sort r) rows row (sortedFrom-tail x r rows e) (leb-true _ _ (all-head (λ s. leb (sortOf sort s) (sortOf sort row)) r rows f)) (all-tail _ r rows f))
 
 -- ---- the largest value
 
@@ -266,11 +266,11 @@ dies-thinned keys key zero (row ∷ rows) =
 dies-thinned keys key (suc number) (row ∷ rows) = same-row row (dies-thinned keys key number rows)
 
 -- rows that fail a test are dropped
-pub keep-thinned : (test : Row → Bool) (rows : List Row) → Thinned rows (keep test rows)
-unfolding keep
-keep-thinned test [] = empty
-keep-thinned test (row ∷ rows) =
-    let h = keep-thinned test rows in
+pub filter-thinned : (test : Row → Bool) (rows : List Row) → Thinned rows (filter test rows)
+unfolding filter
+filter-thinned test [] = empty
+filter-thinned test (row ∷ rows) =
+    let h = filter-thinned test rows in
     elim (split (test row)) [ inl e ↦ rw e (same-row row h) | inr e ↦ rw e (gone row h) ]
 
 -- the row count does not rise
@@ -281,80 +281,80 @@ thinned-length (died row t) = let h = thinned-length t in omega arith
 thinned-length (gone row t) = let h = thinned-length t in omega arith
 
 -- preserves a test that holds of a dead row whenever it holds of the live one
-pub thinned-every : (test : Row → Bool) → ((row : Row) → test row ≡ true → test (deadRow row) ≡ true) → {a b : List Row} → Thinned a b → every test a ≡ true → every test b ≡ true
-thinned-every test f empty e = e
-thinned-every test f (same-row row t) e = every-cons test row _ (every-head test row _ e) (thinned-every test f t (every-tail test row _ e))
-thinned-every test f (died row t) e = every-cons test (deadRow row) _ (f row (every-head test row _ e)) (thinned-every test f t (every-tail test row _ e))
-thinned-every test f (gone row t) e = thinned-every test f t (every-tail test row _ e)
+pub thinned-all : (test : Row → Bool) → ((row : Row) → test row ≡ true → test (deadRow row) ≡ true) → {a b : List Row} → Thinned a b → all test a ≡ true → all test b ≡ true
+thinned-all test f empty e = e
+thinned-all test f (same-row row t) e = all-cons test row _ (all-head test row _ e) (thinned-all test f t (all-tail test row _ e))
+thinned-all test f (died row t) e = all-cons test (deadRow row) _ (f row (all-head test row _ e)) (thinned-all test f t (all-tail test row _ e))
+thinned-all test f (gone row t) e = thinned-all test f t (all-tail test row _ e)
 
 -- if no live row has the key before, none has it afterwards
-pub thinned-free : (keys : ℕ) (key : List ℕ) {a b : List Row} → Thinned a b → every (freeRow keys key) a ≡ true → every (freeRow keys key) b ≡ true
-thinned-free keys key t e = thinned-every (freeRow keys key) (λ row q. free-dead keys key row) t e
+pub thinned-free : (keys : ℕ) (key : List ℕ) {a b : List Row} → Thinned a b → all (freeRow keys key) a ≡ true → all (freeRow keys key) b ≡ true
+thinned-free keys key t e = thinned-all (freeRow keys key) (λ row q. free-dead keys key row) t e
 
 -- keys of live rows still differ
-pub thinned-apart : (keys : ℕ) {a b : List Row} → Thinned a b → apart keys a ≡ true → apart keys b ≡ true
-thinned-apart keys empty e = e
-thinned-apart keys (same-row row t) e =
-    apart-cons keys row _ (λ q. thinned-free keys _ t (apart-head keys row _ e q)) (thinned-apart keys t (apart-tail keys row _ e))
-thinned-apart keys (died row t) e = apart-cons keys (deadRow row) _ (λ q. absurd (false≢true q)) (thinned-apart keys t (apart-tail keys row _ e))
-thinned-apart keys (gone row t) e = thinned-apart keys t (apart-tail keys row _ e)
+pub thinned-keysDistinct : (keys : ℕ) {a b : List Row} → Thinned a b → keysDistinct keys a ≡ true → keysDistinct keys b ≡ true
+thinned-keysDistinct keys empty e = e
+thinned-keysDistinct keys (same-row row t) e =
+    keysDistinct-cons keys row _ (λ q. thinned-free keys _ t (keysDistinct-head keys row _ e q)) (thinned-keysDistinct keys t (keysDistinct-tail keys row _ e))
+thinned-keysDistinct keys (died row t) e = keysDistinct-cons keys (deadRow row) _ (λ q. absurd (false≢true q)) (thinned-keysDistinct keys t (keysDistinct-tail keys row _ e))
+thinned-keysDistinct keys (gone row t) e = thinned-keysDistinct keys t (keysDistinct-tail keys row _ e)
 
 -- sort cells still never fall
-pub thinned-up : (sort x : ℕ) {a b : List Row} → Thinned a b → upFrom sort x a ≡ true → upFrom sort x b ≡ true
-thinned-up sort x empty e = e
-thinned-up sort x (same-row row t) e = up-cons sort x row _ (up-head sort x row _ e) (thinned-up sort (sortOf sort row) t (up-tail sort x row _ e))
-thinned-up sort x (died row t) e = up-cons sort x (deadRow row) _ (up-head sort x row _ e) (thinned-up sort (sortOf sort row) t (up-tail sort x row _ e))
-thinned-up sort x (gone row t) e = thinned-up sort x t (up-rest sort x row _ e)
+pub thinned-sortedFrom : (sort x : ℕ) {a b : List Row} → Thinned a b → sortedFrom sort x a ≡ true → sortedFrom sort x b ≡ true
+thinned-sortedFrom sort x empty e = e
+thinned-sortedFrom sort x (same-row row t) e = sortedFrom-cons sort x row _ (sortedFrom-head sort x row _ e) (thinned-sortedFrom sort (sortOf sort row) t (sortedFrom-tail sort x row _ e))
+thinned-sortedFrom sort x (died row t) e = sortedFrom-cons sort x (deadRow row) _ (sortedFrom-head sort x row _ e) (thinned-sortedFrom sort (sortOf sort row) t (sortedFrom-tail sort x row _ e))
+thinned-sortedFrom sort x (gone row t) e = thinned-sortedFrom sort x t (sortedFrom-rest sort x row _ e)
 
 -- tidy rows remain tidy
-pub thinned-tidy : (o : Opening) {largest : Option ℕ} {a b : List Row} → Thinned a b → Tidy o largest a → Tidy o largest b
-thinned-tidy o {largest} t g =
+pub thinned-proper-rows : (o : Opening) {largest : Option ℕ} {a b : List Row} → Thinned a b → ProperRows o largest a → ProperRows o largest b
+thinned-proper-rows o {largest} t g =
     record {
       fit = omega (arith, thinned-length t);
-      wide = thinned-every (wideRow (o .columns)) (λ row q. q) t (g .wide);
-      first = thinned-every firstFits (λ row q. refl) t (g .first);
-      differ = thinned-apart (o .keys) t (g .differ);
-      climb = thinned-up (o .sort) 0 t (g .climb);
-      kept = thinned-every (keptRow (o .sort) largest) (λ row q. q) t (g .kept);
+      wide = thinned-all (wideRow (o .columns)) (λ row q. q) t (g .wide);
+      first = thinned-all firstFits (λ row q. refl) t (g .first);
+      differ = thinned-keysDistinct (o .keys) t (g .differ);
+      climb = thinned-sortedFrom (o .sort) 0 t (g .climb);
+      kept = thinned-all (keptRow (o .sort) largest) (λ row q. q) t (g .kept);
     }
 
 -- ---- a row is appended
 
 -- appends a row whose key no live row has
-pub apart-snoc : (keys : ℕ) (rows : List Row) (row : Row) → apart keys rows ≡ true → every (freeRow keys (take keys (row .cells))) rows ≡ true
-    → apart keys (rows ++ (row ∷ [])) ≡ true
-apart-snoc keys [] row e f = apart-cons keys row [] (λ q. unfold every in refl) e
-apart-snoc keys (r ∷ rows) row e f =
-    apart-cons keys r (rows ++ (row ∷ []))
-    (λ q. every-snoc (freeRow keys (take keys (r .cells))) rows row (apart-head keys r rows e q) (other q))
-    (apart-snoc keys rows row (apart-tail keys r rows e) (every-tail (freeRow keys (take keys (row .cells))) r rows f))
+pub keysDistinct-snoc : (keys : ℕ) (rows : List Row) (row : Row) → keysDistinct keys rows ≡ true → all (freeRow keys (take keys (row .cells))) rows ≡ true
+    → keysDistinct keys (rows ++ (row ∷ [])) ≡ true
+keysDistinct-snoc keys [] row e f = keysDistinct-cons keys row [] (λ q. unfold all in refl) e
+keysDistinct-snoc keys (r ∷ rows) row e f =
+    keysDistinct-cons keys r (rows ++ (row ∷ []))
+    (λ q. all-snoc (freeRow keys (take keys (r .cells))) rows row (keysDistinct-head keys r rows e q) (other q))
+    (keysDistinct-snoc keys rows row (keysDistinct-tail keys r rows e) (all-tail (freeRow keys (take keys (row .cells))) r rows f))
   where
     other : r .live ≡ true → freeRow keys (take keys (r .cells)) row ≡ true
     other q =
         elim (split (liveWithKey keys (take keys (r .cells)) row)) [
-          | inl k ↦ absurd (free-differs keys (take keys (row .cells)) r (every-head (freeRow keys (take keys (row .cells))) r rows f) q (liveWithKey-key keys _ row k))
+          | inl k ↦ absurd (free-differs keys (take keys (row .cells)) r (all-head (freeRow keys (take keys (row .cells))) r rows f) q (liveWithKey-key keys _ row k))
           | inr k ↦ rw k
         ]
 
 -- appends a live row that fits to tidy rows
-pub tidy-snoc : (o : Opening) (largest : Option ℕ) (rows : List Row) (cells : List ℕ) → Tidy o largest rows
+pub proper-rows-snoc : (o : Opening) (largest : Option ℕ) (rows : List Row) (cells : List ℕ) → ProperRows o largest rows
     → length rows < o .capacity
     → length cells ≡ o .columns
     → isDead (getD cells 0 0) ≡ false
-    → every (freeRow (o .keys) (take (o .keys) cells)) rows ≡ true
+    → all (freeRow (o .keys) (take (o .keys) cells)) rows ≡ true
     → below (getD cells (o .sort) 0) largest ≡ false
-    → Tidy o (some (raised (getD cells (o .sort) 0) largest)) (rows ++ (liveRow cells ∷ []))
-tidy-snoc o largest rows cells g room width head free above =
+    → ProperRows o (some (raised (getD cells (o .sort) 0) largest)) (rows ++ (liveRow cells ∷ []))
+proper-rows-snoc o largest rows cells g room width head free above =
     let value : ℕ = getD cells (o .sort) 0 in
     let sort : ℕ = o .sort in
     record {
       fit = simp length-append (omega arith);
-      wide = every-snoc (wideRow (o .columns)) rows (liveRow cells) (g .wide) (eq-eqb _ _ width);
-      first = every-snoc firstFits rows (liveRow cells) (g .first) (rw head);
-      differ = apart-snoc (o .keys) rows (liveRow cells) (g .differ) free;
-      climb = up-snoc sort 0 rows (liveRow cells) (g .climb) (omega arith) (every-weaker (keptRow sort largest) (λ r. leb (sortOf sort r) value) (λ r. atMost-above value (sortOf sort r) largest above) rows (g .kept));
+      wide = all-snoc (wideRow (o .columns)) rows (liveRow cells) (g .wide) (eq-eqb _ _ width);
+      first = all-snoc firstFits rows (liveRow cells) (g .first) (rw head);
+      differ = keysDistinct-snoc (o .keys) rows (liveRow cells) (g .differ) free;
+      climb = sortedFrom-snoc sort 0 rows (liveRow cells) (g .climb) (omega arith) (all-weaker (keptRow sort largest) (λ r. leb (sortOf sort r) value) (λ r. atMost-above value (sortOf sort r) largest above) rows (g .kept));
       kept =
-          every-snoc (keptRow sort (some (raised value largest))) rows (liveRow cells)
-          (every-weaker (keptRow sort largest) (keptRow sort (some (raised value largest))) (λ r. atMost-raised value (sortOf sort r) largest) rows (g .kept))
+          all-snoc (keptRow sort (some (raised value largest))) rows (liveRow cells)
+          (all-weaker (keptRow sort largest) (keptRow sort (some (raised value largest))) (λ r. atMost-raised value (sortOf sort r) largest) rows (g .kept))
           (raised-atMost value largest);
     }

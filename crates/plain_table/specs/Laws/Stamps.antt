@@ -13,12 +13,12 @@ use lib.Dec.{leb, ltb, eqb}
 use lib.ListN.{length, take, getD, length-append, List·getD-append}
 use lib.Seq.{getD-at}
 use borrow.Author.Tests.{leb-true, le-leb, ltb-false, le-ltb}
-use Rattle.lists.specs.Lists.{every}
-use Rattle.lists.specs.Laws.Keep.{split, every-getD}
-use Rattle.lists.specs.Laws.Every.{every-head, every-tail, every-cons}
+use Rattle.lists.specs.Lists.{all}
+use Rattle.lists.specs.Laws.Filter.{split, all-getD}
+use Rattle.lists.specs.Laws.All.{all-head, all-tail, all-cons}
 use Rattle.refusals.specs.Refusals.{Reply, refused, accepted}
 use Rattle.plain_table.specs.Staged.{Opening, inserts}
-use Rattle.plain_table.specs.Plain.{Row, Plain, opened, stage, liveWithKey, killIf, removed, below, raised, insertion, goOn, insertAll, applied, compacted, unstaged, compactsAfter, merged, cleared}
+use Rattle.plain_table.specs.Plain.{Row, Plain, opened, stage, liveWithKey, killIf, removed, below, raised, insertion, continueInserts, insertAll, applied, compacted, unstaged, compactsAfter, merged, cleared}
 use Rattle.plain_table.specs.Calls.{Call, staging, merging, compacting, clearing, refreshing, feeding, recordsOf, stageAll, refusal, done, after, LentCall, afterAll}
 use Rattle.plain_table.specs.Proper.{rowOf}
 use Rattle.plain_table.specs.Appending.{appendsOn, insertsAppend, mergeAppends, stampsOf, stampsDone, stampsAfter, stampsSince, greatest}
@@ -39,20 +39,20 @@ above-both v x none a = (ltb-false v x a, refl)
 above-both v x (some m) a = (omega (arith, ltb-false v _ a, le-max-left x m), le-ltb v m (omega (arith, ltb-false v _ a, le-max-right x m)))
 
 -- a value that is not below the largest of a list is not below any of its values
-greatest-above : (v : ℕ) (vs : List ℕ) → below v (greatest vs) ≡ false → every (λ x. leb x v) vs ≡ true
+greatest-above : (v : ℕ) (vs : List ℕ) → below v (greatest vs) ≡ false → all (λ x. leb x v) vs ≡ true
 unfolding greatest
-greatest-above v [] e = unfold every in refl
+greatest-above v [] e = unfold all in refl
 greatest-above v (x ∷ vs) e =
     let h = above-both v x (greatest vs) e in
-    every-cons (λ y. leb y v) x vs (le-leb x v (h .0)) (greatest-above v vs (h .1))
+    all-cons (λ y. leb y v) x vs (le-leb x v (h .0)) (greatest-above v vs (h .1))
 
 -- appended to the list, such a value is the largest
-greatest-snoc : (v : ℕ) (vs : List ℕ) → every (λ x. leb x v) vs ≡ true → greatest (vs ++ (v ∷ [])) ≡ some v
+greatest-snoc : (v : ℕ) (vs : List ℕ) → all (λ x. leb x v) vs ≡ true → greatest (vs ++ (v ∷ [])) ≡ some v
 unfolding greatest raised
 greatest-snoc v [] e = refl
 greatest-snoc v (x ∷ vs) e =
-    ap (λ (g : Option ℕ). some (raised x g)) (greatest-snoc v vs (every-tail (λ y. leb y v) x vs e))
-    ∙ ap some (max-eq-right (leb-true x v (every-head (λ y. leb y v) x vs e)))
+    ap (λ (g : Option ℕ). some (raised x g)) (greatest-snoc v vs (all-tail (λ y. leb y v) x vs e))
+    ∙ ap some (max-eq-right (leb-true x v (all-head (λ y. leb y v) x vs e)))
 
 -- ---- one more value
 
@@ -61,7 +61,7 @@ stamped-snoc : {p : Plain} {stamps : List ℕ} (p′ : Plain) (v : ℕ) → Stam
 stamped-snoc {p} {stamps} p′ v s above e =
     record { largest-kept = e ∙ ap some (raised-same v (p .largest) above) ∙ sym (greatest-snoc v stamps least); never-fall = climb }
   where
-    least : every (λ x. leb x v) stamps ≡ true
+    least : all (λ x. leb x v) stamps ≡ true
     least = greatest-above v stamps (ap (below v) (sym (s .largest-kept)) ∙ above)
 
     climb : (i j : ℕ) → i ≤ j → j < length (stamps ++ (v ∷ [])) → getD (stamps ++ (v ∷ [])) i 0 ≤ getD (stamps ++ (v ∷ [])) j 0
@@ -75,7 +75,7 @@ stamped-snoc {p} {stamps} p′ v s above e =
               elim (decLt i (length stamps)) [
                 | yes a ↦
                     let x = List·getD-append stamps (v ∷ []) 0 i a in
-                    let y : getD stamps i 0 ≤ v = leb-true _ _ (every-getD (λ x. leb x v) stamps least i a 0) in
+                    let y : getD stamps i 0 ≤ v = leb-true _ _ (all-getD (λ x. leb x v) stamps least i a 0) in
                     omega arith
                 | no a ↦ let w : i ≡ j = omega arith in rw w (omega arith)
               ]
@@ -114,7 +114,7 @@ stamped-inserts (cells ∷ rest) place added p stamps s = go (insertion cells p)
   where
     go : (i : Reply (Option Plain)) → insertion cells p ≡ i
         → ((added′ : Bool) (q : Plain) (vs : List ℕ) → Stamped q vs → Stamped (insertAll rest (suc place) added′ q .table) (vs ++ stampsOf q (insertsAppend rest q)))
-        → Stamped (goOn i place added p (insertAll rest (suc place)) .table) (stamps ++ stampsOf p (appendsOn i p (insertsAppend rest)))
+        → Stamped (continueInserts i place added p (insertAll rest (suc place)) .table) (stamps ++ stampsOf p (appendsOn i p (insertsAppend rest)))
     go (accepted none) e ih = ih added p stamps s
     go (accepted (some p′)) e ih =
         let v : ℕ = getD (rowOf p′ (length (p .rows)) .cells) (p .opening .sort) 0 in

@@ -6,13 +6,13 @@ use mathlib.Core.Bool.{Bool, true, false, _&&_, Bool·beq}
 use mathlib.Core.List.{List, [], _∷_, _++_, map}
 use lib.ListN.{length}
 use lib.Dec.{eqb}
-use Rattle.lists.specs.Lists.{every, same, count, keep, countFrom, firstOf}
-use Rattle.refusals.specs.Refusals.{first, reply}
+use Rattle.lists.specs.Lists.{all, same, count, filter, iota, find}
+use Rattle.refusals.specs.Refusals.{firstRefusal, reply}
 use Rattle.cells.specs.Cells.{isDead}
 use Rattle.merge_rules.specs.Rules.{ruledColumn, signed, smaller, larger, taken, madeCell, madeFrom, changesFrom, ruled}
-use Rattle.plain_table.specs.Staged.{Opening, openable, insert, removeKey, removeRow, wordsOf, wordsAll, inserts, hasKey, skipped, due}
-use Rattle.plain_table.specs.Refusing.{storesShort, wordsShort, wrongWidth, noSuchRow, overfull, stageLadder, mergeLadder, clearLadder}
-use Rattle.plain_table.specs.Plain.{Plain, Numbered, liveFrom, liveRows, lookup, live, dead, opened, stage, liveWithKey, killIf, withoutKey, dies, withoutRow, removed as removals, below, stop, raised, append, put, insertion, Inserted, insertAll, applied, compacted, unstaged, compactsAfter, merged, mergeKeeps, mergeDrops, cleared}
+use Rattle.plain_table.specs.Staged.{Opening, openable, insert, removeKey, removeRow, wordsOf, wordsAll, inserts, hasKey, skipped, compactionDue}
+use Rattle.plain_table.specs.Refusing.{storesShort, wordsShort, wrongWidth, noSuchRow, overfull, stageChecks, mergeChecks, clearChecks}
+use Rattle.plain_table.specs.Plain.{Plain, Numbered, liveFrom, liveRows, lookup, live, dead, opened, stage, liveWithKey, killIf, withoutKey, dies, withoutRow, removed as removals, below, stop, raised, append, upsert, insertion, Inserted, insertAll, applied, compacted, unstaged, compactsAfter, merged, mergeKeeps, mergeDrops, cleared}
 use Rattle.plain_table.specs.Calls.{Call, staging, merging, clearing, LentCall, refusal, done, after, afterAll}
 
 pub record Turn : Type 0 where
@@ -48,7 +48,7 @@ remove key = staging (removeKey (key ∷ []))
 -- Keys 1 to 17, all with stamp 12, are merged and then staged for removal. The next merge removes them, and a compaction is due.
 abbrev removed : List Call
 removed =
-    map (λ key. write key 5 12) (countFrom 1 17) ++ (merging ∷ map remove (countFrom 1 17))
+    map (λ key. write key 5 12) (iota 1 17) ++ (merging ∷ map remove (iota 1 17))
 
 abbrev dropped : List Call
 dropped = removed ++ (merging ∷ [])
@@ -138,24 +138,24 @@ lent call =
     record { call = call; lengths = record { rows = 60; keys = 40; sorts = 40; pending = 100; liveWords = 1; baseWords = 1 } }
 
 -- the table before the last merge, and the result of that merge
-abbrev beforehand : Turn → Plain
-beforehand t = afterAll (opened (t .opening) 0) (map lent (t .before))
+abbrev tableBefore : Turn → Plain
+tableBefore t = afterAll (opened (t .opening) 0) (map lent (t .before))
 
-abbrev outcome : Turn → Inserted
-outcome t = merged (beforehand t)
+abbrev mergeResult : Turn → Inserted
+mergeResult t = merged (tableBefore t)
 
-unfoldable pub comesOut : Turn → Bool
+unfoldable pub isAsExpected : Turn → Bool
 unfolding sameRows
-comesOut t =
-    eqb (outcome t .status) (t .status)
-    && eqb (outcome t .place) (t .place)
-    && Bool·beq (outcome t .added) (t .added)
-    && eqb (mergeKeeps (beforehand t)) (t .keeps)
-    && eqb (mergeDrops (beforehand t)) (t .drops)
-    && eqb (dead (outcome t .table)) (t .dead-after)
-    && eqb (length (outcome t .table .staged)) 0
-    && sameRows (liveRows (outcome t .table)) (t .live-after)
+isAsExpected t =
+    eqb (mergeResult t .status) (t .status)
+    && eqb (mergeResult t .place) (t .place)
+    && Bool·beq (mergeResult t .added) (t .added)
+    && eqb (mergeKeeps (tableBefore t)) (t .keeps)
+    && eqb (mergeDrops (tableBefore t)) (t .drops)
+    && eqb (dead (mergeResult t .table)) (t .dead-after)
+    && eqb (length (mergeResult t .table .staged)) 0
+    && sameRows (liveRows (mergeResult t .table)) (t .live-after)
 
-pub all-come-out : every comesOut turns ≡ true
-unfolding every same count keep countFrom firstOf first reply isDead ruledColumn signed smaller larger taken madeCell madeFrom changesFrom ruled openable wordsOf wordsAll inserts hasKey skipped due storesShort wordsShort wrongWidth noSuchRow overfull stageLadder mergeLadder clearLadder liveFrom liveRows lookup live dead opened stage liveWithKey killIf withoutKey dies withoutRow removals below stop raised append put insertion insertAll applied compacted unstaged compactsAfter merged mergeKeeps mergeDrops cleared refusal done after afterAll turns sameRows comesOut
-all-come-out = refl
+pub all-as-expected : all isAsExpected turns ≡ true
+unfolding all same count filter iota find firstRefusal reply isDead ruledColumn signed smaller larger taken madeCell madeFrom changesFrom ruled openable wordsOf wordsAll inserts hasKey skipped compactionDue storesShort wordsShort wrongWidth noSuchRow overfull stageChecks mergeChecks clearChecks liveFrom liveRows lookup live dead opened stage liveWithKey killIf withoutKey dies withoutRow removals below stop raised append upsert insertion insertAll applied compacted unstaged compactsAfter merged mergeKeeps mergeDrops cleared refusal done after afterAll turns sameRows isAsExpected
+all-as-expected = refl

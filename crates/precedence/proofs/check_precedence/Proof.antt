@@ -5,7 +5,7 @@ use Prim.Native.Nat.{_-_, _≤_}
 use mathlib.Core.Path.{_≡_, refl, sym, _∙_}
 use lib.ListN.{length}
 use Rattle.precedence.specs.inner.Checking.{OnTable}
-use Rattle.precedence.proofs.Ladder.{Accepted, passed-accepted, check-refused, check-met, check-fails}
+use Rattle.precedence.proofs.Checks.{Accepted, passed-accepted, check-refused, check-met, check-fails}
 use Rattle.precedence.proofs.Steps.{fromRow, rows-begin, row-fails, row-meets, rows-end}
 use Rattle.precedence.proofs.check_precedence.Statement.{statement}
 use Rattle.precedence.proofs.check_precedence.Tie as tie

@@ -5,7 +5,7 @@ use mathlib.Core.Path.{_≡_, refl, sym, _∙_}
 use lib.ListN.{length}
 use borrow.Author.Tests.{not-true, not-false}
 use Rattle.precedence.specs.inner.Checking.{OnTable}
-use Rattle.precedence.proofs.Steps.{RowLies, row-lies, fromPair, pair-fails, pair-met, pairs-end, dead-row, place-fails, place-meets}
+use Rattle.precedence.proofs.Steps.{RowInStore, row-in-store, fromPair, pair-fails, pair-met, pairs-end, dead-row, place-fails, place-meets}
 use Rattle.precedence.proofs.failing_pair.Statement.{statement}
 use Rattle.precedence.proofs.failing_pair.Tie as tie
 
@@ -16,8 +16,8 @@ Inv-loop h rows keys column pairs row count from place₀ place =
 abbrev μ-loop : tie.MeasureT-loop
 μ-loop h rows keys column pairs row count from place₀ place = length pairs / 2 - place
 
-lies : (s : tie.Start Inv-loop μ-loop) → RowLies (s .args .h) (s .args .rows .now) (s .args .row)
-lies s = row-lies _ _ _ (s .pre .0) _ (s .pre .2)
+lies : (s : tie.Start Inv-loop μ-loop) → RowInStore (s .args .h) (s .args .rows .now) (s .args .row)
+lies s = row-in-store _ _ _ (s .pre .0) _ (s .pre .2)
 
 mul-from : tie.Need-mul-from Inv-loop μ-loop
 mul-from c = omega (arith, lies (c .before .before .before .before))

@@ -1,16 +1,16 @@
 -- `precedence::is_filed_by` meets its contract. Assumes nothing.
 use borrow.Author.Needs.{needs}
 use native.Mathlib.Omega.{arith}
-use Rattle.precedence.proofs.Steps.{RowLies, asks, found-lies, found-none, found-at}
+use Rattle.precedence.proofs.Steps.{RowInStore, lookup-pre, found-in-store, found-none, found-at}
 use Rattle.precedence.proofs.is_filed_by.Statement.{statement}
 use Rattle.precedence.proofs.is_filed_by.Tie as tie
 
 -- the row that was found
-lies : (c : tie.After-struct-known) → let a = c .before .before .before .before .before .before .before .before .before .before .args in RowLies (a .h) (a .rows .now) (c .before .before .found .given .0 .0)
-lies c = found-lies _ _ _ _ _ _ _ (c .before .before .before .before .before .before .keyed .ensures) (c .before .before .before .before .look-up .ensures) (c .before .before .before .before .before .before .before .before .before .before .pre .0) _ _ (c .before .before .found .given .1)
+lies : (c : tie.After-struct-known) → let a = c .before .before .before .before .before .before .before .before .before .before .args in RowInStore (a .h) (a .rows .now) (c .before .before .found .given .0 .0)
+lies c = found-in-store _ _ _ _ _ _ _ (c .before .before .before .before .before .before .index-shape .ensures) (c .before .before .before .before .look-up .ensures) (c .before .before .before .before .before .before .before .before .before .before .pre .0) _ _ (c .before .before .found .given .1)
 
 look-up-requires : tie.Need-look-up-requires
-look-up-requires c κs = let s = c .before .before .before .before .before in asks _ _ _ (s .args .key .now) _ (c .before .keyed .ensures) (s .pre .0) (s .pre .1)
+look-up-requires c κs = let s = c .before .before .before .before .before in lookup-pre _ _ _ (s .args .key .now) _ (c .before .index-shape .ensures) (s .pre .0) (s .pre .1)
 
 mul-at : tie.Need-mul-at
 mul-at c = omega (arith, lies c)
@@ -28,10 +28,10 @@ shared-slice-read-result : tie.Need-shared-slice-read-result
 shared-slice-read-result c = omega (arith, lies (c .before .before))
 
 returns : tie.Need-returns
-returns c = found-none _ _ _ _ _ _ _ (c .before .before .before .before .keyed .ensures) (c .before .before .look-up .ensures) (c .before .before .before .compact-hash .ensures) _ (c .enum-told .given .1)
+returns c = found-none _ _ _ _ _ _ _ (c .before .before .before .before .index-shape .ensures) (c .before .before .look-up .ensures) (c .before .before .before .compact-hash .ensures) _ (c .enum-told .given .1)
 
 returns-2 : tie.Need-returns-2
-returns-2 c = let s = c .before .before .before .before .before .before .before .before .before .before .before .before in found-at _ _ _ _ _ _ _ (c .before .before .before .before .before .before .before .before .keyed .ensures) (c .before .before .before .before .before .before .look-up .ensures) (c .before .before .before .before .before .before .before .compact-hash .ensures) _ (s .pre .0) _ _ (c .before .before .before .before .found .given .1)
+returns-2 c = let s = c .before .before .before .before .before .before .before .before .before .before .before .before in found-at _ _ _ _ _ _ _ (c .before .before .before .before .before .before .before .before .index-shape .ensures) (c .before .before .before .before .before .before .look-up .ensures) (c .before .before .before .before .before .before .before .compact-hash .ensures) _ (s .pre .0) _ _ (c .before .before .before .before .found .given .1)
 
 pub is-filed-by-spec : {M : Type 1} → statement M
 is-filed-by-spec =

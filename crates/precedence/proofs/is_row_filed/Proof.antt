@@ -2,12 +2,12 @@
 use borrow.Author.Needs.{needs}
 use native.Mathlib.Omega.{arith}
 use mathlib.Core.Path.{refl}
-use Rattle.precedence.proofs.Steps.{RowLies, row-lies, key-fits, key-made, filed-row}
+use Rattle.precedence.proofs.Steps.{RowInStore, row-in-store, key-fits, key-made, filed-row}
 use Rattle.precedence.proofs.is_row_filed.Statement.{statement}
 use Rattle.precedence.proofs.is_row_filed.Tie as tie
 
-lies : (s : tie.Start) → RowLies (s .args .h) (s .args .rows .now) (s .args .row)
-lies s = row-lies _ _ _ (s .pre .0) _ (s .pre .2)
+lies : (s : tie.Start) → RowInStore (s .args .h) (s .args .rows .now) (s .args .row)
+lies s = row-in-store _ _ _ (s .pre .0) _ (s .pre .2)
 
 mul-from : tie.Need-mul-from
 mul-from c = omega (arith, lies (c .before .before .before))

@@ -2,12 +2,12 @@
 use borrow.Author.Needs.{needs}
 use native.Mathlib.Omega.{arith}
 use mathlib.Core.Path.{_∙_}
-use Rattle.precedence.proofs.Steps.{RowLies, row-lies, not-named, named}
+use Rattle.precedence.proofs.Steps.{RowInStore, row-in-store, not-named, named}
 use Rattle.precedence.proofs.meets_pair.Statement.{statement}
 use Rattle.precedence.proofs.meets_pair.Tie as tie
 
-lies : (s : tie.Start) → RowLies (s .args .h) (s .args .rows .now) (s .args .row)
-lies s = row-lies _ _ _ (s .pre .0) _ (s .pre .2)
+lies : (s : tie.Start) → RowInStore (s .args .h) (s .args .rows .now) (s .args .row)
+lies s = row-in-store _ _ _ (s .pre .0) _ (s .pre .2)
 
 mul-at : tie.Need-mul-at
 mul-at c = omega (arith, lies (c .before .before .before))

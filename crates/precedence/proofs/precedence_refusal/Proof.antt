@@ -1,12 +1,12 @@
 -- `precedence::precedence_refusal` meets its contract. Assumes nothing.
 use borrow.Author.Needs.{needs}
 use mathlib.Core.Path.{sym, _∙_}
-use Rattle.precedence.proofs.Ladder.{lookup-turned, no-key-column, odd-words, no-pairs, many-pairs, none-turned}
+use Rattle.precedence.proofs.Checks.{lookup-refused, no-key-column, odd-words, no-pairs, many-pairs, none-refused}
 use Rattle.precedence.proofs.precedence_refusal.Statement.{statement}
 use Rattle.precedence.proofs.precedence_refusal.Tie as tie
 
 returns : tie.Need-returns
-returns c = let e = c .before .lookup-refusal .ensures in e ∙ lookup-turned _ _ _ _ _ (λ z. c .if1 .taken (e ∙ z))
+returns c = let e = c .before .lookup-refusal .ensures in e ∙ lookup-refused _ _ _ _ _ (λ z. c .if1 .taken (e ∙ z))
 
 returns-2 : tie.Need-returns-2
 returns-2 c = no-key-column _ _ _ _ _ (sym (c .before .before .before .lookup-refusal .ensures) ∙ c .before .before .if1 .left) (c .if2 .taken)
@@ -21,7 +21,7 @@ returns-5 : tie.Need-returns-5
 returns-5 c = many-pairs _ _ _ _ _ (sym (c .before .before .before .before .before .before .lookup-refusal .ensures) ∙ c .before .before .before .before .before .if1 .left) (c .before .before .before .if2 .left) (c .before .before .if3 .left) (c .before .if4 .left) (c .if5 .taken)
 
 returns-6 : tie.Need-returns-6
-returns-6 c = none-turned _ _ _ _ _ (sym (c .before .before .before .before .before .before .lookup-refusal .ensures) ∙ c .before .before .before .before .before .if1 .left) (c .before .before .before .if2 .left) (c .before .before .if3 .left) (c .before .if4 .left) (c .if5 .left)
+returns-6 c = none-refused _ _ _ _ _ (sym (c .before .before .before .before .before .before .lookup-refusal .ensures) ∙ c .before .before .before .before .before .if1 .left) (c .before .before .before .if2 .left) (c .before .before .if3 .left) (c .before .if4 .left) (c .if5 .left)
 
 pub precedence-refusal-spec : {M : Type 1} → statement M
 precedence-refusal-spec =

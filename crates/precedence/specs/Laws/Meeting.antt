@@ -11,8 +11,8 @@ use lib.Dec.{eqb}
 use lib.ListN.{length, getD}
 use borrow.Author.Tests.{eqb-true, leb-true, eq-eqb, le-leb}
 use Rattle.lists.specs.Lists.{any, same}
-use Rattle.lists.specs.Laws.Keep.{split, and-left, and-right}
-use Rattle.lists.specs.Laws.Every.{or-right, or-second}
+use Rattle.lists.specs.Laws.Filter.{split, and-left, and-right}
+use Rattle.lists.specs.Laws.All.{or-right, or-second}
 use Rattle.lists.specs.Laws.Rising.{same-refl, same-eq}
 use Rattle.refusals.specs.Refusals.{accepted}
 use Rattle.plain_table.specs.Staged.{Opening}
@@ -21,11 +21,11 @@ use Rattle.plain_table.specs.Proper.{rowOf, sortCell}
 use Rattle.plain_table.specs.Laws.Rows.{noRow}
 use Rattle.table.specs.declared.Header.{Header}
 use Rattle.table.specs.Numbers.{openingOf}
-use Rattle.table.specs.Promises.{stores, Represents, ofRows}
+use Rattle.table.specs.Contracts.{stores, Represents, ofRows}
 use Rattle.table.specs.Laws.Sound.{represents-sound}
 use Rattle.table.specs.Laws.Live.{live-shown}
 use Rattle.precedence.specs.declared.PrecedenceAnswer.{PrecedenceAnswer}
-use Rattle.precedence.specs.Precedence.{Pair, pairsOf, otherKeyCells, precedes, meetsPair, firstFailing, failingPair, Failure, failureAmong, precedenceFailure, precedenceRefusal, precedenceSays, PrecedenceChecked}
+use Rattle.precedence.specs.Precedence.{Pair, pairsOf, otherKeyCells, precedes, meetsPair, firstFailing, failingPair, Failure, failureAmong, precedenceFailure, precedenceRefusal, precedenceView, PrecedenceChecked}
 use Rattle.precedence.specs.Laws.Scan.{any-live, live-any, fails-here, fails-later, failure-here, failure-later, failure-dead}
 
 -- a pair past the end
@@ -221,7 +221,7 @@ module _ {p : Plain} {h : Header} {rows keys sorts pending : List ℕ} (r : Repr
   rows-live = live-shown r
 
   pub checked-plain : {column : ℕ} {pairs : List ℕ} {answer : PrecedenceAnswer} → PrecedenceChecked h rows keys column pairs answer
-      → precedenceRefusal h (length rows) (length keys) column (length pairs) ≡ 0 → precedenceSays answer ≡ accepted (precedenceFailure p column (pairsOf pairs))
+      → precedenceRefusal h (length rows) (length keys) column (length pairs) ≡ 0 → precedenceView answer ≡ accepted (precedenceFailure p column (pairsOf pairs))
   checked-plain {column} {pairs} m passed =
-      m .table passed (r .keyed) (represents-sound r .contents .keys-differ)
+      m .table passed (r .keys-sound) (represents-sound r .contents .keys-differ)
       ∙ ap accepted (failure-same (ofRows h rows) p column (pairsOf pairs) (ap (λ (x : Header). openingOf x) (r .shown .header)) rows-live)

@@ -11,8 +11,8 @@ use lib.Dec.{eqb}
 use lib.ListN.{length, take, drop, getD, set, length-take}
 use lib.Seq.{getD-take}
 use Rattle.lists.specs.Lists.{any, same}
-use Rattle.lists.specs.Laws.Keep.{split}
-use Rattle.lists.specs.Laws.Every.{or-right}
+use Rattle.lists.specs.Laws.Filter.{split}
+use Rattle.lists.specs.Laws.All.{or-right}
 use Rattle.plain_table.specs.Staged.{hasKey}
 use Rattle.plain_table.specs.Plain.{Row, Plain, liveFrom}
 use Rattle.plain_table.specs.Laws.Rows.{noRow}

@@ -15,13 +15,13 @@ use Rattle.plain_table.specs.Staged.{hasKey}
 use Rattle.plain_table.specs.Plain.{liveRows}
 use Rattle.table.specs.declared.Header.{Header}
 use Rattle.table.specs.Numbers.{openingOf}
-use Rattle.table.specs.Sound.{keyedOf, KeysDiffer}
-use Rattle.table.specs.Promises.{ofRows}
+use Rattle.table.specs.Sound.{indexShapeOf, KeysDiffer}
+use Rattle.table.specs.Contracts.{ofRows}
 use Rattle.precedence.specs.Precedence.{Pair, pairsOf, precedes, meetsPair, failingPair}
 
 -- header and stores have passed the tests
 pub record Tested (h : Header) (rows keys : List ℕ) : Type 0 where
-  pub fits : Fits (keyedOf h) rows keys
+  pub fits : Fits (indexShapeOf h) rows keys
   pub sort-there : h .sort < h .columns
 
 -- a live row has this key, and its sort cell is at most `latest`
@@ -36,7 +36,7 @@ rowFiled h rows column row value =
 
 -- a statement that holds if the key store is sound and live keys differ
 abbrev pub OnTable : Header → List ℕ → List ℕ → Type 0 → Type 0
-OnTable h rows keys So = KeysSound (keyedOf h) rows keys → KeysDiffer h rows → So
+OnTable h rows keys So = KeysSound (indexShapeOf h) rows keys → KeysDiffer h rows → So
 
 -- a row meets a pair of these values
 unfoldable pub rowMeets : Header → List ℕ → ℕ → ℕ → Pair → Bool

@@ -1,5 +1,5 @@
 -- `query::read_page` meets its contract: a manual proof over its MIR. The list of conditions is passed on whole; out is lent to
--- `ask` and returned, and is given up to `close_page`. Assumes nothing.
+-- `scan` and returned, and is given up to `close_page`. Assumes nothing.
 use Rattle.query_loop.proofs.Prelude.{refl, _∙_, ℕ, _<_, _^_, List, [], _∷_, length, URA, named, w32, w64, Val, vint, SProp, ent, emp, id⊢, via, fst∗, Lft, Share, GName, ftrue, fsep, flft, Memory, Routine, Heap, Tables, WpFn, Atoms, Fun}
 use Rattle.query_loop.proofs.Prelude.{givenOf, tables, tablesOf, Given, ‵, raw, ⋆, _$_, _∵_, !, qed, move, keep, drop, group, use1, split, join, fsplit, fjoin, feqL, suffices, frame, done, agg, whole, sub, look-in, look, init, forget, stop, hop, fld}
 use Rattle.query_loop.proofs.Prelude.{from, load, addr, lit, and-then, no-more, assigns, land, returns, enter, alloc1, alloc0, params1, pass1, pass0, free1, free0, fmOf, u32, usize, Is, shows, now, sliceVal, Room, peeks, nothing, Clauses, onEntry, cited, says, ends-at}
@@ -7,23 +7,23 @@ use denote.Enum.Laws as EL
 use Rattle.constraints.proofs.Constraint as CT
 use Rattle.query_spec.proofs.PageAnswer as AT
 use Rattle.query_spec.proofs.PageAnswer.Laws as AT′
-use Rattle.query_scan.specs.declared.Sweep.{Sweep}
-use Rattle.query_scan.specs.declared.Question.the-variants.{Page}
-use Rattle.query_scan.specs.inner.Sweeping.{PageClosed}
+use Rattle.query_scan.specs.declared.Scan.{Scan}
+use Rattle.query_scan.specs.declared.QueryKind.the-variants.{Page}
+use Rattle.query_scan.specs.inner.Scanning.{PageClosed}
 use Rattle.query_scan.proofs.PageSteps.{can-page, page-answered}
-use Rattle.query_scan.proofs.Sweep as ST
-use Rattle.query_scan.proofs.Question as QT
-use Rattle.query_scan.proofs.Question.Laws as QT′
-use Rattle.query_loop.proofs.Lent.{Lent, OwnConditions, OwnIds, OwnOut, Owns, Ranged, Rooms, fits, head-val, header-val, headers, heads, lent-of, lifetimes, numbers, out-at, owns-off, owns-on, question-val, questions, shares, slice-val, subset, sweep-val, sweeps, tokens-off}
-use Rattle.query_loop.proofs.Walking.{AllPassed, Asked, Cites, Tokens, Walked, arg, by-value, calls, given-slice, lent-slice, own, stays, twice, typed, walk-runs}
-use Rattle.query_loop.proofs.ask.Symbol as ask-def
-use Rattle.query_loop.proofs.ask.Symbol.{name as #query-loop·ask}
-use Rattle.query_loop.proofs.ask.Met as ask-thm
+use Rattle.query_scan.proofs.Scan as ST
+use Rattle.query_scan.proofs.QueryKind as QT
+use Rattle.query_scan.proofs.QueryKind.Laws as QT′
+use Rattle.query_loop.proofs.Lent.{Lent, OwnConditions, OwnIds, OwnOut, Owns, Ranged, Rooms, fits, head-val, header-val, headers, heads, lent-of, lifetimes, numbers, out-at, owns-off, owns-on, query-val, query-kinds, shares, slice-val, subset, scan-val, scans, tokens-off}
+use Rattle.query_loop.proofs.Walking.{AllPassed, Callee, Cites, Tokens, Walked, arg, by-value, calls, given-slice, lent-slice, own, stays, twice, typed, walk-runs}
+use Rattle.query_loop.proofs.scan.Symbol as scan-def
+use Rattle.query_loop.proofs.scan.Symbol.{name as #query-loop·scan}
+use Rattle.query_loop.proofs.scan.Met as scan-thm
 use Rattle.query_scan.proofs.close_page as cls
 use Rattle.query_scan.proofs.close_page.Symbol as cls-def
 use Rattle.query_scan.proofs.close_page.Symbol.{name as #query-scan·close-page}
 use Rattle.query_scan.proofs.close_page.Met as cls-thm
-use Rattle.query.proofs.AskSteps.{CitesAsk, Swept, asked}
+use Rattle.query.proofs.ScanCall.{CitesScan, ScanResult, calls-scan-lent}
 use Rattle.query.proofs.read_page.Key.{name as #query·read-page}
 use Rattle.query.proofs.read_page as f
 use Rattle.query.proofs.read_page.Statement as stated
@@ -46,40 +46,40 @@ module _ {M : Type 1} (𝓤 : URA M) (H : Heap 𝓤) (A : Atoms 𝓤) (W : Given
   abbrev y : Walked f.ended params 𝓤 H A clauses .Ghost
   y = ((lifetimes p (κ, tt), shares p (q, tt), tt, (p .header, (p .rows, (p .head, (p .ids, (start, (n, (p .conditions, (out-at b o γ os, tt)))))))), (header-val (p .header) ∷ [], (slice-val (p .rows) ∷ [], (head-val (p .head) ∷ [], (slice-val (p .ids) ∷ [], (vint w32 start ∷ [], (vint w64 n ∷ [], (slice-val (p .conditions) ∷ [], (sz ∷ [], tt))))))))), tt)
 
-  abbrev to-close : Sweep → List ℕ → Asked 𝓤 H A cls.ended closing .Ghost
-  to-close s ws = (((p .κ₁, (κ, tt)), (p .q₁, (q, tt)), tt, (p .head, (p .ids, (s, (out-at b o γ ws, tt)))), (head-val (p .head) ∷ [], (slice-val (p .ids) ∷ [], (sweep-val s ∷ [], (sz ∷ [], tt))))), tt)
+  abbrev to-close : Scan → List ℕ → Callee 𝓤 H A cls.ended closing .Ghost
+  to-close s ws = (((p .κ₁, (κ, tt)), (p .q₁, (q, tt)), tt, (p .head, (p .ids, (s, (out-at b o γ ws, tt)))), (head-val (p .head) ∷ [], (slice-val (p .ids) ∷ [], (scan-val s ∷ [], (sz ∷ [], tt))))), tt)
 
   module _ (is : Ranged p) (rooms : Rooms p) (start-fits : start < 2 ^ 32) (n-fits : n < 2 ^ 64) (room : Room u32 (length os)) where
-    is-q : Is QT.the-row (Page start n) (question-val (Page start n) ∷ [])
+    is-q : Is QT.the-row (Page start n) (query-val (Page start n) ∷ [])
     is-q = EL.owes QT.the-type QT′.the-laws (Page start n) ((refl, start-fits), ((refl, n-fits), tt))
 
-    asks-close : (s : Sweep) (ws : List ℕ) → Is ST.the-row s (sweep-val s ∷ []) → Swept 𝓤 H A mem run p (Page start n) os s ws
-        → ent 𝓤 (⋆ 𝓤 H A (‵ (flft (p .κ₁) (p .q₁)) ∷ ‵ (OwnIds p) ∷ ‵ (flft κ q) ∷ ‵ (OwnOut κ (out-at b o γ ws) sz) ∷ [])) (Asked 𝓤 H A cls.ended closing .pre (to-close s ws))
-    asks-close s ws is-s e =
+    pre-close : (s : Scan) (ws : List ℕ) → Is ST.the-row s (scan-val s ∷ []) → ScanResult 𝓤 H A mem run p (Page start n) os s ws
+        → ent 𝓤 (⋆ 𝓤 H A (‵ (flft (p .κ₁) (p .q₁)) ∷ ‵ (OwnIds p) ∷ ‵ (flft κ q) ∷ ‵ (OwnOut κ (out-at b o γ ws) sz) ∷ [])) (Callee 𝓤 H A cls.ended closing .pre (to-close s ws))
+    pre-close s ws is-s e =
         qed W (‵ (flft (p .κ₁) (p .q₁)) ∷ ‵ (OwnIds p) ∷ ‵ (flft κ q) ∷ ‵ (OwnOut κ (out-at b o γ ws) sz) ∷ []) ∵ says ! (can-page (p .header) (now (p .rows)) (subset p) start n (now (p .conditions)) os s ws e) $
-        nothing ! $ move ! (4 ∷ 0 ∷ []) $ fjoin ! $ own ! sweeps s is-s $ fjoin ! $ move ! (2 ∷ 0 ∷ []) $ fjoin ! $ own ! heads (p .head) (is .1) $ fjoin ! $ nothing ! $ move ! (3 ∷ 0 ∷ []) $ join ! $ move ! (2 ∷ 0 ∷ []) $ join ! $ join ! $ done !
+        nothing ! $ move ! (4 ∷ 0 ∷ []) $ fjoin ! $ own ! scans s is-s $ fjoin ! $ move ! (2 ∷ 0 ∷ []) $ fjoin ! $ own ! heads (p .head) (is .1) $ fjoin ! $ nothing ! $ move ! (3 ∷ 0 ∷ []) $ join ! $ move ! (2 ∷ 0 ∷ []) $ join ! $ join ! $ done !
 
-    walk : (𝓣 : Tables 𝓤 H) → CitesAsk 𝓤 H A mem run (𝓣 .C) → Cites 𝓤 H A cls.ended closing (𝓣 .C) #query-scan·close-page
+    walk : (𝓣 : Tables 𝓤 H) → CitesScan 𝓤 H A mem run (𝓣 .C) → Cites 𝓤 H A cls.ended closing (𝓣 .C) #query-scan·close-page
         → ent 𝓤 (onEntry 𝓤 H A f.signature (y .0 .0) (y .0 .1) (y .0 .3) (y .0 .4)) (WpFn 𝓤 H (𝓣 .C) (𝓣 .Λ) code.function (Walked f.ended params 𝓤 H A clauses .args y) (Walked f.ended params 𝓤 H A clauses .post y))
-    walk 𝓣 known-ask known-close =
+    walk 𝓣 known-scan known-close =
         qed W (Tokens 𝓤 H A 4 (y .0 .0) (y .0 .1) ∷ ‵ (Owns p (fsep (u32 .own start (vint w32 start ∷ [])) (fsep (usize .own n (vint w64 n ∷ [])) (fsep (OwnConditions p) (fsep (OwnOut κ (out-at b o γ os) sz) ftrue))))) ∷ []) ∵
         tokens-off p ! $ move ! (1 ∷ []) $ split ! $ move ! (3 ∷ []) $ owns-off p ! $ move ! (2 ∷ []) $ fsplit ! $ drop ! $ fsplit ! $ drop ! $ fsplit ! $ move ! (3 ∷ 0 ∷ []) $ join ! $ move ! (2 ∷ 0 ∷ []) $ join ! $ move ! (1 ∷ []) $ fsplit ! $ keep ! (5 ∷ 2 ∷ 3 ∷ 0 ∷ []) $
         enter ! (𝓣 .C) (𝓣 .Λ) code.function (Walked f.ended params 𝓤 H A clauses .args y) _ $
         alloc1 ! (λ l₀. alloc1 ! (λ l₁. alloc1 ! (λ l₂. alloc1 ! (λ l₃. alloc1 ! (λ l₄. alloc1 ! (λ l₅. alloc1 ! (λ l₆. alloc1 ! (λ l₇. alloc1 ! (λ l₈. alloc1 ! (λ l₉. alloc1 ! (λ l₁₀. alloc1 ! (λ l₁₁. alloc1 ! (λ l₁₂. alloc1 ! (λ l₁₃. alloc1 ! (λ l₁₄. alloc0 ! $ params1 ! $
         pass1 ! (init ! 26 refl (typed W headers (p .header) (is .0) .0)) $ pass1 ! (init ! 24 refl (fits (rooms .0 .0))) $ pass1 ! (init ! 22 refl (typed W heads (p .head) (is .1) .0)) $ pass1 ! (init ! 20 refl (fits (rooms .1 .0 .0))) $ pass1 ! (init ! 18 refl (tt, record { fits = start-fits })) $ pass1 ! (init ! 16 refl (tt, record { fits = n-fits })) $ pass1 ! (init ! 14 refl (fits (rooms .1 .1 .0))) $ pass1 ! (init ! 12 refl (fits (room .0))) $ pass0 ! $
         -- [_14; …; the tokens; what is lent as `&`; κ's token; what out owns]
-        assigns ! (agg ! (and-then ! (lit ! tt) (arg ! 18 refl (arg ! 16 refl (no-more !))))) (from ! (stop !)) (init ! 8 refl (typed W questions (Page start n) is-q .0)) $
+        assigns ! (agg ! (and-then ! (lit ! tt) (arg ! 18 refl (arg ! 16 refl (no-more !))))) (from ! (stop !)) (init ! 8 refl (typed W query-kinds (Page start n) is-q .0)) $
         assigns ! (addr ! (from ! (fld ! refl (hop ! (look-in ! 12 (sub ! 0 refl (whole !))) (stop !))))) (from ! (stop !)) (init ! 6 refl (tt, tt)) $
         assigns ! (agg ! (arg ! 6 refl (and-then ! (load ! (from ! (fld ! refl (stop !))) (look-in ! 12 (sub ! 1 refl (whole !)))) (no-more !)))) (from ! (stop !)) (init ! 4 refl (fits (room .0))) $
         move ! (30 ∷ 31 ∷ 32 ∷ 33 ∷ []) $
-        asked 𝓤 H A mem run p (Page start n) W is-q is ! (fmOf 𝓤 H (W .laws) 𝓣) known-ask κ q γ b o os room (λ ν δ. arg ! 11 refl (arg ! 29 refl (arg ! 27 refl (arg ! 25 refl (arg ! 23 refl (arg ! 17 refl (arg ! 7 refl (no-more !)))))))) (λ s ws e l is-s.
+        calls-scan-lent 𝓤 H A mem run p (Page start n) W is-q is ! (fmOf 𝓤 H (W .laws) 𝓣) known-scan κ q γ b o os room (λ ν δ. arg ! 11 refl (arg ! 29 refl (arg ! 27 refl (arg ! 25 refl (arg ! 23 refl (arg ! 17 refl (arg ! 7 refl (no-more !)))))))) (λ s ws e l is-s.
         -- [the tokens; what is lent as `&`; κ's token; what out owns; _14; …]
-        land ! (from ! (stop !)) (init ! 14 refl (typed W sweeps s is-s .0)) $
+        land ! (from ! (stop !)) (init ! 14 refl (typed W scans s is-s .0)) $
         assigns ! (addr ! (from ! (fld ! refl (hop ! (look-in ! 16 (sub ! 0 refl (whole !))) (stop !))))) (from ! (stop !)) (init ! 6 refl (tt, tt)) $
         assigns ! (agg ! (arg ! 6 refl (and-then ! (load ! (from ! (fld ! refl (stop !))) (look-in ! 16 (sub ! 1 refl (whole !)))) (no-more !)))) (from ! (stop !)) (init ! 4 refl (fits (room .0))) $
         move ! (1 ∷ []) $ split ! $ move ! (1 ∷ []) $ split ! $ twice ! (named 1) (p .κ₁) u32 (p .ids) $ move ! (4 ∷ []) $ split ! $ move ! (1 ∷ []) $ split ! $
         -- [κ₁'s token, κ₂'s, κ₀'s; what ids owns, twice; what conditions and rows own; κ's token; what out owns; _14; …]
-        move ! (0 ∷ 3 ∷ 7 ∷ 8 ∷ []) $ group ! 4 $ use1 W (raw (Asked 𝓤 H A cls.ended closing .pre (to-close s ws))) (asks-close s ws is-s e) $
+        move ! (0 ∷ 3 ∷ 7 ∷ 8 ∷ []) $ group ! 4 $ use1 W (raw (Callee 𝓤 H A cls.ended closing .pre (to-close s ws))) (pre-close s ws is-s e) $
         calls cls.ended closing (to-close s ws) (λ t zs. PageClosed (subset p) s ws t (zs .1 .1 .1 .0)) (λ t zs. id⊢ 𝓤 _) ! (fmOf 𝓤 H (W .laws) 𝓣) known-close (arg ! 28 refl (arg ! 26 refl (arg ! 16 refl (arg ! 6 refl (no-more !))))) (λ w t zs e₂.
         move ! (2 ∷ []) $ fsplit ! $ drop ! $ fsplit ! $ drop ! $ fsplit ! $ drop ! $ fsplit ! $ fsplit ! $ move ! (1 ∷ []) $ feqL ! (λ l₂. move ! (3 ∷ []) $ peeks ! AT.the-row (Is AT.the-row) (shows 𝓤 H A AT.the-row) t (w ∷ []) (λ is-t.
         -- [the result; the last list; true; κ₁'s token and κ's; κ₂'s, κ₀'s; what ids, conditions and rows own; _14; …]
@@ -98,5 +98,5 @@ read-page-spec 𝓤 H 𝓜 𝓖 𝓡 =
     walk-runs f.ended params 𝓤 H 𝓜 𝓖 𝓡 (f.clauses 𝓤 H (𝓖 .A) (𝓜 .mem) (𝓡 .run)) code.env #query·read-page code.function (code.unfolded 𝓤 H 𝓜 𝓡) (λ κs qs bounds a g are. via 𝓤 _ (fst∗ 𝓤 _ (emp 𝓤))
     (walk 𝓤 H (𝓖 .A) (givenOf 𝓤 H 𝓜 𝓖) (𝓜 .mem) (𝓡 .run) (lent-of κs qs a (a .1 .1 .1 .1 .1 .1 .0)) (a .1 .1 .1 .1 .0) (a .1 .1 .1 .1 .1 .0) (κs .1 .1 .1 .0) (qs .1 .1 .1 .0) (a .1 .1 .1 .1 .1 .1 .1 .0 .ptr .0) (a .1 .1 .1 .1 .1 .1 .1 .0 .ptr .1) (a .1 .1 .1 .1 .1 .1 .1 .0 .name) (a .1 .1 .1 .1 .1 .1 .1 .0 .now)
     (are .0, are .1 .1 .0) (are .1 .0 .0 .1, (are .1 .1 .1 .0 .0 .1, are .1 .1 .1 .1 .1 .1 .0 .0 .1)) (are .1 .1 .1 .1 .0 .1) (are .1 .1 .1 .1 .1 .0 .1) (are .1 .1 .1 .1 .1 .1 .1 .0 .0 .1) (tablesOf 𝓤 H 𝓜 (tables 𝓤 H 𝓜 𝓡 code.env))
-    (cited 𝓤 H _ 𝓜 𝓡 code.env #query-loop·ask ask-def.routine code.calls-query-loop·ask (ask-thm.met 𝓤 H 𝓜 𝓖 𝓡))
+    (cited 𝓤 H _ 𝓜 𝓡 code.env #query-loop·scan scan-def.routine code.calls-query-loop·scan (scan-thm.met 𝓤 H 𝓜 𝓖 𝓡))
     (cited 𝓤 H _ 𝓜 𝓡 code.env #query-scan·close-page cls-def.routine code.calls-query-scan·close-page (cls-thm.met 𝓤 H 𝓜 𝓖 𝓡))))

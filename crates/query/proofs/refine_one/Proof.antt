@@ -5,27 +5,27 @@ use Rattle.query.proofs.refine_one.Statement.{statement}
 use Rattle.query.proofs.refine_one.Tie as tie
 
 returns : tie.Need-returns
-returns c = one-refused _ _ _ _ _ _ _ (c .before .before .before .before .ask-one .ensures) (c .if1 .taken)
+returns c = one-refused _ _ _ _ _ _ _ (c .before .before .before .before .scan-one .ensures) (c .if1 .taken)
 
-grown-requires : tie.Need-grown-requires
-grown-requires c κs e = (kept-all _ _ _ _ _ _ _ (c .before .before .before .before .before .ask-one .ensures) (c .before .if1 .left)) .as-range e .fits
+finish-retain-requires : tie.Need-finish-retain-requires
+finish-retain-requires c κs e = (kept-all _ _ _ _ _ _ _ (c .before .before .before .before .before .scan-one .ensures) (c .before .if1 .left)) .as-range e .fits
 
 returns-2 : tie.Need-returns-2
 returns-2 c =
-    one-answered _ _ _ _ _ _ _ (c .before .before .before .before .before .before .ask-one .ensures) _ _ (c .before .before .if1 .left)
-    (retained-range _ _ _ _ _ _ _ (c .before .if2 .taken) (kept-all _ _ _ _ _ _ _ (c .before .before .before .before .before .before .ask-one .ensures) (c .before .before .if1 .left)) (c .grown .ensures))
+    one-answered _ _ _ _ _ _ _ (c .before .before .before .before .before .before .scan-one .ensures) _ _ (c .before .before .if1 .left)
+    (retained-range _ _ _ _ _ _ _ (c .before .if2 .taken) (kept-all _ _ _ _ _ _ _ (c .before .before .before .before .before .before .scan-one .ensures) (c .before .before .if1 .left)) (c .finish-retain .ensures))
 
 write-found-requires : tie.Need-write-found-requires
-write-found-requires c κs = can-write _ _ _ _ _ _ _ (c .before .before .before .before .before .before .ask-one .ensures) (c .before .before .if1 .left)
+write-found-requires c κs = can-write _ _ _ _ _ _ _ (c .before .before .before .before .before .before .scan-one .ensures) (c .before .before .if1 .left)
 
 returns-3 : tie.Need-returns-3
 returns-3 c =
-    one-answered _ _ _ _ _ _ _ (c .before .before .before .before .before .before .before .before .before .ask-one .ensures) _ _ (c .before .before .before .before .before .if1 .left)
-    (retained-list _ _ _ _ _ _ (c .before .before .before .before .if2 .left) (c .before .before .write-found .ensures .writes _ _ (kept-all _ _ _ _ _ _ _ (c .before .before .before .before .before .before .before .before .before .ask-one .ensures) (c .before .before .before .before .before .if1 .left))))
+    one-answered _ _ _ _ _ _ _ (c .before .before .before .before .before .before .before .before .before .scan-one .ensures) _ _ (c .before .before .before .before .before .if1 .left)
+    (retained-list _ _ _ _ _ _ (c .before .before .before .before .if2 .left) (c .before .before .write-found .ensures .writes _ _ (kept-all _ _ _ _ _ _ _ (c .before .before .before .before .before .before .before .before .before .scan-one .ensures) (c .before .before .before .before .before .if1 .left))))
 
 pub refine-one-spec : {M : Type 1} → statement M
 refine-one-spec =
     tie.close
     (tie.spec
-    (λ c κs. search needs) (λ c. search needs) returns grown-requires (λ c. search needs) returns-2
+    (λ c κs. search needs) (λ c. search needs) returns finish-retain-requires (λ c. search needs) returns-2
     write-found-requires (λ c. search needs) returns-3)

@@ -1,5 +1,5 @@
 -- `query::refine_ref` meets its contract: a manual proof over its MIR. The list of conditions is passed on whole; out is lent to
--- `ask` and returned, and is given up to `close_refine`. Assumes nothing.
+-- `scan` and returned, and is given up to `close_refine`. Assumes nothing.
 use Rattle.query_loop.proofs.Prelude.{refl, _∙_, ℕ, List, [], _∷_, length, URA, Val, SProp, ent, emp, id⊢, via, fst∗, Lft, Share, GName, ftrue, fsep, flft, Memory, Routine, Heap, Tables, WpFn, Atoms, Fun, givenOf, tables, tablesOf}
 use Rattle.query_loop.proofs.Prelude.{Given, ‵, raw, ⋆, _$_, _∵_, !, qed, move, keep, drop, group, use1, split, join, fsplit, fjoin, feqL, suffices, frame, done, agg, whole, sub, look-in, look, init, forget, stop, hop, fld}
 use Rattle.query_loop.proofs.Prelude.{from, load, addr, lit, and-then, no-more, assigns, land, returns, enter, alloc1, alloc0, params1, pass1, pass0, free1, free0, fmOf, u32, Is, shows, now, sliceVal, Room, peeks, nothing, Clauses, onEntry, cited, says, ends-at}
@@ -7,23 +7,23 @@ use denote.Enum.Laws as EL
 use Rattle.constraints.proofs.Constraint as CT
 use Rattle.offsets.proofs.SubsetAnswer as AT
 use Rattle.offsets.proofs.SubsetAnswer.Laws as AT′
-use Rattle.query_scan.specs.declared.Sweep.{Sweep}
-use Rattle.query_scan.specs.declared.Question.the-variants.{Refine}
-use Rattle.query_scan.specs.inner.Sweeping.{RefineClosed}
+use Rattle.query_scan.specs.declared.Scan.{Scan}
+use Rattle.query_scan.specs.declared.QueryKind.the-variants.{Refine}
+use Rattle.query_scan.specs.inner.Scanning.{RefineClosed}
 use Rattle.query_scan.proofs.AnswerSteps.{can-close, list-answered}
-use Rattle.query_scan.proofs.Sweep as ST
-use Rattle.query_scan.proofs.Question as QT
-use Rattle.query_scan.proofs.Question.Laws as QT′
-use Rattle.query_loop.proofs.Lent.{Lent, OwnConditions, OwnOut, Owns, Ranged, Rooms, fits, head-val, header-val, headers, heads, lent-of, lifetimes, out-at, questions, shares, slice-val, slices-off, slices-on, sweep-val, sweeps, tokens-off, tokens-on}
-use Rattle.query_loop.proofs.Walking.{AllPassed, Asked, Cites, Tokens, Walked, arg, by-value, calls, given-slice, lent-slice, own, stays, typed, walk-runs}
-use Rattle.query_loop.proofs.ask.Symbol as ask-def
-use Rattle.query_loop.proofs.ask.Symbol.{name as #query-loop·ask}
-use Rattle.query_loop.proofs.ask.Met as ask-thm
+use Rattle.query_scan.proofs.Scan as ST
+use Rattle.query_scan.proofs.QueryKind as QT
+use Rattle.query_scan.proofs.QueryKind.Laws as QT′
+use Rattle.query_loop.proofs.Lent.{Lent, OwnConditions, OwnOut, Owns, Ranged, Rooms, fits, head-val, header-val, headers, heads, lent-of, lifetimes, out-at, query-kinds, shares, slice-val, slices-off, slices-on, scan-val, scans, tokens-off, tokens-on}
+use Rattle.query_loop.proofs.Walking.{AllPassed, Callee, Cites, Tokens, Walked, arg, by-value, calls, given-slice, lent-slice, own, stays, typed, walk-runs}
+use Rattle.query_loop.proofs.scan.Symbol as scan-def
+use Rattle.query_loop.proofs.scan.Symbol.{name as #query-loop·scan}
+use Rattle.query_loop.proofs.scan.Met as scan-thm
 use Rattle.query_scan.proofs.close_refine as cls
 use Rattle.query_scan.proofs.close_refine.Symbol as cls-def
 use Rattle.query_scan.proofs.close_refine.Symbol.{name as #query-scan·close-refine}
 use Rattle.query_scan.proofs.close_refine.Met as cls-thm
-use Rattle.query.proofs.AskSteps.{CitesAsk, Swept, asked}
+use Rattle.query.proofs.ScanCall.{CitesScan, ScanResult, calls-scan-lent}
 use Rattle.query.proofs.refine_ref.Key.{name as #query·refine-ref}
 use Rattle.query.proofs.refine_ref as f
 use Rattle.query.proofs.refine_ref.Statement as stated
@@ -49,35 +49,35 @@ module _ {M : Type 1} (𝓤 : URA M) (H : Heap 𝓤) (A : Atoms 𝓤) (W : Given
   abbrev y : Walked f.ended params 𝓤 H A clauses .Ghost
   y = ((lifetimes p (κ, tt), shares p (q, tt), tt, (p .header, (p .rows, (p .head, (p .ids, (p .conditions, (out-at b o γ os, tt)))))), (header-val (p .header) ∷ [], (slice-val (p .rows) ∷ [], (head-val (p .head) ∷ [], (slice-val (p .ids) ∷ [], (slice-val (p .conditions) ∷ [], (sz ∷ [], tt))))))), tt)
 
-  abbrev to-close : Sweep → List ℕ → Asked 𝓤 H A cls.ended closing .Ghost
-  to-close s ws = (((κ, tt), (q, tt), tt, (p .head, (s, (out-at b o γ ws, tt))), (head-val (p .head) ∷ [], (sweep-val s ∷ [], (sz ∷ [], tt)))), tt)
+  abbrev to-close : Scan → List ℕ → Callee 𝓤 H A cls.ended closing .Ghost
+  to-close s ws = (((κ, tt), (q, tt), tt, (p .head, (s, (out-at b o γ ws, tt))), (head-val (p .head) ∷ [], (scan-val s ∷ [], (sz ∷ [], tt)))), tt)
 
   module _ (is : Ranged p) (rooms : Rooms p) (room : Room u32 (length os)) where
-    asks-close : (s : Sweep) (ws : List ℕ) → Is ST.the-row s (sweep-val s ∷ []) → Swept 𝓤 H A mem run p Refine os s ws
-        → ent 𝓤 (⋆ 𝓤 H A (‵ (flft κ q) ∷ ‵ (OwnOut κ (out-at b o γ ws) sz) ∷ [])) (Asked 𝓤 H A cls.ended closing .pre (to-close s ws))
-    asks-close s ws is-s e =
+    pre-close : (s : Scan) (ws : List ℕ) → Is ST.the-row s (scan-val s ∷ []) → ScanResult 𝓤 H A mem run p Refine os s ws
+        → ent 𝓤 (⋆ 𝓤 H A (‵ (flft κ q) ∷ ‵ (OwnOut κ (out-at b o γ ws) sz) ∷ [])) (Callee 𝓤 H A cls.ended closing .pre (to-close s ws))
+    pre-close s ws is-s e =
         qed W (‵ (flft κ q) ∷ ‵ (OwnOut κ (out-at b o γ ws) sz) ∷ []) ∵ says ! (can-close (p .header) (now (p .rows)) (p .head) (now (p .ids)) (now (p .conditions)) os s ws e) $
-        nothing ! $ move ! (2 ∷ 0 ∷ []) $ fjoin ! $ own ! sweeps s is-s $ fjoin ! $ own ! heads (p .head) (is .1) $ fjoin ! $ nothing ! $ move ! (2 ∷ 0 ∷ []) $ join ! $ frame ! $ done !
+        nothing ! $ move ! (2 ∷ 0 ∷ []) $ fjoin ! $ own ! scans s is-s $ fjoin ! $ own ! heads (p .head) (is .1) $ fjoin ! $ nothing ! $ move ! (2 ∷ 0 ∷ []) $ join ! $ frame ! $ done !
 
-    walk : (𝓣 : Tables 𝓤 H) → CitesAsk 𝓤 H A mem run (𝓣 .C) → Cites 𝓤 H A cls.ended closing (𝓣 .C) #query-scan·close-refine
+    walk : (𝓣 : Tables 𝓤 H) → CitesScan 𝓤 H A mem run (𝓣 .C) → Cites 𝓤 H A cls.ended closing (𝓣 .C) #query-scan·close-refine
         → ent 𝓤 (onEntry 𝓤 H A f.signature (y .0 .0) (y .0 .1) (y .0 .3) (y .0 .4)) (WpFn 𝓤 H (𝓣 .C) (𝓣 .Λ) code.function (Walked f.ended params 𝓤 H A clauses .args y) (Walked f.ended params 𝓤 H A clauses .post y))
-    walk 𝓣 known-ask known-close =
+    walk 𝓣 known-scan known-close =
         qed W (Tokens 𝓤 H A 4 (y .0 .0) (y .0 .1) ∷ ‵ (Owns p (fsep (OwnConditions p) (fsep (OwnOut κ (out-at b o γ os) sz) ftrue))) ∷ []) ∵
         tokens-off p ! $ move ! (1 ∷ []) $ split ! $ move ! (3 ∷ []) $ slices-off p ! $ move ! (1 ∷ []) $ fsplit ! $ keep ! (5 ∷ 2 ∷ 3 ∷ 0 ∷ []) $
         enter ! (𝓣 .C) (𝓣 .Λ) code.function (Walked f.ended params 𝓤 H A clauses .args y) _ $
         alloc1 ! (λ l₀. alloc1 ! (λ l₁. alloc1 ! (λ l₂. alloc1 ! (λ l₃. alloc1 ! (λ l₄. alloc1 ! (λ l₅. alloc1 ! (λ l₆. alloc1 ! (λ l₇. alloc1 ! (λ l₈. alloc1 ! (λ l₉. alloc1 ! (λ l₁₀. alloc1 ! (λ l₁₁. alloc1 ! (λ l₁₂. alloc0 ! $ params1 ! $
         pass1 ! (init ! 22 refl (typed W headers (p .header) (is .0) .0)) $ pass1 ! (init ! 20 refl (fits (rooms .0 .0))) $ pass1 ! (init ! 18 refl (typed W heads (p .head) (is .1) .0)) $ pass1 ! (init ! 16 refl (fits (rooms .1 .0 .0))) $ pass1 ! (init ! 14 refl (fits (rooms .1 .1 .0))) $ pass1 ! (init ! 12 refl (fits (room .0))) $ pass0 ! $
         -- [_12; …; the tokens; what is lent as `&`; κ's token; what out owns]
-        assigns ! (agg ! (and-then ! (lit ! tt) (no-more !))) (from ! (stop !)) (init ! 8 refl (typed W questions Refine is-q .0)) $
+        assigns ! (agg ! (and-then ! (lit ! tt) (no-more !))) (from ! (stop !)) (init ! 8 refl (typed W query-kinds Refine is-q .0)) $
         assigns ! (addr ! (from ! (fld ! refl (hop ! (look-in ! 12 (sub ! 0 refl (whole !))) (stop !))))) (from ! (stop !)) (init ! 6 refl (tt, tt)) $
         assigns ! (agg ! (arg ! 6 refl (and-then ! (load ! (from ! (fld ! refl (stop !))) (look-in ! 12 (sub ! 1 refl (whole !)))) (no-more !)))) (from ! (stop !)) (init ! 4 refl (fits (room .0))) $
         move ! (26 ∷ 27 ∷ 28 ∷ 29 ∷ []) $
-        asked 𝓤 H A mem run p Refine W is-q is ! (fmOf 𝓤 H (W .laws) 𝓣) known-ask κ q γ b o os room (λ ν δ. arg ! 11 refl (arg ! 25 refl (arg ! 23 refl (arg ! 21 refl (arg ! 19 refl (arg ! 17 refl (arg ! 7 refl (no-more !)))))))) (λ s ws e l is-s.
+        calls-scan-lent 𝓤 H A mem run p Refine W is-q is ! (fmOf 𝓤 H (W .laws) 𝓣) known-scan κ q γ b o os room (λ ν δ. arg ! 11 refl (arg ! 25 refl (arg ! 23 refl (arg ! 21 refl (arg ! 19 refl (arg ! 17 refl (arg ! 7 refl (no-more !)))))))) (λ s ws e l is-s.
         -- [the tokens; what is lent as `&`; κ's token; what out owns; _12; …]
-        land ! (from ! (stop !)) (init ! 14 refl (typed W sweeps s is-s .0)) $
+        land ! (from ! (stop !)) (init ! 14 refl (typed W scans s is-s .0)) $
         assigns ! (addr ! (from ! (fld ! refl (hop ! (look-in ! 16 (sub ! 0 refl (whole !))) (stop !))))) (from ! (stop !)) (init ! 6 refl (tt, tt)) $
         assigns ! (agg ! (arg ! 6 refl (and-then ! (load ! (from ! (fld ! refl (stop !))) (look-in ! 16 (sub ! 1 refl (whole !)))) (no-more !)))) (from ! (stop !)) (init ! 4 refl (fits (room .0))) $
-        move ! (2 ∷ 3 ∷ []) $ group ! 2 $ use1 W (raw (Asked 𝓤 H A cls.ended closing .pre (to-close s ws))) (asks-close s ws is-s e) $
+        move ! (2 ∷ 3 ∷ []) $ group ! 2 $ use1 W (raw (Callee 𝓤 H A cls.ended closing .pre (to-close s ws))) (pre-close s ws is-s e) $
         calls cls.ended closing (to-close s ws) (λ t zs. RefineClosed (p .head) s ws t (zs .1 .1 .0)) (λ t zs. id⊢ 𝓤 _) ! (fmOf 𝓤 H (W .laws) 𝓣) known-close (arg ! 21 refl (arg ! 13 refl (arg ! 3 refl (no-more !)))) (λ w t zs e₂.
         move ! (2 ∷ []) $ fsplit ! $ drop ! $ fsplit ! $ drop ! $ fsplit ! $ fsplit ! $ move ! (1 ∷ []) $ feqL ! (λ l₂. move ! (3 ∷ []) $ peeks ! AT.the-row (Is AT.the-row) (shows 𝓤 H A AT.the-row) t (w ∷ []) (λ is-t.
         -- [the result; the last list; true; κ's token; the tokens; what is lent as `&`; _12; …]
@@ -94,5 +94,5 @@ refine-ref-spec 𝓤 H 𝓜 𝓖 𝓡 =
     walk-runs f.ended params 𝓤 H 𝓜 𝓖 𝓡 (f.clauses 𝓤 H (𝓖 .A) (𝓜 .mem) (𝓡 .run)) code.env #query·refine-ref code.function (code.unfolded 𝓤 H 𝓜 𝓡) (λ κs qs bounds a g are. via 𝓤 _ (fst∗ 𝓤 _ (emp 𝓤))
     (walk 𝓤 H (𝓖 .A) (givenOf 𝓤 H 𝓜 𝓖) (𝓜 .mem) (𝓡 .run) (lent-of κs qs a (a .1 .1 .1 .1 .0)) (κs .1 .1 .1 .0) (qs .1 .1 .1 .0) (a .1 .1 .1 .1 .1 .0 .ptr .0) (a .1 .1 .1 .1 .1 .0 .ptr .1) (a .1 .1 .1 .1 .1 .0 .name) (a .1 .1 .1 .1 .1 .0 .now)
     (are .0, are .1 .1 .0) (are .1 .0 .0 .1, (are .1 .1 .1 .0 .0 .1, are .1 .1 .1 .1 .0 .0 .1)) (are .1 .1 .1 .1 .1 .0 .0 .1) (tablesOf 𝓤 H 𝓜 (tables 𝓤 H 𝓜 𝓡 code.env))
-    (cited 𝓤 H _ 𝓜 𝓡 code.env #query-loop·ask ask-def.routine code.calls-query-loop·ask (ask-thm.met 𝓤 H 𝓜 𝓖 𝓡))
+    (cited 𝓤 H _ 𝓜 𝓡 code.env #query-loop·scan scan-def.routine code.calls-query-loop·scan (scan-thm.met 𝓤 H 𝓜 𝓖 𝓡))
     (cited 𝓤 H _ 𝓜 𝓡 code.env #query-scan·close-refine cls-def.routine code.calls-query-scan·close-refine (cls-thm.met 𝓤 H 𝓜 𝓖 𝓡))))

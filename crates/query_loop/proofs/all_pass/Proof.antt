@@ -16,18 +16,18 @@ use types.Run.{look-raw, assigns-last}
 use borrow.Author.Tests.{ltb-true}
 use denote.Index.{place-is, elem-out, elem-back, looks-slice, shuts-slice}
 use denote.Struct.Laws as LL
-use Rattle.lists.specs.Laws.Keep.{and-left, and-right}
+use Rattle.lists.specs.Laws.Filter.{and-left, and-right}
 use Rattle.constraints.specs.declared.Constraint.{Constraint}
 use Rattle.constraints.proofs.Constraint as CT
 use Rattle.constraints.proofs.Constraint.Laws as CT′
 use Rattle.table.specs.declared.Header.{Header}
 use Rattle.table.proofs.Header as HT
 use Rattle.query_scan.specs.declared.Test.{Test}
-use Rattle.query_scan.specs.inner.Sweeping.{RowNeeded, starts, passes, allPass}
+use Rattle.query_scan.specs.inner.Scanning.{RowNeeded, starts, passes, allPass}
 use Rattle.query_scan.proofs.Test as TT
 use Rattle.query_loop.proofs.Lent.{fits, header-val, headers, slice-val, test-val, tests}
-use Rattle.query_loop.proofs.WalkSteps.{none, passed, passed-none, passed-next, passed-all, Up, up-wf}
-use Rattle.query_loop.proofs.Walking.{AllPassed, Asked, Cell, Cells, Cites, Tokens, Walked, arg, bool-lands, by-value, calls, empty, env-of, holds, lent-slice, own, stays, twice, typed, walk-runs}
+use Rattle.query_loop.proofs.LoopSteps.{none, passed, passed-none, passed-next, passed-all, Up, up-wf}
+use Rattle.query_loop.proofs.Walking.{AllPassed, Callee, Cell, Cells, Cites, Tokens, Walked, arg, bool-lands, by-value, calls, empty, env-of, holds, lent-slice, own, stays, twice, typed, walk-runs}
 use Rattle.query_scan.proofs.can_pass as can
 use Rattle.query_scan.proofs.can_pass.Symbol as can-def
 use Rattle.query_scan.proofs.can_pass.Symbol.{name as #query-scan·can-pass}
@@ -88,18 +88,18 @@ module _ {M : Type 1} (𝓤 : URA M) (H : Heap 𝓤) (A : Atoms 𝓤) (W : Given
   abbrev Post : Val → SProp 𝓤
   Post = Walked f.ended params 𝓤 H A clauses .post y
 
-  abbrev to-can : Asked 𝓤 H A can.ended starting .Ghost
+  abbrev to-can : Callee 𝓤 H A can.ended starting .Ghost
   to-can = (((κ, tt), (q, tt), tt, (test, (h, (x, tt))), (test-val test ∷ [], (header-val h ∷ [], (slice-val x ∷ [], tt)))), tt)
 
-  abbrev to : ℕ → Asked 𝓤 H A too.ended testing .Ghost
+  abbrev to : ℕ → Callee 𝓤 H A too.ended testing .Ghost
   to i = (((κ, tt), (q, tt), tt, (test, (h, (x, (c i, tt)))), (test-val test ∷ [], (header-val h ∷ [], (slice-val x ∷ [], (LL.vals CT.the-type CT′.the-laws (c i), tt))))), tt)
 
   module _ (is-t : Is TT.the-row test (test-val test ∷ [])) (is-h : Is HT.the-row h (header-val h ∷ [])) (need : RowNeeded test h (length (now x))) where
-    asks-can : ent 𝓤 (⋆ 𝓤 H A (‵ (flft κ q) ∷ ‵ OwnRows ∷ [])) (Asked 𝓤 H A can.ended starting .pre to-can)
-    asks-can = qed W (‵ (flft κ q) ∷ ‵ OwnRows ∷ []) ∵ says ! need $ nothing ! $ move ! (2 ∷ 0 ∷ []) $ fjoin ! $ own ! headers h is-h $ fjoin ! $ own ! tests test is-t $ fjoin ! $ nothing ! $ move ! (2 ∷ 0 ∷ []) $ join ! $ join ! $ done !
+    pre-can : ent 𝓤 (⋆ 𝓤 H A (‵ (flft κ q) ∷ ‵ OwnRows ∷ [])) (Callee 𝓤 H A can.ended starting .pre to-can)
+    pre-can = qed W (‵ (flft κ q) ∷ ‵ OwnRows ∷ []) ∵ says ! need $ nothing ! $ move ! (2 ∷ 0 ∷ []) $ fjoin ! $ own ! headers h is-h $ fjoin ! $ own ! tests test is-t $ fjoin ! $ nothing ! $ move ! (2 ∷ 0 ∷ []) $ join ! $ join ! $ done !
 
-    asks : (i : ℕ) → Is CT.the-row (c i) (LL.vals CT.the-type CT′.the-laws (c i)) → ent 𝓤 (⋆ 𝓤 H A (‵ (flft κ q) ∷ ‵ OwnRows ∷ [])) (Asked 𝓤 H A too.ended testing .pre (to i))
-    asks i g =
+    pre-test : (i : ℕ) → Is CT.the-row (c i) (LL.vals CT.the-type CT′.the-laws (c i)) → ent 𝓤 (⋆ 𝓤 H A (‵ (flft κ q) ∷ ‵ OwnRows ∷ [])) (Callee 𝓤 H A too.ended testing .pre (to i))
+    pre-test i g =
         qed W (‵ (flft κ q) ∷ ‵ OwnRows ∷ []) ∵ says ! need $ nothing ! $ owned ! CT.the-row (Is CT.the-row) (LL.makes CT.the-type CT′.the-plain 𝓤 H A) (c i) _ g $ fjoin ! $
         move ! (2 ∷ 0 ∷ []) $ fjoin ! $ own ! headers h is-h $ fjoin ! $ own ! tests test is-t $ fjoin ! $ nothing ! $ move ! (2 ∷ 0 ∷ []) $ join ! $ join ! $ done !
 
@@ -137,7 +137,7 @@ module _ {M : Type 1} (𝓤 : URA M) (H : Heap 𝓤) (A : Atoms 𝓤) (W : Given
           assigns ! (of-opd ! (load ! (from ! (hop ! (look ! 10 refl) (stop !))) (look-raw ! 0 refl))) (from ! (stop !)) (init ! 8 refl (LL.lawful CT.the-type CT′.the-laws 𝓤 H A W .typed (c i) _ g .0)) $
           elem-back ! CT.the-row q₁ cs i none (LL.vals CT.the-type CT′.the-laws (c i)) b o l $ shuts-slice ! tt CT.the-row q₁ cs b o $ move ! (1 ∷ []) $ drop ! $
           -- [κ′'s token; what the conditions own; κ's token; what rows owns; _11; …]
-          move ! (3 ∷ []) $ twice ! (named 0) κ u32 x $ move ! (4 ∷ 0 ∷ []) $ group ! 2 $ use1 W (raw (Asked 𝓤 H A too.ended testing .pre (to i))) (asks i g) $
+          move ! (3 ∷ []) $ twice ! (named 0) κ u32 x $ move ! (4 ∷ 0 ∷ []) $ group ! 2 $ use1 W (raw (Callee 𝓤 H A too.ended testing .pre (to i))) (pre-test i g) $
           calls too.ended testing (to i) (λ r ws. r ≡ pass (c i)) (λ r ws. id⊢ 𝓤 _) ! (fmOf 𝓤 H (W .laws) 𝓣) known (arg ! 24 refl (arg ! 22 refl (arg ! 20 refl (arg ! 4 refl (no-more !))))) (λ w r ws e.
           move ! (2 ∷ []) $ drop ! $ move ! (1 ∷ []) $ bool-lands ! r w (e ∙ passed-next start pass cs i l (and-left (ok i) (ltb i n) go)) $ split ! $ move ! (1 ∷ []) $ drop ! $ move ! (0 ∷ 2 ∷ []) $
           land ! (from ! (stop !)) (store ! 16 refl (tt, tt)) $ assigns-last ! (bin ! (load ! (from ! (stop !)) (look ! 14 refl)) (lit ! tt) (record { fits = next })) (from ! (stop !)) (store ! 14 refl (tt, record { fits = next })) $
@@ -175,7 +175,7 @@ module _ {M : Type 1} (𝓤 : URA M) (H : Heap 𝓤) (A : Atoms 𝓤) (W : Given
       -- the body: `can_pass`
       begins : Sq W (Around empty empty) (runs (𝓣 .C) (𝓣 .Λ) E mir.t-1 (atRet E Post))
       begins =
-          move ! (2 ∷ []) $ twice ! (named 0) κ u32 x $ move ! (2 ∷ 0 ∷ []) $ group ! 2 $ use1 W (raw (Asked 𝓤 H A can.ended starting .pre to-can)) asks-can $
+          move ! (2 ∷ []) $ twice ! (named 0) κ u32 x $ move ! (2 ∷ 0 ∷ []) $ group ! 2 $ use1 W (raw (Callee 𝓤 H A can.ended starting .pre to-can)) pre-can $
           calls can.ended starting to-can (λ r ws. r ≡ start) (λ r ws. id⊢ 𝓤 _) ! (fmOf 𝓤 H (W .laws) 𝓣) known-can (arg ! 24 refl (arg ! 22 refl (arg ! 20 refl (no-more !)))) (λ w r ws e.
           move ! (2 ∷ []) $ drop ! $ move ! (1 ∷ []) $ bool-lands ! r w e $ split ! $ move ! (1 ∷ []) $ drop ! $ move ! (0 ∷ 2 ∷ []) $ land ! (from ! (stop !)) (init ! 16 refl (tt, tt)) $ loop)
 

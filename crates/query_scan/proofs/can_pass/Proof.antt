@@ -1,6 +1,6 @@
 -- `query_scan::can_pass` meets its contract. Assumes nothing.
 use borrow.Author.Needs.{needs}
-use Rattle.query_scan.specs.inner.Sweeping.{starts}
+use Rattle.query_scan.specs.inner.Scanning.{starts}
 use Rattle.query_scan.proofs.can_pass.Statement.{statement}
 use Rattle.query_scan.proofs.can_pass.Tie as tie
 

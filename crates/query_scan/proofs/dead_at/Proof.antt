@@ -1,7 +1,7 @@
 -- `query_scan::dead_at` meets its contract. Assumes nothing.
 use mathlib.Core.Path.{sym, _∙_}
 use borrow.Author.Needs.{needs}
-use Rattle.query_scan.proofs.SweepSteps.{dead-none, dead-one}
+use Rattle.query_scan.proofs.ScanSteps.{dead-none, dead-one}
 use Rattle.query_scan.proofs.dead_at.Statement.{statement}
 use Rattle.query_scan.proofs.dead_at.Tie as tie
 

@@ -1,7 +1,7 @@
 -- `query_scan::id_at` meets its contract. Assumes nothing.
 use native.Mathlib.Omega.{arith}
 use borrow.Author.Needs.{needs}
-use Rattle.query_scan.proofs.SweepSteps.{size-dense, size-sparse, id-dense, id-sparse}
+use Rattle.query_scan.proofs.ScanSteps.{size-dense, size-sparse, id-dense, id-sparse}
 use Rattle.query_scan.proofs.id_at.Statement.{statement}
 use Rattle.query_scan.proofs.id_at.Tie as tie
 

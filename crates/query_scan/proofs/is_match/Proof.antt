@@ -2,7 +2,7 @@
 use mathlib.Core.Path.{sym, _∙_}
 use borrow.Author.Tests.{not-true, not-false}
 use borrow.Author.Needs.{needs}
-use Rattle.query_scan.proofs.SweepSteps.{match-unmet, match-met}
+use Rattle.query_scan.proofs.ScanSteps.{match-unmet, match-met}
 use Rattle.query_scan.proofs.is_match.Statement.{statement}
 use Rattle.query_scan.proofs.is_match.Tie as tie
 

@@ -4,7 +4,7 @@ use mathlib.Core.Path.{ap, _∙_}
 use mathlib.Core.List.{List}
 use borrow.Author.Needs.{needs}
 use Rattle.constraints.specs.Constraints.{met}
-use Rattle.query_scan.proofs.SweepSteps.{row-part}
+use Rattle.query_scan.proofs.ScanSteps.{row-part}
 use Rattle.query_scan.proofs.is_met_at.Statement.{statement}
 use Rattle.query_scan.proofs.is_met_at.Tie as tie
 

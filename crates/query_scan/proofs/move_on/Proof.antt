@@ -2,7 +2,7 @@
 use mathlib.Core.Path.{refl}
 use native.Mathlib.Omega.{arith}
 use borrow.Author.Needs.{needs}
-use Rattle.query_scan.proofs.SweepSteps.{next-below, next-dense}
+use Rattle.query_scan.proofs.ScanSteps.{next-below, next-dense}
 use Rattle.query_scan.proofs.move_on.Statement.{statement}
 use Rattle.query_scan.proofs.move_on.Tie as tie
 

@@ -1,7 +1,7 @@
 -- `query_scan::open_page` meets its contract. Assumes nothing.
 use native.Mathlib.Omega.{arith}
 use borrow.Author.Needs.{needs}
-use Rattle.query_scan.proofs.SweepSteps.{size-few}
+use Rattle.query_scan.proofs.ScanSteps.{size-few}
 use Rattle.query_scan.proofs.AnswerSteps.{page-stopped, page-opened}
 use Rattle.query_scan.proofs.open_page.Statement.{statement}
 use Rattle.query_scan.proofs.open_page.Tie as tie
@@ -13,10 +13,10 @@ sub-left : tie.Need-sub-left
 sub-left c = omega (arith, c .size .ensures, c .before .before .page-refusal .ensures .within (c .before .if1 .left))
 
 cast-places : tie.Need-cast-places
-cast-places c = omega (arith, c .smaller .ensures, c .before .size .ensures, size-few _ _ _ (c .before .before .before .page-refusal .ensures .askable (c .before .before .if1 .left)))
+cast-places c = omega (arith, c .smaller .ensures, c .before .size .ensures, size-few _ _ _ (c .before .before .before .page-refusal .ensures .queryable (c .before .before .if1 .left)))
 
 add-at-place : tie.Need-add-at-place
-add-at-place c = let r = c .before .before .before .page-refusal .ensures in omega (arith, c .smaller .ensures, c .before .size .ensures, size-few _ _ _ (r .askable (c .before .before .if1 .left)), r .within (c .before .before .if1 .left))
+add-at-place c = let r = c .before .before .before .page-refusal .ensures in omega (arith, c .smaller .ensures, c .before .size .ensures, size-few _ _ _ (r .queryable (c .before .before .if1 .left)), r .within (c .before .before .if1 .left))
 
 at-place-requires-2 : tie.Need-at-place-requires-2
 at-place-requires-2 c κs = omega (arith, c .smaller .ensures, c .before .size .ensures, c .before .before .before .page-refusal .ensures .within (c .before .before .if1 .left))

@@ -1,6 +1,6 @@
 -- `query_scan::passes_test` meets its contract. Assumes nothing.
 use borrow.Author.Needs.{needs}
-use Rattle.query_scan.specs.inner.Sweeping.{passes}
+use Rattle.query_scan.specs.inner.Scanning.{passes}
 use Rattle.query_scan.proofs.passes_test.Statement.{statement}
 use Rattle.query_scan.proofs.passes_test.Tie as tie
 

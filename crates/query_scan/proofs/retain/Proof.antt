@@ -3,22 +3,22 @@ use Prim.Native.Nat.{_-_}
 use mathlib.Core.List.{[], _∷_}
 use Rattle.offsets.specs.Answers.{subsetOf}
 use Rattle.query_spec.specs.Queries.{matches}
-use Rattle.query_scan.specs.inner.Sweeping.{Swept}
-use Rattle.query_scan.proofs.SweepSteps.{swept-begin, next-lies, can-step, steps-less, stepped, finished}
+use Rattle.query_scan.specs.inner.Scanning.{ScanInvariant}
+use Rattle.query_scan.proofs.ScanSteps.{scanned-begin, next-in-store, can-step, steps-less, stepped, finished}
 use Rattle.query_scan.proofs.retain.Statement.{statement}
 use Rattle.query_scan.proofs.retain.Tie as tie
 
 abbrev Inv-loop : tie.InvT-loop
-Inv-loop h rows head ids c out₀ at₀ out at = Swept h rows (subsetOf head ids) (matches h rows (c ∷ [])) at₀ out₀ at out
+Inv-loop h rows head ids c out₀ at₀ out at = ScanInvariant h rows (subsetOf head ids) (matches h rows (c ∷ [])) at₀ out₀ at out
 
 abbrev μ-loop : tie.MeasureT-loop
 μ-loop h rows head ids c out₀ at₀ out at = at .end - at .next
 
 loop-holds : tie.Need-loop-holds Inv-loop μ-loop
-loop-holds c = swept-begin _ _ _ _ _ _ (c .before .before .before .pre)
+loop-holds c = scanned-begin _ _ _ _ _ _ (c .before .before .before .pre)
 
 is-match-requires : tie.Need-is-match-requires Inv-loop μ-loop
-is-match-requires c κs = next-lies _ (c .before .before .before .before .before .before .args .rows .now) _ _ _ _ (c .before .before .before .before .before .before .pre) _ _ (c .before .before .loop .inv) (c .if1 .taken)
+is-match-requires c κs = next-in-store _ (c .before .before .before .before .before .before .args .rows .now) _ _ _ _ (c .before .before .before .before .before .before .pre) _ _ (c .before .before .loop .inv) (c .if1 .taken)
 
 step-requires : tie.Need-step-requires Inv-loop μ-loop
 step-requires c κs = can-step _ (c .before .before .before .before .before .before .before .before .args .rows .now) _ _ _ _ (c .before .before .before .before .before .before .before .before .pre) _ _ (c .before .before .before .before .loop .inv) (c .before .before .if1 .taken) _ (c .before .is-match .ensures)

@@ -2,7 +2,7 @@
 use native.Mathlib.Omega.{arith}
 use borrow.Author.Tests.{not-true, not-false}
 use borrow.Author.Needs.{needs}
-use Rattle.query_scan.proofs.SweepSteps.{dead-at-most, steps-miss, steps-hit, keeps-moves}
+use Rattle.query_scan.proofs.ScanSteps.{dead-at-most, steps-miss, steps-hit, keeps-moves}
 use Rattle.query_scan.proofs.step.Statement.{statement}
 use Rattle.query_scan.proofs.step.Tie as tie
 

@@ -1,6 +1,6 @@
 -- `query_scan::write_found` meets its contract. Assumes nothing.
 use borrow.Author.Needs.{needs}
-use Rattle.query_scan.proofs.SweepSteps.{can-fill, wrote-range, wrote-list}
+use Rattle.query_scan.proofs.ScanSteps.{can-fill, wrote-range, wrote-list}
 use Rattle.query_scan.proofs.write_found.Statement.{statement}
 use Rattle.query_scan.proofs.write_found.Tie as tie
 

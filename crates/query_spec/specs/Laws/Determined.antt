@@ -18,34 +18,34 @@ use Rattle.query_spec.specs.declared.NextPlace.{NextPlace}
 use Rattle.query_spec.specs.declared.NextPlace.the-variants.{None, At}
 use Rattle.query_spec.specs.declared.PageAnswer.{PageAnswer}
 use Rattle.query_spec.specs.declared.PageAnswer.the-variants.{Refused as PageRefused, Page as Paged}
-use Rattle.query_spec.specs.Queries.{nextSays, PageReply, pageSays, matchSays, RefinedOne, RefinedList, Matched, PageRead}
+use Rattle.query_spec.specs.Queries.{nextView, PageReply, pageView, matchView, RefinedOne, RefinedList, Matched, PageRead}
 
 -- answers with the same view are equal
-next-said : (a b : NextPlace) → nextSays a ≡ nextSays b → a ≡ b
-unfolding nextSays
-next-said None None e = cc
-next-said None (At b) e = cc
-next-said (At a) None e = cc
-next-said (At a) (At b) e = cc
+next-view-injective : (a b : NextPlace) → nextView a ≡ nextView b → a ≡ b
+unfolding nextView
+next-view-injective None None e = cc
+next-view-injective None (At b) e = cc
+next-view-injective (At a) None e = cc
+next-view-injective (At a) (At b) e = cc
 
-page-said : (a b : PageAnswer) → pageSays a ≡ pageSays b → a ≡ b
-unfolding pageSays
-page-said (PageRefused n) (PageRefused m) e = cc
-page-said (PageRefused n) (Paged q) e = cc
-page-said (Paged p) (PageRefused m) e = cc
-page-said (Paged p) (Paged q) e =
-    let told : _≡_ {A = PageReply} (record { written = p .written; dead = p .dead; next = nextSays (p .next) }) (record { written = q .written; dead = q .dead; next = nextSays (q .next) }) = cc in
-    let written : p .written ≡ q .written = ap (λ (t : PageReply). t .written) told in
-    let dead : p .dead ≡ q .dead = ap (λ (t : PageReply). t .dead) told in
-    let next : p .next ≡ q .next = next-said (p .next) (q .next) (ap (λ (t : PageReply). t .next) told) in
+page-view-injective : (a b : PageAnswer) → pageView a ≡ pageView b → a ≡ b
+unfolding pageView
+page-view-injective (PageRefused n) (PageRefused m) e = cc
+page-view-injective (PageRefused n) (Paged q) e = cc
+page-view-injective (Paged p) (PageRefused m) e = cc
+page-view-injective (Paged p) (Paged q) e =
+    let same-view : _≡_ {A = PageReply} (record { written = p .written; dead = p .dead; next = nextView (p .next) }) (record { written = q .written; dead = q .dead; next = nextView (q .next) }) = cc in
+    let written : p .written ≡ q .written = ap (λ (t : PageReply). t .written) same-view in
+    let dead : p .dead ≡ q .dead = ap (λ (t : PageReply). t .dead) same-view in
+    let next : p .next ≡ q .next = next-view-injective (p .next) (q .next) (ap (λ (t : PageReply). t .next) same-view) in
     λ i. Paged (record { written = written i; dead = dead i; next = next i })
 
-match-said : (a b : MatchAnswer) → matchSays a ≡ matchSays b → a ≡ b
-unfolding matchSays
-match-said (Refused m) (Refused n) e = cc
-match-said (Refused m) (Match y) e = cc
-match-said (Match x) (Refused n) e = cc
-match-said (Match x) (Match y) e = cc
+match-view-injective : (a b : MatchAnswer) → matchView a ≡ matchView b → a ≡ b
+unfolding matchView
+match-view-injective (Refused m) (Refused n) e = cc
+match-view-injective (Refused m) (Match y) e = cc
+match-view-injective (Match x) (Refused n) e = cc
+match-view-injective (Match x) (Match y) e = cc
 
 module _ {h : Header} {rows : List ℕ} {subset : Subset} where
   -- *Refine by one*, *by a list*
@@ -60,13 +60,13 @@ module _ {h : Header} {rows : List ℕ} {subset : Subset} where
   -- *any match*
   pub matched-determined : {conditions : List Constraint} {a b : MatchAnswer}
       → Matched h rows subset conditions a → Matched h rows subset conditions b → a ≡ b
-  matched-determined {a = a} {b = b} x y = match-said a b (x .answers ∙ sym (y .answers))
+  matched-determined {a = a} {b = b} x y = match-view-injective a b (x .answers ∙ sym (y .answers))
 
   -- *Page*
   pub page-read-determined : {start n : ℕ} {conditions : List Constraint} {output output₁ output₂ : List ℕ} {a b : PageAnswer}
       → PageRead h rows subset start n conditions output a output₁ → PageRead h rows subset start n conditions output b output₂ → Same a b output₁ output₂
   page-read-determined {a = a} {b = b} x y =
       record {
-        answer = page-said a b (x .answers ∙ sym (y .answers));
+        answer = page-view-injective a b (x .answers ∙ sym (y .answers));
         cells = ⊎-elim (λ z. x .written z ∙ sym (y .written z)) (λ m. x .unchanged m ∙ sym (y .unchanged m)) (some-number _);
       }

@@ -7,8 +7,8 @@ use mathlib.Core.List.{List, [], _∷_}
 use native.Mathlib.Decide.{ℕ-discrete}
 use native.Mathlib.Omega.{arith}
 use lib.ListN.{length}
-use Rattle.lists.specs.Lists.{keep, count, every, rowAt}
-use Rattle.lists.specs.Laws.Keep.{split}
+use Rattle.lists.specs.Lists.{filter, count, all, rowAt}
+use Rattle.lists.specs.Laws.Filter.{split}
 use Rattle.refusals.specs.Refusals.{Reply, refused, accepted}
 use Rattle.refusals.specs.Laws.Replies.{reply-refused, reply-accepted}
 use Rattle.offsets.specs.Subsets.{Subset}
@@ -17,22 +17,22 @@ use Rattle.constraints.specs.Constraints.{met, isLive, meets}
 use Rattle.table.specs.declared.Header.{Header}
 use Rattle.query_spec.specs.declared.Page.{Page}
 use Rattle.query_spec.specs.declared.PageAnswer.the-variants.{Page as Paged}
-use Rattle.query_spec.specs.Queries.{matches, deadAmong, pageRefusal, visited, nextPlace, pageIds, nextSays, PageReply, pageReply, pageSays, PageRead}
+use Rattle.query_spec.specs.Queries.{matches, deadAmong, pageRefusal, visited, nextPlace, pageIds, nextView, PageReply, pageReply, pageView, PageRead}
 
 -- how many of these ids have a live row that fails a condition
 unfoldable pub failedAmong : Header → List ℕ → List Constraint → List ℕ → ℕ
 failedAmong h rows conditions ids =
-    count (λ id. isLive (rowAt (h .columns) id rows) && not (every (met (rowAt (h .columns) id rows)) conditions)) ids
+    count (λ id. isLive (rowAt (h .columns) id rows) && not (all (met (rowAt (h .columns) id rows)) conditions)) ids
 
 pub visited-parts : (h : Header) (rows : List ℕ) (conditions : List Constraint) (ids : List ℕ)
-    → length (keep (matches h rows conditions) ids) + deadAmong h rows ids + failedAmong h rows conditions ids ≡ length ids
-unfolding matches meets keep count deadAmong failedAmong
+    → length (filter (matches h rows conditions) ids) + deadAmong h rows ids + failedAmong h rows conditions ids ≡ length ids
+unfolding matches meets filter count deadAmong failedAmong
 visited-parts h rows conditions [] = refl
 visited-parts h rows conditions (x ∷ xs) =
     let rest = visited-parts h rows conditions xs in
     elim (split (isLive (rowAt (h .columns) x rows))) [
-      | inl live ↦ elim (split (every (met (rowAt (h .columns) x rows)) conditions)) [
-        | inl all ↦ rw (live, all) (omega (arith, rest))
+      | inl live ↦ elim (split (all (met (rowAt (h .columns) x rows)) conditions)) [
+        | inl all-hold ↦ rw (live, all-hold) (omega (arith, rest))
         | inr some ↦ rw (live, some) (omega (arith, rest))
       ]
       | inr dead ↦ rw dead (omega (arith, rest))
@@ -42,18 +42,18 @@ visited-parts h rows conditions (x ∷ xs) =
 pub page-parts : (h : Header) (rows : List ℕ) (subset : Subset) (start n : ℕ) (conditions : List Constraint) (output : List ℕ) (page : Page) (output′ : List ℕ)
     → PageRead h rows subset start n conditions output (Paged page) output′
     → page .written + page .dead + failedAmong h rows conditions (visited subset start n) ≡ length (visited subset start n)
-unfolding pageReply pageIds pageSays
+unfolding pageReply pageIds pageView
 page-parts h rows subset start n conditions output page output′ p =
     elim (ℕ-discrete number 0) [
       | yes z ↦
-          let told : _≡_ {A = Reply PageReply} (accepted (record { written = page .written; dead = page .dead; next = nextSays (page .next) })) (accepted read) =
+          let same-view : _≡_ {A = Reply PageReply} (accepted (record { written = page .written; dead = page .dead; next = nextView (page .next) })) (accepted read) =
           p .answers ∙ sym (reply-accepted (accepted read) number read refl z) in
-          let same : _≡_ {A = PageReply} (record { written = page .written; dead = page .dead; next = nextSays (page .next) }) read = cc in
+          let same : _≡_ {A = PageReply} (record { written = page .written; dead = page .dead; next = nextView (page .next) }) read = cc in
           let written : page .written ≡ read .written = ap (λ (t : PageReply). t .written) same in
           let dead : page .dead ≡ read .dead = ap (λ (t : PageReply). t .dead) same in
           rw (written, dead) (visited-parts h rows conditions (visited subset start n))
       | no m ↦
-          let told : _≡_ {A = Reply PageReply} (accepted (record { written = page .written; dead = page .dead; next = nextSays (page .next) })) (refused number) =
+          let same-view : _≡_ {A = Reply PageReply} (accepted (record { written = page .written; dead = page .dead; next = nextView (page .next) })) (refused number) =
           p .answers ∙ sym (reply-refused (refused number) number number read refl refl m) in
           cc
     ]
@@ -62,4 +62,4 @@ page-parts h rows subset start n conditions output page output′ p =
     number = pageRefusal h (length rows) subset start n conditions (length output)
 
     read : PageReply
-    read = record { written = length (keep (matches h rows conditions) (visited subset start n)); dead = deadAmong h rows (visited subset start n); next = nextPlace subset start n }
+    read = record { written = length (filter (matches h rows conditions) (visited subset start n)); dead = deadAmong h rows (visited subset start n); next = nextPlace subset start n }

@@ -7,7 +7,7 @@ use Rattle.refresh_spec.specs.Index.{rowsSeen}
 use Rattle.refresh_spec.specs.inner.Finding.{usable}
 use Rattle.refresh_index.specs.Laws.Using.{usable-is}
 use borrow.Author.Needs.{needs}
-use Rattle.refresh.proofs.FindSteps.{scannable, listed-long, found-afresh, found-both, both-few}
+use Rattle.refresh.proofs.FindSteps.{scannable, listed-long, found-restarted, found-both, both-few}
 use Rattle.refresh.proofs.mark_mentioning.Statement.{statement}
 use Rattle.refresh.proofs.mark_mentioning.Tie as tie
 
@@ -32,7 +32,7 @@ mark-mentioning-spec =
     (tie.spec
     (λ c κs. let s = c .before .before .before .before .before .before .before in scannable _ _ _ _ (s .args .values .now) (s .pre .0) (omega arith) (s .pre .2 .long))
     (λ c. search needs)
-    (λ c. found-afresh _ _ _ _ _ (c .before .before .mark-unlisted .ensures))
+    (λ c. found-restarted _ _ _ _ _ (c .before .before .mark-unlisted .ensures))
     (λ c. omega (arith, c .before .before .before .before .before .before .before .pre .0 .index-long))
     (λ c κs. let s = c .before .before .before .before .before .before .before .before in (s .pre .0, used (c .before .before), s .pre .2 .long))
     mark-unlisted-requires-2

@@ -4,13 +4,13 @@ use mathlib.Core.Bool.{true, false}
 use lib.Dec.{ltb}
 use lib.ListN.{length}
 use borrow.Author.Tests.{lt-ltb, le-ltb, not-true, not-false}
-use Rattle.lists.specs.Lists.{every}
-use Rattle.lists.specs.Laws.Every.{or-no-left}
-use Rattle.refusals.specs.Refusals.{first}
+use Rattle.lists.specs.Lists.{all}
+use Rattle.lists.specs.Laws.All.{or-no-left}
+use Rattle.refusals.specs.Refusals.{firstRefusal}
 use Rattle.plain_table.specs.Refreshing.{indexShort}
 use Rattle.table.specs.Numbers.{openingOf}
 use Rattle.table.specs.Refusing.{outside, pendingOutside, rowsShort}
-use Rattle.refresh.specs.inner.Testing.{ladder}
+use Rattle.refresh.specs.inner.Testing.{earlyRefusal}
 use borrow.Author.Needs.{needs}
 use Rattle.refresh.proofs.refresh_refusal.Statement.{statement}
 use Rattle.refresh.proofs.refresh_refusal.Tie as tie
@@ -25,7 +25,7 @@ rows-long c = sym (c .before .is-rows-short .ensures) ∙ c .if2 .left
 columns-few : (c : tie.Else3) → ltb 8 (length (c .before .before .before .before .before .before .args .columns .now)) ≡ false
 columns-few c = le-ltb _ _ (c .if3 .left)
 
-columns-there : (c : tie.Else4) → let a = c .before .before .before .before .before .before .before .before .args in every (λ column. ltb column (a .h .columns)) (a .columns .now) ≡ true
+columns-there : (c : tie.Else4) → let a = c .before .before .before .before .before .before .before .before .args in all (λ column. ltb column (a .h .columns)) (a .columns .now) ≡ true
 columns-there c = sym (c .before .are-columns-there .ensures) ∙ not-false _ (c .if4 .left)
 
 index-long : (c : tie.Else5) → let a = c .before .before .before .before .before .before .before .before .before .before .args in indexShort (openingOf (a .h)) (a .columns .now) (a .index) ≡ false
@@ -36,31 +36,31 @@ unfolding pendingOutside
 within c = or-no-left (outside (c .before .before .before .args .h)) _ (inside c)
 
 returns : tie.Need-returns
-unfolding ladder first
+unfolding earlyRefusal firstRefusal
 returns c = rw (sym (c .before .is-pending-outside .ensures) ∙ c .if1 .taken)
 
 returns-2 : tie.Need-returns-2
-unfolding ladder first
+unfolding earlyRefusal firstRefusal
 returns-2 c = rw (inside (c .before .before), sym (c .before .is-rows-short .ensures) ∙ c .if2 .taken)
 
 returns-3 : tie.Need-returns-3
-unfolding ladder first
+unfolding earlyRefusal firstRefusal
 returns-3 c = rw (inside (c .before .before .before), rows-long (c .before), lt-ltb _ _ (c .if3 .taken))
 
 returns-4 : tie.Need-returns-4
-unfolding ladder first
+unfolding earlyRefusal firstRefusal
 returns-4 c = rw (inside (c .before .before .before .before .before), rows-long (c .before .before .before), columns-few (c .before .before), sym (c .before .are-columns-there .ensures) ∙ not-true _ (c .if4 .taken))
 
 returns-5 : tie.Need-returns-5
-unfolding ladder first
+unfolding earlyRefusal firstRefusal
 returns-5 c = rw (inside (c .before .before .before .before .before .before .before), rows-long (c .before .before .before .before .before), columns-few (c .before .before .before .before), columns-there (c .before .before), sym (c .before .is-index-short .ensures) ∙ c .if5 .taken)
 
 returns-6 : tie.Need-returns-6
-unfolding ladder first
+unfolding earlyRefusal firstRefusal
 returns-6 c = rw (inside (c .before .before .before .before .before .before .before .before .before), rows-long (c .before .before .before .before .before .before .before), columns-few (c .before .before .before .before .before .before), columns-there (c .before .before .before .before), index-long (c .before .before), sym (c .before .is-old .ensures) ∙ c .if6 .taken)
 
 returns-7 : tie.Need-returns-7
-unfolding ladder first
+unfolding earlyRefusal firstRefusal
 returns-7 c = rw (inside (c .before .before .before .before .before .before .before .before .before), rows-long (c .before .before .before .before .before .before .before), columns-few (c .before .before .before .before .before .before), columns-there (c .before .before .before .before), index-long (c .before .before), sym (c .before .is-old .ensures) ∙ c .if6 .left)
 
 pub refresh-refusal-spec : {M : Type 1} → statement M

@@ -2,13 +2,13 @@
 use Prim.Native.Nat.{_-_}
 use native.Mathlib.Omega.{arith}
 use Rattle.refresh.specs.inner.Staging.{Stageable}
-use Rattle.refresh.proofs.StageSteps.{Turn, turn-begin, turn-length, turn-end, word-below, turn-block, turn-on}
+use Rattle.refresh.proofs.StageSteps.{Iteration, iteration-begin, iteration-length, iteration-end, word-below, iteration-block, iteration-on}
 use borrow.Author.Needs.{needs}
 use Rattle.refresh.proofs.write_marked.Statement.{statement}
 use Rattle.refresh.proofs.write_marked.Tie as tie
 
 abbrev Inv-loop : tie.InvT-loop
-Inv-loop h rows pending₀ words stamp used₀ first₀ pending used first = (s : Stageable h rows pending₀ words) → Turn stamp s pending used first
+Inv-loop h rows pending₀ words stamp used₀ first₀ pending used first = (s : Stageable h rows pending₀ words) → Iteration stamp s pending used first
 
 abbrev μ-loop : tie.MeasureT-loop
 μ-loop h rows pending₀ words stamp used₀ first₀ pending used first = h .rows - first
@@ -17,13 +17,13 @@ shared-slice-read-word : tie.Need-shared-slice-read-word Inv-loop μ-loop
 shared-slice-read-word c = let s = c .before .before .before .before .before .before .before .pre in omega (arith, word-below _ s (c .before .before .before .loop .inv s) (c .before .if1 .taken), s .bitmap .long)
 
 write-block-requires : tie.Need-write-block-requires Inv-loop μ-loop
-write-block-requires c κs = let s = c .before .before .before .before .before .before .before .before .pre in turn-block _ s (c .before .before .before .before .loop .inv s) (c .before .before .if1 .taken)
+write-block-requires c κs = let s = c .before .before .before .before .before .before .before .before .pre in iteration-block _ s (c .before .before .before .before .loop .inv s) (c .before .before .if1 .taken)
 
 add-first : tie.Need-add-first Inv-loop μ-loop
 add-first c = let s = c .before .before .before .before .before .before .before .before .before .before .before .pre in omega (arith, word-below _ s (c .before .before .before .before .before .before .before .loop .inv s) (c .before .before .before .before .before .if1 .taken))
 
 loop-again : tie.Need-loop-again Inv-loop μ-loop
-loop-again c s = turn-on _ s (c .before .before .before .before .before .before .before .loop .inv s) (c .before .before .before .before .before .if1 .taken) (c .before .before .write-block .ensures)
+loop-again c s = iteration-on _ s (c .before .before .before .before .before .before .before .loop .inv s) (c .before .before .before .before .before .if1 .taken) (c .before .before .write-block .ensures)
 
 pub write-marked-spec : {M : Type 1} → statement M
 write-marked-spec =
@@ -31,12 +31,12 @@ write-marked-spec =
     (tie.spec
     Inv-loop
     μ-loop
-    (λ c s. turn-begin _ s)
+    (λ c s. iteration-begin _ s)
     (λ c. search needs) (λ c. search needs)
     shared-slice-read-word
     write-block-requires
     add-first
     (λ c. omega (arith, c .before .before .before .before .before .if1 .taken))
     loop-again
-    (λ c. turn-length _ (c .before .before .before .before .before .before .pre) (c .before .before .loop .inv (c .before .before .before .before .before .before .pre)))
-    (λ c. record { on = λ s. turn-end _ s (c .before .before .loop .inv s) (c .if1 .left) }))
+    (λ c. iteration-length _ (c .before .before .before .before .before .before .pre) (c .before .before .loop .inv (c .before .before .before .before .before .before .pre)))
+    (λ c. record { on = λ s. iteration-end _ s (c .before .before .loop .inv s) (c .if1 .left) }))

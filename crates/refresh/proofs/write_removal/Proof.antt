@@ -3,7 +3,7 @@ use Prim.Native.Nat.{ℕ}
 use mathlib.Core.Path.{ap, _∙_}
 use mathlib.Core.List.{List}
 use native.Mathlib.Omega.{arith}
-use Rattle.lists.specs.Lists.{putAt}
+use Rattle.lists.specs.Lists.{splice}
 use borrow.Author.Needs.{needs}
 use Rattle.refresh.proofs.WriteSteps.{within, removal-words}
 use Rattle.refresh.proofs.write_removal.Statement.{statement}
@@ -12,7 +12,7 @@ use Rattle.refresh.proofs.write_removal.Tie as tie
 returns : tie.Need-returns
 returns c =
     let a = c .before .before .before .before .before .before .before .before .before .before in
-    c .before .before .write-row-record .ensures ∙ ap (λ (w : List ℕ). putAt (a .args .pending .now) (a .args .at) w) (removal-words (a .pre .0) _ (c .before .before .before .before .compact-hash .ensures))
+    c .before .before .write-row-record .ensures ∙ ap (λ (w : List ℕ). splice (a .args .pending .now) (a .args .at) w) (removal-words (a .pre .0) _ (c .before .before .before .before .compact-hash .ensures))
 
 pub write-removal-spec : {M : Type 1} → statement M
 write-removal-spec =

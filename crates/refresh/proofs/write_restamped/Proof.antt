@@ -4,7 +4,7 @@ use mathlib.Core.Path.{refl, sym, ap, _∙_}
 use mathlib.Core.List.{List}
 use native.Mathlib.Omega.{arith}
 use lib.Seq.{length-take-le}
-use Rattle.lists.specs.Lists.{putAt}
+use Rattle.lists.specs.Lists.{splice}
 use borrow.Author.Needs.{needs}
 use Rattle.refresh.proofs.WriteSteps.{within, part-fits, cells-fit, key-fits, restamped-words}
 use Rattle.refresh.proofs.write_restamped.Statement.{statement}
@@ -14,7 +14,7 @@ returns : tie.Need-returns
 returns c =
     let a = c .before .before .before .before .before .before .before .before .before .before .before .before .before .before .before .before .before .before in
     c .before .before .write-record .ensures
-    ∙ ap (λ (w : List ℕ). putAt (a .args .pending .now) (a .args .at) w) (restamped-words (a .pre .0) _ _ _ refl (c .before .before .before .before .before .before .before .before .before .before .before .write-row .ensures) _ (c .before .before .before .before .before .before .compact-hash .ensures))
+    ∙ ap (λ (w : List ℕ). splice (a .args .pending .now) (a .args .at) w) (restamped-words (a .pre .0) _ _ _ refl (c .before .before .before .before .before .before .before .before .before .before .before .write-row .ensures) _ (c .before .before .before .before .before .before .compact-hash .ensures))
 
 pub write-restamped-spec : {M : Type 1} → statement M
 write-restamped-spec =

@@ -4,7 +4,7 @@ use mathlib.Core.Path.{ap, _∙_}
 use mathlib.Core.List.{List}
 use native.Mathlib.Omega.{arith}
 use lib.ListN.{set}
-use Rattle.lists.specs.Lists.{putAt, rowAt}
+use Rattle.lists.specs.Lists.{splice, rowAt}
 use Rattle.plain_table.specs.Staged.{insert}
 use Rattle.table.specs.Stores.{recordWords}
 use borrow.Author.Needs.{needs}
@@ -17,7 +17,7 @@ returns c =
     let s = c .before .before .before .before .before .before .before .before .before .before .before in
     let a = s .args in
     c .before .before .write-restamped .ensures
-    ∙ ap (λ (l : List ℕ). putAt l (a .at + (a .h .keys + 3)) (recordWords (a .h .keys) (insert (set (rowAt (a .h .columns) (a .row) (a .rows .now)) (a .h .sort) (a .stamp))))) (c .before .before .before .before .before .before .before .write-removal .ensures)
+    ∙ ap (λ (l : List ℕ). splice l (a .at + (a .h .keys + 3)) (recordWords (a .h .keys) (insert (set (rowAt (a .h .columns) (a .row) (a .rows .now)) (a .h .sort) (a .stamp))))) (c .before .before .before .before .before .before .before .write-removal .ensures)
     ∙ both-words (s .pre .0) (a .stamp) (a .pending .now) (a .at) (s .pre .1)
 
 pub write-row-spec : {M : Type 1} → statement M

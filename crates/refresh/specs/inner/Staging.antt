@@ -4,8 +4,8 @@ use mathlib.Core.Path.{_≡_}
 use mathlib.Core.Bool.{Bool, true, false}
 use mathlib.Core.List.{List, map}
 use lib.ListN.{length}
-use Rattle.lists.specs.Lists.{putAt, keep, rowAt, flat, countFrom}
-use Rattle.row_buffer.specs.Ranks.{marks, countTo}
+use Rattle.lists.specs.Lists.{splice, filter, rowAt, flatten, iota}
+use Rattle.row_buffer.specs.Ranks.{bitmapWord, countTo}
 use Rattle.bitmap.specs.inner.Bitmaps.{Bitmap}
 use Rattle.plain_table.specs.Plain.{Numbered}
 use Rattle.plain_table.specs.Refreshing.{refreshed}
@@ -19,24 +19,24 @@ numbered h rows i = record { number = i; cells = rowAt (h .columns) i rows }
 
 -- the rows in the bitmap among the first n rows
 unfoldable pub markedRows : Header → List ℕ → (ℕ → Bool) → ℕ → List Numbered
-markedRows h rows test n = map (numbered h rows) (keep test (countFrom 0 n))
+markedRows h rows test n = map (numbered h rows) (filter test (iota 0 n))
 
 -- the words of the two records of each row
 unfoldable pub rowsWords : Header → ℕ → List Numbered → List ℕ
-rowsWords h stamp rows = flat (map (recordWords (h .keys)) (refreshed (openingOf h) stamp rows))
+rowsWords h stamp rows = flatten (map (recordWords (h .keys)) (refreshed (openingOf h) stamp rows))
 
 -- the number of words for one row
 abbrev pub rowWords : Header → ℕ
 rowWords h = h .keys + 3 + (h .columns + 2)
 
 -- a row is within the store
-pub record Lying (h : Header) (rows : List ℕ) (row : ℕ) : Type 0 where
+pub record RowInStore (h : Header) (rows : List ℕ) (row : ℕ) : Type 0 where
   pub inside : outside h ≡ false
   pub rows-long : h .capacity * h .columns ≤ length rows
   pub row-below : row < h .rows
 
 -- there is room for the records of all rows in the bitmap
-pub record Room (h : Header) (rows pending : List ℕ) (test : ℕ → Bool) : Type 0 where
+pub record RecordsFit (h : Header) (rows pending : List ℕ) (test : ℕ → Bool) : Type 0 where
   pub inside : outside h ≡ false
   pub rows-long : h .capacity * h .columns ≤ length rows
   pub rows-only : (i : ℕ) → test i ≡ true → i < h .rows
@@ -46,14 +46,14 @@ pub record Room (h : Header) (rows pending : List ℕ) (test : ℕ → Bool) : T
 -- the records of the rows in the bitmap among the first n rows are written
 pub record Written (h : Header) (rows pending : List ℕ) (test : ℕ → Bool) (stamp : ℕ) (pending′ : List ℕ) (used n : ℕ) : Type 0 where
   pub words-used : used ≡ h .pending + countTo test n * rowWords h
-  pub words : pending′ ≡ putAt pending (h .pending) (rowsWords h stamp (markedRows h rows test n))
+  pub words : pending′ ≡ splice pending (h .pending) (rowsWords h stamp (markedRows h rows test n))
 
 -- the same up to a row, and a word is the bitmap of the 64 rows from there on
 pub record Block (h : Header) (rows pending : List ℕ) (used first word stamp : ℕ) : Type 0 where
   pub pending₀ : List ℕ
   pub test : ℕ → Bool
-  pub room : Room h rows pending₀ test
-  pub marked : word ≡ marks (λ bit. test (first + bit)) 64
+  pub room : RecordsFit h rows pending₀ test
+  pub marked : word ≡ bitmapWord (λ bit. test (first + bit)) 64
   pub written : Written h rows pending₀ test stamp pending used first
 
 -- the records of these 64 rows are written too
@@ -64,7 +64,7 @@ pub record BlockWritten (h : Header) (rows pending : List ℕ) (used first word 
 pub record Stageable (h : Header) (rows pending words : List ℕ) : Type 0 where
   pub test : ℕ → Bool
   pub bitmap : Bitmap words test
-  pub room : Room h rows pending test
+  pub room : RecordsFit h rows pending test
 
 -- the records of all rows are written
 pub record AllWritten (h : Header) (rows pending words : List ℕ) (stamp r : ℕ) (pending′ : List ℕ) : Type 0 where

@@ -6,7 +6,7 @@ use lib.ListN.{length}
 use borrow.Author.Needs.{needs}
 use Rattle.refresh_spec.specs.inner.Finding.{usable}
 use Rattle.refresh_index.proofs.Sizes.{Small, small, fillable-same}
-use Rattle.refresh_index.proofs.Catches.{goes-on, caught-on, fresh-room, caught-afresh}
+use Rattle.refresh_index.proofs.Catches.{goes-on, caught-on, fresh-room, caught-restarted}
 use Rattle.refresh_index.proofs.catch_up.Statement.{statement}
 use Rattle.refresh_index.proofs.catch_up.Tie as tie
 
@@ -30,7 +30,7 @@ fill-requires-2 c κs = (fillable-same (fresh-room _ _ _ _ (c .before .before .b
 
 returns-2 : tie.Need-returns-2
 returns-2 c =
-    caught-afresh _ _ _ _ (c .before .before .before .before .before .before .before .before .before .before .before .before .before .before .pre .0) (sym (c .before .before .before .before .before .before .before .before .before .before .before .before .before .before .pre .1) ∙ c .before .before .before .before .before .before .before .before .before .before .if1 .left) _ _ (c .before .index3 .given ∙ c .before .before .before .before .before .index2 .given)
+    caught-restarted _ _ _ _ (c .before .before .before .before .before .before .before .before .before .before .before .before .before .before .pre .0) (sym (c .before .before .before .before .before .before .before .before .before .before .before .before .before .before .pre .1) ∙ c .before .before .before .before .before .before .before .before .before .before .if1 .left) _ _ (c .before .index3 .given ∙ c .before .before .before .before .before .index2 .given)
     (rw (c .before .before .before .before .before .before .before .heads-at .ensures) at (c .before .before .before .before .before .before .empty-buckets .ensures)) (c .before .before .fill2 .ensures)
 
 pub catch-up-spec : {M : Type 1} → statement M

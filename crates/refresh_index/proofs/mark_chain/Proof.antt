@@ -11,7 +11,7 @@ use Rattle.refresh_spec.specs.Index.{chain, entriesUnder, leads}
 use Rattle.refresh_index.specs.Laws.Chains.{chain-none, chain-above}
 use Rattle.refresh_index.proofs.Sizes.{readable}
 use Rattle.refresh_index.proofs.Goings.{Going, going-few}
-use Rattle.refresh_index.proofs.Walks.{Walkable, walkable, under-is, walk-begin, walk-on, walk-end}
+use Rattle.refresh_index.proofs.ChainSteps.{ChainReady, chain-ready, under-is, chain-begin, chain-step, chain-end}
 use Rattle.refresh_index.proofs.mark_chain.Statement.{statement}
 use Rattle.refresh_index.proofs.mark_chain.Tie as tie
 
@@ -23,21 +23,21 @@ Inv-loop h rows index columns value words₀ limit₀ link₀ marked₀ words li
 abbrev μ-loop : tie.MeasureT-loop
 μ-loop h rows index columns value words₀ limit₀ link₀ marked₀ words limit link marked = limit
 
-sizes : (s : tie.Start Inv-loop μ-loop) → Walkable (s .args .h) (s .args .columns .now) (s .args .index .now)
-sizes s = walkable _ (s .args .rows .now) _ _ (s .pre .0) (s .pre .1)
+sizes : (s : tie.Start Inv-loop μ-loop) → ChainReady (s .args .h) (s .args .columns .now) (s .args .index .now)
+sizes s = chain-ready _ (s .args .rows .now) _ _ (s .pre .0) (s .pre .1)
 
 returns : tie.Need-returns Inv-loop μ-loop
 returns c =
     let s = c .before .before .before .before .before .before in
     let none : entriesUnder (s .args .h .capacity) (s .args .index .now) (s .args .value) ≡ [] = under-is _ _ _ (s .args .value) (s .pre .1) ∙ rw (c .if1 .taken) (unfold chain in refl) in
-    walk-end _ _ _ (s .args .value) _ none (walk-begin _ _ _ (s .args .value) _ _ _ refl)
+    chain-end _ _ _ (s .args .value) _ none (chain-begin _ _ _ (s .args .value) _ _ _ refl)
 
 loop-holds : tie.Need-loop-holds Inv-loop μ-loop
 loop-holds c =
     let s = c .before .before .before .before .before .before .before .before .before .before in (
       omega arith,
       refl,
-      walk-begin _ _ _ (s .args .value) _ _ _ (rw (c .before .bucket-of .ensures .0, c .before .before .before .heads-at .ensures) (under-is _ _ _ (s .args .value) (s .pre .1))),
+      chain-begin _ _ _ (s .args .value) _ _ _ (rw (c .before .bucket-of .ensures .0, c .before .before .before .heads-at .ensures) (under-is _ _ _ (s .args .value) (s .pre .1))),
     )
 
 mark-entry-requires : tie.Need-mark-entry-requires Inv-loop μ-loop
@@ -50,26 +50,26 @@ add-marked : tie.Need-add-marked Inv-loop μ-loop
 add-marked c =
     let s = c .before .before .before .before .before .before .before .before .before .before .before .before .before .before .before .before .before in
     let l = c .before .before .before .before .before .before .loop in
-    let g = walk-on _ _ _ (s .args .value) _ (l .limit) (l .link) (c .before .before .before .before .before .loop-test .taken) (omega (arith, leb-true)) (l .inv .2) (c .before .before .mark-entry .ensures) in
+    let g = chain-step _ _ _ (s .args .value) _ (l .limit) (l .link) (c .before .before .before .before .before .loop-test .taken) (omega (arith, leb-true)) (l .inv .2) (c .before .before .mark-entry .ensures) in
     omega (arith, going-few g (s .pre .2) (λ w. c .before .before .before .before .before .before .before .before .before .before .before .before .before .slice-known .given w .fits))
 
 loop-again : tie.Need-loop-again Inv-loop μ-loop
 loop-again c =
     let s = c .before .before .before .before .before .before .before .before .before .before .before .before .before .before .before .before .before .before in
     let l = c .before .before .before .before .before .before .before .loop in
-    (omega (arith, leb-true), c .before .before .words .given ∙ l .inv .1, walk-on _ _ _ (s .args .value) _ (l .limit) (l .link) (c .before .before .before .before .before .before .loop-test .taken) (omega (arith, leb-true)) (l .inv .2) (c .before .before .before .mark-entry .ensures))
+    (omega (arith, leb-true), c .before .before .words .given ∙ l .inv .1, chain-step _ _ _ (s .args .value) _ (l .limit) (l .link) (c .before .before .before .before .before .before .loop-test .taken) (omega (arith, leb-true)) (l .inv .2) (c .before .before .before .mark-entry .ensures))
 
 returns-2 : tie.Need-returns-2 Inv-loop μ-loop
 returns-2 c =
     let s = c .before .before .before .before .before .before .before .before .before .before .before .before .before in
-    walk-end _ _ _ (s .args .value) _ (chain-above _ _ _ (omega (arith, leb-false))) (c .before .before .loop .inv .2)
+    chain-end _ _ _ (s .args .value) _ (chain-above _ _ _ (omega (arith, leb-false))) (c .before .before .loop .inv .2)
 
 returns-3 : tie.Need-returns-3 Inv-loop μ-loop
 returns-3 c =
     let s = c .before .before .before .before .before .before .before .before .before .before .before .before in
     let l = c .before .loop in
     let z : l .link ≡ 0 = omega arith in
-    walk-end _ _ _ (s .args .value) _ (rw z (chain-none _ _)) (l .inv .2)
+    chain-end _ _ _ (s .args .value) _ (rw z (chain-none _ _)) (l .inv .2)
 
 pub mark-chain-spec : {M : Type 1} → statement M
 mark-chain-spec =

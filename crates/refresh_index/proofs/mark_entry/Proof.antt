@@ -6,14 +6,14 @@ use lib.ListN.{length}
 use borrow.Author.Needs.{needs}
 use Rattle.key_index.specs.Laws.Places.{Inside}
 use Rattle.refresh_index.specs.inner.Entries.{entryRow, entryValue}
-use Rattle.refresh_spec.specs.Laws.Places.{EntryLies, entry-lies}
+use Rattle.refresh_spec.specs.Laws.Places.{EntryInRange, entry-in-range}
 use Rattle.refresh_index.proofs.Sizes.{Small, small, cell-in}
 use Rattle.refresh_index.proofs.Leads.{live-by, dead-led, other-led, row-led}
 use Rattle.refresh_index.proofs.mark_entry.Statement.{statement}
 use Rattle.refresh_index.proofs.mark_entry.Tie as tie
 
-lies : (s : tie.Start) → EntryLies (s .args .h .rows) (length (s .args .columns .now)) (s .args .entry)
-lies s = entry-lies _ _ _ (s .pre .1)
+lies : (s : tie.Start) → EntryInRange (s .args .h .rows) (length (s .args .columns .now)) (s .args .entry)
+lies s = entry-in-range _ _ _ (s .pre .1)
 
 cell : (s : tie.Start) → let a = s .args in Inside (a .rows .now) (a .h .columns) (entryRow (a .columns .now) (a .entry))
 cell s = cell-in (s .pre .0) _ _ (lies s .row-there) (lies s .place-there) .0

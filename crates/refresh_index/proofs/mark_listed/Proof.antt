@@ -7,7 +7,7 @@ use lib.ListN.{length, drop}
 use borrow.Author.Needs.{needs}
 use Rattle.refresh_index.specs.inner.Marking.{found}
 use Rattle.refresh_index.proofs.Goings.{Going, going-begin, going-few}
-use Rattle.refresh_index.proofs.Walks.{value-on, values-end}
+use Rattle.refresh_index.proofs.ChainSteps.{value-on, values-end}
 use Rattle.refresh_index.proofs.mark_listed.Statement.{statement}
 use Rattle.refresh_index.proofs.mark_listed.Tie as tie
 

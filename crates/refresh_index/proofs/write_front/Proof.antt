@@ -4,7 +4,7 @@ use mathlib.Core.List.{List}
 use Prim.Native.Nat.{ℕ}
 use lib.ListN.{set, length-set}
 use borrow.Author.Needs.{needs}
-use Rattle.lists.specs.Lists.{putAt}
+use Rattle.lists.specs.Lists.{splice}
 use Rattle.refresh_index.specs.inner.Entries.{fronted}
 use Rattle.refresh_index.proofs.write_front.Statement.{statement}
 use Rattle.refresh_index.proofs.write_front.Tie as tie
@@ -16,7 +16,7 @@ returns : tie.Need-returns
 unfolding fronted
 returns c =
     let a = c .before .before .before .before .before .before .before .before .before .before .before .args in
-    ap (λ (l : List ℕ). set l 12 (a .buckets)) (c .before .before .write-row2 .ensures ∙ ap (λ (l : List ℕ). putAt l 4 (a .columns .now)) (c .before .before .before .before .before .before .write-row .ensures))
+    ap (λ (l : List ℕ). set l 12 (a .buckets)) (c .before .before .write-row2 .ensures ∙ ap (λ (l : List ℕ). splice l 4 (a .columns .now)) (c .before .before .before .before .before .before .write-row .ensures))
 
 pub write-front-spec : {M : Type 1} → statement M
 write-front-spec =

@@ -9,8 +9,8 @@ use native.Mathlib.Numerals.{add-one}
 use native.Mathlib.Omega.{arith}
 use lib.ListN.{length, getD, set}
 use lib.Seq.{getD-set-same, getD-set-other, lt-length-set}
-use Rattle.lists.specs.Lists.{has}
-use Rattle.lists.specs.Laws.Rising.{has-here, has-there}
+use Rattle.lists.specs.Lists.{elem}
+use Rattle.lists.specs.Laws.Rising.{elem-here, elem-there}
 use Rattle.refresh_spec.specs.Index.{chain}
 use Rattle.refresh_spec.specs.Laws.Chains.{chain-here, chain-below}
 use Rattle.refresh_spec.specs.Laws.Fronts.{chain-same}
@@ -62,13 +62,13 @@ module _ (index : List ℕ) (head n : ℕ) (below : 16 + n < head) (inside : hea
       ∙ rw own-link (ap (λ (es : List ℕ). n ∷ es) (chain-same n index (pushed index head n) (getD index head 0) links))
 
   -- no bucket loses an entry: if the link of another bucket refers to this entry, it referred to none before
-  pub pushed-keeps : (at e : ℕ) → 16 + n < at → has e (chain index n (getD index at 0)) ≡ true
-      → has e (chain (pushed index head n) (suc n) (getD (pushed index head n) at 0)) ≡ true
+  pub pushed-keeps : (at e : ℕ) → 16 + n < at → elem e (chain index n (getD index at 0)) ≡ true
+      → elem e (chain (pushed index head n) (suc n) (getD (pushed index head n) at 0)) ≡ true
   pushed-keeps at e h q =
       elim (ℕ-discrete at head) [
-        | yes p ↦ rw (p, pushed-own) (elim (ℕ-discrete e n) [ yes r ↦ has-here e n _ r | no r ↦ has-there e n _ r ∙ rw p at q ])
+        | yes p ↦ rw (p, pushed-own) (elim (ℕ-discrete e n) [ yes r ↦ elem-here e n _ r | no r ↦ elem-there e n _ r ∙ rw p at q ])
         | no p ↦ rw (other at (omega arith) p) (elim (ℕ-discrete (getD index at 0) (suc n)) [
-          | yes r ↦ absurd (false≢true (unfold has in rw (chain-above index n (getD index at 0) (omega arith)) at q))
+          | yes r ↦ absurd (false≢true (unfold elem in rw (chain-above index n (getD index at 0) (omega arith)) at q))
           | no r ↦ rw (chain-below (pushed index head n) n (getD index at 0) r, chain-same n index (pushed index head n) (getD index at 0) links) q
         ])
       ]

@@ -7,7 +7,7 @@ use lib.Dec.{leb, eqb}
 use lib.ListN.{length, take, drop, getD}
 use borrow.Author.Tests.{leb-true, eqb-true, eq-eqb, le-ltb}
 use Rattle.lists.specs.Lists.{same}
-use Rattle.lists.specs.Laws.Keep.{and-left, and-right}
+use Rattle.lists.specs.Laws.Filter.{and-left, and-right}
 use Rattle.lists.specs.Laws.Rising.{same-eq, same-refl}
 use Rattle.plain_table.specs.Refreshing.{indexShort}
 use Rattle.table.specs.declared.Header.{Header}

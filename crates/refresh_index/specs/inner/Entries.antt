@@ -6,7 +6,7 @@ use mathlib.Core.Bool.{Bool, true, false}
 use mathlib.Core.List.{List, [], _∷_}
 use lib.ListN.{length, drop, getD, set}
 use lib.Dec.{ltb}
-use Rattle.lists.specs.Lists.{putAt, every, has, rowAt}
+use Rattle.lists.specs.Lists.{splice, all, elem, rowAt}
 use Rattle.constraints.specs.Constraints.{isLive}
 use Rattle.table.specs.declared.Header.{Header}
 use Rattle.table.specs.Refusing.{outside}
@@ -18,7 +18,7 @@ pub record Readable (h : Header) (rows columns : List ℕ) : Type 0 where
   pub inside : outside h ≡ false
   pub rows-long : h .capacity * h .columns ≤ length rows
   pub columns-few : length columns ≤ 8
-  pub columns-there : every (λ column. ltb column (h .columns)) columns ≡ true
+  pub columns-there : all (λ column. ltb column (h .columns)) columns ≡ true
 
 -- the cell of a row in the column that is named at a place
 unfoldable pub cellNamed : Header → List ℕ → List ℕ → ℕ → ℕ → ℕ
@@ -45,7 +45,7 @@ pushed index head entry = set (set index (16 + entry) (getD index head 0)) head 
 -- each entry below n whose row is live is listed under its value
 pub record Listed (h : Header) (rows columns : List ℕ) (buckets n : ℕ) (index : List ℕ) : Type 0 where
   pub each : (entry : ℕ) → entry < n → entryLive h rows columns entry ≡ true
-      → has entry (chain index n (getD index (headsAt h columns + bucketOf buckets (entryValue h rows columns entry)) 0)) ≡ true
+      → elem entry (chain index n (getD index (headsAt h columns + bucketOf buckets (entryValue h rows columns entry)) 0)) ≡ true
 
 -- a store with room for this number of buckets, which are enough
 pub record Fillable (h : Header) (rows columns : List ℕ) (buckets : ℕ) (index : List ℕ) : Type 0 where
@@ -64,7 +64,7 @@ pub record Pushed (h : Header) (rows columns : List ℕ) (buckets n : ℕ) (inde
 -- the words before the entries
 unfoldable pub fronted : Header → List ℕ → ℕ → List ℕ → List ℕ
 fronted h columns buckets index =
-    set (putAt (putAt index 0 (1 ∷ h .generation ∷ h .rows ∷ length columns ∷ [])) 4 columns) 12 buckets
+    set (splice (splice index 0 (1 ∷ h .generation ∷ h .rows ∷ length columns ∷ [])) 4 columns) 12 buckets
 
 -- the rows from one on are pushed, and the words before the entries are written
 pub record Filled (h : Header) (rows columns : List ℕ) (buckets from : ℕ) (index index′ : List ℕ) : Type 0 where

@@ -2,12 +2,12 @@
 use Prim.Native.Nat.{_-_}
 use borrow.Author.Needs.{needs}
 use native.Mathlib.Omega.{arith}
-use Rattle.refresh_scan.proofs.Links.{Walking, walking-begin, walking-end, walking-found, walking-less, walking-on}
+use Rattle.refresh_scan.proofs.Links.{LinkScan, link-scan-begin, link-scan-end, link-scan-found, link-scan-less, link-scan-on}
 use Rattle.refresh_scan.proofs.is_among.Statement.{statement}
 use Rattle.refresh_scan.proofs.is_among.Tie as tie
 
 abbrev Inv-loop : tie.InvT-loop
-Inv-loop values links value link₀ link = Walking values value link
+Inv-loop values links value link₀ link = LinkScan values value link
 
 abbrev μ-loop : tie.MeasureT-loop
 μ-loop values links value link₀ link = link
@@ -16,12 +16,12 @@ cast-link : tie.Need-cast-link Inv-loop μ-loop
 cast-link c = omega (arith, c .shared-slice-known3 .given (c .before .bucket-place .result))
 
 loop-holds : tie.Need-loop-holds Inv-loop μ-loop
-loop-holds c = walking-begin _ _ _ (c .before .before .before .before .pre) _ (c .before .bucket-place .ensures .0)
+loop-holds c = link-scan-begin _ _ _ (c .before .before .before .before .pre) _ (c .before .bucket-place .ensures .0)
 
 returns : tie.Need-returns Inv-loop μ-loop
 returns c =
     let l = c .before .before .before in
-    walking-found _ _ _ (l .before .before .before .before .before .pre) _ (l .loop .inv) (c .before .before .loop-test .taken) (c .if1 .taken)
+    link-scan-found _ _ _ (l .before .before .before .before .before .pre) _ (l .loop .inv) (c .before .before .loop-test .taken) (c .if1 .taken)
 
 cast-link-2 : tie.Need-cast-link-2 Inv-loop μ-loop
 cast-link-2 c = omega (arith, c .shared-slice-known5 .given (c .before .before .before .before .loop .link - 1))
@@ -29,15 +29,15 @@ cast-link-2 c = omega (arith, c .shared-slice-known5 .given (c .before .before .
 loop-less : tie.Need-loop-less Inv-loop μ-loop
 loop-less c =
     let l = c .before .before .before .before in
-    walking-less _ _ _ (l .before .before .before .before .before .pre) _ (l .loop .inv) (c .before .before .before .loop-test .taken)
+    link-scan-less _ _ _ (l .before .before .before .before .before .pre) _ (l .loop .inv) (c .before .before .before .loop-test .taken)
 
 loop-again : tie.Need-loop-again Inv-loop μ-loop
 loop-again c =
     let l = c .before .before .before .before in
-    walking-on _ _ _ (l .before .before .before .before .before .pre) _ (l .loop .inv) (c .before .before .before .loop-test .taken) (c .before .if1 .left)
+    link-scan-on _ _ _ (l .before .before .before .before .before .pre) _ (l .loop .inv) (c .before .before .before .loop-test .taken) (c .before .if1 .left)
 
 returns-2 : tie.Need-returns-2 Inv-loop μ-loop
-returns-2 c = walking-end _ _ _ (c .before .before .before .before .before .before .pre) _ (c .before .loop .inv) (c .loop-test .left)
+returns-2 c = link-scan-end _ _ _ (c .before .before .before .before .before .before .pre) _ (c .before .loop .inv) (c .loop-test .left)
 
 pub is-among-spec : {M : Type 1} → statement M
 is-among-spec =

@@ -3,12 +3,12 @@ use mathlib.Core.Path.{_∙_}
 use borrow.Author.Needs.{needs}
 use borrow.Author.Tests.{not-true, not-false}
 use native.Mathlib.Omega.{arith}
-use Rattle.refresh_scan.proofs.Marks.{RowLies, row-lies, columns-in, dead-mentions, live-mentions, row-passed, row-marked}
+use Rattle.refresh_scan.proofs.BitmapSteps.{RowInStore, row-in-store, columns-in, dead-mentions, live-mentions, row-passed, row-marked}
 use Rattle.refresh_scan.proofs.mark_row.Statement.{statement}
 use Rattle.refresh_scan.proofs.mark_row.Tie as tie
 
-lies : (s : tie.Start) → RowLies (s .args .h) (s .args .rows .now) (s .args .row)
-lies s = row-lies (s .pre .0) (s .pre .1)
+lies : (s : tie.Start) → RowInStore (s .args .h) (s .args .rows .now) (s .args .row)
+lies s = row-in-store (s .pre .0) (s .pre .1)
 
 mul-at : tie.Need-mul-at
 mul-at c = omega (arith, lies (c .before .before .before .before .before .before))

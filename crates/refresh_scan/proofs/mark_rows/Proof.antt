@@ -6,7 +6,7 @@ use native.Mathlib.Omega.{arith}
 use Rattle.bitmap.specs.inner.Bitmaps.{Marked}
 use Rattle.bitmap.specs.Laws.Bitmaps.{bitmap-of, marked-few}
 use Rattle.refresh_spec.specs.inner.Finding.{mentionsFrom}
-use Rattle.refresh_scan.proofs.Marks.{scan-on, upTo, rows-begin, rows-on, rows-end}
+use Rattle.refresh_scan.proofs.BitmapSteps.{scan-on, upTo, rows-begin, rows-on, rows-end}
 use Rattle.refresh_scan.proofs.mark_rows.Statement.{statement}
 use Rattle.refresh_scan.proofs.mark_rows.Tie as tie
 

@@ -8,7 +8,7 @@ use lib.ListN.{length, take}
 use Rattle.bitmap.specs.inner.Bitmaps.{Marked}
 use Rattle.bitmap.specs.Laws.Bitmaps.{bitmap-of, marked-few}
 use Rattle.refresh_spec.specs.inner.Finding.{mentionsFrom}
-use Rattle.refresh_scan.proofs.Marks.{scan-on, no-rows, part-few, parts-begin, parts-on, parts-end}
+use Rattle.refresh_scan.proofs.BitmapSteps.{scan-on, no-rows, part-few, parts-begin, parts-on, parts-end}
 use Rattle.refresh_scan.proofs.mark_unlisted.Statement.{statement}
 use Rattle.refresh_scan.proofs.mark_unlisted.Tie as tie
 

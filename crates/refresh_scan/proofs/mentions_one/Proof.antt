@@ -5,7 +5,7 @@ use borrow.Author.Needs.{needs}
 use borrow.Author.Tests.{ltb-true}
 use native.Mathlib.Omega.{arith}
 use lib.ListN.{length, drop}
-use Rattle.lists.specs.Laws.Keep.{every-getD}
+use Rattle.lists.specs.Laws.Filter.{all-getD}
 use Rattle.plain_table.specs.Refreshing.{mentions}
 use Rattle.refresh_scan.proofs.Mentions.{mentions-here, mentions-on, mentions-end}
 use Rattle.refresh_scan.proofs.mentions_one.Statement.{statement}
@@ -27,7 +27,7 @@ mul-is-among : tie.Need-mul-is-among Inv-loop μ-loop
 mul-is-among c = omega (arith, c .shared-slice-known5 .given (c .before .before .loop .i))
 
 shared-slice-read-is-among : tie.Need-shared-slice-read-is-among Inv-loop μ-loop
-shared-slice-read-is-among c = ltb-true _ _ (every-getD _ _ (c .before .before .before .before .before .before .before .before .pre .0) (c .before .before .before .loop .i) (search needs) 0)
+shared-slice-read-is-among c = ltb-true _ _ (all-getD _ _ (c .before .before .before .before .before .before .before .before .pre .0) (c .before .before .before .loop .i) (search needs) 0)
 
 returns : tie.Need-returns Inv-loop μ-loop
 returns c =

@@ -5,7 +5,7 @@ use mathlib.Core.Bool.{Bool, true, false, cond, _&&_}
 use mathlib.Core.List.{List}
 use lib.Dec.{eqb, ltb}
 use lib.ListN.{length, getD}
-use Rattle.lists.specs.Lists.{every}
+use Rattle.lists.specs.Lists.{all}
 use Rattle.table.specs.declared.Header.{Header}
 use Rattle.table.specs.Refusing.{outside}
 use Rattle.refresh_spec.specs.Index.{bucketOf}
@@ -17,7 +17,7 @@ pub record Scannable (h : Header) (rows : List ℕ) (from : ℕ) (columns words 
   pub rows-long : h .capacity * h .columns ≤ length rows
   pub from-inside : from ≤ h .rows
   pub columns-few : length columns ≤ 8
-  pub columns-there : every (λ column. ltb column (h .columns)) columns ≡ true
+  pub columns-there : all (λ column. ltb column (h .columns)) columns ≡ true
   pub words-long : length words ≡ 1024
 
 -- row i is this one, is live and mentions a value

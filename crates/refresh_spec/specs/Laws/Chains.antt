@@ -7,8 +7,8 @@ use native.Mathlib.Decide.{ℕ-discrete}
 use native.Mathlib.Omega.{arith}
 use lib.ListN.{getD}
 use borrow.Author.Tests.{eq-eqb, ne-eqb}
-use Rattle.lists.specs.Lists.{has}
-use Rattle.lists.specs.Laws.Rising.{has-there}
+use Rattle.lists.specs.Lists.{elem}
+use Rattle.lists.specs.Laws.Rising.{elem-there}
 use Rattle.refresh_spec.specs.Index.{rowsSeen, columnsNamed, chain, entriesUnder}
 
 -- a link to the highest entry below the limit, and to another
@@ -21,17 +21,17 @@ unfolding chain
 chain-below index n link e = rw (ne-eqb link (suc n) e)
 
 -- entries of a chain are below its limit
-chain-limit : (index : List ℕ) (n link e : ℕ) → has e (chain index n link) ≡ true → e < n
-chain-limit index zero link e q = absurd (false≢true (unfold chain has in q))
+chain-limit : (index : List ℕ) (n link e : ℕ) → elem e (chain index n link) ≡ true → e < n
+chain-limit index zero link e q = absurd (false≢true (unfold chain elem in q))
 chain-limit index (suc n) link e q =
     elim (ℕ-discrete link (suc n)) [
       | yes p ↦ elim (ℕ-discrete e n) [
         | yes r ↦ omega arith
-        | no r ↦ let b = chain-limit index n (getD index (16 + n) 0) e (sym (has-there e n _ r) ∙ rw (chain-here index n link p) at q) in omega arith
+        | no r ↦ let b = chain-limit index n (getD index (16 + n) 0) e (sym (elem-there e n _ r) ∙ rw (chain-here index n link p) at q) in omega arith
       ]
       | no p ↦ let b = chain-limit index n link e (rw (chain-below index n link p) at q) in omega arith
     ]
 
-pub under-limit : (capacity : ℕ) (index : List ℕ) (value e : ℕ) → has e (entriesUnder capacity index value) ≡ true → e < rowsSeen index * columnsNamed index
+pub under-limit : (capacity : ℕ) (index : List ℕ) (value e : ℕ) → elem e (entriesUnder capacity index value) ≡ true → e < rowsSeen index * columnsNamed index
 unfolding entriesUnder
 under-limit capacity index value e q = chain-limit index (rowsSeen index * columnsNamed index) _ e q

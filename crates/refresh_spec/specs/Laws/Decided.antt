@@ -8,8 +8,8 @@ use mathlib.Core.List.{List}
 use native.Mathlib.Decide.{ℕ-discrete, decLe}
 use native.Mathlib.Omega.{arith}
 use lib.ListN.{getD}
-use Rattle.lists.specs.Lists.{has, rowAt}
-use Rattle.lists.specs.Laws.Keep.{split}
+use Rattle.lists.specs.Lists.{elem, rowAt}
+use Rattle.lists.specs.Laws.Filter.{split}
 use Rattle.constraints.specs.Constraints.{isLive}
 use Rattle.table.specs.declared.Header.{Header}
 use Rattle.refresh_spec.specs.Index.{rowsSeen, columnsNamed, columnNamed, entriesUnder, IndexOf, IndexSound}
@@ -60,7 +60,7 @@ module _ (h : Header) (rows index : List ℕ) where
   -- the entry of a row and a place is in the bucket of the value there
   abbrev Entered : ℕ → ℕ → Type 0
   Entered row place =
-      has (row * columnsNamed index + place) (entriesUnder (h .capacity) index (getD (rowAt (h .columns) row rows) (columnNamed index place) 0)) ≡ true
+      elem (row * columnsNamed index + place) (entriesUnder (h .capacity) index (getD (rowAt (h .columns) row rows) (columnNamed index place) 0)) ≡ true
 
   abbrev AllEntered : Type 0
   AllEntered = (row : ℕ) → row < rowsSeen index → isLive (rowAt (h .columns) row rows) ≡ true → (place : ℕ) → place < columnsNamed index → Entered row place

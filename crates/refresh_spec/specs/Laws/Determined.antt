@@ -4,25 +4,25 @@ use Prim.Native.Nat.{ℕ}
 use mathlib.Core.Path.{_≡_, sym, ap, _∙_}
 use mathlib.Core.Logic.{⊎-elim}
 use mathlib.Core.List.{List}
-use Rattle.lists.specs.Laws.Keep.{keep-same}
+use Rattle.lists.specs.Laws.Filter.{filter-same}
 use Rattle.refusals.specs.Laws.Replies.{some-number}
 use Rattle.refusals.specs.Laws.Determined.{Same}
 use Rattle.plain_table.specs.Refreshing.{Refresh, mentioning, refreshed}
 use Rattle.table.specs.declared.Header.{Header}
 use Rattle.table.specs.Numbers.{openingOf}
-use Rattle.table.specs.Promises.{ofRows}
+use Rattle.table.specs.Contracts.{ofRows}
 use Rattle.refresh_spec.specs.declared.RefreshAnswer.{RefreshAnswer}
 use Rattle.refresh_spec.specs.declared.RefreshAnswer.the-variants.{Refused, Refreshed}
 use Rattle.refresh_spec.specs.Index.{IndexSound}
-use Rattle.refresh_spec.specs.Refreshes.{refreshSays, recordsFound, Refreshing}
+use Rattle.refresh_spec.specs.Refreshes.{refreshView, recordsFound, Refreshing}
 use Rattle.refresh_spec.specs.Laws.Keeps.{number, found-records}
 
-refresh-said : (a b : RefreshAnswer) → refreshSays a ≡ refreshSays b → a ≡ b
-unfolding refreshSays
-refresh-said (Refused m) (Refused n) e = cc
-refresh-said (Refused m) (Refreshed x) e = cc
-refresh-said (Refreshed x) (Refused n) e = cc
-refresh-said (Refreshed x) (Refreshed y) e = cc
+refresh-view-injective : (a b : RefreshAnswer) → refreshView a ≡ refreshView b → a ≡ b
+unfolding refreshView
+refresh-view-injective (Refused m) (Refused n) e = cc
+refresh-view-injective (Refused m) (Refreshed x) e = cc
+refresh-view-injective (Refreshed x) (Refused n) e = cc
+refresh-view-injective (Refreshed x) (Refreshed y) e = cc
 
 module _ {h : Header} {rows pending index : List ℕ} {r : Refresh} {a b : RefreshAnswer} {pending₁ index₁ pending₂ index₂ : List ℕ}
     (x : Refreshing h rows pending index r a pending₁ index₁) (y : Refreshing h rows pending index r b pending₂ index₂) (sound : IndexSound h rows (r .columns) index) where
@@ -30,12 +30,12 @@ module _ {h : Header} {rows pending index : List ℕ} {r : Refresh} {a b : Refre
   unfolding recordsFound
   same-found =
       ap (refreshed (openingOf h) (r .stamp))
-      (keep-same (λ row. x .found (row .number)) (λ row. y .found (row .number)) (λ row. x .all-found sound (row .number) ∙ sym (y .all-found sound (row .number))) (mentioning r (ofRows h rows)))
+      (filter-same (λ row. x .found (row .number)) (λ row. y .found (row .number)) (λ row. x .all-found sound (row .number) ∙ sym (y .all-found sound (row .number))) (mentioning r (ofRows h rows)))
 
   pub refreshing-determined : Same a b pending₁ pending₂
   refreshing-determined =
       record {
-        answer = refresh-said a b (x .answers ∙ rw same-found (sym (y .answers)));
+        answer = refresh-view-injective a b (x .answers ∙ rw same-found (sym (y .answers)));
         cells =
             ⊎-elim
             (λ none. x .staged none ∙ rw same-found (sym (y .staged (rw same-found at none))))

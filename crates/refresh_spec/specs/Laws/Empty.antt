@@ -6,21 +6,21 @@ use mathlib.Core.Logic.{_⊎_, inl, inr}
 use mathlib.Core.Bool.{Bool, false}
 use mathlib.Core.List.{List, [], _∷_}
 use native.Mathlib.Omega.{arith}
-use Rattle.lists.specs.Lists.{keep, any, has, flat}
+use Rattle.lists.specs.Lists.{filter, any, elem, flatten}
 use Rattle.refusals.specs.Refusals.{accepted}
 use Rattle.refusals.specs.Laws.Replies.{some-number}
 use Rattle.plain_table.specs.Plain.{Numbered, liveRows}
 use Rattle.plain_table.specs.Refreshing.{Refresh, mentions, mentioning, refreshed}
 use Rattle.table.specs.declared.Header.{Header}
-use Rattle.table.specs.Promises.{ofRows}
+use Rattle.table.specs.Contracts.{ofRows}
 use Rattle.refresh_spec.specs.declared.Refreshed.{Refreshed}
 use Rattle.refresh_spec.specs.declared.RefreshAnswer.{RefreshAnswer}
-use Rattle.refresh_spec.specs.Refreshes.{refreshSays, recordsFound, answered, Refreshing}
-use Rattle.refresh_spec.specs.Laws.Keeps.{number, says-accepted, says-refused}
+use Rattle.refresh_spec.specs.Refreshes.{refreshView, recordsFound, answered, Refreshing}
+use Rattle.refresh_spec.specs.Laws.Keeps.{number, view-accepted, view-refused}
 
 -- nothing is mentioned without values, or without columns
 no-value : (columns cells : List ℕ) → mentions columns [] cells ≡ false
-unfolding mentions any has
+unfolding mentions any elem
 no-value [] cells = refl
 no-value (column ∷ columns) cells = no-value columns cells
 
@@ -28,24 +28,24 @@ none-mentions : (r : Refresh) → (r .columns ≡ []) ⊎ (r .values ≡ []) →
 none-mentions r (inl e) cells = rw e (unfold mentions any in refl)
 none-mentions r (inr e) cells = rw e (no-value (r .columns) cells)
 
-keep-none : (test : Numbered → Bool) → ((row : Numbered) → test row ≡ false) → (l : List Numbered) → keep test l ≡ []
-unfolding keep
-keep-none test f [] = refl
-keep-none test f (row ∷ l) = rw (f row) (keep-none test f l)
+filter-none : (test : Numbered → Bool) → ((row : Numbered) → test row ≡ false) → (l : List Numbered) → filter test l ≡ []
+unfolding filter
+filter-none test f [] = refl
+filter-none test f (row ∷ l) = rw (f row) (filter-none test f l)
 
 nothing-found : (h : Header) (rows : List ℕ) (r : Refresh) (found : ℕ → Bool) → (r .columns ≡ []) ⊎ (r .values ≡ []) → recordsFound h rows r found ≡ []
-unfolding recordsFound mentioning refreshed keep flat
+unfolding recordsFound mentioning refreshed filter flatten
 nothing-found h rows r found e =
-    rw (keep-none (λ row. mentions (r .columns) (r .values) (row .cells)) (λ row. none-mentions r e (row .cells)) (liveRows (ofRows h rows)))
+    rw (filter-none (λ row. mentions (r .columns) (r .values) (row .cells)) (λ row. none-mentions r e (row .cells)) (liveRows (ofRows h rows)))
 
 pub empty-answers-no : {h : Header} {rows pending index : List ℕ} {r : Refresh} {answer : RefreshAnswer} {pending′ index′ : List ℕ}
     → Refreshing h rows pending index r answer pending′ index′ → (r .columns ≡ []) ⊎ (r .values ≡ [])
-    → (a : Refreshed) → refreshSays answer ≡ accepted a → a .staged ≡ false
-empty-answers-no {h} {rows} {r = r} m e a says =
+    → (a : Refreshed) → refreshView answer ≡ accepted a → a .staged ≡ false
+empty-answers-no {h} {rows} {r = r} m e a view-is =
     elim (some-number (number m)) [
       | inl none ↦
-          let q : accepted a ≡ accepted (answered h []) = sym says ∙ rw (nothing-found h rows r (m .found) e) at (says-accepted m none) in
+          let q : accepted a ≡ accepted (answered h []) = sym view-is ∙ rw (nothing-found h rows r (m .found) e) at (view-accepted m none) in
           let same : a ≡ answered h [] = cc in
           ap (λ (x : Refreshed). x .staged) same
-      | inr some ↦ let q = says-refused m some in absurd (let z : _≡_ {A = ℕ} 0 1 = cc in omega arith)
+      | inr some ↦ let q = view-refused m some in absurd (let z : _≡_ {A = ℕ} 0 1 = cc in omega arith)
     ]

@@ -11,7 +11,7 @@ use lib.Dec.{eqb}
 use lib.ListN.{length, take, drop, getD, length-take, length-drop, List·getD-append}
 use borrow.Author.Tests.{eqb-true}
 use Rattle.lists.specs.Lists.{rowAt}
-use Rattle.lists.specs.Laws.Every.{or-no-left, or-no-right}
+use Rattle.lists.specs.Laws.All.{or-no-left, or-no-right}
 use Rattle.lists.specs.Laws.Rising.{same-eq}
 use Rattle.lists.specs.Laws.Rows.{row-in}
 use Rattle.refusals.specs.Laws.Replies.{some-number}
@@ -109,7 +109,7 @@ module _ (index more : List ℕ) (long : 16 ≤ length index) where
 
 -- ---- a store that a refresh continues with
 
-pub record GoesOn (h : Header) (columns index : List ℕ) : Type 0 where
+pub record Continues (h : Header) (columns index : List ℕ) : Type 0 where
   pub written : isNew index ≡ false
   pub generation : generationSeen index ≡ h .generation
   pub columns-named : namedIn index ≡ columns
@@ -118,9 +118,9 @@ not-false : (b : Bool) → not b ≡ false → b ≡ true
 not-false true e = refl
 not-false false e = sym e
 
-pub goes-on : (h : Header) (columns index : List ℕ) → startsAfresh h columns index ≡ false → GoesOn h columns index
+pub continues : (h : Header) (columns index : List ℕ) → startsAfresh h columns index ≡ false → Continues h columns index
 unfolding startsAfresh
-goes-on h columns index e =
+continues h columns index e =
     let a = isNew index || not (eqb (generationSeen index) (h .generation)) in
     let b : a ≡ false = or-no-left a _ e in
     record {

@@ -8,33 +8,33 @@ use mathlib.Core.List.{List, [], map}
 use lib.Dec.{ltb, eqb}
 use lib.ListN.{length}
 use borrow.Author.Tests.{ltb-false}
-use Rattle.lists.specs.Lists.{putAt, flat}
-use Rattle.lists.specs.Laws.Every.{or-no-left, or-no-right}
-use Rattle.lists.specs.Laws.Parts.{putAt-nil}
-use Rattle.lists.specs.Laws.Keep.{split, keep-every, every-of, every-keep-of}
-use Rattle.refusals.specs.Refusals.{refused, accepted, first}
+use Rattle.lists.specs.Lists.{splice, flatten}
+use Rattle.lists.specs.Laws.All.{or-no-left, or-no-right}
+use Rattle.lists.specs.Laws.Parts.{splice-nil}
+use Rattle.lists.specs.Laws.Filter.{split, filter-all, all-of, all-filter-of}
+use Rattle.refusals.specs.Refusals.{refused, accepted, firstRefusal}
 use Rattle.refusals.specs.Laws.Replies.{some-number}
 use Rattle.plain_table.specs.Staged.{Staged, wordsAll}
 use Rattle.plain_table.specs.Plain.{Plain, liveRows}
 use Rattle.plain_table.specs.Refusing.{Lengths, overfull}
-use Rattle.plain_table.specs.Refreshing.{Refresh, mentions, mentioning, indexShort, refreshLadder}
+use Rattle.plain_table.specs.Refreshing.{Refresh, mentions, mentioning, indexShort, refreshChecks}
 use Rattle.plain_table.specs.Calls.{refreshing, recordsOf, stageAll, refusal}
-use Rattle.plain_table.specs.Laws.Calls.{first-no, first-rest}
+use Rattle.plain_table.specs.Laws.Calls.{firstRefusal-no, firstRefusal-rest}
 use Rattle.plain_table.specs.Laws.Proper.{Whole, openable-bounds}
 use Rattle.plain_table.specs.Laws.Refreshing.{live-wide, refreshed-whole}
 use Rattle.table.specs.declared.Header.{Header}
 use Rattle.table.specs.Numbers.{openingOf}
 use Rattle.table.specs.Refusing.{outside, pendingOutside}
 use Rattle.table.specs.Stores.{recordWords}
-use Rattle.table.specs.Promises.{Stores, stores, bodyOf, joined, Represents, ofRows}
+use Rattle.table.specs.Contracts.{Stores, stores, bodyOf, joined, Represents, ofRows}
 use Rattle.table.specs.Laws.Replies.{reply-refused, reply-accepted}
 use Rattle.table.specs.Laws.Shown.{header-inside}
-use Rattle.table.specs.Laws.Sound.{says-of}
+use Rattle.table.specs.Laws.Sound.{largestView-largestOf}
 use Rattle.table.specs.Laws.Live.{live-shown}
 use Rattle.table.specs.Laws.Staging.{records-represent}
 use Rattle.table.specs.Laws.Keeps.{SoundTable, sound-table, shows-plain}
 use Rattle.refresh_spec.specs.declared.RefreshAnswer.{RefreshAnswer}
-use Rattle.refresh_spec.specs.Refreshes.{refreshSays, refreshRefusal, recordsFound, answered, recordsStaged, headerRefreshed, Refreshing}
+use Rattle.refresh_spec.specs.Refreshes.{refreshView, refreshRefusal, recordsFound, answered, recordsStaged, headerRefreshed, Refreshing}
 
 -- ---- its refusals
 
@@ -46,28 +46,28 @@ pub record Refreshable (h : Header) (rows pending index : ℕ) (r : Refresh) (re
   pub free : h .pending + wordsAll (openingOf h) records ≤ pending
 
 refresh-accepted : (h : Header) (rows pending index : ℕ) (r : Refresh) (records : List Staged) → refreshRefusal h rows pending index r records ≡ 0 → Refreshable h rows pending index r records
-unfolding refreshRefusal refreshLadder pendingOutside indexShort overfull
+unfolding refreshRefusal refreshChecks pendingOutside indexShort overfull
 refresh-accepted h rows pending index r records e =
-    let b = first-rest _ 0 _ e in
-    let c = first-rest _ 5 _ (first-rest _ 11 _ (first-rest _ 1 _ b)) in
-    let d = first-rest _ 8 _ (first-rest _ 1 _ c) in
+    let b = firstRefusal-rest _ 0 _ e in
+    let c = firstRefusal-rest _ 5 _ (firstRefusal-rest _ 11 _ (firstRefusal-rest _ 1 _ b)) in
+    let d = firstRefusal-rest _ 8 _ (firstRefusal-rest _ 1 _ c) in
     record {
-      pending-fits = ltb-false _ _ (or-no-right (outside h) _ (first-no _ 0 _ e));
-      rows-long = ltb-false _ _ (first-no _ 1 _ b);
-      index-long = ltb-false _ _ (first-no _ 1 _ c);
-      free = ltb-false _ _ (or-no-left (ltb pending (h .pending + wordsAll (openingOf h) records)) _ (first-no _ 6 _ d));
+      pending-fits = ltb-false _ _ (or-no-right (outside h) _ (firstRefusal-no _ 0 _ e));
+      rows-long = ltb-false _ _ (firstRefusal-no _ 1 _ b);
+      index-long = ltb-false _ _ (firstRefusal-no _ 1 _ c);
+      free = ltb-false _ _ (or-no-left (ltb pending (h .pending + wordsAll (openingOf h) records)) _ (firstRefusal-no _ 6 _ d));
     }
 
 -- the checks on a header give the same refusal as those on the plain table that it shows, if the records are the same whenever the
 -- row store lent is long enough
-pub refresh-ladders : {p : Plain} {s : Stores} → Represents p s → (l : Lengths) (index : ℕ) (q : Refresh) (records : List Staged)
+pub refresh-checks : {p : Plain} {s : Stores} → Represents p s → (l : Lengths) (index : ℕ) (q : Refresh) (records : List Staged)
     → (s .header .capacity * s .header .columns ≤ l .rows → records ≡ recordsOf p q)
     → refreshRefusal (s .header) (l .rows) (l .pending) index q records ≡ refusal p l (refreshing q index)
-unfolding refreshRefusal refusal refreshLadder pendingOutside first
-refresh-ladders {p} {s} r l index q records same =
+unfolding refreshRefusal refusal refreshChecks pendingOutside firstRefusal
+refresh-checks {p} {s} r l index q records same =
     elim (split (ltb (l .rows) (s .header .capacity * s .header .columns))) [
       | inl e ↦ let f = rw (r .shown .header) at e in rw (r .shown .header, header-inside (r .proper), f)
-      | inr e ↦ rw (same (ltb-false _ _ e), r .shown .header, header-inside (r .proper), says-of (p .largest))
+      | inr e ↦ rw (same (ltb-false _ _ e), r .shown .header, header-inside (r .proper), largestView-largestOf (p .largest))
     ]
 
 -- ---- the records
@@ -82,7 +82,7 @@ module _ {p : Plain} {s : Stores} (r : Represents p s) (q : Refresh) where
   pub records-all : (found : ℕ → Bool) → ((row : ℕ) → found row ≡ true) → recordsFound (s .header) (s .rows) q found ≡ recordsOf p q
   unfolding recordsFound
   records-all found all =
-      rw (mentioning-shown, keep-every (λ row. found (row .number)) (mentioning q p) (every-of (λ row. found (row .number)) (record { number = 0; cells = [] }) (mentioning q p) (λ i h. all _)), r .shown .header)
+      rw (mentioning-shown, filter-all (λ row. found (row .number)) (mentioning q p) (all-of (λ row. found (row .number)) (record { number = 0; cells = [] }) (mentioning q p) (λ i h. all _)), r .shown .header)
 
   -- whichever rows are found, the records are whole
   pub records-whole : (found : ℕ → Bool) → Whole (p .opening) (recordsFound (s .header) (s .rows) q found)
@@ -91,8 +91,8 @@ module _ {p : Plain} {s : Stores} (r : Represents p s) (q : Refresh) where
       let o = p .opening in
       rw (mentioning-shown, r .shown .header)
       (refreshed-whole o (q .stamp) _ (openable-bounds o (r .proper .numbers) .keys-few)
-      (every-keep-of (λ row. eqb (length (row .cells)) (o .columns)) (λ row. found (row .number)) (mentioning q p)
-      (unfold mentioning liveRows in every-keep-of (λ row. eqb (length (row .cells)) (o .columns)) (λ row. mentions (q .columns) (q .values) (row .cells)) (liveRows p) (live-wide o 0 (p .rows) (r .proper .widths)))))
+      (all-filter-of (λ row. eqb (length (row .cells)) (o .columns)) (λ row. found (row .number)) (mentioning q p)
+      (unfold mentioning liveRows in all-filter-of (λ row. eqb (length (row .cells)) (o .columns)) (λ row. mentions (q .columns) (q .values) (row .cells)) (liveRows p) (live-wide o 0 (p .rows) (r .proper .widths)))))
 
 -- ---- its outcome
 
@@ -104,48 +104,48 @@ module _ {h : Header} {rows pending index pending′ index′ : List ℕ} {q : R
   abbrev pub number : ℕ
   number = refreshRefusal h (length rows) (length pending) (length index) q found-records
 
-  pub says-accepted : number ≡ 0 → refreshSays answer ≡ accepted (answered h found-records)
-  says-accepted e = m .answers ∙ reply-accepted number (answered h found-records) e
+  pub view-accepted : number ≡ 0 → refreshView answer ≡ accepted (answered h found-records)
+  view-accepted e = m .answers ∙ reply-accepted number (answered h found-records) e
 
-  pub says-refused : 0 < number → refreshSays answer ≡ refused number
-  says-refused some = m .answers ∙ reply-refused number (answered h found-records) some
+  pub view-refused : 0 < number → refreshView answer ≡ refused number
+  view-refused some = m .answers ∙ reply-refused number (answered h found-records) some
 
   pub passed : number ≡ 0 → Refreshable h (length rows) (length pending) (length index) q found-records
   passed e = refresh-accepted h (length rows) (length pending) (length index) q found-records e
 
   -- if accepted, it has staged the records that it found
   pub refreshing-done : {p : Plain} {keys sorts : List ℕ} → number ≡ 0 → Represents p (stores h rows keys sorts pending)
-      → Represents (stageAll p found-records) (stores (headerRefreshed h (refreshSays answer)) rows keys sorts pending′)
+      → Represents (stageAll p found-records) (stores (headerRefreshed h (refreshView answer)) rows keys sorts pending′)
   unfolding headerRefreshed
   refreshing-done e r =
-      rw (says-accepted e)
+      rw (view-accepted e)
       (records-represent found-records pending′ r (records-whole r q (m .found)) (passed e .free) (m .staged e))
 
-  pub refreshing-refused : {keys sorts : List ℕ} → 0 < number → stores (headerRefreshed h (refreshSays answer)) rows keys sorts pending′ ≡ stores h rows keys sorts pending
+  pub refreshing-refused : {keys sorts : List ℕ} → 0 < number → stores (headerRefreshed h (refreshView answer)) rows keys sorts pending′ ≡ stores h rows keys sorts pending
   unfolding headerRefreshed
-  refreshing-refused some = rw (says-refused some, m .unchanged some .0)
+  refreshing-refused some = rw (view-refused some, m .unchanged some .0)
 
   -- "it is fed the records that the call staged"
-  pub fed-accepted : number ≡ 0 → recordsStaged (refreshSays answer) found-records ≡ found-records
+  pub fed-accepted : number ≡ 0 → recordsStaged (refreshView answer) found-records ≡ found-records
   unfolding recordsStaged
-  fed-accepted e = rw (says-accepted e)
+  fed-accepted e = rw (view-accepted e)
 
-  pub fed-refused : 0 < number → recordsStaged (refreshSays answer) found-records ≡ []
+  pub fed-refused : 0 < number → recordsStaged (refreshView answer) found-records ≡ []
   unfolding recordsStaged
-  fed-refused some = rw (says-refused some)
+  fed-refused some = rw (view-refused some)
 
   -- these records are what was written
-  pub fed-written : pending′ ≡ putAt pending (h .pending) (flat (map (recordWords (h .keys)) (recordsStaged (refreshSays answer) found-records)))
-  unfolding flat
+  pub fed-written : pending′ ≡ splice pending (h .pending) (flatten (map (recordWords (h .keys)) (recordsStaged (refreshView answer) found-records)))
+  unfolding flatten
   fed-written =
       elim (some-number number) [
         | inl e ↦ rw (fed-accepted e) (m .staged e)
-        | inr some ↦ rw (fed-refused some) (m .unchanged some .0 ∙ sym (putAt-nil pending (h .pending)))
+        | inr some ↦ rw (fed-refused some) (m .unchanged some .0 ∙ sym (splice-nil pending (h .pending)))
       ]
 
 -- "the table stays sound whatever it holds"
 pub refreshing-keeps : {s : Stores} {index pending′ index′ : List ℕ} {q : Refresh} {answer : RefreshAnswer} → Refreshing (s .header) (s .rows) (s .pending) index q answer pending′ index′
-    → SoundTable s → SoundTable (joined (headerRefreshed (s .header) (refreshSays answer)) (bodyOf s) pending′)
+    → SoundTable s → SoundTable (joined (headerRefreshed (s .header) (refreshView answer)) (bodyOf s) pending′)
 refreshing-keeps m t =
     elim (some-number (number m)) [
       | inl none ↦ sound-table (refreshing-done m none (shows-plain t .1))

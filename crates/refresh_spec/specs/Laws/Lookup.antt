@@ -11,20 +11,20 @@ use lib.Dec.{eqb}
 use lib.ListN.{length, take, drop, getD}
 use lib.Seq.{getD-take, getD-drop}
 use borrow.Author.Tests.{eqb-true, eq-eqb}
-use Rattle.lists.specs.Lists.{keep, rowAt, countFrom, has}
-use Rattle.lists.specs.Laws.Keep.{split, and-left, and-right}
-use Rattle.lists.specs.Laws.Every.{and-both, any-at, any-of}
-use Rattle.lists.specs.Laws.Rising.{bool-ext, has-at, has-of}
+use Rattle.lists.specs.Lists.{filter, rowAt, iota, elem}
+use Rattle.lists.specs.Laws.Filter.{split, and-left, and-right}
+use Rattle.lists.specs.Laws.All.{and-both, any-at, any-of}
+use Rattle.lists.specs.Laws.Rising.{bool-ext, elem-at, elem-of}
 use Rattle.constraints.specs.Constraints.{isLive}
 use Rattle.plain_table.specs.Plain.{Row, Plain, liveFrom, liveRows}
 use Rattle.plain_table.specs.Refreshing.{mentions}
 use Rattle.plain_table.specs.Laws.Rows.{noRow}
 use Rattle.table.specs.declared.Header.{Header}
-use Rattle.table.specs.Promises.{Stores, Represents}
+use Rattle.table.specs.Contracts.{Stores, Represents}
 use Rattle.table.specs.Stores.{rowsIn}
 use Rattle.table.specs.Laws.Live.{length-rowsIn, getD-rowsIn, live-shown}
 use Rattle.refresh_spec.specs.Index.{rowsSeen, columnsNamed, columnNamed, namedIn, entriesUnder, leadsTo, leads, lookedUp, IndexOf}
-use Rattle.refresh_spec.specs.Laws.Places.{entry-in, entry-lies}
+use Rattle.refresh_spec.specs.Laws.Places.{entry-in, entry-in-range}
 use Rattle.refresh_spec.specs.Laws.Chains.{under-limit}
 use Rattle.refresh_spec.specs.Laws.Fronts.{named-count}
 
@@ -65,7 +65,7 @@ module _ (h : Header) (rows columns : List ℕ) where
       let cells = rowAt (h .columns) (entry / length columns) rows in
       let test = isLive cells && eqb (getD cells (getD columns (entry % length columns) 0) 0) value in
       let l : test ≡ true = and-left test _ e in
-      let i = entry-lies seen (length columns) entry k in
+      let i = entry-in-range seen (length columns) entry k in
       rw (eqb-true row (entry / length columns) (and-right test _ e)) (record {
         below = i .row-there;
         live = and-left _ _ l;
@@ -87,7 +87,7 @@ module _ (h : Header) (rows columns : List ℕ) where
     leads-holds e =
         let es = entriesUnder (h .capacity) index value in
         let a = any-at (λ entry. leadsTo h rows columns value entry row) 0 es e in
-        let k = rw (n .count) at (under-limit (h .capacity) index value (getD es (a .0) 0) (has-of es (a .0) (a .1))) in
+        let k = rw (n .count) at (under-limit (h .capacity) index value (getD es (a .0) 0) (elem-of es (a .0) (a .1))) in
         entry-holds value (rowsSeen index) (getD es (a .0) 0) row k (a .2)
 
     -- an index leads to each such row
@@ -96,8 +96,8 @@ module _ (h : Header) (rows columns : List ℕ) where
     holds-leads io r =
         let es = entriesUnder (h .capacity) index value in
         let entry = row * length columns + r .place in
-        let under : has entry es ≡ true = rw (n .count, column-is columns index (n .names) (r .place) (r .place-there), r .value-is) at (io .listed row (r .place) (r .below) (r .live) (rw (n .count) (r .place-there))) in
-        let a = has-at entry es under in
+        let under : elem entry es ≡ true = rw (n .count, column-is columns index (n .names) (r .place) (r .place-there), r .value-is) at (io .listed row (r .place) (r .below) (r .live) (rw (n .count) (r .place-there))) in
+        let a = elem-at entry es under in
         any-of (λ entry. leadsTo h rows columns value entry row) 0 es (a .0) (a .1) (rw (a .2) (holds-entry value (rowsSeen index) row r))
 
 -- ---- the lookup
@@ -105,8 +105,8 @@ module _ (h : Header) (rows columns : List ℕ) where
 -- the numbers of the rows that pass a test
 numbers-kept : (test : ℕ → Bool) (holds : List ℕ → Bool) (s : ℕ) (l : List Row)
     → ((i : ℕ) → i < length l → test (s + i) ≡ (getD l i noRow .live && holds (getD l i noRow .cells)))
-    → keep test (countFrom s (length l)) ≡ map (λ row. row .number) (keep (λ row. holds (row .cells)) (liveFrom s l))
-unfolding keep countFrom liveFrom
+    → filter test (iota s (length l)) ≡ map (λ row. row .number) (filter (λ row. holds (row .cells)) (liveFrom s l))
+unfolding filter iota liveFrom
 numbers-kept test holds s [] f = refl
 numbers-kept test holds s (row ∷ l) f =
     let rest = numbers-kept test holds (suc s) l (λ i k. ap test (omega arith) ∙ f (suc i) (omega arith)) in
@@ -118,21 +118,21 @@ numbers-kept test holds s (row ∷ l) f =
 
 module _ (h : Header) (rows columns : List ℕ) (value : ℕ) where
   holds-mentions : (seen row : ℕ) → RowHolds h rows columns value seen row → mentions columns (value ∷ []) (rowAt (h .columns) row rows) ≡ true
-  unfolding mentions has
+  unfolding mentions elem
   holds-mentions seen row r =
-      any-of (λ column. has (getD (rowAt (h .columns) row rows) column 0) (value ∷ [])) 0 columns (r .place) (r .place-there) (rw (eq-eqb _ _ (r .value-is)))
+      any-of (λ column. elem (getD (rowAt (h .columns) row rows) column 0) (value ∷ [])) 0 columns (r .place) (r .place-there) (rw (eq-eqb _ _ (r .value-is)))
 
   mentions-holds : (seen row : ℕ) → row < seen → isLive (rowAt (h .columns) row rows) ≡ true → mentions columns (value ∷ []) (rowAt (h .columns) row rows) ≡ true
       → RowHolds h rows columns value seen row
-  unfolding mentions has
+  unfolding mentions elem
   mentions-holds seen row k live e =
-      let a = any-at (λ column. has (getD (rowAt (h .columns) row rows) column 0) (value ∷ [])) 0 columns e in
+      let a = any-at (λ column. elem (getD (rowAt (h .columns) row rows) column 0) (value ∷ [])) 0 columns e in
       record { below = k; live = live; place = a .0; place-there = a .1; value-is = eqb-true _ _ (sym (or-false _) ∙ a .2) }
 
 -- the result of a lookup in an index of all rows, for a table that the stores show
 pub lookup-holding : {p : Plain} {s : Stores} {columns index : List ℕ} → Represents p s → Names columns index → IndexOf (s .header) (s .rows) index
     → rowsSeen index ≡ s .header .rows → namedIn index ≡ columns → (value : ℕ)
-    → lookedUp (s .header) (s .rows) index value ≡ map (λ row. row .number) (keep (λ row. mentions columns (value ∷ []) (row .cells)) (liveRows p))
+    → lookedUp (s .header) (s .rows) index value ≡ map (λ row. row .number) (filter (λ row. mentions columns (value ∷ []) (row .cells)) (liveRows p))
 unfolding lookedUp
 lookup-holding {p} {s} {columns} {index} r n io all named value =
     let h = s .header in
@@ -140,7 +140,7 @@ lookup-holding {p} {s} {columns} {index} r n io all named value =
     let led = leads h rows columns value (entriesUnder (h .capacity) index value) in
     let long = length-rowsIn h rows in
     rw (← live-shown r, named, all)
-    (ap (λ (k : ℕ). keep led (countFrom 0 k)) (sym long)
+    (ap (λ (k : ℕ). filter led (iota 0 k)) (sym long)
     ∙ numbers-kept led (mentions columns (value ∷ [])) 0 (rowsIn h rows)
     (λ i k. rw (getD-rowsIn h rows i (omega arith)) (ap led (omega arith)
     ∙ bool-ext (led i) (isLive (rowAt (h .columns) i rows) && mentions columns (value ∷ []) (rowAt (h .columns) i rows))

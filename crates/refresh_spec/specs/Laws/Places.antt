@@ -20,13 +20,13 @@ entry-in rows count row place r p =
     }
 
 -- an entry of one of these rows
-pub record EntryLies (rows count entry : ℕ) : Type 0 where
+pub record EntryInRange (rows count entry : ℕ) : Type 0 where
   pub some : 0 < count
   pub row-there : entry / count < rows
   pub place-there : entry % count < count
 
-pub entry-lies : (rows count entry : ℕ) → entry < rows * count → EntryLies rows count entry
-entry-lies rows zero entry h = absurd (let none : entry < 0 = rw (mul-zero rows) at h in omega arith)
-entry-lies rows (suc count) entry h =
+pub entry-in-range : (rows count entry : ℕ) → entry < rows * count → EntryInRange rows count entry
+entry-in-range rows zero entry h = absurd (let none : entry < 0 = rw (mul-zero rows) at h in omega arith)
+entry-in-range rows (suc count) entry h =
     let some : 0 < suc count = omega arith in
     record { some = some; row-there = div-lt-iff-lt-mul some .1 h; place-there = mod-lt entry some }

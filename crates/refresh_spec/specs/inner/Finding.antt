@@ -6,7 +6,7 @@ use mathlib.Core.Bool.{Bool, true, false, _&&_}
 use mathlib.Core.List.{List}
 use lib.ListN.{length, take, drop, getD}
 use lib.Dec.{leb, ltb, eqb}
-use Rattle.lists.specs.Lists.{every, same, rowAt}
+use Rattle.lists.specs.Lists.{all, same, rowAt}
 use Rattle.constraints.specs.Constraints.{isLive}
 use Rattle.plain_table.specs.Refreshing.{mentions}
 use Rattle.table.specs.declared.Header.{Header}
@@ -31,7 +31,7 @@ pub record Lendable (h : Header) (rows columns index : List ℕ) : Type 0 where
   pub inside : outside h ≡ false
   pub rows-long : h .capacity * h .columns ≤ length rows
   pub columns-few : length columns ≤ 8
-  pub columns-there : every (λ column. ltb column (h .columns)) columns ≡ true
+  pub columns-there : all (λ column. ltb column (h .columns)) columns ≡ true
   pub index-long : 16 + 3 * (h .capacity * length columns) ≤ length index
 
 -- An index store that the next refresh by these columns continues with: it has this generation and these columns, no more rows than

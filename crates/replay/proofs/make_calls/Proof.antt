@@ -6,7 +6,7 @@ use native.Mathlib.Omega.{arith}
 use lib.ListN.{length}
 use borrow.Author.Needs.{needs}
 use Rattle.plain_table.specs.Refusing.{Lengths}
-use Rattle.table.specs.Promises.{stores, lengths, compactionWords}
+use Rattle.table.specs.Contracts.{stores, lengths, compactionWords}
 use Rattle.replay.proofs.ReplaySteps.{Going, lengths-same, going-begin, going-again, going-end}
 use Rattle.replay.proofs.make_calls.Statement.{statement}
 use Rattle.replay.proofs.make_calls.Tie as tie

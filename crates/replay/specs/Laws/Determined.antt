@@ -10,7 +10,7 @@ use mathlib.Core.List.{List, [], map}
 use native.Mathlib.Omega.{arith}
 use lib.ListN.{length}
 use Rattle.lists.specs.Lists.{any}
-use Rattle.refusals.specs.Refusals.{accepted, reply, verdict}
+use Rattle.refusals.specs.Refusals.{accepted, reply, outcome}
 use Rattle.refusals.specs.Laws.Replies.{some-number}
 use Rattle.refusals.specs.Laws.Determined.{refused-same}
 use Rattle.plain_table.specs.Staged.{Opening}
@@ -20,9 +20,9 @@ use Rattle.plain_table.specs.Calls.{LentCall, afterAll}
 use Rattle.table.specs.declared.Header.{Header}
 use Rattle.table.specs.declared.TableAnswer.{TableAnswer}
 use Rattle.table.specs.declared.TableAnswer.the-variants.{Refused, Table}
-use Rattle.table.specs.Numbers.{tableSays}
-use Rattle.table.specs.Promises.{Stores, Body, stores, joined, CompactionWords, lengths, Represents, SlotsPast, WordsPast}
-use Rattle.table.specs.Laws.Answers.{table-said}
+use Rattle.table.specs.Numbers.{tableView}
+use Rattle.table.specs.Contracts.{Stores, Body, stores, joined, CompactionWords, lengths, Represents, SlotsPast, WordsPast}
+use Rattle.table.specs.Laws.Answers.{table-view-injective}
 use Rattle.table.specs.Laws.Keeps.{opening-done}
 use Rattle.refresh_spec.specs.Index.{isNew, IndexSound}
 use Rattle.history.specs.Histories.{Steps}
@@ -61,31 +61,31 @@ module _ (o : Opening) (generation : ℕ) (requests : List Request) (b : Body) (
     -- the live rows of the one plain table
     pub keys-refused : 0 < openRefusal o (lengths (b .rows) (b .keys) (b .sorts) pending [] []) → x .body .keys ≡ y .body .keys
     pub slots-past : SlotsPast (o .capacity) (x .body .keys) (y .body .keys)
-    pub represent : (h : Header) → tableSays (x .answer) ≡ accepted h
+    pub represent : (h : Header) → tableView (x .answer) ≡ accepted h
         → Represents (afterAll (opened o generation) requestedCalls) (joined h (x .body) (x .pending))
         × Represents (afterAll (opened o generation) requestedCalls) (joined h (y .body) (y .pending))
     -- the compaction words: all of them, if nothing was compacted; otherwise those that are never written
     pub words-past : WordsPast (o .capacity) (x .words) (y .words)
     pub words-refused : 0 < openRefusal o (lengths (b .rows) (b .keys) (b .sorts) pending [] []) → x .words ≡ y .words
-    pub words-kept : (h : Header) → tableSays (x .answer) ≡ accepted h → h .generation ≡ generation → x .words ≡ y .words
+    pub words-kept : (h : Header) → tableView (x .answer) ≡ accepted h → h .generation ≡ generation → x .words ≡ y .words
     -- the index store: all of it, if no refresh is requested; otherwise the words that are never written, and an index store that
     -- was new is sound
     pub index-past : IndexPast (o .capacity) (x .index) (y .index)
     pub index-refused : 0 < openRefusal o (lengths (b .rows) (b .keys) (b .sorts) pending [] []) → x .index ≡ y .index
     pub index-kept : any isRefresh requests ≡ false → x .index ≡ y .index
-    pub index-sound : (h : Header) → tableSays (x .answer) ≡ accepted h → isNew index ≡ true → (columns : List ℕ)
+    pub index-sound : (h : Header) → tableView (x .answer) ≡ accepted h → isNew index ≡ true → (columns : List ℕ)
         → IndexSound h (x .body .rows) columns (x .index) × IndexSound h (y .body .rows) columns (y .index)
 
   -- the header of an accepted answer
-  said-accepted : (answer : TableAnswer) → verdict (tableSays answer) ≡ accepted tt → (h : Header) × (tableSays answer ≡ accepted h)
-  unfolding tableSays verdict
-  said-accepted (Refused n) e = absurd (let z : _≡_ {A = ℕ} 0 1 = cc in omega arith)
-  said-accepted (Table h) e = (h, refl)
+  view-accepted : (answer : TableAnswer) → outcome (tableView answer) ≡ accepted tt → (h : Header) × (tableView answer ≡ accepted h)
+  unfolding tableView outcome
+  view-accepted (Refused n) e = absurd (let z : _≡_ {A = ℕ} 0 1 = cc in omega arith)
+  view-accepted (Table h) e = (h, refl)
 
   -- the table that the requests start with, and the one that they result in
   module _ {s : Stores} {index′ : List ℕ} (m : MadeFrom o generation requests b pending w index s index′) where
     starts : Represents (opened o generation) (stores (m .header) (b .rows) (m .keys) (b .sorts) pending)
-    unfolding tableSays
+    unfolding tableView
     starts = opening-done (m .opened) (m .header) refl
 
     steps : Sound → Steps (stores (m .header) (b .rows) (m .keys) (b .sorts) pending) requestedCalls s
@@ -107,7 +107,7 @@ module _ (o : Opening) (generation : ℕ) (requests : List Request) (b : Body) (
         let f = v .unchanged some in
         let bodies : x .body ≡ y .body = e .0 ∙ sym (f .0) in
         let words : x .words ≡ y .words = e .2 ∙ sym (f .2) in
-        let answers : x .answer ≡ y .answer = refused-same table-said (u .refusal) (v .refusal) some in
+        let answers : x .answer ≡ y .answer = refused-same table-view-injective (u .refusal) (v .refusal) some in
         record {
           answer = answers;
           rows = ap (λ (z : Body). z .rows) bodies;
@@ -115,38 +115,38 @@ module _ (o : Opening) (generation : ℕ) (requests : List Request) (b : Body) (
           pending-same = e .1 ∙ sym (f .1);
           keys-refused = λ k. ap (λ (z : Body). z .keys) bodies;
           slots-past = v .slots-past ∙ sym (u .slots-past);
-          represent = λ h said. (ends (u .calls-made h said) sound, ends (v .calls-made h (ap tableSays (sym answers) ∙ said)) sound);
+          represent = λ h answer-is. (ends (u .calls-made h answer-is) sound, ends (v .calls-made h (ap tableView (sym answers) ∙ answer-is)) sound);
           words-past = (v .words-past .0 ∙ sym (u .words-past .0), v .words-past .1 ∙ sym (u .words-past .1));
           words-refused = λ k. words;
-          words-kept = λ h said same. words;
+          words-kept = λ h answer-is same. words;
           index-past = v .index-past ∙ sym (u .index-past);
           index-refused = λ k. e .3 ∙ sym (f .3);
           index-kept = λ none. e .3 ∙ sym (f .3);
-          index-sound = λ h said new columns. (replay-index (u .calls-made h said) new columns, replay-index (v .calls-made h (ap tableSays (sym answers) ∙ said)) new columns);
+          index-sound = λ h answer-is new columns. (replay-index (u .calls-made h answer-is) new columns, replay-index (v .calls-made h (ap tableView (sym answers) ∙ answer-is)) new columns);
         }
 
     made-replay : openRefusal o (lengths (b .rows) (b .keys) (b .sorts) pending [] []) ≡ 0 → SameReplay x y
     unfolding reply
     made-replay none =
-        let g = said-accepted (x .answer) (rw none at (u .refusal)) in
-        let k = said-accepted (y .answer) (rw none at (v .refusal)) in
+        let g = view-accepted (x .answer) (rw none at (u .refusal)) in
+        let k = view-accepted (y .answer) (rw none at (v .refusal)) in
         let same = made-same sound (u .calls-made (g .0) (g .1)) (v .calls-made (k .0) (k .1)) in
-        let answers : tableSays (x .answer) ≡ tableSays (y .answer) = g .1 ∙ ap (λ (h : Header). accepted h) (same .header) ∙ sym (k .1) in
+        let answers : tableView (x .answer) ≡ tableView (y .answer) = g .1 ∙ ap (λ (h : Header). accepted h) (same .header) ∙ sym (k .1) in
         record {
-          answer = table-said (x .answer) (y .answer) answers;
+          answer = table-view-injective (x .answer) (y .answer) answers;
           rows = same .rows;
           sorts = same .sorts;
           pending-same = same .pending;
           keys-refused = λ some. absurd (omega arith);
           slots-past = v .slots-past ∙ sym (u .slots-past);
-          represent = λ h said. (ends (u .calls-made h said) sound, ends (v .calls-made h (sym answers ∙ said)) sound);
+          represent = λ h answer-is. (ends (u .calls-made h answer-is) sound, ends (v .calls-made h (sym answers ∙ answer-is)) sound);
           words-past = (v .words-past .0 ∙ sym (u .words-past .0), v .words-past .1 ∙ sym (u .words-past .1));
           words-refused = λ some. absurd (omega arith);
-          words-kept = λ h said kept. u .words-kept h said kept ∙ sym (v .words-kept h (sym answers ∙ said) kept);
+          words-kept = λ h answer-is kept. u .words-kept h answer-is kept ∙ sym (v .words-kept h (sym answers ∙ answer-is) kept);
           index-past = v .index-past ∙ sym (u .index-past);
           index-refused = λ some. absurd (omega arith);
           index-kept = λ none. u .index-kept none ∙ sym (v .index-kept none);
-          index-sound = λ h said new columns. (replay-index (u .calls-made h said) new columns, replay-index (v .calls-made h (sym answers ∙ said)) new columns);
+          index-sound = λ h answer-is new columns. (replay-index (u .calls-made h answer-is) new columns, replay-index (v .calls-made h (sym answers ∙ answer-is)) new columns);
         }
 
     pub replayed-determined : SameReplay x y

@@ -7,7 +7,7 @@ use mathlib.Core.List.{List, [], map}
 use native.Mathlib.Omega.{arith}
 use lib.ListN.{length}
 use Rattle.lists.specs.Lists.{any}
-use Rattle.refusals.specs.Refusals.{Reply, refused, reply, verdict}
+use Rattle.refusals.specs.Refusals.{Reply, refused, reply, outcome}
 use Rattle.plain_table.specs.Staged.{Opening}
 use Rattle.plain_table.specs.Refusing.{openRefusal}
 use Rattle.plain_table.specs.Plain.{opened}
@@ -15,9 +15,9 @@ use Rattle.plain_table.specs.Calls.{afterAll}
 use Rattle.table.specs.declared.Header.{Header}
 use Rattle.table.specs.declared.TableAnswer.{TableAnswer}
 use Rattle.table.specs.declared.TableAnswer.the-variants.{Refused, Table}
-use Rattle.table.specs.Numbers.{tableSays}
+use Rattle.table.specs.Numbers.{tableView}
 use Rattle.table.specs.Stores.{headerOf}
-use Rattle.table.specs.Promises.{Stores, Body, body, stores, joined, CompactionWords, lengths, Represents, SlotsPast, Opened}
+use Rattle.table.specs.Contracts.{Stores, Body, body, stores, joined, CompactionWords, lengths, Represents, SlotsPast, Opened}
 use Rattle.table.specs.Laws.Replies.{accepted-number}
 use Rattle.table.specs.Laws.Keeps.{opening-done}
 use Rattle.refresh_spec.specs.Index.{isNew, IndexSound}
@@ -72,45 +72,45 @@ module _ {o : Opening} {generation : ℕ} {b : Body} {pending keys′ : List ℕ
   -- a refused opening
   pub replay-refused : (n : ℕ) → answer ≡ Refused n
       → Replayed o generation requests b pending w index (Refused n) (body (b .rows) keys′ (b .sorts)) pending w index
-  unfolding tableSays verdict
+  unfolding tableView outcome
   replay-refused n e =
       let k : ℕ = openRefusal o (lengths (b .rows) (b .keys) (b .sorts) pending [] []) in
-      let says = refused-number k n (headerOf (opened o generation)) (rw (ap tableSays e) at (m .answers)) in
+      let number-is = refused-number k n (headerOf (opened o generation)) (rw (ap tableView e) at (m .answers)) in
       record {
-        refusal = says .1;
+        refusal = number-is .1;
         unchanged = λ some. (rw (m .unchanged some), refl, refl, refl);
-        calls-made = λ h said. absurd (let z : _≡_ {A = ℕ} 0 1 = cc in omega arith);
+        calls-made = λ h answer-is. absurd (let z : _≡_ {A = ℕ} 0 1 = cc in omega arith);
         slots-past = m .past;
         words-past = (refl, refl);
-        words-kept = λ h said same. refl;
+        words-kept = λ h answer-is same. refl;
         index-past = refl;
         index-kept = λ none. refl;
       }
 
   -- the table after an accepted opening
-  opened-shows : (h : Header) → answer ≡ Table h → Represents (opened o generation) (stores h (b .rows) keys′ (b .sorts) pending)
-  unfolding tableSays
-  opened-shows h e = opening-done (rw e at m) h refl
+  opened-represents : (h : Header) → answer ≡ Table h → Represents (opened o generation) (stores h (b .rows) keys′ (b .sorts) pending)
+  unfolding tableView
+  opened-represents h e = opening-done (rw e at m) h refl
 
   -- an accepted opening, and the requests
   pub replay-made : (h h′ : Header) (b′ : Body) (pending′ : List ℕ) (w′ : CompactionWords) (index′ : List ℕ) → answer ≡ Table h → length keys′ ≡ length (b .keys)
       → Made requests (lengths (b .rows) keys′ (b .sorts) pending (w .live) (w .base)) (stores h (b .rows) keys′ (b .sorts) pending) w index (joined h′ b′ pending′) w′ index′
       → Replayed o generation requests b pending w index (Table h′) b′ pending′ w′ index′
-  unfolding tableSays verdict reply opened
+  unfolding tableView outcome reply opened
   replay-made h h′ b′ pending′ w′ index′ e same made =
-      let none = accepted-number (openRefusal o (lengths (b .rows) (b .keys) (b .sorts) pending [] [])) h (headerOf (opened o generation)) (rw (ap tableSays e) at (m .answers)) in
+      let none = accepted-number (openRefusal o (lengths (b .rows) (b .keys) (b .sorts) pending [] [])) h (headerOf (opened o generation)) (rw (ap tableView e) at (m .answers)) in
       let from : MadeFrom o generation requests b pending w index (joined h′ b′ pending′) index′ = record { header = h; keys = keys′; opened = rw e at m; calls = made .calls; served = rw same at (made .served) } in
-      let shown = opened-shows h e in
+      let shown = opened-represents h e in
       let last : h′ .generation ≡ afterAll (opened o generation) (lentAll (lengths (b .rows) keys′ (b .sorts) pending (w .live) (w .base)) (made .calls)) .generation =
       ap (λ (x : Header). x .generation) (steps-represents shown (served-steps (made .served)) .shown .header) in
       let past : SlotsPast (o .capacity) keys′ (b′ .keys) = made .slots-past (opened o generation) shown in
       record {
         refusal = rw none;
         unchanged = λ some. absurd (omega arith);
-        calls-made = λ g said. let is : h′ ≡ g = cc in rw (← is) from;
+        calls-made = λ g answer-is. let is : h′ ≡ g = cc in rw (← is) from;
         slots-past = past ∙ m .past;
         words-past = made .words-past (opened o generation) shown;
-        words-kept = λ g said e. let is : h′ ≡ g = cc in made .words-kept (opened o generation) shown (sym last ∙ ap (λ (x : Header). x .generation) is ∙ e);
+        words-kept = λ g answer-is e. let is : h′ ≡ g = cc in made .words-kept (opened o generation) shown (sym last ∙ ap (λ (x : Header). x .generation) is ∙ e);
         index-past = index-past shown (made .served);
         index-kept = index-unused (made .served);
       }

@@ -6,7 +6,7 @@ use mathlib.Core.List.{List, [], _∷_, _++_, map-append}
 use native.Mathlib.Omega.{arith}
 use Rattle.refusals.specs.Laws.Replies.{some-number}
 use Rattle.plain_table.specs.Staged.{Staged}
-use Rattle.plain_table.specs.Refusing.{Lengths, storesShort, wordsShort, compactLadder}
+use Rattle.plain_table.specs.Refusing.{Lengths, storesShort, wordsShort, compactChecks}
 use Rattle.plain_table.specs.Plain.{Plain, compacted}
 use Rattle.plain_table.specs.Refreshing.{Refresh}
 use Rattle.plain_table.specs.Calls.{Call, staging, merging, compacting, clearing, refusal, done, after, LentCall, afterAll}
@@ -15,12 +15,12 @@ use Rattle.plain_table.specs.Laws.Calls.{accepted-done}
 use Rattle.table.specs.declared.Header.{Header}
 use Rattle.table.specs.declared.TableAnswer.{TableAnswer}
 use Rattle.table.specs.declared.MergeAnswer.{MergeAnswer}
-use Rattle.table.specs.Numbers.{tableSays, mergeSays}
+use Rattle.table.specs.Numbers.{tableView, mergeView}
 use Rattle.table.specs.Refusing.{mergeRefusal, compactRefusal}
-use Rattle.table.specs.Promises.{Stores, stores, body, CompactionWords, compactionWords, lengths, Represents, SlotsPast, WordsPast, headerAfter, headerMerged, Staging, Merging, Compacting, Clearing}
-use Rattle.table.specs.Laws.Ladders.{merge-ladders, compact-ladders}
+use Rattle.table.specs.Contracts.{Stores, stores, body, CompactionWords, compactionWords, lengths, Represents, SlotsPast, WordsPast, headerAfter, headerMerged, Staging, Merging, Compacting, Clearing}
+use Rattle.table.specs.Laws.Checks.{merge-checks, compact-checks}
 use Rattle.refresh_spec.specs.declared.RefreshAnswer.{RefreshAnswer}
-use Rattle.refresh_spec.specs.Refreshes.{refreshSays, headerRefreshed, Refreshing}
+use Rattle.refresh_spec.specs.Refreshes.{refreshView, headerRefreshed, Refreshing}
 use Rattle.refresh_spec.specs.Laws.Decided.{index-decided}
 use Rattle.history.specs.Histories.{stages, merges, compacts, clears, refreshes, refreshes-unsound}
 use Rattle.history.specs.Laws.Calls.{steps-represents}
@@ -90,7 +90,7 @@ module _ {h : Header} {pending : List ℕ} {requests : List Request} where
   nothing-staged e = record { made = λ rows keys sorts live base index. none-made _ _ _ _ e }
 
   pub staging-made : {h′ : Header} {pending′ : List ℕ} {q : Staged} {answer : TableAnswer} → requests ≡ make (staging q) ∷ [] → Staging h pending q answer pending′
-      → h′ ≡ headerAfter h (tableSays answer) → MadeOnPending requests h pending h′ pending′
+      → h′ ≡ headerAfter h (tableView answer) → MadeOnPending requests h pending h′ pending′
   unfolding lengthsFor
   staging-made {h′} {pending′} {q} {answer} e m same =
       record { made = λ rows keys sorts live base index. rw (e, same) (words-unlent (lengths rows keys sorts pending live base) (compactionWords live base) (made (stages q answer pending′ m)) (λ p r. refl)) }
@@ -100,7 +100,7 @@ module _ {h : Header} {rows pending index : List ℕ} {requests : List Request} 
   nothing-refreshed e = record { made = λ keys sorts live base. none-made _ _ _ _ e }
 
   pub refreshing-made : {h′ : Header} {pending′ index′ : List ℕ} {r : Refresh} {answer : RefreshAnswer} → requests ≡ refresh r ∷ [] → Refreshing h rows pending index r answer pending′ index′
-      → h′ ≡ headerRefreshed h (refreshSays answer) → MadeOnIndex requests h rows pending index h′ pending′ index′
+      → h′ ≡ headerRefreshed h (refreshView answer) → MadeOnIndex requests h rows pending index h′ pending′ index′
   unfolding lengthsFor
   refreshing-made {h′} {pending′} {index′} {r} {answer} e m same =
       record {
@@ -132,7 +132,7 @@ compaction-rises p e = omega arith
 
 module _ {h h′ : Header} {rows keys sorts pending rows′ keys′ sorts′ : List ℕ} (live base index : List ℕ) {requests : List Request} where
   pub merging-made : {live′ base′ : List ℕ} {answer : MergeAnswer} → requests ≡ make merging ∷ [] → Merging (stores h rows keys sorts pending) (compactionWords live base) answer (body rows′ keys′ sorts′) (compactionWords live′ base′)
-      → h′ ≡ headerMerged h (mergeSays answer)
+      → h′ ≡ headerMerged h (mergeView answer)
       → Made requests (lengths rows keys sorts pending live base) (stores h rows keys sorts pending) (compactionWords live base) index (stores h′ rows′ keys′ sorts′ pending) (compactionWords live′ base′) index
   unfolding lengthsFor done
   merging-made {live′} {base′} {answer} e m same =
@@ -144,13 +144,13 @@ module _ {h h′ : Header} {rows keys sorts pending rows′ keys′ sorts′ : L
         slots-past = λ p r. rw (table-capacity r) at (m .past);
         words-past = λ p r. rw (table-capacity r) at (m .words-past);
         words-kept = λ p r same. elim (some-number (mergeRefusal h l)) [
-          | inl none ↦ m .table none p r .words (ap (λ (q : Plain). q .generation) (sym (one-done p l merging (sym (merge-ladders r l) ∙ none))) ∙ same)
+          | inl none ↦ m .table none p r .words (ap (λ (q : Plain). q .generation) (sym (one-done p l merging (sym (merge-checks r l) ∙ none))) ∙ same)
           | inr some ↦ m .unchanged some .1
         ];
       })
 
   pub compacting-made : {live′ base′ : List ℕ} {answer : TableAnswer} → requests ≡ make compacting ∷ [] → Compacting h (body rows keys sorts) (compactionWords live base) answer (body rows′ keys′ sorts′) (compactionWords live′ base′)
-      → h′ ≡ headerAfter h (tableSays answer)
+      → h′ ≡ headerAfter h (tableView answer)
       → Made requests (lengths rows keys sorts pending live base) (stores h rows keys sorts pending) (compactionWords live base) index (stores h′ rows′ keys′ sorts′ pending) (compactionWords live′ base′) index
   unfolding lengthsFor done
   compacting-made {live′} {base′} {answer} e m same =
@@ -165,15 +165,15 @@ module _ {h h′ : Header} {rows keys sorts pending rows′ keys′ sorts′ : L
         words-past = λ p r. rw (table-capacity r) at (m .words-past);
         words-kept = λ p r same. elim (some-number (compactRefusal h k)) [
           | inl none ↦
-              let ladder : refusal p l compacting ≡ 0 = sym (compact-ladders r k ∙ (unfold refusal compactLadder storesShort wordsShort in refl)) ∙ none in
-              let risen : compacted p .generation ≡ p .generation = ap (λ (q : Plain). q .generation) (sym (one-done p l compacting ladder)) ∙ same in
+              let not-refused : refusal p l compacting ≡ 0 = sym (compact-checks r k ∙ (unfold refusal compactChecks storesShort wordsShort in refl)) ∙ none in
+              let risen : compacted p .generation ≡ p .generation = ap (λ (q : Plain). q .generation) (sym (one-done p l compacting not-refused)) ∙ same in
               absurd (compaction-rises p risen)
           | inr some ↦ m .unchanged some .1
         ];
       })
 
 pub clearing-made : {h h′ : Header} {rows keys sorts pending keys′ : List ℕ} (live base index : List ℕ) {requests : List Request} {answer : TableAnswer} → requests ≡ make clearing ∷ []
-    → Clearing h keys answer keys′ → h′ ≡ headerAfter h (tableSays answer)
+    → Clearing h keys answer keys′ → h′ ≡ headerAfter h (tableView answer)
     → Made requests (lengths rows keys sorts pending live base) (stores h rows keys sorts pending) (compactionWords live base) index (stores h′ rows keys′ sorts pending) (compactionWords live base) index
 unfolding lengthsFor
 clearing-made {h} {h′} {rows} {keys} {sorts} {pending} {keys′} live base index {requests} {answer} e m same =

@@ -11,25 +11,25 @@ use lib.ListN.{length, drop}
 use lib.Seq.{drop-drop}
 use borrow.Author.Tests.{ltb-false}
 use Rattle.lists.specs.Lists.{any}
-use Rattle.lists.specs.Laws.Every.{or-no-left, or-no-right}
+use Rattle.lists.specs.Laws.All.{or-no-left, or-no-right}
 use Rattle.refusals.specs.Laws.Replies.{some-number}
 use Rattle.plain_table.specs.Staged.{Opening}
 use Rattle.plain_table.specs.Refusing.{Lengths}
 use Rattle.plain_table.specs.Plain.{Plain}
-use Rattle.plain_table.specs.Refreshing.{Refresh, refreshLadder}
+use Rattle.plain_table.specs.Refreshing.{Refresh, refreshChecks}
 use Rattle.plain_table.specs.Calls.{Call, afterAll, LentCall}
-use Rattle.plain_table.specs.Laws.Calls.{first-no, first-rest}
+use Rattle.plain_table.specs.Laws.Calls.{firstRefusal-no, firstRefusal-rest}
 use Rattle.plain_table.specs.Laws.Notes.{onward-all}
 use Rattle.table.specs.declared.Header.{Header}
-use Rattle.table.specs.Promises.{Stores, body, Represents}
+use Rattle.table.specs.Contracts.{Stores, body, Represents}
 use Rattle.refresh_spec.specs.declared.RefreshAnswer.{RefreshAnswer}
 use Rattle.refresh_spec.specs.Index.{isNew, IndexSound}
 use Rattle.refresh_spec.specs.Refreshes.{refreshRefusal, Refreshing}
 use Rattle.refresh_spec.specs.Laws.Keeps.{number}
 use Rattle.history.specs.Histories.{Called, behind, Steps, end as steps-end, next as steps-next, History}
-use Rattle.history.specs.Refreshes.{ownRefresh, Kept, taken, waits, refreshes}
+use Rattle.history.specs.Refreshes.{ownRefresh, OwnIndex, adopted, other-call, refreshes}
 use Rattle.history.specs.Laws.Calls.{step-represents}
-use Rattle.history.specs.Laws.Refreshes.{kept-indexes}
+use Rattle.history.specs.Laws.Refreshes.{own-indexes-sound}
 use Rattle.history.specs.Laws.Further.{behind-nothing, whole-step}
 use Rattle.replay_calls.specs.Lending.{lentTo, lentAll}
 use Rattle.replay_calls.specs.Requests.{Request, isRefresh, requested, refreshedStores, IndexPast, Served, made, refreshed, refreshed-unsound, ServedAll, end, next}
@@ -72,8 +72,8 @@ drop-further a b m n h e =
 
 module _ {h : Header} {rows pending index pending′ index′ : List ℕ} {r : Refresh} {answer : RefreshAnswer} (m : Refreshing h rows pending index r answer pending′ index′) where
   columns-few : number m ≡ 0 → length (r .columns) ≤ 8
-  unfolding refreshRefusal refreshLadder
-  columns-few e = ltb-false _ _ (first-no _ 11 _ (first-rest _ 1 _ (first-rest _ 0 _ e)))
+  unfolding refreshRefusal refreshChecks
+  columns-few e = ltb-false _ _ (firstRefusal-no _ 11 _ (firstRefusal-rest _ 1 _ (firstRefusal-rest _ 0 _ e)))
 
   refreshing-past : IndexPast (h .capacity) index index′
   refreshing-past =
@@ -104,25 +104,25 @@ both e f = λ i. e i ∷ f i
 
 -- an index store that some history maintained
 abbrev KeptSome : Opening → ℕ → Stores → List ℕ → Type 0
-KeptSome o generation s index = (calls : List LentCall) × Kept o generation calls s index
+KeptSome o generation s index = (calls : List LentCall) × OwnIndex o generation calls s index
 
 module _ {o : Opening} {generation : ℕ} where
   -- a refresh that is lent the whole index store
-  refreshed-kept : {calls : List LentCall} {index pending′ index′ : List ℕ} (s : Stores) {r : Refresh} {answer : RefreshAnswer} → Kept o generation calls s index
-      → Refreshing (s .header) (s .rows) (s .pending) index r answer pending′ index′ → Kept o generation (calls ++ (ownRefresh s index r ∷ [])) (refreshedStores s answer pending′) index′
+  refreshed-kept : {calls : List LentCall} {index pending′ index′ : List ℕ} (s : Stores) {r : Refresh} {answer : RefreshAnswer} → OwnIndex o generation calls s index
+      → Refreshing (s .header) (s .rows) (s .pending) index r answer pending′ index′ → OwnIndex o generation (calls ++ (ownRefresh s index r ∷ [])) (refreshedStores s answer pending′) index′
   refreshed-kept {calls} {index} {pending′} {index′} s {r} {answer} kept m =
       go (behind-nothing (refreshedStores s answer pending′)) (append-nil index′)
     where
-      go : {a : Stores} {b : List ℕ} → behind (refreshedStores s answer pending′) (body [] [] []) [] ≡ a → index′ ++ [] ≡ b → Kept o generation (calls ++ (ownRefresh s index r ∷ [])) a b
+      go : {a : Stores} {b : List ℕ} → behind (refreshedStores s answer pending′) (body [] [] []) [] ≡ a → index′ ++ [] ≡ b → OwnIndex o generation (calls ++ (ownRefresh s index r ∷ [])) a b
       go e f = rw (← e, ← f) (refreshes {calls = calls} s (body [] [] []) [] index [] r answer pending′ index′ (rw (behind-nothing s, append-nil index) kept) m)
 
   -- it is sound for a refresh by any columns
-  kept-sound : {calls : List LentCall} {s : Stores} {index : List ℕ} → Kept o generation calls s index → (columns : List ℕ) → IndexSound (s .header) (s .rows) columns index
+  kept-sound : {calls : List LentCall} {s : Stores} {index : List ℕ} → OwnIndex o generation calls s index → (columns : List ℕ) → IndexSound (s .header) (s .rows) columns index
   kept-sound {calls} {s} {index} kept columns =
-      kept-indexes .sound o generation calls s (body [] [] []) [] index [] columns (rw (behind-nothing s, append-nil index) kept)
+      own-indexes-sound .sound o generation calls s (body [] [] []) [] index [] columns (rw (behind-nothing s, append-nil index) kept)
 
   served-kept : {l : Lengths} {s t : Stores} {index index′ : List ℕ} {q : Request} {c : Call} → KeptSome o generation s index → Served l s index q c t index′ → KeptSome o generation t index′
-  served-kept (calls, kept) (made call) = (_, waits kept (whole-step call))
+  served-kept (calls, kept) (made call) = (_, other-call kept (whole-step call))
   served-kept {s = s} (calls, kept) (refreshed r answer pending′ index′ m sound call) = (_, refreshed-kept s kept m)
   served-kept {s = s} (calls, kept) (refreshed-unsound r answer pending′ index′ m unsound call) = (_, refreshed-kept s kept m)
 
@@ -149,11 +149,11 @@ module _ {o : Opening} {generation : ℕ} where
       (history : History o generation before s) (new : isNew index ≡ true) (all : ServedAll l s index qs cs t index′) where
     -- "the plain table stages these records of its own rows"
     pub calls-requested : cs ≡ map (requested (length index)) qs
-    calls-requested = all-requested (before, taken index history new) all
+    calls-requested = all-requested (before, adopted index history new) all
 
     -- afterwards it is still sound
     pub index-sound : (columns : List ℕ) → IndexSound (t .header) (t .rows) columns index′
-    index-sound = kept-sound (all-kept (before, taken index history new) all .1)
+    index-sound = kept-sound (all-kept (before, adopted index history new) all .1)
 
 -- without a refresh the calls are those requested, whatever the index store contains
 served-plain : {l : Lengths} {s t : Stores} {index index′ : List ℕ} {q : Request} {c : Call} (n : ℕ) → Served l s index q c t index′ → isRefresh q ≡ false → c ≡ requested n q

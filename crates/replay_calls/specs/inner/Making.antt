@@ -6,7 +6,7 @@ use Rattle.plain_table.specs.Refusing.{Lengths}
 use Rattle.plain_table.specs.Plain.{Plain}
 use Rattle.plain_table.specs.Calls.{Call, afterAll}
 use Rattle.table.specs.declared.Header.{Header}
-use Rattle.table.specs.Promises.{Stores, stores, lengths, Represents, CompactionWords, compactionWords, SlotsPast, WordsPast}
+use Rattle.table.specs.Contracts.{Stores, stores, lengths, Represents, CompactionWords, compactionWords, SlotsPast, WordsPast}
 use Rattle.replay_calls.specs.Lending.{lentAll}
 use Rattle.replay_calls.specs.Requests.{Request, ServedAll}
 

@@ -1,4 +1,4 @@
--- The contract of `ask` determines the outcome: on a table, the ids left in their form and order, whether an accepted query
+-- The contract of `run_queries` determines the outcome: on a table, the ids left in their form and order, whether an accepted query
 -- refined, how many were taken, and everything that is never written. Which lent list has the ids is the program's choice.
 -- Assumes nothing.
 use Prim.Native.Nat.{ℕ}
@@ -10,10 +10,10 @@ use Rattle.lists.specs.Lists.{any}
 use Rattle.offsets.specs.Subsets.{Subset}
 use Rattle.sort_entries.specs.Entries.{entriesOf, entriesSound}
 use Rattle.table.specs.declared.Header.{Header}
-use Rattle.history.specs.Runs.{Question, refines}
+use Rattle.history.specs.Runs.{Query, refines}
 use Rattle.replay_queries.specs.declared.RunAnswer.{RunAnswer}
-use Rattle.replay_queries.specs.Leaving.{subsetLeft, Outcome}
-use Rattle.replay_run.specs.Asking.{shorter, RunMade}
+use Rattle.replay_queries.specs.Outcomes.{subsetLeft, Outcome}
+use Rattle.replay_run.specs.RunQueries.{shorter, RunMade}
 use Rattle.replay_run.specs.Laws.Claimed.{made-leaves}
 
 -- the result of a run
@@ -22,7 +22,7 @@ pub record RunLeft : Type 0 where
   pub first : List ℕ
   pub second : List ℕ
 
-module _ (h : Header) (rows sorts : List ℕ) (start : Subset) (ids : List ℕ) (questions : List Question) (first second : List ℕ) where
+module _ (h : Header) (rows sorts : List ℕ) (start : Subset) (ids : List ℕ) (queries : List Query) (first second : List ℕ) where
   pub record SameRun (x y : RunLeft) : Type 0 where
     -- for any stores
     pub taken : x .answer .taken ≡ y .answer .taken
@@ -34,7 +34,7 @@ module _ (h : Header) (rows sorts : List ℕ) (start : Subset) (ids : List ℕ) 
     pub refined : entriesSound (entriesOf (h .entries) sorts) (h .rows) ≡ true → x .answer .refined ≡ y .answer .refined
 
   abbrev RunTo : RunLeft → Type 0
-  RunTo x = RunMade h rows sorts start ids questions first second (x .answer) (x .first) (x .second)
+  RunTo x = RunMade h rows sorts start ids queries first second (x .answer) (x .first) (x .second)
 
   pub run-made-determined : (x y : RunLeft) → RunTo x → RunTo y → SameRun x y
   run-made-determined x y u v =
@@ -42,5 +42,5 @@ module _ (h : Header) (rows sorts : List ℕ) (start : Subset) (ids : List ℕ) 
         taken = u .taken ∙ sym (v .taken);
         past = (u .past .0 ∙ sym (v .past .0), u .past .1 ∙ sym (v .past .1));
         ids-same = λ sound. ap (λ (o : Outcome). o .ids) (made-leaves u sound ∙ sym (made-leaves v sound));
-        refined = λ sound. u .told ∙ ap (λ (o : Outcome). any refines (o .accepted)) (made-leaves u sound ∙ sym (made-leaves v sound)) ∙ sym (v .told);
+        refined = λ sound. u .refined-is ∙ ap (λ (o : Outcome). any refines (o .accepted)) (made-leaves u sound ∙ sym (made-leaves v sound)) ∙ sym (v .refined-is);
       }

@@ -13,10 +13,10 @@ use lib.Pow.{pow-pos, pow-add, mod-pow-add}
 use lib.Count.{ones, ones-cat, ones-le}
 use lib.ListN.{length, take, drop, getD, set}
 use lib.Seq.{take-take}
-use Rattle.lists.specs.Lists.{keep, count, rowAt, rowsOf}
-use Rattle.lists.specs.Laws.Keep.{split}
+use Rattle.lists.specs.Lists.{filter, count, rowAt, rowsOf}
+use Rattle.lists.specs.Laws.Filter.{split}
 use Rattle.lists.specs.Laws.Rows.{rowsOf-set}
-use Rattle.row_buffer.specs.Ranks.{setBelow, marks, countTo, liveAt, liveWord, newNumber}
+use Rattle.row_buffer.specs.Ranks.{setBelow, bitmapWord, countTo, liveAt, liveWord, newNumber}
 
 -- ---- binary digits
 
@@ -44,20 +44,20 @@ setBelow-le word bit = rw (← ones-below word bit) (ones-le bit (word % 2 ^ bit
 
 module _ (f : ℕ → Bool) where
   -- one more position: set, or not
-  pub marks-yes : (n : ℕ) → f n ≡ true → marks f (n + 1) ≡ marks f n + 2 ^ n
-  unfolding marks
-  marks-yes n e = rw (add-one, e)
+  pub bitmapWord-yes : (n : ℕ) → f n ≡ true → bitmapWord f (n + 1) ≡ bitmapWord f n + 2 ^ n
+  unfolding bitmapWord
+  bitmapWord-yes n e = rw (add-one, e)
 
-  pub marks-no : (n : ℕ) → f n ≡ false → marks f (n + 1) ≡ marks f n
-  unfolding marks
-  marks-no n e = rw (add-one, e) (add-zero (marks f n))
+  pub bitmapWord-no : (n : ℕ) → f n ≡ false → bitmapWord f (n + 1) ≡ bitmapWord f n
+  unfolding bitmapWord
+  bitmapWord-no n e = rw (add-one, e) (add-zero (bitmapWord f n))
 
   -- a bitmap word of n positions is below 2 ^ n
-  pub marks-lt : (n : ℕ) → marks f n < 2 ^ n
-  unfolding marks
-  marks-lt zero = omega arith
-  marks-lt (suc n) =
-      let h = marks-lt n in
+  pub bitmapWord-lt : (n : ℕ) → bitmapWord f n < 2 ^ n
+  unfolding bitmapWord
+  bitmapWord-lt zero = omega arith
+  bitmapWord-lt (suc n) =
+      let h = bitmapWord-lt n in
       let e : 2 ^ suc n ≡ 2 ^ n * 2 = pow-suc 2 n in
       elim (split (f n)) [ inl q ↦ rw q (omega arith) | inr q ↦ rw q (omega arith) ]
 
@@ -69,42 +69,42 @@ module _ (f : ℕ → Bool) where
   unfolding digit
   digit-lt n = elim (split (f n)) [ inl e ↦ rw e (omega arith) | inr e ↦ rw e (omega arith) ]
 
-  marks-digit : (n : ℕ) → marks f (suc n) ≡ marks f n + digit n * 2 ^ n
-  unfolding marks digit
-  marks-digit n = elim (split (f n)) [ inl e ↦ rw (e, one-mul (2 ^ n)) | inr e ↦ rw (e, zero-mul (2 ^ n)) ]
+  bitmapWord-digit : (n : ℕ) → bitmapWord f (suc n) ≡ bitmapWord f n + digit n * 2 ^ n
+  unfolding bitmapWord digit
+  bitmapWord-digit n = elim (split (f n)) [ inl e ↦ rw (e, one-mul (2 ^ n)) | inr e ↦ rw (e, zero-mul (2 ^ n)) ]
 
   countTo-digit : (n : ℕ) → countTo f (suc n) ≡ countTo f n + digit n
   unfolding countTo digit
   countTo-digit n = refl
 
   -- the number of ones of a bitmap word of n positions
-  ones-marks : (n : ℕ) → ones (marks f n) ≡ countTo f n
-  unfolding marks countTo
-  ones-marks zero = one-digit 0 (omega arith)
-  ones-marks (suc n) =
-      ap ones (marks-digit n ∙ add-comm (marks f n) (digit n * 2 ^ n))
-      ∙ ones-cat n (digit n) (marks f n) (marks-lt n)
-      ∙ ap₂ (λ (a b : ℕ). a + b) (one-digit (digit n) (digit-lt n)) (ones-marks n)
+  ones-bitmapWord : (n : ℕ) → ones (bitmapWord f n) ≡ countTo f n
+  unfolding bitmapWord countTo
+  ones-bitmapWord zero = one-digit 0 (omega arith)
+  ones-bitmapWord (suc n) =
+      ap ones (bitmapWord-digit n ∙ add-comm (bitmapWord f n) (digit n * 2 ^ n))
+      ∙ ones-cat n (digit n) (bitmapWord f n) (bitmapWord-lt n)
+      ∙ ap₂ (λ (a b : ℕ). a + b) (one-digit (digit n) (digit-lt n)) (ones-bitmapWord n)
       ∙ add-comm (digit n) (countTo f n)
       ∙ sym (countTo-digit n)
 
   -- masked below n, a longer word is the word of n positions
-  pub marks-mod : (n j : ℕ) → marks f (n + j) % 2 ^ n ≡ marks f n
-  marks-mod n zero = rw add-zero (mod-eq-of-lt (marks-lt n))
-  marks-mod n (suc j) =
+  pub bitmapWord-mod : (n j : ℕ) → bitmapWord f (n + j) % 2 ^ n ≡ bitmapWord f n
+  bitmapWord-mod n zero = rw add-zero (mod-eq-of-lt (bitmapWord-lt n))
+  bitmapWord-mod n (suc j) =
       let e : n + suc j ≡ suc (n + j) = omega arith in
       let p : digit (n + j) * 2 ^ (n + j) ≡ digit (n + j) * 2 ^ j * 2 ^ n =
       ap (λ (x : ℕ). digit (n + j) * x) (pow-add 2 n j ∙ mul-comm (2 ^ n) (2 ^ j)) ∙ sym (mul-assoc (digit (n + j)) (2 ^ j) (2 ^ n)) in
       rw e
-      (ap (λ (x : ℕ). x % 2 ^ n) (marks-digit (n + j) ∙ ap (λ (x : ℕ). marks f (n + j) + x) p)
-      ∙ add-mul-mod-self-right (marks f (n + j)) (digit (n + j) * 2 ^ j) (2 ^ n)
-      ∙ marks-mod n j)
+      (ap (λ (x : ℕ). x % 2 ^ n) (bitmapWord-digit (n + j) ∙ ap (λ (x : ℕ). bitmapWord f (n + j) + x) p)
+      ∙ add-mul-mod-self-right (bitmapWord f (n + j)) (digit (n + j) * 2 ^ j) (2 ^ n)
+      ∙ bitmapWord-mod n j)
 
   -- "the count of ones below its bit" is the number of set positions below it
-  pub below-marks : (bit n : ℕ) → bit ≤ n → setBelow (marks f n) bit ≡ countTo f bit
-  below-marks bit n h =
+  pub below-bitmapWord : (bit n : ℕ) → bit ≤ n → setBelow (bitmapWord f n) bit ≡ countTo f bit
+  below-bitmapWord bit n h =
       let e : n ≡ bit + (n - bit) = omega arith in
-      rw e (sym (ones-below (marks f (bit + (n - bit))) bit) ∙ ap ones (marks-mod bit (n - bit)) ∙ ones-marks bit)
+      rw e (sym (ones-below (bitmapWord f (bit + (n - bit))) bit) ∙ ap ones (bitmapWord-mod bit (n - bit)) ∙ ones-bitmapWord bit)
 
 -- ---- new numbers
 
@@ -118,20 +118,20 @@ module _ {A : Type 0} (live : A → Bool) where
   -- the bitmap word of the rows from `start` on: empty, one more row, live or not
   module _ (rows : List A) (start : ℕ) where
     pub word-none : liveWord live rows start 0 ≡ 0
-    unfolding liveWord marks
+    unfolding liveWord bitmapWord
     word-none = refl
 
     pub word-live : (n : ℕ) → liveAt live rows (start + n) ≡ true → liveWord live rows start (n + 1) ≡ liveWord live rows start n + 2 ^ n
     unfolding liveWord
-    word-live n e = marks-yes (λ bit. liveAt live rows (start + bit)) n e
+    word-live n e = bitmapWord-yes (λ bit. liveAt live rows (start + bit)) n e
 
     pub word-dead : (n : ℕ) → liveAt live rows (start + n) ≡ false → liveWord live rows start (n + 1) ≡ liveWord live rows start n
     unfolding liveWord
-    word-dead n e = marks-no (λ bit. liveAt live rows (start + bit)) n e
+    word-dead n e = bitmapWord-no (λ bit. liveAt live rows (start + bit)) n e
 
     pub word-lt : (n : ℕ) → liveWord live rows start n < 2 ^ n
     unfolding liveWord
-    word-lt n = marks-lt (λ bit. liveAt live rows (start + bit)) n
+    word-lt n = bitmapWord-lt (λ bit. liveAt live rows (start + bit)) n
 
   number-digit : (rows : List A) (i : ℕ) → newNumber live rows (suc i) ≡ newNumber live rows i + cond (liveAt live rows i) 1 0
   unfolding newNumber liveAt count
@@ -194,15 +194,15 @@ module _ {A : Type 0} (live : A → Bool) where
       → newNumber live rows start + setBelow (liveWord live rows start n) bit ≡ newNumber live rows (start + bit)
   unfolding liveWord
   number-rank rows start n bit h =
-      ap (λ (x : ℕ). newNumber live rows start + x) (below-marks (λ b. liveAt live rows (start + b)) bit n h) ∙ number-upto rows start bit
+      ap (λ (x : ℕ). newNumber live rows start + x) (below-bitmapWord (λ b. liveAt live rows (start + b)) bit n h) ∙ number-upto rows start bit
 
   -- a live row is at its new number among the live rows
-  pub keep-at : (rows : List A) (i : ℕ) (d : A) → liveAt live rows i ≡ true → getD (keep live rows) (newNumber live rows i) d ≡ getD rows i d
-  unfolding keep count newNumber liveAt
-  keep-at [] i d e = absurd (false≢true e)
-  keep-at (row ∷ rows) zero d e = rw e
-  keep-at (row ∷ rows) (suc i) d e =
-      let h = keep-at rows i d e in
+  pub filter-at : (rows : List A) (i : ℕ) (d : A) → liveAt live rows i ≡ true → getD (filter live rows) (newNumber live rows i) d ≡ getD rows i d
+  unfolding filter count newNumber liveAt
+  filter-at [] i d e = absurd (false≢true e)
+  filter-at (row ∷ rows) zero d e = rw e
+  filter-at (row ∷ rows) (suc i) d e =
+      let h = filter-at rows i d e in
       elim (split (live row)) [ inl q ↦ rw q h | inr q ↦ rw q h ]
 
 -- ---- rows of a store

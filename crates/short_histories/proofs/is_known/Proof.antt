@@ -5,14 +5,14 @@ use native.Mathlib.Omega.{arith}
 use borrow.Author.Needs.{needs}
 use lib.Dec.{ltb}
 use lib.ListN.{length, drop}
-use Rattle.lists.specs.Lists.{every}
+use Rattle.lists.specs.Lists.{all}
 use Rattle.short_histories.specs.Sequences.{known}
-use Rattle.short_histories.proofs.Walks.{too-long, known-start, unknown-here, known-on, known-end}
+use Rattle.short_histories.proofs.LoopSteps.{too-long, known-start, unknown-here, known-on, known-end}
 use Rattle.short_histories.proofs.is_known.Statement.{statement}
 use Rattle.short_histories.proofs.is_known.Tie as tie
 
 abbrev Inv-loop : tie.InvT-loop
-Inv-loop sequence i₀ i = known sequence ≡ every (λ step. ltb step 7) (drop i sequence)
+Inv-loop sequence i₀ i = known sequence ≡ all (λ step. ltb step 7) (drop i sequence)
 
 abbrev μ-loop : tie.MeasureT-loop
 μ-loop sequence i₀ i = length sequence - i

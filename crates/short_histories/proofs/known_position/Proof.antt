@@ -6,7 +6,7 @@ use borrow.Author.Needs.{needs}
 use lib.ListN.{length, take}
 use Rattle.short_histories.specs.Sequences.{positionOf}
 use Rattle.short_histories.specs.Laws.Positions.{position-below, position-nothing}
-use Rattle.short_histories.proofs.Walks.{position-on, position-end, prefix-below}
+use Rattle.short_histories.proofs.LoopSteps.{position-on, position-end, prefix-below}
 use Rattle.short_histories.proofs.known_position.Statement.{statement}
 use Rattle.short_histories.proofs.known_position.Tie as tie
 

@@ -5,7 +5,7 @@ use native.Mathlib.Omega.{arith}
 use borrow.Author.Needs.{needs}
 use lib.ListN.{length}
 use Rattle.short_histories.specs.Sequences.{sequenceAt}
-use Rattle.short_histories.proofs.Walks.{steps-short, steps-ended, length-back}
+use Rattle.short_histories.proofs.LoopSteps.{steps-short, steps-ended, length-back}
 use Rattle.short_histories.proofs.length_at.Statement.{statement}
 use Rattle.short_histories.proofs.length_at.Tie as tie
 

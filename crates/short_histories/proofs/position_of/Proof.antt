@@ -2,7 +2,7 @@
 use mathlib.Core.Path.{sym, _∙_}
 use borrow.Author.Needs.{needs}
 use borrow.Author.Tests.{not-true, not-false}
-use Rattle.short_histories.specs.Laws.Refusals.{position-refused, position-told}
+use Rattle.short_histories.specs.Laws.Refusals.{position-refused, position-answered}
 use Rattle.short_histories.proofs.position_of.Statement.{statement}
 use Rattle.short_histories.proofs.position_of.Tie as tie
 
@@ -13,7 +13,7 @@ known-position-requires : tie.Need-known-position-requires
 known-position-requires c κs = sym (c .before .is-known .ensures) ∙ not-false _ (c .if1 .left)
 
 returns-2 : tie.Need-returns-2
-returns-2 c = position-told _ (sym (c .before .before .is-known .ensures) ∙ not-false _ (c .before .if1 .left)) _ (c .known-position .ensures .0)
+returns-2 c = position-answered _ (sym (c .before .before .is-known .ensures) ∙ not-false _ (c .before .if1 .left)) _ (c .known-position .ensures .0)
 
 pub position-of-spec : {M : Type 1} → statement M
 position-of-spec = tie.close (tie.spec

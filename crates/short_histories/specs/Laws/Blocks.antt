@@ -9,37 +9,37 @@ use lib.Dec.{ltb}
 use lib.ListN.{length, getD, length-map, length-append, List·getD-append}
 use lib.Seq.{getD-append-add}
 use borrow.Author.Tests.{ltb-true, lt-ltb}
-use Rattle.lists.specs.Lists.{every, flat, countFrom}
-use Rattle.lists.specs.Laws.Every.{every-head, every-tail, every-cons, getD-map-below}
+use Rattle.lists.specs.Lists.{all, flatten, iota}
+use Rattle.lists.specs.Laws.All.{all-head, all-tail, all-cons, getD-map-below}
 use Rattle.short_histories.specs.Sequences.{sequences, sequencesTo}
 use Rattle.short_histories.specs.Laws.Numbers.{Steps, many, shorter, value, number, many-some, value-below, shorter-rises}
 
 -- ---- lists of one length, one after another
 
 module _ {A : Type 0} (f : ℕ → List A) (w : ℕ) (wide : (x : ℕ) → length (f x) ≡ w) where
-  length-blocks : (s n : ℕ) → length (flat (map f (countFrom s n))) ≡ n * w
-  unfolding flat countFrom
+  length-blocks : (s n : ℕ) → length (flatten (map f (iota s n))) ≡ n * w
+  unfolding flatten iota
   length-blocks s zero = sym (zero-mul w)
   length-blocks s (suc n) =
       let e = length-blocks (suc s) n in
-      let a = length-append (f s) (flat (map f (countFrom (suc s) n))) in
+      let a = length-append (f s) (flatten (map f (iota (suc s) n))) in
       let b = wide s in
       let c = suc-mul n w in
       omega arith
 
   -- place k of list x
-  getD-blocks : (s n x k : ℕ) (d : A) → x < n → k < w → getD (flat (map f (countFrom s n))) (x * w + k) d ≡ getD (f (s + x)) k d
-  unfolding flat countFrom
+  getD-blocks : (s n x k : ℕ) (d : A) → x < n → k < w → getD (flatten (map f (iota s n))) (x * w + k) d ≡ getD (f (s + x)) k d
+  unfolding flatten iota
   getD-blocks s zero x k d h g = absurd (omega arith)
   getD-blocks s (suc n) zero k d h g =
       let e : zero * w + k ≡ k = let z = zero-mul w in omega arith in
       let r : k < length (f s) = let b = wide s in omega arith in
-      rw (e, add-zero s) (List·getD-append (f s) (flat (map f (countFrom (suc s) n))) d k r)
+      rw (e, add-zero s) (List·getD-append (f s) (flatten (map f (iota (suc s) n))) d k r)
   getD-blocks s (suc n) (suc x) k d h g =
       let e : suc x * w + k ≡ length (f s) + (x * w + k) = let z = suc-mul x w in let b = wide s in omega arith in
       let r : suc s + x ≡ s + suc x = omega arith in
-      ap (λ (i : ℕ). getD (f s ++ flat (map f (countFrom (suc s) n))) i d) e
-      ∙ getD-append-add (f s) (flat (map f (countFrom (suc s) n))) (x * w + k) d
+      ap (λ (i : ℕ). getD (f s ++ flatten (map f (iota (suc s) n))) i d) e
+      ∙ getD-append-add (f s) (flatten (map f (iota (suc s) n))) (x * w + k) d
       ∙ getD-blocks (suc s) n x k d (omega arith) g
       ∙ ap (λ (i : ℕ). getD (f i) k d) r
 
@@ -67,8 +67,8 @@ value-found : (s : List ℕ) → Steps s → getD (sequences (length s)) (value 
 unfolding value
 value-found [] e = unfold sequences in refl
 value-found (x ∷ xs) e =
-    let h = ltb-true x 7 (every-head (λ step. ltb step 7) x xs e) in
-    let t = every-tail (λ step. ltb step 7) x xs e in
+    let h = ltb-true x 7 (all-head (λ step. ltb step 7) x xs e) in
+    let t = all-tail (λ step. ltb step 7) x xs e in
     at-beginning (length xs) x (value xs) h (value-below xs t) ∙ ap (λ (r : List ℕ). x ∷ r) (value-found xs t)
 
 -- the sequence at place k among the sequences of n steps
@@ -82,13 +82,13 @@ unfolding value
 valued-more n x k s h v =
     record {
       long = ap suc (v .long);
-      steps = every-cons (λ step. ltb step 7) x s (lt-ltb x 7 h) (v .steps);
+      steps = all-cons (λ step. ltb step 7) x s (lt-ltb x 7 h) (v .steps);
       valued = rw (v .long, v .valued);
     }
 
 value-at : (n k : ℕ) → k < many n → Valued n k (getD (sequences n) k [])
 unfolding many
-value-at zero zero h = unfold sequences in record { long = refl; steps = unfold every in refl; valued = unfold value in refl }
+value-at zero zero h = unfold sequences in record { long = refl; steps = unfold all in refl; valued = unfold value in refl }
 value-at zero (suc k) h = absurd (omega arith)
 value-at (suc n) k h =
     let m = many-some n in
@@ -171,7 +171,7 @@ numbered-more : (n p : ℕ) (s : List ℕ) → Numbered n p s → Numbered (suc 
 numbered-more n p s v = record { long = let h = v .long in omega arith; steps = v .steps; numbered = v .numbered }
 
 pub number-at : (n p : ℕ) → p < shorter (suc n) → Numbered n p (getD (sequencesTo n) p [])
-number-at zero zero h = unfold sequencesTo sequences in record { long = omega arith; steps = unfold every in refl; numbered = number-none }
+number-at zero zero h = unfold sequencesTo sequences in record { long = omega arith; steps = unfold all in refl; numbered = number-none }
 number-at zero (suc p) h = absurd (let e = one-shorter in omega arith)
 number-at (suc n) p h =
     elim (decLt p (shorter (suc n))) [

@@ -16,7 +16,7 @@ use Rattle.short_histories.specs.declared.PositionAnswer.{PositionAnswer
 use Rattle.short_histories.specs.declared.PositionAnswer.the-variants.{Refused as PositionRefused, Position}
 use Rattle.short_histories.specs.declared.SequenceAnswer.{SequenceAnswer}
 use Rattle.short_histories.specs.declared.SequenceAnswer.the-variants.{Refused as SequenceRefused, None as NoSequence, Written}
-use Rattle.short_histories.specs.Sequences.{stepSays, positionSays, sequenceSays, StepTold, PositionTold, SequenceTold}
+use Rattle.short_histories.specs.Sequences.{stepView, positionView, sequenceView, StepAnswered, PositionAnswered, SequenceAnswered}
 
 -- ---- an answer is determined by its reply
 
@@ -31,46 +31,46 @@ stepOf (accepted clearing) = Merge
 stepOf (accepted (refreshing r index)) = Merge
 stepOf (accepted (feeding rs)) = Merge
 
-step-said : (a : StepAnswer) → stepOf (stepSays a) ≡ a
-unfolding stepOf stepSays
-step-said (StepRefused n) = refl
-step-said (Insert key stamp third) = refl
-step-said (Remove key) = refl
-step-said Merge = refl
+step-view-inverse : (a : StepAnswer) → stepOf (stepView a) ≡ a
+unfolding stepOf stepView
+step-view-inverse (StepRefused n) = refl
+step-view-inverse (Insert key stamp third) = refl
+step-view-inverse (Remove key) = refl
+step-view-inverse Merge = refl
 
 positionIn : Reply ℕ → PositionAnswer
 positionIn (refused n) = PositionRefused n
 positionIn (accepted p) = Position p
 
-position-said : (a : PositionAnswer) → positionIn (positionSays a) ≡ a
-unfolding positionIn positionSays
-position-said (PositionRefused n) = refl
-position-said (Position p) = refl
+position-view-inverse : (a : PositionAnswer) → positionIn (positionView a) ≡ a
+unfolding positionIn positionView
+position-view-inverse (PositionRefused n) = refl
+position-view-inverse (Position p) = refl
 
 sequenceIn : Reply (Option ℕ) → SequenceAnswer
 sequenceIn (refused n) = SequenceRefused n
 sequenceIn (accepted none) = NoSequence
 sequenceIn (accepted (some n)) = Written n
 
-sequence-said : (a : SequenceAnswer) → sequenceIn (sequenceSays a) ≡ a
-unfolding sequenceIn sequenceSays
-sequence-said (SequenceRefused n) = refl
-sequence-said NoSequence = refl
-sequence-said (Written n) = refl
+sequence-view-inverse : (a : SequenceAnswer) → sequenceIn (sequenceView a) ≡ a
+unfolding sequenceIn sequenceView
+sequence-view-inverse (SequenceRefused n) = refl
+sequence-view-inverse NoSequence = refl
+sequence-view-inverse (Written n) = refl
 
 -- ---- the contracts
 
-pub step-determined : (step : ℕ) {a b : StepAnswer} → StepTold step a → StepTold step b → a ≡ b
-step-determined step {a} {b} x y = sym (step-said a) ∙ ap stepOf (x ∙ sym y) ∙ step-said b
+pub step-determined : (step : ℕ) {a b : StepAnswer} → StepAnswered step a → StepAnswered step b → a ≡ b
+step-determined step {a} {b} x y = sym (step-view-inverse a) ∙ ap stepOf (x ∙ sym y) ∙ step-view-inverse b
 
-pub position-determined : (sequence : List ℕ) {a b : PositionAnswer} → PositionTold sequence a → PositionTold sequence b → a ≡ b
-position-determined sequence {a} {b} x y = sym (position-said a) ∙ ap positionIn (x ∙ sym y) ∙ position-said b
+pub position-determined : (sequence : List ℕ) {a b : PositionAnswer} → PositionAnswered sequence a → PositionAnswered sequence b → a ≡ b
+position-determined sequence {a} {b} x y = sym (position-view-inverse a) ∙ ap positionIn (x ∙ sym y) ∙ position-view-inverse b
 
 pub sequence-determined : {refusal : ℕ} {found : Option (List ℕ)} {output output₁ output₂ : List ℕ} {a b : SequenceAnswer}
-    → SequenceTold refusal found output a output₁ → SequenceTold refusal found output b output₂ → Same a b output₁ output₂
+    → SequenceAnswered refusal found output a output₁ → SequenceAnswered refusal found output b output₂ → Same a b output₁ output₂
 sequence-determined {refusal} {a = a} {b = b} x y =
     record {
-      answer = sym (sequence-said a) ∙ ap sequenceIn (x .answers ∙ sym (y .answers)) ∙ sequence-said b;
+      answer = sym (sequence-view-inverse a) ∙ ap sequenceIn (x .answers ∙ sym (y .answers)) ∙ sequence-view-inverse b;
       cells =
           ⊎-elim (λ none. x .written none ∙ sym (y .written none)) (λ some. x .unchanged some ∙ sym (y .unchanged some))
           (some-number refusal);

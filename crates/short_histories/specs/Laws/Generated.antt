@@ -7,7 +7,7 @@ use native.Mathlib.Numerals.{add-one}
 use native.Mathlib.Decide.{decLt}
 use native.Mathlib.Omega.{arith}
 use lib.ListN.{length, take}
-use Rattle.lists.specs.Lists.{putAt}
+use Rattle.lists.specs.Lists.{splice}
 use Rattle.lists.specs.Laws.Search.{take-put}
 use Rattle.refusals.specs.Laws.Determined.{Same}
 use Rattle.short_histories.specs.declared.SequenceAnswer.{SequenceAnswer}
@@ -38,7 +38,7 @@ module _ (n : ℕ) (h : n < 137257) (output : List ℕ) where
         next-written (sequenceAt n) output (sequenceAt-known n h) n (sym there) (omega arith) answer output′ (rw (add-one n) f)
 
     with-room : length (sequenceAt (suc n)) ≤ length output
-        → NextFound (sequenceAt n) output (Written (length (sequenceAt (suc n)))) (putAt output 0 (sequenceAt (suc n)))
+        → NextFound (sequenceAt n) output (Written (length (sequenceAt (suc n)))) (splice output 0 (sequenceAt (suc n)))
     with-room r = onward _ _ (sequence-written (suc n) output m _ refl r _ refl)
 
     without-room : length output < length (sequenceAt (suc n)) → NextFound (sequenceAt n) output (Refused 2) output
@@ -63,7 +63,7 @@ given-next n h output output′ steps f =
         | yes r ↦ absurd (written-refused (sequence-determined f (without-room n h output k r) .answer))
         | no r ↦
             let d = sequence-determined f (with-room n h output k (omega arith)) in
-            (k, ap (λ (l : List ℕ). take steps l) (d .cells) ∙ ap (λ (m : ℕ). take m (putAt output 0 (sequenceAt (suc n)))) (written-same (d .answer)) ∙ take-put output (sequenceAt (suc n)))
+            (k, ap (λ (l : List ℕ). take steps l) (d .cells) ∙ ap (λ (m : ℕ). take m (splice output 0 (sequenceAt (suc n)))) (written-same (d .answer)) ∙ take-put output (sequenceAt (suc n)))
       ]
     ]
 
@@ -81,11 +81,11 @@ generated-all zero h = rw sequenceAt-none start
 generated-all (suc n) h =
     let s = sequenceAt (suc n) in
     rw (← take-put s s)
-    (next n (sequenceAt n) s (putAt s 0 s) (length s) (generated-all n (omega arith)) (with-room n (omega arith) s h (omega arith)))
+    (next n (sequenceAt n) s (splice s 0 s) (length s) (generated-all n (omega arith)) (with-room n (omega arith) s h (omega arith)))
 
 -- with room for six steps, a call on a sequence before the last generates a sequence, and a call on the last none
 pub generated-further : (n : ℕ) (s output output′ : List ℕ) (answer : SequenceAnswer) → Generated n s → suc n < 137257 → 6 ≤ length output
-    → NextFound s output answer output′ → Same answer (Written (length (sequenceAt (suc n)))) output′ (putAt output 0 (sequenceAt (suc n)))
+    → NextFound s output answer output′ → Same answer (Written (length (sequenceAt (suc n)))) output′ (splice output 0 (sequenceAt (suc n)))
 generated-further n s output output′ answer g m r f =
     let i = generated-at n s g in
     let k = known-short (sequenceAt (suc n)) (sequenceAt-known (suc n) m) in

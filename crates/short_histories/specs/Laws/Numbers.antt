@@ -10,12 +10,12 @@ use native.Mathlib.Omega.{arith}
 use lib.Dec.{ltb}
 use lib.ListN.{length, length-append}
 use borrow.Author.Tests.{ltb-true}
-use Rattle.lists.specs.Lists.{every}
-use Rattle.lists.specs.Laws.Every.{every-head, every-tail}
+use Rattle.lists.specs.Lists.{all}
+use Rattle.lists.specs.Laws.All.{all-head, all-tail}
 
 -- each is one of the seven steps
 abbrev pub Steps : List ℕ → Type 0
-Steps s = every (λ step. ltb step 7) s ≡ true
+Steps s = all (λ step. ltb step 7) s ≡ true
 
 -- the number of sequences of n steps, and of fewer than n steps
 unfoldable pub many : ℕ → ℕ
@@ -60,8 +60,8 @@ pub value-below : (s : List ℕ) → Steps s → value s < many (length s)
 unfolding value many
 value-below [] e = omega arith
 value-below (x ∷ xs) e =
-    let h = ltb-true x 7 (every-head (λ step. ltb step 7) x xs e) in
-    let k = value-below xs (every-tail (λ step. ltb step 7) x xs e) in
+    let h = ltb-true x 7 (all-head (λ step. ltb step 7) x xs e) in
+    let k = value-below xs (all-tail (λ step. ltb step 7) x xs e) in
     let m : x * many (length xs) ≤ 6 * many (length xs) = mul-le-mul-right (many (length xs)) (omega arith) in
     omega arith
 

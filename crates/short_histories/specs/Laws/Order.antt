@@ -8,7 +8,7 @@ use native.Mathlib.Omega.{arith}
 use lib.Dec.{ltb, eqb}
 use lib.ListN.{length}
 use borrow.Author.Tests.{lt-ltb, le-ltb, eq-eqb, ne-eqb}
-use Rattle.lists.specs.Laws.Every.{every-tail}
+use Rattle.lists.specs.Laws.All.{all-tail}
 use Rattle.lists.specs.Laws.Rows.{row-in}
 use Rattle.short_histories.specs.Sequences.{positionOf, known}
 use Rattle.short_histories.specs.Laws.Numbers.{Steps, many, shorter, value, number, value-below, shorter-rises}
@@ -50,8 +50,8 @@ value-order [] (y ∷ ys) e f l = absurd (omega arith)
 value-order (x ∷ xs) [] e f l = absurd (omega arith)
 value-order (x ∷ xs) (y ∷ ys) e f l =
     let n : length xs ≡ length ys = omega arith in
-    let a = every-tail (λ step. ltb step 7) x xs e in
-    let b = every-tail (λ step. ltb step 7) y ys f in
+    let a = all-tail (λ step. ltb step 7) x xs e in
+    let b = all-tail (λ step. ltb step 7) y ys f in
     let w : value ys < many (length xs) = rw n (value-below ys b) in
     ap (λ (r : Bool). ltb x y || (eqb x y && r)) (value-order xs ys a b n)
     ∙ digits-order x y (many (length xs)) (value xs) (value ys) (value-below xs a) w

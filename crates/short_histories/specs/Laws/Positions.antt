@@ -8,9 +8,9 @@ use native.Mathlib.Omega.{arith}
 use lib.Dec.{leb, ltb}
 use lib.ListN.{length, getD}
 use borrow.Author.Tests.{leb-true, le-leb, lt-ltb}
-use Rattle.lists.specs.Lists.{every, same}
-use Rattle.lists.specs.Laws.Keep.{split, and-left, and-right}
-use Rattle.lists.specs.Laws.Every.{and-both, every-snoc}
+use Rattle.lists.specs.Lists.{all, same}
+use Rattle.lists.specs.Laws.Filter.{split, and-left, and-right}
+use Rattle.lists.specs.Laws.All.{and-both, all-snoc}
 use Rattle.lists.specs.Laws.Rising.{same-refl, same-eq}
 use Rattle.short_histories.specs.Sequences.{shortHistories, placeIn, positionOf, sequenceAt, known}
 use Rattle.short_histories.specs.Laws.Numbers.{Steps, number, shorter-than-seven, number-more, number-short}
@@ -73,18 +73,18 @@ placed (t ∷ ts) s (suc i) h e =
     ⊎-elim (placed-here t ts s) (λ n. placed-there t ts s n (placed ts s i (omega arith) e)) (split (same t s))
 
 module _ (s : List ℕ) (e : known s ≡ true) where
-  stands : Placed shortHistories s
+  in-list : Placed shortHistories s
   unfolding sequenceAt
-  stands = placed shortHistories s (number s) (let q = short-histories-counted in let h = known-below s e in omega arith) (known-found s e)
+  in-list = placed shortHistories s (number s) (let q = short-histories-counted in let h = known-below s e in omega arith) (known-found s e)
 
   pub position-below : positionOf s < 137257
   unfolding positionOf
-  position-below = let q = short-histories-counted in let h = stands .0 in omega arith
+  position-below = let q = short-histories-counted in let h = in-list .0 in omega arith
 
   -- "and back"
   pub sequenceAt-positionOf : sequenceAt (positionOf s) ≡ s
   unfolding sequenceAt positionOf
-  sequenceAt-positionOf = stands .1
+  sequenceAt-positionOf = in-list .1
 
   -- the position is the number
   pub position-number : positionOf s ≡ number s
@@ -97,7 +97,7 @@ positionOf-sequenceAt p h = position-number (sequenceAt p) (sequenceAt-known p h
 -- ---- step by step
 
 nothing-known : known [] ≡ true
-nothing-known = known-of [] (omega arith) (unfold every in refl)
+nothing-known = known-of [] (omega arith) (unfold all in refl)
 
 -- the empty sequence is the first
 pub sequenceAt-none : sequenceAt 0 ≡ []
@@ -112,7 +112,7 @@ sequenceAt-more p some h =
     let v = at-position q b in
     let t = sequenceAt q ++ (x ∷ []) in
     let n : number t ≡ p = number-more (sequenceAt q) x ∙ (let r = v .numbered in omega arith) in
-    let steps : Steps t = every-snoc (λ step. ltb step 7) (sequenceAt q) x (v .steps) (lt-ltb x 7 (omega arith)) in
+    let steps : Steps t = all-snoc (λ step. ltb step 7) (sequenceAt q) x (v .steps) (lt-ltb x 7 (omega arith)) in
     let k : known t ≡ true = known-of t (number-short t (rw n h)) steps in
     ap sequenceAt (sym n) ∙ known-found t k
 

@@ -7,55 +7,55 @@ use mathlib.Core.Option.{none, some}
 use native.Mathlib.Omega.{arith}
 use lib.ListN.{length}
 use borrow.Author.Tests.{lt-ltb, le-ltb, lt-leb, le-leb}
-use Rattle.lists.specs.Lists.{putAt}
-use Rattle.lists.specs.Laws.Parts.{putAt-nil}
-use Rattle.refusals.specs.Refusals.{first, reply}
+use Rattle.lists.specs.Lists.{splice}
+use Rattle.lists.specs.Laws.Parts.{splice-nil}
+use Rattle.refusals.specs.Refusals.{firstRefusal, reply}
 use Rattle.short_histories.specs.declared.PositionAnswer.the-variants.{Refused as PositionRefused, Position}
 use Rattle.short_histories.specs.declared.SequenceAnswer.{SequenceAnswer}
 use Rattle.short_histories.specs.declared.SequenceAnswer.the-variants.{Refused, None, Written}
-use Rattle.short_histories.specs.Sequences.{shortHistories, positionOf, sequenceAt, nextAfter, known, positionRefusal, sequenceRefusal, stepsOf, nextRefusal, positionSays, sequenceSays, lengthOf, PositionTold, SequenceFound, NextFound}
+use Rattle.short_histories.specs.Sequences.{shortHistories, positionOf, sequenceAt, nextAfter, known, positionRefusal, sequenceRefusal, stepsOf, nextRefusal, positionView, sequenceView, lengthOf, PositionAnswered, SequenceFound, NextFound}
 use Rattle.short_histories.specs.Laws.Positions.{short-histories-counted}
 
 -- ---- the position of a sequence
 
 module _ (sequence : List ℕ) where
-  pub position-refused : known sequence ≡ false → PositionTold sequence (PositionRefused 15)
-  unfolding positionSays positionRefusal first reply
+  pub position-refused : known sequence ≡ false → PositionAnswered sequence (PositionRefused 15)
+  unfolding positionView positionRefusal firstRefusal reply
   position-refused e = rw e
 
-  pub position-told : known sequence ≡ true → (position : ℕ) → position ≡ positionOf sequence → PositionTold sequence (Position position)
-  unfolding positionSays positionRefusal first reply
-  position-told e position p = rw (e, p)
+  pub position-answered : known sequence ≡ true → (position : ℕ) → position ≡ positionOf sequence → PositionAnswered sequence (Position position)
+  unfolding positionView positionRefusal firstRefusal reply
+  position-answered e position p = rw (e, p)
 
 -- ---- the sequence at a position
 
 module _ (position : ℕ) (output : List ℕ) where
   past-last : 137257 ≤ position → sequenceRefusal position (length output) ≡ 16
-  unfolding sequenceRefusal first
+  unfolding sequenceRefusal firstRefusal
   past-last h = rw (le-leb (length shortHistories) position (let q = short-histories-counted in omega arith))
 
   no-room : position < 137257 → length output < length (sequenceAt position) → sequenceRefusal position (length output) ≡ 2
-  unfolding sequenceRefusal first
+  unfolding sequenceRefusal firstRefusal
   no-room h k = rw (lt-leb (length shortHistories) position (let q = short-histories-counted in omega arith), lt-ltb _ _ k)
 
   fits : position < 137257 → length (sequenceAt position) ≤ length output → sequenceRefusal position (length output) ≡ 0
-  unfolding sequenceRefusal first
+  unfolding sequenceRefusal firstRefusal
   fits h k = rw (lt-leb (length shortHistories) position (let q = short-histories-counted in omega arith), le-ltb _ _ k)
 
   pub sequence-past-last : 137257 ≤ position → SequenceFound position output (Refused 16) output
-  unfolding sequenceSays reply
+  unfolding sequenceView reply
   sequence-past-last h =
       rw (past-last h) (record { answers = refl; written = λ e. absurd (omega arith); unchanged = λ k. refl })
 
   pub sequence-no-room : position < 137257 → (steps : ℕ) → steps ≡ length (sequenceAt position) → length output < steps
       → SequenceFound position output (Refused 2) output
-  unfolding sequenceSays reply
+  unfolding sequenceView reply
   sequence-no-room h steps e k =
       rw (no-room h (rw (← e) k)) (record { answers = refl; written = λ e. absurd (omega arith); unchanged = λ l. refl })
 
   pub sequence-written : position < 137257 → (steps : ℕ) → steps ≡ length (sequenceAt position) → steps ≤ length output → (output′ : List ℕ)
-      → output′ ≡ putAt output 0 (sequenceAt position) → SequenceFound position output (Written steps) output′
-  unfolding sequenceSays reply lengthOf stepsOf
+      → output′ ≡ splice output 0 (sequenceAt position) → SequenceFound position output (Written steps) output′
+  unfolding sequenceView reply lengthOf stepsOf
   sequence-written h steps e k output′ w =
       rw (fits h (rw (← e) k), e, w) (record { answers = refl; written = λ z. refl; unchanged = λ l. absurd (omega arith) })
 
@@ -63,7 +63,7 @@ module _ (position : ℕ) (output : List ℕ) where
 
 module _ (sequence output : List ℕ) where
   pub next-unknown : known sequence ≡ false → NextFound sequence output (Refused 15) output
-  unfolding sequenceSays reply nextRefusal first
+  unfolding sequenceView reply nextRefusal firstRefusal
   next-unknown e = rw e (record { answers = refl; written = λ z. absurd (omega arith); unchanged = λ l. refl })
 
   last : 137257 ≤ suc (positionOf sequence) → nextAfter sequence ≡ none
@@ -72,11 +72,11 @@ module _ (sequence output : List ℕ) where
 
   pub next-none : known sequence ≡ true → (position : ℕ) → position ≡ positionOf sequence → 137257 ≤ position + 1
       → NextFound sequence output None output
-  unfolding sequenceSays reply nextRefusal first stepsOf lengthOf
+  unfolding sequenceView reply nextRefusal firstRefusal stepsOf lengthOf
   next-none e position p h =
       let room : length (stepsOf none) ≤ length output = omega arith in
       rw (e, last (omega arith), le-ltb (length output) (length (stepsOf none)) room)
-      (record { answers = refl; written = λ z. sym (putAt-nil output 0); unchanged = λ l. absurd (omega arith) })
+      (record { answers = refl; written = λ z. sym (splice-nil output 0); unchanged = λ l. absurd (omega arith) })
 
   further : suc (positionOf sequence) < 137257 → nextAfter sequence ≡ some (sequenceAt (suc (positionOf sequence)))
   unfolding nextAfter
@@ -85,7 +85,7 @@ module _ (sequence output : List ℕ) where
   -- if the first test passes, it is the sequence at the next position
   next-is : known sequence ≡ true → suc (positionOf sequence) < 137257
       → nextRefusal sequence (length output) ≡ sequenceRefusal (suc (positionOf sequence)) (length output)
-  unfolding nextRefusal sequenceRefusal first stepsOf
+  unfolding nextRefusal sequenceRefusal firstRefusal stepsOf
   next-is e h = rw (e, further h, lt-leb (length shortHistories) (suc (positionOf sequence)) (let q = short-histories-counted in omega arith))
 
   pub next-written : known sequence ≡ true → (position : ℕ) → position ≡ positionOf sequence → position + 1 < 137257

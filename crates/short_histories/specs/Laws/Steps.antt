@@ -6,14 +6,14 @@ use mathlib.Core.Bool.{Bool, true, false}
 use native.Mathlib.Omega.{arith}
 use lib.Dec.{eqb}
 use borrow.Author.Tests.{le-leb}
-use Rattle.lists.specs.Lists.{every}
-use Rattle.refusals.specs.Refusals.{first, reply}
+use Rattle.lists.specs.Lists.{all}
+use Rattle.refusals.specs.Refusals.{firstRefusal, reply}
 use Rattle.plain_table.specs.Staged.{openable, wordsOf}
-use Rattle.plain_table.specs.Refusing.{wrongWidth, noSuchRow, overfull, stageLadder}
+use Rattle.plain_table.specs.Refusing.{wrongWidth, noSuchRow, overfull, stageChecks}
 use Rattle.plain_table.specs.Calls.{Call, staging, merging, compacting, clearing, refreshing, feeding}
 use Rattle.short_histories.specs.declared.StepAnswer.{StepAnswer}
 use Rattle.short_histories.specs.declared.StepAnswer.the-variants.{Refused, Insert, Remove, Merge}
-use Rattle.short_histories.specs.Sequences.{shortOpening, thirdCell, inserting, removing, steps, stepCall, stepRefusal, stepSays, StepTold}
+use Rattle.short_histories.specs.Sequences.{shortOpening, thirdCell, inserting, removing, steps, stepCall, stepRefusal, stepView, StepAnswered}
 
 -- the table can be opened, under each of the four rules
 pub short-openable : (rule : ℕ) → rule ≤ 3 → openable (shortOpening rule) ≡ true
@@ -22,24 +22,24 @@ short-openable rule h = rw (le-leb rule 3 h)
 
 -- a staging is not refused if five words are free, which is what an insert takes
 unfoldable pub fits : ℕ → Call → Bool
-fits rule (staging r) = eqb (stageLadder false (shortOpening rule) 0 0 5 r) 0
+fits rule (staging r) = eqb (stageChecks false (shortOpening rule) 0 0 5 r) 0
 fits rule merging = true
 fits rule compacting = false
 fits rule clearing = false
 fits rule (refreshing r index) = false
 fits rule (feeding rs) = false
 
-pub steps-fit : (rule : ℕ) → every (fits rule) steps ≡ true
-unfolding every fits steps inserting removing thirdCell shortOpening stageLadder first wrongWidth noSuchRow overfull wordsOf
+pub steps-fit : (rule : ℕ) → all (fits rule) steps ≡ true
+unfolding all fits steps inserting removing thirdCell shortOpening stageChecks firstRefusal wrongWidth noSuchRow overfull wordsOf
 steps-fit rule = refl
 
 -- step, key, stamp, third cell
-pub steps-told : StepTold 0 (Insert 0 0 0) × StepTold 1 (Insert 0 1 1) × StepTold 2 (Insert 1 0 1) × StepTold 3 (Insert 1 1 0) × StepTold 4 (Remove 0) × StepTold 5 (Remove 1) × StepTold 6 Merge
-unfolding stepSays reply stepRefusal first stepCall steps inserting removing thirdCell
-steps-told = (refl, refl, refl, refl, refl, refl, refl)
+pub steps-answered : StepAnswered 0 (Insert 0 0 0) × StepAnswered 1 (Insert 0 1 1) × StepAnswered 2 (Insert 1 0 1) × StepAnswered 3 (Insert 1 1 0) × StepAnswered 4 (Remove 0) × StepAnswered 5 (Remove 1) × StepAnswered 6 Merge
+unfolding stepView reply stepRefusal firstRefusal stepCall steps inserting removing thirdCell
+steps-answered = (refl, refl, refl, refl, refl, refl, refl)
 
-pub told-at : (k step : ℕ) (answer : StepAnswer) → StepTold k answer → step ≡ k → StepTold step answer
-told-at k step answer t e = rw e t
+pub answered-at : (k step : ℕ) (answer : StepAnswer) → StepAnswered k answer → step ≡ k → StepAnswered step answer
+answered-at k step answer t e = rw e t
 
 above : (n step : ℕ) → n ≤ step → step ≢ n → suc n ≤ step
 above n step h k = omega arith
@@ -51,6 +51,6 @@ pub past-six : (step : ℕ) → step ≢ 0 → step ≢ 1 → step ≢ 2 → ste
 past-six step a b c d e f g =
     above 6 step (above 5 step (above 4 step (above 3 step (above 2 step (above 1 step (above-none step a) b) c) d) e) f) g
 
-pub step-unknown : (step : ℕ) → 7 ≤ step → StepTold step (Refused 15)
-unfolding stepSays reply stepRefusal first
+pub step-unknown : (step : ℕ) → 7 ≤ step → StepAnswered step (Refused 15)
+unfolding stepView reply stepRefusal firstRefusal
 step-unknown step h = rw (le-leb 7 step h)

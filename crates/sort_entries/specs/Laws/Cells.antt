@@ -7,9 +7,9 @@ use mathlib.Core.List.{List}
 use native.Mathlib.Nat.{zero-add}
 use lib.ListN.{length, getD}
 use borrow.Author.Tests.{eqb-true, eq-eqb}
-use Rattle.lists.specs.Lists.{countFrom, rowAt}
-use Rattle.lists.specs.Laws.Keep.{split, every-getD, every-of}
-use Rattle.lists.specs.Laws.Rising.{length-countFrom, getD-countFrom}
+use Rattle.lists.specs.Lists.{iota, rowAt}
+use Rattle.lists.specs.Laws.Filter.{split, all-getD, all-of}
+use Rattle.lists.specs.Laws.Rising.{length-iota, getD-iota}
 use Rattle.constraints.specs.Constraints.{isLive}
 use Rattle.sort_entries.specs.Entries.{Entry, valueAt}
 use Rattle.sort_entries.specs.inner.Checks.{cellSound, cellsSound}
@@ -24,23 +24,23 @@ module _ (store : List ℕ) (columns sort row value : ℕ) where
   cell-of f = elim (split (isLive (rowAt columns row store))) [ inl l ↦ rw (l, eq-eqb _ _ (f l)) | inr l ↦ rw l ]
 
 module _ (store : List ℕ) (columns sort rows : ℕ) (es : List Entry) where
-  number : (i : ℕ) → i < rows → getD (countFrom 0 rows) i 0 ≡ i
-  number i h = getD-countFrom 0 rows i 0 h ∙ zero-add i
+  number : (i : ℕ) → i < rows → getD (iota 0 rows) i 0 ≡ i
+  number i h = getD-iota 0 rows i 0 h ∙ zero-add i
 
   pub cells-live : cellsSound store columns sort rows es ≡ true → (i : ℕ) → i < rows → isLive (rowAt columns i store) ≡ true
       → getD (rowAt columns i store) sort 0 ≡ valueAt i es
   unfolding cellsSound
   cells-live e i h =
-      let k : i < length (countFrom 0 rows) = rw (length-countFrom 0 rows) h in
+      let k : i < length (iota 0 rows) = rw (length-iota 0 rows) h in
       cell-live store columns sort i (valueAt i es)
-      (rw (number i h) at (every-getD (λ row. cellSound store columns sort row (valueAt row es)) (countFrom 0 rows) e i k 0))
+      (rw (number i h) at (all-getD (λ row. cellSound store columns sort row (valueAt row es)) (iota 0 rows) e i k 0))
 
   pub cells-of : ((i : ℕ) → i < rows → isLive (rowAt columns i store) ≡ true → getD (rowAt columns i store) sort 0 ≡ valueAt i es)
       → cellsSound store columns sort rows es ≡ true
   unfolding cellsSound
-  cells-of f = every-of (λ row. cellSound store columns sort row (valueAt row es)) 0 (countFrom 0 rows) each
+  cells-of f = all-of (λ row. cellSound store columns sort row (valueAt row es)) 0 (iota 0 rows) each
     where
-      each : (i : ℕ) → i < length (countFrom 0 rows) → cellSound store columns sort (getD (countFrom 0 rows) i 0) (valueAt (getD (countFrom 0 rows) i 0) es) ≡ true
+      each : (i : ℕ) → i < length (iota 0 rows) → cellSound store columns sort (getD (iota 0 rows) i 0) (valueAt (getD (iota 0 rows) i 0) es) ≡ true
       each i k =
-          let h : i < rows = rw (length-countFrom 0 rows) at k in
+          let h : i < rows = rw (length-iota 0 rows) at k in
           rw (number i h) (cell-of store columns sort i (valueAt i es) (f i h))

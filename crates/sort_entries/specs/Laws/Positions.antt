@@ -8,7 +8,7 @@ use native.Mathlib.Decide.{decLt, ℕ-discrete}
 use native.Mathlib.Omega.{arith}
 use lib.Dec.{ltb, eqb}
 use borrow.Author.Tests.{lt-ltb, le-ltb, le-leb, lt-leb, eq-eqb, ne-eqb}
-use Rattle.lists.specs.Lists.{keep, any, above}
+use Rattle.lists.specs.Lists.{filter, any, above}
 use Rattle.lists.specs.Laws.Rising.{above-head, above-tail}
 use Rattle.offsets.specs.Subsets.{Subset, range}
 use Rattle.sort_entries.specs.Entries.{Entry, firstRow, fastRange}
@@ -36,8 +36,8 @@ rangeAt kind (absent g) rows =
 
 -- entries above x, for a value v up to x: all are above v, and none has it
 above-kept : (v x : ℕ) (es : List Entry) → v ≤ x → above x (values es) ≡ true
-    → (keep (λ e. ltb v (e .value)) es ≡ es) × (any (λ e. eqb (e .value) v) es ≡ false)
-unfolding keep any
+    → (filter (λ e. ltb v (e .value)) es ≡ es) × (any (λ e. eqb (e .value) v) es ≡ false)
+unfolding filter any
 above-kept v x [] h a = (refl, refl)
 above-kept v x (e ∷ es) h a =
     let p : x < e .value = above-head x (e .value) (values es) a in
@@ -49,7 +49,7 @@ above-kept v x (e ∷ es) h a =
 -- the first entry is below the value, has the value, or is above it
 module _ (kind v : ℕ) (e : Entry) (es : List Entry) (rows : ℕ) where
   range-past : e .value < v → fastRange kind v (e ∷ es) rows ≡ fastRange kind v es rows
-  unfolding fastRange keep any
+  unfolding fastRange filter any
   range-past p =
       let ne : e .value ≡ v → ⊥ = λ z. omega arith in
       rw (lt-leb v (e .value) p, le-ltb v (e .value) (omega arith), ne-eqb (e .value) v ne)
@@ -60,19 +60,19 @@ module _ (kind v : ℕ) (e : Entry) (es : List Entry) (rows : ℕ) where
 
   module _ (up : above (e .value) (values es) ≡ true) where
     range-here : e .value ≡ v → fastRange kind v (e ∷ es) rows ≡ rangeAt kind (position v (e ∷ es) rows) rows
-    unfolding fastRange position rangeAt keep any firstRow
+    unfolding fastRange position rangeAt filter any firstRow
     range-here q =
         let k = above-kept v (e .value) es (omega arith) up in
         rw (le-ltb (e .value) v (omega arith), le-leb v (e .value) (omega arith), le-ltb v (e .value) (omega arith), eq-eqb (e .value) v q, k .0)
 
     range-above : v ≤ e .value → (e .value ≡ v → ⊥) → fastRange kind v (e ∷ es) rows ≡ rangeAt kind (position v (e ∷ es) rows) rows
-    unfolding fastRange position rangeAt keep any firstRow
+    unfolding fastRange position rangeAt filter any firstRow
     range-above p q =
         let k = above-kept v (e .value) es p up in
         rw (le-ltb (e .value) v p, le-leb v (e .value) p, lt-ltb v (e .value) (omega arith), ne-eqb (e .value) v q, k .1)
 
 range-none : (kind v rows : ℕ) → fastRange kind v [] rows ≡ rangeAt kind (position v [] rows) rows
-unfolding fastRange position rangeAt keep any firstRow
+unfolding fastRange position rangeAt filter any firstRow
 range-none kind v rows = refl
 
 -- "With f the row of an entry of value v .. Without such an entry": the paper's two lists of five

@@ -8,21 +8,21 @@ use native.Mathlib.Nat.{zero-add, add-zero}
 use native.Mathlib.Omega.{arith}
 use lib.ListN.{length, length-append}
 use lib.Dec.{ltb}
-use Rattle.lists.specs.Laws.Keep.{split}
-use Rattle.sort_entries.specs.Entries.{Entry, entry, last, push, pushAll, rebuilt}
+use Rattle.lists.specs.Laws.Filter.{split}
+use Rattle.sort_entries.specs.Entries.{Entry, entry, lastPasses, push, pushAll, rebuilt}
 
-pub push-new : (value row : ℕ) (es : List Entry) → last (λ v. ltb v value) es ≡ true → push value row es ≡ es ++ (entry value row ∷ [])
+pub push-new : (value row : ℕ) (es : List Entry) → lastPasses (λ v. ltb v value) es ≡ true → push value row es ≡ es ++ (entry value row ∷ [])
 unfolding push
 push-new value row es e = rw e
 
-pub push-same : (value row : ℕ) (es : List Entry) → last (λ v. ltb v value) es ≡ false → push value row es ≡ es
+pub push-same : (value row : ℕ) (es : List Entry) → lastPasses (λ v. ltb v value) es ≡ false → push value row es ≡ es
 unfolding push
 push-same value row es e = rw e
 
 -- at most one entry more
 pub push-few : (v row : ℕ) (es : List Entry) → length (push v row es) ≤ length es + 1
 push-few v row es =
-    elim (split (last (λ w. ltb w v) es)) [
+    elim (split (lastPasses (λ w. ltb w v) es)) [
       | inl l ↦ rw (push-new v row es l) (simp length-append (omega arith))
       | inr l ↦ rw (push-same v row es l) (omega arith)
     ]
@@ -30,7 +30,7 @@ push-few v row es =
 -- and no fewer
 pub push-grows : (v row : ℕ) (es : List Entry) → length es ≤ length (push v row es)
 push-grows v row es =
-    elim (split (last (λ w. ltb w v) es)) [
+    elim (split (lastPasses (λ w. ltb w v) es)) [
       | inl l ↦ rw (push-new v row es l) (simp length-append (omega arith))
       | inr l ↦ rw (push-same v row es l) (omega arith)
     ]

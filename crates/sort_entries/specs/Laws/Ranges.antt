@@ -10,10 +10,10 @@ use lib.ListN.{length, drop, drop-of-length-le}
 use lib.Seq.{drop-cons}
 use lib.Dec.{leb, ltb, eqb}
 use borrow.Author.Tests.{lt-ltb, le-ltb, le-leb, lt-leb, eq-eqb, ne-eqb}
-use Rattle.lists.specs.Lists.{above, has, within}
+use Rattle.lists.specs.Lists.{above, elem, within}
 use Rattle.lists.specs.Laws.Rising.{above-head, above-tail, above-cons, above-weaker, within-of, within-below, within-past}
 use Rattle.offsets.specs.Subsets.{range, members}
-use Rattle.offsets.specs.Laws.Forms.{has-range as has-any-range}
+use Rattle.offsets.specs.Laws.Forms.{elem-range as elem-any-range}
 use Rattle.constraints.specs.Constraints.{compares}
 use Rattle.sort_entries.specs.Entries.{Entry, entry, firstRow, fastRange, valueAt, entriesSound}
 use Rattle.sort_entries.specs.Laws.Sound.{valueOf, values, Climb, sound-climb, sound-first, climb-tail, climb-in, climb-above, first-le, first-next}
@@ -140,8 +140,8 @@ placed v (e ∷ es) rows c =
 -- ---- the ranges
 
 -- membership in a range, as a test
-pub has-range : (a b i : ℕ) → a ≤ b → has i (members (range a b)) ≡ within a b i
-has-range a b i h = let e : a + (b - a) ≡ b = omega arith in has-any-range a b i ∙ ap (λ (n : ℕ). within a n i) e
+pub elem-range : (a b i : ℕ) → a ≤ b → elem i (members (range a b)) ≡ within a b i
+elem-range a b i h = let e : a + (b - a) ≡ b = omega arith in elem-any-range a b i ∙ ap (λ (n : ℕ). within a n i) e
 
 -- i is below a bound exactly if x is less than v, or at most v
 module _ (x v i : ℕ) where
@@ -209,40 +209,40 @@ module _ (v : ℕ) (es : List Entry) (rows : ℕ) (first : firstRow es rows ≡ 
     from-b : b ≤ i → v < valueAt i es
     from-b p = s .high i p h
 
-    less : has i (members (range 0 f)) ≡ ltb (valueAt i es) v
-    less = has-range 0 f i (omega arith) ∙ less-is (valueAt i es) v i f low from-f
+    less : elem i (members (range 0 f)) ≡ ltb (valueAt i es) v
+    less = elem-range 0 f i (omega arith) ∙ less-is (valueAt i es) v i f low from-f
 
-    greater : has i (members (range b rows)) ≡ ltb v (valueAt i es)
-    greater = has-range b rows i (s .end) ∙ greater-is (valueAt i es) v i b rows h to-b from-b
+    greater : elem i (members (range b rows)) ≡ ltb v (valueAt i es)
+    greater = elem-range b rows i (s .end) ∙ greater-is (valueAt i es) v i b rows h to-b from-b
 
-    at-most : has i (members (range 0 b)) ≡ leb (valueAt i es) v
-    at-most = has-range 0 b i (omega arith) ∙ at-most-is (valueAt i es) v i b to-b from-b
+    at-most : elem i (members (range 0 b)) ≡ leb (valueAt i es) v
+    at-most = elem-range 0 b i (omega arith) ∙ at-most-is (valueAt i es) v i b to-b from-b
 
-    at-least : has i (members (range f rows)) ≡ leb v (valueAt i es)
-    at-least = let o = s .order in let z = s .end in has-range f rows i (omega arith) ∙ at-least-is (valueAt i es) v i f rows h low from-f
+    at-least : elem i (members (range f rows)) ≡ leb v (valueAt i es)
+    at-least = let o = s .order in let z = s .end in elem-range f rows i (omega arith) ∙ at-least-is (valueAt i es) v i f rows h low from-f
 
-    equal : has i (members (range f b)) ≡ eqb (valueAt i es) v
-    equal = has-range f b i (s .order) ∙ equal-is (valueAt i es) v i f b low (s .mid i) from-b
+    equal : elem i (members (range f b)) ≡ eqb (valueAt i es) v
+    equal = elem-range f b i (s .order) ∙ equal-is (valueAt i es) v i f b low (s .mid i) from-b
 
   -- no row is in 0..0, and no row has the value
-  nothing : (g : ℕ) → Cuts v es rows g g → has i (members (range 0 0)) ≡ eqb (valueAt i es) v
+  nothing : (g : ℕ) → Cuts v es rows g g → elem i (members (range 0 0)) ≡ eqb (valueAt i es) v
   nothing g s =
-      has-range 0 0 i (omega arith) ∙ within-past 0 0 i (omega arith)
+      elem-range 0 0 i (omega arith) ∙ within-past 0 0 i (omega arith)
       ∙ sym (ne-eqb (valueAt i es) v (λ e. elim (decLt i g) [ yes p ↦ let a = low g g s p in absurd (omega arith) | no p ↦ let a = s .high i (omega arith) h in absurd (omega arith) ]))
 
   placed-range : (p : Position) → Placed v es rows p → (kind : ℕ) → 1 ≤ kind → kind ≤ 5
-      → has i (members (rangeAt kind p rows)) ≡ compares kind (valueAt i es) v
+      → elem i (members (rangeAt kind p rows)) ≡ compares kind (valueAt i es) v
   unfolding rangeAt compares
   placed-range (found f b) s =
-      one-of-five (λ kind. has i (members (rangeAt kind (found f b) rows)) ≡ compares kind (valueAt i es) v)
+      one-of-five (λ kind. elem i (members (rangeAt kind (found f b) rows)) ≡ compares kind (valueAt i es) v)
       (equal f b s) (less f b s) (greater f b s) (at-most f b s) (at-least f b s)
   placed-range (absent g) s =
-      one-of-five (λ kind. has i (members (rangeAt kind (absent g) rows)) ≡ compares kind (valueAt i es) v)
+      one-of-five (λ kind. elem i (members (rangeAt kind (absent g) rows)) ≡ compares kind (valueAt i es) v)
       (nothing g s) (less g g s) (greater g g s) (at-most g g s) (at-least g g s)
 
 -- the fast range of sound entries has exactly the rows whose recorded value passes the condition
 pub fast-range : (es : List Entry) (rows kind v : ℕ) → entriesSound es rows ≡ true → 1 ≤ kind → kind ≤ 5 → (i : ℕ) → i < rows
-    → has i (members (fastRange kind v es rows)) ≡ compares kind (valueAt i es) v
+    → elem i (members (fastRange kind v es rows)) ≡ compares kind (valueAt i es) v
 fast-range es rows kind v s one five i h =
     rw (fast-range-at kind v es rows (sound-climb es rows s))
     (placed-range v es rows (sound-first es rows s) i h (position v es rows) (placed v es rows (sound-climb es rows s)) kind one five)

@@ -9,7 +9,7 @@ use native.Mathlib.Omega.{arith}
 use lib.ListN.{length, take, getD}
 use lib.Seq.{take-suc, take-length, length-take-le}
 use borrow.Author.Tests.{le-leb}
-use Rattle.lists.specs.Lists.{every, rising}
+use Rattle.lists.specs.Lists.{all, rising}
 use Rattle.sort_entries.specs.Entries.{Entry, push, rebuilt, pushAll, valueAt, entriesSound, firstRow}
 use Rattle.sort_entries.specs.Laws.Push.{push-few, push-grows, rebuilt-snoc}
 use Rattle.sort_entries.specs.Laws.Grow.{admits, admits-valueAt, admits-none, push-sound, push-earlier, push-here}
@@ -51,7 +51,7 @@ module _ (vs : List ℕ) (falls : NeverFalls vs) (n : ℕ) (es : List Entry) (b 
 -- the invariant holds for the first n rows
 built : (vs : List ℕ) → NeverFalls vs → (n : ℕ) → n ≤ length vs → Built vs n (rebuilt (take n vs))
 built vs falls zero h =
-    record { sound = unfold rebuilt pushAll entriesSound rising every firstRow in refl; recorded = λ i p. absurd (omega arith) }
+    record { sound = unfold rebuilt pushAll entriesSound rising all firstRow in refl; recorded = λ i p. absurd (omega arith) }
 built vs falls (suc n) h =
     let k : n < length vs = omega arith in
     let e : rebuilt (take (suc n) vs) ≡ push (getD vs n 0) n (rebuilt (take n vs)) =

@@ -8,8 +8,8 @@ use lib.ListN.{length, getD, drop, length-map, List·getD-map, drop-of-length-le
 use lib.Seq.{drop-cons}
 use lib.Dec.{ltb}
 use borrow.Author.Tests.{ltb-true, eqb-true, lt-ltb, eq-eqb}
-use Rattle.lists.specs.Lists.{every, rising, above}
-use Rattle.lists.specs.Laws.Keep.{and-left, and-right, every-getD, every-of}
+use Rattle.lists.specs.Lists.{all, rising, above}
+use Rattle.lists.specs.Laws.Filter.{and-left, and-right, all-getD, all-of}
 use Rattle.lists.specs.Laws.Rising.{rising-tail, rising-at, rising-of}
 use Rattle.sort_entries.specs.Entries.{Entry, entry, entriesOf, firstRow, entriesSound}
 use Rattle.sort_entries.specs.Laws.Stores.{pairAt, getD-entriesOf}
@@ -31,7 +31,7 @@ entryRows es = map (λ e. e .row) es
 pub record Climb (es : List Entry) (rows : ℕ) : Type 0 where
   pub rise : rising (values es) ≡ true
   pub later : rising (entryRows es) ≡ true
-  pub below : every (λ e. ltb (e .row) rows) es ≡ true
+  pub below : all (λ e. ltb (e .row) rows) es ≡ true
 
 pub record SoundFacts (es : List Entry) (rows : ℕ) : Type 0 where
   pub rise : (i j : ℕ) → i < j → j < length es → valueOf es i < valueOf es j
@@ -43,7 +43,7 @@ module _ (es : List Entry) (rows : ℕ) where
   pub sound-climb : entriesSound es rows ≡ true → Climb es rows
   unfolding entriesSound
   sound-climb s =
-      let a = and-left (rising (values es) && rising (entryRows es) && every (λ e. ltb (e .row) rows) es) _ s in
+      let a = and-left (rising (values es) && rising (entryRows es) && all (λ e. ltb (e .row) rows) es) _ s in
       let b = and-left (rising (values es) && rising (entryRows es)) _ a in
       record {
         rise = and-left (rising (values es)) _ b;
@@ -54,7 +54,7 @@ module _ (es : List Entry) (rows : ℕ) where
   pub sound-first : entriesSound es rows ≡ true → firstRow es rows ≡ 0
   unfolding entriesSound
   sound-first s =
-      eqb-true _ _ (and-right (rising (values es) && rising (entryRows es) && every (λ e. ltb (e .row) rows) es) _ s)
+      eqb-true _ _ (and-right (rising (values es) && rising (entryRows es) && all (λ e. ltb (e .row) rows) es) _ s)
 
   pub sound-join : Climb es rows → firstRow es rows ≡ 0 → entriesSound es rows ≡ true
   unfolding entriesSound
@@ -77,7 +77,7 @@ module _ (es : List Entry) (rows : ℕ) where
       omega arith
 
   climb-below : Climb es rows → (i : ℕ) → i < length es → entryRow es i < rows
-  climb-below c i h = ltb-true _ _ (every-getD (λ e. ltb (e .row) rows) es (c .below) i h (entry 0 0))
+  climb-below c i h = ltb-true _ _ (all-getD (λ e. ltb (e .row) rows) es (c .below) i h (entry 0 0))
 
   pub sound-facts : entriesSound es rows ≡ true → SoundFacts es rows
   sound-facts s =
@@ -87,7 +87,7 @@ module _ (es : List Entry) (rows : ℕ) where
   -- comparing neighbours is sufficient
   pub sound-of : ((i : ℕ) → i + 1 < length es → valueOf es i < valueOf es (i + 1)) → ((i : ℕ) → i + 1 < length es → entryRow es i < entryRow es (i + 1))
       → ((i : ℕ) → i < length es → entryRow es i < rows) → firstRow es rows ≡ 0 → entriesSound es rows ≡ true
-  sound-of f g b z = sound-join (record { rise = rising-of (values es) up; later = rising-of (entryRows es) on; below = every-of (λ e. ltb (e .row) rows) (entry 0 0) es (λ i h. lt-ltb _ _ (b i h)) }) z
+  sound-of f g b z = sound-join (record { rise = rising-of (values es) up; later = rising-of (entryRows es) on; below = all-of (λ e. ltb (e .row) rows) (entry 0 0) es (λ i h. lt-ltb _ _ (b i h)) }) z
     where
       up : (i : ℕ) → i + 1 < length (values es) → getD (values es) i 0 < getD (values es) (i + 1) 0
       up i h =
@@ -113,7 +113,7 @@ module _ (e : Entry) (es : List Entry) (rows : ℕ) (c : Climb (e ∷ es) rows) 
       record {
         rise = rising-tail (e .value) (values es) (c .rise);
         later = rising-tail (e .row) (entryRows es) (c .later);
-        below = unfold every in and-right (ltb (e .row) rows) _ (c .below);
+        below = unfold all in and-right (ltb (e .row) rows) _ (c .below);
       }
 
   pub climb-in : e .row < rows

@@ -7,9 +7,9 @@ use native.Mathlib.Numerals.{add-one}
 use native.Mathlib.Omega.{arith}
 use lib.ListN.{length, take, drop, getD, length-drop}
 use lib.Seq.{getD-drop, getD-take, take-add, ext-getD}
-use Rattle.lists.specs.Lists.{putAt}
-use Rattle.lists.specs.Laws.Parts.{take-putAt, getD-putAt-in}
-use Rattle.sort_entries.specs.Entries.{Entry, entry, entriesOf, entryWords, last}
+use Rattle.lists.specs.Lists.{splice}
+use Rattle.lists.specs.Laws.Parts.{take-splice, getD-splice-in}
+use Rattle.sort_entries.specs.Entries.{Entry, entry, entriesOf, entryWords, lastPasses}
 
 -- the pair at position i of a store
 unfoldable pub pairAt : ℕ → List ℕ → Entry
@@ -37,8 +37,8 @@ unfolding entriesOf entryWords
 entriesOf-words [] rest = refl
 entriesOf-words (e ∷ es) rest = ap (λ (l : List Entry). e ∷ l) (entriesOf-words es rest)
 
-pub entriesOf-put : (es : List Entry) (store : List ℕ) (n : ℕ) → n ≡ length es → entriesOf n (putAt store 0 (entryWords es)) ≡ es
-unfolding putAt
+pub entriesOf-put : (es : List Entry) (store : List ℕ) (n : ℕ) → n ≡ length es → entriesOf n (splice store 0 (entryWords es)) ≡ es
+unfolding splice
 entriesOf-put es store n e = rw e (entriesOf-words es (drop (0 + length (entryWords es)) store))
 
 -- taking two more words
@@ -97,35 +97,35 @@ entriesOf-same n l m e = ext-getD (entry 0 0) (entriesOf n l) (entriesOf n m) (s
         getD-entriesOf n l i (entry 0 0) k ∙ p ∙ sym (getD-entriesOf n m i (entry 0 0) k)
 
 -- a write past the pairs
-pub entriesOf-before : (n : ℕ) (l w : List ℕ) (at : ℕ) → 2 * n ≤ at → at + length w ≤ length l → entriesOf n (putAt l at w) ≡ entriesOf n l
-entriesOf-before n l w at h k = entriesOf-same n (putAt l at w) l (take-putAt l w at k (2 * n) h)
+pub entriesOf-before : (n : ℕ) (l w : List ℕ) (at : ℕ) → 2 * n ≤ at → at + length w ≤ length l → entriesOf n (splice l at w) ≡ entriesOf n l
+entriesOf-before n l w at h k = entriesOf-same n (splice l at w) l (take-splice l w at k (2 * n) h)
 
 -- a pair written right after the pairs
 pub entriesOf-appended : (n : ℕ) (l : List ℕ) (value row : ℕ) → 2 * n + 2 ≤ length l
-    → entriesOf (n + 1) (putAt l (2 * n) (value ∷ row ∷ [])) ≡ entriesOf n l ++ (entry value row ∷ [])
+    → entriesOf (n + 1) (splice l (2 * n) (value ∷ row ∷ [])) ≡ entriesOf n l ++ (entry value row ∷ [])
 entriesOf-appended n l value row h =
     let w : List ℕ = value ∷ row ∷ [] in
     let z : 2 * n ≡ 2 * n + 0 = omega arith in
-    let a : getD (putAt l (2 * n) w) (2 * n) 0 ≡ value = ap (λ (k : ℕ). getD (putAt l (2 * n) w) k 0) z ∙ getD-putAt-in l w (2 * n) h 0 0 (omega arith) in
-    let b : getD (putAt l (2 * n) w) (2 * n + 1) 0 ≡ row = getD-putAt-in l w (2 * n) h 1 0 (omega arith) in
-    entriesOf-snoc n (putAt l (2 * n) w)
+    let a : getD (splice l (2 * n) w) (2 * n) 0 ≡ value = ap (λ (k : ℕ). getD (splice l (2 * n) w) k 0) z ∙ getD-splice-in l w (2 * n) h 0 0 (omega arith) in
+    let b : getD (splice l (2 * n) w) (2 * n + 1) 0 ≡ row = getD-splice-in l w (2 * n) h 1 0 (omega arith) in
+    entriesOf-snoc n (splice l (2 * n) w)
     ∙ ap₂ (λ (es : List Entry) (e : Entry). es ++ (e ∷ [])) (entriesOf-before n l w (2 * n) (omega arith) h) (ap₂ entry a b)
 
 -- ---- the last pair
 
-pub last-snoc : (test : ℕ → Bool) (es : List Entry) (e : Entry) → last test (es ++ (e ∷ [])) ≡ test (e .value)
-unfolding last
+pub last-snoc : (test : ℕ → Bool) (es : List Entry) (e : Entry) → lastPasses test (es ++ (e ∷ [])) ≡ test (e .value)
+unfolding lastPasses
 last-snoc test [] e = refl
 last-snoc test (a ∷ []) e = refl
 last-snoc test (a ∷ b ∷ es) e = last-snoc test (b ∷ es) e
 
 -- the last pair is at position n - 1
-pub last-entriesOf : (test : ℕ → Bool) (n : ℕ) (store : List ℕ) → 0 < n → last test (entriesOf n store) ≡ test (getD store (2 * (n - 1)) 0)
+pub last-entriesOf : (test : ℕ → Bool) (n : ℕ) (store : List ℕ) → 0 < n → lastPasses test (entriesOf n store) ≡ test (getD store (2 * (n - 1)) 0)
 last-entriesOf test zero store h = absurd (omega arith)
 last-entriesOf test (suc n) store h =
     let z : suc n - 1 ≡ n = omega arith in
-    rw z (ap (last test) (entriesOf-suc n store) ∙ last-snoc test (entriesOf n store) (pairAt n store) ∙ unfold pairAt in refl)
+    rw z (ap (lastPasses test) (entriesOf-suc n store) ∙ last-snoc test (entriesOf n store) (pairAt n store) ∙ unfold pairAt in refl)
 
-pub last-none : (test : ℕ → Bool) (n : ℕ) (store : List ℕ) → n ≡ 0 → last test (entriesOf n store) ≡ true
-unfolding last entriesOf
+pub last-none : (test : ℕ → Bool) (n : ℕ) (store : List ℕ) → n ≡ 0 → lastPasses test (entriesOf n store) ≡ true
+unfolding lastPasses entriesOf
 last-none test n store e = rw e

@@ -5,7 +5,7 @@ use mathlib.Core.Bool.{Bool, true, false, not, _||_, true≢false, false≢true}
 use mathlib.Core.List.{List, [], _∷_}
 use lib.ListN.{length, drop, getD}
 use lib.Dec.{eqb}
-use Rattle.lists.specs.Lists.{every, countFrom, rowAt}
+use Rattle.lists.specs.Lists.{all, iota, rowAt}
 use Rattle.constraints.specs.Constraints.{isLive}
 use Rattle.sort_entries.specs.Entries.{Entry, entriesOf, valueAt}
 
@@ -52,4 +52,4 @@ cellSound store columns sort row value =
 -- "each live sort cell is the value of the last entry at or below its row"
 unfoldable pub cellsSound : List ℕ → ℕ → ℕ → ℕ → List Entry → Bool
 cellsSound store columns sort rows es =
-    every (λ row. cellSound store columns sort row (valueAt row es)) (countFrom 0 rows)
+    all (λ row. cellSound store columns sort row (valueAt row es)) (iota 0 rows)

@@ -11,15 +11,15 @@ use mathlib.Core.List.{List, []}
 use native.Mathlib.Omega.{arith}
 use lib.ListN.{length, take, length-take, length-replicate, getD-replicate}
 use lib.Seq.{ext-getD, getD-take}
-use Rattle.refusals.specs.Refusals.{verdict}
+use Rattle.refusals.specs.Refusals.{outcome}
 use Rattle.refusals.specs.Laws.Replies.{some-number}
 use Rattle.refusals.specs.Laws.Determined.{Same, SameAnswer, refused-same, answer-same}
 use Rattle.constraints.specs.declared.Constraint.{Constraint}
 use Rattle.sort_entries.specs.Entries.{entriesOf, entriesSound}
-use Rattle.key_index.specs.Slots.{roomFor, KeysSound}
+use Rattle.key_index.specs.Slots.{sizeClassFor, KeysSound}
 use Rattle.key_index.specs.inner.Index.{zeros}
 use Rattle.key_index.specs.Laws.Index.{empty-free}
-use Rattle.key_index.specs.Laws.Rooms.{room-most}
+use Rattle.key_index.specs.Laws.SizeClasses.{sizeClass-most}
 use Rattle.plain_table.specs.Staged.{Opening, Staged}
 use Rattle.plain_table.specs.Plain.{Plain, opened, merged, cleared}
 use Rattle.plain_table.specs.Refusing.{openRefusal}
@@ -32,31 +32,31 @@ use Rattle.table.specs.declared.RangeAnswer.{RangeAnswer}
 use Rattle.table.specs.declared.VersionAnswer.{VersionAnswer}
 use Rattle.table.specs.declared.SoundAnswer.{SoundAnswer}
 use Rattle.table.specs.declared.SoundAnswer.the-variants.{Refused, Sound}
-use Rattle.table.specs.Numbers.{tableSays, mergeSays, rowSays, cellSays, rangeSays, soundSays}
+use Rattle.table.specs.Numbers.{tableView, mergeView, rowView, cellView, rangeView, soundView}
 use Rattle.table.specs.Refusing.{stageRefusal, mergeRefusal, compactRefusal, clearRefusal, lookupRefusal, cellRefusal, fastRefusal}
-use Rattle.table.specs.Sound.{keyedOf, KeysDiffer}
-use Rattle.table.specs.Promises.{stores, lengths, Represents, SlotsPast, PastNeeded, Opened, Staging, Merging, Compacting, Clearing, LookedUp, CellRead, RangeRead, VersionRead, RowsSince, RowsSinceVersion, Checked, Body, bodyOf, joined, CompactionWords, lengthsLent, Stores}
+use Rattle.table.specs.Sound.{indexShapeOf, KeysDiffer}
+use Rattle.table.specs.Contracts.{stores, lengths, Represents, SlotsPast, PastNeeded, Opened, Staging, Merging, Compacting, Clearing, LookedUp, CellRead, RangeRead, VersionRead, RowsSince, RowsSinceVersion, Checked, Body, bodyOf, joined, CompactionWords, lengthsLent, Stores}
 use Rattle.table.specs.Laws.Shown.{represents-long, rows-counted}
 use Rattle.table.specs.Laws.Opening.{cleared-rows, cleared-opening}
-use Rattle.table.specs.Laws.Answers.{table-said, merge-said, row-said, cell-said, range-said, version-said}
+use Rattle.table.specs.Laws.Answers.{table-view-injective, merge-view-injective, row-view-injective, cell-view-injective, range-view-injective, version-view-injective}
 
 -- ---- *Open*
 
 -- the slots in use of a table without rows
 abbrev pub slotsUsed : ℕ → List ℕ → List ℕ
-slotsUsed capacity keys = take (2 * roomFor capacity 0) keys
+slotsUsed capacity keys = take (2 * sizeClassFor capacity 0) keys
 
 -- they leave no choice: every slot is free
 empty-keys : (p : Plain) (h : Header) (rows keys sorts pending : List ℕ) → length (p .rows) ≡ 0 → Represents p (stores h rows keys sorts pending)
-    → slotsUsed (p .opening .capacity) keys ≡ zeros (2 * roomFor (p .opening .capacity) 0)
+    → slotsUsed (p .opening .capacity) keys ≡ zeros (2 * sizeClassFor (p .opening .capacity) 0)
 empty-keys p h rows keys sorts pending none r =
-    let e : roomFor (h .capacity) (h .rows) ≡ roomFor (p .opening .capacity) 0 = ap₂ roomFor (ap (λ (x : Header). x .capacity) (r .shown .header)) (rows-counted r ∙ none) in
-    let n = 2 * roomFor (p .opening .capacity) 0 in
-    let l : length (take n keys) ≡ n = length-take n keys ∙ omega (arith, represents-long r .keys-long, room-most (p .opening .capacity) 0) in
+    let e : sizeClassFor (h .capacity) (h .rows) ≡ sizeClassFor (p .opening .capacity) 0 = ap₂ sizeClassFor (ap (λ (x : Header). x .capacity) (r .shown .header)) (rows-counted r ∙ none) in
+    let n = 2 * sizeClassFor (p .opening .capacity) 0 in
+    let l : length (take n keys) ≡ n = length-take n keys ∙ omega (arith, represents-long r .keys-long, sizeClass-most (p .opening .capacity) 0) in
     let z : length (zeros n) ≡ n = length-replicate n 0 in
     ext-getD 0 (take n keys) (zeros n) (l ∙ sym z) (λ i k.
     let m : i < n = omega arith in
-    getD-take n keys i 0 m ∙ empty-free _ rows keys (λ j live. omega (arith, live .0, rows-counted r)) (r .keyed) i (omega arith) ∙ sym (getD-replicate n i 0 0 m))
+    getD-take n keys i 0 m ∙ empty-free _ rows keys (λ j live. omega (arith, live .0, rows-counted r)) (r .keys-sound) i (omega arith) ∙ sym (getD-replicate n i 0 0 m))
 
 module _ (o : Opening) (generation : ℕ) (s : Body) (pending : List ℕ) (a : TableAnswer) (keys₁ : List ℕ) (b : TableAnswer) (keys₂ : List ℕ) where
   pub record SameOpening : Type 0 where
@@ -68,7 +68,7 @@ module _ (o : Opening) (generation : ℕ) (s : Body) (pending : List ℕ) (a : T
   pub opened-determined : Opened o generation s pending a keys₁ → Opened o generation s pending b keys₂ → SameOpening
   unfolding opened
   opened-determined x y =
-      let answers : a ≡ b = table-said a b (x .answers ∙ sym (y .answers)) in
+      let answers : a ≡ b = table-view-injective a b (x .answers ∙ sym (y .answers)) in
       record {
         refused = λ some. record { answer = answers; cells = x .unchanged some ∙ sym (y .unchanged some) };
         slots-past = y .past ∙ sym (x .past);
@@ -89,7 +89,7 @@ pub staging-determined : {h : Header} {r : Staged} {pending pending₁ pending�
     → Staging h pending r a pending₁ → Staging h pending r b pending₂ → Same a b pending₁ pending₂
 staging-determined {h} {r} {pending} {a = a} {b = b} x y =
     record {
-      answer = table-said a b (x .answers ∙ sym (y .answers));
+      answer = table-view-injective a b (x .answers ∙ sym (y .answers));
       cells =
           ⊎-elim (λ none. x .written none ∙ sym (y .written none)) (λ some. x .unchanged some ∙ sym (y .unchanged some))
           (some-number (stageRefusal h (length pending) r));
@@ -98,32 +98,32 @@ staging-determined {h} {r} {pending} {a = a} {b = b} x y =
 -- ---- *Merge*, *Compact*
 
 -- the outcome of a merge or compaction: its answer, and the stores and words that it may write
-pub record Left (A : Type 0) : Type 0 where
+pub record CallResult (A : Type 0) : Type 0 where
   pub answer : A
   pub body : Body
   pub words : CompactionWords
 
 -- two outcomes on a table: equal but for the choices
-pub record SameTable {A : Type 0} (x y : Left A) : Type 0 where
+pub record SameTable {A : Type 0} (x y : CallResult A) : Type 0 where
   pub answer : x .answer ≡ y .answer
   pub rows : x .body .rows ≡ y .body .rows
   pub sorts : x .body .sorts ≡ y .body .sorts
 
 -- equal outcomes are equal but for the choices
-same-table : {A : Type 0} {x y : Left A} → x ≡ y → SameTable x y
+same-table : {A : Type 0} {x y : CallResult A} → x ≡ y → SameTable x y
 same-table {A} e =
-    record { answer = ap (λ (z : Left A). z .answer) e; rows = ap (λ (z : Left A). z .body .rows) e; sorts = ap (λ (z : Left A). z .body .sorts) e }
+    record { answer = ap (λ (z : CallResult A). z .answer) e; rows = ap (λ (z : CallResult A). z .body .rows) e; sorts = ap (λ (z : CallResult A). z .body .sorts) e }
 
 -- two outcomes that leave the lent stores unchanged are equal
-left-same : {A : Type 0} (b : Body) (w : CompactionWords) (x y : Left A) → x .answer ≡ y .answer
+unchanged-same : {A : Type 0} (b : Body) (w : CompactionWords) (x y : CallResult A) → x .answer ≡ y .answer
     → (x .body ≡ b) × (x .words ≡ w) → (y .body ≡ b) × (y .words ≡ w) → x ≡ y
-left-same b w x y answers u v =
+unchanged-same b w x y answers u v =
     λ i. record { answer = answers i; body = (u .0 ∙ sym (v .0)) i; words = (u .1 ∙ sym (v .1)) i }
 
-module _ (s : Stores) (w : CompactionWords) (x y : Left MergeAnswer) where
+module _ (s : Stores) (w : CompactionWords) (x y : CallResult MergeAnswer) where
   pub record SameMerge : Type 0 where
     -- on any stores: refused with the same number, or both accepted
-    pub verdicts : verdict (mergeSays (x .answer)) ≡ verdict (mergeSays (y .answer))
+    pub outcomes : outcome (mergeView (x .answer)) ≡ outcome (mergeView (y .answer))
     pub refused : 0 < mergeRefusal (s .header) (lengthsLent s w) → x ≡ y
     -- equal in what is never written
     pub slots-past : SlotsPast (s .header .capacity) (x .body .keys) (y .body .keys)
@@ -137,9 +137,9 @@ module _ (s : Stores) (w : CompactionWords) (x y : Left MergeAnswer) where
   merging-determined u v =
       let n = some-number (mergeRefusal (s .header) (lengthsLent s w)) in
       let alike : 0 < mergeRefusal (s .header) (lengthsLent s w) → x ≡ y =
-      λ some. left-same (bodyOf s) w x y (refused-same merge-said (u .refusal) (v .refusal) some) (u .unchanged some) (v .unchanged some) in
+      λ some. unchanged-same (bodyOf s) w x y (refused-same merge-view-injective (u .refusal) (v .refusal) some) (u .unchanged some) (v .unchanged some) in
       record {
-        verdicts = u .refusal ∙ sym (v .refusal);
+        outcomes = u .refusal ∙ sym (v .refusal);
         refused = alike;
         slots-past = v .past ∙ sym (u .past);
         words-past = (v .words-past .0 ∙ sym (u .words-past .0), v .words-past .1 ∙ sym (u .words-past .1));
@@ -148,19 +148,19 @@ module _ (s : Stores) (w : CompactionWords) (x y : Left MergeAnswer) where
             (λ none.
             let e = u .table none p t in
             let f = v .table none p t in
-            record { answer = merge-said _ _ (e .answers ∙ sym (f .answers)); rows = e .rows-after ∙ sym (f .rows-after); sorts = e .sorts-after ∙ sym (f .sorts-after) })
+            record { answer = merge-view-injective _ _ (e .answers ∙ sym (f .answers)); rows = e .rows-after ∙ sym (f .rows-after); sorts = e .sorts-after ∙ sym (f .sorts-after) })
             (λ some. same-table (alike some))
             n;
         words = λ p t same.
             ⊎-elim (λ none. u .table none p t .words same ∙ sym (v .table none p t .words same))
-            (λ some. ap (λ (z : Left MergeAnswer). z .words) (alike some))
+            (λ some. ap (λ (z : CallResult MergeAnswer). z .words) (alike some))
             n;
       }
 
-module _ (h : Header) (b : Body) (w : CompactionWords) (x y : Left TableAnswer) where
+module _ (h : Header) (b : Body) (w : CompactionWords) (x y : CallResult TableAnswer) where
   pub record SameCompaction : Type 0 where
     -- on any stores: refused with the same number, or both accepted
-    pub verdicts : verdict (tableSays (x .answer)) ≡ verdict (tableSays (y .answer))
+    pub outcomes : outcome (tableView (x .answer)) ≡ outcome (tableView (y .answer))
     pub refused : 0 < compactRefusal h (lengthsLent (joined h b []) w) → x ≡ y
     -- equal in what is never written
     pub slots-past : SlotsPast (h .capacity) (x .body .keys) (y .body .keys)
@@ -171,9 +171,9 @@ module _ (h : Header) (b : Body) (w : CompactionWords) (x y : Left TableAnswer) 
   pub compacting-determined : Compacting h b w (x .answer) (x .body) (x .words) → Compacting h b w (y .answer) (y .body) (y .words) → SameCompaction
   compacting-determined u v =
       let alike : 0 < compactRefusal h (lengthsLent (joined h b []) w) → x ≡ y =
-      λ some. left-same b w x y (refused-same table-said (u .refusal) (v .refusal) some) (u .unchanged some) (v .unchanged some) in
+      λ some. unchanged-same b w x y (refused-same table-view-injective (u .refusal) (v .refusal) some) (u .unchanged some) (v .unchanged some) in
       record {
-        verdicts = u .refusal ∙ sym (v .refusal);
+        outcomes = u .refusal ∙ sym (v .refusal);
         refused = alike;
         slots-past = v .past ∙ sym (u .past);
         words-past = (v .words-past .0 ∙ sym (u .words-past .0), v .words-past .1 ∙ sym (u .words-past .1));
@@ -182,7 +182,7 @@ module _ (h : Header) (b : Body) (w : CompactionWords) (x y : Left TableAnswer) 
             (λ none.
             let e = u .table none pending p t in
             let f = v .table none pending p t in
-            record { answer = table-said _ _ (e .answers ∙ sym (f .answers)); rows = e .rows-after ∙ sym (f .rows-after); sorts = e .sorts-after ∙ sym (f .sorts-after) })
+            record { answer = table-view-injective _ _ (e .answers ∙ sym (f .answers)); rows = e .rows-after ∙ sym (f .rows-after); sorts = e .sorts-after ∙ sym (f .sorts-after) })
             (λ some. same-table (alike some))
             (some-number (compactRefusal h (lengthsLent (joined h b []) w)));
       }
@@ -192,7 +192,7 @@ module _ (h : Header) (b : Body) (w : CompactionWords) (x y : Left TableAnswer) 
 module _ (h : Header) (keys : List ℕ) (a : TableAnswer) (keys₁ : List ℕ) (b : TableAnswer) (keys₂ : List ℕ) where
   pub record SameClear : Type 0 where
     -- on any stores: refused with the same number, or both accepted
-    pub verdicts : verdict (tableSays a) ≡ verdict (tableSays b)
+    pub outcomes : outcome (tableView a) ≡ outcome (tableView b)
     pub refused : 0 < clearRefusal h (length keys) → Same a b keys₁ keys₂
     -- equal in what is never written
     pub slots-past : SlotsPast (h .capacity) keys₁ keys₂
@@ -202,9 +202,9 @@ module _ (h : Header) (keys : List ℕ) (a : TableAnswer) (keys₁ : List ℕ) (
   pub clearing-determined : Clearing h keys a keys₁ → Clearing h keys b keys₂ → SameClear
   clearing-determined u v =
       let alike : 0 < clearRefusal h (length keys) → Same a b keys₁ keys₂ =
-      λ some. record { answer = refused-same table-said (u .refusal) (v .refusal) some; cells = u .unchanged some ∙ sym (v .unchanged some) } in
+      λ some. record { answer = refused-same table-view-injective (u .refusal) (v .refusal) some; cells = u .unchanged some ∙ sym (v .unchanged some) } in
       record {
-        verdicts = u .refusal ∙ sym (v .refusal);
+        outcomes = u .refusal ∙ sym (v .refusal);
         refused = alike;
         slots-past = v .past ∙ sym (u .past);
         table = λ rows sorts pending p t.
@@ -215,7 +215,7 @@ module _ (h : Header) (keys : List ℕ) (a : TableAnswer) (keys₁ : List ℕ) (
             let c : h .capacity ≡ cleared p .opening .capacity =
             ap (λ (g : Header). g .capacity) (t .shown .header) ∙ ap (λ (o : Opening). o .capacity) (sym (cleared-opening p)) in
             record {
-              answer = table-said a b (e .answers ∙ sym (f .answers));
+              answer = table-view-injective a b (e .answers ∙ sym (f .answers));
               cells = rw c (empty-keys (cleared p) _ rows keys₁ sorts pending (cleared-rows p) (e .represents) ∙ sym (empty-keys (cleared p) _ rows keys₂ sorts pending (cleared-rows p) (f .represents)));
             })
             (λ some. record { answer = alike some .answer; cells = ap (slotsUsed (h .capacity)) (alike some .cells) })
@@ -226,38 +226,38 @@ module _ (h : Header) (keys : List ℕ) (a : TableAnswer) (keys₁ : List ℕ) (
 
 -- the key store leads to the live rows, and their keys differ
 abbrev pub KnownKeys : Header → List ℕ → List ℕ → Type 0
-KnownKeys h rows keys = KeysSound (keyedOf h) rows keys × KeysDiffer h rows
+KnownKeys h rows keys = KeysSound (indexShapeOf h) rows keys × KeysDiffer h rows
 
 pub looked-up-determined : {h : Header} {rows keys key : List ℕ} {a b : RowAnswer} → LookedUp h rows keys key a → LookedUp h rows keys key b
-    → SameAnswer rowSays (lookupRefusal h (length rows) (length keys) (length key)) (KnownKeys h rows keys) a b
+    → SameAnswer rowView (lookupRefusal h (length rows) (length keys) (length key)) (KnownKeys h rows keys) a b
 looked-up-determined u v =
-    answer-same row-said (u .refusal) (v .refusal) (λ none k. u .table none (k .0) (k .1) ∙ sym (v .table none (k .0) (k .1)))
+    answer-same row-view-injective (u .refusal) (v .refusal) (λ none k. u .table none (k .0) (k .1) ∙ sym (v .table none (k .0) (k .1)))
 
 pub cell-read-determined : {h : Header} {rows keys key : List ℕ} {column : ℕ} {a b : CellAnswer} → CellRead h rows keys key column a → CellRead h rows keys key column b
-    → SameAnswer cellSays (cellRefusal h (length rows) (length keys) (length key) column) (KnownKeys h rows keys) a b
+    → SameAnswer cellView (cellRefusal h (length rows) (length keys) (length key) column) (KnownKeys h rows keys) a b
 cell-read-determined u v =
-    answer-same cell-said (u .refusal) (v .refusal) (λ none k. u .table none (k .0) (k .1) ∙ sym (v .table none (k .0) (k .1)))
+    answer-same cell-view-injective (u .refusal) (v .refusal) (λ none k. u .table none (k .0) (k .1) ∙ sym (v .table none (k .0) (k .1)))
 
 pub range-read-determined : {h : Header} {sorts : List ℕ} {c : Constraint} {a b : RangeAnswer} → RangeRead h sorts c a → RangeRead h sorts c b
-    → SameAnswer rangeSays (fastRefusal h (length sorts) c) (entriesSound (entriesOf (h .entries) sorts) (h .rows) ≡ true) a b
-range-read-determined u v = answer-same range-said (u .refusal) (v .refusal) (λ none rise. u .table none rise ∙ sym (v .table none rise))
+    → SameAnswer rangeView (fastRefusal h (length sorts) c) (entriesSound (entriesOf (h .entries) sorts) (h .rows) ≡ true) a b
+range-read-determined u v = answer-same range-view-injective (u .refusal) (v .refusal) (λ none rise. u .table none rise ∙ sym (v .table none rise))
 
 -- ---- *Version*, *Rows since*
 
 pub version-read-determined : {h : Header} {a b : VersionAnswer} → VersionRead h a → VersionRead h b → a ≡ b
-version-read-determined {a = a} {b = b} x y = version-said a b (x .answers ∙ sym (y .answers))
+version-read-determined {a = a} {b = b} x y = version-view-injective a b (x .answers ∙ sym (y .answers))
 
 pub rows-since-determined : {h : Header} {row : ℕ} {a b : RangeAnswer} → RowsSince h row a → RowsSince h row b → a ≡ b
-rows-since-determined {a = a} {b = b} x y = range-said a b (x .answers ∙ sym (y .answers))
+rows-since-determined {a = a} {b = b} x y = range-view-injective a b (x .answers ∙ sym (y .answers))
 
 pub rows-since-version-determined : {h : Header} {generation count : ℕ} {a b : RangeAnswer} → RowsSinceVersion h generation count a → RowsSinceVersion h generation count b → a ≡ b
-rows-since-version-determined {a = a} {b = b} x y = range-said a b (x .answers ∙ sym (y .answers))
+rows-since-version-determined {a = a} {b = b} x y = range-view-injective a b (x .answers ∙ sym (y .answers))
 
 -- ---- the soundness check: stores are sound or they are not
 
 pub checked-determined : {h : Header} {rows keys sorts pending : List ℕ} {a b : SoundAnswer}
     → Checked h rows keys sorts pending a → Checked h rows keys sorts pending b → a ≡ b
-unfolding soundSays verdict
+unfolding soundView outcome
 checked-determined {a = Refused m} {b = Refused n} x y = let e = x .refusal ∙ sym (y .refusal) in cc
 checked-determined {a = Refused m} {b = Sound s} x y = let e = x .refusal ∙ sym (y .refusal) in cc
 checked-determined {a = Sound r} {b = Refused n} x y = let e = x .refusal ∙ sym (y .refusal) in cc

@@ -10,18 +10,18 @@ use lib.Seq.{getD-take, take-take, take-append-le}
 use Rattle.lists.specs.Lists.{rowAt}
 use Rattle.lists.specs.Laws.Rows.{getD-rowsOf, rowsOf-same}
 use Rattle.constraints.specs.Constraints.{isLive}
-use Rattle.key_index.specs.declared.Keyed.{Keyed}
-use Rattle.key_index.specs.Slots.{keyAt, slots, home, slotFrom, StandsAt, KeysSound}
+use Rattle.key_index.specs.declared.IndexShape.{IndexShape}
+use Rattle.key_index.specs.Slots.{keyAt, slots, home, slotFrom, ReachableAt, KeysSound}
 use Rattle.key_index.specs.Laws.Ring.{slot-below}
-use Rattle.key_index.specs.Laws.Rooms.{room-most}
+use Rattle.key_index.specs.Laws.SizeClasses.{sizeClass-most}
 use Rattle.key_index.specs.Laws.Index.{SameLive, keys-same}
 use Rattle.sort_entries.specs.Laws.Stores.{entriesOf-same}
 use Rattle.plain_table.specs.Staged.{wordsAll}
 use Rattle.plain_table.specs.Plain.{Plain}
 use Rattle.table.specs.declared.Header.{Header}
 use Rattle.table.specs.Numbers.{openingOf}
-use Rattle.table.specs.Sound.{keyedOf}
-use Rattle.table.specs.Promises.{Body, body, joined, stores, lengths, Represents}
+use Rattle.table.specs.Sound.{indexShapeOf}
+use Rattle.table.specs.Contracts.{Body, body, joined, stores, lengths, Represents}
 use Rattle.table.specs.Laws.Shown.{LongEnough, long-stores, represents-long, represents-inside}
 use Rattle.table.specs.Laws.Pending.{holds-fits}
 use Rattle.table.specs.Laws.Refusals.{Inside, outside-inside}
@@ -38,7 +38,7 @@ one-alike l m n e i h =
     sym (getD-take n l i 0 h) ∙ ap (λ (x : List ℕ). getD x i 0) e ∙ getD-take n m i 0 h
 
 -- a key store with the same slots is sound too
-slots-alike : {t : Keyed} {rows store store′ : List ℕ} → ((slot : ℕ) → slot < slots t → getD store′ slot 0 ≡ getD store slot 0)
+slots-alike : {t : IndexShape} {rows store store′ : List ℕ} → ((slot : ℕ) → slot < slots t → getD store′ slot 0 ≡ getD store slot 0)
     → KeysSound t rows store → KeysSound t rows store′
 slots-alike {t} {rows} {store} {store′} same sound =
     record {
@@ -47,7 +47,7 @@ slots-alike {t} {rows} {store} {store′} same sound =
       leads = λ i live. let d = sound .leads i live in (d .0, stands i (d .0) (d .1));
     }
   where
-    stands : (i d : ℕ) → StandsAt (slots t) store (keyAt t rows i) i d → StandsAt (slots t) store′ (keyAt t rows i) i d
+    stands : (i d : ℕ) → ReachableAt (slots t) store (keyAt t rows i) i d → ReachableAt (slots t) store′ (keyAt t rows i) i d
     stands i d s = record { below = s .below; there = at d ∙ s .there; way = λ e h z. s .way e h (sym (at e) ∙ z) }
       where
         at : (e : ℕ) → getD store′ (slotFrom (slots t) (home (slots t) (keyAt t rows i)) e) 0 ≡ getD store (slotFrom (slots t) (home (slots t) (keyAt t rows i)) e) 0
@@ -74,7 +74,7 @@ module _ {p : Plain} {h : Header} {b : Body} {pending : List ℕ} (b′ : Body) 
       (rowsOf-same (h .columns) (h .rows) (b′ .rows) (b .rows) (fewer _ _ (h .capacity * h .columns) (h .rows * h .columns) (mul-le-mul-right (h .columns) (inside .rows-fit)) (f .rows-same)))
       ∙ getD-rowsOf (h .columns) (h .rows) (b .rows) i k
 
-  live-same : SameLive (keyedOf h) (keyedOf h) (b .rows) (b′ .rows)
+  live-same : SameLive (indexShapeOf h) (indexShapeOf h) (b .rows) (b′ .rows)
   live-same =
       record {
         room = refl;
@@ -103,9 +103,9 @@ module _ {p : Plain} {h : Header} {b : Body} {pending : List ℕ} (b′ : Body) 
                     in-order = (rw used at (f .pending-same)) ∙ r .shown .pending-held .in-order;
                   };
             };
-        keyed =
-            slots-alike (λ slot k. one-alike (b′ .keys) (b .keys) (2 * h .capacity) (f .keys-same) slot (omega (arith, room-most (h .capacity) (h .rows))))
-            (keys-same (keyedOf h) (keyedOf h) (b .rows) (b′ .rows) (b .keys) (r .keyed) live-same);
+        keys-sound =
+            slots-alike (λ slot k. one-alike (b′ .keys) (b .keys) (2 * h .capacity) (f .keys-same) slot (omega (arith, sizeClass-most (h .capacity) (h .rows))))
+            (keys-same (indexShapeOf h) (indexShapeOf h) (b .rows) (b′ .rows) (b .keys) (r .keys-sound) live-same);
       }
 
 -- ---- stores with more cells behind, and without them

@@ -20,11 +20,11 @@ use Rattle.table.specs.declared.MergeAnswer.{MergeAnswer}
 use Rattle.table.specs.declared.RowAnswer.{RowAnswer}
 use Rattle.table.specs.declared.CellAnswer.{CellAnswer}
 use Rattle.table.specs.declared.RangeAnswer.{RangeAnswer}
-use Rattle.table.specs.Numbers.{tableSays, mergeSays, rowSays, cellSays, rangeSays}
+use Rattle.table.specs.Numbers.{tableView, mergeView, rowView, cellView, rangeView}
 use Rattle.table.specs.Refusing.{stageRefusal, mergeRefusal, compactRefusal, clearRefusal, lookupRefusal, cellRefusal, fastRefusal}
 use Rattle.table.specs.Stores.{headerOf}
 use Rattle.table.specs.Sound.{Sound}
-use Rattle.table.specs.Promises.{Stores, stores, lengths, Represents, headerAfter, headerMerged, Opened, Staging, Merging, Compacting, Clearing, ofRows, LookedUp, CellRead, fastSubset, RangeRead, Body, body, bodyOf, joined, CompactionWords, lengthsLent}
+use Rattle.table.specs.Contracts.{Stores, stores, lengths, Represents, headerAfter, headerMerged, Opened, Staging, Merging, Compacting, Clearing, ofRows, LookedUp, CellRead, fastSubset, RangeRead, Body, body, bodyOf, joined, CompactionWords, lengthsLent}
 use Rattle.table.specs.Laws.Replies.{reply-refused, reply-accepted, accepted-number, accepted-same}
 use Rattle.table.specs.Laws.Staging.{staging-represents}
 use Rattle.table.specs.Laws.Sound.{represents-sound, sound-represents}
@@ -50,7 +50,7 @@ merged-accepted h r m e = rw e
 
 -- *Open*
 pub opening-done : {o : Opening} {generation : ℕ} {b : Body} {pending keys′ : List ℕ} {answer : TableAnswer} → Opened o generation b pending answer keys′
-    → (h : Header) → tableSays answer ≡ accepted h → Represents (opened o generation) (stores h (b .rows) keys′ (b .sorts) pending)
+    → (h : Header) → tableView answer ≡ accepted h → Represents (opened o generation) (stores h (b .rows) keys′ (b .sorts) pending)
 opening-done {o} {generation} m h e =
     let a = sym e ∙ m .answers in
     rw (← accepted-same _ h (headerOf (opened o generation)) a) at (m .represents (accepted-number _ h (headerOf (opened o generation)) a))
@@ -58,43 +58,43 @@ opening-done {o} {generation} m h e =
 -- *Stage*
 module _ {h : Header} {rows keys sorts pending pending′ : List ℕ} {q : Staged} {answer : TableAnswer} (m : Staging h pending q answer pending′) where
   pub staging-done : {p : Plain} → stageRefusal h (length pending) q ≡ 0 → Represents p (stores h rows keys sorts pending)
-      → Represents (stage p q) (stores (headerAfter h (tableSays answer)) rows keys sorts pending′)
+      → Represents (stage p q) (stores (headerAfter h (tableView answer)) rows keys sorts pending′)
   staging-done e r =
-      rw (after-accepted h (tableSays answer) _ (m .answers ∙ reply-accepted (stageRefusal h (length pending) q) _ e)) (staging-represents q pending′ r e (m .written e))
+      rw (after-accepted h (tableView answer) _ (m .answers ∙ reply-accepted (stageRefusal h (length pending) q) _ e)) (staging-represents q pending′ r e (m .written e))
 
-  pub staging-refused : 0 < stageRefusal h (length pending) q → stores (headerAfter h (tableSays answer)) rows keys sorts pending′ ≡ stores h rows keys sorts pending
+  pub staging-refused : 0 < stageRefusal h (length pending) q → stores (headerAfter h (tableView answer)) rows keys sorts pending′ ≡ stores h rows keys sorts pending
   staging-refused some =
-      rw (after-refused h (tableSays answer) (stageRefusal h (length pending) q) (m .answers ∙ reply-refused (stageRefusal h (length pending) q) _ some), m .unchanged some)
+      rw (after-refused h (tableView answer) (stageRefusal h (length pending) q) (m .answers ∙ reply-refused (stageRefusal h (length pending) q) _ some), m .unchanged some)
 
 -- *Merge*, stopped or not
 module _ {s : Stores} {w w′ : CompactionWords} {b′ : Body} {answer : MergeAnswer} (m : Merging s w answer b′ w′) where
   pub merging-done : {p : Plain} → mergeRefusal (s .header) (lengthsLent s w) ≡ 0 → Represents p s
-      → Represents (merged p .table) (joined (headerMerged (s .header) (mergeSays answer)) b′ (s .pending))
-  merging-done {p} e r = let t = m .table e p r in rw (merged-accepted (s .header) (mergeSays answer) _ (t .answers)) (t .represents)
+      → Represents (merged p .table) (joined (headerMerged (s .header) (mergeView answer)) b′ (s .pending))
+  merging-done {p} e r = let t = m .table e p r in rw (merged-accepted (s .header) (mergeView answer) _ (t .answers)) (t .represents)
 
-  pub merging-refused : 0 < mergeRefusal (s .header) (lengthsLent s w) → joined (headerMerged (s .header) (mergeSays answer)) b′ (s .pending) ≡ s
+  pub merging-refused : 0 < mergeRefusal (s .header) (lengthsLent s w) → joined (headerMerged (s .header) (mergeView answer)) b′ (s .pending) ≡ s
   merging-refused some =
-      rw (merged-refused (s .header) (mergeSays answer) _ (ruled-refused (mergeSays answer) _ (m .refusal) some), m .unchanged some .0)
+      rw (merged-refused (s .header) (mergeView answer) _ (ruled-refused (mergeView answer) _ (m .refusal) some), m .unchanged some .0)
 
 -- *Compact*
 module _ {h : Header} {b b′ : Body} {w w′ : CompactionWords} {pending : List ℕ} {answer : TableAnswer} (m : Compacting h b w answer b′ w′) where
   pub compacting-done : {p : Plain} → compactRefusal h (lengthsLent (joined h b []) w) ≡ 0 → Represents p (joined h b pending)
-      → Represents (compacted p) (joined (headerAfter h (tableSays answer)) b′ pending)
-  compacting-done {p} e r = let t = m .table e pending p r in rw (after-accepted h (tableSays answer) _ (t .answers)) (t .represents)
+      → Represents (compacted p) (joined (headerAfter h (tableView answer)) b′ pending)
+  compacting-done {p} e r = let t = m .table e pending p r in rw (after-accepted h (tableView answer) _ (t .answers)) (t .represents)
 
-  pub compacting-refused : 0 < compactRefusal h (lengthsLent (joined h b []) w) → joined (headerAfter h (tableSays answer)) b′ pending ≡ joined h b pending
+  pub compacting-refused : 0 < compactRefusal h (lengthsLent (joined h b []) w) → joined (headerAfter h (tableView answer)) b′ pending ≡ joined h b pending
   compacting-refused some =
-      rw (after-refused h (tableSays answer) _ (ruled-refused (tableSays answer) _ (m .refusal) some), m .unchanged some .0)
+      rw (after-refused h (tableView answer) _ (ruled-refused (tableView answer) _ (m .refusal) some), m .unchanged some .0)
 
 -- *Clear*
 module _ {h : Header} {rows keys keys′ sorts pending : List ℕ} {answer : TableAnswer} (m : Clearing h keys answer keys′) where
   pub clearing-done : {p : Plain} → clearRefusal h (length keys) ≡ 0 → Represents p (stores h rows keys sorts pending)
-      → Represents (cleared p) (stores (headerAfter h (tableSays answer)) rows keys′ sorts pending)
-  clearing-done {p} e r = let t = m .table e rows sorts pending p r in rw (after-accepted h (tableSays answer) _ (t .answers)) (t .represents)
+      → Represents (cleared p) (stores (headerAfter h (tableView answer)) rows keys′ sorts pending)
+  clearing-done {p} e r = let t = m .table e rows sorts pending p r in rw (after-accepted h (tableView answer) _ (t .answers)) (t .represents)
 
-  pub clearing-refused : 0 < clearRefusal h (length keys) → stores (headerAfter h (tableSays answer)) rows keys′ sorts pending ≡ stores h rows keys sorts pending
+  pub clearing-refused : 0 < clearRefusal h (length keys) → stores (headerAfter h (tableView answer)) rows keys′ sorts pending ≡ stores h rows keys sorts pending
   clearing-refused some =
-      rw (after-refused h (tableSays answer) _ (ruled-refused (tableSays answer) _ (m .refusal) some), m .unchanged some)
+      rw (after-refused h (tableView answer) _ (ruled-refused (tableView answer) _ (m .refusal) some), m .unchanged some)
 
 -- ---- a sound table stays sound
 
@@ -123,39 +123,39 @@ kept n same done t =
 
 -- *Open* makes a sound table, whatever the stores held; a refused one leaves them unchanged
 pub opening-makes : {o : Opening} {generation : ℕ} {b : Body} {pending keys′ : List ℕ} {answer : TableAnswer} → Opened o generation b pending answer keys′
-    → (h : Header) → tableSays answer ≡ accepted h → SoundTable (stores h (b .rows) keys′ (b .sorts) pending)
+    → (h : Header) → tableView answer ≡ accepted h → SoundTable (stores h (b .rows) keys′ (b .sorts) pending)
 opening-makes m h e = sound-table (opening-done m h e)
 
 pub opening-keeps : {o : Opening} {generation : ℕ} {b : Body} {pending keys′ : List ℕ} {answer : TableAnswer} → Opened o generation b pending answer keys′
-    → (h : Header) → SoundTable (joined h b pending) → SoundTable (stores (headerAfter h (tableSays answer)) (b .rows) keys′ (b .sorts) pending)
+    → (h : Header) → SoundTable (joined h b pending) → SoundTable (stores (headerAfter h (tableView answer)) (b .rows) keys′ (b .sorts) pending)
 opening-keeps {o} {generation} {b} {pending} {keys′} {answer} m h t =
     let n : ℕ = openRefusal o (lengths (b .rows) (b .keys) (b .sorts) pending [] []) in
     kept n
-    (λ some. rw (after-refused h (tableSays answer) n (m .answers ∙ reply-refused n _ some), m .unchanged some))
-    (λ none p r. rw (after-accepted h (tableSays answer) _ (m .answers ∙ reply-accepted n _ none)) (sound-table (m .represents none)))
+    (λ some. rw (after-refused h (tableView answer) n (m .answers ∙ reply-refused n _ some), m .unchanged some))
+    (λ none p r. rw (after-accepted h (tableView answer) _ (m .answers ∙ reply-accepted n _ none)) (sound-table (m .represents none)))
     t
 
 -- *Stage insert, removal by key, removal by row*
 pub staging-keeps : {s : Stores} {q : Staged} {answer : TableAnswer} {pending′ : List ℕ} → Staging (s .header) (s .pending) q answer pending′
-    → SoundTable s → SoundTable (joined (headerAfter (s .header) (tableSays answer)) (bodyOf s) pending′)
+    → SoundTable s → SoundTable (joined (headerAfter (s .header) (tableView answer)) (bodyOf s) pending′)
 staging-keeps {s} {q} m =
     kept (stageRefusal (s .header) (length (s .pending)) q) (λ some. staging-refused m some) (λ none p r. sound-table (staging-done m none r))
 
 -- *Merge*, stopped or not
 pub merging-keeps : {s : Stores} {w w′ : CompactionWords} {answer : MergeAnswer} {b′ : Body} → Merging s w answer b′ w′
-    → SoundTable s → SoundTable (joined (headerMerged (s .header) (mergeSays answer)) b′ (s .pending))
+    → SoundTable s → SoundTable (joined (headerMerged (s .header) (mergeView answer)) b′ (s .pending))
 merging-keeps {s} {w} m =
     kept (mergeRefusal (s .header) (lengthsLent s w)) (λ some. merging-refused m some) (λ none p r. sound-table (merging-done m none r))
 
 -- *Compact*
 pub compacting-keeps : {s : Stores} {w w′ : CompactionWords} {answer : TableAnswer} {b′ : Body} → Compacting (s .header) (bodyOf s) w answer b′ w′
-    → SoundTable s → SoundTable (joined (headerAfter (s .header) (tableSays answer)) b′ (s .pending))
+    → SoundTable s → SoundTable (joined (headerAfter (s .header) (tableView answer)) b′ (s .pending))
 compacting-keeps {s} {w} m =
     kept (compactRefusal (s .header) (lengthsLent (joined (s .header) (bodyOf s) []) w)) (λ some. compacting-refused m some) (λ none p r. sound-table (compacting-done m none r))
 
 -- *Clear*
 pub clearing-keeps : {s : Stores} {answer : TableAnswer} {keys′ : List ℕ} → Clearing (s .header) (s .keys) answer keys′
-    → SoundTable s → SoundTable (joined (headerAfter (s .header) (tableSays answer)) (body (s .rows) keys′ (s .sorts)) (s .pending))
+    → SoundTable s → SoundTable (joined (headerAfter (s .header) (tableView answer)) (body (s .rows) keys′ (s .sorts)) (s .pending))
 clearing-keeps {s} m =
     kept (clearRefusal (s .header) (length (s .keys))) (λ some. clearing-refused m some) (λ none p r. sound-table (clearing-done m none r))
 
@@ -165,15 +165,15 @@ module _ {s : Stores} (t : SoundTable s) where
   -- *Key lookup, one cell*: in the rows as stored
   pub sound-looked-up : {key : List ℕ} {answer : RowAnswer} → LookedUp (s .header) (s .rows) (s .keys) key answer
       → lookupRefusal (s .header) (length (s .rows)) (length (s .keys)) (length key) ≡ 0
-      → rowSays answer ≡ accepted (Option·map (λ row. row .number) (lookup (ofRows (s .header) (s .rows)) key))
-  sound-looked-up m passed = m .table passed (t .sound .keyed) (t .sound .contents .keys-differ)
+      → rowView answer ≡ accepted (Option·map (λ row. row .number) (lookup (ofRows (s .header) (s .rows)) key))
+  sound-looked-up m passed = m .table passed (t .sound .keys-sound) (t .sound .contents .keys-differ)
 
   pub sound-cell-read : {key : List ℕ} {column : ℕ} {answer : CellAnswer} → CellRead (s .header) (s .rows) (s .keys) key column answer
       → cellRefusal (s .header) (length (s .rows)) (length (s .keys)) (length key) column ≡ 0
-      → cellSays answer ≡ accepted (Option·map (λ row. getD (row .cells) column 0) (lookup (ofRows (s .header) (s .rows)) key))
-  sound-cell-read m passed = m .table passed (t .sound .keyed) (t .sound .contents .keys-differ)
+      → cellView answer ≡ accepted (Option·map (λ row. getD (row .cells) column 0) (lookup (ofRows (s .header) (s .rows)) key))
+  sound-cell-read m passed = m .table passed (t .sound .keys-sound) (t .sound .contents .keys-differ)
 
   -- *Fast range*
   pub sound-range-read : {c : Constraint} {answer : RangeAnswer} → RangeRead (s .header) (s .sorts) c answer
-      → fastRefusal (s .header) (length (s .sorts)) c ≡ 0 → rangeSays answer ≡ accepted (fastSubset (s .header) (s .sorts) c)
+      → fastRefusal (s .header) (length (s .sorts)) c ≡ 0 → rangeView answer ≡ accepted (fastSubset (s .header) (s .sorts) c)
   sound-range-read m passed = m .table passed (t .sound .contents .entries-rise)

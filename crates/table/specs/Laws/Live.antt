@@ -6,41 +6,41 @@ use mathlib.Core.List.{List, [], _∷_, map}
 use native.Mathlib.Omega.{arith}
 use lib.ListN.{length, getD, length-map}
 use Rattle.lists.specs.Lists.{rowAt, rowsOf}
-use Rattle.lists.specs.Laws.Every.{getD-map-below}
+use Rattle.lists.specs.Laws.All.{getD-map-below}
 use Rattle.lists.specs.Laws.Rows.{length-rowsOf, getD-rowsOf}
 use Rattle.constraints.specs.Constraints.{isLive}
 use Rattle.plain_table.specs.Plain.{Row, Plain, liveFrom, liveRows}
 use Rattle.plain_table.specs.Laws.Rows.{noRow}
 use Rattle.table.specs.declared.Header.{Header}
 use Rattle.table.specs.Stores.{rowsIn, RowShown}
-use Rattle.table.specs.Promises.{Stores, Represents}
+use Rattle.table.specs.Contracts.{Stores, Represents}
 use Rattle.table.specs.Laws.Shown.{row-shown, rows-counted}
 
 -- the plain row with these stored cells: live unless they begin with the dead mark
-abbrev pub told : List ℕ → Row
-told cells = record { live = isLive cells; cells = cells }
+abbrev pub rowOfCells : List ℕ → Row
+rowOfCells cells = record { live = isLive cells; cells = cells }
 
 pub length-rowsIn : (h : Header) (rows : List ℕ) → length (rowsIn h rows) ≡ h .rows
 unfolding rowsIn
-length-rowsIn h rows = length-map (rowsOf (h .columns) (h .rows) rows) told ∙ length-rowsOf (h .columns) (h .rows) rows
+length-rowsIn h rows = length-map (rowsOf (h .columns) (h .rows) rows) rowOfCells ∙ length-rowsOf (h .columns) (h .rows) rows
 
-pub getD-rowsIn : (h : Header) (rows : List ℕ) (i : ℕ) → i < h .rows → getD (rowsIn h rows) i noRow ≡ told (rowAt (h .columns) i rows)
+pub getD-rowsIn : (h : Header) (rows : List ℕ) (i : ℕ) → i < h .rows → getD (rowsIn h rows) i noRow ≡ rowOfCells (rowAt (h .columns) i rows)
 unfolding rowsIn
 getD-rowsIn h rows i k =
-    getD-map-below told (rowsOf (h .columns) (h .rows) rows) i [] noRow (omega (arith, length-rowsOf (h .columns) (h .rows) rows))
+    getD-map-below rowOfCells (rowsOf (h .columns) (h .rows) rows) i [] noRow (omega (arith, length-rowsOf (h .columns) (h .rows) rows))
     ∙ rw (getD-rowsOf (h .columns) (h .rows) rows i k)
 
 -- rows that are shown position by position have the same live rows
 live-from : (n : ℕ) (rows : List Row) (cells : List (List ℕ)) → length cells ≡ length rows
-    → ((i : ℕ) → i < length rows → RowShown (getD rows i noRow) (getD cells i [])) → liveFrom n (map told cells) ≡ liveFrom n rows
+    → ((i : ℕ) → i < length rows → RowShown (getD rows i noRow) (getD cells i [])) → liveFrom n (map rowOfCells cells) ≡ liveFrom n rows
 unfolding liveFrom
 live-from n [] [] e f = refl
 live-from n [] (c ∷ cells) e f = absurd (omega arith)
 live-from n (row ∷ rows) [] e f = absurd (omega arith)
 live-from n (row ∷ rows) (c ∷ cells) e f = go (live-from (suc n) rows cells (omega arith) (λ i h. f (suc i) (suc-le-suc h))) (f 0 (omega arith)) (row .live) refl
   where
-    go : liveFrom (suc n) (map told cells) ≡ liveFrom (suc n) rows → RowShown row c → (b : Bool) → row .live ≡ b
-        → cond (isLive c) (record { number = n; cells = c } ∷ liveFrom (suc n) (map told cells)) (liveFrom (suc n) (map told cells))
+    go : liveFrom (suc n) (map rowOfCells cells) ≡ liveFrom (suc n) rows → RowShown row c → (b : Bool) → row .live ≡ b
+        → cond (isLive c) (record { number = n; cells = c } ∷ liveFrom (suc n) (map rowOfCells cells)) (liveFrom (suc n) (map rowOfCells cells))
         ≡ cond b (record { number = n; cells = row .cells } ∷ liveFrom (suc n) rows) (liveFrom (suc n) rows)
     go ih s true q = rw (← s .live, q, ih, s .same q)
     go ih s false q = rw (← s .live, q, ih)

@@ -9,27 +9,27 @@ use native.Mathlib.Decide.{ℕ-discrete}
 use native.Mathlib.Omega.{arith}
 use lib.ListN.{length, length-replicate}
 use borrow.Author.Tests.{lt-ltb, le-ltb, not-false}
-use Rattle.lists.specs.Lists.{every, count, rowsOf, flat}
-use Rattle.lists.specs.Laws.Parts.{length-putAt}
-use Rattle.refusals.specs.Refusals.{accepted, reply, verdict}
+use Rattle.lists.specs.Lists.{all, count, rowsOf, flatten}
+use Rattle.lists.specs.Laws.Parts.{length-splice}
+use Rattle.refusals.specs.Refusals.{accepted, reply, outcome}
 use Rattle.refusals.specs.Laws.Replies.{some-number}
 use Rattle.sort_entries.specs.Entries.{entriesOf, rebuilt, pushAll}
 use Rattle.key_index.specs.inner.Index.{zeros, EmptyIs}
-use Rattle.key_index.specs.Slots.{roomFor}
+use Rattle.key_index.specs.Slots.{sizeClassFor}
 use Rattle.key_index.specs.Laws.Index.{emptied, empty-sound}
-use Rattle.key_index.specs.Laws.Rooms.{room-most, past-room}
+use Rattle.key_index.specs.Laws.SizeClasses.{sizeClass-most, past-sizeClass}
 use Rattle.plain_table.specs.Staged.{Opening, openable, wordsAll}
 use Rattle.plain_table.specs.Plain.{Plain, dead, opened, unstaged, cleared}
 use Rattle.plain_table.specs.Refusing.{storesShort, openRefusal}
-use Rattle.plain_table.specs.Laws.Calls.{first-no, first-rest}
+use Rattle.plain_table.specs.Laws.Calls.{firstRefusal-no, firstRefusal-rest}
 use Rattle.plain_table.specs.Laws.Proper.{opened-proper, unstaged-proper}
 use Rattle.table.specs.declared.Largest.the-variants.{None as NoLargest}
 use Rattle.table.specs.declared.Header.{Header}
 use Rattle.table.specs.declared.TableAnswer.the-variants.{Refused, Table}
-use Rattle.table.specs.Numbers.{openingOf, largestOf, tableSays}
+use Rattle.table.specs.Numbers.{openingOf, largestOf, tableView}
 use Rattle.table.specs.Refusing.{clearRefusal}
 use Rattle.table.specs.Stores.{entries, headerOf, stored}
-use Rattle.table.specs.Promises.{Stores, stores, lengths, Represents, Opened, withPending, Clearing, body}
+use Rattle.table.specs.Contracts.{Stores, stores, lengths, Represents, Opened, withPending, Clearing, body}
 use Rattle.table.specs.Laws.Shown.{stores-long, long-stores, rows-counted}
 use Rattle.table.specs.Laws.Refusals.{clear-accepted}
 
@@ -60,23 +60,23 @@ header-opened o generation = refl
 pub empty-length : (room : ℕ) (keys keys′ : List ℕ) → 2 * room ≤ length keys → EmptyIs room keys keys′ → length keys′ ≡ length keys
 empty-length room keys keys′ long e =
     let r : length (zeros (2 * room)) ≡ 2 * room = length-replicate (2 * room) 0 in
-    ap length (e .free) ∙ length-putAt keys (zeros (2 * room)) 0 (omega arith)
+    ap length (e .free) ∙ length-splice keys (zeros (2 * room)) 0 (omega arith)
 
 module _ (o : Opening) (generation : ℕ) (rows keys keys′ sorts pending : List ℕ) where
   -- if the slots are free, the stores show an empty table
   pub empty-represents : openable o ≡ true → generation ≤ 4294967295 → storesShort o (lengths rows keys sorts pending [] []) ≡ false
-      → EmptyIs (roomFor (o .capacity) 0) keys keys′ → Represents (opened o generation) (stores (headerOf (opened o generation)) rows keys′ sorts pending)
-  unfolding opened entries rebuilt pushAll entriesOf stored rowsOf every wordsAll flat
+      → EmptyIs (sizeClassFor (o .capacity) 0) keys keys′ → Represents (opened o generation) (stores (headerOf (opened o generation)) rows keys′ sorts pending)
+  unfolding opened entries rebuilt pushAll entriesOf stored rowsOf all wordsAll flatten
   empty-represents bounds fits long e =
       let l = stores-long o (lengths rows keys sorts pending [] []) long in
-      let room = roomFor (o .capacity) 0 in
-      let long : 2 * room ≤ length keys = omega (arith, room-most (o .capacity) 0, l .keys-long) in
+      let room = sizeClassFor (o .capacity) 0 in
+      let long : 2 * room ≤ length keys = omega (arith, sizeClass-most (o .capacity) 0, l .keys-long) in
       let n = empty-length room keys keys′ long e in
       record {
         proper = opened-proper o generation bounds fits;
         long-enough = long-stores o (lengths rows keys′ sorts pending [] []) (record { rows-long = l .rows-long; keys-long = omega (arith, l .keys-long); sorts-long = l .sorts-long });
         shown = record { header = refl; rows-shown = λ i k. absurd (omega arith); entries-shown = refl; pending-held = record { whole = refl; in-order = refl } };
-        keyed = empty-sound _ rows keys′ (λ i live. absurd (omega (arith, live .0))) (emptied room keys keys′ long e);
+        keys-sound = empty-sound _ rows keys′ (λ i live. absurd (omega (arith, live .0))) (emptied room keys keys′ long e);
       }
 
 -- ---- *Open*
@@ -85,7 +85,7 @@ module _ (o : Opening) (generation : ℕ) (rows keys sorts pending : List ℕ) w
   -- a refused opening
   pub opened-refused : (n : ℕ) → n ≡ openRefusal o (lengths rows keys sorts pending [] []) → (n ≡ 0 → ⊥)
       → Opened o generation (body rows keys sorts) pending (Refused n) keys
-  unfolding tableSays reply
+  unfolding tableView reply
   opened-refused zero e ne = absurd (ne refl)
   opened-refused (suc n) e ne =
       record {
@@ -96,15 +96,15 @@ module _ (o : Opening) (generation : ℕ) (rows keys sorts pending : List ℕ) w
       }
 
   -- an accepted opening
-  pub opened-done : (keys′ : List ℕ) → openRefusal o (lengths rows keys sorts pending [] []) ≡ 0 → generation ≤ 4294967295 → EmptyIs (roomFor (o .capacity) 0) keys keys′
+  pub opened-done : (keys′ : List ℕ) → openRefusal o (lengths rows keys sorts pending [] []) ≡ 0 → generation ≤ 4294967295 → EmptyIs (sizeClassFor (o .capacity) 0) keys keys′
       → Opened o generation (body rows keys sorts) pending (Table (emptyHeader o generation)) keys′
-  unfolding tableSays reply openRefusal
+  unfolding tableView reply openRefusal
   opened-done keys′ e fits free =
       record {
         answers = rw e (ap accepted (header-opened o generation));
         unchanged = λ k. absurd (omega arith);
-        past = past-room (o .capacity) 0 keys keys′ (free .tail);
-        represents = λ z. empty-represents o generation rows keys keys′ sorts pending (not-false _ (first-no _ 0 _ e)) fits (first-no _ 1 _ (first-rest _ 0 _ e)) free;
+        past = past-sizeClass (o .capacity) 0 keys keys′ (free .tail);
+        represents = λ z. empty-represents o generation rows keys keys′ sorts pending (not-false _ (firstRefusal-no _ 0 _ e)) fits (firstRefusal-no _ 1 _ (firstRefusal-rest _ 0 _ e)) free;
       }
 
 -- ---- *Clear*
@@ -133,7 +133,7 @@ unfolding unstaged dead entries wordsAll
 header-unstaged p = refl
 
 pub unstaged-represents : {p : Plain} {s : Stores} → Represents p s → Represents (unstaged p) (stores (withPending (s .header) 0) (s .rows) (s .keys) (s .sorts) (s .pending))
-unfolding unstaged entries every wordsAll flat
+unfolding unstaged entries all wordsAll flatten
 unstaged-represents {p} {s} t =
     record {
       proper = unstaged-proper (t .proper);
@@ -145,7 +145,7 @@ unstaged-represents {p} {s} t =
             entries-shown = t .shown .entries-shown;
             pending-held = record { whole = refl; in-order = refl };
           };
-      keyed = t .keyed;
+      keys-sound = t .keys-sound;
     }
 
 -- if only a table without rows may have the last generation, a table with rows has a next one
@@ -155,7 +155,7 @@ next-fits generation rows fits last some = elim (ℕ-discrete generation 4294967
 module _ (h : Header) (keys : List ℕ) where
   -- a refused clear
   pub clear-refused : (n : ℕ) → n ≡ clearRefusal h (length keys) → (n ≡ 0 → ⊥) → Clearing h keys (Refused n) keys
-  unfolding tableSays verdict reply
+  unfolding tableView outcome reply
   clear-refused zero e ne = absurd (ne refl)
   clear-refused (suc n) e ne =
       record {
@@ -167,7 +167,7 @@ module _ (h : Header) (keys : List ℕ) where
 
   -- a clear of a table without rows
   pub clear-pending : clearRefusal h (length keys) ≡ 0 → h .rows ≡ 0 → Clearing h keys (Table (withPending h 0)) keys
-  unfolding tableSays verdict reply
+  unfolding tableView outcome reply
   clear-pending e none =
       record {
         refusal = rw e;
@@ -180,15 +180,15 @@ module _ (h : Header) (keys : List ℕ) where
       }
 
   -- a clear of a table with rows
-  pub clear-all : (keys′ : List ℕ) → clearRefusal h (length keys) ≡ 0 → 0 < h .rows → EmptyIs (roomFor (h .capacity) 0) keys keys′
+  pub clear-all : (keys′ : List ℕ) → clearRefusal h (length keys) ≡ 0 → 0 < h .rows → EmptyIs (sizeClassFor (h .capacity) 0) keys keys′
       → Clearing h keys (Table (emptyHeader (openingOf h) (h .generation + 1))) keys′
-  unfolding tableSays verdict reply
+  unfolding tableView outcome reply
   clear-all keys′ e some free =
       let a = clear-accepted h (length keys) e in
       record {
         refusal = rw e;
         unchanged = λ k. absurd (omega arith);
-        past = past-room (h .capacity) 0 keys keys′ (free .tail);
+        past = past-sizeClass (h .capacity) 0 keys keys′ (free .tail);
         table = λ z rows sorts pending p t.
             let q : cleared p ≡ opened (p .opening) (p .generation + 1) = cleared-some p (omega (arith, rows-counted t)) in
             let g : h .generation ≡ p .generation = ap (λ (x : Header). x .generation) (t .shown .header) in

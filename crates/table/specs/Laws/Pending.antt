@@ -6,10 +6,10 @@ use mathlib.Core.List.{List, [], _∷_, _++_, map, map-append}
 use native.Mathlib.Omega.{arith}
 use lib.ListN.{length, length-append, length-take}
 use borrow.Author.Tests.{eqb-true, not-true, not-false}
-use Rattle.lists.specs.Lists.{putAt, flat}
-use Rattle.lists.specs.Laws.Parts.{front-putAt}
-use Rattle.lists.specs.Laws.Every.{every-head, every-tail, every-append}
-use Rattle.lists.specs.Laws.Rows.{flat-append}
+use Rattle.lists.specs.Lists.{splice, flatten}
+use Rattle.lists.specs.Laws.Parts.{front-splice}
+use Rattle.lists.specs.Laws.All.{all-head, all-tail, all-append}
+use Rattle.lists.specs.Laws.Rows.{flatten-append}
 use Rattle.plain_table.specs.Staged.{Opening, Staged, insert, removeKey, removeRow, wordsOf, wordsAll}
 use Rattle.plain_table.specs.Refusing.{wrongWidth}
 use Rattle.plain_table.specs.Laws.Proper.{Whole}
@@ -23,12 +23,12 @@ length-recordWords o (removeKey key) e = let q : length key ≡ o .keys = eqb-tr
 length-recordWords o (removeRow row key) e = let q : length key ≡ o .keys = eqb-true _ _ (not-false _ e) in omega arith
 
 -- the words of a list of records
-pub length-records : (o : Opening) (staged : List Staged) → Whole o staged → length (flat (map (recordWords (o .keys)) staged)) ≡ wordsAll o staged
-unfolding flat wordsAll
+pub length-records : (o : Opening) (staged : List Staged) → Whole o staged → length (flatten (map (recordWords (o .keys)) staged)) ≡ wordsAll o staged
+unfolding flatten wordsAll
 length-records o [] e = refl
 length-records o (r ∷ rs) e =
-    length-append (recordWords (o .keys) r) (flat (map (recordWords (o .keys)) rs))
-    ∙ ap₂ _+_ (length-recordWords o r (not-true _ (every-head (λ r. not (wrongWidth o r)) r rs e))) (length-records o rs (every-tail (λ r. not (wrongWidth o r)) r rs e))
+    length-append (recordWords (o .keys) r) (flatten (map (recordWords (o .keys)) rs))
+    ∙ ap₂ _+_ (length-recordWords o r (not-true _ (all-head (λ r. not (wrongWidth o r)) r rs e))) (length-records o rs (all-tail (λ r. not (wrongWidth o r)) r rs e))
 
 -- the words of two lists of records
 pub wordsAll-append : (o : Opening) (a b : List Staged) → wordsAll o (a ++ b) ≡ wordsAll o a + wordsAll o b
@@ -36,8 +36,8 @@ unfolding wordsAll
 wordsAll-append o [] b = omega arith
 wordsAll-append o (r ∷ a) b = let h = wordsAll-append o a b in omega arith
 
-records-append : (keys : ℕ) (a b : List Staged) → flat (map (recordWords keys) (a ++ b)) ≡ flat (map (recordWords keys) a) ++ flat (map (recordWords keys) b)
-records-append keys a b = ap flat (map-append (recordWords keys) a b) ∙ flat-append (map (recordWords keys) a) (map (recordWords keys) b)
+records-append : (keys : ℕ) (a b : List Staged) → flatten (map (recordWords keys) (a ++ b)) ≡ flatten (map (recordWords keys) a) ++ flatten (map (recordWords keys) b)
+records-append keys a b = ap flatten (map-append (recordWords keys) a b) ∙ flatten-append (map (recordWords keys) a) (map (recordWords keys) b)
 
 -- a pending store is at least as long as the records that it holds
 pub holds-fits : {o : Opening} {pending : List ℕ} {staged : List Staged} → Holds o pending staged → wordsAll o staged ≤ length pending
@@ -48,15 +48,15 @@ holds-fits {o} {pending} {staged} h =
 -- records that are written after the others are held too
 pub holds-more : {o : Opening} {pending : List ℕ} {staged : List Staged} (rs : List Staged) → Holds o pending staged → Whole o rs
     → wordsAll o staged + wordsAll o rs ≤ length pending
-    → Holds o (putAt pending (wordsAll o staged) (flat (map (recordWords (o .keys)) rs))) (staged ++ rs)
+    → Holds o (splice pending (wordsAll o staged) (flatten (map (recordWords (o .keys)) rs))) (staged ++ rs)
 holds-more {o} {pending} {staged} rs h w k =
-    let words : List ℕ = flat (map (recordWords (o .keys)) rs) in
+    let words : List ℕ = flatten (map (recordWords (o .keys)) rs) in
     let n : length words ≡ wordsAll o rs = length-records o rs w in
     let e : wordsAll o (staged ++ rs) ≡ wordsAll o staged + length words = omega (arith, wordsAll-append o staged rs) in
     record {
-      whole = every-append (λ q. not (wrongWidth o q)) staged rs (h .whole) w;
+      whole = all-append (λ q. not (wrongWidth o q)) staged rs (h .whole) w;
       in-order =
-          rw e (front-putAt pending words (wordsAll o staged) (omega arith))
+          rw e (front-splice pending words (wordsAll o staged) (omega arith))
           ∙ ap (λ (l : List ℕ). l ++ words) (h .in-order)
           ∙ sym (records-append (o .keys) staged rs);
     }

@@ -8,21 +8,21 @@ use native.Mathlib.Omega.{arith}
 use lib.Dec.{leb, ltb, eqb}
 use lib.ListN.{length}
 use borrow.Author.Tests.{leb-true, leb-false, ltb-false, eqb-true, eqb-false, eq-eqb, not-false}
-use Rattle.lists.specs.Laws.Keep.{and-left, and-right}
-use Rattle.lists.specs.Laws.Every.{or-no-left, or-no-right}
+use Rattle.lists.specs.Laws.Filter.{and-left, and-right}
+use Rattle.lists.specs.Laws.All.{or-no-left, or-no-right}
 use Rattle.constraints.specs.declared.Constraint.{Constraint}
 use Rattle.constraints.specs.Constraints.{known}
 use Rattle.key_index.specs.inner.Index.{Fits}
-use Rattle.key_index.specs.Laws.Rooms.{room-most, room-some, room-enough, fits-room}
+use Rattle.key_index.specs.Laws.SizeClasses.{sizeClass-most, sizeClass-some, sizeClass-enough, fits-fewer}
 use Rattle.plain_table.specs.Staged.{Opening, openable}
-use Rattle.plain_table.specs.Refusing.{Lengths, storesShort, wordsShort, openRefusal, compactLadder, mergeLadder, clearLadder}
-use Rattle.plain_table.specs.Laws.Calls.{first-no, first-rest}
+use Rattle.plain_table.specs.Refusing.{Lengths, storesShort, wordsShort, openRefusal, compactChecks, mergeChecks, clearChecks}
+use Rattle.plain_table.specs.Laws.Calls.{firstRefusal-no, firstRefusal-rest}
 use Rattle.plain_table.specs.Laws.Proper.{Bounds, openable-bounds}
 use Rattle.table.specs.declared.Header.{Header}
 use Rattle.table.specs.Numbers.{openingOf}
-use Rattle.table.specs.Refusing.{outside, pendingOutside, rowsShort, pairsShort, mergeRefusal, compactRefusal, clearRefusal, lookupRefusal, cellRefusal, fastRefusal, notedRefusal, soundRefusal, lookupTests}
-use Rattle.table.specs.Sound.{keyedOf}
-use Rattle.table.specs.inner.Whole.{wholeOf}
+use Rattle.table.specs.Refusing.{outside, pendingOutside, rowsShort, pairsShort, mergeRefusal, compactRefusal, clearRefusal, lookupRefusal, cellRefusal, fastRefusal, notedRefusal, soundRefusal, lookupChecks}
+use Rattle.table.specs.Sound.{indexShapeOf}
+use Rattle.table.specs.inner.FullIndexShape.{fullIndexShapeOf}
 use Rattle.table.specs.Laws.Shown.{LongEnough, stores-long}
 
 -- ---- test 1
@@ -81,8 +81,8 @@ unfolding pairsShort
 pairs-long-of h store e = ltb-false _ _ e
 
 -- what the key index requires, for any number of slots in use
-pub inside-whole : (h : Header) (rows keys : List ℕ) → Inside h → h .capacity * h .columns ≤ length rows → 2 * h .capacity ≤ length keys → Fits (wholeOf h) rows keys
-inside-whole h rows keys i r k =
+pub inside-full-shape : (h : Header) (rows keys : List ℕ) → Inside h → h .capacity * h .columns ≤ length rows → 2 * h .capacity ≤ length keys → Fits (fullIndexShapeOf h) rows keys
+inside-full-shape h rows keys i r k =
     record {
       some-columns = i .bounds .columns-some;
       most-columns = i .bounds .columns-few;
@@ -96,13 +96,13 @@ inside-whole h rows keys i r k =
     }
 
 -- and for the slots that are in use
-pub whole-fits : (h : Header) (rows keys : List ℕ) → Fits (wholeOf h) rows keys → Fits (keyedOf h) rows keys
-whole-fits h rows keys f =
-    fits-room (wholeOf h) (keyedOf h) rows keys f refl refl (room-some (h .capacity) (h .rows) (f .some)) (room-enough (h .capacity) (h .rows) (f .count) (f .most))
-    (room-most (h .capacity) (h .rows))
+pub full-shape-fits : (h : Header) (rows keys : List ℕ) → Fits (fullIndexShapeOf h) rows keys → Fits (indexShapeOf h) rows keys
+full-shape-fits h rows keys f =
+    fits-fewer (fullIndexShapeOf h) (indexShapeOf h) rows keys f refl refl (sizeClass-some (h .capacity) (h .rows) (f .some)) (sizeClass-enough (h .capacity) (h .rows) (f .count) (f .most))
+    (sizeClass-most (h .capacity) (h .rows))
 
-pub inside-fits : (h : Header) (rows keys : List ℕ) → Inside h → h .capacity * h .columns ≤ length rows → 2 * h .capacity ≤ length keys → Fits (keyedOf h) rows keys
-inside-fits h rows keys i r k = whole-fits h rows keys (inside-whole h rows keys i r k)
+pub inside-fits : (h : Header) (rows keys : List ℕ) → Inside h → h .capacity * h .columns ≤ length rows → 2 * h .capacity ≤ length keys → Fits (indexShapeOf h) rows keys
+inside-fits h rows keys i r k = full-shape-fits h rows keys (inside-full-shape h rows keys i r k)
 
 -- ---- *Open*
 
@@ -114,8 +114,8 @@ pub open-accepted : (o : Opening) (l : Lengths) → openRefusal o l ≡ 0 → Op
 unfolding openRefusal
 open-accepted o l e =
     record {
-      bounds = openable-bounds o (not-false _ (first-no _ 0 _ e));
-      long = stores-long o l (first-no _ 1 _ (first-rest _ 0 _ e));
+      bounds = openable-bounds o (not-false _ (firstRefusal-no _ 0 _ e));
+      long = stores-long o l (firstRefusal-no _ 1 _ (firstRefusal-rest _ 0 _ e));
     }
 
 -- ---- *Merge*
@@ -127,10 +127,10 @@ pub record Mergeable (h : Header) (l : Lengths) : Type 0 where
   pub words : WordsLong (openingOf h) (l .liveWords) (l .baseWords)
 
 pub merge-accepted : (h : Header) (l : Lengths) → mergeRefusal h l ≡ 0 → Mergeable h l
-unfolding mergeRefusal mergeLadder
+unfolding mergeRefusal mergeChecks
 merge-accepted h l e =
-    let a = pending-inside h (l .pending) (first-no _ 0 _ e) in
-    let b = first-no (storesShort (openingOf h) l || wordsShort (openingOf h) l) 1 _ (first-rest _ 0 _ e) in
+    let a = pending-inside h (l .pending) (firstRefusal-no _ 0 _ e) in
+    let b = firstRefusal-no (storesShort (openingOf h) l || wordsShort (openingOf h) l) 1 _ (firstRefusal-rest _ 0 _ e) in
     record {
       inside = a .inside;
       pending-fits = a .pending-fits;
@@ -147,15 +147,15 @@ pub record Compactable (h : Header) (l : Lengths) : Type 0 where
   pub not-last : h .generation ≡ 4294967295 → ⊥
 
 pub compact-accepted : (h : Header) (l : Lengths) → compactRefusal h l ≡ 0 → Compactable h l
-unfolding compactRefusal compactLadder
+unfolding compactRefusal compactChecks
 compact-accepted h l e =
-    let rest = first-rest _ 0 _ e in
-    let b = first-no (storesShort (openingOf h) l || wordsShort (openingOf h) l) 1 _ rest in
+    let rest = firstRefusal-rest _ 0 _ e in
+    let b = firstRefusal-no (storesShort (openingOf h) l || wordsShort (openingOf h) l) 1 _ rest in
     record {
-      inside = outside-inside h (first-no _ 0 _ e);
+      inside = outside-inside h (firstRefusal-no _ 0 _ e);
       long = stores-long (openingOf h) l (or-no-left (storesShort (openingOf h) l) _ b);
       words = words-long (openingOf h) l (or-no-right (storesShort (openingOf h) l) _ b);
-      not-last = eqb-false _ _ (first-no _ 9 _ (first-rest _ 1 _ rest));
+      not-last = eqb-false _ _ (firstRefusal-no _ 9 _ (firstRefusal-rest _ 1 _ rest));
     }
 
 -- ---- *Clear*
@@ -166,13 +166,13 @@ pub record Clearable (h : Header) (keys : ℕ) : Type 0 where
   pub last-empty : h .generation ≡ 4294967295 → h .rows ≡ 0
 
 pub clear-accepted : (h : Header) (keys : ℕ) → clearRefusal h keys ≡ 0 → Clearable h keys
-unfolding clearRefusal clearLadder pairsShort
+unfolding clearRefusal clearChecks pairsShort
 clear-accepted h keys e =
-    let rest = first-rest _ 0 _ e in
+    let rest = firstRefusal-rest _ 0 _ e in
     record {
-      inside = outside-inside h (first-no _ 0 _ e);
-      keys-long = pairs-long-of h keys (first-no _ 1 _ rest);
-      last-empty = λ last. empty (eq-eqb _ _ last) (first-no _ 9 _ (first-rest _ 1 _ rest));
+      inside = outside-inside h (firstRefusal-no _ 0 _ e);
+      keys-long = pairs-long-of h keys (firstRefusal-no _ 1 _ rest);
+      last-empty = λ last. empty (eq-eqb _ _ last) (firstRefusal-no _ 9 _ (firstRefusal-rest _ 1 _ rest));
     }
   where
     empty : eqb (h .generation) 4294967295 ≡ true → (eqb (h .generation) 4294967295 && ltb 0 (h .rows)) ≡ false → h .rows ≡ 0
@@ -187,15 +187,15 @@ pub record Lookable (h : Header) (rows keys cells : ℕ) : Type 0 where
   pub key-width : cells ≡ h .keys
 
 pub lookup-accepted : (h : Header) (rows keys cells : ℕ) → lookupRefusal h rows keys cells ≡ 0 → Lookable h rows keys cells
-unfolding lookupRefusal lookupTests
+unfolding lookupRefusal lookupChecks
 lookup-accepted h rows keys cells e =
-    let rest = first-rest _ 0 _ e in
-    let b = first-no (rowsShort h rows || pairsShort h keys) 1 _ rest in
+    let rest = firstRefusal-rest _ 0 _ e in
+    let b = firstRefusal-no (rowsShort h rows || pairsShort h keys) 1 _ rest in
     record {
-      inside = outside-inside h (first-no _ 0 _ e);
+      inside = outside-inside h (firstRefusal-no _ 0 _ e);
       rows-long = rows-long-of h rows (or-no-left (rowsShort h rows) _ b);
       keys-long = pairs-long-of h keys (or-no-right (rowsShort h rows) _ b);
-      key-width = eqb-true _ _ (not-false _ (first-no _ 2 _ (first-rest _ 1 _ rest)));
+      key-width = eqb-true _ _ (not-false _ (firstRefusal-no _ 2 _ (firstRefusal-rest _ 1 _ rest)));
     }
 
 pub record Readable (h : Header) (rows keys cells column : ℕ) : Type 0 where
@@ -203,20 +203,20 @@ pub record Readable (h : Header) (rows keys cells column : ℕ) : Type 0 where
   pub column-there : column < h .columns
 
 pub cell-accepted : (h : Header) (rows keys cells column : ℕ) → cellRefusal h rows keys cells column ≡ 0 → Readable h rows keys cells column
-unfolding cellRefusal lookupTests
+unfolding cellRefusal lookupChecks
 cell-accepted h rows keys cells column e =
-    let rest = first-rest _ 0 _ e in
-    let b = first-no (rowsShort h rows || pairsShort h keys) 1 _ rest in
-    let last = first-rest _ 1 _ rest in
+    let rest = firstRefusal-rest _ 0 _ e in
+    let b = firstRefusal-no (rowsShort h rows || pairsShort h keys) 1 _ rest in
+    let last = firstRefusal-rest _ 1 _ rest in
     record {
       lookable =
           record {
-            inside = outside-inside h (first-no _ 0 _ e);
+            inside = outside-inside h (firstRefusal-no _ 0 _ e);
             rows-long = rows-long-of h rows (or-no-left (rowsShort h rows) _ b);
             keys-long = pairs-long-of h keys (or-no-right (rowsShort h rows) _ b);
-            key-width = eqb-true _ _ (not-false _ (first-no _ 2 _ last));
+            key-width = eqb-true _ _ (not-false _ (firstRefusal-no _ 2 _ last));
           };
-      column-there = leb-false _ _ (first-no _ 5 _ (first-rest _ 2 _ last));
+      column-there = leb-false _ _ (firstRefusal-no _ 5 _ (firstRefusal-rest _ 2 _ last));
     }
 
 -- ---- *Fast range*
@@ -229,11 +229,11 @@ pub record Ranging (h : Header) (sorts : ℕ) (c : Constraint) : Type 0 where
 pub fast-accepted : (h : Header) (sorts : ℕ) (c : Constraint) → fastRefusal h sorts c ≡ 0 → Ranging h sorts c
 unfolding fastRefusal
 fast-accepted h sorts c e =
-    let rest = first-rest _ 0 _ e in
+    let rest = firstRefusal-rest _ 0 _ e in
     record {
-      inside = outside-inside h (first-no _ 0 _ e);
-      sorts-long = pairs-long-of h sorts (first-no _ 1 _ rest);
-      is-known = not-false _ (first-no _ 5 _ (first-rest _ 1 _ rest));
+      inside = outside-inside h (firstRefusal-no _ 0 _ e);
+      sorts-long = pairs-long-of h sorts (firstRefusal-no _ 1 _ rest);
+      is-known = not-false _ (firstRefusal-no _ 5 _ (firstRefusal-rest _ 1 _ rest));
     }
 
 -- ---- the rows since a noted version
@@ -245,7 +245,7 @@ pub record Noted (h : Header) (generation count : ℕ) : Type 0 where
 pub noted-accepted : (h : Header) (generation count : ℕ) → notedRefusal h generation count ≡ 0 → Noted h generation count
 unfolding notedRefusal
 noted-accepted h generation count e =
-    let f = first-no (not (eqb generation (h .generation)) || ltb (h .rows) count) 17 _ (first-rest _ 0 _ e) in
+    let f = firstRefusal-no (not (eqb generation (h .generation)) || ltb (h .rows) count) 17 _ (firstRefusal-rest _ 0 _ e) in
     record {
       same = eqb-true _ _ (not-false _ (or-no-left (not (eqb generation (h .generation))) _ f));
       rows-there = ltb-false _ _ (or-no-right (not (eqb generation (h .generation))) _ f);
@@ -261,8 +261,8 @@ pub record Tested (h : Header) (rows keys sorts pending : ℕ) : Type 0 where
 pub sound-tested : (h : Header) (rows keys sorts pending : ℕ) → soundRefusal h rows keys sorts pending ≡ 0 → Tested h rows keys sorts pending
 unfolding soundRefusal
 sound-tested h rows keys sorts pending e =
-    let a = pending-inside h pending (first-no _ 0 _ e) in
-    let b = first-no (rowsShort h rows || pairsShort h keys || pairsShort h sorts) 1 _ (first-rest _ 0 _ e) in
+    let a = pending-inside h pending (firstRefusal-no _ 0 _ e) in
+    let b = firstRefusal-no (rowsShort h rows || pairsShort h keys || pairsShort h sorts) 1 _ (firstRefusal-rest _ 0 _ e) in
     let c = or-no-left (rowsShort h rows || pairsShort h keys) _ b in
     record {
       inside = a .inside;

@@ -2,14 +2,14 @@
 use Prim.Native.Nat.{ℕ, zero, suc, _<_}
 use mathlib.Core.Path.{_≡_, refl}
 use native.Mathlib.Omega.{arith}
-use Rattle.refusals.specs.Refusals.{Reply, refused, accepted, reply, verdict}
+use Rattle.refusals.specs.Refusals.{Reply, refused, accepted, reply, outcome}
 
 -- if a reply is accepted, its refusal number is 0
-pub ruled-accepted : {A : Type 0} (r : Reply A) (a : A) (n : ℕ) → verdict r ≡ reply n tt → r ≡ accepted a → n ≡ 0
-unfolding verdict reply
-ruled-accepted (refused m) a n e q = absurd (let z : _≡_ {A = ℕ} 0 1 = cc in omega arith)
-ruled-accepted (accepted b) a zero e q = refl
-ruled-accepted (accepted b) a (suc n) e q = absurd (let z : _≡_ {A = ℕ} 0 1 = cc in omega arith)
+pub outcome-accepted : {A : Type 0} (r : Reply A) (a : A) (n : ℕ) → outcome r ≡ reply n tt → r ≡ accepted a → n ≡ 0
+unfolding outcome reply
+outcome-accepted (refused m) a n e q = absurd (let z : _≡_ {A = ℕ} 0 1 = cc in omega arith)
+outcome-accepted (accepted b) a zero e q = refl
+outcome-accepted (accepted b) a (suc n) e q = absurd (let z : _≡_ {A = ℕ} 0 1 = cc in omega arith)
 
 -- a reply with a refusal number, and one with 0
 pub reply-refused : {A : Type 0} (n : ℕ) (a : A) → 0 < n → reply n a ≡ refused n

@@ -10,7 +10,7 @@ use lib.ListN.{length, getD, length-map}
 use borrow.Author.Tests.{ltb-false, le-ltb, le-leb, eqb-true}
 use Rattle.lists.specs.Lists.{rowAt, rowsOf}
 use Rattle.lists.specs.Laws.Rows.{widths, length-rowsOf, getD-rowsOf, rowsOf-widths}
-use Rattle.lists.specs.Laws.Every.{every-weaker, or-no-left, or-no-right}
+use Rattle.lists.specs.Laws.All.{all-weaker, or-no-left, or-no-right}
 use Rattle.key_index.specs.Slots.{LiveAt}
 use Rattle.sort_entries.specs.Laws.Rebuilt.{rebuilt-few}
 use Rattle.plain_table.specs.Staged.{Opening}
@@ -23,8 +23,8 @@ use Rattle.plain_table.specs.Laws.Live.{dead-le}
 use Rattle.table.specs.declared.Header.{Header}
 use Rattle.table.specs.Refusing.{outside}
 use Rattle.table.specs.Stores.{entries, headerOf, stored, RowShown}
-use Rattle.table.specs.Sound.{keyedOf}
-use Rattle.table.specs.Promises.{Stores, lengths, Represents}
+use Rattle.table.specs.Sound.{indexShapeOf}
+use Rattle.table.specs.Contracts.{Stores, lengths, Represents}
 use Rattle.table.specs.Laws.Stored.{stored-shown, shown-stored}
 
 -- ---- the lengths of the stores
@@ -80,7 +80,7 @@ shown-own : {p : Plain} (rows : List ℕ) → Proper p → p .opening .capacity 
 shown-own {p} rows proper long e i k =
     let w : ℕ = p .opening .columns in
     let some-cells = openable-bounds (p .opening) (proper .numbers) .columns-some in
-    let cells-in = every-weaker (λ (r : List ℕ). eqb (length r) w) (λ r. leb 1 (length r)) (λ r q. let z : length r ≡ w = eqb-true _ _ q in le-leb 1 (length r) (omega arith)) (rowsOf w (length (p .rows)) rows) (wide-rows proper rows long) in
+    let cells-in = all-weaker (λ (r : List ℕ). eqb (length r) w) (λ r. leb 1 (length r)) (λ r q. let z : length r ≡ w = eqb-true _ _ q in le-leb 1 (length r) (omega arith)) (rowsOf w (length (p .rows)) rows) (wide-rows proper rows long) in
     rw (getD-rowsOf w (length (p .rows)) rows i k) at
     (stored-shown (p .rows) (rowsOf w (length (p .rows)) rows) (length-rowsOf w (length (p .rows)) rows) (proper .live-first) cells-in e i k)
 
@@ -114,13 +114,13 @@ module _ {p : Plain} {s : Stores} (r : Represents p s) where
       (λ i k. let b : i < s .header .rows = rw rows-counted k in rw (getD-rowsOf (s .header .columns) (s .header .rows) (s .rows) i b) (r .shown .rows-shown i b))
 
   -- a live row of the plain table is a live row of the stores
-  pub live-in : (i : ℕ) → rowOf p i .live ≡ true → LiveAt (keyedOf (s .header)) (s .rows) i
+  pub live-in : (i : ℕ) → rowOf p i .live ≡ true → LiveAt (indexShapeOf (s .header)) (s .rows) i
   live-in i e =
       let h = live-below (p .rows) i e in
       (omega (arith, rows-counted), sym (row-shown i h .live) ∙ e)
 
   -- conversely
-  pub in-live : (i : ℕ) → LiveAt (keyedOf (s .header)) (s .rows) i → rowOf p i .live ≡ true
+  pub in-live : (i : ℕ) → LiveAt (indexShapeOf (s .header)) (s .rows) i → rowOf p i .live ≡ true
   in-live i l = row-shown i (omega (arith, rows-counted, l .0)) .live ∙ l .1
 
   -- its cells are the stored ones

@@ -10,11 +10,11 @@ use native.Mathlib.Omega.{arith}
 use lib.ListN.{length, take, getD, set, length-map, length-set}
 use lib.Seq.{getD-set-same}
 use borrow.Author.Tests.{le-ltb, eq-eqb}
-use Rattle.refusals.specs.Refusals.{first}
-use Rattle.lists.specs.Lists.{every, count, rowAt, rowsOf}
-use Rattle.lists.specs.Laws.Keep.{split, every-of}
+use Rattle.refusals.specs.Refusals.{firstRefusal}
+use Rattle.lists.specs.Lists.{all, count, rowAt, rowsOf}
+use Rattle.lists.specs.Laws.Filter.{split, all-of}
 use Rattle.lists.specs.Laws.Rows.{length-rowsOf, getD-rowsOf, length-rowAt}
-use Rattle.lists.specs.Laws.Every.{getD-map-below, count-alike}
+use Rattle.lists.specs.Laws.All.{getD-map-below, count-alike}
 use Rattle.constraints.specs.Constraints.{isLive}
 use Rattle.key_index.specs.Slots.{LiveAt, keyAt}
 use Rattle.sort_entries.specs.Entries.{Entry, entriesOf, valueAt, entriesSound}
@@ -22,7 +22,7 @@ use Rattle.sort_entries.specs.Laws.Rebuilt.{NeverFalls, rebuilt-sound, rebuilt-
 use Rattle.sort_entries.specs.Laws.Stores.{length-entriesOf}
 use Rattle.sort_entries.specs.Laws.Sound.{sound-climb}
 use Rattle.sort_entries.specs.Laws.Grow.{sound-some}
-use Rattle.sort_entries.specs.Laws.Tests.{rebuilt-every, valueAt-every}
+use Rattle.sort_entries.specs.Laws.Tests.{rebuilt-all, valueAt-all}
 use Rattle.sort_entries.specs.Laws.Values.{valueAt-climbs, rebuilt-same}
 use Rattle.plain_table.specs.Staged.{Staged}
 use Rattle.plain_table.specs.Plain.{Row, Plain, dead}
@@ -32,11 +32,11 @@ use Rattle.plain_table.specs.Laws.Proper.{bounds-openable}
 use Rattle.table.specs.declared.Largest.{Largest}
 use Rattle.table.specs.declared.Largest.the-variants.{None as NoLargest, Value}
 use Rattle.table.specs.declared.Header.{Header}
-use Rattle.table.specs.Numbers.{openingOf, largestSays, largestOf}
+use Rattle.table.specs.Numbers.{openingOf, largestView, largestOf}
 use Rattle.table.specs.Refusing.{pendingOutside, rowsShort, pairsShort, soundRefusal}
 use Rattle.table.specs.Stores.{entries, headerOf, RowShown}
-use Rattle.table.specs.Sound.{keyedOf, Sound}
-use Rattle.table.specs.Promises.{Stores, stores, lengths, Represents}
+use Rattle.table.specs.Sound.{indexShapeOf, Sound}
+use Rattle.table.specs.Contracts.{Stores, stores, lengths, Represents}
 use Rattle.table.specs.Laws.Shown.{long-stores, header-inside, represents-long, row-shown, rows-counted, in-live, live-cells}
 use Rattle.table.specs.Laws.Refusals.{Tested, sound-tested}
 use Rattle.table.specs.Laws.Pending.{holds-fits}
@@ -73,28 +73,28 @@ entries-valueAt {p} proper i h =
     rebuilt-valueAt (sortCells p) (sortCells-climb proper) i (omega (arith, length-sortCells p)) ∙ getD-sortCells p i h
 
 -- no entry exceeds the largest value
-pub entries-kept : {p : Plain} → Proper p → every (λ e. atMost (e .value) (p .largest)) (entries p) ≡ true
+pub entries-kept : {p : Plain} → Proper p → all (λ e. atMost (e .value) (p .largest)) (entries p) ≡ true
 unfolding entries
 entries-kept {p} proper =
-    rebuilt-every (λ v. atMost v (p .largest)) (λ (row : Row). getD (row .cells) (p .opening .sort) 0) (p .rows) (proper .largest-kept)
+    rebuilt-all (λ v. atMost v (p .largest)) (λ (row : Row). getD (row .cells) (p .opening .sort) 0) (p .rows) (proper .largest-kept)
 
 -- ---- the largest value, in a header and in a plain table
 
-pub says-of : (o : Option ℕ) → largestSays (largestOf o) ≡ o
-unfolding largestSays largestOf
-says-of none = refl
-says-of (some v) = refl
+pub largestView-largestOf : (o : Option ℕ) → largestView (largestOf o) ≡ o
+unfolding largestView largestOf
+largestView-largestOf none = refl
+largestView-largestOf (some v) = refl
 
-pub of-says : (l : Largest) → largestOf (largestSays l) ≡ l
-unfolding largestSays largestOf
-of-says NoLargest = refl
-of-says (Value v) = refl
+pub largestOf-largestView : (l : Largest) → largestOf (largestView l) ≡ l
+unfolding largestView largestOf
+largestOf-largestView NoLargest = refl
+largestOf-largestView (Value v) = refl
 
 -- ---- a table that shows a plain table is sound
 
 module _ {p : Plain} {s : Stores} (r : Represents p s) where
   tested-sound : soundRefusal (s .header) (length (s .rows)) (length (s .keys)) (length (s .sorts)) (length (s .pending)) ≡ 0
-  unfolding soundRefusal pendingOutside rowsShort pairsShort first
+  unfolding soundRefusal pendingOutside rowsShort pairsShort firstRefusal
   tested-sound =
       let g = represents-long r in
       let k = holds-fits (r .shown .pending-held) in
@@ -108,8 +108,8 @@ module _ {p : Plain} {s : Stores} (r : Represents p s) where
       (sym (length-rowsOf (s .header .columns) (s .header .rows) (s .rows) ∙ rows-counted r))
       (λ i h. ap not (row-shown r i h .live ∙ ap isLive (sym (getD-rowsOf (s .header .columns) (s .header .rows) (s .rows) i (omega (arith, rows-counted r))))))
 
-  differ : (i j : ℕ) → LiveAt (keyedOf (s .header)) (s .rows) i → LiveAt (keyedOf (s .header)) (s .rows) j
-      → keyAt (keyedOf (s .header)) (s .rows) i ≡ keyAt (keyedOf (s .header)) (s .rows) j → i ≡ j
+  differ : (i j : ℕ) → LiveAt (indexShapeOf (s .header)) (s .rows) i → LiveAt (indexShapeOf (s .header)) (s .rows) j
+      → keyAt (indexShapeOf (s .header)) (s .rows) i ≡ keyAt (indexShapeOf (s .header)) (s .rows) j → i ≡ j
   differ i j a b e =
       let n : s .header .keys ≡ p .opening .keys = ap (λ (h : Header). h .keys) (r .shown .header) in
       r .proper .keys-differ i j (in-live r i a) (in-live r j b)
@@ -118,7 +118,7 @@ module _ {p : Plain} {s : Stores} (r : Represents p s) where
   rise : entriesSound (entriesOf (s .header .entries) (s .sorts)) (s .header .rows) ≡ true
   rise = rw (r .shown .entries-shown, rows-counted r) (entries-sound (r .proper))
 
-  recorded : (i : ℕ) → LiveAt (keyedOf (s .header)) (s .rows) i → getD (rowAt (s .header .columns) i (s .rows)) (s .header .sort) 0 ≡ valueAt i (entriesOf (s .header .entries) (s .sorts))
+  recorded : (i : ℕ) → LiveAt (indexShapeOf (s .header)) (s .rows) i → getD (rowAt (s .header .columns) i (s .rows)) (s .header .sort) 0 ≡ valueAt i (entriesOf (s .header .entries) (s .sorts))
   recorded i l =
       let n : s .header .sort ≡ p .opening .sort = ap (λ (h : Header). h .sort) (r .shown .header) in
       let q = in-live r i l in
@@ -135,11 +135,11 @@ module _ {p : Plain} {s : Stores} (r : Represents p s) where
               keys-differ = differ;
               entries-rise = rise;
               sorted = recorded;
-              largest-kept = rw (r .shown .entries-shown, r .shown .header, says-of (p .largest)) (entries-kept (r .proper));
+              largest-kept = rw (r .shown .entries-shown, r .shown .header, largestView-largestOf (p .largest)) (entries-kept (r .proper));
               pending-counted = rw (r .shown .header);
               pending-whole = rw (r .shown .header) (r .shown .pending-held);
             };
-        keyed = r .keyed;
+        keys-sound = r .keys-sound;
       }
 
 -- ---- a sound table shows a plain table
@@ -161,7 +161,7 @@ plainOf h rows sorts staged =
       generation = h .generation;
       rows = plainRows (h .sort) (entriesOf (h .entries) sorts) 0 (rowsOf (h .columns) (h .rows) rows);
       staged = staged;
-      largest = largestSays (h .largest);
+      largest = largestView (h .largest);
     }
 
 length-plainRows : (sort : ℕ) (es : List Entry) (n : ℕ) (rows : List (List ℕ)) → length (plainRows sort es n rows) ≡ length rows
@@ -238,7 +238,7 @@ module _ {h : Header} {rows keys sorts pending : List ℕ} {staged : List Staged
   plainOf-below : (i : ℕ) → rowOf (plainOf h rows sorts staged) i .live ≡ true → i < h .rows
   plainOf-below i e = omega (arith, live-below (plainOf h rows sorts staged .rows) i e, plainOf-length)
 
-  plainOf-live : (i : ℕ) → rowOf (plainOf h rows sorts staged) i .live ≡ true → LiveAt (keyedOf h) rows i
+  plainOf-live : (i : ℕ) → rowOf (plainOf h rows sorts staged) i .live ≡ true → LiveAt (indexShapeOf h) rows i
   plainOf-live i e = (plainOf-below i e, sym (plainOf-shown i (plainOf-below i e) .live) ∙ e)
 
   plainOf-cells : (i : ℕ) → rowOf (plainOf h rows sorts staged) i .live ≡ true → rowOf (plainOf h rows sorts staged) i .cells ≡ rowAt (h .columns) i rows
@@ -251,11 +251,11 @@ module _ {h : Header} {rows keys sorts pending : List ℕ} {staged : List Staged
         numbers = bounds-openable (openingOf h) (t .inside .bounds);
         generation-fits = g;
         rows-fit = omega (arith, plainOf-length, t .inside .rows-fit);
-        widths = every-of (wideRow (h .columns)) noRow (plainOf h rows sorts staged .rows) wide;
-        live-first = every-of firstFits noRow (plainOf h rows sorts staged .rows) first-fits;
+        widths = all-of (wideRow (h .columns)) noRow (plainOf h rows sorts staged .rows) wide;
+        live-first = all-of firstFits noRow (plainOf h rows sorts staged .rows) first-fits;
         keys-differ = λ i j a b e. s .contents .keys-differ i j (plainOf-live i a) (plainOf-live j b) (ap (take (h .keys)) (sym (plainOf-cells i a)) ∙ e ∙ ap (take (h .keys)) (plainOf-cells j b));
         sorted = λ i j a b. climb i j a (omega (arith, plainOf-length));
-        largest-kept = every-of (keptRow (h .sort) (largestSays (h .largest))) noRow (plainOf h rows sorts staged .rows) kept;
+        largest-kept = all-of (keptRow (h .sort) (largestView (h .largest))) noRow (plainOf h rows sorts staged .rows) kept;
         staged-whole = s .contents .pending-whole .whole;
       }
     where
@@ -270,11 +270,11 @@ module _ {h : Header} {rows keys sorts pending : List ℕ} {staged : List Staged
       first-fits : (i : ℕ) → i < length (plainOf h rows sorts staged .rows) → firstFits (rowOf (plainOf h rows sorts staged) i) ≡ true
       first-fits i k = rw (plainOf-row i (inside i k)) (plainRow-first (h .sort) (valueAt i (entriesOf (h .entries) sorts)) (rowAt (h .columns) i rows))
 
-      kept : (i : ℕ) → i < length (plainOf h rows sorts staged .rows) → keptRow (h .sort) (largestSays (h .largest)) (rowOf (plainOf h rows sorts staged) i) ≡ true
+      kept : (i : ℕ) → i < length (plainOf h rows sorts staged .rows) → keptRow (h .sort) (largestView (h .largest)) (rowOf (plainOf h rows sorts staged) i) ≡ true
       kept i k =
           let es : List Entry = entriesOf (h .entries) sorts in
           let some-rows : 0 < h .rows = omega (arith, inside i k) in
-          rw (plainOf-sort i (inside i k)) (valueAt-every (λ v. atMost v (largestSays (h .largest))) i es (sound-some es (h .rows) (s .contents .entries-rise) some-rows) (s .contents .largest-kept))
+          rw (plainOf-sort i (inside i k)) (valueAt-all (λ v. atMost v (largestView (h .largest))) i es (sound-some es (h .rows) (s .contents .entries-rise) some-rows) (s .contents .largest-kept))
 
       climb : (i j : ℕ) → i ≤ j → j < h .rows → getD (rowOf (plainOf h rows sorts staged) i .cells) (h .sort) 0 ≤ getD (rowOf (plainOf h rows sorts staged) j .cells) (h .sort) 0
       climb i j a b =
@@ -309,7 +309,7 @@ module _ {h : Header} {rows keys sorts pending : List ℕ} {staged : List Staged
   plainOf-header =
       let a : h .rows ≡ length (plainOf h rows sorts staged .rows) = sym plainOf-length in
       let c : h .entries ≡ length (entries (plainOf h rows sorts staged)) = sym (length-entriesOf (h .entries) sorts) ∙ ap length plainOf-entries in
-      let d : h .largest ≡ largestOf (largestSays (h .largest)) = sym (of-says (h .largest)) in
+      let d : h .largest ≡ largestOf (largestView (h .largest)) = sym (largestOf-largestView (h .largest)) in
       λ i.
       record {
         columns = h .columns;
@@ -338,7 +338,7 @@ module _ {h : Header} {rows keys sorts pending : List ℕ} {staged : List Staged
               entries-shown = plainOf-entries;
               pending-held = s .contents .pending-whole;
             };
-        keyed = s .keyed;
+        keys-sound = s .keys-sound;
       }
 
   -- a sound table whose generation fits shows a plain table

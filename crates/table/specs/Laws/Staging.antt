@@ -8,19 +8,19 @@ use native.Mathlib.Omega.{arith}
 use lib.Dec.{ltb}
 use lib.ListN.{length}
 use borrow.Author.Tests.{ltb-false}
-use Rattle.lists.specs.Lists.{putAt, every, flat}
-use Rattle.lists.specs.Laws.Every.{or-no-left}
+use Rattle.lists.specs.Lists.{splice, all, flatten}
+use Rattle.lists.specs.Laws.All.{or-no-left}
 use Rattle.plain_table.specs.Staged.{Staged, wordsOf, wordsAll}
 use Rattle.plain_table.specs.Calls.{stageAll}
 use Rattle.plain_table.specs.Plain.{Plain, dead, stage}
-use Rattle.plain_table.specs.Refusing.{wrongWidth, noSuchRow, storesShort, stageLadder, overfull}
-use Rattle.plain_table.specs.Laws.Calls.{first-no, first-rest}
+use Rattle.plain_table.specs.Refusing.{wrongWidth, noSuchRow, storesShort, stageChecks, overfull}
+use Rattle.plain_table.specs.Laws.Calls.{firstRefusal-no, firstRefusal-rest}
 use Rattle.plain_table.specs.Laws.Proper.{Whole, stageAll-proper}
 use Rattle.table.specs.declared.Header.{Header}
 use Rattle.table.specs.Numbers.{openingOf}
 use Rattle.table.specs.Refusing.{pendingOutside, stageRefusal}
 use Rattle.table.specs.Stores.{entries, headerOf, recordWords}
-use Rattle.table.specs.Promises.{Stores, stores, Represents, withPending}
+use Rattle.table.specs.Contracts.{Stores, stores, Represents, withPending}
 use Rattle.table.specs.Laws.Pending.{wordsAll-append, holds-more}
 
 -- the tests of *Stage* pass
@@ -32,16 +32,16 @@ pub record Stageable (h : Header) (pending : ℕ) (r : Staged) : Type 0 where
 
 -- an accepted record passes the tests
 pub stage-accepted : (h : Header) (pending : ℕ) (r : Staged) → stageRefusal h pending r ≡ 0 → Stageable h pending r
-unfolding stageRefusal stageLadder overfull
+unfolding stageRefusal stageChecks overfull
 stage-accepted h pending r e =
-    let b = first-rest _ 0 _ e in
-    let c = first-rest _ 2 _ b in
-    let d = first-rest _ 4 _ c in
+    let b = firstRefusal-rest _ 0 _ e in
+    let c = firstRefusal-rest _ 2 _ b in
+    let d = firstRefusal-rest _ 4 _ c in
     record {
-      inside = first-no _ 0 _ e;
-      right-width = first-no _ 2 _ b;
-      row-there = first-no _ 4 _ c;
-      free = ltb-false _ _ (or-no-left (ltb pending (h .pending + wordsOf (openingOf h) r)) _ (first-no _ 6 _ d));
+      inside = firstRefusal-no _ 0 _ e;
+      right-width = firstRefusal-no _ 2 _ b;
+      row-there = firstRefusal-no _ 4 _ c;
+      free = ltb-false _ _ (or-no-left (ltb pending (h .pending + wordsOf (openingOf h) r)) _ (firstRefusal-no _ 6 _ d));
     }
 
 -- the header after more records are staged
@@ -52,7 +52,7 @@ header-more p rs = ap (withPending (headerOf p)) (sym (wordsAll-append (p .openi
 -- after whole records are written behind the others, the stores show the plain table with these records staged
 pub records-represent : {p : Plain} {s : Stores} (rs : List Staged) (pending′ : List ℕ) → Represents p s → Whole (p .opening) rs
     → s .header .pending + wordsAll (openingOf (s .header)) rs ≤ length (s .pending)
-    → pending′ ≡ putAt (s .pending) (s .header .pending) (flat (map (recordWords (s .header .keys)) rs))
+    → pending′ ≡ splice (s .pending) (s .header .pending) (flatten (map (recordWords (s .header .keys)) rs))
     → Represents (stageAll p rs) (stores (withPending (s .header) (s .header .pending + wordsAll (openingOf (s .header)) rs)) (s .rows) (s .keys) (s .sorts) pending′)
 unfolding stageAll storesShort
 records-represent {p} {s} rs pending′ t whole free w =
@@ -67,16 +67,16 @@ records-represent {p} {s} rs pending′ t whole free w =
             entries-shown = unfold entries in t .shown .entries-shown;
             pending-held = rw (w, t .shown .header) (holds-more rs (t .shown .pending-held) whole fits);
           };
-      keyed = t .keyed;
+      keys-sound = t .keys-sound;
     }
 
 -- an accepted record
 pub staging-represents : {p : Plain} {s : Stores} (r : Staged) (pending′ : List ℕ) → Represents p s → stageRefusal (s .header) (length (s .pending)) r ≡ 0
-    → pending′ ≡ putAt (s .pending) (s .header .pending) (recordWords (s .header .keys) r)
+    → pending′ ≡ splice (s .pending) (s .header .pending) (recordWords (s .header .keys) r)
     → Represents (stage p r) (stores (withPending (s .header) (s .header .pending + wordsOf (openingOf (s .header)) r)) (s .rows) (s .keys) (s .sorts) pending′)
-unfolding stage stageAll wordsAll every flat
+unfolding stage stageAll wordsAll all flatten
 staging-represents {p} {s} r pending′ t e w =
     let a = stage-accepted (s .header) (length (s .pending)) r e in
     let width : wrongWidth (p .opening) r ≡ false = rw (t .shown .header) at (a .right-width) in
     rw (add-zero (wordsOf (openingOf (s .header)) r)) at
-    (records-represent (r ∷ []) pending′ t (rw width) (omega (arith, a .free)) (w ∙ ap (putAt (s .pending) (s .header .pending)) (sym (append-nil (recordWords (s .header .keys) r)))))
+    (records-represent (r ∷ []) pending′ t (rw width) (omega (arith, a .free)) (w ∙ ap (splice (s .pending) (s .header .pending)) (sym (append-nil (recordWords (s .header .keys) r)))))

@@ -8,8 +8,8 @@ use lib.Dec.{leb, eqb}
 use lib.ListN.{length, getD, set, length-set}
 use lib.Seq.{getD-set-same, set-getD, set-set}
 use borrow.Author.Tests.{leb-true, eqb-true, eq-eqb, not-false}
-use Rattle.lists.specs.Lists.{every}
-use Rattle.lists.specs.Laws.Every.{or-second, every-head, every-tail, every-cons}
+use Rattle.lists.specs.Lists.{all}
+use Rattle.lists.specs.Laws.All.{or-second, all-head, all-tail, all-cons}
 use Rattle.lists.specs.Laws.Rows.{widths}
 use Rattle.cells.specs.Cells.{isDead}
 use Rattle.constraints.specs.Constraints.{isLive}
@@ -80,33 +80,33 @@ stored-again (row ∷ rows) (old ∷ before) = ap₂ (λ (r : List ℕ) (rs : Li
     go false = set-set old 0 4294967295 4294967295
 
 -- live rows are stored with their cells
-pub stored-live : (rows : List Row) (before : List (List ℕ)) → every (λ row. row .live) rows ≡ true → stored rows before ≡ map (λ row. row .cells) rows
+pub stored-live : (rows : List Row) (before : List (List ℕ)) → all (λ row. row .live) rows ≡ true → stored rows before ≡ map (λ row. row .cells) rows
 unfolding stored
 stored-live [] before e = refl
-stored-live (row ∷ rows) [] e = rw (every-head (λ r. r .live) row rows e, stored-live rows [] (every-tail (λ r. r .live) row rows e))
-stored-live (row ∷ rows) (old ∷ before) e = rw (every-head (λ r. r .live) row rows e, stored-live rows before (every-tail (λ r. r .live) row rows e))
+stored-live (row ∷ rows) [] e = rw (all-head (λ r. r .live) row rows e, stored-live rows [] (all-tail (λ r. r .live) row rows e))
+stored-live (row ∷ rows) (old ∷ before) e = rw (all-head (λ r. r .live) row rows e, stored-live rows before (all-tail (λ r. r .live) row rows e))
 
 -- rows of one width are stored at that width
-pub stored-widths : (w : ℕ) (rows : List Row) (before : List (List ℕ)) → every (wideRow w) rows ≡ true → widths w before ≡ true → widths w (stored rows before) ≡ true
+pub stored-widths : (w : ℕ) (rows : List Row) (before : List (List ℕ)) → all (wideRow w) rows ≡ true → widths w before ≡ true → widths w (stored rows before) ≡ true
 unfolding stored
-stored-widths w [] before e f = unfold every in refl
+stored-widths w [] before e f = unfold all in refl
 stored-widths w (row ∷ rows) [] e f =
-    every-cons (λ r. eqb (length r) w) _ _ (go (row .live)) (stored-widths w rows [] (every-tail (wideRow w) row rows e) f)
+    all-cons (λ r. eqb (length r) w) _ _ (go (row .live)) (stored-widths w rows [] (all-tail (wideRow w) row rows e) f)
   where
     wide : length (row .cells) ≡ w
-    wide = eqb-true _ _ (every-head (wideRow w) row rows e)
+    wide = eqb-true _ _ (all-head (wideRow w) row rows e)
 
     go : (b : Bool) → eqb (length (cond b (row .cells) (marked (row .cells)))) w ≡ true
     go true = eq-eqb _ _ wide
     go false = eq-eqb _ _ (length-set (row .cells) 0 4294967295 ∙ wide)
 stored-widths w (row ∷ rows) (old ∷ before) e f =
-    every-cons (λ r. eqb (length r) w) _ _ (go (row .live)) (stored-widths w rows before (every-tail (wideRow w) row rows e) (every-tail (λ r. eqb (length r) w) old before f))
+    all-cons (λ r. eqb (length r) w) _ _ (go (row .live)) (stored-widths w rows before (all-tail (wideRow w) row rows e) (all-tail (λ r. eqb (length r) w) old before f))
   where
     wide : length (row .cells) ≡ w
-    wide = eqb-true _ _ (every-head (wideRow w) row rows e)
+    wide = eqb-true _ _ (all-head (wideRow w) row rows e)
 
     wide-old : length old ≡ w
-    wide-old = eqb-true _ _ (every-head (λ r. eqb (length r) w) old before f)
+    wide-old = eqb-true _ _ (all-head (λ r. eqb (length r) w) old before f)
 
     go : (b : Bool) → eqb (length (cond b (row .cells) (marked old))) w ≡ true
     go true = eq-eqb _ _ wide
@@ -141,15 +141,15 @@ stored-at-new (row ∷ rows) (old ∷ before) zero h k e = absurd (omega arith)
 stored-at-new (row ∷ rows) (old ∷ before) (suc i) h k e = stored-at-new rows before i (omega arith) (omega arith) e
 
 -- if the rows stored over themselves do not change, each row is shown
-pub stored-shown : (rows : List Row) (before : List (List ℕ)) → length before ≡ length rows → every firstFits rows ≡ true → every (λ r. leb 1 (length r)) before ≡ true
+pub stored-shown : (rows : List Row) (before : List (List ℕ)) → length before ≡ length rows → all firstFits rows ≡ true → all (λ r. leb 1 (length r)) before ≡ true
     → stored rows before ≡ before → (i : ℕ) → i < length rows → RowShown (getD rows i noRow) (getD before i [])
 unfolding stored
 stored-shown [] before n f w e i h = absurd (omega arith)
 stored-shown (row ∷ rows) [] n f w e i h = absurd (omega arith)
 stored-shown (row ∷ rows) (old ∷ before) n f w e zero h =
-    one-shown row old (every-head firstFits row rows f) (leb-true _ _ (every-head (λ r. leb 1 (length r)) old before w)) (head-eq-of-cons-eq e)
+    one-shown row old (all-head firstFits row rows f) (leb-true _ _ (all-head (λ r. leb 1 (length r)) old before w)) (head-eq-of-cons-eq e)
 stored-shown (row ∷ rows) (old ∷ before) n f w e (suc i) h =
-    stored-shown rows before (omega arith) (every-tail firstFits row rows f) (every-tail (λ r. leb 1 (length r)) old before w) (tail-eq-of-cons-eq e) i (omega arith)
+    stored-shown rows before (omega arith) (all-tail firstFits row rows f) (all-tail (λ r. leb 1 (length r)) old before w) (tail-eq-of-cons-eq e) i (omega arith)
 
 -- conversely
 pub shown-stored : (rows : List Row) (before : List (List ℕ)) → length before ≡ length rows

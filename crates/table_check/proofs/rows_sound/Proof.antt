@@ -2,7 +2,7 @@
 use mathlib.Core.Path.{sym, _∙_}
 use borrow.Author.Needs.{needs}
 use borrow.Author.Tests.{not-true, not-false}
-use Rattle.table_check.proofs.CheckingSteps.{rows-miscounted, rows-unsorted, rows-exceeding, rows-told}
+use Rattle.table_check.proofs.CheckingSteps.{rows-miscounted, rows-unsorted, rows-exceeding, rows-decided}
 use Rattle.table_check.proofs.rows_sound.Statement.{statement}
 use Rattle.table_check.proofs.rows_sound.Tie as tie
 
@@ -17,7 +17,7 @@ returns-3 c = rows-exceeding _ _ _ (sym (not-false _ (c .before .before .if2 .le
 
 returns-4 : tie.Need-returns-4
 returns-4 c =
-    rows-told _ _ _ (c .before .before .before .before .before .if1 .left ∙ c .before .before .before .before .before .before .before .dead-rows .ensures)
+    rows-decided _ _ _ (c .before .before .before .before .before .if1 .left ∙ c .before .before .before .before .before .before .before .dead-rows .ensures)
     (sym (not-false _ (c .before .before .before .if2 .left)) ∙ c .before .before .before .before .entries-sound .ensures)
     (sym (not-false _ (c .before .if3 .left)) ∙ c .before .before .largest-sound .ensures) _ (c .sort-cells-sound .ensures)
 

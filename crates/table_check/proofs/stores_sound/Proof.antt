@@ -2,7 +2,7 @@
 use borrow.Author.Needs.{needs}
 use borrow.Author.Tests.{not-true, not-false}
 use Rattle.table_check.specs.Laws.Checks.{sound-fits, sound-cells, sound-held, sound-pending}
-use Rattle.table_check.proofs.CheckingSteps.{stores-rows, stores-index, stores-told}
+use Rattle.table_check.proofs.CheckingSteps.{stores-rows, stores-index, stores-decided}
 use Rattle.table_check.proofs.stores_sound.Statement.{statement}
 use Rattle.table_check.proofs.stores_sound.Tie as tie
 
@@ -14,13 +14,13 @@ rows-sound-requires c κs =
 returns : tie.Need-returns
 returns c = stores-rows _ _ _ _ _ (c .before .rows-sound .ensures .no (not-true _ (c .if1 .taken)))
 
-index-sound-requires : tie.Need-index-sound-requires
-index-sound-requires c κs =
+key-store-sound-requires : tie.Need-key-store-sound-requires
+key-store-sound-requires c κs =
     let s = c .before .before .before .before .before .before .before in
-    rw (c .keyed .ensures) (sound-fits (s .args .h) (s .args .rows .now) (s .args .keys .now) (s .args .sorts .now) (s .args .pending .now) (s .pre))
+    rw (c .index-shape .ensures) (sound-fits (s .args .h) (s .args .rows .now) (s .args .keys .now) (s .args .sorts .now) (s .args .pending .now) (s .pre))
 
 returns-2 : tie.Need-returns-2
-returns-2 c = stores-index _ _ _ _ _ _ (c .before .before .keyed .ensures) (c .before .index-sound .ensures .no (not-true _ (c .if2 .taken)))
+returns-2 c = stores-index _ _ _ _ _ _ (c .before .before .index-shape .ensures) (c .before .key-store-sound .ensures .no (not-true _ (c .if2 .taken)))
 
 pending-whole-requires : tie.Need-pending-whole-requires
 pending-whole-requires c κs =
@@ -29,11 +29,11 @@ pending-whole-requires c κs =
 
 returns-3 : tie.Need-returns-3
 returns-3 c =
-    stores-told _ _ _ _ _ _ (c .before .before .before .keyed .ensures) (c .before .before .before .before .before .before .before .before .before .before .pre) (c .before .before .before .before .before .rows-sound .ensures .yes (not-false _ (c .before .before .before .before .if1 .left)))
-    (c .before .before .index-sound .ensures .yes (not-false _ (c .before .if2 .left))) _ (c .pending-whole .ensures)
+    stores-decided _ _ _ _ _ _ (c .before .before .before .index-shape .ensures) (c .before .before .before .before .before .before .before .before .before .before .pre) (c .before .before .before .before .before .rows-sound .ensures .yes (not-false _ (c .before .before .before .before .if1 .left)))
+    (c .before .before .key-store-sound .ensures .yes (not-false _ (c .before .if2 .left))) _ (c .pending-whole .ensures)
 
 pub stores-sound-spec : {M : Type 1} → statement M
 stores-sound-spec =
     tie.close
     (tie.spec
-    rows-sound-requires returns (λ c κs. search needs) index-sound-requires returns-2 pending-whole-requires returns-3)
+    rows-sound-requires returns (λ c κs. search needs) key-store-sound-requires returns-2 pending-whole-requires returns-3)

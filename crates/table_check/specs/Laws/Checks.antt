@@ -11,17 +11,17 @@ use lib.Dec.{eqb}
 use lib.ListN.{length, take, drop, getD, length-take, length-drop}
 use lib.Seq.{take-take, take-add, take-at, drop-at, drop-drop, getD-take}
 use borrow.Author.Tests.{eqb-true, eqb-false, eq-eqb, ne-eqb, not-true}
-use Rattle.lists.specs.Lists.{every, rowAt, flat}
+use Rattle.lists.specs.Lists.{all, rowAt, flatten}
 use Rattle.lists.specs.Laws.Parts.{take-drop}
-use Rattle.lists.specs.Laws.Every.{every-head, every-tail, every-cons}
-use Rattle.cells.specs.Cells.{compact, keyHash}
+use Rattle.lists.specs.Laws.All.{all-head, all-tail, all-cons}
+use Rattle.cells.specs.Cells.{compactHash, keyHash}
 use Rattle.constraints.specs.Constraints.{isLive}
-use Rattle.key_index.specs.declared.Keyed.{Keyed}
+use Rattle.key_index.specs.declared.IndexShape.{IndexShape}
 use Rattle.key_index.specs.declared.Found.the-variants.{None, At}
 use Rattle.key_index.specs.Slots.{LiveAt, keyAt, KeysSound}
 use Rattle.key_index.specs.inner.Index.{Fits, FirstHit, FoundIs, KeysDiffer}
 use Rattle.key_index.specs.Laws.Index.{first-one}
-use Rattle.sort_entries.specs.inner.Search.{Held}
+use Rattle.sort_entries.specs.inner.Search.{EntriesFit}
 use Rattle.sort_entries.specs.inner.Checks.{Cells}
 use Rattle.plain_table.specs.Staged.{Opening, Staged, insert, removeKey, removeRow, wordsOf, wordsAll}
 use Rattle.plain_table.specs.Refusing.{wrongWidth}
@@ -29,8 +29,8 @@ use Rattle.table.specs.declared.Header.{Header}
 use Rattle.table.specs.Numbers.{openingOf}
 use Rattle.table.specs.Refusing.{soundRefusal}
 use Rattle.table.specs.Stores.{recordWords}
-use Rattle.table.specs.Sound.{keyedOf, Sound}
-use Rattle.table_check.specs.inner.Checks.{RowsSound, IndexSound, Own, OwnIs, PendingIn, kindWords, keyPlace, keyWords, Begins, HoldsFrom, Pending}
+use Rattle.table.specs.Sound.{indexShapeOf, Sound}
+use Rattle.table_check.specs.inner.Checks.{RowsSound, KeyStoreSound, Own, OwnIs, PendingIn, kindWords, keyPlace, keyWords, Begins, HoldsFrom, Pending}
 use Rattle.table.specs.Laws.Refusals.{Tested, sound-tested, inside-fits}
 use Rattle.table.specs.Laws.Pending.{length-recordWords}
 
@@ -40,7 +40,7 @@ module _ (h : Header) (rows keys sorts pending : List ℕ) (tested : soundRefusa
   facts : Tested h (length rows) (length keys) (length sorts) (length pending)
   facts = sound-tested h (length rows) (length keys) (length sorts) (length pending) tested
 
-  pub sound-fits : Fits (keyedOf h) rows keys
+  pub sound-fits : Fits (indexShapeOf h) rows keys
   sound-fits = let t = facts in inside-fits h rows keys (t .inside) (t .long .rows-long) (t .long .keys-long)
 
   pub sound-cells : Cells rows (h .columns) (h .sort) (h .rows)
@@ -54,7 +54,7 @@ module _ (h : Header) (rows keys sorts pending : List ℕ) (tested : soundRefusa
         words = omega (arith, t .long .rows-long, mul-le-mul-right (h .columns) (i .rows-fit));
       }
 
-  pub sound-held : Held sorts (h .entries)
+  pub sound-held : EntriesFit sorts (h .entries)
   sound-held =
       let t = facts in
       let i = t .inside in
@@ -72,7 +72,7 @@ module _ (h : Header) (rows keys sorts pending : List ℕ) (tested : soundRefusa
 
 module _ (h : Header) (rows keys sorts pending : List ℕ) (staged : List Staged) where
   pub parts-sound : soundRefusal h (length rows) (length keys) (length sorts) (length pending) ≡ 0 → RowsSound h rows sorts
-      → IndexSound (keyedOf h) rows keys → Pending h pending staged → Sound h rows keys sorts pending staged
+      → KeyStoreSound (indexShapeOf h) rows keys → Pending h pending staged → Sound h rows keys sorts pending staged
   parts-sound tested a b c =
       record {
         tested = tested;
@@ -86,27 +86,27 @@ module _ (h : Header) (rows keys sorts pending : List ℕ) (staged : List Staged
               pending-counted = c .pending-counted;
               pending-whole = c .pending-whole;
             };
-        keyed = b .keyed;
+        keys-sound = b .keys-sound;
       }
 
   pub sound-rows : Sound h rows keys sorts pending staged → RowsSound h rows sorts
   sound-rows s = let c = s .contents in record { dead-counted = c .dead-counted; entries-rise = c .entries-rise; sorted = c .sorted; largest-kept = c .largest-kept }
 
-  pub sound-index : Sound h rows keys sorts pending staged → IndexSound (keyedOf h) rows keys
-  sound-index s = record { keyed = s .keyed; keys-differ = s .contents .keys-differ }
+  pub sound-index : Sound h rows keys sorts pending staged → KeyStoreSound (indexShapeOf h) rows keys
+  sound-index s = record { keys-sound = s .keys-sound; keys-differ = s .contents .keys-differ }
 
   pub sound-whole : Sound h rows keys sorts pending staged → Pending h pending staged
   sound-whole s = record { pending-counted = s .contents .pending-counted; pending-whole = s .contents .pending-whole }
 
 -- ---- keys
 
-module _ (t : Keyed) (rows keys : List ℕ) where
+module _ (t : IndexShape) (rows keys : List ℕ) where
   -- rows that are found by their keys have different keys
   pub own-differ : ((i : ℕ) → i < t .rows → LiveAt t rows i → Own t rows keys i) → KeysDiffer t rows
   own-differ own i j a b e =
       let f = own i (a .0) a in
       let g = own j (b .0) b in
-      first-one t rows keys (keyAt t rows j) (compact (keyHash (keyAt t rows j))) i j (f .0) (g .0) (rw e at (f .1)) (g .1)
+      first-one t rows keys (keyAt t rows j) (compactHash (keyHash (keyAt t rows j))) i j (f .0) (g .0) (rw e at (f .1)) (g .1)
 
   module _ (row : ℕ) where
     -- a dead row
@@ -115,16 +115,16 @@ module _ (t : Keyed) (rows keys : List ℕ) where
 
     module _ (live : LiveAt t rows row) (sound : KeysSound t rows keys) where
       -- a live row that is not found; a sound store excludes this case
-      pub own-none : FoundIs t rows keys (keyAt t rows row) (compact (keyHash (keyAt t rows row))) None → OwnIs t rows keys row false
+      pub own-none : FoundIs t rows keys (keyAt t rows row) (compactHash (keyHash (keyAt t rows row))) None → OwnIs t rows keys row false
       own-none f = record { yes = λ q. absurd (false≢true q); no = λ _ _. f .none refl sound refl row live refl }
 
       -- a row is found: itself, or another with the same key
-      pub own-at : (i slot : ℕ) → FoundIs t rows keys (keyAt t rows row) (compact (keyHash (keyAt t rows row))) (At i slot) → OwnIs t rows keys row (eqb i row)
+      pub own-at : (i slot : ℕ) → FoundIs t rows keys (keyAt t rows row) (compactHash (keyHash (keyAt t rows row))) (At i slot) → OwnIs t rows keys row (eqb i row)
       own-at i slot f =
           record {
             yes = λ q _.
                 let g = f .first i slot refl in
-                (g .0, subst (λ (k : ℕ). FirstHit t rows keys (keyAt t rows row) (compact (keyHash (keyAt t rows row))) k (g .0)) (eqb-true i row q) (g .1));
+                (g .0, subst (λ (k : ℕ). FirstHit t rows keys (keyAt t rows row) (compactHash (keyHash (keyAt t rows row))) k (g .0)) (eqb-true i row q) (g .1));
             no = λ q differ. let g = f .at refl sound i slot refl in eqb-false i row q (differ i row (g .live) live (g .key-is));
           }
 
@@ -147,7 +147,7 @@ module _ (o : Opening) (words : List ℕ) where
   begins-words (removeRow row key) b = rw (begins-word (removeRow row key) b 0 (omega arith))
 
   -- the second is the hash of the key
-  pub begins-hash : o .keys ≤ o .columns → (r : Staged) → Begins o words r → getD words 1 0 ≡ compact (keyHash (keyWords o words))
+  pub begins-hash : o .keys ≤ o .columns → (r : Staged) → Begins o words r → getD words 1 0 ≡ compactHash (keyHash (keyWords o words))
   unfolding wordsOf recordWords keyWords keyPlace
   begins-hash k (insert cells) b =
       let e : take (o .columns) (drop 2 words) ≡ cells = begins-part (insert cells) b 2 (o .columns) (omega arith) in
@@ -175,11 +175,11 @@ three-words n (a ∷ b ∷ c ∷ words) h = let z : n + 3 ≡ suc (suc (suc n)) 
 right-length : (n k : ℕ) (words : List ℕ) → n + k ≤ length words → not (eqb (length (take n (drop k words))) n) ≡ false
 right-length n k words h = let e : length (take n (drop k words)) ≡ n = simp (length-take, length-drop) (omega arith) in rw (eq-eqb _ _ e)
 
-module _ (o : Opening) (words : List ℕ) (hash : getD words 1 0 ≡ compact (keyHash (keyWords o words))) where
+module _ (o : Opening) (words : List ℕ) (hash : getD words 1 0 ≡ compactHash (keyHash (keyWords o words))) where
   insert-begins : o .keys ≤ o .columns → getD words 0 0 ≡ 0 → o .columns + 2 ≤ length words → Begins o words (insert (take (o .columns) (drop 2 words)))
   unfolding wordsOf recordWords wrongWidth keyWords keyPlace
   insert-begins narrow e h =
-      let f : getD words 1 0 ≡ compact (keyHash (take (o .keys) (drop 2 words))) = rw e at hash in
+      let f : getD words 1 0 ≡ compactHash (keyHash (take (o .keys) (drop 2 words))) = rw e at hash in
       record {
         right-width = right-length (o .columns) 2 words h;
         there = two-words (o .columns) words h ∙ rw (e, f, take-take (o .keys) (o .columns) (drop 2 words) narrow);
@@ -188,13 +188,13 @@ module _ (o : Opening) (words : List ℕ) (hash : getD words 1 0 ≡ compact (ke
   removeKey-begins : getD words 0 0 ≡ 1 → o .keys + 2 ≤ length words → Begins o words (removeKey (take (o .keys) (drop 2 words)))
   unfolding wordsOf recordWords wrongWidth keyWords keyPlace
   removeKey-begins e h =
-      let f : getD words 1 0 ≡ compact (keyHash (take (o .keys) (drop 2 words))) = rw e at hash in
+      let f : getD words 1 0 ≡ compactHash (keyHash (take (o .keys) (drop 2 words))) = rw e at hash in
       record { right-width = right-length (o .keys) 2 words h; there = two-words (o .keys) words h ∙ rw (e, f) }
 
   removeRow-begins : getD words 0 0 ≡ 2 → o .keys + 3 ≤ length words → Begins o words (removeRow (getD words 2 0) (take (o .keys) (drop 3 words)))
   unfolding wordsOf recordWords wrongWidth keyWords keyPlace
   removeRow-begins e h =
-      let f : getD words 1 0 ≡ compact (keyHash (take (o .keys) (drop 3 words))) = rw e at hash in
+      let f : getD words 1 0 ≡ compactHash (keyHash (take (o .keys) (drop 3 words))) = rw e at hash in
       record { right-width = right-length (o .keys) 3 words h; there = three-words (o .keys) words h ∙ rw (e, f) }
 
   -- words are the start of a record if the first is a kind, the second is the hash of the key, and there are enough of them
@@ -217,10 +217,10 @@ module _ (o : Opening) (words : List ℕ) (hash : getD words 1 0 ≡ compact (ke
 module _ (o : Opening) (pending : List ℕ) (end at : ℕ) where
   -- one more record in front
   pub holds-cons : (r : Staged) (staged : List Staged) → Begins o (drop at pending) r → HoldsFrom o pending end (at + wordsOf o r) staged → HoldsFrom o pending end at (r ∷ staged)
-  unfolding wordsAll flat
+  unfolding wordsAll flatten
   holds-cons r staged b s =
       record {
-        whole = every-cons (λ q. not (wrongWidth o q)) r staged (rw (b .right-width)) (s .whole);
+        whole = all-cons (λ q. not (wrongWidth o q)) r staged (rw (b .right-width)) (s .whole);
         counted = omega (arith, s .counted);
         in-order =
             take-add (wordsOf o r) (wordsAll o staged) (drop at pending)
@@ -229,9 +229,9 @@ module _ (o : Opening) (pending : List ℕ) (end at : ℕ) where
 
   -- the first record
   pub holds-head : (r : Staged) (staged : List Staged) → HoldsFrom o pending end at (r ∷ staged) → Begins o (drop at pending) r
-  unfolding wordsAll flat
+  unfolding wordsAll flatten
   holds-head r staged s =
-      let w = not-true _ (every-head (λ q. not (wrongWidth o q)) r staged (s .whole)) in
+      let w = not-true _ (all-head (λ q. not (wrongWidth o q)) r staged (s .whole)) in
       let k : wordsOf o r ≤ wordsOf o r + wordsAll o staged = omega arith in
       record {
         right-width = w;
@@ -243,11 +243,11 @@ module _ (o : Opening) (pending : List ℕ) (end at : ℕ) where
 
   -- the other records
   pub holds-tail : (r : Staged) (staged : List Staged) → HoldsFrom o pending end at (r ∷ staged) → HoldsFrom o pending end (at + wordsOf o r) staged
-  unfolding wordsAll flat
+  unfolding wordsAll flatten
   holds-tail r staged s =
-      let w = not-true _ (every-head (λ q. not (wrongWidth o q)) r staged (s .whole)) in
+      let w = not-true _ (all-head (λ q. not (wrongWidth o q)) r staged (s .whole)) in
       record {
-        whole = every-tail (λ q. not (wrongWidth o q)) r staged (s .whole);
+        whole = all-tail (λ q. not (wrongWidth o q)) r staged (s .whole);
         counted = omega (arith, s .counted);
         in-order =
             ap (take (wordsAll o staged)) (sym (drop-drop (wordsOf o r) at pending))
@@ -258,7 +258,7 @@ module _ (o : Opening) (pending : List ℕ) (end at : ℕ) where
 
   -- no records fill no words
   pub holds-none : at ≡ end → HoldsFrom o pending end at []
-  unfolding every wordsAll flat
+  unfolding all wordsAll flatten
   holds-none e = record { whole = refl; counted = omega arith; in-order = refl }
 
   pub holds-some : HoldsFrom o pending end at [] → at ≡ end

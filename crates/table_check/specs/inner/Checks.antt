@@ -5,20 +5,20 @@ use mathlib.Core.Bool.{Bool, true, false, cond, not}
 use mathlib.Core.List.{List, map}
 use lib.Dec.{eqb}
 use lib.ListN.{length, take, drop, getD}
-use Rattle.lists.specs.Lists.{count, every, rowAt, rowsOf, flat}
-use Rattle.cells.specs.Cells.{compact, keyHash}
+use Rattle.lists.specs.Lists.{count, all, rowAt, rowsOf, flatten}
+use Rattle.cells.specs.Cells.{compactHash, keyHash}
 use Rattle.constraints.specs.Constraints.{isLive}
-use Rattle.key_index.specs.declared.Keyed.{Keyed}
+use Rattle.key_index.specs.declared.IndexShape.{IndexShape}
 use Rattle.key_index.specs.Slots.{LiveAt, keyAt, KeysSound}
 use Rattle.key_index.specs.inner.Index.{FirstHit, KeysDiffer}
-use Rattle.sort_entries.specs.Entries.{entriesOf, last, entriesSound, valueAt}
+use Rattle.sort_entries.specs.Entries.{entriesOf, lastPasses, entriesSound, valueAt}
 use Rattle.plain_table.specs.Staged.{Opening, Staged, wordsOf, wordsAll}
 use Rattle.plain_table.specs.Refusing.{wrongWidth}
 use Rattle.plain_table.specs.Proper.{atMost}
 use Rattle.table.specs.declared.Header.{Header}
-use Rattle.table.specs.Numbers.{openingOf, largestSays}
+use Rattle.table.specs.Numbers.{openingOf, largestView}
 use Rattle.table.specs.Stores.{recordWords, Holds}
-use Rattle.table.specs.Sound.{keyedOf, Sound}
+use Rattle.table.specs.Sound.{indexShapeOf, Sound}
 
 -- ---- rows and sort entries
 
@@ -27,29 +27,29 @@ deadRows h rows = count (λ row. not (isLive row)) (rowsOf (h .columns) (h .rows
 
 -- there is no entry, or the value of the last entry is at most the largest value
 abbrev pub lastKept : Header → List ℕ → Bool
-lastKept h sorts = last (λ v. atMost v (largestSays (h .largest))) (entriesOf (h .entries) sorts)
+lastKept h sorts = lastPasses (λ v. atMost v (largestView (h .largest))) (entriesOf (h .entries) sorts)
 
 -- the part of soundness that concerns the rows and the sort entries
 pub record RowsSound (h : Header) (rows sorts : List ℕ) : Type 0 where
   pub dead-counted : h .dead ≡ deadRows h rows
   pub entries-rise : entriesSound (entriesOf (h .entries) sorts) (h .rows) ≡ true
-  pub sorted : (i : ℕ) → LiveAt (keyedOf h) rows i
+  pub sorted : (i : ℕ) → LiveAt (indexShapeOf h) rows i
       → getD (rowAt (h .columns) i rows) (h .sort) 0 ≡ valueAt i (entriesOf (h .entries) sorts)
-  pub largest-kept : every (λ e. atMost (e .value) (largestSays (h .largest))) (entriesOf (h .entries) sorts) ≡ true
+  pub largest-kept : all (λ e. atMost (e .value) (largestView (h .largest))) (entriesOf (h .entries) sorts) ≡ true
 
 -- ---- keys
 
 -- the part of soundness that concerns the key store
-pub record IndexSound (t : Keyed) (rows keys : List ℕ) : Type 0 where
-  pub keyed : KeysSound t rows keys
+pub record KeyStoreSound (t : IndexShape) (rows keys : List ℕ) : Type 0 where
+  pub keys-sound : KeysSound t rows keys
   pub keys-differ : KeysDiffer t rows
 
 -- the first slot found for a row's key is the row's own
-abbrev pub Own : Keyed → List ℕ → List ℕ → ℕ → Type 0
-Own t rows keys row = (d : ℕ) × FirstHit t rows keys (keyAt t rows row) (compact (keyHash (keyAt t rows row))) row d
+abbrev pub Own : IndexShape → List ℕ → List ℕ → ℕ → Type 0
+Own t rows keys row = (d : ℕ) × FirstHit t rows keys (keyAt t rows row) (compactHash (keyHash (keyAt t rows row))) row d
 
 -- whether a row is dead or found by its key
-pub record OwnIs (t : Keyed) (rows keys : List ℕ) (row : ℕ) (r : Bool) : Type 0 where
+pub record OwnIs (t : IndexShape) (rows keys : List ℕ) (row : ℕ) (r : Bool) : Type 0 where
   pub yes : r ≡ true → LiveAt t rows row → Own t rows keys row
   pub no : r ≡ false → KeysDiffer t rows → ⊥
 
@@ -85,9 +85,9 @@ pub record RecordRead (o : Opening) (pending : List ℕ) (end at r : ℕ) : Type
 
 -- the records fill the words from `at` to `end`
 pub record HoldsFrom (o : Opening) (pending : List ℕ) (end at : ℕ) (staged : List Staged) : Type 0 where
-  pub whole : every (λ r. not (wrongWidth o r)) staged ≡ true
+  pub whole : all (λ r. not (wrongWidth o r)) staged ≡ true
   pub counted : at + wordsAll o staged ≡ end
-  pub in-order : take (wordsAll o staged) (drop at pending) ≡ flat (map (recordWords (o .keys)) staged)
+  pub in-order : take (wordsAll o staged) (drop at pending) ≡ flatten (map (recordWords (o .keys)) staged)
 
 -- the part of soundness that concerns the pending store
 pub record Pending (h : Header) (pending : List ℕ) (staged : List Staged) : Type 0 where

@@ -2,18 +2,18 @@
 use Prim.Native.Nat.{_-_}
 use native.Mathlib.Omega.{arith}
 use borrow.Author.Needs.{needs}
-use Rattle.table_compact.proofs.CompactionSteps.{Turn, turn-begin, words-in, cells-in, spaced, the-block, turn-on, close-end}
+use Rattle.table_compact.proofs.CompactionSteps.{Iteration, iteration-begin, words-in, cells-in, spaced, the-block, iteration-on, close-end}
 use Rattle.table_compact.proofs.close_up.Statement.{statement}
 use Rattle.table_compact.proofs.close_up.Tie as tie
 
 abbrev Inv-loop : tie.InvT-loop
-Inv-loop h rows₀ sorts₀ live₀ base₀ kept₀ next₀ rows sorts live base kept next = Turn h rows₀ sorts₀ live₀ base₀ rows sorts live base kept next
+Inv-loop h rows₀ sorts₀ live₀ base₀ kept₀ next₀ rows sorts live base kept next = Iteration h rows₀ sorts₀ live₀ base₀ rows sorts live base kept next
 
 abbrev μ-loop : tie.MeasureT-loop
 μ-loop h rows₀ sorts₀ live₀ base₀ kept₀ next₀ rows sorts live base kept next = h .rows - next
 
 loop-holds : tie.Need-loop-holds Inv-loop μ-loop
-loop-holds c = turn-begin _ _ _ _ _
+loop-holds c = iteration-begin _ _ _ _ _
 
 sub-block : tie.Need-sub-block Inv-loop μ-loop
 sub-block c = omega (arith, c .before .if1 .taken)
@@ -27,8 +27,8 @@ mul-from c = omega (arith, cells-in (c .before .before .before .before .before .
 cast-from : tie.Need-cast-from Inv-loop μ-loop
 cast-from c = omega (arith, cells-in (c .before .before .before .before .before .before .before .before .before .before .pre) (c .before .before .before .before .before .loop .inv) (c .before .before .before .if1 .taken) _ (c .before .block .ensures))
 
-marks-other-requires : tie.Need-marks-other-requires Inv-loop μ-loop
-marks-other-requires c κs = spaced (c .before .before .before .before .before .before .before .before .before .before .before .before .pre) (c .before .before .before .before .before .before .before .loop .inv) (c .before .before .before .before .before .if1 .taken) _ (c .before .before .before .block .ensures)
+different-bits-requires : tie.Need-different-bits-requires Inv-loop μ-loop
+different-bits-requires c κs = spaced (c .before .before .before .before .before .before .before .before .before .before .before .before .pre) (c .before .before .before .before .before .before .before .loop .inv) (c .before .before .before .before .before .if1 .taken) _ (c .before .before .before .block .ensures)
 
 slice-write-live : tie.Need-slice-write-live Inv-loop μ-loop
 slice-write-live c = words-in (c .before .before .before .before .before .before .before .before .before .before .before .before .before .pre) (c .before .before .before .before .before .before .before .before .loop .inv) (c .before .before .before .before .before .before .if1 .taken) _ (c .before .before .before .before .block .ensures) .0
@@ -37,13 +37,13 @@ slice-write-base : tie.Need-slice-write-base Inv-loop μ-loop
 slice-write-base c = words-in (c .before .before .before .before .before .before .before .before .before .before .before .before .before .pre) (c .before .before .before .before .before .before .before .before .loop .inv) (c .before .before .before .before .before .before .if1 .taken) _ (c .before .before .before .before .block .ensures) .1
 
 keep-block-requires : tie.Need-keep-block-requires Inv-loop μ-loop
-keep-block-requires c κs = the-block (c .before .before .before .before .before .before .before .before .before .before .before .before .before .before .before .pre) (c .before .before .before .before .before .before .before .before .before .before .loop .inv) (c .before .before .before .before .before .before .before .before .if1 .taken) _ (c .before .before .before .before .before .before .block .ensures) _ (c .before .before .marks-other .ensures)
+keep-block-requires c κs = the-block (c .before .before .before .before .before .before .before .before .before .before .before .before .before .before .before .pre) (c .before .before .before .before .before .before .before .before .before .before .loop .inv) (c .before .before .before .before .before .before .before .before .if1 .taken) _ (c .before .before .before .before .before .before .block .ensures) _ (c .before .before .different-bits .ensures)
 
 loop-less : tie.Need-loop-less Inv-loop μ-loop
 loop-less c = omega (arith, c .before .before .before .before .before .before .before .before .before .before .before .block .ensures, c .before .before .before .before .before .before .before .before .before .before .before .before .before .if1 .taken)
 
 loop-again : tie.Need-loop-again Inv-loop μ-loop
-loop-again c = turn-on (c .before .before .before .before .before .before .before .before .before .before .before .before .before .before .before .before .before .before .before .before .pre) (c .before .before .before .before .before .before .before .before .before .before .before .before .before .before .before .loop .inv) (c .before .before .before .before .before .before .before .before .before .before .before .before .before .if1 .taken) _ (c .before .before .before .before .before .before .before .before .before .before .before .block .ensures) _ (c .before .before .before .before .before .before .before .marks-other .ensures) (c .before .before .before .before .keep-block .ensures)
+loop-again c = iteration-on (c .before .before .before .before .before .before .before .before .before .before .before .before .before .before .before .before .before .before .before .before .pre) (c .before .before .before .before .before .before .before .before .before .before .before .before .before .before .before .loop .inv) (c .before .before .before .before .before .before .before .before .before .before .before .before .before .if1 .taken) _ (c .before .before .before .before .before .before .before .before .before .before .before .block .ensures) _ (c .before .before .before .before .before .before .before .different-bits .ensures) (c .before .before .before .before .keep-block .ensures)
 
 same-length : tie.Need-same-length Inv-loop μ-loop
 same-length c = c .before .before .loop .inv .closing .rows-same
@@ -65,5 +65,5 @@ close-up-spec =
     tie.close
     (tie.spec
     Inv-loop μ-loop loop-holds sub-block (λ c κs. search needs) add-next mul-from cast-from (λ c. search needs)
-    marks-other-requires (λ c. search needs) (λ c. search needs) slice-write-live (λ c. search needs) slice-write-base
+    different-bits-requires (λ c. search needs) (λ c. search needs) slice-write-live (λ c. search needs) slice-write-base
     keep-block-requires loop-less loop-again same-length same-length-2 same-length-3 same-length-4 returns)

@@ -12,15 +12,15 @@ close-up-requires c κs = closable (c .before .before .before .before .before .b
 add-n : tie.Need-add-n
 add-n c = omega (arith, c .before .before .before .before .before .before .before .before .before .before .before .before .before .before .before .before .before .before .before .pre .1)
 
-lead-requires : tie.Need-lead-requires
-lead-requires c κs = can-lead (c .before .before .before .before .before .before .before .before .before .before .before .before .before .before .before .before .before .before .before .before .before .before .before .pre .0) (c .before .before .before .before .before .before .before .before .before .before .before .before .before .close-up .ensures) (c .before .before .before .before .before .before .before .before .before .before .before .before .rows .given) refl (c .before .before .before .before .before .before .before .before .live .given) (c .before .before .before .before .before .before .base .given)
+update-keys-requires : tie.Need-update-keys-requires
+update-keys-requires c κs = can-lead (c .before .before .before .before .before .before .before .before .before .before .before .before .before .before .before .before .before .before .before .before .before .before .before .pre .0) (c .before .before .before .before .before .before .before .before .before .before .before .before .before .close-up .ensures) (c .before .before .before .before .before .before .before .before .before .before .before .before .rows .given) refl (c .before .before .before .before .before .before .before .before .live .given) (c .before .before .before .before .before .before .base .given)
 
 returns : tie.Need-returns
-returns c = compact-end (c .before .before .before .before .before .before .before .before .before .before .before .before .before .before .before .before .before .before .before .before .before .before .before .before .before .before .pre .0) (c .before .before .before .before .before .before .before .before .before .before .before .before .before .before .before .before .before .before .before .before .before .before .before .before .before .before .pre .1) (c .before .before .before .before .before .before .before .before .before .before .before .before .before .before .before .before .close-up .ensures) (c .before .before .lead .ensures) (c .before .keys .given)
+returns c = compact-end (c .before .before .before .before .before .before .before .before .before .before .before .before .before .before .before .before .before .before .before .before .before .before .before .before .before .before .pre .0) (c .before .before .before .before .before .before .before .before .before .before .before .before .before .before .before .before .before .before .before .before .before .before .before .before .before .before .pre .1) (c .before .before .before .before .before .before .before .before .before .before .before .before .before .before .before .before .close-up .ensures) (c .before .before .update-keys .ensures) (c .before .keys .given)
 
 pub compact-rows-spec : {M : Type 1} → statement M
 compact-rows-spec =
     tie.close
     (tie.spec
-    close-up-requires add-n lead-requires (λ c. search needs) (λ c. search needs) (λ c. search needs)
+    close-up-requires add-n update-keys-requires (λ c. search needs) (λ c. search needs) (λ c. search needs)
     (λ c. search needs) (λ c. search needs) returns)

@@ -12,22 +12,22 @@ use native.Mathlib.Omega.{arith}
 use lib.ListN.{length, getD, set, length-map}
 use lib.Seq.{getD-set-same, getD-set-other}
 use lib.Dec.{ltb}
-use Rattle.lists.specs.Lists.{putAt, keep, rowAt, rowsOf, flat}
-use Rattle.lists.specs.Laws.Keep.{split, keep-append, length-keep, count-le, every-keep}
-use Rattle.lists.specs.Laws.Parts.{length-putAt, putAt-then, part-after}
-use Rattle.lists.specs.Laws.Rows.{widths, length-rowsOf, length-rowAt, rowsOf-snoc, rowsOf-widths, widths-keep, length-flat, flat-append, getD-rowsOf, rowsOf-put-flat}
+use Rattle.lists.specs.Lists.{splice, filter, rowAt, rowsOf, flatten}
+use Rattle.lists.specs.Laws.Filter.{split, filter-append, length-filter, count-le, all-filter}
+use Rattle.lists.specs.Laws.Parts.{length-splice, splice-then, part-after}
+use Rattle.lists.specs.Laws.Rows.{widths, length-rowsOf, length-rowAt, rowsOf-snoc, rowsOf-widths, widths-filter, length-flatten, flatten-append, getD-rowsOf, rowsOf-put-flatten}
 use Rattle.constraints.specs.Constraints.{isLive}
-use Rattle.sort_entries.specs.Entries.{Entry, entry, entriesOf, entryWords, last, push, rebuilt}
+use Rattle.sort_entries.specs.Entries.{Entry, entry, entriesOf, entryWords, lastPasses, push, rebuilt}
 use Rattle.sort_entries.specs.inner.Append.{Append}
 use Rattle.sort_entries.specs.Laws.Push.{push-new, push-same, rebuilt-snoc}
 use Rattle.sort_entries.specs.Laws.Rebuilt.{rebuilt-few}
 use Rattle.sort_entries.specs.Laws.Stores.{length-words, words-snoc, entriesOf-put}
 use Rattle.row_buffer.specs.Ranks.{liveWord, newNumber}
-use Rattle.row_buffer.specs.Laws.Rows.{number-rank, keep-at}
+use Rattle.row_buffer.specs.Laws.Rows.{number-rank, filter-at}
 use Rattle.key_index.specs.Slots.{LiveAt, KeysSound}
 use Rattle.key_index.specs.inner.Index.{Fits}
 use Rattle.key_index.specs.Laws.Lines.{small}
-use Rattle.key_index.specs.Laws.Rooms.{past-room}
+use Rattle.key_index.specs.Laws.SizeClasses.{past-sizeClass}
 use Rattle.key_renumber.specs.inner.Renumbering.{liveBelow, Renumbered, newRow}
 use Rattle.key_renumber.specs.Laws.Renumbering.{below-number, live-among, live-rises, Compacted, renumber-sound, slots-renumbered}
 use Rattle.plain_table.specs.Plain.{Row, Plain, compacted}
@@ -36,12 +36,12 @@ use Rattle.plain_table.specs.Laws.Rows.{noRow}
 use Rattle.plain_table.specs.Laws.Proper.{compacted-proper}
 use Rattle.plain_table.specs.Laws.Live.{dead-compacted}
 use Rattle.table.specs.declared.Header.{Header}
-use Rattle.table_compact.specs.declared.Kept.{Kept}
-use Rattle.table.specs.Sound.{keyedOf}
+use Rattle.table_compact.specs.declared.KeptCounts.{KeptCounts}
+use Rattle.table.specs.Sound.{indexShapeOf}
 use Rattle.table.specs.Stores.{entries, headerOf, stored, rowStore, sortStore, Shows, RowShown}
-use Rattle.table.specs.Promises.{stores, lengths, Represents, SlotsPast}
-use Rattle.table.specs.Laws.Refusals.{whole-fits}
-use Rattle.table_compact.specs.inner.Compaction.{Lendable, Leading, ClosedUp, Compaction}
+use Rattle.table.specs.Contracts.{stores, lengths, Represents, SlotsPast}
+use Rattle.table.specs.Laws.Refusals.{full-shape-fits}
+use Rattle.table_compact.specs.inner.Compaction.{Lendable, KeysUpdated, ClosedUp, Compaction}
 use Rattle.table_compact.specs.inner.ClosingUp.{liveStored, entriesFor, closedRows, Closed, closedHeader}
 use Rattle.table.specs.Laws.Stored.{stored-live}
 use Rattle.plain_table.specs.Proper.{Proper}
@@ -53,19 +53,19 @@ module _ (w n : ℕ) (rows : List ℕ) where
   -- there are at most as many live rows as rows
   pub length-live : length (liveStored w n rows) ≤ n
   unfolding liveStored
-  length-live = omega (arith, length-keep isLive (rowsOf w n rows), count-le isLive (rowsOf w n rows), length-rowsOf w n rows)
+  length-live = omega (arith, length-filter isLive (rowsOf w n rows), count-le isLive (rowsOf w n rows), length-rowsOf w n rows)
 
-  live-more : liveStored w (n + 1) rows ≡ liveStored w n rows ++ keep isLive (rowAt w n rows ∷ [])
+  live-more : liveStored w (n + 1) rows ≡ liveStored w n rows ++ filter isLive (rowAt w n rows ∷ [])
   unfolding liveStored
-  live-more = ap (keep isLive) (rowsOf-snoc w n rows) ∙ keep-append isLive (rowsOf w n rows) (rowAt w n rows ∷ [])
+  live-more = ap (filter isLive) (rowsOf-snoc w n rows) ∙ filter-append isLive (rowsOf w n rows) (rowAt w n rows ∷ [])
 
   -- one more row: live, or dead
   pub live-one : isLive (rowAt w n rows) ≡ true → liveStored w (n + 1) rows ≡ liveStored w n rows ++ (rowAt w n rows ∷ [])
-  unfolding keep
+  unfolding filter
   live-one e = live-more ∙ rw e
 
   live-none : isLive (rowAt w n rows) ≡ false → liveStored w (n + 1) rows ≡ liveStored w n rows
-  unfolding keep
+  unfolding filter
   live-none e = live-more ∙ rw e (append-nil (liveStored w n rows))
 
 -- several more rows, all dead
@@ -80,38 +80,38 @@ module _ (w n : ℕ) (rows : List ℕ) (fits : n * w ≤ length rows) where
   -- each has the width of a row
   pub widths-live : widths w (liveStored w n rows) ≡ true
   unfolding liveStored
-  widths-live = widths-keep w isLive (rowsOf w n rows) (rowsOf-widths w n rows fits)
+  widths-live = widths-filter w isLive (rowsOf w n rows) (rowsOf-widths w n rows fits)
 
-  flat-live : length (flat (liveStored w n rows)) ≡ length (liveStored w n rows) * w
-  flat-live = length-flat w (liveStored w n rows) widths-live
+  flat-live : length (flatten (liveStored w n rows)) ≡ length (liveStored w n rows) * w
+  flat-live = length-flatten w (liveStored w n rows) widths-live
 
   -- their cells end at or below the end of the rows
-  pub flat-below : length (flat (liveStored w n rows)) ≤ n * w
+  pub flat-below : length (flatten (liveStored w n rows)) ≤ n * w
   flat-below = omega (arith, flat-live, mul-le-mul-right w (length-live w n rows))
 
 -- a later row is unchanged after the live rows before row n have moved down
-pub later-row : (w n i : ℕ) (rows : List ℕ) → n ≤ i → i * w + w ≤ length rows → rowAt w i (putAt rows 0 (flat (liveStored w n rows))) ≡ rowAt w i rows
+pub later-row : (w n i : ℕ) (rows : List ℕ) → n ≤ i → i * w + w ≤ length rows → rowAt w i (splice rows 0 (flatten (liveStored w n rows))) ≡ rowAt w i rows
 unfolding rowAt
 later-row w n i rows h fits =
     let m : n * w ≤ i * w = mul-le-mul-right w h in
     let b = flat-below w n rows (omega arith) in
-    part-after rows (flat (liveStored w n rows)) 0 (omega arith) (i * w) w (omega arith)
+    part-after rows (flatten (liveStored w n rows)) 0 (omega arith) (i * w) w (omega arith)
 
 module _ (w n : ℕ) (rows : List ℕ) (fits : n * w + w ≤ length rows) where
-  below : length (flat (liveStored w n rows)) ≤ n * w
+  below : length (flatten (liveStored w n rows)) ≤ n * w
   below = flat-below w n rows (omega arith)
 
   -- a live row is moved to their end
   pub close-one : isLive (rowAt w n rows) ≡ true
-      → putAt (putAt rows 0 (flat (liveStored w n rows))) (length (liveStored w n rows) * w) (rowAt w n rows) ≡ putAt rows 0 (flat (liveStored w (n + 1) rows))
-  unfolding flat
+      → splice (splice rows 0 (flatten (liveStored w n rows))) (length (liveStored w n rows) * w) (rowAt w n rows) ≡ splice rows 0 (flatten (liveStored w (n + 1) rows))
+  unfolding flatten
   close-one e =
       let lv = liveStored w n rows in
       let row = rowAt w n rows in
       let wide : length row ≡ w = length-rowAt w n rows (rw (add-one, suc-mul) fits) in
-      let end : length lv * w ≡ 0 + length (flat lv) = omega (arith, flat-live w n rows (omega arith)) in
-      rw (end, live-one w n rows e, flat-append lv (row ∷ []), append-nil row)
-      (putAt-then rows (flat lv) row 0 (omega (arith, below)))
+      let end : length lv * w ≡ 0 + length (flatten lv) = omega (arith, flat-live w n rows (omega arith)) in
+      rw (end, live-one w n rows e, flatten-append lv (row ∷ []), append-nil row)
+      (splice-then rows (flatten lv) row 0 (omega (arith, below)))
 
 -- ---- their sort entries
 
@@ -130,29 +130,29 @@ entries-at-most sort rows = omega (arith, rebuilt-few (map (λ (r : List ℕ). g
 
 -- a store of rebuilt entries with one more row
 module _ (sorts : List ℕ) (es : List Entry) (fits : 2 * length es + 2 ≤ length sorts) (value row : ℕ) where
-  rebuilt-words : (b : Bool) → last (λ v. ltb v value) es ≡ b
-      → cond b (putAt (putAt sorts 0 (entryWords es)) (2 * length es) (value ∷ row ∷ [])) (putAt sorts 0 (entryWords es)) ≡ putAt sorts 0 (entryWords (push value row es))
+  rebuilt-words : (b : Bool) → lastPasses (λ v. ltb v value) es ≡ b
+      → cond b (splice (splice sorts 0 (entryWords es)) (2 * length es) (value ∷ row ∷ [])) (splice sorts 0 (entryWords es)) ≡ splice sorts 0 (entryWords (push value row es))
   rebuilt-words true e =
       let end : 2 * length es ≡ 0 + length (entryWords es) = omega (arith, length-words es) in
       rw (end, push-new value row es e, words-snoc es (entry value row))
-      (putAt-then sorts (entryWords es) (value ∷ row ∷ []) 0 (omega (arith, length-words es)))
+      (splice-then sorts (entryWords es) (value ∷ row ∷ []) 0 (omega (arith, length-words es)))
   rebuilt-words false e = rw (push-same value row es e)
 
-  pub rebuild-one : (n r : ℕ) (after : List ℕ) → n ≡ length es → Append (putAt sorts 0 (entryWords es)) n value row r after
-      → (r ≡ length (push value row es)) × (after ≡ putAt sorts 0 (entryWords (push value row es)))
+  pub rebuild-one : (n r : ℕ) (after : List ℕ) → n ≡ length es → Append (splice sorts 0 (entryWords es)) n value row r after
+      → (r ≡ length (push value row es)) × (after ≡ splice sorts 0 (entryWords (push value row es)))
   rebuild-one n r after e b =
-      let held : entriesOf n (putAt sorts 0 (entryWords es)) ≡ es = entriesOf-put es sorts n e in
-      (b .count ∙ ap (λ (l : List Entry). length (push value row l)) held, rw (held, e) at (b .cells) ∙ rebuilt-words (last (λ v. ltb v value) es) refl)
+      let held : entriesOf n (splice sorts 0 (entryWords es)) ≡ es = entriesOf-put es sorts n e in
+      (b .count ∙ ap (λ (l : List Entry). length (push value row l)) held, rw (held, e) at (b .cells) ∙ rebuilt-words (lastPasses (λ v. ltb v value) es) refl)
 
 -- ---- the words that number the rows
 
 -- the words whose first row is below m are the bitmap of the live rows among n rows
 pub record Words (rows : List (List ℕ)) (n m : ℕ) (live base : List ℕ) : Type 0 where
-  pub marks : (k : ℕ) → k * 64 < m → getD live k 0 ≡ liveWord isLive rows (k * 64) (min 64 (n - k * 64))
+  pub bitmapWord : (k : ℕ) → k * 64 < m → getD live k 0 ≡ liveWord isLive rows (k * 64) (min 64 (n - k * 64))
   pub firsts : (k : ℕ) → k * 64 < m → getD base k 0 ≡ newNumber isLive rows (k * 64)
 
 pub words-begin : (rows : List (List ℕ)) (n : ℕ) (live base : List ℕ) → Words rows n 0 live base
-words-begin rows n live base = record { marks = λ k h. absurd (omega arith); firsts = λ k h. absurd (omega arith) }
+words-begin rows n live base = record { bitmapWord = λ k h. absurd (omega arith); firsts = λ k h. absurd (omega arith) }
 
 -- the next word
 pub words-next : (rows : List (List ℕ)) (n m : ℕ) (live base : List ℕ) (word kept : ℕ) → Words rows n m live base → m % 64 ≡ 0 → m / 64 < length live → m / 64 < length base
@@ -160,9 +160,9 @@ pub words-next : (rows : List (List ℕ)) (n m : ℕ) (live base : List ℕ) (wo
     → Words rows n (m + min 64 (n - m)) (set live (m / 64) word) (set base (m / 64) kept)
 words-next rows n m live base word kept s start live-in base-in e f =
     record {
-      marks = λ k h. elim (ℕ-discrete (m / 64) k) [
+      bitmapWord = λ k h. elim (ℕ-discrete (m / 64) k) [
         | yes q ↦ let z : k * 64 ≡ m = omega arith in rw (z, ← e, ← q) (getD-set-same live (m / 64) word 0 live-in)
-        | no q ↦ getD-set-other live (m / 64) k word 0 (omega arith) ∙ s .marks k (omega arith)
+        | no q ↦ getD-set-other live (m / 64) k word 0 (omega arith) ∙ s .bitmapWord k (omega arith)
       ];
       firsts = λ k h. elim (ℕ-discrete (m / 64) k) [
         | yes q ↦ let z : k * 64 ≡ m = omega arith in rw (z, ← f, ← q) (getD-set-same base (m / 64) kept 0 base-in)
@@ -176,15 +176,15 @@ unfolding newRow
 words-number rows n live base s i h =
     let b : i % 64 ≤ min 64 (n - i / 64 * 64) = omega arith in
     let e : i / 64 * 64 + i % 64 ≡ i = omega arith in
-    rw (s .firsts (i / 64) (omega arith), s .marks (i / 64) (omega arith))
+    rw (s .firsts (i / 64) (omega arith), s .bitmapWord (i / 64) (omega arith))
     (number-rank isLive rows (i / 64 * 64) (min 64 (n - i / 64 * 64)) (i % 64) b ∙ ap (newNumber isLive rows) e)
 
 -- ---- the stores of a compacted plain table
 
 -- the live rows of a plain table, as they are stored
 pub live-cells-of : (ps : List Row) (rows : List (List ℕ)) → length rows ≡ length ps → ((i : ℕ) → i < length ps → RowShown (getD ps i noRow) (getD rows i []))
-    → keep isLive rows ≡ map (λ row. row .cells) (keep (λ row. row .live) ps)
-unfolding keep
+    → filter isLive rows ≡ map (λ row. row .cells) (filter (λ row. row .live) ps)
+unfolding filter
 live-cells-of [] [] n f = refl
 live-cells-of [] (row ∷ rows) n f = absurd (omega arith)
 live-cells-of (p ∷ ps) [] n f = absurd (omega arith)
@@ -196,35 +196,35 @@ live-cells-of (p ∷ ps) (row ∷ rows) n f =
       | inr e ↦ rw (← s .live, e, ih)
     ]
 
-module _ (h : Header) (rows sorts live base : List ℕ) (kept : Kept) (rows′ sorts′ live′ base′ : List ℕ) (c : Closed h rows sorts live base kept rows′ sorts′ live′ base′)
+module _ (h : Header) (rows sorts live base : List ℕ) (kept : KeptCounts) (rows′ sorts′ live′ base′ : List ℕ) (c : Closed h rows sorts live base kept rows′ sorts′ live′ base′)
     (fits : h .rows * h .columns ≤ length rows) where
-  closed-fits : 0 + length (flat (closedRows h rows)) ≤ length rows
+  closed-fits : 0 + length (flatten (closedRows h rows)) ≤ length rows
   closed-fits = omega (arith, flat-below (h .columns) (h .rows) rows fits)
 
   -- the rows after the compaction are the live ones
   closed-read : rowsOf (h .columns) (kept .rows) rows′ ≡ closedRows h rows
   closed-read =
       rw (c .rows-counted, c .rows-after)
-      (rowsOf-put-flat (h .columns) (closedRows h rows) rows (widths-live (h .columns) (h .rows) rows fits))
+      (rowsOf-put-flatten (h .columns) (closedRows h rows) rows (widths-live (h .columns) (h .rows) rows fits))
 
-  closed-count : kept .rows ≡ liveBelow (keyedOf h) rows (h .rows)
+  closed-count : kept .rows ≡ liveBelow (indexShapeOf h) rows (h .rows)
   unfolding liveStored
-  closed-count = c .rows-counted ∙ length-keep isLive (rowsOf (h .columns) (h .rows) rows)
+  closed-count = c .rows-counted ∙ length-filter isLive (rowsOf (h .columns) (h .rows) rows)
 
   -- each row is at its new number
-  closed-moved : (i : ℕ) → LiveAt (keyedOf h) rows i → rowAt (h .columns) (liveBelow (keyedOf h) rows i) rows′ ≡ rowAt (h .columns) i rows
+  closed-moved : (i : ℕ) → LiveAt (indexShapeOf h) rows i → rowAt (h .columns) (liveBelow (indexShapeOf h) rows i) rows′ ≡ rowAt (h .columns) i rows
   unfolding liveStored
   closed-moved i l =
-      let t = keyedOf h in
+      let t = indexShapeOf h in
       let new = liveBelow t rows i in
       let k : new < kept .rows = omega (arith, closed-count, live-rises t rows i (h .rows) (l .1) (l .0)) in
       sym (getD-rowsOf (h .columns) (kept .rows) rows′ new k)
       ∙ ap₂ (λ (rs : List (List ℕ)) (n : ℕ). getD rs n []) closed-read (below-number t rows (h .rows) i (omega (arith, l .0)))
-      ∙ keep-at isLive (rowsOf (h .columns) (h .rows) rows) i [] (live-among t rows (h .rows) i (l .0) ∙ l .1)
+      ∙ filter-at isLive (rowsOf (h .columns) (h .rows) rows) i [] (live-among t rows (h .rows) i (l .0) ∙ l .1)
       ∙ getD-rowsOf (h .columns) (h .rows) rows i (l .0)
 
   -- so the key store refers to the rows by their new numbers
-  closed-numbers : keyedOf (closedHeader h kept) .room ≡ keyedOf h .room → Compacted (keyedOf h) rows (keyedOf (closedHeader h kept)) rows′
+  closed-numbers : indexShapeOf (closedHeader h kept) .room ≡ indexShapeOf h .room → Compacted (indexShapeOf h) rows (indexShapeOf (closedHeader h kept)) rows′
   closed-numbers room-same =
       record {
         columns = refl;
@@ -234,41 +234,41 @@ module _ (h : Header) (rows sorts live base : List ℕ) (kept : Kept) (rows′ s
         moved = closed-moved;
       }
 
-module _ (h : Header) (rows keys sorts live base : List ℕ) (lent : Lendable h rows keys sorts live base) (kept : Kept) (rows′ sorts′ live′ base′ : List ℕ)
+module _ (h : Header) (rows keys sorts live base : List ℕ) (lent : Lendable h rows keys sorts live base) (kept : KeptCounts) (rows′ sorts′ live′ base′ : List ℕ)
     (c : Closed h rows sorts live base kept rows′ sorts′ live′ base′) (keys′ : List ℕ) (same-keys : length keys′ ≡ length keys)
-    (led : Leading h (closedHeader h kept) rows′ keys live′ base′ keys′) where
+    (led : KeysUpdated h (closedHeader h kept) rows′ keys live′ base′ keys′) where
   rows-fit : h .rows * h .columns ≤ length rows
   rows-fit = omega (arith, lent .fits .cells, mul-le-mul-right (h .columns) (lent .fits .count))
 
   same-rows : length rows′ ≡ length rows
-  same-rows = rw (c .rows-after) (length-putAt rows (flat (closedRows h rows)) 0 (closed-fits h rows sorts live base kept rows′ sorts′ live′ base′ c rows-fit))
+  same-rows = rw (c .rows-after) (length-splice rows (flatten (closedRows h rows)) 0 (closed-fits h rows sorts live base kept rows′ sorts′ live′ base′ c rows-fit))
 
   same-sorts : length sorts′ ≡ length sorts
   same-sorts =
       let es = entriesFor (h .sort) (closedRows h rows) in
       rw (c .sorts-after)
-      (length-putAt sorts (entryWords es) 0
+      (length-splice sorts (entryWords es) 0
       (omega (arith, length-words es, entries-at-most (h .sort) (closedRows h rows), length-live (h .columns) (h .rows) rows, lent .fits .count, lent .sorts-long)))
 
-  fits : Fits (keyedOf h) rows keys
-  fits = whole-fits h rows keys (lent .fits)
+  fits : Fits (indexShapeOf h) rows keys
+  fits = full-shape-fits h rows keys (lent .fits)
 
   -- with the same number of slots, the slots have the new numbers
-  renumbered-keys : keyedOf (closedHeader h kept) .room ≡ keyedOf h .room → Renumbered (keyedOf h) rows keys keys′
-  renumbered-keys e = rw (led .numbers e) (slots-renumbered (keyedOf h) rows keys live′ base′ (small (keyedOf h) rows keys fits) (fits .long) (c .numbered))
+  renumbered-keys : indexShapeOf (closedHeader h kept) .room ≡ indexShapeOf h .room → Renumbered (indexShapeOf h) rows keys keys′
+  renumbered-keys e = rw (led .numbers e) (slots-renumbered (indexShapeOf h) rows keys live′ base′ (small (indexShapeOf h) rows keys fits) (fits .long) (c .numbered))
 
   -- in both cases the key store refers to the remaining rows, and no slot past it is written
-  keyed-after : KeysSound (keyedOf h) rows keys → KeysSound (keyedOf (closedHeader h kept)) rows′ keys′
-  keyed-after sound = elim (ℕ-discrete (keyedOf (closedHeader h kept) .room) (keyedOf h .room)) [
-    | yes e ↦ renumber-sound (keyedOf h) rows (keyedOf (closedHeader h kept)) rows′ (closed-numbers h rows sorts live base kept rows′ sorts′ live′ base′ c rows-fit e)
-        keys keys′ (small (keyedOf h) rows keys fits) sound (renumbered-keys e)
-    | no ne ↦ led .anew ne .sound
+  keyed-after : KeysSound (indexShapeOf h) rows keys → KeysSound (indexShapeOf (closedHeader h kept)) rows′ keys′
+  keyed-after sound = elim (ℕ-discrete (indexShapeOf (closedHeader h kept) .room) (indexShapeOf h .room)) [
+    | yes e ↦ renumber-sound (indexShapeOf h) rows (indexShapeOf (closedHeader h kept)) rows′ (closed-numbers h rows sorts live base kept rows′ sorts′ live′ base′ c rows-fit e)
+        keys keys′ (small (indexShapeOf h) rows keys fits) sound (renumbered-keys e)
+    | no ne ↦ led .rebuilt-keys ne .sound
   ]
 
   past-after : SlotsPast (h .capacity) keys keys′
-  past-after = elim (ℕ-discrete (keyedOf (closedHeader h kept) .room) (keyedOf h .room)) [
-    | yes e ↦ past-room (h .capacity) (h .rows) keys keys′ (renumbered-keys e .rest)
-    | no ne ↦ past-room (h .capacity) (kept .rows) keys keys′ (led .anew ne .rest)
+  past-after = elim (ℕ-discrete (indexShapeOf (closedHeader h kept) .room) (indexShapeOf h .room)) [
+    | yes e ↦ past-sizeClass (h .capacity) (h .rows) keys keys′ (renumbered-keys e .rest)
+    | no ne ↦ past-sizeClass (h .capacity) (kept .rows) keys keys′ (led .rebuilt-keys ne .rest)
   ]
 
   module _ (pending : List ℕ) (p : Plain) (r : Represents p (stores h rows keys sorts pending)) (g : h .generation < 4294967295) where
@@ -281,7 +281,7 @@ module _ (h : Header) (rows keys sorts live base : List ℕ) (lent : Lendable h 
 
     kept-stored : (before : List (List ℕ)) → stored (compacted p .rows) before ≡ closedRows h rows
     unfolding compacted
-    kept-stored before = stored-live (keep (λ row. row .live) (p .rows)) before (every-keep (λ row. row .live) (p .rows)) ∙ sym kept-rows
+    kept-stored before = stored-live (filter (λ row. row .live) (p .rows)) before (all-filter (λ row. row .live) (p .rows)) ∙ sym kept-rows
 
     kept-entries : entriesFor (h .sort) (closedRows h rows) ≡ entries (compacted p)
     unfolding entries entriesFor
@@ -323,7 +323,7 @@ module _ (h : Header) (rows keys sorts live base : List ℕ) (lent : Lendable h 
           proper = proper-after;
           long-enough = unfold compacted in long-after;
           shown = shown-after;
-          keyed = keyed-after (r .keyed);
+          keys-sound = keyed-after (r .keys-sound);
         }
 
     closed-up : ClosedUp h rows keys sorts (closedHeader h kept) rows′ keys′ sorts′ pending p
@@ -331,8 +331,8 @@ module _ (h : Header) (rows keys sorts live base : List ℕ) (lent : Lendable h 
     closed-up =
         record {
           header = header-after;
-          rows-after = c .rows-after ∙ ap (λ (l : List (List ℕ)). putAt rows 0 (flat l)) (sym (kept-stored []));
-          sorts-after = c .sorts-after ∙ ap (λ (es : List Entry). putAt sorts 0 (entryWords es)) kept-entries;
+          rows-after = c .rows-after ∙ ap (λ (l : List (List ℕ)). splice rows 0 (flatten l)) (sym (kept-stored []));
+          sorts-after = c .sorts-after ∙ ap (λ (es : List Entry). splice sorts 0 (entryWords es)) kept-entries;
           represents = represents-after;
         }
 

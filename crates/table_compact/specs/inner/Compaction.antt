@@ -7,18 +7,18 @@ use lib.ListN.{length}
 use Rattle.lists.specs.inner.Searching.{mapFront}
 use Rattle.key_index.specs.Slots.{slots}
 use Rattle.key_index.specs.inner.Index.{Fits}
-use Rattle.key_rebuild.specs.inner.Growth.{Rebuilt}
+use Rattle.key_rebuild.specs.inner.Rebuilding.{Rebuilt}
 use Rattle.key_renumber.specs.inner.Renumbering.{renumbered}
 use Rattle.plain_table.specs.Plain.{Plain, compacted}
 use Rattle.table.specs.declared.Header.{Header}
 use Rattle.table.specs.Stores.{headerOf, rowStore, sortStore}
-use Rattle.table.specs.Sound.{keyedOf}
-use Rattle.table.specs.inner.Whole.{wholeOf}
-use Rattle.table.specs.Promises.{stores, Represents, SlotsPast, PastNeeded}
+use Rattle.table.specs.Sound.{indexShapeOf}
+use Rattle.table.specs.inner.FullIndexShape.{fullIndexShapeOf}
+use Rattle.table.specs.Contracts.{stores, Represents, SlotsPast, PastNeeded}
 
 -- numbers within their bounds, and stores and compaction words that are long enough
 pub record Lendable (h : Header) (rows keys sorts live base : List ℕ) : Type 0 where
-  pub fits : Fits (wholeOf h) rows keys
+  pub fits : Fits (fullIndexShapeOf h) rows keys
   pub sort-column : h .sort < h .columns
   pub sorts-long : 2 * h .capacity ≤ length sorts
   pub live-long : (h .capacity + 63) / 64 ≤ length live
@@ -26,9 +26,9 @@ pub record Lendable (h : Header) (rows keys sorts live base : List ℕ) : Type 0
 
 -- The key store under another header. With the same number of slots, its words have the new row numbers; otherwise it is rebuilt
 -- over the rows as they are now.
-pub record Leading (h h′ : Header) (rows′ keys live base keys′ : List ℕ) : Type 0 where
-  pub numbers : keyedOf h′ .room ≡ keyedOf h .room → keys′ ≡ mapFront (renumbered (keyedOf h) live base) (slots (keyedOf h)) keys
-  pub anew : (keyedOf h′ .room ≡ keyedOf h .room → ⊥) → Rebuilt (keyedOf h′) rows′ keys keys′
+pub record KeysUpdated (h h′ : Header) (rows′ keys live base keys′ : List ℕ) : Type 0 where
+  pub numbers : indexShapeOf h′ .room ≡ indexShapeOf h .room → keys′ ≡ mapFront (renumbered (indexShapeOf h) live base) (slots (indexShapeOf h)) keys
+  pub rebuilt-keys : (indexShapeOf h′ .room ≡ indexShapeOf h .room → ⊥) → Rebuilt (indexShapeOf h′) rows′ keys keys′
 
 pub record ClosedUp (h : Header) (rows keys sorts : List ℕ) (h′ : Header) (rows′ keys′ sorts′ pending : List ℕ) (p : Plain) : Type 0 where
   pub header : h′ ≡ headerOf (compacted p)

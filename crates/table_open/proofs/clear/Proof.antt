@@ -2,7 +2,7 @@
 use mathlib.Core.Path.{sym, _∙_}
 use native.Mathlib.Omega.{arith}
 use lib.ListN.{length}
-use Rattle.key_index.specs.Laws.Rooms.{room-most, room-some}
+use Rattle.key_index.specs.Laws.SizeClasses.{sizeClass-most, sizeClass-some}
 use Rattle.table.specs.Laws.Refusals.{clear-accepted}
 use Rattle.table.specs.Laws.Opening.{next-fits, clear-refused, clear-pending, clear-all}
 use borrow.Author.Needs.{needs}
@@ -23,7 +23,7 @@ empty-requires : tie.Need-empty-requires
 empty-requires c κs =
     let a = c .before .before .before .before .before .before .before .args in
     let k = clear-accepted (a .h) (length (a .keys .now)) (sym (c .before .before .before .before .before .clear-refusal .ensures) ∙ c .before .before .before .before .if1 .left) in
-    omega (arith, k, room-some (a .h .capacity) 0 (k .inside .bounds .capacity-some), room-most (a .h .capacity) 0, c .before .room-for .ensures)
+    omega (arith, k, sizeClass-some (a .h .capacity) 0 (k .inside .bounds .capacity-some), sizeClass-most (a .h .capacity) 0, c .before .size-class-for .ensures)
 
 add-n : tie.Need-add-n
 add-n c =
@@ -34,7 +34,7 @@ add-n c =
 returns-3 : tie.Need-returns-3
 returns-3 c =
     let a = c .before .before .before .before .before .before .before .before .before .before .before .args in
-    clear-all (a .h) (a .keys .now) _ (sym (c .before .before .before .before .before .before .before .before .before .clear-refusal .ensures) ∙ c .before .before .before .before .before .before .before .before .if1 .left) (omega (arith, c .before .before .before .before .before .before .if2 .left)) (rw (c .before .before .before .before .before .room-for .ensures) at (c .before .before .before .empty .ensures))
+    clear-all (a .h) (a .keys .now) _ (sym (c .before .before .before .before .before .before .before .before .before .clear-refusal .ensures) ∙ c .before .before .before .before .before .before .before .before .if1 .left) (omega (arith, c .before .before .before .before .before .before .if2 .left)) (rw (c .before .before .before .before .before .size-class-for .ensures) at (c .before .before .before .empty .ensures))
 
 pub clear-spec : {M : Type 1} → statement M
 clear-spec =

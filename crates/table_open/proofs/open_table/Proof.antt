@@ -2,9 +2,9 @@
 use mathlib.Core.Path.{sym, _∙_}
 use mathlib.Core.List.{[]}
 use native.Mathlib.Omega.{arith}
-use Rattle.key_index.specs.Laws.Rooms.{room-most, room-some}
+use Rattle.key_index.specs.Laws.SizeClasses.{sizeClass-most, sizeClass-some}
 use Rattle.plain_table.specs.Staged.{Opening}
-use Rattle.table.specs.Promises.{lengths}
+use Rattle.table.specs.Contracts.{lengths}
 use Rattle.table.specs.Laws.Refusals.{open-accepted}
 use Rattle.table.specs.Laws.Opening.{opened-refused, opened-done}
 use borrow.Author.Needs.{needs}
@@ -22,7 +22,7 @@ empty-requires c κs =
     let a = c .before .before .before .before .before .before .before .before .args in
     let o : Opening = record { columns = a .columns; keys = a .key-columns; sort = a .sort; rule = a .rule; capacity = a .capacity } in
     let k = open-accepted o (lengths (a .rows .now) (a .keys .now) (a .sorts .now) (a .pending .now) [] []) (sym (c .before .before .before .open-refusal .ensures) ∙ c .before .before .if1 .left) in
-    omega (arith, k, room-some (a .capacity) 0 (k .bounds .capacity-some), room-most (a .capacity) 0, c .before .room-for .ensures)
+    omega (arith, k, sizeClass-some (a .capacity) 0 (k .bounds .capacity-some), sizeClass-most (a .capacity) 0, c .before .size-class-for .ensures)
 
 returns-2 : tie.Need-returns-2
 returns-2 c =
@@ -30,7 +30,7 @@ returns-2 c =
     let a = e .before .before .before .before .before .before .args in
     let o : Opening = record { columns = a .columns; keys = a .key-columns; sort = a .sort; rule = a .rule; capacity = a .capacity } in
     opened-done o (a .generation) (a .rows .now) (a .keys .now) (a .sorts .now) (a .pending .now) _
-    (sym (e .before .open-refusal .ensures) ∙ e .if1 .left) (omega (arith, e .before .before .before .before .before .before .fits)) (rw (c .before .before .before .before .room-for .ensures) at (c .before .before .empty .ensures))
+    (sym (e .before .open-refusal .ensures) ∙ e .if1 .left) (omega (arith, e .before .before .before .before .before .before .fits)) (rw (c .before .before .before .before .size-class-for .ensures) at (c .before .before .empty .ensures))
 
 pub open-table-spec : {M : Type 1} → statement M
 open-table-spec =

@@ -1,5 +1,5 @@
 -- `table_read::fast_subset` meets its contract. Assumes nothing.
-use Rattle.table_read.proofs.ReadingSteps.{range-refused, range-asks, range-columns, range-other, range-some}
+use Rattle.table_read.proofs.ReadingSteps.{range-refused, range-pre, range-columns, range-other, range-some}
 use borrow.Author.Needs.{needs}
 use Rattle.table_read.proofs.fast_subset.Statement.{statement}
 use Rattle.table_read.proofs.fast_subset.Tie as tie
@@ -17,7 +17,7 @@ returns-3 : tie.Need-returns-3
 returns-3 c = range-other _ _ _ _ (c .before .before .before .before .before .before .fast-refusal .ensures) (c .before .before .before .before .before .if1 .left) (c .before .before .before .if2 .left) (c .if3 .taken)
 
 fast-range-requires : tie.Need-fast-range-requires
-fast-range-requires c κs = range-asks _ _ _ _ (c .before .before .before .before .before .before .fast-refusal .ensures) (c .before .before .before .before .before .if1 .left)
+fast-range-requires c κs = range-pre _ _ _ _ (c .before .before .before .before .before .before .fast-refusal .ensures) (c .before .before .before .before .before .if1 .left)
 
 returns-4 : tie.Need-returns-4
 returns-4 c = range-some _ _ _ _ (c .before .before .before .before .before .before .before .fast-refusal .ensures) (c .before .before .before .before .before .before .if1 .left) (c .before .before .before .before .if2 .left) (c .before .if3 .left) _ (c .fast-range .ensures)

@@ -1,5 +1,5 @@
 -- `table_read::get_row` meets its contract. Assumes nothing.
-use Rattle.table_read.proofs.ReadingSteps.{lookup-asks, row-refused, row-none, row-some}
+use Rattle.table_read.proofs.ReadingSteps.{lookup-pre, row-refused, row-none, row-some}
 use borrow.Author.Needs.{needs}
 use Rattle.table_read.proofs.get_row.Statement.{statement}
 use Rattle.table_read.proofs.get_row.Tie as tie
@@ -10,14 +10,14 @@ lookup-refusal-requires c κs = search needs
 returns : tie.Need-returns
 returns c = row-refused _ _ _ _ _ (c .before .lookup-refusal .ensures) (c .if1 .taken)
 
-keyed-requires : tie.Need-keyed-requires
-keyed-requires c κs = search needs
+index-shape-requires : tie.Need-index-shape-requires
+index-shape-requires c κs = search needs
 
 compact-hash-requires : tie.Need-compact-hash-requires
 compact-hash-requires c κs = search needs
 
 find-requires : tie.Need-find-requires
-find-requires c κs = lookup-asks _ _ _ (c .before .before .before .before .before .before .before .args .key .now) _ _ (c .before .keyed .ensures) (c .before .before .before .lookup-refusal .ensures) (c .before .before .if1 .left)
+find-requires c κs = lookup-pre _ _ _ (c .before .before .before .before .before .before .before .args .key .now) _ _ (c .before .index-shape .ensures) (c .before .before .before .lookup-refusal .ensures) (c .before .before .if1 .left)
 
 enum-told : tie.Need-enum-told
 enum-told c = search needs
@@ -26,10 +26,10 @@ enum-known-found : tie.Need-enum-known-found
 enum-known-found c = search needs
 
 returns-2 : tie.Need-returns-2
-returns-2 c = row-none _ _ _ _ _ _ _ (c .before .before .before .before .keyed .ensures) (c .before .before .before .compact-hash .ensures) (c .before .before .find .ensures) _ (c .before .before .before .before .before .before .lookup-refusal .ensures) (c .before .before .before .before .before .if1 .left) (c .enum-told .given .1)
+returns-2 c = row-none _ _ _ _ _ _ _ (c .before .before .before .before .index-shape .ensures) (c .before .before .before .compact-hash .ensures) (c .before .before .find .ensures) _ (c .before .before .before .before .before .before .lookup-refusal .ensures) (c .before .before .before .before .before .if1 .left) (c .enum-told .given .1)
 
 returns-3 : tie.Need-returns-3
-returns-3 c = row-some _ _ _ _ _ _ _ (c .before .before .before .before .before .keyed .ensures) (c .before .before .before .before .compact-hash .ensures) (c .before .before .before .find .ensures) _ _ _ (c .before .before .before .before .before .before .before .lookup-refusal .ensures) (c .before .before .before .before .before .before .if1 .left) (c .before .found .given .1)
+returns-3 c = row-some _ _ _ _ _ _ _ (c .before .before .before .before .before .index-shape .ensures) (c .before .before .before .before .compact-hash .ensures) (c .before .before .before .find .ensures) _ _ _ (c .before .before .before .before .before .before .before .lookup-refusal .ensures) (c .before .before .before .before .before .before .if1 .left) (c .before .found .given .1)
 
 pub get-row-spec : {M : Type 1} → statement M
 get-row-spec =
@@ -37,7 +37,7 @@ get-row-spec =
     (tie.spec
     lookup-refusal-requires
     returns
-    keyed-requires
+    index-shape-requires
     compact-hash-requires
     find-requires
     enum-told

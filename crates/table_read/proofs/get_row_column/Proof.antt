@@ -1,6 +1,6 @@
 -- `table_read::get_row_column` meets its contract. Assumes nothing.
 use native.Mathlib.Omega.{arith}
-use Rattle.table_read.proofs.ReadingSteps.{CellIn, cell-asks, cell-refused, cell-in, cell-none, cell-found}
+use Rattle.table_read.proofs.ReadingSteps.{CellIn, cell-pre, cell-refused, cell-in, cell-none, cell-found}
 use borrow.Author.Needs.{needs}
 use Rattle.table_read.proofs.get_row_column.Statement.{statement}
 use Rattle.table_read.proofs.get_row_column.Tie as tie
@@ -11,14 +11,14 @@ cell-refusal-requires c κs = search needs
 returns : tie.Need-returns
 returns c = cell-refused _ _ _ _ _ _ (c .before .cell-refusal .ensures) (c .if1 .taken)
 
-keyed-requires : tie.Need-keyed-requires
-keyed-requires c κs = search needs
+index-shape-requires : tie.Need-index-shape-requires
+index-shape-requires c κs = search needs
 
 compact-hash-requires : tie.Need-compact-hash-requires
 compact-hash-requires c κs = search needs
 
 look-up-requires : tie.Need-look-up-requires
-look-up-requires c κs = cell-asks _ _ _ (c .before .before .before .before .before .before .before .args .key .now) _ _ (c .before .before .before .before .before .before .before .args .column) (c .before .keyed .ensures) (c .before .before .before .cell-refusal .ensures) (c .before .before .if1 .left)
+look-up-requires c κs = cell-pre _ _ _ (c .before .before .before .before .before .before .before .args .key .now) _ _ (c .before .before .before .before .before .before .before .args .column) (c .before .index-shape .ensures) (c .before .before .before .cell-refusal .ensures) (c .before .before .if1 .left)
 
 enum-told : tie.Need-enum-told
 enum-told c = search needs
@@ -31,7 +31,7 @@ there : (c : tie.After-struct-known) → let a = c .before .before .before .befo
 there c =
     let f = c .before .before .before .before in
     let l = f .before .before in
-    cell-in _ _ _ _ _ _ _ (l .keyed .ensures) (f .before .compact-hash .ensures) (f .look-up .ensures) _ _ (l .before .before .cell-refusal .ensures) (l .before .if1 .left) _ _
+    cell-in _ _ _ _ _ _ _ (l .index-shape .ensures) (f .before .compact-hash .ensures) (f .look-up .ensures) _ _ (l .before .before .cell-refusal .ensures) (l .before .if1 .left) _ _
     (c .before .before .found .given .1)
 
 mul-at : tie.Need-mul-at
@@ -50,10 +50,10 @@ shared-slice-read-t18 : tie.Need-shared-slice-read-t18
 shared-slice-read-t18 c = omega (arith, there (c .before))
 
 returns-2 : tie.Need-returns-2
-returns-2 c = cell-none _ _ _ _ _ _ _ (c .before .before .before .before .keyed .ensures) (c .before .before .before .compact-hash .ensures) (c .before .before .look-up .ensures) _ _ (c .before .before .before .before .before .before .cell-refusal .ensures) (c .before .before .before .before .before .if1 .left) (c .enum-told .given .1)
+returns-2 c = cell-none _ _ _ _ _ _ _ (c .before .before .before .before .index-shape .ensures) (c .before .before .before .compact-hash .ensures) (c .before .before .look-up .ensures) _ _ (c .before .before .before .before .before .before .cell-refusal .ensures) (c .before .before .before .before .before .if1 .left) (c .enum-told .given .1)
 
 returns-3 : tie.Need-returns-3
-returns-3 c = cell-found _ _ _ _ _ _ _ (c .before .before .before .before .before .before .before .keyed .ensures) (c .before .before .before .before .before .before .compact-hash .ensures) (c .before .before .before .before .before .look-up .ensures) _ _ (c .before .before .before .before .before .before .before .before .before .cell-refusal .ensures) (c .before .before .before .before .before .before .before .before .if1 .left) _ _ (c .before .before .before .found .given .1)
+returns-3 c = cell-found _ _ _ _ _ _ _ (c .before .before .before .before .before .before .before .index-shape .ensures) (c .before .before .before .before .before .before .compact-hash .ensures) (c .before .before .before .before .before .look-up .ensures) _ _ (c .before .before .before .before .before .before .before .before .before .cell-refusal .ensures) (c .before .before .before .before .before .before .before .before .if1 .left) _ _ (c .before .before .before .found .given .1)
 
 pub get-row-column-spec : {M : Type 1} → statement M
 get-row-column-spec =
@@ -61,7 +61,7 @@ get-row-column-spec =
     (tie.spec
     cell-refusal-requires
     returns
-    keyed-requires
+    index-shape-requires
     compact-hash-requires
     look-up-requires
     enum-told

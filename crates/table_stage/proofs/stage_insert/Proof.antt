@@ -5,17 +5,17 @@ use mathlib.Core.List.{_∷_}
 use native.Mathlib.Omega.{arith}
 use lib.ListN.{length}
 use lib.Seq.{length-take-le}
-use Rattle.lists.specs.Lists.{putAt}
+use Rattle.lists.specs.Lists.{splice}
 use Rattle.plain_table.specs.Staged.{insert, wordsOf}
 use Rattle.table.specs.Stores.{recordWords}
-use Rattle.table_stage.specs.Laws.Staging.{insert-ladder, Free, ladder-free, staging-refused, staging-written}
+use Rattle.table_stage.specs.Laws.Staging.{insert-refusal, Free, refusal-free, staging-refused, staging-written}
 use borrow.Author.Needs.{needs}
 use Rattle.table_stage.proofs.stage_insert.Statement.{statement}
 use Rattle.table_stage.proofs.stage_insert.Tie as tie
 
 -- what holds if nothing is refused
 free : (c : tie.Else1) → let a = c .before .before .before .before .args in Free (a .h) (length (a .pending .now)) (length (a .cells .now)) (a .h .columns) 2
-free c = ladder-free _ _ _ _ _ _ (sym (c .before .stage-refusal .ensures) ∙ c .if1 .left)
+free c = refusal-free _ _ _ _ _ _ (sym (c .before .stage-refusal .ensures) ∙ c .if1 .left)
 
 stage-refusal-requires : tie.Need-stage-refusal-requires
 stage-refusal-requires c κs = search needs
@@ -23,7 +23,7 @@ stage-refusal-requires c κs = search needs
 returns : tie.Need-returns
 returns c =
     let a = c .before .before .before .before .args in
-    staging-refused (a .h) (a .pending .now) (insert (a .cells .now)) _ (c .before .stage-refusal .ensures ∙ insert-ladder _ _ _) (c .if1 .taken)
+    staging-refused (a .h) (a .pending .now) (insert (a .cells .now)) _ (c .before .stage-refusal .ensures ∙ insert-refusal _ _ _) (c .if1 .taken)
 
 cast-compact-hash : tie.Need-cast-compact-hash
 cast-compact-hash c = search needs
@@ -54,8 +54,8 @@ unfolding recordWords wordsOf
 returns-2 c =
     let e = c .before .before .before .before .before .before .before .before .before .before in
     let a = e .before .before .before .before .args in
-    staging-written (a .h) (a .pending .now) (insert (a .cells .now)) _ (sym (insert-ladder _ _ _) ∙ sym (e .before .stage-refusal .ensures) ∙ e .if1 .left)
-    (c .before .before .before .before .write-record .ensures ∙ ap (λ (hash : ℕ). putAt (a .pending .now) (a .h .pending) (0 ∷ hash ∷ a .cells .now)) (c .before .before .before .before .before .before .before .compact-hash .ensures))
+    staging-written (a .h) (a .pending .now) (insert (a .cells .now)) _ (sym (insert-refusal _ _ _) ∙ sym (e .before .stage-refusal .ensures) ∙ e .if1 .left)
+    (c .before .before .before .before .write-record .ensures ∙ ap (λ (hash : ℕ). splice (a .pending .now) (a .h .pending) (0 ∷ hash ∷ a .cells .now)) (c .before .before .before .before .before .before .before .compact-hash .ensures))
 
 pub stage-insert-spec : {M : Type 1} → statement M
 stage-insert-spec =

@@ -1,8 +1,8 @@
 -- `table_stage::stage_refusal` meets its contract. Assumes nothing.
 use mathlib.Core.Path.{sym, _∙_}
 use borrow.Author.Tests.{eq-eqb, ne-eqb}
-use Rattle.refusals.specs.Refusals.{first}
-use Rattle.table_stage.specs.inner.Staging.{ladder}
+use Rattle.refusals.specs.Refusals.{firstRefusal}
+use Rattle.table_stage.specs.inner.Staging.{recordRefusal}
 use borrow.Author.Needs.{needs}
 use Rattle.table_stage.proofs.stage_refusal.Statement.{statement}
 use Rattle.table_stage.proofs.stage_refusal.Tie as tie
@@ -11,26 +11,26 @@ is-pending-outside-requires : tie.Need-is-pending-outside-requires
 is-pending-outside-requires c κs = search needs
 
 returns : tie.Need-returns
-unfolding ladder first
+unfolding recordRefusal firstRefusal
 returns c = rw (sym (c .before .is-pending-outside .ensures) ∙ c .if1 .taken)
 
 returns-2 : tie.Need-returns-2
-unfolding ladder first
+unfolding recordRefusal firstRefusal
 returns-2 c = rw (sym (c .before .before .is-pending-outside .ensures) ∙ c .before .if1 .left, ne-eqb _ _ (c .if2 .taken))
 
 returns-3 : tie.Need-returns-3
-unfolding ladder first
+unfolding recordRefusal firstRefusal
 returns-3 c = rw (sym (c .before .before .before .is-pending-outside .ensures) ∙ c .before .before .if1 .left, eq-eqb _ _ (c .before .if2 .left), c .if3 .taken)
 
 is-overfull-requires : tie.Need-is-overfull-requires
 is-overfull-requires c κs = search needs
 
 returns-4 : tie.Need-returns-4
-unfolding ladder first
+unfolding recordRefusal firstRefusal
 returns-4 c = let d = c .before .before .before .before in rw (sym (d .before .is-pending-outside .ensures) ∙ d .if1 .left, eq-eqb _ _ (c .before .before .before .if2 .left), c .before .before .if3 .left, sym (c .before .is-overfull .ensures) ∙ c .if4 .taken)
 
 returns-5 : tie.Need-returns-5
-unfolding ladder first
+unfolding recordRefusal firstRefusal
 returns-5 c = let d = c .before .before .before .before in rw (sym (d .before .is-pending-outside .ensures) ∙ d .if1 .left, eq-eqb _ _ (c .before .before .before .if2 .left), c .before .before .if3 .left, sym (c .before .is-overfull .ensures) ∙ c .if4 .left)
 
 pub stage-refusal-spec : {M : Type 1} → statement M

@@ -1,7 +1,7 @@
 -- `table_stage::write_head` meets its contract. Assumes nothing.
 use native.Mathlib.Omega.{arith}
 use lib.ListN.{length-set}
-use Rattle.lists.specs.Laws.Parts.{set-set-putAt}
+use Rattle.lists.specs.Laws.Parts.{set-set-splice}
 use borrow.Author.Needs.{needs}
 use Rattle.table_stage.proofs.write_head.Statement.{statement}
 use Rattle.table_stage.proofs.write_head.Tie as tie
@@ -25,7 +25,7 @@ same-length : tie.Need-same-length
 same-length c = search needs
 
 returns : tie.Need-returns
-returns c = set-set-putAt (c .args .pending .now) (c .args .at) (c .args .kind) (c .args .hash) (omega arith)
+returns c = set-set-splice (c .args .pending .now) (c .args .at) (c .args .kind) (c .args .hash) (omega arith)
 
 pub write-head-spec : {M : Type 1} → statement M
 write-head-spec =

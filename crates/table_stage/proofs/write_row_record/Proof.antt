@@ -3,8 +3,8 @@ use Prim.Native.Nat.{ℕ, _+_}
 use mathlib.Core.Path.{ap, _∙_}
 use mathlib.Core.List.{List, [], _∷_}
 use native.Mathlib.Omega.{arith}
-use Rattle.lists.specs.Lists.{putAt}
-use Rattle.lists.specs.Laws.Parts.{putAt-then}
+use Rattle.lists.specs.Lists.{splice}
+use Rattle.lists.specs.Laws.Parts.{splice-then}
 use borrow.Author.Needs.{needs}
 use Rattle.table_stage.proofs.write_row_record.Statement.{statement}
 use Rattle.table_stage.proofs.write_row_record.Tie as tie
@@ -26,8 +26,8 @@ returns c =
     let d = c .before .before .before .before .before .before in
     let a = d .before .before .before .before .args in
     c .before .before .write-row .ensures
-    ∙ ap (λ (l : List ℕ). putAt l (a .at + 3) (a .key .now)) (d .write-row-head .ensures)
-    ∙ putAt-then (a .pending .now) (2 ∷ a .hash ∷ a .row ∷ []) (a .key .now) (a .at) (omega arith)
+    ∙ ap (λ (l : List ℕ). splice l (a .at + 3) (a .key .now)) (d .write-row-head .ensures)
+    ∙ splice-then (a .pending .now) (2 ∷ a .hash ∷ a .row ∷ []) (a .key .now) (a .at) (omega arith)
 
 pub write-row-record-spec : {M : Type 1} → statement M
 write-row-record-spec =

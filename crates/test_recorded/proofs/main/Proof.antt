@@ -4,12 +4,12 @@ use Rattle.test_recorded.proofs.main.Statement.{statement}
 use Rattle.test_recorded.proofs.main.Tie as tie
 
 abbrev Inv-loop : tie.InvT-loop
-Inv-loop text rows₀ keys₀ sorts₀ pending₀ state₀ turns₀ rows keys sorts pending state turns =
+Inv-loop text rows₀ keys₀ sorts₀ pending₀ state₀ turns₀ rows keys sorts pending state steps =
     Unit {0}
 
 abbrev μ-loop : tie.MeasureT-loop
-μ-loop text rows₀ keys₀ sorts₀ pending₀ state₀ turns₀ rows keys sorts pending state turns =
-    turns
+μ-loop text rows₀ keys₀ sorts₀ pending₀ state₀ turns₀ rows keys sorts pending state steps =
+    steps
 
 pub main-spec : {M : Type 1} → statement M
 main-spec =

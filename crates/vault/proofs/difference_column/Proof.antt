@@ -2,7 +2,7 @@
 use Prim.Native.Nat.{_-_}
 use native.Mathlib.Omega.{arith}
 use borrow.Author.Needs.{needs}
-use Rattle.vault.proofs.Filling.{Differencing, walk-begin, walk-end, difference-more, to-inside, from-inside, columns-inside, rows-inside}
+use Rattle.vault.proofs.Filling.{Differencing, column-scan-begin, column-scan-end, difference-more, to-inside, from-inside, columns-inside, rows-inside}
 use Rattle.vault.proofs.difference_column.Statement.{statement}
 use Rattle.vault.proofs.difference_column.Tie as tie
 
@@ -19,7 +19,7 @@ cell-above-requires : tie.Need-cell-above-requires Inv-loop μ-loop
 cell-above-requires c κs = let p = c .before .before .pre in (p .2, rows-inside (p .0) _ (omega (arith, p .1 .forward, p .1 .inside)))
 
 loop-holds : tie.Need-loop-holds Inv-loop μ-loop
-loop-holds c = walk-begin (c .before .before .before .pre .1 .forward) (c .cell-above .ensures)
+loop-holds c = column-scan-begin (c .before .before .before .pre .1 .forward) (c .cell-above .ensures)
 
 mul-cell : tie.Need-mul-cell Inv-loop μ-loop
 mul-cell c = let p = c .before .before .before .before .before .pre in omega (arith, from-inside (p .0) (p .1) (c .loop-test .taken) (p .2))
@@ -55,7 +55,7 @@ same-length : tie.Need-same-length Inv-loop μ-loop
 same-length c = c .before .loop .inv .filled .same
 
 returns : tie.Need-returns Inv-loop μ-loop
-returns c = walk-end (c .before .loop .inv) (c .loop-test .left)
+returns c = column-scan-end (c .before .loop .inv) (c .loop-test .left)
 
 pub difference-column-spec : {M : Type 1} → statement M
 difference-column-spec =

@@ -3,7 +3,7 @@ use Prim.Native.Nat.{_-_}
 use mathlib.Core.Path.{_∙_}
 use native.Mathlib.Omega.{arith}
 use borrow.Author.Needs.{needs}
-use Rattle.vault.proofs.Filling.{Summing, walk-begin, walk-end, sum-more, above-summed, to-inside, from-inside, columns-inside, rows-fit}
+use Rattle.vault.proofs.Filling.{Summing, column-scan-begin, column-scan-end, sum-more, above-summed, to-inside, from-inside, columns-inside, rows-fit}
 use Rattle.vault.proofs.sum_column.Statement.{statement}
 use Rattle.vault.proofs.sum_column.Tie as tie
 
@@ -20,7 +20,7 @@ cell-above-requires : tie.Need-cell-above-requires Inv-loop μ-loop
 cell-above-requires c κs = let p = c .before .before .before .pre in (p .2, rows-fit (p .0) _ (omega (arith, p .1 .forward, p .1 .inside)))
 
 loop-holds : tie.Need-loop-holds Inv-loop μ-loop
-loop-holds c = let p = c .before .before .before .before .pre in walk-begin (p .1 .forward) (c .cell-above .ensures ∙ above-summed _ (c .before .before .before .before .args .rows) _ _ _ _ (p .2) (p .3))
+loop-holds c = let p = c .before .before .before .before .pre in column-scan-begin (p .1 .forward) (c .cell-above .ensures ∙ above-summed _ (c .before .before .before .before .args .rows) _ _ _ _ (p .2) (p .3))
 
 add-wrapping-add-u32 : tie.Need-add-wrapping-add-u32 Inv-loop μ-loop
 add-wrapping-add-u32 c = let p = c .before .before .before .before .before .before .pre in omega (arith, to-inside (p .0) (p .1) (c .loop-test .taken) (p .2))
@@ -56,7 +56,7 @@ same-length : tie.Need-same-length Inv-loop μ-loop
 same-length c = c .before .loop .inv .filled .same
 
 returns : tie.Need-returns Inv-loop μ-loop
-returns c = walk-end (c .before .loop .inv) (c .loop-test .left)
+returns c = column-scan-end (c .before .loop .inv) (c .loop-test .left)
 
 pub sum-column-spec : {M : Type 1} → statement M
 sum-column-spec =

@@ -9,21 +9,21 @@ use Rattle.refusals.specs.Laws.Replies.{some-number}
 use Rattle.refusals.specs.Laws.Determined.{Same}
 use Rattle.vault.specs.declared.ColumnsAnswer.{ColumnsAnswer}
 use Rattle.vault.specs.declared.ColumnsAnswer.the-variants.{Refused, Written}
-use Rattle.vault.specs.Columns.{columnsSays, columnsRefusal, Rearranged}
+use Rattle.vault.specs.Columns.{columnsView, columnsRefusal, Rearranged}
 
 -- an answer is determined by its reply
-columns-said : (a b : ColumnsAnswer) → columnsSays a ≡ columnsSays b → a ≡ b
-unfolding columnsSays
-columns-said (Refused m) (Refused n) e = cc
-columns-said (Refused m) Written e = absurd (let z : _≡_ {A = ℕ} 0 1 = cc in omega arith)
-columns-said Written (Refused n) e = absurd (let z : _≡_ {A = ℕ} 0 1 = cc in omega arith)
-columns-said Written Written e = refl
+columns-view-injective : (a b : ColumnsAnswer) → columnsView a ≡ columnsView b → a ≡ b
+unfolding columnsView
+columns-view-injective (Refused m) (Refused n) e = cc
+columns-view-injective (Refused m) Written e = absurd (let z : _≡_ {A = ℕ} 0 1 = cc in omega arith)
+columns-view-injective Written (Refused n) e = absurd (let z : _≡_ {A = ℕ} 0 1 = cc in omega arith)
+columns-view-injective Written Written e = refl
 
 pub rearranged-determined : {order : ℕ → List ℕ → List ℕ} {width : ℕ} {cells output output₁ output₂ : List ℕ} {a b : ColumnsAnswer}
     → Rearranged order width cells output a output₁ → Rearranged order width cells output b output₂ → Same a b output₁ output₂
 rearranged-determined {width = width} {cells} {output} {a = a} {b = b} x y =
     record {
-      answer = columns-said a b (x .answers ∙ sym (y .answers));
+      answer = columns-view-injective a b (x .answers ∙ sym (y .answers));
       cells =
           ⊎-elim (λ none. x .written none ∙ sym (y .written none)) (λ some. x .unchanged some ∙ sym (y .unchanged some))
           (some-number (columnsRefusal width (length cells) (length output)));

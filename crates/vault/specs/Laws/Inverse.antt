@@ -7,8 +7,8 @@ use native.Mathlib.Nat.{mul-comm, mul-div-cancel, div-add-mod'}
 use native.Mathlib.Omega.{arith}
 use lib.ListN.{length, length-map}
 use lib.Seq.{take-all}
-use Rattle.lists.specs.Lists.{rowsOf, flat}
-use Rattle.lists.specs.Laws.Rows.{widths, length-rowsOf, length-flat, rowsOf-widths, rowsOf-flat, flat-rowsOf}
+use Rattle.lists.specs.Lists.{rowsOf, flatten}
+use Rattle.lists.specs.Laws.Rows.{widths, length-rowsOf, length-flatten, rowsOf-widths, rowsOf-flatten, flatten-rowsOf}
 use Rattle.vault.specs.Columns.{differences, sums, transposed, toColumns, fromColumns, Restores}
 use Rattle.vault.specs.Laws.Differences.{Cells, sums-differences, differences-sums, length-differences, length-sums}
 use Rattle.vault.specs.Laws.Transposed.{length-transposed, transposed-widths, map-widths, transposed-twice, rowsOf-cells, transposed-cells, map-undone}
@@ -20,8 +20,8 @@ module _ (width n : ℕ) (some : 0 < width) where
   rows-of cells e = rw e (mul-div-cancel n some)
 
   -- lists one after another, read back
-  read-back : (w m : ℕ) (ls : List (List ℕ)) → length ls ≡ m → widths w ls ≡ true → rowsOf w m (flat ls) ≡ ls
-  read-back w m ls e q = ap₂ (λ (k : ℕ) (l : List ℕ). rowsOf w k l) (sym e) (sym (append-nil (flat ls))) ∙ rowsOf-flat w ls q []
+  read-back : (w m : ℕ) (ls : List (List ℕ)) → length ls ≡ m → widths w ls ≡ true → rowsOf w m (flatten ls) ≡ ls
+  read-back w m ls e q = ap₂ (λ (k : ℕ) (l : List ℕ). rowsOf w k l) (sym e) (sym (append-nil (flatten ls))) ∙ rowsOf-flatten w ls q []
 
   module _ (cells : List ℕ) (e : length cells ≡ n * width) where
     -- the columns, as differences; and the rows, as sums
@@ -31,13 +31,13 @@ module _ (width n : ℕ) (some : 0 < width) where
     abbrev pub rowsBack : List (List ℕ)
     rowsBack = transposed n (map sums (rowsOf n width cells))
 
-    pub to-columns : toColumns width cells ≡ flat columnsIn
+    pub to-columns : toColumns width cells ≡ flatten columnsIn
     unfolding toColumns
-    to-columns = ap (λ (k : ℕ). flat (map differences (transposed width (rowsOf width k cells)))) (rows-of cells e)
+    to-columns = ap (λ (k : ℕ). flatten (map differences (transposed width (rowsOf width k cells)))) (rows-of cells e)
 
-    pub from-columns : fromColumns width cells ≡ flat rowsBack
+    pub from-columns : fromColumns width cells ≡ flatten rowsBack
     unfolding fromColumns
-    from-columns = ap (λ (k : ℕ). flat (transposed k (map sums (rowsOf k width cells)))) (rows-of cells e)
+    from-columns = ap (λ (k : ℕ). flatten (transposed k (map sums (rowsOf k width cells)))) (rows-of cells e)
 
     columns-count : length columnsIn ≡ width
     columns-count = length-map (transposed width (rowsOf width n cells)) differences ∙ length-transposed width (rowsOf width n cells)
@@ -55,22 +55,22 @@ module _ (width n : ℕ) (some : 0 < width) where
 
     pub length-to : length (toColumns width cells) ≡ length cells
     length-to =
-        ap length to-columns ∙ length-flat n columnsIn columns-widths ∙ ap (λ (k : ℕ). k * n) columns-count ∙ mul-comm width n ∙ sym e
+        ap length to-columns ∙ length-flatten n columnsIn columns-widths ∙ ap (λ (k : ℕ). k * n) columns-count ∙ mul-comm width n ∙ sym e
 
     pub length-from : length (fromColumns width cells) ≡ length cells
     length-from =
-        ap length from-columns ∙ length-flat width rowsBack rows-widths ∙ ap (λ (k : ℕ). k * width) (length-transposed n (map sums (rowsOf n width cells))) ∙ sym e
+        ap length from-columns ∙ length-flatten width rowsBack rows-widths ∙ ap (λ (k : ℕ). k * width) (length-transposed n (map sums (rowsOf n width cells))) ∙ sym e
 
   module _ (cells : List ℕ) (e : length cells ≡ n * width) (f : Cells cells) where
     from-to : fromColumns width (toColumns width cells) ≡ cells
     from-to =
         let k : length (toColumns width cells) ≡ n * width = length-to cells e ∙ e in
         from-columns (toColumns width cells) k
-        ∙ ap (λ (ls : List (List ℕ)). flat (transposed n (map sums ls))) (ap (rowsOf n width) (to-columns cells e) ∙ read-back n width (columnsIn cells e) (columns-count cells e) (columns-widths cells e))
-        ∙ ap (λ (ls : List (List ℕ)). flat (transposed n ls)) (map-undone sums differences sums-differences (transposed width (rowsOf width n cells)) (transposed-cells width (rowsOf width n cells) (rowsOf-cells width n cells f)))
-        ∙ ap (λ (m : ℕ). flat (transposed m (transposed width (rowsOf width n cells)))) (sym (length-rowsOf width n cells))
-        ∙ ap flat (transposed-twice width (rowsOf width n cells) (rowsOf-widths width n cells (omega arith)))
-        ∙ flat-rowsOf width n cells
+        ∙ ap (λ (ls : List (List ℕ)). flatten (transposed n (map sums ls))) (ap (rowsOf n width) (to-columns cells e) ∙ read-back n width (columnsIn cells e) (columns-count cells e) (columns-widths cells e))
+        ∙ ap (λ (ls : List (List ℕ)). flatten (transposed n ls)) (map-undone sums differences sums-differences (transposed width (rowsOf width n cells)) (transposed-cells width (rowsOf width n cells) (rowsOf-cells width n cells f)))
+        ∙ ap (λ (m : ℕ). flatten (transposed m (transposed width (rowsOf width n cells)))) (sym (length-rowsOf width n cells))
+        ∙ ap flatten (transposed-twice width (rowsOf width n cells) (rowsOf-widths width n cells (omega arith)))
+        ∙ flatten-rowsOf width n cells
         ∙ take-all (n * width) cells (omega arith)
 
     to-from : toColumns width (fromColumns width cells) ≡ cells
@@ -79,12 +79,12 @@ module _ (width n : ℕ) (some : 0 < width) where
         let h : length cells ≡ width * n = e ∙ mul-comm n width in
         let q : widths n (map sums (rowsOf n width cells)) ≡ true = map-widths sums length-sums n (rowsOf n width cells) (rowsOf-widths n width cells (omega arith)) in
         to-columns (fromColumns width cells) k
-        ∙ ap (λ (ls : List (List ℕ)). flat (map differences (transposed width ls)))
+        ∙ ap (λ (ls : List (List ℕ)). flatten (map differences (transposed width ls)))
         (ap (rowsOf width n) (from-columns cells e) ∙ read-back width n (rowsBack cells e) (length-transposed n (map sums (rowsOf n width cells))) (rows-widths cells e))
-        ∙ ap (λ (m : ℕ). flat (map differences (transposed m (rowsBack cells e)))) (sym (sums-count cells e))
-        ∙ ap (λ (ls : List (List ℕ)). flat (map differences ls)) (transposed-twice n (map sums (rowsOf n width cells)) q)
-        ∙ ap flat (map-undone differences sums differences-sums (rowsOf n width cells) (rowsOf-cells n width cells f))
-        ∙ flat-rowsOf n width cells
+        ∙ ap (λ (m : ℕ). flatten (map differences (transposed m (rowsBack cells e)))) (sym (sums-count cells e))
+        ∙ ap (λ (ls : List (List ℕ)). flatten (map differences ls)) (transposed-twice n (map sums (rowsOf n width cells)) q)
+        ∙ ap flatten (map-undone differences sums differences-sums (rowsOf n width cells) (rowsOf-cells n width cells f))
+        ∙ flatten-rowsOf n width cells
         ∙ take-all (width * n) cells (omega arith)
 
 -- a length that is a multiple of the width is that of whole rows

@@ -5,8 +5,8 @@ use mathlib.Core.List.{List, [], _∷_, map}
 use native.Mathlib.Nat.{mul-comm}
 use native.Mathlib.Omega.{arith}
 use lib.ListN.{length, getD, length-map}
-use Rattle.lists.specs.Lists.{rowsOf, flat, countFrom}
-use Rattle.lists.specs.Laws.Every.{getD-map-below}
+use Rattle.lists.specs.Lists.{rowsOf, flatten, iota}
+use Rattle.lists.specs.Laws.All.{getD-map-below}
 use Rattle.lists.specs.Laws.Rows.{length-rowsOf, getD-rowsOf, getD-rowAt, rowsOf-widths}
 use Rattle.vault.specs.Columns.{minus, differences, differencesBelow, plus, sums, column, transposed, toColumns, fromColumns}
 use Rattle.vault.specs.inner.Filling.{cellAbove}
@@ -66,5 +66,5 @@ module _ (width n : ℕ) (some : 0 < width) (cells : List ℕ) (e : length cells
 
 -- the example of docs/FORMAT.md, three rows of two
 pub worked : toColumns 2 (1 ∷ 10 ∷ 6 ∷ 10 ∷ 5 ∷ 12 ∷ []) ≡ 1 ∷ 5 ∷ 4294967295 ∷ 10 ∷ 0 ∷ 2 ∷ []
-unfolding toColumns transposed column differences differencesBelow minus rowsOf flat countFrom
+unfolding toColumns transposed column differences differencesBelow minus rowsOf flatten iota
 worked = refl

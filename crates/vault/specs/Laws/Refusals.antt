@@ -4,28 +4,28 @@ use mathlib.Core.Path.{_≡_}
 use native.Mathlib.Decide.{decLt, ℕ-discrete}
 use native.Mathlib.Omega.{arith}
 use borrow.Author.Tests.{lt-ltb, le-ltb, eq-eqb, ne-eqb}
-use Rattle.refusals.specs.Refusals.{first}
+use Rattle.refusals.specs.Refusals.{firstRefusal}
 use Rattle.vault.specs.Columns.{columnsRefusal}
 
 module _ (width cells output : ℕ) where
   pub too-narrow : width < 1 → 1 ≡ columnsRefusal width cells output
-  unfolding columnsRefusal first
+  unfolding columnsRefusal firstRefusal
   too-narrow h = rw (lt-ltb _ _ h)
 
   pub too-wide : 1 ≤ width → 8 < width → 1 ≡ columnsRefusal width cells output
-  unfolding columnsRefusal first
+  unfolding columnsRefusal firstRefusal
   too-wide h k = rw (le-ltb _ _ h, lt-ltb _ _ k)
 
   pub broken : 1 ≤ width → width ≤ 8 → (cells % width ≡ 0 → ⊥) → 13 ≡ columnsRefusal width cells output
-  unfolding columnsRefusal first
+  unfolding columnsRefusal firstRefusal
   broken h k n = rw (le-ltb _ _ h, le-ltb _ _ k, ne-eqb _ _ n)
 
   pub too-short : 1 ≤ width → width ≤ 8 → cells % width ≡ 0 → output < cells → 2 ≡ columnsRefusal width cells output
-  unfolding columnsRefusal first
+  unfolding columnsRefusal firstRefusal
   too-short h k e s = rw (le-ltb _ _ h, le-ltb _ _ k, eq-eqb _ _ e, lt-ltb _ _ s)
 
   pub none : 1 ≤ width → width ≤ 8 → cells % width ≡ 0 → cells ≤ output → 0 ≡ columnsRefusal width cells output
-  unfolding columnsRefusal first
+  unfolding columnsRefusal firstRefusal
   none h k e s = rw (le-ltb _ _ h, le-ltb _ _ k, eq-eqb _ _ e, le-ltb _ _ s)
 
   -- what holds if all tests pass

@@ -8,50 +8,50 @@ use native.Mathlib.Omega.{arith}
 use lib.Dec.{ltb}
 use lib.ListN.{length, take}
 use borrow.Author.Tests.{lt-ltb, le-ltb, eq-eqb}
-use Rattle.lists.specs.Laws.Parts.{part-putAt}
-use Rattle.refusals.specs.Refusals.{rung, first, reply}
+use Rattle.lists.specs.Laws.Parts.{part-splice}
+use Rattle.refusals.specs.Refusals.{check, firstRefusal, reply}
 use Rattle.vault.specs.declared.ColumnsAnswer.{ColumnsAnswer}
 use Rattle.vault.specs.declared.ColumnsAnswer.the-variants.{Written}
-use Rattle.vault.specs.Columns.{toColumns, fromColumns, columnsRefusal, columnsSays, Rearranged, Restored}
+use Rattle.vault.specs.Columns.{toColumns, fromColumns, columnsRefusal, columnsView, Rearranged, Restored}
 use Rattle.vault.specs.Laws.Differences.{Cells}
 use Rattle.vault.specs.Laws.Inverse.{toColumns-length, fromColumns-length, fromColumns-toColumns, toColumns-fromColumns}
 use Rattle.vault.specs.Laws.Refusals.{Accepted, accepted}
 
 -- an accepted answer has refusal 0
-none-refused : (n : ℕ) → columnsSays Written ≡ reply n tt → n ≡ 0
-unfolding columnsSays reply
+none-refused : (n : ℕ) → columnsView Written ≡ reply n tt → n ≡ 0
+unfolding columnsView reply
 none-refused zero e = refl
 none-refused (suc n) e = absurd (let z : _≡_ {A = ℕ} 0 1 = cc in omega arith)
 
 module _ {order : ℕ → List ℕ → List ℕ} {width : ℕ} {cells output output′ : List ℕ} (x : Rearranged order width cells output Written output′) where
-  past-ladder : columnsRefusal width (length cells) (length output) ≡ 0
-  past-ladder = none-refused _ (x .answers)
+  not-refused : columnsRefusal width (length cells) (length output) ≡ 0
+  not-refused = none-refused _ (x .answers)
 
   known : Accepted width (length cells) (length output)
-  known = accepted width (length cells) (length output) past-ladder
+  known = accepted width (length cells) (length output) not-refused
 
   -- what was written
   front : length (order width cells) ≡ length cells → take (length cells) output′ ≡ order width cells
   front e =
       let fits : 0 + length (order width cells) ≤ length output = omega (arith, known .room) in
-      rw (← e, x .written past-ladder) (part-putAt output (order width cells) 0 fits)
+      rw (← e, x .written not-refused) (part-splice output (order width cells) 0 fits)
 
 module _ (cells : List ℕ) (room : ℕ) where
   -- the refusal of the second call: 2 if the output is shorter than the cells, 0 otherwise
   abbrev short : ℕ
-  short = first (rung (ltb room (length cells)) 2 ∷ [])
+  short = firstRefusal (check (ltb room (length cells)) 2 ∷ [])
 
   short-none : length cells ≤ room → short ≡ 0
-  unfolding first
+  unfolding firstRefusal
   short-none long = rw (le-ltb room (length cells) long)
 
   short-some : room < length cells → 0 < short
-  unfolding first
+  unfolding firstRefusal
   short-some less = rw (lt-ltb room (length cells) less) (omega arith)
 
   -- if the first call was accepted, no other test can refuse the second
   short-only : {width output : ℕ} → Accepted width (length cells) output → columnsRefusal width (length cells) room ≡ short
-  unfolding columnsRefusal first
+  unfolding columnsRefusal firstRefusal
   short-only {width} k = rw (le-ltb width 1 (k .narrow), le-ltb 8 width (k .wide), eq-eqb (length cells % width) 0 (k .multiple))
 
 -- one order after the other, if the second is the inverse of the first
@@ -87,7 +87,7 @@ module _ {width : ℕ} {cells output output′ second second′ : List ℕ} {ans
 pub restored-front : {cells second second′ : List ℕ} → Restored cells second Written second′ → take (length cells) second′ ≡ cells
 restored-front {cells} {second} r =
     let room = room-enough (none-refused _ (r .answers)) in
-    rw (r .written room) (part-putAt second cells 0 (omega arith))
+    rw (r .written room) (part-splice second cells 0 (omega arith))
   where
     room-enough : short cells (length second) ≡ 0 → length cells ≤ length second
     room-enough e = elim (decLt (length second) (length cells)) [ yes h ↦ absurd (omega (arith, short-some cells (length second) h)) | no h ↦ omega arith ]

@@ -10,11 +10,11 @@ use lib.Dec.{eqb}
 use lib.ListN.{length, take, drop, getD, length-map, List·getD-eq-default}
 use lib.Seq.{getD-drop, ext-getD}
 use borrow.Author.Tests.{eqb-true, eq-eqb}
-use Rattle.lists.specs.Lists.{every, rowsOf, flat, countFrom}
-use Rattle.lists.specs.Laws.Keep.{every-getD}
-use Rattle.lists.specs.Laws.Every.{every-head, every-tail, every-cons, getD-map-below}
-use Rattle.lists.specs.Laws.Rising.{length-countFrom, getD-countFrom}
-use Rattle.lists.specs.Laws.Rows.{widths, getD-rowsOf, getD-rowAt, rowsOf-flat}
+use Rattle.lists.specs.Lists.{all, rowsOf, flatten, iota}
+use Rattle.lists.specs.Laws.Filter.{all-getD}
+use Rattle.lists.specs.Laws.All.{all-head, all-tail, all-cons, getD-map-below}
+use Rattle.lists.specs.Laws.Rising.{length-iota, getD-iota}
+use Rattle.lists.specs.Laws.Rows.{widths, getD-rowsOf, getD-rowAt, rowsOf-flatten}
 use Rattle.vault.specs.Columns.{column, transposed}
 use Rattle.vault.specs.Laws.Differences.{Cells}
 
@@ -24,7 +24,7 @@ length-column j rows = length-map rows _
 
 pub length-transposed : (n : ℕ) (rows : List (List ℕ)) → length (transposed n rows) ≡ n
 unfolding transposed
-length-transposed n rows = length-map (countFrom 0 n) _ ∙ length-countFrom 0 n
+length-transposed n rows = length-map (iota 0 n) _ ∙ length-iota 0 n
 
 -- the cell of row i in column j
 pub column-at : (j : ℕ) (rows : List (List ℕ)) (i : ℕ) → i < length rows → getD (column j rows) i 0 ≡ getD (getD rows i []) j 0
@@ -34,27 +34,27 @@ column-at j rows i h = getD-map-below (λ row. getD row j 0) rows i [] 0 h
 pub transposed-at : (n : ℕ) (rows : List (List ℕ)) (j : ℕ) → j < n → getD (transposed n rows) j [] ≡ column j rows
 unfolding transposed
 transposed-at n rows j h =
-    let k : j < length (countFrom 0 n) = rw (length-countFrom 0 n) h in
-    getD-map-below (λ i. column i rows) (countFrom 0 n) j 0 [] k ∙ ap (λ (i : ℕ). column i rows) (getD-countFrom 0 n j 0 h ∙ zero-add j)
+    let k : j < length (iota 0 n) = rw (length-iota 0 n) h in
+    getD-map-below (λ i. column i rows) (iota 0 n) j 0 [] k ∙ ap (λ (i : ℕ). column i rows) (getD-iota 0 n j 0 h ∙ zero-add j)
 
 -- ---- widths
 
 pub width-at : (w : ℕ) (rows : List (List ℕ)) → widths w rows ≡ true → (i : ℕ) → i < length rows → length (getD rows i []) ≡ w
-width-at w rows q i h = eqb-true _ _ (every-getD (λ r. eqb (length r) w) rows q i h [])
+width-at w rows q i h = eqb-true _ _ (all-getD (λ r. eqb (length r) w) rows q i h [])
 
 columns-widths : (rows : List (List ℕ)) (js : List ℕ) → widths (length rows) (map (λ j. column j rows) js) ≡ true
-columns-widths rows [] = unfold every in refl
-columns-widths rows (j ∷ js) = every-cons (λ r. eqb (length r) (length rows)) _ _ (eq-eqb _ _ (length-column j rows)) (columns-widths rows js)
+columns-widths rows [] = unfold all in refl
+columns-widths rows (j ∷ js) = all-cons (λ r. eqb (length r) (length rows)) _ _ (eq-eqb _ _ (length-column j rows)) (columns-widths rows js)
 
 pub transposed-widths : (n : ℕ) (rows : List (List ℕ)) → widths (length rows) (transposed n rows) ≡ true
 unfolding transposed
-transposed-widths n rows = columns-widths rows (countFrom 0 n)
+transposed-widths n rows = columns-widths rows (iota 0 n)
 
 pub map-widths : (f : List ℕ → List ℕ) → ((l : List ℕ) → length (f l) ≡ length l) → (w : ℕ) (ls : List (List ℕ)) → widths w ls ≡ true → widths w (map f ls) ≡ true
 map-widths f e w [] q = q
 map-widths f e w (l ∷ ls) q =
-    let a : length l ≡ w = eqb-true _ _ (every-head (λ r. eqb (length r) w) l ls q) in
-    every-cons (λ r. eqb (length r) w) _ _ (eq-eqb _ _ (e l ∙ a)) (map-widths f e w ls (every-tail (λ r. eqb (length r) w) l ls q))
+    let a : length l ≡ w = eqb-true _ _ (all-head (λ r. eqb (length r) w) l ls q) in
+    all-cons (λ r. eqb (length r) w) _ _ (eq-eqb _ _ (e l ∙ a)) (map-widths f e w ls (all-tail (λ r. eqb (length r) w) l ls q))
 
 -- the columns of the columns are the rows
 pub transposed-twice : (w : ℕ) (rows : List (List ℕ)) → widths w rows ≡ true → transposed (length rows) (transposed w rows) ≡ rows
@@ -72,11 +72,11 @@ transposed-twice w rows q = ext-getD [] _ _ (length-transposed (length rows) (tr
         column-at i (transposed w rows) j m ∙ ap (λ (r : List ℕ). getD r i 0) (transposed-at w rows j n) ∙ column-at j rows i k)
 
 -- cell b of list a, where lists of one width follow one another
-pub flat-at : (w : ℕ) (ls : List (List ℕ)) → widths w ls ≡ true → (a b : ℕ) → a < length ls → b < w → getD (flat ls) (a * w + b) 0 ≡ getD (getD ls a []) b 0
+pub flat-at : (w : ℕ) (ls : List (List ℕ)) → widths w ls ≡ true → (a b : ℕ) → a < length ls → b < w → getD (flatten ls) (a * w + b) 0 ≡ getD (getD ls a []) b 0
 flat-at w ls q a b h k =
-    sym (getD-rowAt w a (flat ls) b 0 k)
-    ∙ ap (λ (r : List ℕ). getD r b 0) (sym (getD-rowsOf w (length ls) (flat ls) a h))
-    ∙ ap (λ (rs : List (List ℕ)). getD (getD rs a []) b 0) (ap (rowsOf w (length ls)) (sym (append-nil (flat ls))) ∙ rowsOf-flat w ls q [])
+    sym (getD-rowAt w a (flatten ls) b 0 k)
+    ∙ ap (λ (r : List ℕ). getD r b 0) (sym (getD-rowsOf w (length ls) (flatten ls) a h))
+    ∙ ap (λ (rs : List (List ℕ)). getD (getD rs a []) b 0) (ap (rowsOf w (length ls)) (sym (append-nil (flatten ls))) ∙ rowsOf-flatten w ls q [])
 
 -- ---- cells of rows are cells
 

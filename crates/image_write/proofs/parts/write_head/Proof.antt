@@ -4,7 +4,7 @@ use mathlib.Core.Path.{_≡_, ap, _∙_}
 use mathlib.Core.List.{List}
 use native.Mathlib.Omega.{arith}
 use lib.ListN.{length, set, length-set}
-use Rattle.lists.specs.Lists.{putAt}
+use Rattle.lists.specs.Lists.{splice}
 use Rattle.image_write.specs.Laws.Bodies.{length-header, head-written}
 use borrow.Author.Needs.{needs}
 use Rattle.image_write.proofs.parts.write_head.Statement.{statement}
@@ -28,7 +28,7 @@ returns c =
     let e = w .before .before .before in
     let a = e .before .before .args in
     ap (λ (x : List ℕ). set x 14 (a .text)) (w .write-row .ensures)
-    ∙ ap (λ (x : List ℕ). set (putAt (set (set (a .output .now) 0 1112819533) 1 1) 2 x) 14 (a .text)) (e .encode-header .ensures)
+    ∙ ap (λ (x : List ℕ). set (splice (set (set (a .output .now) 0 1112819533) 1 1) 2 x) 14 (a .text)) (e .encode-header .ensures)
     ∙ head-written (a .output .now) (a .h) (a .text) (omega arith)
 
 pub write-head-spec : {M : Type 1} → statement M

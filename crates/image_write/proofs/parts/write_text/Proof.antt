@@ -6,8 +6,8 @@ use mathlib.Core.List.{List}
 use native.Mathlib.Omega.{arith}
 use lib.ListN.{length, take, set, length-set}
 use lib.Seq.{take-length}
-use Rattle.lists.specs.Lists.{putAt}
-use Rattle.lists.specs.Laws.Parts.{putAt-nil}
+use Rattle.lists.specs.Lists.{splice}
+use Rattle.lists.specs.Laws.Parts.{splice-nil}
 use Rattle.image_spec.specs.Image.{packed}
 use Rattle.image_write.specs.Laws.Packed.{length-packed}
 use Rattle.image_write.specs.Laws.Bodies.{write-step}
@@ -16,13 +16,13 @@ use Rattle.image_write.proofs.parts.write_text.Statement.{statement}
 use Rattle.image_write.proofs.parts.write_text.Tie as tie
 
 abbrev Inv-loop : tie.InvT-loop
-Inv-loop text output₀ at words i₀ output i = (i ≤ words) × (length output ≡ length output₀) × (output ≡ putAt output₀ at (take i (packed text)))
+Inv-loop text output₀ at words i₀ output i = (i ≤ words) × (length output ≡ length output₀) × (output ≡ splice output₀ at (take i (packed text)))
 
 abbrev μ-loop : tie.MeasureT-loop
 μ-loop text output₀ at words i₀ output i = words - i
 
 loop-holds : tie.Need-loop-holds Inv-loop μ-loop
-loop-holds c = (search needs, refl, sym (putAt-nil _ _))
+loop-holds c = (search needs, refl, sym (splice-nil _ _))
 
 loop-again : tie.Need-loop-again Inv-loop μ-loop
 loop-again c =

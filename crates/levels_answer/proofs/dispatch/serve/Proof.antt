@@ -1,6 +1,6 @@
 -- `levels_answer::dispatch::serve` meets its contract. Assumes nothing.
 use mathlib.Core.Path.{refl}
-use Rattle.levels_answer.specs.inner.Letters.{asking-letters, staging-some, as-letter}
+use Rattle.levels_answer.specs.inner.Letters.{query-letters, staging-some, as-letter}
 use borrow.Author.Needs.{needs}
 use Rattle.levels_answer.proofs.dispatch.serve.Statement.{statement}
 use Rattle.levels_answer.proofs.dispatch.serve.Tie as tie
@@ -11,8 +11,8 @@ stage-requires c κs = let letters = c .before .match .keys1 in (letters, stagin
 remake-requires : tie.Need-remake-requires
 remake-requires c κs = (c .before .before .before .before .before .before .before .before .before .before .pre, c .before .before .before .before .match .keys3)
 
-ask-requires : tie.Need-ask-requires
-ask-requires c κs = let others = c .before .match .rest in (c .before .before .before .before .before .before .before .pre, asking-letters _ (c .before .before .before .before .before .before .before .pre) (others .0 .0 .1) (others .0 .1) (others .1))
+query-requires : tie.Need-query-requires
+query-requires c κs = let others = c .before .match .rest in (c .before .before .before .before .before .before .before .pre, query-letters _ (c .before .before .before .before .before .before .before .pre) (others .0 .0 .1) (others .0 .1) (others .1))
 
 same-length : tie.Need-same-length
 same-length c = c .before .pending .given
@@ -54,12 +54,12 @@ same-length-10 : tie.Need-same-length-10
 same-length-10 c = refl
 
 returns-4 : tie.Need-returns-4
-returns-4 c = c .ask .ensures .serving _ _ _
+returns-4 c = c .query .ensures .serving _ _ _
 
 pub serve-spec : {M : Type 1} → statement M
 serve-spec =
     tie.close
     (tie.spec
-    stage-requires (λ c κs. search needs) remake-requires ask-requires same-length returns same-length-2 same-length-3
+    stage-requires (λ c κs. search needs) remake-requires query-requires same-length returns same-length-2 same-length-3
     same-length-4 same-length-5 returns-2 same-length-6 same-length-7 same-length-8 same-length-9 returns-3
     same-length-10 returns-4)

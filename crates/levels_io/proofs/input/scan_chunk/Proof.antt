@@ -22,11 +22,11 @@ same-length c = c .before .before .before .loop .inv .same-length
 returns : tie.Need-returns Inv-loop μ-loop
 returns c = scanning-newline _ _ (c .before .before .before .loop .inv) (c .before .before .loop-test .taken) (c .before .before .before .before .before .before .pre .1 .1) (c .if1 .taken)
 
-keep-requires : tie.Need-keep-requires Inv-loop μ-loop
-keep-requires c κs = omega (arith, c .before .before .before .before .loop .inv .inside, c .before .before .before .before .loop .inv .same-length)
+push-requires : tie.Need-push-requires Inv-loop μ-loop
+push-requires c κs = omega (arith, c .before .before .before .before .loop .inv .inside, c .before .before .before .before .loop .inv .same-length)
 
 loop-again : tie.Need-loop-again Inv-loop μ-loop
-loop-again c = scanning-again _ _ (c .before .before .before .before .before .before .before .loop .inv) (c .before .before .before .before .before .before .loop-test .taken) (c .before .before .before .before .before .before .before .before .before .before .pre .1 .1) (c .before .before .before .before .if1 .left) (c .before .line .given) (c .before .before .keep .ensures)
+loop-again c = scanning-again _ _ (c .before .before .before .before .before .before .before .loop .inv) (c .before .before .before .before .before .before .loop-test .taken) (c .before .before .before .before .before .before .before .before .before .before .pre .1 .1) (c .before .before .before .before .if1 .left) (c .before .line .given) (c .before .before .push .ensures)
 
 same-length-2 : tie.Need-same-length-2 Inv-loop μ-loop
 same-length-2 c = c .before .loop .inv .same-length
@@ -38,5 +38,5 @@ pub scan-chunk-spec : {M : Type 1} → statement M
 scan-chunk-spec =
     tie.close
     (tie.spec
-    Inv-loop μ-loop loop-holds (λ c. search needs) (λ c. search needs) same-length returns keep-requires
+    Inv-loop μ-loop loop-holds (λ c. search needs) (λ c. search needs) same-length returns push-requires
     (λ c. search needs) loop-again same-length-2 returns-2)

@@ -11,7 +11,7 @@ returns c = let p = c .before .before .before .before .before .before .before .p
 look-up-requires : tie.Need-look-up-requires
 look-up-requires c κs =
     let s = c .before .before .before .before .before .before .before .before .before .before .before .before in
-    findable _ _ _ _ _ _ (s .args .hash) (s .pre .0) (s .pre .1) _ (c .before .before .keyed .ensures)
+    findable _ _ _ _ _ _ (s .args .hash) (s .pre .0) (s .pre .1) _ (c .before .before .index-shape .ensures)
 
 part-insert-new-end : tie.Need-part-insert-new-end
 part-insert-new-end c = let p = c .before .before .before .before .before .before .before .before .before .before .before .before .before .before .before .before .before .before .before .pre in omega (arith, p .0 .pending-fits, p .1)
@@ -24,7 +24,7 @@ insert-new-requires c κs =
 insert-known-requires : tie.Need-insert-known-requires
 insert-known-requires c κs =
     let p = c .before .before .before .before .before .before .before .before .before .before .before .before .before .before .before .before .before .before .before .pre in
-    let k = c .before .before .before .before .before .before .before .before .before .keyed .ensures in
+    let k = c .before .before .before .before .before .before .before .before .before .index-shape .ensures in
     let f = c .before .before .before .before .before .before .look-up .ensures in
     (p .0, p .1, found-row _ _ _ _ _ _ _ (p .0) (p .1) _ k _ f _ _ (c .before .before .before .before .old .given .1), found-slot _ _ _ _ _ _ _ (p .0) (p .1) _ k _ f _ _ (c .before .before .before .before .old .given .1))
 
@@ -32,14 +32,14 @@ returns-2 : tie.Need-returns-2
 returns-2 c =
     let p = c .before .before .before .before .before .before .before .before .before .before .before .before .before .before .before .before .before .before .before .before .before .before .before .before .before .before .before .pre in
     let d = c .before .before .before .before .before .before .insert-new in
-    inserts-new _ _ _ _ _ _ _ (p .0) (p .1) _ (c .before .before .before .before .before .before .before .before .before .before .before .before .before .before .before .before .before .keyed .ensures) _ (c .before .before .before .before .before .before .before .before .before .before .before .before .before .before .look-up .ensures) _ (c .before .before .before .before .before .before .before .before .before .before .before .before .before .before .before .before .before .before .before .before .before .is-stale .ensures) (c .before .before .before .before .before .before .before .before .before .before .before .before .before .before .before .before .before .before .before .before .if1 .left)
+    inserts-new _ _ _ _ _ _ _ (p .0) (p .1) _ (c .before .before .before .before .before .before .before .before .before .before .before .before .before .before .before .before .before .index-shape .ensures) _ (c .before .before .before .before .before .before .before .before .before .before .before .before .before .before .look-up .ensures) _ (c .before .before .before .before .before .before .before .before .before .before .before .before .before .before .before .before .before .before .before .before .before .is-stale .ensures) (c .before .before .before .before .before .before .before .before .before .before .before .before .before .before .before .before .before .before .before .before .if1 .left)
     (d .last .1 .0) (d .last .1 .1 .0) (d .last .1 .1 .1 .0) (c .before .before .before .before .before .before .before .before .before .before .before .before .enum-told .given .1) (d .result) (d .ensures)
 
 returns-3 : tie.Need-returns-3
 returns-3 c =
     let p = c .before .before .before .before .before .before .before .before .before .before .before .before .before .before .before .before .before .before .before .before .before .before .before .before .before .before .pre in
     let d = c .before .before .before .before .before .before .insert-known in
-    inserts-known _ _ _ _ _ _ _ (p .0) (p .1) _ (c .before .before .before .before .before .before .before .before .before .before .before .before .before .before .before .before .keyed .ensures) _ (c .before .before .before .before .before .before .before .before .before .before .before .before .before .look-up .ensures) _ (c .before .before .before .before .before .before .before .before .before .before .before .before .before .before .before .before .before .before .before .before .is-stale .ensures) (c .before .before .before .before .before .before .before .before .before .before .before .before .before .before .before .before .before .before .before .if1 .left)
+    inserts-known _ _ _ _ _ _ _ (p .0) (p .1) _ (c .before .before .before .before .before .before .before .before .before .before .before .before .before .before .before .before .index-shape .ensures) _ (c .before .before .before .before .before .before .before .before .before .before .before .before .before .look-up .ensures) _ (c .before .before .before .before .before .before .before .before .before .before .before .before .before .before .before .before .before .before .before .before .is-stale .ensures) (c .before .before .before .before .before .before .before .before .before .before .before .before .before .before .before .before .before .before .before .if1 .left)
     (d .last .1 .0) (d .last .1 .1 .0) (d .last .1 .1 .1 .0) _ _ (c .before .before .before .before .before .before .before .before .before .before .before .old .given .1) (d .result) (d .ensures)
 
 pub insert-row-spec : {M : Type 1} → statement M

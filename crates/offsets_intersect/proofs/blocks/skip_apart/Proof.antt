@@ -6,13 +6,13 @@ use native.Mathlib.Omega.{arith}
 use lib.ListN.{length}
 use borrow.Author.Needs.{needs}
 use Rattle.lists.specs.Lists.{rising}
-use Rattle.offsets_intersect.specs.inner.Blocks.{Passed}
+use Rattle.offsets_intersect.specs.inner.Blocks.{SkippedTo}
 use Rattle.offsets_intersect.proofs.Passing.{passed-none, passed-on, apart-turned, passed-turned, pass-block}
 use Rattle.offsets_intersect.proofs.blocks.skip_apart.Statement.{statement}
 use Rattle.offsets_intersect.proofs.blocks.skip_apart.Tie as tie
 
 abbrev Inv-loop : tie.InvT-loop
-Inv-loop ids others from i₀ o₀ i o = Passed ids others i₀ o₀ i o × (rising ids ≡ true) × (rising others ≡ true)
+Inv-loop ids others from i₀ o₀ i o = SkippedTo ids others i₀ o₀ i o × (rising ids ≡ true) × (rising others ≡ true)
 
 abbrev μ-loop : tie.MeasureT-loop
 μ-loop ids others from i₀ o₀ i o = length ids - i + (length others - o)

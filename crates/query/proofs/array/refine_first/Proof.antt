@@ -25,11 +25,11 @@ use Rattle.table.specs.declared.Header.{Header}
 use Rattle.table.proofs.Header as HT
 use Rattle.query_spec.specs.Queries.{RefinedList}
 use Rattle.query_loop.proofs.Lent.{Lent, OwnOut, Ranged, Slices, Tokens₃, fits, head-val, header-val, headers, heads, lifetimes, numbers, owns-off, owns-on, shares, slice-val, slices-on, slices-twice, together, tokens-off, tokens-on}
-use Rattle.query_loop.proofs.Walking.{AllPassed, Asked, Cites, Tokens, Value, Walked, arg, by-value, calls, given-slice, lent-slice, own, stays, typed, walk-runs}
-use Rattle.query.proofs.refine_ref as ask
-use Rattle.query.proofs.refine_ref.Symbol as ask-def
+use Rattle.query_loop.proofs.Walking.{AllPassed, Callee, Cites, Tokens, Value, Walked, arg, by-value, calls, given-slice, lent-slice, own, stays, typed, walk-runs}
+use Rattle.query.proofs.refine_ref as callee
+use Rattle.query.proofs.refine_ref.Symbol as callee-def
 use Rattle.query.proofs.refine_ref.Symbol.{name as #query·refine-ref}
-use Rattle.query.proofs.refine_ref.Met as ask-thm
+use Rattle.query.proofs.refine_ref.Met as callee-thm
 use Rattle.query_loop.proofs.LentArray.{Kept, lends-front, front-back}
 use Rattle.query_loop.proofs.LentArray.{Lent as LentFront}
 use Rattle.query.proofs.array.refine_first.Key.{name as #query·array·refine-first}
@@ -62,18 +62,18 @@ module _ {M : Type 1} (𝓤 : URA M) (H : Heap 𝓤) (A : Atoms 𝓤) (W : Given
   abbrev clauses : Clauses 𝓤 f.ended
   clauses = f.clauses 𝓤 H A mem run
 
-  abbrev asking : Clauses 𝓤 ask.ended
-  asking = ask.clauses 𝓤 H A mem run
+  abbrev callee-clauses : Clauses 𝓤 callee.ended
+  callee-clauses = callee.clauses 𝓤 H A mem run
 
   -- what the triples of this function and of `refine_ref` bind outside
   abbrev y : Walked f.ended params 𝓤 H A clauses .Ghost
   y = (((κ₀, (κ₁, (κ, tt))), (q₀, (q₁, (q, tt))), tt, (h, (rows, (head, (ids, (cs, (k, (z, tt))))))), (header-val h ∷ [], (slice-val rows ∷ [], (head-val head ∷ [], (slice-val ids ∷ [], (only (vals cs) ∷ [], (vint w64 k ∷ [], (slice-val z ∷ [], tt)))))))), tt)
 
-  abbrev to : Lent → Asked 𝓤 H A ask.ended asking .Ghost
+  abbrev to : Lent → Callee 𝓤 H A callee.ended callee-clauses .Ghost
   to p = ((lifetimes p (κ, tt), shares p (q, tt), tt, (p .header, (p .rows, (p .head, (p .ids, (p .conditions, (z, tt)))))), (header-val (p .header) ∷ [], (slice-val (p .rows) ∷ [], (head-val (p .head) ∷ [], (slice-val (p .ids) ∷ [], (slice-val (p .conditions) ∷ [], (slice-val z ∷ [], tt))))))), tt)
 
-  asks : (p : Lent) → Ranged p → ent 𝓤 (⋆ 𝓤 H A (Tokens₃ p ∷ Slices p ∷ ‵ (flft κ q) ∷ ‵ (OwnOut κ z (slice-val z)) ∷ [])) (Asked 𝓤 H A ask.ended asking .pre (to p))
-  asks p is =
+  callee-pre : (p : Lent) → Ranged p → ent 𝓤 (⋆ 𝓤 H A (Tokens₃ p ∷ Slices p ∷ ‵ (flft κ q) ∷ ‵ (OwnOut κ z (slice-val z)) ∷ [])) (Callee 𝓤 H A callee.ended callee-clauses .pre (to p))
+  callee-pre p is =
       qed W (Tokens₃ p ∷ Slices p ∷ ‵ (flft κ q) ∷ ‵ (OwnOut κ z (slice-val z)) ∷ []) ∵ nothing ! $ move ! (4 ∷ 0 ∷ []) $ fjoin ! $ move ! (2 ∷ 0 ∷ []) $ slices-on p ! is $
       nothing ! $ move ! (3 ∷ 0 ∷ []) $ join ! $ move ! (2 ∷ 0 ∷ []) $ tokens-on p ! $ join ! $ frame ! $ done !
 
@@ -85,7 +85,7 @@ module _ {M : Type 1} (𝓤 : URA M) (H : Heap 𝓤) (A : Atoms 𝓤) (W : Given
     counted : length (take k cs) ≡ k
     counted = length-take-le k cs (omega (arith, long, can))
 
-    walk : (𝓣 : Tables 𝓤 H) → Cites 𝓤 H A ask.ended asking (𝓣 .C) #query·refine-ref → Room u32 (length (now rows)) → Room u32 (length (now ids)) → Room u32 (length (now z))
+    walk : (𝓣 : Tables 𝓤 H) → Cites 𝓤 H A callee.ended callee-clauses (𝓣 .C) #query·refine-ref → Room u32 (length (now rows)) → Room u32 (length (now ids)) → Room u32 (length (now z))
         → ent 𝓤 (onEntry 𝓤 H A f.signature (y .0 .0) (y .0 .1) (y .0 .3) (y .0 .4)) (WpFn 𝓤 H (𝓣 .C) (𝓣 .Λ) code.function (Walked f.ended params 𝓤 H A clauses .args y) (Walked f.ended params 𝓤 H A clauses .post y))
     walk 𝓣 known room-rows room-ids room =
         let wt = typed W arrays cs is-c .0 in
@@ -104,9 +104,9 @@ module _ {M : Type 1} (𝓤 : URA M) (H : Heap 𝓤) (A : Atoms 𝓤) (W : Given
         move ! (29 ∷ []) $ owns-off (p ν l₈ γ) ! $ move ! (2 ∷ []) $ fsplit ! $ drop ! $ fsplit ! $ drop ! $ fsplit ! $ move ! (3 ∷ 4 ∷ []) $ join ! $ move ! (3 ∷ 0 ∷ []) $ join ! $ slices-twice (p ν l₈ γ) ! $
         -- [what is lent as `&`, twice; what out owns; true; what is kept; ν's token; _12; …; the tokens]
         move ! (31 ∷ []) $ split ! $ move ! (1 ∷ []) $ split ! $ move ! (1 ∷ []) $ split ! $ move ! (3 ∷ 2 ∷ 9 ∷ []) $ together (p ν l₈ γ) ! $
-        move ! (0 ∷ 3 ∷ 1 ∷ 5 ∷ []) $ group ! 4 $ use1 W (raw (Asked 𝓤 H A ask.ended asking .pre (to (p ν l₈ γ)))) (asks (p ν l₈ γ) is) $
+        move ! (0 ∷ 3 ∷ 1 ∷ 5 ∷ []) $ group ! 4 $ use1 W (raw (Callee 𝓤 H A callee.ended callee-clauses .pre (to (p ν l₈ γ)))) (callee-pre (p ν l₈ γ) is) $
         -- [what `refine_ref` requires; true; what is lent as `&`; true; what is kept; _12; …]
-        calls ask.ended asking (to (p ν l₈ γ)) (λ r zs. RefinedList h (now rows) (subsetOf head (now ids)) (take k cs) (now z) r (zs .1 .1 .1 .1 .1 .0)) (λ r zs. id⊢ 𝓤 _) ! (fmOf 𝓤 H (W .laws) 𝓣) known (arg ! 26 refl (arg ! 24 refl (arg ! 22 refl (arg ! 20 refl (arg ! 9 refl (arg ! 5 refl (no-more !))))))) (λ w r zs e.
+        calls callee.ended callee-clauses (to (p ν l₈ γ)) (λ r zs. RefinedList h (now rows) (subsetOf head (now ids)) (take k cs) (now z) r (zs .1 .1 .1 .1 .1 .0)) (λ r zs. id⊢ 𝓤 _) ! (fmOf 𝓤 H (W .laws) 𝓣) known (arg ! 26 refl (arg ! 24 refl (arg ! 22 refl (arg ! 20 refl (arg ! 9 refl (arg ! 5 refl (no-more !))))))) (λ w r zs e.
         move ! (2 ∷ []) $ fsplit ! $ drop ! $ fsplit ! $ drop ! $ fsplit ! $ drop ! $ fsplit ! $ drop ! $ fsplit ! $ drop ! $ fsplit ! $ fsplit ! $ move ! (1 ∷ []) $ feqL ! (λ l. move ! (3 ∷ []) $ peeks ! AT.the-row (Is AT.the-row) (shows 𝓤 H A AT.the-row) r (w ∷ []) (λ is-r.
         -- [the result; the last list; true; the tokens; true; what is lent as `&`; true; what is kept; _12; …]
         land ! (from ! (stop !)) (init ! 31 refl (EL.lawful AT.the-type AT′.the-laws 𝓤 H A W tt .typed r _ is-r .0)) $
@@ -128,4 +128,4 @@ refine-first-spec 𝓤 H 𝓜 𝓖 𝓡 =
     walk-runs f.ended params 𝓤 H 𝓜 𝓖 𝓡 (f.clauses 𝓤 H (𝓖 .A) (𝓜 .mem) (𝓡 .run)) code.env #query·array·refine-first code.function (code.unfolded 𝓤 H 𝓜 𝓡) (λ κs qs bounds a g are. needs 𝓤 (a .1 .1 .1 .1 .1 .0 ≤ 16) _ (λ can.
     walk 𝓤 H (𝓖 .A) (givenOf 𝓤 H 𝓜 𝓖) (𝓜 .mem) (𝓡 .run) (κs .0) (κs .1 .0) (κs .1 .1 .0) (qs .0) (qs .1 .0) (qs .1 .1 .0) (a .0) (a .1 .0) (a .1 .1 .0) (a .1 .1 .1 .0) (a .1 .1 .1 .1 .0) (a .1 .1 .1 .1 .1 .0) (a .1 .1 .1 .1 .1 .1 .0)
     (are .0, are .1 .1 .0) (are .1 .1 .1 .1 .0) (are .1 .1 .1 .1 .1 .0) can (tablesOf 𝓤 H 𝓜 (tables 𝓤 H 𝓜 𝓡 code.env))
-    (cited 𝓤 H _ 𝓜 𝓡 code.env #query·refine-ref ask-def.routine code.calls-query·refine-ref (ask-thm.met 𝓤 H 𝓜 𝓖 𝓡)) (are .1 .0 .0 .1) (are .1 .1 .1 .0 .0 .1) (are .1 .1 .1 .1 .1 .1 .0 .0 .1)))
+    (cited 𝓤 H _ 𝓜 𝓡 code.env #query·refine-ref callee-def.routine code.calls-query·refine-ref (callee-thm.met 𝓤 H 𝓜 𝓖 𝓡)) (are .1 .0 .0 .1) (are .1 .1 .1 .0 .0 .1) (are .1 .1 .1 .1 .1 .1 .0 .0 .1)))

@@ -1,0 +1,28 @@
+-- `levels_answer::append_answer` meets its contract. Assumes nothing.
+use Prim.Native.Nat.{_-_}
+use native.Mathlib.Omega.{arith}
+use lib.ListN.{length, drop, length-take, length-drop}
+use Rattle.levels_answer.specs.inner.Reading.{answer-appended}
+use borrow.Author.Needs.{needs}
+use Rattle.levels_answer.proofs.append_answer.Statement.{statement}
+use Rattle.levels_answer.proofs.append_answer.Tie as tie
+
+slice-aggregate-answer : tie.Need-slice-aggregate-answer
+slice-aggregate-answer c = simp length-take (omega (arith, c .before .before .before .before .before .before .before .pre .0))
+
+add-t23 : tie.Need-add-t23
+add-t23 c =
+    let a = c .before .before .before .before .before .before .before .before .before .before .before .before .before .before .before .before .before .before .before .before .before .before .before .before .before .args in
+    omega (arith, c .before .before .before .before .before .before .before .before .before .before .before .before .answer .ensures .inside, c .before .before .before .text .given .0, c .before .before .before .before .before .before .before .before .before .before .before .before .before .before .before .before .before .before .before .before .before .before .before .before .before .good .1 .1 .1 .1 .1 .1 .1 .0 .0, length-take (length (a .text .now) - a .from) (drop (a .from) (a .text .now)), length-drop (a .from) (a .text .now), c .before .before .before .before .before .before .before .before .before .before .before .before .before .before .before .before .before .before .before .before .before .before .before .before .before .pre .1 .1)
+
+returns : tie.Need-returns
+returns c =
+    let a = c .before .before .before .before .before .before .before .before .before .before .before .before .before .before .before .before .before .before .before .before .before .before .before .before .before .args in
+    answer-appended (a .text .now) _ _ (a .from) (omega (arith, c .before .before .before .before .before .before .before .before .before .before .before .before .before .before .before .before .before .before .before .before .before .before .before .before .before .pre .1 .1)) (c .before .before .before .before .before .before .before .before .before .before .before .before .answer .ensures)
+
+pub append-answer-spec : {M : Type 1} → statement M
+append-answer-spec =
+    tie.close
+    (tie.spec
+    slice-aggregate-answer (λ c. search needs) (λ c. search needs) (λ c. search needs) (λ c κs. search needs) add-t23
+    (λ c. search needs) (λ c. search needs) (λ c. search needs) (λ c. search needs) (λ c. search needs) returns)

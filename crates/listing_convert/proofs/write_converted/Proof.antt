@@ -1,0 +1,30 @@
+-- `listing_convert::write_converted` meets its contract. Assumes nothing.
+use native.Mathlib.Omega.{arith}
+use Rattle.listing_convert.proofs.Answers.{valid-rows, rows-few, head-room, rows-room, all-converted}
+use borrow.Author.Needs.{needs}
+use Rattle.listing_convert.proofs.write_converted.Statement.{statement}
+use Rattle.listing_convert.proofs.write_converted.Tie as tie
+
+convert-head-requires : tie.Need-convert-head-requires
+convert-head-requires c κs = head-room _ _ _ (c .before .before .before .pre .0) (c .before .before .before .args .output .now) (c .before .before .before .pre .1)
+
+cast-convert-rows : tie.Need-cast-convert-rows
+cast-convert-rows c = omega (arith, c .before .before .before .before .before .before .before .pre .0 .narrow .1)
+
+convert-rows-requires : tie.Need-convert-rows-requires
+convert-rows-requires c κs = let l = c .before .before .before .before .before .before .before .before .before .pre .0 in
+    (l .narrow .1, (l .inside, (search needs, (valid-rows _ _ _ l (c .before .before .before .before .before .before .before .before .before .args .output .now), (rows-few _ _ _ l (c .before .before .before .before .before .before .before .before .before .args .output .now), rows-room _ _ _ l _ (c .before .before .before .before .before .before .before .before .before .pre .1) (c .before .before .before .before .before .convert-head .ensures) (search needs))))))
+
+returns : tie.Need-returns
+returns c = all-converted _ _ _ (c .before .before .before .before .before .before .before .before .before .before .before .before .before .pre .0) _ (c .before .before .before .before .before .before .before .before .before .before .before .before .before .pre .1) (c .before .before .before .before .before .before .before .before .before .convert-head .ensures) (c .before .before .before .convert-rows .ensures)
+
+pub write-converted-spec : {M : Type 1} → statement M
+write-converted-spec =
+    tie.close
+    (tie.spec
+    convert-head-requires
+    cast-convert-rows
+    (λ c. search needs)
+    convert-rows-requires
+    (λ c. search needs)
+    returns)

@@ -1,0 +1,67 @@
+-- The ids left, as an answer encodes them; and the result of a list of queries, each run on the subset that the last accepted query
+-- returned, with an output of this many ids. Assumes nothing.
+use Prim.Native.Nat.{ℕ}
+use mathlib.Core.Path.{_≡_}
+use mathlib.Core.Bool.{cond}
+use mathlib.Core.List.{List, [], _∷_, _++_}
+use mathlib.Core.Option.{Option, none, some}
+use lib.ListN.{take}
+use lib.Dec.{eqb}
+use Rattle.refusals.specs.Refusals.{Reply, refused, accepted}
+use Rattle.offsets.specs.Subsets.{Subset}
+use Rattle.offsets.specs.Answers.{subsetOf, intersectReply}
+use Rattle.constraints.specs.declared.Constraint.{Constraint}
+use Rattle.table.specs.declared.Header.{Header}
+use Rattle.table.specs.declared.RangeAnswer.{RangeAnswer}
+use Rattle.table.specs.Numbers.{rangeView}
+use Rattle.table.specs.Contracts.{RangeRead}
+use Rattle.query_spec.specs.Queries.{refineOneReply, refineListReply}
+use Rattle.history.specs.Runs.{Query, refineOne, refineList, intersectWith, intersectRange, subsetAfter, countedQueries}
+use Rattle.replay_queries.specs.declared.RunAnswer.{RunAnswer}
+
+-- the first ids of the list of a place: 1 and 2 are the two lent lists; any other place is the whole starting list
+unfoldable pub idsAt : ℕ → ℕ → List ℕ → List ℕ → List ℕ → List ℕ
+idsAt place count ids first second = cond (eqb place 1) (take count first) (cond (eqb place 2) (take count second) ids)
+
+-- the ids left: a range, or a list
+unfoldable pub subsetLeft : RunAnswer → List ℕ → List ℕ → List ℕ → Subset
+subsetLeft l ids first second =
+    subsetOf (record { dense = l .dense; start = l .start; end = l .end }) (idsAt (l .place) (l .count) ids first second)
+
+-- the ids left, and the queries that were accepted
+pub record Outcome : Type 0 where
+  pub ids : Subset
+  pub accepted : List Query
+
+abbrev pub outcome : Subset → List Query → Outcome
+outcome ids counted = record { ids = ids; accepted = counted }
+
+-- the result of queries after others that were accepted
+abbrev pub behind : List Query → Outcome → Outcome
+behind before o = outcome (o .ids) (before ++ o .accepted)
+
+-- the result of a query, by its reply
+abbrev pub byReply : Subset → Query → Reply Subset → Outcome
+byReply a q r = outcome (subsetAfter a r) (countedQueries q r)
+
+-- a range step, by the fast range: without one, it has no effect
+unfoldable pub rangeStep : Subset → Constraint → ℕ → Reply (Option Subset) → Outcome
+rangeStep a c output (refused n) = outcome a []
+rangeStep a c output (accepted none) = outcome a []
+rangeStep a c output (accepted (some b)) = byReply a (intersectRange c) (intersectReply a b output)
+
+-- one query, with a fast range that only a range step uses; the ids left are the first argument of `intersect`
+module _ (h : Header) (rows : List ℕ) (output : ℕ) where
+  unfoldable pub queried : Subset → Query → Reply (Option Subset) → Outcome
+  queried a (refineOne c) found = byReply a (refineOne c) (refineOneReply h rows a c output)
+  queried a (refineList cs) found = byReply a (refineList cs) (refineListReply h rows a cs output)
+  queried a (intersectWith b) found = byReply a (intersectWith b) (intersectReply a b output)
+  queried a (intersectRange c) found = rangeStep a c output found
+
+-- the queries, in order; each range step has the result of `fast_subset` for its condition
+pub data QueriedAll (h : Header) (rows sorts : List ℕ) (output : ℕ) : Subset → List Query → Outcome → Type 0 where
+  end : (a : Subset) → QueriedAll h rows sorts output a [] (outcome a [])
+  next : {a : Subset} {q : Query} {qs : List Query} {rest : Outcome} (range : RangeAnswer)
+      → ((c : Constraint) → q ≡ intersectRange c → RangeRead h sorts c range)
+      → QueriedAll h rows sorts output (queried h rows output a q (rangeView range) .ids) qs rest
+      → QueriedAll h rows sorts output a (q ∷ qs) (behind (queried h rows output a q (rangeView range) .accepted) rest)
