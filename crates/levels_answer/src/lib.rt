@@ -10,6 +10,7 @@ use levels_spec::Response;
 use levels_spec::Served;
 use levels_text::MOST_NUMBERS;
 use levels_text::Parsed;
+use refusals::NO_LISTING;
 use table::Header;
 
 mod dispatch; // dispatch.rt: a line dispatched by its letter
@@ -31,7 +32,7 @@ fn respond(
     match levels_text::parse(line, &mut numbers) {
         Parsed::Wrong => Served {
             header: h,
-            response: Response::Refused(11),
+            response: Response::Refused(NO_LISTING),
         },
         Parsed::Line(letter, count) => serve(
             h,

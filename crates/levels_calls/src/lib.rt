@@ -11,6 +11,7 @@ ghost use Rattle.levels_spec.specs.inner.Responses.{responseOf, nothingResponse
 ghost use Rattle.levels_calls.specs.inner.Calling.{OnPending, OnKeys, OnBody, OnAll};
 use levels_spec::Response;
 use levels_spec::Served;
+use refusals::NO_LISTING;
 use table::Header;
 use table::MergeAnswer;
 use table::TableAnswer;
@@ -79,7 +80,7 @@ pub fn open_table(
     if MOST_ROWS < capacity {
         return Served {
             header: h,
-            response: Response::Refused(11),
+            response: Response::Refused(NO_LISTING),
         };
     }
     let opened = table_open::open_table(

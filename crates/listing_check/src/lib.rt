@@ -14,6 +14,8 @@ use listing_parse::line_at;
 use listing_parse::scan_text;
 use query_loop::all_pass;
 use query_scan::Test;
+use refusals::NO_LISTING;
+use refusals::NO_SUCH_COLUMN;
 use table::Header;
 use table::Largest;
 
@@ -98,10 +100,10 @@ fn begin(s: Survey, known: bool, text: &[u8], given: &[u32]) -> CheckScan
     ensures { λ r. ⌜ Begun s known (now (text .entry)) (now (given .entry)) r ⌝ }
 {
     if !s.is_listing {
-        return finished(CheckAnswer::Refused(11), given.len());
+        return finished(CheckAnswer::Refused(NO_LISTING), given.len());
     }
     if !known {
-        return finished(CheckAnswer::Refused(6), given.len());
+        return finished(CheckAnswer::Refused(NO_SUCH_COLUMN), given.len());
     }
     let place = first_misplaced(given);
     if place < given.len() {

@@ -25,6 +25,9 @@ use listing_parse::line_at;
 use listing_parse::row_width;
 use listing_parse::scan_text;
 use listing_spec::TextAnswer;
+use refusals::MISSING_ROW;
+use refusals::NO_LISTING;
+use refusals::TOO_SHORT;
 
 // The bytes that all numbers below a count take as fields.
 fn numbers_length(count: u32) -> usize
@@ -158,10 +161,10 @@ fn convert_found(numbered: bool, s: Survey, text: &[u8], output: &mut [u8]) -> T
     ensures { λ r. ⌜ ListingConverted numbered (now (text .entry)) (now (output .entry)) r (now (output .exit)) ⌝ }
 {
     if lacks_row(numbered, s) {
-        return TextAnswer::Refused(17);
+        return TextAnswer::Refused(MISSING_ROW);
     }
     if lacks_room(numbered, s.rows, text.len(), output.len()) {
-        return TextAnswer::Refused(2);
+        return TextAnswer::Refused(TOO_SHORT);
     }
     TextAnswer::Written(write_converted(numbered, s, text, output))
 }
@@ -174,7 +177,7 @@ fn convert_listing(numbered: bool, text: &[u8], output: &mut [u8]) -> TextAnswer
     if s.is_listing {
         return convert_found(numbered, s, text, output);
     }
-    TextAnswer::Refused(11)
+    TextAnswer::Refused(NO_LISTING)
 }
 
 // From the old form to the new: rows are numbered from 0.

@@ -18,6 +18,8 @@ use listing_spec::ListingAnswer;
 use listing_spec::ListingHead;
 use listing_spec::NumberedAnswer;
 use listing_spec::NumberedHead;
+use refusals::NO_LISTING;
+use refusals::TOO_SHORT;
 
 // Writes the numbers of each D line in order.
 fn write_rows(
@@ -64,7 +66,7 @@ fn read_found(numbered: bool, s: Survey, text: &[u8], output: &mut [u32]) -> Rea
     let rows = s.rows as usize;
     let width = row_width(numbered, columns);
     if output.len() < rows * width {
-        return ReadResult::Refused(2);
+        return ReadResult::Refused(TOO_SHORT);
     }
     let mut numbers = [0u32; MOST_NUMBERS];
     write_rows(numbered, columns, text, s.start, &mut numbers, output);
@@ -78,7 +80,7 @@ fn read(numbered: bool, text: &[u8], output: &mut [u32]) -> ReadResult
     if s.is_listing {
         return read_found(numbered, s, text, output);
     }
-    ReadResult::Refused(11)
+    ReadResult::Refused(NO_LISTING)
 }
 
 // Reads a listing in the old form.

@@ -7,6 +7,8 @@ ghost use Rattle.plain_table.specs.Plain.{below};
 ghost use Rattle.table.specs.Numbers.{largestView};
 ghost use Rattle.table.specs.Sound.{indexShapeOf};
 ghost use Rattle.merge_append.specs.inner.Appending.{Enterable, AdmissionIs, grownTo, outgrown, Rebuildable, RebuiltGrown, Growable, NewIs, ReplaceIs};
+use refusals::OLD_SORT_VALUE;
+use refusals::TABLE_FULL;
 use table::Header;
 use table::Largest;
 use table::index_shape;
@@ -41,10 +43,10 @@ fn admit(h: Header, sorts: &mut [u32], value: u32) -> Admission
     ensures { λ r. ⌜ AdmissionIs h (now (sorts .entry)) value (now (sorts .exit)) r ⌝ }
 {
     if h.capacity <= h.rows {
-        return Admission::Stop(8);
+        return Admission::Stop(TABLE_FULL);
     }
     if is_old(h, value) {
-        return Admission::Stop(9);
+        return Admission::Stop(OLD_SORT_VALUE);
     }
     Admission::Entries(sort_entries::append_entry(sorts, h.entries, value, h.rows))
 }

@@ -18,6 +18,8 @@ use offsets_search::Scan;
 use offsets_search::binary_search_by_id;
 use offsets_search::binary_search_from;
 use offsets_search::scan_for_offset;
+use refusals::MALFORMED_SUBSET;
+use refusals::TOO_SHORT;
 
 mod blocks; // blocks.rt: long lists of similar length
 
@@ -167,10 +169,10 @@ pub fn intersect_ranges(a: u32, b: u32, c: u32, d: u32) -> SubsetAnswer
     ensures { λ r. ⌜ ((output : List ℕ) → Answered (intersectReply (range a b) (range c d) (length output)) output r output) ⌝ }
 {
     if b < a {
-        return SubsetAnswer::Refused(4);
+        return SubsetAnswer::Refused(MALFORMED_SUBSET);
     }
     if d < c {
-        return SubsetAnswer::Refused(4);
+        return SubsetAnswer::Refused(MALFORMED_SUBSET);
     }
     let start = larger(a, c);
     let end = smaller(b, d);
@@ -236,14 +238,14 @@ fn intersect_refusal(
     ensures { λ r. ⌜ r ≡ intersectRefusal (subsetOf first (now («first_ids» .entry))) (subsetOf second (now («second_ids» .entry))) output ⌝ }
 {
     if !is_well_formed(first, first_ids) {
-        return 4;
+        return MALFORMED_SUBSET;
     }
     if !is_well_formed(second, second_ids) {
-        return 4;
+        return MALFORMED_SUBSET;
     }
     let room = room_needed(first, first_ids, second, second_ids);
     if output < room {
-        return 2;
+        return TOO_SHORT;
     }
     0
 }

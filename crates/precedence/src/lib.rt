@@ -6,6 +6,8 @@ ghost use lib.ListN.{length};
 ghost use Rattle.precedence.specs.Precedence.{precedenceRefusal, PrecedenceChecked};
 ghost use Rattle.precedence.specs.inner.Checking.{Tested, OnTable, filedBy, rowFiled, rowMeets, rowFailing, PlaceIs};
 use key_index::Found;
+use refusals::NO_SUCH_COLUMN;
+use refusals::PAIR_COUNT;
 use table::Header;
 use table::index_shape;
 use table::refusing::lookup_refusal;
@@ -29,16 +31,16 @@ fn precedence_refusal(h: Header, rows: usize, keys: usize, column: u32, words: u
         return lookup;
     }
     if h.keys <= column {
-        return 6;
+        return NO_SUCH_COLUMN;
     }
     if words % 2 != 0 {
-        return 14;
+        return PAIR_COUNT;
     }
     if words / 2 < 1 {
-        return 14;
+        return PAIR_COUNT;
     }
     if MOST_PAIRS < words / 2 {
-        return 14;
+        return PAIR_COUNT;
     }
     0
 }

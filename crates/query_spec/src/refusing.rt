@@ -7,6 +7,11 @@ ghost use Prim.Native.Nat.{min};
 ghost use Rattle.query_spec.specs.inner.Tests.{subsetRefusal, RefineRefused, MatchRefused, PageRefused};
 use offsets::BoundsAnswer;
 use offsets::SubsetHead;
+use refusals::MALFORMED_SUBSET;
+use refusals::NO_SUCH_COLUMN;
+use refusals::OUT_OF_BOUNDS;
+use refusals::PAST_THE_ROWS;
+use refusals::TOO_SHORT;
 use table::Header;
 
 // Test 5: the range's end or the last id plus one is above the row count.
@@ -24,16 +29,16 @@ fn subset_refusal(h: Header, rows: usize, head: SubsetHead, ids: &[u32]) -> u32
     ensures { λ r. ⌜ r ≡ subsetRefusal h rows (subsetOf head (now (ids .entry))) ⌝ }
 {
     if table::refusing::is_outside(h) {
-        return 1;
+        return OUT_OF_BOUNDS;
     }
     if table::refusing::is_rows_short(h, rows) {
-        return 2;
+        return TOO_SHORT;
     }
     if !offsets::is_well_formed(head, ids) {
-        return 4;
+        return MALFORMED_SUBSET;
     }
     if is_past_rows(h, head, ids) {
-        return 5;
+        return PAST_THE_ROWS;
     }
     0
 }
@@ -54,10 +59,10 @@ pub fn refine_refusal(
         return number;
     }
     if !known {
-        return 6;
+        return NO_SUCH_COLUMN;
     }
     if output < offsets::size(head, ids) {
-        return 2;
+        return TOO_SHORT;
     }
     0
 }
@@ -71,7 +76,7 @@ pub fn match_refusal(h: Header, rows: usize, head: SubsetHead, ids: &[u32], know
         return number;
     }
     if !known {
-        return 6;
+        return NO_SUCH_COLUMN;
     }
     0
 }
@@ -102,13 +107,13 @@ pub fn page_refusal(
     let first = start as usize;
     let size = offsets::size(head, ids);
     if size < first {
-        return 5;
+        return PAST_THE_ROWS;
     }
     if !known {
-        return 6;
+        return NO_SUCH_COLUMN;
     }
     if output < smaller(n, size - first) {
-        return 2;
+        return TOO_SHORT;
     }
     0
 }

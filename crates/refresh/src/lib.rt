@@ -27,6 +27,12 @@ use refresh_index::mark_listed;
 use refresh_scan::mark_unlisted;
 use refresh_spec::RefreshAnswer;
 use refresh_spec::Refreshed;
+use refusals::NO_SUCH_COLUMN;
+use refusals::OLD_SORT_VALUE;
+use refusals::OUT_OF_BOUNDS;
+use refusals::PENDING_FULL;
+use refusals::TOO_MANY_COLUMNS;
+use refusals::TOO_SHORT;
 use table::Header;
 use table::INSERT;
 use table::refusing::is_pending_outside;
@@ -70,22 +76,22 @@ fn refresh_refusal(
     ensures { λ r. ⌜ r ≡ earlyRefusal h rows pending index (now (columns .entry)) stamp ⌝ }
 {
     if is_pending_outside(h, pending) {
-        return 1;
+        return OUT_OF_BOUNDS;
     }
     if is_rows_short(h, rows) {
-        return 2;
+        return TOO_SHORT;
     }
     if MOST_COLUMNS < columns.len() {
-        return 12;
+        return TOO_MANY_COLUMNS;
     }
     if !are_columns_there(h, columns) {
-        return 6;
+        return NO_SUCH_COLUMN;
     }
     if is_index_short(h, index, columns) {
-        return 2;
+        return TOO_SHORT;
     }
     if merge_append::is_old(h, stamp) {
-        return 9;
+        return OLD_SORT_VALUE;
     }
     0
 }
@@ -209,7 +215,7 @@ pub fn refresh_rows_for_values(
     let removals = count * (h.keys + 3);
     let inserts = count * (h.columns + 2);
     if is_overfull(h.pending, pending.len(), removals, inserts) {
-        return RefreshAnswer::Refused(7);
+        return RefreshAnswer::Refused(PENDING_FULL);
     }
     catch_up(h, rows, index, columns, goes_on);
     let used = write_marked(h, rows, pending, &words, stamp);

@@ -7,6 +7,9 @@ ghost use Prim.Native.Nat.{_≤_, _<_};
 ghost use lib.ListN.{length};
 ghost use Rattle.lists.specs.Lists.{splice};
 ghost use Rattle.short_histories.specs.Sequences.{sequenceAt, positionOf, known, StepAnswered, PositionAnswered, SequenceFound, NextFound};
+use refusals::PAST_THE_LAST;
+use refusals::TOO_SHORT;
+use refusals::UNKNOWN_SEQUENCE;
 
 // The number of sequences: 1 + 7 + 49 + ... + 117649.
 const SEQUENCES: u32 = 137257;
@@ -47,7 +50,7 @@ pub fn step_at(step: u32) -> StepAnswer
         4 => StepAnswer::Remove(0),
         5 => StepAnswer::Remove(1),
         6 => StepAnswer::Merge,
-        _ => StepAnswer::Refused(15),
+        _ => StepAnswer::Refused(UNKNOWN_SEQUENCE),
     }
 }
 
@@ -115,7 +118,7 @@ pub fn position_of(sequence: &[u32]) -> PositionAnswer
     ensures { λ r. ⌜ PositionAnswered (now (sequence .entry)) r ⌝ }
 {
     if !is_known(sequence) {
-        return PositionAnswer::Refused(15);
+        return PositionAnswer::Refused(UNKNOWN_SEQUENCE);
     }
     PositionAnswer::Position(known_position(sequence))
 }
@@ -125,11 +128,11 @@ pub fn sequence_at(position: u32, output: &mut [u32]) -> SequenceAnswer
     ensures { λ r. ⌜ SequenceFound position (now (output .entry)) r (now (output .exit)) ⌝ }
 {
     if position >= SEQUENCES {
-        return SequenceAnswer::Refused(16);
+        return SequenceAnswer::Refused(PAST_THE_LAST);
     }
     let steps = length_at(position);
     if output.len() < steps {
-        return SequenceAnswer::Refused(2);
+        return SequenceAnswer::Refused(TOO_SHORT);
     }
     write_sequence(position, steps, output);
     SequenceAnswer::Written(steps as u32)
@@ -141,7 +144,7 @@ pub fn next_sequence(sequence: &[u32], output: &mut [u32]) -> SequenceAnswer
     ensures { λ r. ⌜ NextFound (now (sequence .entry)) (now (output .entry)) r (now (output .exit)) ⌝ }
 {
     if !is_known(sequence) {
-        return SequenceAnswer::Refused(15);
+        return SequenceAnswer::Refused(UNKNOWN_SEQUENCE);
     }
     let position = known_position(sequence) + 1;
     if position >= SEQUENCES {

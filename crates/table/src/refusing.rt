@@ -10,6 +10,13 @@ ghost use Rattle.table.specs.inner.Lent.{lengthsOf};
 use super::Header;
 use super::Lent;
 use constraints::Constraint;
+use refusals::AT_LAST_GENERATION;
+use refusals::NO_SUCH_COLUMN;
+use refusals::OLD_NOTE;
+use refusals::OUT_OF_BOUNDS;
+use refusals::PAST_THE_ROWS;
+use refusals::TOO_SHORT;
+use refusals::WRONG_WIDTH;
 
 pub const LAST_GENERATION: u32 = 0xffff_ffff;
 
@@ -117,12 +124,12 @@ pub fn open_refusal(h: Header, l: Lent) -> u32
     ensures { λ r. ⌜ r ≡ openRefusal (openingOf h) (lengthsOf l) ⌝ }
 {
     if is_outside(h) {
-        return 1;
+        return OUT_OF_BOUNDS;
     }
     if !is_stores_short(h, l) {
         return 0;
     }
-    2
+    TOO_SHORT
 }
 
 // The soundness check.
@@ -130,10 +137,10 @@ pub fn sound_refusal(h: Header, l: Lent) -> u32
     ensures { λ r. ⌜ r ≡ rules.soundRefusal h (l .rows) (l .keys) (l .sorts) (l .pending) ⌝ }
 {
     if is_pending_outside(h, l.pending) {
-        return 1;
+        return OUT_OF_BOUNDS;
     }
     if is_stores_short(h, l) {
-        return 2;
+        return TOO_SHORT;
     }
     0
 }
@@ -147,7 +154,7 @@ pub fn merge_refusal(h: Header, l: Lent) -> u32
         return stores;
     }
     if is_words_short(h, l) {
-        return 2;
+        return TOO_SHORT;
     }
     0
 }
@@ -157,16 +164,16 @@ pub fn compact_refusal(h: Header, l: Lent) -> u32
     ensures { λ r. ⌜ r ≡ rules.compactRefusal h (lengthsOf l) ⌝ }
 {
     if is_outside(h) {
-        return 1;
+        return OUT_OF_BOUNDS;
     }
     if is_stores_short(h, l) {
-        return 2;
+        return TOO_SHORT;
     }
     if is_words_short(h, l) {
-        return 2;
+        return TOO_SHORT;
     }
     if h.generation == LAST_GENERATION {
-        return 10;
+        return AT_LAST_GENERATION;
     }
     0
 }
@@ -176,10 +183,10 @@ pub fn clear_refusal(h: Header, keys: usize) -> u32
     ensures { λ r. ⌜ r ≡ rules.clearRefusal h keys ⌝ }
 {
     if is_outside(h) {
-        return 1;
+        return OUT_OF_BOUNDS;
     }
     if is_pairs_short(h, keys) {
-        return 2;
+        return TOO_SHORT;
     }
     if h.generation != LAST_GENERATION {
         return 0;
@@ -187,7 +194,7 @@ pub fn clear_refusal(h: Header, keys: usize) -> u32
     if h.rows == 0 {
         return 0;
     }
-    10
+    AT_LAST_GENERATION
 }
 
 // *Key lookup*
@@ -195,16 +202,16 @@ pub fn lookup_refusal(h: Header, rows: usize, keys: usize, cells: usize) -> u32
     ensures { λ r. ⌜ r ≡ rules.lookupRefusal h rows keys cells ⌝ }
 {
     if is_outside(h) {
-        return 1;
+        return OUT_OF_BOUNDS;
     }
     if is_rows_short(h, rows) {
-        return 2;
+        return TOO_SHORT;
     }
     if is_pairs_short(h, keys) {
-        return 2;
+        return TOO_SHORT;
     }
     if cells != h.keys as usize {
-        return 3;
+        return WRONG_WIDTH;
     }
     0
 }
@@ -218,7 +225,7 @@ pub fn cell_refusal(h: Header, rows: usize, keys: usize, cells: usize, column: u
         return lookup;
     }
     if h.columns <= column {
-        return 6;
+        return NO_SUCH_COLUMN;
     }
     0
 }
@@ -228,13 +235,13 @@ pub fn fast_refusal(h: Header, sorts: usize, c: Constraint) -> u32
     ensures { λ r. ⌜ r ≡ rules.fastRefusal h sorts c ⌝ }
 {
     if is_outside(h) {
-        return 1;
+        return OUT_OF_BOUNDS;
     }
     if is_pairs_short(h, sorts) {
-        return 2;
+        return TOO_SHORT;
     }
     if !constraints::known(c, h.columns) {
-        return 6;
+        return NO_SUCH_COLUMN;
     }
     0
 }
@@ -246,7 +253,7 @@ pub fn version_refusal(h: Header) -> u32
     if !is_outside(h) {
         return 0;
     }
-    1
+    OUT_OF_BOUNDS
 }
 
 // *The rows since a noted version*
@@ -254,13 +261,13 @@ pub fn noted_refusal(h: Header, generation: u32, count: u32) -> u32
     ensures { λ r. ⌜ r ≡ rules.notedRefusal h generation count ⌝ }
 {
     if is_outside(h) {
-        return 1;
+        return OUT_OF_BOUNDS;
     }
     if generation != h.generation {
-        return 18;
+        return OLD_NOTE;
     }
     if h.rows < count {
-        return 18;
+        return OLD_NOTE;
     }
     0
 }
@@ -270,10 +277,10 @@ pub fn since_refusal(h: Header, row: u32) -> u32
     ensures { λ r. ⌜ r ≡ rules.sinceRefusal h row ⌝ }
 {
     if is_outside(h) {
-        return 1;
+        return OUT_OF_BOUNDS;
     }
     if h.rows < row {
-        return 5;
+        return PAST_THE_ROWS;
     }
     0
 }

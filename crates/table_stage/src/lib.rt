@@ -9,6 +9,10 @@ ghost use Rattle.plain_table.specs.Staged.{insert, removeKey, removeRow};
 ghost use Rattle.plain_table.specs.Refusing.{overfull};
 ghost use Rattle.table_stage.specs.inner.Staging.{recordRefusal};
 ghost use Rattle.table.specs.Contracts.{Staging};
+use refusals::OUT_OF_BOUNDS;
+use refusals::PAST_THE_ROWS;
+use refusals::PENDING_FULL;
+use refusals::WRONG_WIDTH;
 use table::Header;
 use table::INSERT;
 use table::REMOVE_KEY;
@@ -34,16 +38,16 @@ fn stage_refusal(h: Header, pending: usize, cells: usize, width: u32, gone: bool
     ensures { λ r. ⌜ r ≡ recordRefusal h pending cells width gone more ⌝ }
 {
     if is_pending_outside(h, pending) {
-        return 1;
+        return OUT_OF_BOUNDS;
     }
     if cells != width as usize {
-        return 3;
+        return WRONG_WIDTH;
     }
     if gone {
-        return 5;
+        return PAST_THE_ROWS;
     }
     if is_overfull(h.pending, pending, width, more) {
-        return 7;
+        return PENDING_FULL;
     }
     0
 }

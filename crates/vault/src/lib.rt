@@ -7,6 +7,9 @@ ghost use Prim.Native.Nat.{_+_, _*_, _≤_, _<_};
 ghost use lib.ListN.{length};
 ghost use Rattle.vault.specs.Columns.{toColumns, fromColumns, columnsRefusal, Rearranged};
 ghost use Rattle.vault.specs.inner.Filling.{cellAbove, Shaped, Within, ordered, placed, Begun, Filled};
+use refusals::BROKEN_ROW;
+use refusals::OUT_OF_BOUNDS;
+use refusals::TOO_SHORT;
 
 // The number of rows in a block.
 const BLOCK: usize = 256;
@@ -21,17 +24,17 @@ fn columns_refusal(width: u32, cells: usize, output: usize) -> u32
     ensures { λ r. ⌜ r ≡ columnsRefusal width cells output ⌝ }
 {
     if width < 1 {
-        return 1;
+        return OUT_OF_BOUNDS;
     }
     if 8 < width {
-        return 1;
+        return OUT_OF_BOUNDS;
     }
     let rest = cells % (width as usize);
     if rest != 0 {
-        return 13;
+        return BROKEN_ROW;
     }
     if output < cells {
-        return 2;
+        return TOO_SHORT;
     }
     0
 }
