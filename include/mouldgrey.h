@@ -41,16 +41,23 @@
  *   - Nobody writes a store while a call reads or writes it. Calls whose stores are all const may run
  *     concurrently on one table.
  *
- * HOW TO SAVE AND LOAD. Clear the stores (calloc, memset) before you open a table that is to be saved:
- * words that are not in use yet are saved too. Save the header and the four stores, each up to the number
- * of words needed (rows, keys, sorts) or in use (pending: header.pending words). To load, read the header
- * and call mouldgrey_table_version, which checks its numbers, before you use them as lengths; read the
- * stores, with room for more in pending, and call mouldgrey_is_sound: it accepts exactly the stores of a
- * sound table. It cannot see a changed cell outside keys and sort column: keep a checksum beside the
- * stores. docs/FORMAT.md describes every word.
+ * HOW TO SAVE AND LOAD. Save an IMAGE of the table: mouldgrey_write_image writes header, rows, sort entries
+ * and staged records as one array of 32-bit words, with a text of your own and a checksum. The array is
+ * the file: write its bytes. Only words in use are in it, so stores need not be cleared, and the key index
+ * is not in it. To load, read the file into an array of words (a file whose length is no multiple of four
+ * is no image), call mouldgrey_check_image, which gives the header, make stores for its numbers, with room
+ * for more in pending, and call mouldgrey_read_image.
  *
- * HOW TO GROW. Open a second table with a larger capacity and stores of its own, stage every live row of
- * the first in rising row order, and merge. Row numbers change as they do in a compaction.
+ * An image is accepted only if its lengths and its checksum are right and its table is sound. A change
+ * within four neighbouring bytes is always refused; other changes escape the checksum with probability
+ * 2^-32. Words have their lowest byte first, which is the order in memory on x86-64. docs/FORMAT.md
+ * describes every word.
+ *
+ * The file must be replaced as a whole: write a second file beside it, fsync it, and rename it over the
+ * first. The program mouldgrey does so (docs/GUIDE.md).
+ *
+ * HOW TO GROW. Write an image, and read it with a larger capacity into stores of that capacity. Row
+ * numbers, generation, largest sort value and staged records stay as they are. Index stores must be new.
  */
 #ifndef MOULDGREY_H
 #define MOULDGREY_H
@@ -110,6 +117,12 @@ uint32_t mouldgrey_library_version(void);
 #define MOULDGREY_MISSING_ROW 17
 /* The noted version has another generation or more rows than the table. */
 #define MOULDGREY_OLD_NOTE 18
+/* The words are no image. */
+#define MOULDGREY_NO_IMAGE 19
+/* The words are an image of a table that is not sound. */
+#define MOULDGREY_UNSOUND_IMAGE 20
+/* A text has more than 4096 bytes. */
+#define MOULDGREY_TEXT_TOO_LONG 21
 
 /* A sentence in English for a number above, without a newline; "unknown refusal" for any other number. */
 const char *mouldgrey_refusal_text(uint32_t number);
@@ -120,6 +133,8 @@ const char *mouldgrey_refusal_text(uint32_t number);
 #define MOULDGREY_MOST_ROWS 65536
 /* The most ids in a list. */
 #define MOULDGREY_LONGEST_LIST 65536
+/* The most bytes of the text in an image. */
+#define MOULDGREY_LONGEST_TEXT 4096
 /* The first cell of a dead row. In any other column this is an ordinary value. */
 #define MOULDGREY_DEAD 4294967295u
 
@@ -143,6 +158,11 @@ const char *mouldgrey_refusal_text(uint32_t number);
 /* mouldgrey_write_listing, in bytes, in either form, for so many rows (header.rows). */
 #define MOULDGREY_LISTING_BYTES(rows, columns)                                                         \
     (68 + (size_t)(rows) * (2 + 11 * ((size_t)(columns) + 1)))
+/* mouldgrey_write_image, in words: exactly as many as the image has. rows, columns, entries and pending are
+ * the header's; text_len is in bytes. */
+#define MOULDGREY_IMAGE_WORDS(rows, columns, entries, pending, text_len)                               \
+    (16 + ((size_t)(text_len) + 3) / 4 + (size_t)(rows) * (size_t)(columns) + 2 * (size_t)(entries) +  \
+     (size_t)(pending))
 
 /* -------------------------------------------------------------------------------------- structs -- */
 
@@ -777,6 +797,80 @@ uint32_t mouldgrey_check_answers(const uint8_t *text, size_t text_len,
                                  const struct mouldgrey_constraint *conditions, size_t conditions_len,
                                  const uint32_t *given, size_t given_len,
                                  struct mouldgrey_verdict *verdict);
+
+/* --------------------------------------------------------------------------------------- images -- */
+
+/*
+ * An image is an array of 32-bit words that stands alone: the bytes "MGTB", the number 1, the header's
+ * twelve words, the length of the text in bytes, the text, four bytes in each word, the rows, sort
+ * entries and pending words that are in use, and the CRC-32 of all bytes before it. A table and a text have
+ * one image. It does not hold the key index, the index store of refreshes, or words not in use.
+ */
+
+/*
+ * How many words the image of a table has, with a text of so many bytes. This is
+ * MOULDGREY_IMAGE_WORDS of the header's numbers.
+ *
+ * Writes words.
+ * Refuses: 1; 21, text_len is above MOULDGREY_LONGEST_TEXT.
+ */
+uint32_t mouldgrey_image_size(const struct mouldgrey_header *header, size_t text_len, uint64_t *words);
+
+/*
+ * Writes the image of a table, with a text.
+ *
+ * text: any bytes, such as the names and units of the columns; text_len may be 0.
+ * image: at least as many words as mouldgrey_image_size gives.
+ * words: how many words the image has.
+ * Writes words, and the image to the start of image; image beyond it is unchanged.
+ * Refuses: 1, also if more pending words are in use than pending_len; 2, rows or sorts is too short; 21, the
+ * text is too long; 2, image is shorter than the image.
+ */
+uint32_t mouldgrey_write_image(const struct mouldgrey_header *header, const uint32_t *rows,
+                               size_t rows_len, const uint32_t *sorts, size_t sorts_len,
+                               const uint32_t *pending, size_t pending_len, const uint8_t *text,
+                               size_t text_len, uint32_t *image, size_t image_len, uint64_t *words);
+
+/*
+ * Checks that words are the image of a sound table, and gives its header, to make stores by.
+ *
+ * image, image_len: all words of the file, and no others. A length other than the image's own is
+ * refused.
+ * Writes header.
+ * Refuses: 19, the words are no image: first bytes, format number, bounds, length, text or checksum are
+ * wrong; 20, an image of a table that is not sound.
+ * Uses about 600 KiB of stack.
+ */
+uint32_t mouldgrey_check_image(const uint32_t *image, size_t image_len, struct mouldgrey_header *header);
+
+/*
+ * Reads an image into stores; the key index is built anew. The words are checked as
+ * mouldgrey_check_image does, so that no check is needed before.
+ *
+ * capacity: that of the table that is made. 0 is the image's own; a larger one is how a full table grows.
+ * It may also be smaller, down to the row count.
+ * rows, keys, sorts: as long as a table of that capacity needs. pending: at least header->pending words of
+ * the image; further words are room for staging.
+ * Writes header, the words in use at the start of rows, sorts and pending, and words among the first
+ * 2 * capacity of keys; the rest of rows, sorts and pending is unchanged.
+ * Refuses: 19; 20; 1, capacity is above 65536 or below the row count; 2, a store is too short.
+ * Uses about 600 KiB of stack.
+ */
+uint32_t mouldgrey_read_image(const uint32_t *image, size_t image_len, uint32_t capacity,
+                              struct mouldgrey_header *header, uint32_t *rows, size_t rows_len,
+                              uint32_t *keys, size_t keys_len, uint32_t *sorts, size_t sorts_len,
+                              uint32_t *pending, size_t pending_len);
+
+/*
+ * Reads the text of an image. The table need not be sound.
+ *
+ * text: MOULDGREY_LONGEST_TEXT bytes are always enough.
+ * bytes: how many bytes the text has.
+ * Writes bytes, and the text to the start of text; text beyond it is unchanged.
+ * Refuses: 19; 2, text is shorter than the image's text.
+ */
+uint32_t mouldgrey_read_image_text(const uint32_t *image, size_t image_len, uint8_t *text,
+                                   size_t text_len, uint64_t *bytes);
 
 /* --------------------------------------------------------------------- lists of calls and queries -- */
 

@@ -41,6 +41,12 @@ const char *mouldgrey_refusal_text(uint32_t number) {
         return "a number below the row count has no row";
     case MOULDGREY_OLD_NOTE:
         return "a noted version of another generation or of more rows";
+    case MOULDGREY_NO_IMAGE:
+        return "words that are no image";
+    case MOULDGREY_UNSOUND_IMAGE:
+        return "an image of a table that is not sound";
+    case MOULDGREY_TEXT_TOO_LONG:
+        return "a text of more than 4096 bytes";
     default:
         return "unknown refusal";
     }

@@ -40,6 +40,12 @@ pub enum Refusal {
     MissingRow = 17,
     /// A noted version of another generation, or of more rows than there are.
     OldNote = 18,
+    /// Words, or bytes, that are no image.
+    NoImage = 19,
+    /// An image of a table that is not sound.
+    UnsoundImage = 20,
+    /// A text of more than 4,096 bytes.
+    TextTooLong = 21,
 }
 
 /// Why a merge stopped.
@@ -78,7 +84,7 @@ pub enum Error {
 
 impl Refusal {
     /// All refusals, by number.
-    pub const ALL: [Refusal; 17] = [
+    pub const ALL: [Refusal; 20] = [
         Refusal::OutOfBounds,
         Refusal::TooShort,
         Refusal::WrongWidth,
@@ -96,6 +102,9 @@ impl Refusal {
         Refusal::PastTheLast,
         Refusal::MissingRow,
         Refusal::OldNote,
+        Refusal::NoImage,
+        Refusal::UnsoundImage,
+        Refusal::TextTooLong,
     ];
 
     /// The paper's number.
