@@ -756,6 +756,96 @@ pub fn check_answers(
     })
 }
 
+/// How many words the image of a table has, with a text of this many bytes. Refused by 1 and 21.
+pub fn image_size(header: &Header, text_len: usize) -> Result<usize, Refusal> {
+    let mut words = 0;
+    verdict(unsafe { raw::mouldgrey_image_size(header, text_len, &mut words) })?;
+    Ok(words as usize)
+}
+
+/// Writes the image of a table, with a text, to the start of `image`, and returns how many words it has. Words past them are
+/// unchanged. Refused by 1, 2, 21 and, if `image` is shorter than the image, 2.
+pub fn write_image(
+    header: &Header,
+    rows: &[u32],
+    sorts: &[u32],
+    pending: &[u32],
+    text: &[u8],
+    image: &mut [u32],
+) -> Result<usize, Refusal> {
+    let mut words = 0;
+    verdict(unsafe {
+        raw::mouldgrey_write_image(
+            header,
+            rows.as_ptr(),
+            rows.len(),
+            sorts.as_ptr(),
+            sorts.len(),
+            pending.as_ptr(),
+            pending.len(),
+            text.as_ptr(),
+            text.len(),
+            image.as_mut_ptr(),
+            image.len(),
+            &mut words,
+        )
+    })?;
+    Ok(words as usize)
+}
+
+/// The header of the table whose image these words are, all of them. Uses about 600 KiB of stack. Refused by 19 and 20.
+pub fn check_image(image: &[u32]) -> Result<Header, Refusal> {
+    let mut header = Header::default();
+    verdict(unsafe { raw::mouldgrey_check_image(image.as_ptr(), image.len(), &mut header) })?;
+    Ok(header)
+}
+
+/// Reads an image into the stores and builds the key index anew. The table gets this capacity, or with 0 the image's own. Checks
+/// the words as [`check_image`] does, and uses as much stack. Refused by 19, 20, 1 (a capacity above 65,536 or below the row
+/// count) and 2.
+pub fn read_image(
+    image: &[u32],
+    capacity: u32,
+    header: &mut Header,
+    rows: &mut [u32],
+    keys: &mut [u32],
+    sorts: &mut [u32],
+    pending: &mut [u32],
+) -> Result<(), Refusal> {
+    verdict(unsafe {
+        raw::mouldgrey_read_image(
+            image.as_ptr(),
+            image.len(),
+            capacity,
+            header,
+            rows.as_mut_ptr(),
+            rows.len(),
+            keys.as_mut_ptr(),
+            keys.len(),
+            sorts.as_mut_ptr(),
+            sorts.len(),
+            pending.as_mut_ptr(),
+            pending.len(),
+        )
+    })
+}
+
+/// Writes the text of an image to the start of `text`, and returns how many bytes it has. Bytes past them are unchanged. The table
+/// need not be sound. Refused by 19 and 2.
+pub fn read_image_text(image: &[u32], text: &mut [u8]) -> Result<usize, Refusal> {
+    let mut bytes = 0;
+    verdict(unsafe {
+        raw::mouldgrey_read_image_text(
+            image.as_ptr(),
+            image.len(),
+            text.as_mut_ptr(),
+            text.len(),
+            &mut bytes,
+        )
+    })?;
+    Ok(bytes as usize)
+}
+
 /// Makes an empty table of the stores and makes the calls on it, in order, also after one that is refused. The calls are encoded
 /// as words ([`encode_calls`](crate::encode_calls)). The index store is that of all refreshes of the list. Refused by 1 and 2, as
 /// [`open_table`].

@@ -4,6 +4,8 @@
 //!
 //! - [`Table`] keeps its stores and is all that most callers need. A [`ValueIndex`] beside it leads refreshes to the rows that
 //!   mention a value.
+//! - [`Table::save`] gives a table as the bytes of a file, its image, and [`Table::load`] takes it up again; [`check_image`] tests
+//!   such bytes, and [`image_text`] reads the text in them. The program `mouldgrey` of this crate works on such files.
 //! - [`lent`] has the same calls over stores that the caller keeps, such as those of a mapped file.
 //! - [`Table::replay`] makes a list of calls, [`Table::run_queries`] a list of queries, each in one call of the library.
 //! - [`to_columns`] and [`from_columns`] put rows into column order, for a vault, and back.
@@ -21,6 +23,7 @@
 #![warn(missing_docs)]
 
 mod header;
+mod images;
 pub mod lent;
 mod listings;
 mod lists;
@@ -35,6 +38,7 @@ mod value_index;
 mod vault;
 
 pub use header::{DEAD, HEADER_WORDS, Header, Lengths, Merge, Merged, Opening, Rule, Version};
+pub use images::{LONGEST_TEXT, check_image, image_text};
 pub use listings::{
     Listing, ListingHead, Verdict, check_answers, from_numbered, read_listing, read_numbered,
     to_numbered,

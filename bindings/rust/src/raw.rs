@@ -442,6 +442,43 @@ unsafe extern "C" {
         given_len: usize,
         verdict: *mut Verdict,
     ) -> u32;
+    pub fn mouldgrey_image_size(header: *const Header, text_len: usize, words: *mut u64) -> u32;
+    pub fn mouldgrey_write_image(
+        header: *const Header,
+        rows: *const u32,
+        rows_len: usize,
+        sorts: *const u32,
+        sorts_len: usize,
+        pending: *const u32,
+        pending_len: usize,
+        text: *const u8,
+        text_len: usize,
+        image: *mut u32,
+        image_len: usize,
+        words: *mut u64,
+    ) -> u32;
+    pub fn mouldgrey_check_image(image: *const u32, image_len: usize, header: *mut Header) -> u32;
+    pub fn mouldgrey_read_image(
+        image: *const u32,
+        image_len: usize,
+        capacity: u32,
+        header: *mut Header,
+        rows: *mut u32,
+        rows_len: usize,
+        keys: *mut u32,
+        keys_len: usize,
+        sorts: *mut u32,
+        sorts_len: usize,
+        pending: *mut u32,
+        pending_len: usize,
+    ) -> u32;
+    pub fn mouldgrey_read_image_text(
+        image: *const u32,
+        image_len: usize,
+        text: *mut u8,
+        text_len: usize,
+        bytes: *mut u64,
+    ) -> u32;
     pub fn mouldgrey_replay(
         opening: *const Opening,
         header: *mut Header,

@@ -123,7 +123,7 @@ impl Table {
         Ok(table)
     }
 
-    fn without_stores() -> Table {
+    pub(crate) fn without_stores() -> Table {
         Table {
             stores: Stores::default(),
             live: Vec::new(),
@@ -239,6 +239,21 @@ impl Table {
             live: vec![0; lengths.live],
             base: vec![0; lengths.base],
         })
+    }
+
+    /// Reads an image into the stores, which get as long as this header needs. Its capacity is the table's.
+    pub(crate) fn read_image(&mut self, image: &[u32], header: &Header) -> Result<(), Refusal> {
+        self.make_room(&header.lengths());
+        let s = &mut self.stores;
+        lent::read_image(
+            image,
+            header.capacity,
+            &mut s.header,
+            &mut s.rows,
+            &mut s.keys,
+            &mut s.sorts,
+            &mut s.pending,
+        )
     }
 
     /// The header and stores, to be kept.

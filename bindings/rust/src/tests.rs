@@ -586,7 +586,7 @@ fn numbers_and_names() {
     }
     assert_eq!(Rule::from_number(4), None);
     assert_eq!(library_version(), 1_000);
-    for number in [0, 8, 19] {
+    for number in [0, 8, 22] {
         assert_eq!(Refusal::from_number(number), None);
     }
     assert_eq!(

@@ -58,7 +58,7 @@ fn pointee(kind: &str) -> Option<(&str, bool)> {
 }
 
 /// The structs that fixed arrays are in C and in Rust: the parameter's name, the array, and both names.
-const STRUCTS: [(&str, &str, &str, &str); 25] = [
+const STRUCTS: [(&str, &str, &str, &str); 27] = [
     ("opening", "u32; 6", "struct mouldgrey_opening", "Opening"),
     ("header", "u32; 12", "struct mouldgrey_header", "Header"),
     ("merged", "u32; 5", "struct mouldgrey_merged", "Merged"),
@@ -67,6 +67,8 @@ const STRUCTS: [(&str, &str, &str, &str); 25] = [
     ("matched", "u32; 1", "uint32_t", "u32"),
     ("position", "u32; 1", "uint32_t", "u32"),
     ("length", "u64; 1", "uint64_t", "u64"),
+    ("words", "u64; 1", "uint64_t", "u64"),
+    ("bytes", "u64; 1", "uint64_t", "u64"),
     ("row", "u32; 2", "struct mouldgrey_row", "Row"),
     ("cell", "u32; 2", "struct mouldgrey_cell", "Cell"),
     ("range", "u32; 3", "struct mouldgrey_range", "Range"),
@@ -205,7 +207,7 @@ fn sorted(mut lines: Vec<String>) -> Vec<String> {
 }
 
 /// The crates whose functions the library has.
-const CRATES: [&str; 9] = [
+const CRATES: [&str; 10] = [
     "abi_table",
     "abi_read",
     "abi_query",
@@ -214,6 +216,7 @@ const CRATES: [&str; 9] = [
     "abi_vault",
     "abi_short_histories",
     "abi_listing",
+    "abi_image",
     "abi_replay",
 ];
 
