@@ -45,6 +45,11 @@ fn exported(path: &str) -> Vec<Exported> {
 
 fn parameter(text: &str) -> (String, String) {
     let (name, kind) = text.split_once(": ").expect("a name and a type");
+    let name = match (name, kind) {
+        // The length of a text that is not passed itself.
+        ("text", "usize") => "text_len",
+        _ => name,
+    };
     (name.to_string(), kind.replace("&'a ", "&"))
 }
 
