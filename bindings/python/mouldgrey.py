@@ -13,6 +13,10 @@ the environment variable MOULDGREY_LIBRARIES names, then in target/lib of the re
     >>> table.refine(table.all(), [Condition.ge(2, 150)])
     range(0, 1)
 
+    >>> data = table.save("modem, side, level, stamp")
+    >>> Table.load(data).get_cell([7, 1], 2)
+    160
+
 A refused call raises Refused and has changed nothing. A merge that stops raises Stopped. A table is not safe to change from two
 threads at a time. A negative level goes in as `level & 0xFFFFFFFF`.
 """
@@ -26,6 +30,7 @@ from typing import NamedTuple
 
 __all__ = [
     "DEAD",
+    "LONGEST_TEXT",
     "Comparison",
     "Condition",
     "Header",
@@ -41,8 +46,10 @@ __all__ = [
     "Verdict",
     "Version",
     "check_answers",
+    "check_image",
     "from_columns",
     "from_numbered",
+    "image_text",
     "intersect",
     "library_version",
     "read_listing",
@@ -54,6 +61,9 @@ __all__ = [
 
 DEAD = 0xFFFFFFFF
 """The first cell of a dead row."""
+
+LONGEST_TEXT = 4096
+"""The most bytes of the text in an image."""
 
 
 def _load():
@@ -164,6 +174,11 @@ _read_numbered = _declare("read_numbered", _BYTES, _WORDS, POINTER(_NumberedList
 _to_numbered = _declare("to_numbered", _BYTES, _BYTES, POINTER(c_uint64))
 _from_numbered = _declare("from_numbered", _BYTES, _BYTES, POINTER(c_uint64))
 _check_answers = _declare("check_answers", _BYTES, _CONDITIONS, _WORDS, POINTER(_Verdict))
+_image_size = _declare("image_size", _H, c_size_t, POINTER(c_uint64))
+_write_image = _declare("write_image", _H, _WORDS, _WORDS, _WORDS, _BYTES, _WORDS, POINTER(c_uint64))
+_check_image = _declare("check_image", _WORDS, _H)
+_read_image = _declare("read_image", _WORDS, c_uint32, _H, _WORDS, _WORDS, _WORDS, _WORDS)
+_read_image_text = _declare("read_image_text", _WORDS, _BYTES, POINTER(c_uint64))
 _lib.mouldgrey_refusal_text.argtypes = [c_uint32]
 _lib.mouldgrey_refusal_text.restype = ctypes.c_char_p
 
@@ -331,6 +346,16 @@ def _store(words):
     return words, len(words)
 
 
+_NO_IMAGE = 19
+
+
+def _image(data):
+    """The words of a file. A length that is no multiple of four is that of no image."""
+    if len(data) % 4:
+        raise Refused(_NO_IMAGE)
+    return _store((c_uint32 * (len(data) // 4)).from_buffer_copy(data))
+
+
 def _conditions(conditions):
     conditions = list(conditions)
     return (_Constraint * len(conditions))(*map(_constraint, conditions)), len(conditions)
@@ -408,7 +433,8 @@ class Table:
         return None if row.cells[0] == DEAD else row
 
     def stores(self):
-        """Header and stores as bytes, as docs/FORMAT.md describes them, one after another. Keep a checksum beside them."""
+        """Header and stores as bytes, as docs/FORMAT.md describes them, one after another. They have no checksum; the bytes that
+        save() gives have one."""
         return b"".join(bytes(part) for part in (self.header, self._rows, self._keys, self._sorts)) + bytes(
             self._pending
         )[: 4 * self.header.pending]
@@ -436,6 +462,56 @@ class Table:
             at += size
         if at != len(data) or not table.is_sound():
             raise ValueError("the stores are not sound")
+        return table
+
+    def save(self, text=""):
+        """The table as the bytes of a file, its image, with a text (str, or bytes) for its readers. Refused by 21, a text of more
+        than LONGEST_TEXT bytes."""
+        text = _bytes(text.encode() if isinstance(text, str) else text)
+        words = c_uint64()
+        _check(_image_size(byref(self.header), text[1], byref(words)))
+        image = (c_uint32 * words.value)()
+        _check(
+            _write_image(
+                byref(self.header),
+                *_store(self._rows),
+                *_store(self._sorts),
+                *_store(self._pending),
+                *text,
+                *_store(image),
+                byref(words),
+            )
+        )
+        return bytes(image)
+
+    @classmethod
+    def load(cls, data, capacity=0, pending_words=65536):
+        """The table whose image these bytes are, with this capacity, or with 0 the image's own: a larger one is how a full table
+        grows. Refused by 19, bytes that are no image; 20, an image of a table that is not sound; 1, a capacity above 65,536 or
+        below the row count."""
+        header = check_image(data)
+        if capacity:
+            header.capacity = _word(capacity)
+        _check(_table_version(byref(header), byref(_Version())))
+        table = cls(
+            columns=header.columns,
+            keys=header.keys,
+            sort=header.sort,
+            rule=header.rule,
+            capacity=header.capacity,
+            pending_words=max(pending_words, header.pending),
+        )
+        _check(
+            _read_image(
+                *_image(data),
+                header.capacity,
+                byref(table.header),
+                *_store(table._rows),
+                *_store(table._keys),
+                *_store(table._sorts),
+                *_store(table._pending),
+            )
+        )
         return table
 
     def stage_insert(self, cells):
@@ -675,6 +751,22 @@ class Table:
             _write_listing(byref(self.header), *_store(self._rows), int(numbered), *_store(text), byref(length))
         )
         return bytes(text[: length.value])
+
+
+def check_image(data):
+    """The header of the table whose image these bytes are. Refused by 19, bytes that are no image, and 20, an image of a table that
+    is not sound."""
+    header = Header()
+    _check(_check_image(*_image(data), byref(header)))
+    return header
+
+
+def image_text(data):
+    """The text of an image, as bytes. Refused by 19."""
+    text = (c_uint8 * LONGEST_TEXT)()
+    length = c_uint64()
+    _check(_read_image_text(*_image(data), *_store(text), byref(length)))
+    return bytes(text[: length.value])
 
 
 def intersect(first, second):

@@ -17,12 +17,14 @@ def twenty():
     return table
 
 
-class Calls(unittest.TestCase):
+class Refusing(unittest.TestCase):
     def refused(self, number, call, *arguments):
         with self.assertRaises(Refused) as caught:
             call(*arguments)
         self.assertEqual(caught.exception.number, number)
 
+
+class Calls(Refusing):
     def test_openings(self):
         with self.assertRaises(Refused) as caught:
             Table(columns=9, keys=1, sort=0, rule=0, capacity=1)
@@ -100,6 +102,72 @@ class Calls(unittest.TestCase):
         self.assertEqual(table.row(3).cells, (3, 0, 1))
         refused = pickle.loads(pickle.dumps(Refused(3)))
         self.assertEqual((refused.number, str(refused)), (3, "refused 3: wrong number of cells"))
+
+
+class Images(Refusing):
+    def staged(self):
+        """Twenty rows, one of them dead, and a staged record."""
+        table = twenty()
+        table.stage_remove([3])
+        table.merge()
+        table.stage_insert([50, 0, 9])
+        return table
+
+    def test_round_trip(self):
+        table = self.staged()
+        data = table.save("levels")
+        self.assertEqual(data[:4], b"MGTB")
+        self.assertEqual(bytes(mouldgrey.check_image(data)), bytes(table.header))
+        again = Table.load(data)
+        self.assertEqual(list(again), list(table))
+        self.assertEqual(again.save("levels"), data)
+        self.assertTrue(again.is_sound())
+        self.assertEqual(again.merge(), table.merge())
+        self.assertEqual(again.save(), table.save())
+
+    def test_growth(self):
+        table = twenty()
+        data = table.save()
+        larger = Table.load(data, capacity=1000)
+        self.assertEqual(larger.header.capacity, 1000)
+        self.assertEqual((list(larger), larger.version()), (list(table), table.version()))
+        for key in range(100, 200):
+            larger.stage_insert([key, 0, 9])
+        larger.merge()
+        self.assertEqual(larger.version().rows, 120)
+        self.assertEqual(Table.load(data, 20).save(), Table.load(data, capacity=20).save())
+        for capacity in (19, 65537, 0xFFFFFFFF):
+            self.refused(1, Table.load, data, capacity)
+        with self.assertRaises(OverflowError):
+            Table.load(data, 1 << 32)
+
+    def test_damage(self):
+        data = self.staged().save("text")
+        for bit in range(8 * len(data)):
+            damaged = bytearray(data)
+            damaged[bit // 8] ^= 1 << bit % 8
+            self.refused(19, mouldgrey.check_image, damaged)
+        for damaged in (b"", data[:-1], data[:-4], data + b"0", data + bytes(4)):
+            self.refused(19, mouldgrey.check_image, damaged)
+            self.refused(19, mouldgrey.image_text, damaged)
+            self.refused(19, Table.load, damaged)
+
+    def test_unsound(self):
+        table = self.staged()
+        table._rows[6] = 0
+        data = table.save("not sound")
+        self.refused(20, Table.load, data)
+        self.assertEqual(mouldgrey.image_text(data), b"not sound")
+
+    def test_texts(self):
+        table = twenty()
+        self.assertEqual(mouldgrey.image_text(table.save()), b"")
+        self.assertEqual(mouldgrey.image_text(table.save("Pegel \u00fc")), "Pegel \u00fc".encode())
+        longest = bytes(range(256)) * 16
+        self.assertEqual(mouldgrey.image_text(table.save(longest)), longest)
+        self.refused(21, table.save, longest + b"1")
+        with self.assertRaises(TypeError):
+            table.save(None)
 
 
 class Queries(unittest.TestCase):
